@@ -1,0 +1,5 @@
+pub mod Does
+pub mod ProgramRules
+pub mod RuleTests
+pub mod Plain
+pub mod Refusal

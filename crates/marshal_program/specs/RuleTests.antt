@@ -1,0 +1,21 @@
+-- The rules of a routine apart, as they are tested one after the other.
+use Rattle.std.specs.Prelude.{ℕ, ◌<◌, ◌≤◌, List, length, All}
+use Rattle.marshal_program.specs.declared.instr.Instr.{Instr}
+use Rattle.marshal_program.specs.declared.instr.Routine.{Routine}
+use Rattle.marshal_program.specs.ProgramRules.{IsInstr, named_by, called_by, TakesOctet, IsLower}
+
+-- an instruction whose numbers are in range, among so many routines
+pub record HasNumbers (count : ℕ) (instr : Instr) : Type 0 where
+  pub itself : IsInstr instr
+  pub named : All (λ number. number < count) (named_by instr)
+
+pub record HasAllNumbers (count : ℕ) (routine : Routine) : Type 0 where
+  pub entered : 0 < routine.entry
+  pub ranked : routine.rank ≤ 63
+  pub instrs : All (HasNumbers count) routine.code
+
+abbrev pub NamesWork : List Routine → Routine → Type 0
+NamesWork program routine = All (λ instr. All (TakesOctet program) (named_by instr)) routine.code
+
+abbrev pub CallsLower : List Routine → Routine → Type 0
+CallsLower program routine = All (λ instr. All (IsLower program routine.rank) (called_by instr)) routine.code

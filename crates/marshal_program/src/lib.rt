@@ -1,0 +1,11 @@
+//! Marshalling programs: what they are made of, and what running them means.
+#![tactic(auto)]
+
+pub mod fault;
+pub mod instr;
+pub mod program;
+mod rules;
+
+pub use fault::TableFault;
+pub use instr::{Code, Disc, Instr, Routine};
+pub use program::Program;

@@ -1,0 +1,83 @@
+//! A marshalling program: a list of routines that keeps the rules of a program.
+
+ghost use Rattle.std.specs.Prelude.{◌≡◌, ◌<◌, length, slice_get, IfOk, IfErr, Some};
+ghost use Rattle.marshal_program.specs.ProgramRules.{IsRoutine, IsProgram};
+ghost use Rattle.marshal_program.specs.Refusal.{OnlyIf};
+
+use crate::fault::TableFault;
+use crate::instr::Routine;
+use crate::rules::{MAX_ROUTINES, calls_lower, has_all_numbers, has_few_instrs, names_work};
+use std::marker::Model;
+
+/// The routines, each named by its place in the list. A contract sees a program as that list.
+#[derive(Debug, Drop)]
+pub struct Program {
+    routines: Vec<Routine>,
+}
+
+impl Model for Program {
+    ghost use Rattle.std.specs.Prelude.{List};
+    ghost use Rattle.marshal_program.specs.declared.instr.Routine.{Routine};
+
+    ghost Value = { List Routine };
+
+    ghost use Rattle.marshal_program.specs.ProgramRules.{IsProgram};
+
+    ghost view = { λ p. p.routines.items };
+
+    ghost invariant = { λ p. IsProgram p.routines.items };
+}
+
+impl Program {
+    /// The program of just these routines. Takes no memory.
+    ///
+    /// # Errors
+    /// `BadNumber` first, then `EmptyRoutine`, then `RankRises`.
+    pub fn new(routines: Vec<Routine>) -> Result<Program, TableFault>
+        ensures kept { IfOk result (λ program. program ≡ routines.items) }
+        ensures rules { IfOk result IsProgram }
+        ensures refused { IfErr result (λ fault. OnlyIf fault (IsProgram routines.items → ⊥)) }
+    {
+        let count = routines.len();
+        if count > MAX_ROUTINES || !has_few_instrs(&routines) {
+            return Err(TableFault::BadNumber);
+        }
+        if !routines
+            .iter()
+            .all(|routine| has_all_numbers(count, routine))
+        {
+            return Err(TableFault::BadNumber);
+        }
+        if !routines
+            .iter()
+            .all(|routine| names_work(&routines, routine))
+        {
+            return Err(TableFault::EmptyRoutine);
+        }
+        if !routines
+            .iter()
+            .all(|routine| calls_lower(&routines, routine))
+        {
+            return Err(TableFault::RankRises);
+        }
+        Ok(Program { routines })
+    }
+
+    /// All routines, in order.
+    pub fn routines(&self) -> &[Routine]
+        ensures value { result.now ≡ self.now }
+        ensures rules { IsProgram self.now }
+    {
+        self.routines.as_slice()
+    }
+
+    /// The routine of a number.
+    pub fn routine(&self, number: u32) -> &Routine
+        requires { number < length self.now }
+        ensures value { slice_get self.now number ≡ Some result.now }
+        ensures routine_rules { IsRoutine self.now result.now }
+        ensures rules { IsProgram self.now }
+    {
+        &self.routines[number as usize]
+    }
+}

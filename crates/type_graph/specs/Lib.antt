@@ -1,0 +1,9 @@
+pub mod Words
+pub mod Relation
+pub mod Atoms
+pub mod Value
+pub mod Encoding
+pub mod GraphRules
+pub mod Walks
+pub mod Refusal
+pub mod Levels

@@ -1,0 +1,13 @@
+//! The graph of types of an IDL specification, and what their values are in CDR.
+#![tactic(auto)]
+
+pub mod fault;
+pub mod graph;
+pub mod node;
+mod rules;
+pub mod width;
+
+pub use fault::{GraphFault, GraphLimit};
+pub use graph::Graph;
+pub use node::{Arms, Members, Node};
+pub use width::{Order, Width};

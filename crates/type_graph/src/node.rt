@@ -1,0 +1,126 @@
+//! A node of the type graph: one IDL type, its parts named by their numbers in the graph.
+
+use crate::width::Width;
+use std::marker::Model;
+
+/// The members of a structure or a frame, in order: numbers of nodes.
+#[derive(Debug, Drop)]
+pub struct Members {
+    nodes: Vec<u32>,
+}
+
+impl Model for Members {
+    ghost use Rattle.std.specs.Prelude.{ℕ, List};
+
+    ghost Value = { List ℕ };
+
+    ghost view = { λ m. m.nodes.items };
+}
+
+ghost use Rattle.std.specs.Prelude.{◌≡◌};
+
+impl Members {
+    /// The members in this order. Takes no memory.
+    pub fn new(nodes: Vec<u32>) -> Self
+        ensures { result ≡ nodes.items }
+    {
+        Members { nodes }
+    }
+
+    pub fn as_slice(&self) -> &[u32]
+        ensures { result.now ≡ self.now }
+    {
+        self.nodes.as_slice()
+    }
+
+    /// Gives the list back. Takes no memory.
+    pub fn into_vec(self) -> Vec<u32>
+        ensures { result.items ≡ self }
+    {
+        self.nodes
+    }
+}
+
+/// The arms of a union, or of an instruction that switches as one does: pairs of a label and a
+/// number, in rising order of the labels.
+#[derive(Debug, Drop)]
+pub struct Arms {
+    pairs: Vec<(i128, u32)>,
+}
+
+impl Model for Arms {
+    ghost use Rattle.std.specs.Prelude.{ℕ, ℤ, List};
+
+    ghost Value = { List (ℤ × ℕ) };
+
+    ghost view = { λ a. a.pairs.items };
+}
+
+impl Arms {
+    /// The arms in this order. Takes no memory.
+    pub fn new(pairs: Vec<(i128, u32)>) -> Self
+        ensures { result ≡ pairs.items }
+    {
+        Arms { pairs }
+    }
+
+    pub fn as_slice(&self) -> &[(i128, u32)]
+        ensures { result.now ≡ self.now }
+    {
+        self.pairs.as_slice()
+    }
+
+    /// Gives the list back. Takes no memory.
+    pub fn into_vec(self) -> Vec<(i128, u32)>
+        ensures { result.items ≡ self }
+    {
+        self.pairs
+    }
+}
+
+/// One type of the graph (ISO/IEC 19500-1, type declarations). A number names the node at that
+/// place of the graph's list. A bound of 0 is none.
+#[derive(Debug, Drop)]
+pub enum Node {
+    /// An integer type of 2, 4 or 8 octets.
+    Whole {
+        width: Width,
+        signed: bool,
+    },
+    Octet,
+    Char,
+    Boolean,
+    /// An enumeration of `n` enumerators.
+    Enum {
+        n: u32,
+    },
+    /// A string of at most `bound` octets.
+    Text {
+        bound: u32,
+    },
+    /// A sequence of at most `bound` elements.
+    Seq {
+        elem: u32,
+        bound: u32,
+    },
+    /// An array of `n` elements.
+    Array {
+        elem: u32,
+        n: u32,
+    },
+    Struct {
+        members: Members,
+    },
+    /// A union: the type of its discriminator, the member of each label, and the member of every
+    /// other value.
+    Union {
+        switch: u32,
+        arms: Arms,
+        default: Option<u32>,
+    },
+    /// What an operation or an exception carries: a structure that may be empty, and that no node
+    /// refers to.
+    Frame {
+        members: Members,
+    },
+}

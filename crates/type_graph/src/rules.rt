@@ -1,0 +1,201 @@
+//! The tests of the rules that make a list of nodes a graph.
+
+ghost use Rattle.std.specs.Prelude.{◌≡◌, ◌<◌, ◌≤◌, ◌↔◌, ℕ, All, length, slice_get, slice_index_or, option_to_list, map, ◌++◌, IfSome, IfOk, IfErr, OnOk, OnErr, IsTrue, EachIndex, Some, true, false};
+ghost use Rattle.type_graph.specs.GraphRules.{IsNode, IsPart, AreMembers, IsGraph, IsShallow, IsNoFrame, IsWide, all_members, members_in, held_by};
+ghost use Rattle.type_graph.specs.Value.{node_at};
+ghost use Rattle.type_graph.specs.Levels.{IsLevelAbove, IsLevel};
+ghost use Rattle.type_graph.specs.Refusal.{OnlyIf};
+
+use crate::fault::{GraphFault, GraphLimit};
+use crate::node::Node;
+use crate::width::Width;
+use std::alloc::{AllocError, Global};
+
+pub const MAX_NODES: usize = 4096;
+
+const MAX_MEMBERS: usize = 1024;
+
+const MAX_ALL_MEMBERS: usize = 32768;
+
+const MAX_PATH: usize = 64;
+
+fn check_width(width: Width) -> Result<(), GraphFault>
+    ensures ok { OnOk result (IsWide width) }
+    ensures err { OnErr result (IsWide width → ⊥) }
+{
+    match width {
+        Width::One => Err(GraphFault::BadNode),
+        _ => Ok(()),
+    }
+}
+
+fn check_part(nodes: &[Node], number: u32) -> Result<(), GraphFault>
+    ensures ok { OnOk result (IsPart nodes.now number) }
+    ensures err { OnErr result (IsPart nodes.now number → ⊥) }
+{
+    match nodes.get(number as usize) {
+        None => Err(GraphFault::BadNode),
+        Some(Node::Frame { .. }) => Err(GraphFault::BadNode),
+        Some(_) => Ok(()),
+    }
+}
+
+fn check_members(nodes: &[Node], members: &[u32]) -> Result<(), GraphFault>
+    ensures ok { OnOk result (AreMembers nodes.now members.now) }
+    ensures err { OnErr result (AreMembers nodes.now members.now → ⊥) }
+{
+    if members.is_empty() {
+        return Err(GraphFault::BadNode);
+    }
+    if members.len() > MAX_MEMBERS {
+        return Err(GraphFault::Limit {
+            which: GraphLimit::Members,
+            line: 0,
+        });
+    }
+    for number in members {
+        check_part(nodes, *number)?;
+    }
+    Ok(())
+}
+
+fn check_node(nodes: &[Node], node: &Node) -> Result<(), GraphFault>
+    ensures ok { OnOk result (IsNode nodes.now node.now) }
+    ensures err { OnErr result (IsNode nodes.now node.now → ⊥) }
+{
+    match node {
+        Node::Whole { width, .. } => check_width(*width),
+        Node::Octet | Node::Text { .. } => Ok(()),
+        Node::Struct { members } => check_members(nodes, members.as_slice()),
+        _ => Err(GraphFault::BadNode),
+    }
+}
+
+pub fn check_nodes(nodes: &[Node]) -> Result<(), GraphFault>
+    ensures ok { OnOk result (All (IsNode nodes.now) nodes.now) }
+    ensures err { OnErr result (All (IsNode nodes.now) nodes.now → ⊥) }
+{
+    for node in nodes {
+        check_node(nodes, node)?;
+    }
+    Ok(())
+}
+
+fn member_count(node: &Node) -> usize
+    ensures { result ≡ members_in node.now }
+{
+    match node {
+        Node::Struct { members } | Node::Frame { members } => members.as_slice().len(),
+        Node::Union { arms, .. } => arms.as_slice().len(),
+        _ => 0,
+    }
+}
+
+pub fn check_all_members(nodes: &[Node]) -> Result<(), GraphFault>
+    ensures ok { OnOk result (all_members nodes.now ≤ 32768) }
+    ensures err { OnErr result (32768 < all_members nodes.now) }
+{
+    let mut left = MAX_ALL_MEMBERS;
+    for node in nodes {
+        let count = member_count(node);
+        if count > left {
+            return Err(GraphFault::Limit {
+                which: GraphLimit::AllMembers,
+                line: 0,
+            });
+        }
+        left -= count;
+    }
+    Ok(())
+}
+
+/// Whether the number is in the table of those that are shallow enough.
+fn is_in(table: &[bool], number: u32) -> bool
+    ensures { result ≡ slice_index_or table.now number false }
+{
+    table.get(number as usize).copied().unwrap_or(false)
+}
+
+fn are_arms_in(table: &[bool], arms: &[(i128, u32)]) -> bool
+    ensures { IsTrue result ↔ All (λ arm. slice_index_or table.now arm.1 false ≡ true) arms.now }
+{
+    arms.iter().all(|arm| is_in(table, arm.1))
+}
+
+fn is_default_in(table: &[bool], default: Option<u32>) -> bool
+    ensures { IsTrue result ↔ IfSome default (λ number. slice_index_or table.now number false ≡ true) }
+{
+    match default {
+        None => true,
+        Some(number) => is_in(table, number),
+    }
+}
+
+fn is_union_in(table: &[bool], arms: &[(i128, u32)], default: Option<u32>) -> bool
+    ensures { IsTrue result ↔ All (λ number. slice_index_or table.now number false ≡ true) (map (λ arm. arm.1) arms.now ++ option_to_list default) }
+{
+    let in_arms = are_arms_in(table, arms);
+    let in_default = is_default_in(table, default);
+    in_arms && in_default
+}
+
+/// Whether each node that a value of this one holds is in the table.
+fn is_above(table: &[bool], node: &Node) -> bool
+    ensures { IsTrue result ↔ All (λ number. slice_index_or table.now number false ≡ true) (held_by node.now) }
+{
+    match node {
+        Node::Array { elem, .. } => is_in(table, *elem),
+        Node::Struct { members } | Node::Frame { members } => {
+            members
+                .as_slice()
+                .iter()
+                .all(|number| is_in(table, *number))
+        }
+        Node::Union { arms, default, .. } => is_union_in(table, arms.as_slice(), *default),
+        _ => true,
+    }
+}
+
+/// One level more: the nodes of which each part is in the table.
+fn level_above(alloc: Global, nodes: &[Node], table: &[bool]) -> Result<Vec<bool>, AllocError>
+    ensures { IfOk result (λ next. IsLevelAbove nodes.now table.now next.items) }
+{
+    let mut next = Vec::new(alloc);
+    for node in nodes {
+        next.push(is_above(table, node))?;
+    }
+    Ok(next)
+}
+
+/// The nodes from which every path downwards that passes no sequence has at most so many nodes.
+fn shallow(alloc: Global, nodes: &[Node], levels: usize) -> Result<Vec<bool>, AllocError>
+    requires { All (IsNode nodes.now) nodes.now }
+    ensures { IfOk result (λ table. IsLevel levels nodes.now table.items) }
+{
+    let mut table = vec![in alloc; false; nodes.len()]?;
+    for _ in 0..levels {
+        table = level_above(alloc, nodes, &table)?;
+    }
+    Ok(table)
+}
+
+/// A path that is too long is told from a type that holds itself by going down as many levels as
+/// there are nodes.
+pub fn check_paths(alloc: Global, nodes: &[Node]) -> Result<(), GraphFault>
+    requires { All (IsNode nodes.now) nodes.now }
+    ensures ok { OnOk result (EachIndex nodes.now (IsShallow 64 nodes.now)) }
+    ensures err { IfErr result (λ fault. OnlyIf fault (EachIndex nodes.now (IsShallow 64 nodes.now) → ⊥)) }
+{
+    let table = shallow(alloc, nodes, MAX_PATH)?;
+    if table.iter().all(|is_in| *is_in) {
+        return Ok(());
+    }
+    let table = shallow(alloc, nodes, nodes.len())?;
+    if table.iter().all(|is_in| *is_in) {
+        return Err(GraphFault::Limit {
+            which: GraphLimit::Path,
+            line: 0,
+        });
+    }
+    Err(GraphFault::SelfHeld { line: 0 })
+}
