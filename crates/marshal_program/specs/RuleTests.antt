@@ -1,5 +1,5 @@
 -- The rules of a routine apart, as they are tested one after the other.
-use Rattle.std.specs.Prelude.{ℕ, ◌<◌, ◌≤◌, List, length, All}
+use Rattle.std.specs.Prelude.{ℕ, ◌<◌, ◌≤◌, List, All}
 use Rattle.marshal_program.specs.declared.instr.Instr.{Instr}
 use Rattle.marshal_program.specs.declared.instr.Routine.{Routine}
 use Rattle.marshal_program.specs.ProgramRules.{IsInstr, named_by, called_by, TakesOctet, IsLower}

@@ -4,5 +4,8 @@ pub mod WordLaws
 pub mod RelationLaws
 pub mod AtomLaws
 pub mod MeaningMoves
+pub mod Openings
+pub mod LeadLaws
 pub mod OneTape
+pub mod OneReading
 pub mod Worked

@@ -14,21 +14,28 @@ use Rattle.type_graph.proofs.WordLaws.{pad_moved}
 abbrev Stays : Encoding → Type 0
 Stays A = (p q : ℕ) (octets : List ℕ) → q % 8 ≡ p % 8 → A p octets → A q octets
 
+-- part by part
 joined_stays : (A B : Encoding) → Stays A → Stays B → Stays (Joined A B)
 joined_stays A B a b p q x e r = record {
-  octets1 = r.octets1; octets2 = r.octets2; octets_is = r.octets_is;
+  octets1 = r.octets1;
+  octets2 = r.octets2;
+  octets_is = r.octets_is;
   first = a p q r.octets1 e r.first;
   second = b (p + length r.octets1) (q + length r.octets1) r.octets2 (omega arith) r.second;
 }
 
+-- a gap depends on the position modulo 8 alone
 aligned_stays : (way : Way) (w : Width) (n : ℤ) → Stays (Aligned way w n)
 aligned_stays way w n p q x e r = record {
-  octets1 = r.octets1; octets2 = r.octets2; octets_is = r.octets_is;
+  octets1 = r.octets1;
+  octets2 = r.octets2;
+  octets_is = r.octets_is;
   first = record { long = r.first.long ∙ sym (pad_moved p q w e); filled = r.first.filled };
   second = r.second;
 }
 
 mutual
+  -- a value's octets
   encodes_stays : (way : Way) (graph : List Node) (node : Node) (value : Tree) → Stays (Encodes way graph node value)
   encodes_stays way graph node (Number n) p q x e r = aligned_stays way (number_width node) n p q x e r
   encodes_stays way graph node (Bytes text) p q x e r =
@@ -42,6 +49,7 @@ mutual
       joined_stays (Aligned way (number_width (node_at graph switch)) a) (EncodeAll way graph (arm_of arms default a) values) (aligned_stays way (number_width (node_at graph switch)) a) (λ p q x e r. encode_all_stays way graph (arm_of arms default a) values p q x e r) p q x e r
   encodes_stays way graph node value p q x e r = absurd r
 
+  -- the octets of several values
   encode_all_stays : (way : Way) (graph : List Node) (numbers : List ℕ) (values : Trees) → Stays (EncodeAll way graph numbers values)
   encode_all_stays way graph [] NoTree p q x e r = r
   encode_all_stays way graph (number ∷ numbers) (AndTree value values) p q x e r =
@@ -52,7 +60,9 @@ mutual
 pub node_means_moves : {graph : List Node} {way : Way} {depth : ℕ} {node : Node} → Moves (NodeMeans graph way depth node) (NodeMeans graph way depth node)
 node_means_moves {graph} {way} {depth} {node} = record {
   at = λ p q t x e r. record {
-    value = r.value; fits = r.fits; tape_is = r.tape_is;
+    value = r.value;
+    fits = r.fits;
+    tape_is = r.tape_is;
     encodes = encodes_stays way graph node r.value p q x e r.encodes;
   };
 }

@@ -1,12 +1,18 @@
 -- A tape is that of one value.
-use Rattle.std.proofs.Common.{◌≡◌, ℕ, ◌-◌, ◌^◌, ◌<◌, ◌≤◌, ℤ, pos, negsuc, true, false, List, [], ◌∷◌, ◌++◌, length, replicate, refl, sym, ap, ap₂, ◌∙◌, subst, append_assoc, arith}
+use Rattle.std.proofs.Common.{◌≡◌, ℕ, ◌-◌, ◌^◌, ◌<◌, ◌≤◌, ℤ, pos, negsuc, true, false, List, [], ◌∷◌, ◌++◌, length, replicate, refl, sym, ap, ap₂, ◌∙◌, subst, inl, inr, append_assoc, arith}
+use Rattle.std.proofs.lemmas.Bool.{cases_lt}
+use Rattle.std.proofs.lemmas.List.{get_or_past}
+use Rattle.std.proofs.lemmas.List.Elements.{All-get_or}
 use Rattle.type_graph.specs.declared.width.Width.TheVariants.{One, Four}
+use Rattle.type_graph.specs.declared.width.Order.{Order}
 use Rattle.type_graph.specs.declared.width.Order.TheVariants.{Big}
 use Rattle.type_graph.specs.declared.node.Node.{Node}
 use Rattle.type_graph.specs.declared.node.Node.TheVariants.{Whole, Octet, Char, Boolean, Enum, Text, Seq, Array, Struct, Union, Frame}
 use Rattle.type_graph.specs.Words.{word}
 use Rattle.type_graph.specs.Atoms.{IsBelow}
 use Rattle.type_graph.specs.Value.{Tree, Number, Bytes, Items, Choice, Trees, NoTree, AndTree, count, node_at, IsNumber, number_width, arm_of, Fits, FitAll, tape_of, tapes_of}
+use Rattle.type_graph.specs.GraphRules.{IsNode, IsGraph}
+use Rattle.type_graph.proofs.Openings.{IsNumeric, numeric_alone}
 use Rattle.type_graph.proofs.WordLaws.{length-word, below_word_same, signed_word_same, plain_word_same}
 
 -- the enumerators of an enumeration fit the word of one
@@ -14,8 +20,21 @@ abbrev pub FitsWord : Node → Type 0
 FitsWord (Enum limit) = limit ≤ 2 ^ 32
 FitsWord node = Unit {0}
 
+-- those of a node that keeps its rules do
+pub node_fits_word : (graph : List Node) (node : Node) → IsNode graph node → FitsWord node
+node_fits_word graph (Enum limit) h = absurd h
+node_fits_word graph node h = tt
+
+-- and so do those of each node of a graph
+pub graph_fits_words : (graph : List Node) → IsGraph graph → (number : ℕ) → FitsWord (node_at graph number)
+graph_fits_words graph g n =
+    elim (cases_lt n (length graph)) [
+      | inl lt ↦ node_fits_word graph (node_at graph n) (All-get_or (IsNode graph) graph n Octet lt g.nodes)
+      | inr le ↦ subst FitsWord (sym (get_or_past graph n Octet le)) tt
+    ]
+
 -- fronts of one length are one
-cut_same : (a b s r : List ℕ) → length a ≡ length b → a ++ s ≡ b ++ r → (a ≡ b) × (s ≡ r)
+pub cut_same : (a b s r : List ℕ) → length a ≡ length b → a ++ s ≡ b ++ r → (a ≡ b) × (s ≡ r)
 cut_same [] [] s r l e = (refl, e)
 cut_same [] (y ∷ b) s r l e = absurd (omega arith)
 cut_same (x ∷ a) [] s r l e = absurd (omega arith)
@@ -23,26 +42,34 @@ cut_same (x ∷ a) (y ∷ b) s r l e =
     let more = cut_same a b s r (omega arith) (ap (λ xs. tail xs) e) in
     (ap₂ (λ h t. h ∷ t) (ap (λ xs. head xs) e) more.0, more.1)
   where
+    -- the first of a list
     head : List ℕ → ℕ
     head [] = 0
     head (x ∷ xs) = x
+
+    -- all but the first
     tail : List ℕ → List ℕ
     tail [] = []
     tail (x ∷ xs) = xs
 
+-- what is below a limit is below a higher one
 below_weaken : (m k : ℕ) (n : ℤ) → m ≤ k → IsBelow m n → IsBelow k n
 below_weaken m k (pos n) h b = omega arith
 below_weaken m k (negsuc n) h b = b
 
--- numbers of a node of one word are one
+-- numbers of a node of one word in some byte order are one
+pub number_same_in : (o : Order) (node : Node) (m n : ℤ) → FitsWord node → IsNumber node m → IsNumber node n → word o (number_width node) m ≡ word o (number_width node) n → m ≡ n
+number_same_in o (Whole w true) m n f hm hn e = signed_word_same o w m n hm hn e
+number_same_in o (Whole w false) m n f hm hn e = below_word_same o w m n hm hn e
+number_same_in o Octet m n f hm hn e = below_word_same o One m n hm hn e
+number_same_in o Char m n f hm hn e = below_word_same o One m n hm hn e
+number_same_in o Boolean m n f hm hn e = below_word_same o One m n (below_weaken 2 256 m (omega arith) hm) (below_weaken 2 256 n (omega arith) hn) e
+number_same_in o (Enum limit) m n f hm hn e = below_word_same o Four m n (below_weaken limit (2 ^ 32) m f hm) (below_weaken limit (2 ^ 32) n f hn) e
+number_same_in o node m n f hm hn e = absurd hm
+
+-- and so in big order
 pub number_same : (node : Node) (m n : ℤ) → FitsWord node → IsNumber node m → IsNumber node n → word Big (number_width node) m ≡ word Big (number_width node) n → m ≡ n
-number_same (Whole w true) m n f hm hn e = signed_word_same Big w m n hm hn e
-number_same (Whole w false) m n f hm hn e = below_word_same Big w m n hm hn e
-number_same Octet m n f hm hn e = below_word_same Big One m n hm hn e
-number_same Char m n f hm hn e = below_word_same Big One m n hm hn e
-number_same Boolean m n f hm hn e = below_word_same Big One m n (below_weaken 2 256 m (omega arith) hm) (below_weaken 2 256 n (omega arith) hn) e
-number_same (Enum limit) m n f hm hn e = below_word_same Big Four m n (below_weaken limit (2 ^ 32) m f hm) (below_weaken limit (2 ^ 32) n f hn) e
-number_same node m n f hm hn e = absurd hm
+number_same node m n f hm hn e = number_same_in Big node m n f hm hn e
 
 -- numbers whose words begin one list
 words_same : (node : Node) (m n : ℤ) (s r : List ℕ) → FitsWord node → IsNumber node m → IsNumber node n → word Big (number_width node) m ++ s ≡ word Big (number_width node) n ++ r → (m ≡ n) × (s ≡ r)
@@ -57,20 +84,14 @@ counts_same m n s r hm hn e =
     let cut = cut_same (word Big Four (pos m)) (word Big Four (pos n)) s r refl e in
     (plain_word_same Big Four m n hm hn cut.0, cut.1)
 
-abbrev IsANumber : Tree → Type 0
-IsANumber (Number n) = Unit {0}
-IsANumber value = ⊥
-
--- where a number is a value of a node, the others are numbers
-number_alone : (graph : List Node) (node : Node) (m : ℤ) (u : Tree) (depth : ℕ) → IsNumber node m → Fits graph node u depth → IsANumber u
-number_alone graph node m (Number n) d hm hu = tt
-number_alone graph (Text bound) m u d hm hu = absurd hm
-number_alone graph (Seq elem bound) m u d hm hu = absurd hm
-number_alone graph (Array elem n) m u d hm hu = absurd hm
-number_alone graph (Struct members) m u d hm hu = absurd hm
-number_alone graph (Union switch arms default) m u d hm hu = absurd hm
-number_alone graph (Frame members) m u d hm hu = absurd hm
-number_alone graph node m u d hm hu = absurd hu
+-- a node that has a number as a value is of a kind whose values are numbers
+pub number_numeric : (node : Node) (m : ℤ) → IsNumber node m → IsNumeric node
+number_numeric (Whole w signed) m h = tt
+number_numeric Octet m h = tt
+number_numeric Char m h = tt
+number_numeric Boolean m h = tt
+number_numeric (Enum limit) m h = tt
+number_numeric node m h = absurd h
 
 module _ (graph : List Node) (words : (number : ℕ) → FitsWord (node_at graph number)) where
   mutual
@@ -79,7 +100,7 @@ module _ (graph : List Node) (words : (number : ℕ) → FitsWord (node_at graph
     one_front node (Number m) (Number n) d e s r f hv hu h =
         let same = words_same node m n s r f hv hu h in
         (ap Number same.0, same.1)
-    one_front node (Number m) u d e s r f hv hu h = absurd (number_alone graph node m u e hv hu)
+    one_front node (Number m) u d e s r f hv hu h = absurd (numeric_alone graph node u e (number_numeric node m hv) hu)
     one_front (Text bound) (Bytes a) (Bytes b) d e s r f hv hu h =
         let counted = counts_same (length a) (length b) (a ++ s) (b ++ r) (let short = hv.short in omega (arith, short)) (let short = hu.short in omega (arith, short)) (sym (append_assoc (word Big Four (pos (length a))) a s) ∙ h ∙ append_assoc (word Big Four (pos (length b))) b r) in
         let cut = cut_same a b s r counted.0 counted.1 in
@@ -114,6 +135,7 @@ module _ (graph : List Node) (words : (number : ℕ) → FitsWord (node_at graph
         (ap₂ Choice chosen.0 more.0, more.1)
     one_front node v u d e s r f hv hu h = absurd (assumption (hv, hu))
 
+    -- several values whose tapes begin one list
     one_fronts : (numbers : List ℕ) (vs us : Trees) (d e : ℕ) (s r : List ℕ) → FitAll graph numbers vs d → FitAll graph numbers us e → tapes_of graph numbers vs ++ s ≡ tapes_of graph numbers us ++ r → (vs ≡ us) × (s ≡ r)
     one_fronts [] NoTree NoTree d e s r hv hu h = (refl, h)
     one_fronts (number ∷ numbers) (AndTree v vs) (AndTree u us) d e s r hv hu h =

@@ -48,12 +48,22 @@ nothing_ends {S} = record { at = λ p t x s r. let e : p ≡ p + length x = rw r
 pub then_same : {S X : Positions} {R R' Q Q' : Relation} → Same S R R' → Ends S X R → Same X Q Q' → Same S (Then R Q) (Then R' Q')
 then_same a e b = record {
   to = λ p t x s r. record {
-    tape1 = r.tape1; tape2 = r.tape2; octets1 = r.octets1; octets2 = r.octets2; tape_is = r.tape_is; octets_is = r.octets_is;
+    tape1 = r.tape1;
+    tape2 = r.tape2;
+    octets1 = r.octets1;
+    octets2 = r.octets2;
+    tape_is = r.tape_is;
+    octets_is = r.octets_is;
     first = a.to p r.tape1 r.octets1 s r.first;
     second = b.to (p + length r.octets1) r.tape2 r.octets2 (e.at p r.tape1 r.octets1 s r.first) r.second;
   };
   from = λ p t x s r. let first = a.from p r.tape1 r.octets1 s r.first in record {
-    tape1 = r.tape1; tape2 = r.tape2; octets1 = r.octets1; octets2 = r.octets2; tape_is = r.tape_is; octets_is = r.octets_is;
+    tape1 = r.tape1;
+    tape2 = r.tape2;
+    octets1 = r.octets1;
+    octets2 = r.octets2;
+    tape_is = r.tape_is;
+    octets_is = r.octets_is;
     first = first;
     second = b.from (p + length r.octets1) r.tape2 r.octets2 (e.at p r.tape1 r.octets1 s first) r.second;
   };
@@ -67,22 +77,38 @@ then_same_anywhere a b = then_same (same_at a) ends_anywhere b
 pub then_assoc : {S : Positions} {A B C : Relation} → Same S (Then (Then A B) C) (Then A (Then B C))
 then_assoc {C = C} = record {
   to = λ p t x s r. record {
-    tape1 = r.first.tape1; tape2 = r.first.tape2 ++ r.tape2; octets1 = r.first.octets1; octets2 = r.first.octets2 ++ r.octets2;
+    tape1 = r.first.tape1;
+    tape2 = r.first.tape2 ++ r.tape2;
+    octets1 = r.first.octets1;
+    octets2 = r.first.octets2 ++ r.octets2;
     tape_is = r.tape_is ∙ ap (λ l. l ++ r.tape2) r.first.tape_is ∙ append_assoc r.first.tape1 r.first.tape2 r.tape2;
     octets_is = r.octets_is ∙ ap (λ l. l ++ r.octets2) r.first.octets_is ∙ append_assoc r.first.octets1 r.first.octets2 r.octets2;
     first = r.first.first;
     second = record {
-      tape1 = r.first.tape2; tape2 = r.tape2; octets1 = r.first.octets2; octets2 = r.octets2; tape_is = refl; octets_is = refl;
+      tape1 = r.first.tape2;
+      tape2 = r.tape2;
+      octets1 = r.first.octets2;
+      octets2 = r.octets2;
+      tape_is = refl;
+      octets_is = refl;
       first = r.first.second;
       second = subst (λ q. C q r.tape2 r.octets2) (end_of_cut p r.octets1 r.first.octets1 r.first.octets2 r.first.octets_is) r.second;
     };
   };
   from = λ p t x s r. record {
-    tape1 = r.tape1 ++ r.second.tape1; tape2 = r.second.tape2; octets1 = r.octets1 ++ r.second.octets1; octets2 = r.second.octets2;
+    tape1 = r.tape1 ++ r.second.tape1;
+    tape2 = r.second.tape2;
+    octets1 = r.octets1 ++ r.second.octets1;
+    octets2 = r.second.octets2;
     tape_is = r.tape_is ∙ ap (λ l. r.tape1 ++ l) r.second.tape_is ∙ sym (append_assoc r.tape1 r.second.tape1 r.second.tape2);
     octets_is = r.octets_is ∙ ap (λ l. r.octets1 ++ l) r.second.octets_is ∙ sym (append_assoc r.octets1 r.second.octets1 r.second.octets2);
     first = record {
-      tape1 = r.tape1; tape2 = r.second.tape1; octets1 = r.octets1; octets2 = r.second.octets1; tape_is = refl; octets_is = refl;
+      tape1 = r.tape1;
+      tape2 = r.second.tape1;
+      octets1 = r.octets1;
+      octets2 = r.second.octets1;
+      tape_is = refl;
+      octets_is = refl;
       first = r.first;
       second = r.second.first;
     };
@@ -94,12 +120,17 @@ then_assoc {C = C} = record {
 pub nothing_then : {S : Positions} {R : Relation} → Same S (Then Nothing R) R
 nothing_then {R = R} = record {
   to = λ p t x s r.
-    let tape : r.tape2 ≡ t = sym (r.tape_is ∙ ap (λ l. l ++ r.tape2) r.first.no_tape) in
-    let octets : r.octets2 ≡ x = sym (r.octets_is ∙ ap (λ l. l ++ r.octets2) r.first.no_octets) in
-    let place : p + length r.octets1 ≡ p = rw r.first.no_octets (omega arith) in
-    subst (λ y. R p t y) octets (subst (λ u. R p u r.octets2) tape (subst (λ q. R q r.tape2 r.octets2) place r.second));
+      let tape : r.tape2 ≡ t = sym (r.tape_is ∙ ap (λ l. l ++ r.tape2) r.first.no_tape) in
+      let octets : r.octets2 ≡ x = sym (r.octets_is ∙ ap (λ l. l ++ r.octets2) r.first.no_octets) in
+      let place : p + length r.octets1 ≡ p = rw r.first.no_octets (omega arith) in
+      subst (λ y. R p t y) octets (subst (λ u. R p u r.octets2) tape (subst (λ q. R q r.tape2 r.octets2) place r.second));
   from = λ p t x s r. record {
-    tape1 = []; tape2 = t; octets1 = []; octets2 = x; tape_is = refl; octets_is = refl;
+    tape1 = [];
+    tape2 = t;
+    octets1 = [];
+    octets2 = x;
+    tape_is = refl;
+    octets_is = refl;
     first = record { no_tape = refl; no_octets = refl };
     second = let place : p ≡ p + 0 = omega arith in subst (λ q. R q t x) place r;
   };
@@ -109,11 +140,16 @@ nothing_then {R = R} = record {
 pub then_nothing : {S : Positions} {R : Relation} → Same S (Then R Nothing) R
 then_nothing {R = R} = record {
   to = λ p t x s r.
-    let tape : r.tape1 ≡ t = sym (r.tape_is ∙ ap (λ l. r.tape1 ++ l) r.second.no_tape ∙ append-nil r.tape1) in
-    let octets : r.octets1 ≡ x = sym (r.octets_is ∙ ap (λ l. r.octets1 ++ l) r.second.no_octets ∙ append-nil r.octets1) in
-    subst (λ y. R p t y) octets (subst (λ u. R p u r.octets1) tape r.first);
+      let tape : r.tape1 ≡ t = sym (r.tape_is ∙ ap (λ l. r.tape1 ++ l) r.second.no_tape ∙ append-nil r.tape1) in
+      let octets : r.octets1 ≡ x = sym (r.octets_is ∙ ap (λ l. r.octets1 ++ l) r.second.no_octets ∙ append-nil r.octets1) in
+      subst (λ y. R p t y) octets (subst (λ u. R p u r.octets1) tape r.first);
   from = λ p t x s r. record {
-    tape1 = t; tape2 = []; octets1 = x; octets2 = []; tape_is = sym (append-nil t); octets_is = sym (append-nil x);
+    tape1 = t;
+    tape2 = [];
+    octets1 = x;
+    octets2 = [];
+    tape_is = sym (append-nil t);
+    octets_is = sym (append-nil x);
     first = r;
     second = record { no_tape = refl; no_octets = refl };
   };
@@ -133,6 +169,7 @@ pub many_ends : {S : Positions} {R : Relation} (n : ℕ) → Ends S S R → Ends
 many_ends zero e = nothing_ends
 many_ends (suc n) e = then_ends e (many_ends n e)
 
+-- m + n times, everywhere
 many_add_anywhere : (R : Relation) (m n : ℕ) → Same Anywhere (Many (m + n) R) (Then (Many m R) (Many n R))
 many_add_anywhere R zero n = rw zero-add (same_sym nothing_then)
 many_add_anywhere R (suc m) n =
@@ -170,6 +207,7 @@ pub chain_ends : {A : Type 0} {S : Positions} {R : A → Relation} (es : List A)
 chain_ends [] e = nothing_ends
 chain_ends (x ∷ es) e = then_ends (e x) (chain_ends es e)
 
+-- two lists one behind the other, everywhere
 chain_add_anywhere : {A : Type 0} (R : A → Relation) (es fs : List A) → Same Anywhere (Chain R (es ++ fs)) (Then (Chain R es) (Chain R fs))
 chain_add_anywhere R [] fs = same_sym nothing_then
 chain_add_anywhere R (x ∷ es) fs = same_trans (then_same_anywhere same_refl (chain_add_anywhere R es fs)) (same_sym then_assoc)
@@ -200,7 +238,12 @@ nothing_moves = record { at = λ p q t x e r. record { no_tape = r.no_tape; no_o
 pub then_moves : {R R' Q Q' : Relation} → Moves R R' → Moves Q Q' → Moves (Then R Q) (Then R' Q')
 then_moves a b = record {
   at = λ p q t x e r. record {
-    tape1 = r.tape1; tape2 = r.tape2; octets1 = r.octets1; octets2 = r.octets2; tape_is = r.tape_is; octets_is = r.octets_is;
+    tape1 = r.tape1;
+    tape2 = r.tape2;
+    octets1 = r.octets1;
+    octets2 = r.octets2;
+    tape_is = r.tape_is;
+    octets_is = r.octets_is;
     first = a.at p q r.tape1 r.octets1 e r.first;
     second = b.at (p + length r.octets1) (q + length r.octets1) r.tape2 r.octets2 (omega arith) r.second;
   };

@@ -1,5 +1,5 @@
 -- The laws of words and gaps: a gap is the least, and every string of a width's octets is the word of exactly one number.
-use Rattle.std.proofs.Common.{◌≡◌, ℕ, zero, suc, ◌+◌, ◌-◌, ◌*◌, ◌%◌, ◌/◌, ◌^◌, ◌<◌, ◌≤◌, ℤ, pos, negsuc, List, [], ◌∷◌, ◌++◌, length, get_or, refl, sym, ap, ◌∙◌, inl, inr, w16, w32, w64, mod-eq_of_lt, arith}
+use Rattle.std.proofs.Common.{◌≡◌, ℕ, zero, suc, ◌+◌, ◌-◌, ◌*◌, ◌%◌, ◌/◌, ◌^◌, ◌<◌, ◌≤◌, ℤ, pos, negsuc, List, [], ◌∷◌, ◌++◌, length, get_or, replicate, refl, sym, ap, ap₂, ◌∙◌, inl, inr, w16, w32, w64, mod-eq_of_lt, arith}
 use Rattle.std.proofs.lemmas.Bool.{cases_lt}
 use Rattle.std.proofs.lemmas.Nat.{mod_below, be_bytes_2, be_bytes_4, be_bytes_8, le_bytes_2, le_bytes_4, le_bytes_8, from_be_bytes-to_be_bytes_2, from_be_bytes-to_be_bytes_4, from_be_bytes-to_be_bytes_8, from_le_bytes-to_le_bytes_2, from_le_bytes-to_le_bytes_4, from_le_bytes-to_le_bytes_8}
 use Rattle.std.specs.Int.{byte_at, bytes_high_first, bytes_low_first, from_be_bytes, from_le_bytes}
@@ -105,6 +105,16 @@ get_or_below limit [] i h a = h
 get_or_below limit (x ∷ xs) zero h a = a.0
 get_or_below limit (x ∷ xs) (suc i) h a = get_or_below limit xs i h a.1
 
+-- zeros fill a gap
+pub zeros_below : (n : ℕ) → AllBelow 1 (replicate n 0)
+zeros_below zero = tt
+zeros_below (suc n) = (omega arith, zeros_below n)
+
+-- and nothing else fills one that a writer leaves
+pub zeros_only : (xs : List ℕ) → AllBelow 1 xs → xs ≡ replicate (length xs) 0
+zeros_only [] h = refl
+zeros_only (x ∷ xs) h = let zero_is : x ≡ 0 = omega (arith, h.0) in ap₂ (λ y ys. y ∷ ys) zero_is (zeros_only xs h.1)
+
 -- two fillings of gaps
 pub padding_append : (padding : Padding) (xs ys : List ℕ) → IsPadding padding xs → IsPadding padding ys → IsPadding padding (xs ++ ys)
 padding_append Zeros xs ys a b = all_append (λ n. n < 1) xs ys a b
@@ -147,14 +157,17 @@ length-plain_word Little Eight n = refl
 pub length-word : (o : Order) (w : Width) (n : ℤ) → length (word o w n) ≡ octets_in w
 length-word o w n = length-plain_word o w (complement w n)
 
+-- an octet of a number is an octet
 byte_below : (i n : ℕ) → byte_at i n < 256
 byte_below zero n = mod_below n 256 (omega arith)
 byte_below (suc i) n = mod_below (n / 256 ^ suc i) 256 (omega arith)
 
+-- so are all, the highest first
 high_first_below : (k n : ℕ) → AllBelow 256 (bytes_high_first k n)
 high_first_below zero n = tt
 high_first_below (suc k) n = (byte_below k n, high_first_below k n)
 
+-- and the lowest first
 low_first_below : (i k n : ℕ) → AllBelow 256 (bytes_low_first i k n)
 low_first_below i zero n = tt
 low_first_below i (suc k) n = (byte_below i n, low_first_below (suc i) k n)
@@ -194,6 +207,7 @@ number_of-plain_word Little Two n h = from_le_bytes-to_le_bytes_2 n h
 number_of-plain_word Little Four n h = from_le_bytes-to_le_bytes_4 n h
 number_of-plain_word Little Eight n h = from_le_bytes-to_le_bytes_8 n h
 
+-- a list of one octet
 one_octet : (octets : List ℕ) → length octets ≡ 1 → octets ≡ get_or octets 0 0 ∷ []
 one_octet [] l = absurd (omega arith)
 one_octet (a ∷ []) l = refl

@@ -6,19 +6,17 @@ use Rattle.type_graph.specs.declared.width.Order.{Order}
 use Rattle.type_graph.specs.declared.width.Order.TheVariants.{Big, Little}
 use Rattle.type_graph.specs.declared.node.Node.{Node}
 use Rattle.type_graph.specs.declared.node.Node.TheVariants.{Whole, Octet, Boolean, Text, Seq, Struct, Union}
-use Rattle.type_graph.specs.Words.{octets_in, word, pad, AllBelow, Way, Zeros}
+use Rattle.type_graph.specs.Words.{octets_in, word, pad, Way, Zeros}
 use Rattle.type_graph.specs.Atoms.{IsCount}
 use Rattle.type_graph.specs.Value.{Tree, Number, Bytes, Items, Choice, NoTree, AndTree, Fits, tape_of}
 use Rattle.type_graph.specs.Encoding.{Encoding, Just, Joined, Aligned, Means}
+use Rattle.type_graph.proofs.WordLaws.{zeros_below}
 
 -- gaps are zeros
 abbrev pub zeros_in : Order → Way
 zeros_in o = record { order = o; padding = Zeros }
 
-zeros_below : (n : ℕ) → AllBelow 1 (replicate n 0)
-zeros_below zero = tt
-zeros_below (suc n) = (omega arith, zeros_below n)
-
+-- as many as are written
 length-zeros : (n : ℕ) → length (replicate {A = ℕ} n 0) ≡ n
 length-zeros zero = refl
 length-zeros (suc n) = let more = length-zeros n in omega arith
@@ -30,7 +28,9 @@ joined A B p x1 x2 a b = record { octets1 = x1; octets2 = x2; octets_is = refl; 
 -- a number behind zeros
 aligned : (o : Order) (w : Width) (n : ℤ) (p k : ℕ) → k ≡ pad p (octets_in w) → Aligned (zeros_in o) w n p (replicate k 0 ++ word o w n)
 aligned o w n p k e = record {
-  octets1 = replicate k 0; octets2 = word o w n; octets_is = refl;
+  octets1 = replicate k 0;
+  octets2 = word o w n;
+  octets_is = refl;
   first = record { long = length-zeros k ∙ e; filled = zeros_below k };
   second = refl;
 }
@@ -49,6 +49,7 @@ three_parts = Octet ∷ Whole Four false ∷ Text 0 ∷ Struct (0 ∷ 1 ∷ 2 �
 abbrev pub seven_one_hi : Tree
 seven_one_hi = Items (AndTree (Number (pos 7)) (AndTree (Number (pos 1)) (AndTree (Bytes (104 ∷ 105 ∷ [])) NoTree)))
 
+-- it is a value of the structure
 seven_one_hi_fits : Fits three_parts (Struct (0 ∷ 1 ∷ 2 ∷ [])) seven_one_hi 64
 seven_one_hi_fits = (omega arith, (omega arith, (record { in_bound = tt; short = omega arith; octets = ((omega arith, omega arith), ((omega arith, omega arith), tt)) }, tt)))
 
@@ -62,7 +63,9 @@ pub seven_one_hi_big : Means three_parts (zeros_in Big) 64 3 0
     (0x07 ∷ 0 ∷ 0 ∷ 0 ∷ 1 ∷ 0 ∷ 0 ∷ 0 ∷ 2 ∷ 0x68 ∷ 0x69 ∷ [])
     (0x07 ∷ 0 ∷ 0 ∷ 0 ∷ 0 ∷ 0 ∷ 0 ∷ 1 ∷ 0 ∷ 0 ∷ 0 ∷ 3 ∷ 0x68 ∷ 0x69 ∷ 0 ∷ [])
 seven_one_hi_big = record {
-  value = seven_one_hi; fits = seven_one_hi_fits; tape_is = refl;
+  value = seven_one_hi;
+  fits = seven_one_hi_fits;
+  tape_is = refl;
   encodes = joined _ _ 0 _ _ (aligned Big One (pos 7) 0 0 refl) (joined _ _ 1 _ _ (aligned Big Four (pos 1) 1 3 refl) (joined _ _ 8 _ _ (joined _ _ 8 _ _ (aligned Big Four (pos 3) 8 0 refl) refl) (no_more 15)));
 }
 
@@ -71,7 +74,9 @@ pub seven_one_hi_big_3 : Means three_parts (zeros_in Big) 64 3 3
     (0x07 ∷ 0 ∷ 0 ∷ 0 ∷ 1 ∷ 0 ∷ 0 ∷ 0 ∷ 2 ∷ 0x68 ∷ 0x69 ∷ [])
     (0x07 ∷ 0 ∷ 0 ∷ 0 ∷ 1 ∷ 0 ∷ 0 ∷ 0 ∷ 3 ∷ 0x68 ∷ 0x69 ∷ 0 ∷ [])
 seven_one_hi_big_3 = record {
-  value = seven_one_hi; fits = seven_one_hi_fits; tape_is = refl;
+  value = seven_one_hi;
+  fits = seven_one_hi_fits;
+  tape_is = refl;
   encodes = joined _ _ 3 _ _ (aligned Big One (pos 7) 3 0 refl) (joined _ _ 4 _ _ (aligned Big Four (pos 1) 4 0 refl) (joined _ _ 8 _ _ (joined _ _ 8 _ _ (aligned Big Four (pos 3) 8 0 refl) refl) (no_more 15)));
 }
 
@@ -80,7 +85,9 @@ pub seven_one_hi_little : Means three_parts (zeros_in Little) 64 3 0
     (0x07 ∷ 0 ∷ 0 ∷ 0 ∷ 1 ∷ 0 ∷ 0 ∷ 0 ∷ 2 ∷ 0x68 ∷ 0x69 ∷ [])
     (0x07 ∷ 0 ∷ 0 ∷ 0 ∷ 1 ∷ 0 ∷ 0 ∷ 0 ∷ 3 ∷ 0 ∷ 0 ∷ 0 ∷ 0x68 ∷ 0x69 ∷ 0 ∷ [])
 seven_one_hi_little = record {
-  value = seven_one_hi; fits = seven_one_hi_fits; tape_is = refl;
+  value = seven_one_hi;
+  fits = seven_one_hi_fits;
+  tape_is = refl;
   encodes = joined _ _ 0 _ _ (aligned Little One (pos 7) 0 0 refl) (joined _ _ 1 _ _ (aligned Little Four (pos 1) 1 3 refl) (joined _ _ 8 _ _ (joined _ _ 8 _ _ (aligned Little Four (pos 3) 8 0 refl) refl) (no_more 15)));
 }
 
@@ -93,14 +100,18 @@ long_longs = Whole Eight true ∷ Seq 0 0 ∷ []
 -- empty, at position 0
 pub no_long_longs : Means long_longs (zeros_in Big) 64 1 0 (0 ∷ 0 ∷ 0 ∷ 0 ∷ []) (0 ∷ 0 ∷ 0 ∷ 0 ∷ [])
 no_long_longs = record {
-  value = Items NoTree; fits = (omega arith, record { in_bound = tt; short = omega arith }, tt); tape_is = refl;
+  value = Items NoTree;
+  fits = (omega arith, record { in_bound = tt; short = omega arith }, tt);
+  tape_is = refl;
   encodes = joined _ _ 0 _ _ (aligned Big Four (pos 0) 0 0 refl) (no_more 4);
 }
 
 -- empty, at position 4: no gap stands behind the count
 pub no_long_longs_4 : Means long_longs (zeros_in Big) 64 1 4 (0 ∷ 0 ∷ 0 ∷ 0 ∷ []) (0 ∷ 0 ∷ 0 ∷ 0 ∷ [])
 no_long_longs_4 = record {
-  value = Items NoTree; fits = (omega arith, record { in_bound = tt; short = omega arith }, tt); tape_is = refl;
+  value = Items NoTree;
+  fits = (omega arith, record { in_bound = tt; short = omega arith }, tt);
+  tape_is = refl;
   encodes = joined _ _ 4 _ _ (aligned Big Four (pos 0) 4 0 refl) (no_more 8);
 }
 
@@ -109,7 +120,9 @@ pub long_long_five : Means long_longs (zeros_in Big) 64 1 0
     (0 ∷ 0 ∷ 0 ∷ 1 ∷ 0 ∷ 0 ∷ 0 ∷ 0 ∷ 0 ∷ 0 ∷ 0 ∷ 5 ∷ [])
     (0 ∷ 0 ∷ 0 ∷ 1 ∷ 0 ∷ 0 ∷ 0 ∷ 0 ∷ 0 ∷ 0 ∷ 0 ∷ 0 ∷ 0 ∷ 0 ∷ 0 ∷ 5 ∷ [])
 long_long_five = record {
-  value = Items (AndTree (Number (pos 5)) NoTree); fits = (omega arith, record { in_bound = tt; short = omega arith }, (omega arith, tt)); tape_is = refl;
+  value = Items (AndTree (Number (pos 5)) NoTree);
+  fits = (omega arith, record { in_bound = tt; short = omega arith }, (omega arith, tt));
+  tape_is = refl;
   encodes = joined _ _ 0 _ _ (aligned Big Four (pos 1) 0 0 refl) (joined _ _ 4 _ _ (aligned Big Eight (pos 5) 4 4 refl) (no_more 16));
 }
 
@@ -118,7 +131,9 @@ pub long_long_five_4 : Means long_longs (zeros_in Big) 64 1 4
     (0 ∷ 0 ∷ 0 ∷ 1 ∷ 0 ∷ 0 ∷ 0 ∷ 0 ∷ 0 ∷ 0 ∷ 0 ∷ 5 ∷ [])
     (0 ∷ 0 ∷ 0 ∷ 1 ∷ 0 ∷ 0 ∷ 0 ∷ 0 ∷ 0 ∷ 0 ∷ 0 ∷ 5 ∷ [])
 long_long_five_4 = record {
-  value = Items (AndTree (Number (pos 5)) NoTree); fits = (omega arith, record { in_bound = tt; short = omega arith }, (omega arith, tt)); tape_is = refl;
+  value = Items (AndTree (Number (pos 5)) NoTree);
+  fits = (omega arith, record { in_bound = tt; short = omega arith }, (omega arith, tt));
+  tape_is = refl;
   encodes = joined _ _ 4 _ _ (aligned Big Four (pos 1) 4 0 refl) (joined _ _ 8 _ _ (aligned Big Eight (pos 5) 8 0 refl) (no_more 16));
 }
 
@@ -136,6 +151,7 @@ childless v = Items (AndTree (Number v) (AndTree (Items NoTree) NoTree))
 abbrev pub one_and_kids : Tree
 one_and_kids = Items (AndTree (Number (pos 1)) (AndTree (Items (AndTree (childless (pos 2)) (AndTree (childless (pos 3)) NoTree))) NoTree))
 
+-- it is a value of the structure
 one_and_kids_fits : Fits family (Struct (0 ∷ 2 ∷ [])) one_and_kids 64
 one_and_kids_fits =
     let empty : IsCount 0 0 = record { in_bound = tt; short = omega arith } in
@@ -147,10 +163,12 @@ pub one_and_kids_big : Means family (zeros_in Big) 64 1 0
     (1 ∷ 0 ∷ 0 ∷ 0 ∷ 2 ∷ 2 ∷ 0 ∷ 0 ∷ 0 ∷ 0 ∷ 3 ∷ 0 ∷ 0 ∷ 0 ∷ 0 ∷ [])
     (1 ∷ 0 ∷ 0 ∷ 0 ∷ 0 ∷ 0 ∷ 0 ∷ 2 ∷ 2 ∷ 0 ∷ 0 ∷ 0 ∷ 0 ∷ 0 ∷ 0 ∷ 0 ∷ 3 ∷ 0 ∷ 0 ∷ 0 ∷ 0 ∷ 0 ∷ 0 ∷ 0 ∷ [])
 one_and_kids_big = record {
-  value = one_and_kids; fits = one_and_kids_fits; tape_is = refl;
+  value = one_and_kids;
+  fits = one_and_kids_fits;
+  tape_is = refl;
   encodes = joined _ _ 0 _ _ (aligned Big One (pos 1) 0 0 refl) (joined _ _ 1 _ _ (joined _ _ 1 _ _ (aligned Big Four (pos 2) 1 3 refl)
-    (joined _ _ 8 _ _ (joined _ _ 8 _ _ (aligned Big One (pos 2) 8 0 refl) (joined _ _ 9 _ _ (joined _ _ 9 _ _ (aligned Big Four (pos 0) 9 3 refl) (no_more 16)) (no_more 16)))
-    (joined _ _ 16 _ _ (joined _ _ 16 _ _ (aligned Big One (pos 3) 16 0 refl) (joined _ _ 17 _ _ (joined _ _ 17 _ _ (aligned Big Four (pos 0) 17 3 refl) (no_more 24)) (no_more 24))) (no_more 24)))) (no_more 24));
+      (joined _ _ 8 _ _ (joined _ _ 8 _ _ (aligned Big One (pos 2) 8 0 refl) (joined _ _ 9 _ _ (joined _ _ 9 _ _ (aligned Big Four (pos 0) 9 3 refl) (no_more 16)) (no_more 16)))
+      (joined _ _ 16 _ _ (joined _ _ 16 _ _ (aligned Big One (pos 3) 16 0 refl) (joined _ _ 17 _ _ (joined _ _ 17 _ _ (aligned Big Four (pos 0) 17 3 refl) (no_more 24)) (no_more 24))) (no_more 24)))) (no_more 24));
 }
 
 -- at position 1
@@ -158,10 +176,12 @@ pub one_and_kids_big_1 : Means family (zeros_in Big) 64 1 1
     (1 ∷ 0 ∷ 0 ∷ 0 ∷ 2 ∷ 2 ∷ 0 ∷ 0 ∷ 0 ∷ 0 ∷ 3 ∷ 0 ∷ 0 ∷ 0 ∷ 0 ∷ [])
     (1 ∷ 0 ∷ 0 ∷ 0 ∷ 0 ∷ 0 ∷ 2 ∷ 2 ∷ 0 ∷ 0 ∷ 0 ∷ 0 ∷ 0 ∷ 0 ∷ 0 ∷ 3 ∷ 0 ∷ 0 ∷ 0 ∷ 0 ∷ 0 ∷ 0 ∷ 0 ∷ [])
 one_and_kids_big_1 = record {
-  value = one_and_kids; fits = one_and_kids_fits; tape_is = refl;
+  value = one_and_kids;
+  fits = one_and_kids_fits;
+  tape_is = refl;
   encodes = joined _ _ 1 _ _ (aligned Big One (pos 1) 1 0 refl) (joined _ _ 2 _ _ (joined _ _ 2 _ _ (aligned Big Four (pos 2) 2 2 refl)
-    (joined _ _ 8 _ _ (joined _ _ 8 _ _ (aligned Big One (pos 2) 8 0 refl) (joined _ _ 9 _ _ (joined _ _ 9 _ _ (aligned Big Four (pos 0) 9 3 refl) (no_more 16)) (no_more 16)))
-    (joined _ _ 16 _ _ (joined _ _ 16 _ _ (aligned Big One (pos 3) 16 0 refl) (joined _ _ 17 _ _ (joined _ _ 17 _ _ (aligned Big Four (pos 0) 17 3 refl) (no_more 24)) (no_more 24))) (no_more 24)))) (no_more 24));
+      (joined _ _ 8 _ _ (joined _ _ 8 _ _ (aligned Big One (pos 2) 8 0 refl) (joined _ _ 9 _ _ (joined _ _ 9 _ _ (aligned Big Four (pos 0) 9 3 refl) (no_more 16)) (no_more 16)))
+      (joined _ _ 16 _ _ (joined _ _ 16 _ _ (aligned Big One (pos 3) 16 0 refl) (joined _ _ 17 _ _ (joined _ _ 17 _ _ (aligned Big Four (pos 0) 17 3 refl) (no_more 24)) (no_more 24))) (no_more 24)))) (no_more 24));
 }
 
 -- ---- a union over a boolean with an arm for TRUE alone, a signed short
@@ -173,13 +193,17 @@ maybe_short = Boolean ∷ Whole Two true ∷ Union 0 ((pos 1, 1) ∷ []) None �
 -- FALSE
 pub no_short : Means maybe_short (zeros_in Big) 64 2 0 (0 ∷ []) (0 ∷ [])
 no_short = record {
-  value = Choice (pos 0) NoTree; fits = (omega arith, tt); tape_is = refl;
+  value = Choice (pos 0) NoTree;
+  fits = (omega arith, tt);
+  tape_is = refl;
   encodes = joined _ _ 0 _ _ (aligned Big One (pos 0) 0 0 refl) (no_more 1);
 }
 
 -- TRUE and -2, at position 0
 pub short_minus_two : Means maybe_short (zeros_in Big) 64 2 0 (1 ∷ 0xFF ∷ 0xFE ∷ []) (1 ∷ 0 ∷ 0xFF ∷ 0xFE ∷ [])
 short_minus_two = record {
-  value = Choice (pos 1) (AndTree (Number (negsuc 1)) NoTree); fits = (omega arith, (omega arith, tt)); tape_is = refl;
+  value = Choice (pos 1) (AndTree (Number (negsuc 1)) NoTree);
+  fits = (omega arith, (omega arith, tt));
+  tape_is = refl;
   encodes = joined _ _ 0 _ _ (aligned Big One (pos 1) 0 0 refl) (joined _ _ 1 _ _ (aligned Big Two (negsuc 1) 1 1 refl) (no_more 4));
 }

@@ -50,6 +50,13 @@ pub record Way : Type 0 where
   pub order : Order
   pub padding : Padding
 
+-- a reader takes whatever stands in a gap, and a writer leaves zeros there
+abbrev pub reading : Order → Way
+reading byte_order = record { order = byte_order; padding = AnyOctets }
+
+abbrev pub writing : Order → Way
+writing byte_order = record { order = byte_order; padding = Zeros }
+
 abbrev pub IsPadding : Padding → List ℕ → Type 0
 IsPadding Zeros = AllBelow 1
 IsPadding AnyOctets = AllBelow 256

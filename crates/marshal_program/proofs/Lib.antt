@@ -1,0 +1,3 @@
+pub mod GrowthLaws
+pub mod RunLaws
+pub mod PlainRight

@@ -1,0 +1,10 @@
+pub mod ZeroSearch
+pub mod Turning
+pub mod Calls
+pub mod Agreement
+pub mod PassAgreement
+pub mod WordAgreement
+pub mod TextParts
+pub mod TextAgreement
+pub mod RunAgreement
+pub mod WholeRuns

@@ -1,0 +1,93 @@
+//! Numbers, lengths and strings at the front of an input.
+
+ghost use Rattle.std.specs.Prelude.{◌≡◌, ◌==◌};
+ghost use Rattle.std.specs.List.{list_any};
+ghost use Rattle.program_runner.specs.Steps.{Gives, number_at, is_over, read_length, tape_length, no_zero, terminated, unterminated};
+
+use crate::fault::RunFault;
+use memchr::memchr;
+use type_graph::Order;
+
+/// The unsigned long at the front (ISO/IEC 19500-2, CDR, integer data types).
+pub fn number_at_front(order: Order, octets: &[u8]) -> Result<u32, RunFault>
+    ensures { Gives (λ n. n) result (number_at order octets.now) }
+{
+    if octets.len() < 4 {
+        return Err(RunFault::Short);
+    }
+    let word = [octets[0], octets[1], octets[2], octets[3]];
+    match order {
+        Order::Big => Ok(u32::from_be_bytes(word)),
+        Order::Little => Ok(u32::from_le_bytes(word)),
+    }
+}
+
+fn is_over_bound(bound: u32, n: u32) -> bool
+    ensures { result ≡ is_over bound n }
+{
+    bound != 0 && n > bound
+}
+
+/// How many octets a string has by the length among octets, which counts the zero.
+pub fn length_read(bound: u32, said: u32) -> Result<u32, RunFault>
+    ensures { Gives (λ n. n) result (read_length bound said) }
+{
+    if said == 0 {
+        return Err(RunFault::BadLength);
+    }
+    if is_over_bound(bound, said - 1) {
+        return Err(RunFault::OverBound);
+    }
+    Ok(said - 1)
+}
+
+/// How many octets a string has by the length on a tape, which doesn't.
+pub fn length_on_tape(bound: u32, said: u32) -> Result<u32, RunFault>
+    ensures { Gives (λ n. n) result (tape_length bound said) }
+{
+    if said == u32::MAX {
+        return Err(RunFault::BadLength);
+    }
+    if is_over_bound(bound, said) {
+        return Err(RunFault::OverBound);
+    }
+    Ok(said)
+}
+
+fn has_zero(text: &[u8]) -> bool
+    ensures { result ≡ list_any (λ octet. octet == 0) text.now }
+{
+    memchr(0, text).is_some()
+}
+
+fn without_zero(text: &[u8]) -> Result<&[u8], RunFault>
+    ensures { Gives (λ t. t.now) result (no_zero text.now) }
+{
+    if has_zero(text) {
+        return Err(RunFault::ZeroInside);
+    }
+    Ok(text)
+}
+
+/// The string of so many octets at the front, which a zero ends.
+pub fn terminated_text(n: usize, octets: &[u8]) -> Result<&[u8], RunFault>
+    ensures { Gives (λ t. t.now) result (terminated n octets.now) }
+{
+    if octets.len() <= n {
+        return Err(RunFault::Short);
+    }
+    if octets[n] != 0 {
+        return Err(RunFault::NoTerminator);
+    }
+    without_zero(&octets[..n])
+}
+
+/// The string of so many octets at the front.
+pub fn plain_text(n: usize, octets: &[u8]) -> Result<&[u8], RunFault>
+    ensures { Gives (λ t. t.now) result (unterminated n octets.now) }
+{
+    if octets.len() < n {
+        return Err(RunFault::Short);
+    }
+    without_zero(&octets[..n])
+}
