@@ -11,39 +11,23 @@ use Rattle.type_graph.specs.declared.node.Node.TheVariants as nodes
 use Rattle.type_graph.specs.Words.{Way}
 use Rattle.type_graph.specs.Relation.{Relation, Then, Chain, Anywhere, Same}
 use Rattle.type_graph.specs.Atoms.{Gap, Chosen}
-use Rattle.type_graph.specs.Value.{node_at, number_width, IsNumber, arm_of}
+use Rattle.type_graph.specs.Value.{IsNumeric, node_at, number_width, IsNumber, arm_of}
 use Rattle.type_graph.specs.Encoding.{NodeMeans, Means}
 use Rattle.type_graph.specs.GraphRules.{held_by, IsShallow, IsNode, IsGraph}
 use Rattle.type_graph.specs.Walks.{lead_within}
 use Rattle.type_graph.proofs.RelationLaws.{same_refl, same_sym, same_trans, then_same_anywhere, then_nothing, many_one, many_same_anywhere, chain_same_anywhere, chain-map}
 use Rattle.type_graph.proofs.AtomLaws.{octet_run_one, counted_same_deep, first_same, chosen_same}
-use Rattle.type_graph.proofs.Openings.{IsNumeric, gap_one_then, whole_means, octet_means, char_means, boolean_means, enum_means, text_means, seq_means, array_means, struct_means, frame_means, union_means}
+use Rattle.type_graph.proofs.Openings.{gap_one_then, whole_means, octet_means, char_means, boolean_means, enum_means, text_means, seq_means, array_means, struct_means, frame_means, union_means}
 use Rattle.type_graph.proofs.Held.{held_within}
 use Rattle.type_graph.proofs.LeadLaws.{IsFilled, first_leads, lead_leads}
 use Rattle.marshal_program.specs.declared.instr.Instr.{Instr}
 use Rattle.marshal_program.specs.declared.instr.Instr.TheVariants.{Call, Switch}
 use Rattle.marshal_program.specs.Does.{Does, code_of, code_at, Runs}
-use Rattle.marshal_program.specs.Plain.{disc_of, aligned_to, plain_code, plain_from, plain_program}
+use Rattle.marshal_program.specs.Plain.{HasPlainRoutine, HasPlainProgram, disc_of, aligned_to, plain_code, plain_from, plain_program}
 use Rattle.marshal_program.proofs.RunLaws.{runs_opened}
 
--- What the law needs of a node: the numbers that it refers to are in range, its arrays have an element, and a union's
--- switch is of a kind whose values are numbers.
-abbrev pub IsPlain : List Node → Node → Type 0
-IsPlain graph (nodes.Seq elem bound) = elem < length graph
-IsPlain graph (nodes.Array elem n) = (elem < length graph) × (0 < n)
-IsPlain graph (nodes.Struct members) = AllByRecursion (λ m. m < length graph) members
-IsPlain graph (nodes.Frame members) = AllByRecursion (λ m. m < length graph) members
-IsPlain graph (nodes.Union switch arms default) =
-    IsNumeric (node_at graph switch) × AllByRecursion (λ m. m < length graph) (map (λ arm. arm.1) arms ++ option_to_list default)
-IsPlain graph node = Unit {0}
-
--- and of a graph: each node is so, and shallow
-pub record IsPlainGraph (graph : List Node) : Type 0 where
-  pub plain : (number : ℕ) → number < length graph → IsPlain graph (node_at graph number)
-  pub shallow : (number : ℕ) → number < length graph → IsShallow 64 graph number
-
 -- what a node that keeps its rules refers to
-pub plain_node : (graph : List Node) (node : Node) → IsNode graph node → IsPlain graph node
+pub plain_node : (graph : List Node) (node : Node) → IsNode graph node → HasPlainRoutine graph node
 plain_node graph (nodes.Struct members) h = recursion_from_All (λ m. m < length graph) members (held_within graph (nodes.Struct members) h)
 plain_node graph (nodes.Whole w signed) h = tt
 plain_node graph nodes.Octet h = tt
@@ -51,7 +35,7 @@ plain_node graph (nodes.Text bound) h = tt
 plain_node graph node h = absurd h
 
 -- a graph that keeps its rules is one
-pub plain_graph : (graph : List Node) → IsGraph graph → IsPlainGraph graph
+pub plain_graph : (graph : List Node) → IsGraph graph → HasPlainProgram graph
 plain_graph graph g = record {
   plain = λ n lt. plain_node graph (node_at graph n) (All-get_or (IsNode graph) graph n nodes.Octet lt g.nodes);
   shallow = g.shallow;
@@ -79,7 +63,7 @@ arm_of_all P (arm ∷ more) default a h =
     elim (int_eq arm.0 a) as (λ b. AllByRecursion P (if b then arm.1 ∷ [] else arm_of more default a)) [ true ↦ (h.0, tt) | false ↦ rest ]
 
 -- what a node holds is in range
-parts_in_range : (graph : List Node) (node : Node) → IsPlain graph node → AllByRecursion (λ m. m < length graph) (held_by node)
+parts_in_range : (graph : List Node) (node : Node) → HasPlainRoutine graph node → AllByRecursion (λ m. m < length graph) (held_by node)
 parts_in_range graph (nodes.Array elem n) p = (p.0, tt)
 parts_in_range graph (nodes.Struct members) p = p
 parts_in_range graph (nodes.Frame members) p = p
@@ -87,7 +71,7 @@ parts_in_range graph (nodes.Union switch arms default) p = p.1
 parts_in_range graph node p = tt
 
 -- its arrays have an element
-plain_filled : (graph : List Node) (node : Node) → IsPlain graph node → IsFilled node
+plain_filled : (graph : List Node) (node : Node) → HasPlainRoutine graph node → IsFilled node
 plain_filled graph (nodes.Array elem n) p = p.1
 plain_filled graph node p = tt
 
@@ -96,7 +80,7 @@ all_both : {A : Type 0} (P Q V : A → Type 0) (xs : List A) → ((x : A) → P 
 all_both P Q V [] f a b = tt
 all_both P Q V (x ∷ xs) f a b = (f x a.0 b.0, all_both P Q V xs f a.1 b.1)
 
-module _ (graph : List Node) (way : Way) (good : IsPlainGraph graph) where
+module _ (graph : List Node) (way : Way) (good : HasPlainProgram graph) where
   -- the routine of a number is right at a depth
   abbrev Right : ℕ → ℕ → Type 0
   Right depth number = Same Anywhere (Runs (plain_program graph) way depth number) (Means graph way depth number)
@@ -136,7 +120,7 @@ module _ (graph : List Node) (way : Way) (good : IsPlainGraph graph) where
   switch_does d node arms default i right = absurd i
 
   -- the code of a node is right where the routines of its parts are, and those of elements with one of the depth less
-  code_right : (depth : ℕ) (node : Node) → IsPlain graph node → (1 ≤ depth → (m : ℕ) → m < length graph → Right (depth - 1) m) → AllByRecursion (Right depth) (held_by node)
+  code_right : (depth : ℕ) (node : Node) → HasPlainRoutine graph node → (1 ≤ depth → (m : ℕ) → m < length graph → Right (depth - 1) m) → AllByRecursion (Right depth) (held_by node)
       → Same Anywhere (Chain (Done depth) (plain_code graph node)) (NodeMeans graph way depth node)
   code_right d (nodes.Whole w signed) plain deep held =
       same_trans (then_same_anywhere same_refl (same_trans then_nothing many_one)) (same_sym (whole_means graph way d w signed))

@@ -3,6 +3,7 @@
 
 pub mod fault;
 pub mod instr;
+pub mod laws;
 pub mod program;
 mod rules;
 

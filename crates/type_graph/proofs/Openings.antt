@@ -8,19 +8,10 @@ use Rattle.type_graph.specs.declared.node.Node.TheVariants.{Whole, Octet, Char, 
 use Rattle.type_graph.specs.Words.{Way, word}
 use Rattle.type_graph.specs.Relation.{Relation, Then, Many, Chain, Positions, Anywhere, Same}
 use Rattle.type_graph.specs.Atoms.{Gap, HeldWord, WordBelow, AnyWord, IsCount, TextRun, Counted, Chosen}
-use Rattle.type_graph.specs.Value.{Tree, Number, Bytes, Items, Choice, Trees, NoTree, AndTree, count, node_at, IsNumber, number_width, arm_of, Fits, FitAll, tape_of, tapes_of}
+use Rattle.type_graph.specs.Value.{IsNumeric, Tree, Number, Bytes, Items, Choice, Trees, NoTree, AndTree, count, node_at, IsNumber, number_width, arm_of, Fits, FitAll, tape_of, tapes_of}
 use Rattle.type_graph.specs.Encoding.{Encodes, EncodeAll, NodeMeans, Means}
 use Rattle.type_graph.proofs.RelationLaws.{end_of_cut, same_refl, same_trans, same_at, then_same_anywhere, nothing_then, chain_many}
 use Rattle.type_graph.proofs.AtomLaws.{no_gap_one, signed_word, counted_same, chosen_same}
-
--- the kinds whose values are numbers
-abbrev pub IsNumeric : Node → Type 0
-IsNumeric (Whole w signed) = Unit {0}
-IsNumeric Octet = Unit {0}
-IsNumeric Char = Unit {0}
-IsNumeric Boolean = Unit {0}
-IsNumeric (Enum n) = Unit {0}
-IsNumeric node = ⊥
 
 -- a value that is a number
 abbrev pub IsANumber : Tree → Type 0

@@ -48,6 +48,15 @@ IsNumber Boolean n = IsBelow 2 n
 IsNumber (Enum limit) n = IsBelow limit n
 IsNumber node n = ⊥
 
+-- the kinds that have such values
+abbrev pub IsNumeric : Node → Type 0
+IsNumeric (Whole w signed) = Unit {0}
+IsNumeric Octet = Unit {0}
+IsNumeric Char = Unit {0}
+IsNumeric Boolean = Unit {0}
+IsNumeric (Enum limit) = Unit {0}
+IsNumeric node = ⊥
+
 -- how many octets such a number has
 abbrev pub number_width : Node → Width
 number_width (Whole w signed) = w

@@ -3,6 +3,7 @@
 
 pub mod fault;
 pub mod graph;
+pub mod laws;
 pub mod node;
 mod rules;
 pub mod width;
