@@ -1,0 +1,4 @@
+pub mod Lists
+pub mod Ranks
+pub mod PlainList
+pub mod Acceptance

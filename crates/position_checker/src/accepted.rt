@@ -1,0 +1,141 @@
+//! A table that was accepted, and its calls.
+
+ghost use Rattle.std.specs.Prelude.{◌≡◌, ◌≢◌, ◌<◌, ◌≤◌, ◌++◌, ℕ, List, length, take, slice_get, Some, None, IfSome, IfNone, OnOk, OnErr, IfOk, IfErr};
+ghost use Rattle.type_graph.specs.GraphRules.{IsGraph};
+ghost use Rattle.type_graph.specs.Words.{reading, writing};
+ghost use Rattle.type_graph.specs.Encoding.{Means};
+ghost use Rattle.marshal_program.specs.ProgramRules.{IsProgram};
+ghost use Rattle.marshal_program.specs.Plain.{plain_program};
+ghost use Rattle.program_runner.specs.Refusal.{OnlyIf};
+ghost use Rattle.position_checker.specs.Table.{IsRight};
+
+use crate::fault::CheckFault;
+use crate::routine::check_routine;
+use marshal_program::{Program, Routine};
+use program_runner::RunFault;
+use std::alloc::Global;
+use std::marker::Model;
+use type_graph::{Graph, Node, Order};
+
+/// Types and routines that are right for them. A contract sees the two lists.
+#[derive(Debug, Drop)]
+pub struct Accepted {
+    graph: Graph,
+    program: Program,
+}
+
+impl Model for Accepted {
+    ghost use Rattle.position_checker.specs.Table.{Table, IsAccepted};
+
+    ghost Value = { Table };
+
+    ghost view = { λ a. record { graph = a.graph; program = a.program } };
+
+    ghost invariant = { λ a. IsAccepted (record { graph = a.graph; program = a.program }) };
+}
+
+fn routine_at(routines: &[Routine], number: usize) -> Option<&Routine>
+    ensures some { IfSome result (λ routine. slice_get routines.now number ≡ Some routine.now) }
+    ensures none { IfNone result (slice_get routines.now number ≡ None) }
+{
+    routines.get(number)
+}
+
+fn check_routines(nodes: &[Node], routines: &[Routine]) -> Result<(), CheckFault>
+    requires graph { IsGraph nodes.now }
+    requires program { IsProgram routines.now }
+    ensures ok { OnOk result (routines.now ≡ plain_program nodes.now) }
+    ensures err { OnErr result (routines.now ≢ plain_program nodes.now) }
+{
+    for (number, node) in nodes.iter().enumerate() {
+        match routine_at(routines, number) {
+            None => {
+                return Err(CheckFault::WrongWork {
+                    routine: number as u32,
+                    instr: 0,
+                });
+            }
+            Some(routine) => check_routine(nodes, routines, number as u32, node, routine)?,
+        }
+    }
+    if routines.len() != nodes.len() {
+        return Err(CheckFault::WrongWork {
+            routine: nodes.len() as u32,
+            instr: 0,
+        });
+    }
+    Ok(())
+}
+
+/// Accepts a table whose program is the plain program of its graph. Takes no memory.
+///
+/// # Errors
+/// `WrongWork` at the first routine that differs: at instruction 0 where it differs beside its
+/// code, is missing or is one too many, else at the first instruction that differs, or at the
+/// code's length where it ends early.
+pub fn check(graph: Graph, program: Program) -> Result<Accepted, CheckFault>
+    ensures kept { IfOk result (λ accepted. (accepted.graph ≡ graph) × (accepted.program ≡ program)) }
+    ensures right { IfOk result IsRight }
+    ensures refused { OnErr result (program ≢ plain_program graph) }
+{
+    check_routines(graph.nodes(), program.routines())?;
+    Ok(Accepted { graph, program })
+}
+
+impl Accepted {
+    /// The types of the table.
+    pub fn graph(&self) -> &Graph
+        ensures value { result.now ≡ self.now.graph }
+        ensures right { IsRight self.now }
+    {
+        &self.graph
+    }
+
+    /// The routines of the table.
+    pub fn program(&self) -> &Program
+        ensures value { result.now ≡ self.now.program }
+        ensures right { IsRight self.now }
+    {
+        &self.program
+    }
+
+    /// Writes the CDR octets of the value that the whole tape is, with zeros in the gaps.
+    ///
+    /// # Errors
+    /// Other than want of memory they say that the tape is no value's of the node.
+    pub fn write(
+        &self,
+        alloc: Global,
+        node: u32,
+        order: Order,
+        pos: u64,
+        tape: &[u8],
+    ) -> Result<Vec<u8>, RunFault>
+        requires { node < length self.now.graph }
+        ensures found { IfOk result (λ octets. Means self.now.graph (writing order) 64 node pos tape.now octets.items) }
+        ensures refused { IfErr result (λ fault. OnlyIf fault ((octets : List ℕ) → Means self.now.graph (writing order) 64 node pos tape.now octets → ⊥)) }
+    {
+        program_runner::write(alloc, &self.program, node, order, pos, tape)
+    }
+
+    /// Reads the tape of the value that a front of the octets encodes, whatever stands in the
+    /// gaps, and tells how many octets that front has.
+    ///
+    /// # Errors
+    /// Other than want of memory they say that no front of the octets encodes a value of the node.
+    pub fn read(
+        &self,
+        alloc: Global,
+        node: u32,
+        order: Order,
+        pos: u64,
+        octets: &[u8],
+    ) -> Result<(Vec<u8>, usize), RunFault>
+        requires { node < length self.now.graph }
+        ensures found { IfOk result (λ r. Means self.now.graph (reading order) 64 node pos r.0.items (take r.1 octets.now)) }
+        ensures within { IfOk result (λ r. r.1 ≤ length octets.now) }
+        ensures refused { IfErr result (λ fault. OnlyIf fault ((tape front rest : List ℕ) → octets.now ≡ front ++ rest → Means self.now.graph (reading order) 64 node pos tape front → ⊥)) }
+    {
+        program_runner::read(alloc, &self.program, node, order, pos, octets)
+    }
+}

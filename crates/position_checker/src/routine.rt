@@ -1,0 +1,88 @@
+//! A routine of the plain program.
+
+ghost use Rattle.std.specs.Prelude.{◌≡◌, ◌≢◌, ◌+◌, ◌<◌, ◌≤◌, ◌^◌, ◌↔◌, List, length, slice_get, replicate, Some, IfSome, IfNone, OnOk, OnErr, IsTrue, All};
+ghost use Rattle.type_graph.specs.GraphRules.{IsNode, IsGraph, held_by};
+ghost use Rattle.type_graph.specs.Walks.{above};
+ghost use Rattle.marshal_program.specs.ProgramRules.{IsRoutine, IsProgram};
+ghost use Rattle.marshal_program.specs.Plain.{plain_code};
+ghost use Rattle.position_checker.specs.PlainTests.{rank_at, IsPlainRoutine};
+
+use crate::code::first_wrong;
+use crate::fault::CheckFault;
+use marshal_program::Routine;
+use type_graph::Node;
+
+fn rank_of(routines: &[Routine], number: u32) -> u32
+    ensures { result ≡ rank_at routines.now number }
+{
+    match routines.get(number as usize) {
+        None => 0,
+        Some(routine) => routine.rank,
+    }
+}
+
+/// One more than the greatest rank of these routines, or 0 for none; too great a rank counts as
+/// the greatest that there is.
+fn rank_above(routines: &[Routine], numbers: &[u32]) -> u32
+    requires { IsProgram routines.now }
+    ensures { result ≡ above (rank_at routines.now) numbers.now }
+{
+    let mut rank = 0;
+    for number in numbers {
+        rank = (rank_of(routines, *number) + 1).max(rank);
+    }
+    rank
+}
+
+/// The rank that the routine of a node has to have.
+fn plain_rank(nodes: &[Node], routines: &[Routine], node: &Node) -> u32
+    requires program { IsProgram routines.now }
+    requires kept { IsNode nodes.now node.now }
+    ensures { result ≡ above (rank_at routines.now) (held_by node.now) }
+{
+    match node {
+        Node::Struct { members } => rank_above(routines, members.as_slice()),
+        Node::Whole { .. } | Node::Octet | Node::Text { .. } => 0,
+        _ => unreachable!(),
+    }
+}
+
+/// What a routine says beside its code is that of a node.
+fn has_plain_head(number: u32, rank: u32, routine: &Routine) -> bool
+    ensures { IsTrue result ↔ ((routine.now.node ≡ number) × (routine.now.entry ≡ 255) × (routine.now.exits ≡ replicate 8 255) × (routine.now.rank ≡ rank)) }
+{
+    routine.node == number
+        && routine.entry == u8::MAX
+        && routine.exits == [u8::MAX; 8]
+        && routine.rank == rank
+}
+
+/// A routine is the plain one of a node, or the first place where it isn't.
+pub fn check_routine(
+    nodes: &[Node],
+    routines: &[Routine],
+    number: u32,
+    node: &Node,
+    routine: &Routine,
+) -> Result<(), CheckFault>
+    requires program { IsProgram routines.now }
+    requires few { length routine.now.code < 2 ^ 32 }
+    requires kept { IsNode nodes.now node.now }
+    ensures ok { OnOk result (IsPlainRoutine nodes.now routines.now number node.now routine.now) }
+    ensures err { OnErr result (IsPlainRoutine nodes.now routines.now number node.now routine.now → ⊥) }
+{
+    let rank = plain_rank(nodes, routines, node);
+    if !has_plain_head(number, rank, routine) {
+        return Err(CheckFault::WrongWork {
+            routine: number,
+            instr: 0,
+        });
+    }
+    match first_wrong(nodes, node, routine.code.as_slice()) {
+        None => Ok(()),
+        Some(instr) => Err(CheckFault::WrongWork {
+            routine: number,
+            instr,
+        }),
+    }
+}
