@@ -1,0 +1,9 @@
+use Rattle.std.proofs.Common.{length}
+use Rattle.idl_lexer.specs.Directives.{IsScopedName}
+use Rattle.idl_lexer.proofs.directive.scoped_name.Given as goal
+
+abbrev pub invariant-loop-inner : goal.invariant-loop-inner
+invariant-loop-inner l = IsScopedName l.octets l.rest
+
+abbrev pub decreases-loop-inner : goal.decreases-loop-inner
+decreases-loop-inner l = length l.rest

@@ -1,0 +1,10 @@
+-- What an IDL source consists of, by the lexical conventions of ISO/IEC 19500-1.
+pub mod Octets
+pub mod Words
+pub mod Numbers
+pub mod Punctuation
+pub mod Literals
+pub mod Directives
+pub mod Gaps
+pub mod Tokens
+pub mod Lexemes

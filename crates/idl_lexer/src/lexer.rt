@@ -1,0 +1,77 @@
+//! The tokens of a whole source, one step after another.
+
+ghost use Rattle.std.specs.Prelude.{◌≡◌, ◌<◌, ◌≤◌, length, IfOk, slice_index};
+ghost use Rattle.idl_lexer.specs.Lexemes.{IsLexeme};
+ghost use Rattle.idl_lexer.specs.Tokens.{Lexed};
+
+use crate::comment::block_comment;
+use crate::directive::directive;
+use crate::fault::LexFault;
+use crate::lexeme::Lexeme;
+use crate::literal::{char_literal, text_literal};
+use crate::number::integer;
+use crate::octets::{blank_len, is_blank_octet, line_len};
+use crate::punct::punct_len;
+use crate::token::{Kind, Token};
+use crate::word::word;
+use memchr::memchr_iter;
+use std::alloc::Global;
+
+/// What the octets begin with, behind those before them.
+fn lexeme(before: &[u8], octets: &[u8], line: usize) -> Result<Lexeme, LexFault>
+    ensures form { IfOk result (λ l. IsLexeme before.now octets.now l) }
+{
+    match octets {
+        [b'#', ..] => directive(before, octets, line),
+        [b'/', b'/', ..] => Ok(Lexeme::skipped(line_len(octets))),
+        [b'/', b'*', ..] => Ok(Lexeme::skipped(block_comment(octets, line)?)),
+        [b'\'', ..] => Ok(Lexeme::token(Kind::CharLit, char_literal(octets, line)?)),
+        [b'"', ..] => Ok(Lexeme::token(Kind::TextLit, text_literal(octets, line)?)),
+        [b'0'..=b'9', ..] => Ok(Lexeme::token(Kind::Number, integer(octets, line)?)),
+        [first, ..] if is_blank_octet(*first) => Ok(Lexeme::skipped(blank_len(octets))),
+        _ => match punct_len(octets) {
+            Some(len) => Ok(Lexeme::token(Kind::Punct, len)),
+            None => {
+                let (kind, len) = word(octets, line)?;
+                Ok(Lexeme::token(kind, len))
+            }
+        },
+    }
+}
+
+/// The tokens of an IDL source in order, with the pragmas for repository ids among them
+/// (ISO/IEC 19500-1, lexical conventions).
+///
+/// The source is a preprocessor's output in UTF-8, of ASCII outside comments. Together with what is
+/// skipped (blanks, comments, markers of lines and other pragmas) the tokens make up the source.
+///
+/// # Errors
+///
+/// The first fault in the order of reading, with its line, and `NoMemory` where memory was refused.
+pub fn lex(alloc: Global, source: &str) -> Result<Vec<Token<'_>>, LexFault>
+    ensures { IfOk result (λ tokens. Lexed source.now tokens.items) }
+{
+    let octets = source.as_bytes();
+    let mut tokens = Vec::new(alloc);
+    let mut at = 0;
+    let mut line = 1;
+    while at < octets.len() {
+        let (before, rest) = octets.split_at(at);
+        let found = lexeme(before, rest, line)?;
+        let end = at + found.len;
+        if let Some(kind) = found.kind {
+            let text = &source[at..end];
+            tokens.push(Token {
+                kind,
+                text,
+                start: at,
+                end,
+                line,
+            })?;
+        } else {
+            line += memchr_iter(b'\n', rest.split_at(found.len).0).count();
+        }
+        at = end;
+    }
+    Ok(tokens)
+}

@@ -1,0 +1,148 @@
+//! Character and text literals (ISO/IEC 19500-1, lexical conventions, literals).
+
+ghost use Rattle.std.specs.Prelude.{◌≡◌, ◌<◌, ◌≤◌, ℕ, length, slice_index, IfOk, IfSome, true};
+ghost use Rattle.std.specs.Str.Parse.{digits_value};
+ghost use Rattle.idl_lexer.specs.Literals.{escape_value, IsCharacter, IsCharLiteral, IsTextLiteral};
+
+use crate::fault::LexFault;
+use crate::number::number_of;
+use crate::octets::{hex_len, octal_len};
+
+/// The octet that the digits write in this radix, where it is one.
+fn octet_of(digits: &[u8], radix: u32) -> Option<u8>
+    requires low { 2 ≤ radix }
+    requires high { radix ≤ 36 }
+    ensures some { IfSome result (λ v. 0 < length digits.now) }
+    ensures value { IfSome result (λ v. v ≡ digits_value radix digits.now) }
+    ensures octet { IfSome result (λ v. v < 256) }
+{
+    u8::try_from(number_of(digits, radix)?).ok()
+}
+
+/// The escape at the front, a backslash and one to three octal digits.
+fn octal_escape(octets: &[u8], line: usize) -> Result<(u8, usize), LexFault>
+    requires opens { slice_index octets.now 0 ≡ 92 }
+    ensures form { (quote : ℕ) → IfOk result (λ c. IsCharacter quote octets.now c.1 c.0) }
+    ensures within { IfOk result (λ c. c.1 ≤ length octets.now) }
+    ensures long { IfOk result (λ c. 0 < c.1) }
+{
+    let digits = octets.split_at(1).1;
+    let len = octal_len(digits).min(3);
+    match octet_of(digits.split_at(len).0, 8) {
+        Some(value) => Ok((value, len + 1)),
+        None => Err(LexFault::BadEscape { line }),
+    }
+}
+
+/// The escape at the front, a backslash, an x and one or two hexadecimal digits.
+fn hex_escape(octets: &[u8], line: usize) -> Result<(u8, usize), LexFault>
+    requires opens { slice_index octets.now 0 ≡ 92 }
+    requires mark { slice_index octets.now 1 ≡ 120 }
+    ensures form { (quote : ℕ) → IfOk result (λ c. IsCharacter quote octets.now c.1 c.0) }
+    ensures within { IfOk result (λ c. c.1 ≤ length octets.now) }
+    ensures long { IfOk result (λ c. 0 < c.1) }
+{
+    let digits = octets.split_at(2).1;
+    let len = hex_len(digits).min(2);
+    match octet_of(digits.split_at(len).0, 16) {
+        Some(value) => Ok((value, len + 2)),
+        None => Err(LexFault::BadEscape { line }),
+    }
+}
+
+fn letter_escape(letter: u8) -> Option<u8>
+    ensures { IfSome result (λ v. escape_value letter v ≡ true) }
+{
+    match letter {
+        b'n' => Some(b'\n'),
+        b't' => Some(b'\t'),
+        b'v' => Some(0x0b),
+        b'b' => Some(0x08),
+        b'r' => Some(b'\r'),
+        b'f' => Some(0x0c),
+        b'a' => Some(0x07),
+        b'\\' | b'?' | b'\'' | b'"' => Some(letter),
+        _ => None,
+    }
+}
+
+/// The octet that the escape behind a backslash stands for, and its length with the backslash.
+fn escape(octets: &[u8], line: usize) -> Result<(u8, usize), LexFault>
+    requires { slice_index octets.now 0 ≡ 92 }
+    ensures form { (quote : ℕ) → IfOk result (λ c. IsCharacter quote octets.now c.1 c.0) }
+    ensures within { IfOk result (λ c. c.1 ≤ length octets.now) }
+    ensures long { IfOk result (λ c. 0 < c.1) }
+{
+    match octets {
+        [_, b'x', ..] => hex_escape(octets, line),
+        [_, b'0'..=b'7', ..] => octal_escape(octets, line),
+        [_] | [_, b'\n', ..] | [_, b'\r', b'\n', ..] => Err(LexFault::OpenLiteral { line }),
+        [_, letter, ..] if letter.is_ascii() => match letter_escape(*letter) {
+            Some(value) => Ok((value, 2)),
+            None => Err(LexFault::BadEscape { line }),
+        },
+        _ => Err(LexFault::BadChar { line }),
+    }
+}
+
+/// The octet that the character at the front stands for, and how long it is.
+fn character(octets: &[u8], quote: u8, line: usize) -> Result<(u8, usize), LexFault>
+    ensures form { IfOk result (λ c. IsCharacter quote octets.now c.1 c.0) }
+    ensures within { IfOk result (λ c. c.1 ≤ length octets.now) }
+    ensures long { IfOk result (λ c. 0 < c.1) }
+{
+    match octets {
+        [b'\\', ..] => escape(octets, line),
+        [] | [b'\n', ..] => Err(LexFault::OpenLiteral { line }),
+        [octet, ..] if *octet == quote => Err(LexFault::OpenLiteral { line }),
+        [octet, ..] if octet.is_ascii() => Ok((*octet, 1)),
+        _ => Err(LexFault::BadChar { line }),
+    }
+}
+
+/// How long the character literal at the front is.
+///
+/// # Errors
+///
+/// `OpenLiteral` where it isn't closed behind its one character, `BadEscape`, and `BadChar` for a
+/// character outside ASCII.
+pub(crate) fn char_literal(octets: &[u8], line: usize) -> Result<usize, LexFault>
+    requires { slice_index octets.now 0 ≡ 39 }
+    ensures form { IfOk result (λ n. IsCharLiteral octets.now n) }
+    ensures within { IfOk result (λ n. n ≤ length octets.now) }
+    ensures long { IfOk result (λ n. 0 < n) }
+{
+    let (_, len) = character(octets.split_at(1).1, b'\'', line)?;
+    if len + 1 < octets.len() && octets[len + 1] == b'\'' {
+        Ok(len + 2)
+    } else {
+        Err(LexFault::OpenLiteral { line })
+    }
+}
+
+/// How long the text literal at the front is.
+///
+/// # Errors
+///
+/// `OpenLiteral` where it isn't closed on its line, `BadEscape` for a wrong escape and for a zero
+/// octet, and `BadChar` for a character outside ASCII.
+pub(crate) fn text_literal(octets: &[u8], line: usize) -> Result<usize, LexFault>
+    requires { slice_index octets.now 0 ≡ 34 }
+    ensures form { IfOk result (λ n. IsTextLiteral octets.now n) }
+    ensures within { IfOk result (λ n. n ≤ length octets.now) }
+    ensures long { IfOk result (λ n. 0 < n) }
+{
+    let mut at = 1;
+    while at < octets.len() && octets[at] != b'"' {
+        let (value, len) = character(octets.split_at(at).1, b'"', line)?;
+        if value == 0 {
+            return Err(LexFault::BadEscape { line });
+        }
+        at += len;
+    }
+    if at < octets.len() {
+        Ok(at + 1)
+    } else {
+        Err(LexFault::OpenLiteral { line })
+    }
+}

@@ -1,0 +1,57 @@
+//! Integer literals (ISO/IEC 19500-1, lexical conventions, literals).
+
+ghost use Rattle.std.specs.Prelude.{◌≡◌, ◌<◌, ◌≤◌, ◌≢◌, length, slice_index, IfOk, IfSome};
+ghost use Rattle.std.specs.Str.Parse.{digits_value};
+ghost use Rattle.idl_lexer.specs.Octets.{run};
+ghost use Rattle.idl_lexer.specs.Numbers.{is_word_or_point, IsInteger, IsNumber};
+
+use crate::fault::LexFault;
+use crate::octets::is_word_octet;
+
+/// The number that the digits write in this radix, where it has at most 64 bits.
+pub(crate) fn number_of(digits: &[u8], radix: u32) -> Option<u64>
+    requires low { 2 ≤ radix }
+    requires high { radix ≤ 36 }
+    ensures number { IfSome result (λ v. IsNumber radix digits.now) }
+    ensures value { IfSome result (λ v. v ≡ digits_value radix digits.now) }
+{
+    if digits.first() == Some(&b'+') {
+        return None;
+    }
+    let text = str::from_utf8(digits).ok()?;
+    u64::from_str_radix(text, radix).ok()
+}
+
+fn number_len(octets: &[u8]) -> usize
+    ensures value { result ≡ run is_word_or_point octets.now }
+    ensures within { result ≤ length octets.now }
+{
+    octets
+        .iter()
+        .position(|octet| !is_word_octet(*octet) && *octet != b'.')
+        .unwrap_or(octets.len())
+}
+
+/// How long the integer literal at the front is: everything up to the first octet that is no letter,
+/// digit, underscore or point has to be of it.
+///
+/// # Errors
+///
+/// `BadNumber` where that is no integer literal.
+pub(crate) fn integer(octets: &[u8], line: usize) -> Result<usize, LexFault>
+    ensures form { IfOk result (λ n. IsInteger octets.now n) }
+    ensures within { IfOk result (λ n. n ≤ length octets.now) }
+    ensures long { IfOk result (λ n. 0 < n) }
+{
+    let len = number_len(octets);
+    let value = match octets.split_at(len).0 {
+        [b'0', b'x' | b'X', digits @ ..] => number_of(digits, 16),
+        digits @ [b'0', ..] => number_of(digits, 8),
+        digits @ [b'1'..=b'9', ..] => number_of(digits, 10),
+        _ => None,
+    };
+    match value {
+        Some(_) => Ok(len),
+        None => Err(LexFault::BadNumber { line }),
+    }
+}

@@ -1,0 +1,161 @@
+//! Identifiers and keywords (ISO/IEC 19500-1, lexical conventions).
+
+ghost use Rattle.std.specs.Prelude.{◌≡◌, ◌<◌, ◌≤◌, ℕ, List, length, IfOk, IfSome, IsTrue, slice_index};
+ghost use Rattle.std.specs.Char.{is_ascii_alphabetic};
+ghost use Rattle.std.specs.List.{list_any};
+ghost use Rattle.std.specs.Str.{bytes_eq};
+ghost use Rattle.idl_lexer.specs.Words.{is_keyword as listed, is_keyword_in_some_case as listed_in_some_case};
+ghost use Rattle.idl_lexer.specs.Words.{same_but_for_case, IsIdentifier};
+ghost use Rattle.idl_lexer.specs.Tokens.{Begins};
+
+use crate::fault::LexFault;
+use crate::octets::word_len;
+use crate::token::Kind;
+
+const KEYWORDS: [&str; 64] = [
+    "abstract",
+    "any",
+    "attribute",
+    "boolean",
+    "case",
+    "char",
+    "component",
+    "const",
+    "consumes",
+    "context",
+    "custom",
+    "default",
+    "double",
+    "emits",
+    "enum",
+    "eventtype",
+    "exception",
+    "factory",
+    "FALSE",
+    "finder",
+    "fixed",
+    "float",
+    "getraises",
+    "home",
+    "import",
+    "in",
+    "inout",
+    "interface",
+    "local",
+    "long",
+    "module",
+    "multiple",
+    "native",
+    "Object",
+    "octet",
+    "oneway",
+    "out",
+    "primarykey",
+    "private",
+    "provides",
+    "public",
+    "publishes",
+    "raises",
+    "readonly",
+    "sequence",
+    "setraises",
+    "short",
+    "string",
+    "struct",
+    "supports",
+    "switch",
+    "TRUE",
+    "truncatable",
+    "typedef",
+    "typeid",
+    "typeprefix",
+    "union",
+    "unsigned",
+    "uses",
+    "ValueBase",
+    "valuetype",
+    "void",
+    "wchar",
+    "wstring",
+];
+
+fn begins_with_letter(octets: &[u8]) -> bool
+    ensures { result ≡ is_ascii_alphabetic (slice_index octets.now 0) }
+{
+    octets
+        .first()
+        .is_some_and(|octet| octet.is_ascii_alphabetic())
+}
+
+/// The word at the front, which begins with a letter: a keyword or an identifier.
+fn plain_word(octets: &[u8], line: usize) -> Result<(Kind, usize), LexFault>
+    requires { IsTrue (is_ascii_alphabetic (slice_index octets.now 0)) }
+    ensures form { IfOk result (λ w. (before : List ℕ) → Begins w.0 before octets.now w.1) }
+    ensures within { IfOk result (λ w. w.1 ≤ length octets.now) }
+    ensures long { IfOk result (λ w. 0 < w.1) }
+{
+    let len = word_len(octets);
+    let word = octets.split_at(len).0;
+    if !is_keyword_in_some_case(word) {
+        Ok((Kind::Ident, len))
+    } else if is_keyword(word) {
+        Ok((Kind::Keyword, len))
+    } else {
+        Err(LexFault::KeywordCase { line })
+    }
+}
+
+/// The word at the front: a keyword, or an identifier, which an underscore may escape.
+///
+/// # Errors
+///
+/// `KeywordCase` where it is a keyword but for the case of letters, and `BadChar` where no word is
+/// there.
+pub(crate) fn word(octets: &[u8], line: usize) -> Result<(Kind, usize), LexFault>
+    ensures form { IfOk result (λ w. (before : List ℕ) → Begins w.0 before octets.now w.1) }
+    ensures within { IfOk result (λ w. w.1 ≤ length octets.now) }
+    ensures long { IfOk result (λ w. 0 < w.1) }
+{
+    match octets {
+        [b'_', name @ ..] if begins_with_letter(name) => Ok((Kind::Ident, word_len(name) + 1)),
+        _ if begins_with_letter(octets) => plain_word(octets, line),
+        _ => Err(LexFault::BadChar { line }),
+    }
+}
+
+/// How long the identifier at the front is, if one is there.
+pub(crate) fn identifier_len(octets: &[u8]) -> Option<usize>
+    ensures form { IfSome result (λ n. IsIdentifier octets.now n) }
+    ensures within { IfSome result (λ n. n ≤ length octets.now) }
+{
+    match word(octets, 0) {
+        Ok((Kind::Ident, len)) => Some(len),
+        _ => None,
+    }
+}
+
+fn is_keyword(word: &[u8]) -> bool
+    ensures { result ≡ listed word.now }
+{
+    is_among(&KEYWORDS, word)
+}
+
+fn is_keyword_in_some_case(word: &[u8]) -> bool
+    ensures { result ≡ listed_in_some_case word.now }
+{
+    is_among_but_for_case(&KEYWORDS, word)
+}
+
+fn is_among(texts: &[&str], word: &[u8]) -> bool
+    ensures { result ≡ list_any (λ t. bytes_eq t.now word.now) texts.now }
+{
+    texts.iter().any(|text| text.as_bytes() == word)
+}
+
+fn is_among_but_for_case(texts: &[&str], word: &[u8]) -> bool
+    ensures { result ≡ list_any (λ t. same_but_for_case t.now word.now) texts.now }
+{
+    texts
+        .iter()
+        .any(|text| text.as_bytes().eq_ignore_ascii_case(word))
+}
