@@ -1,0 +1,11 @@
+//! Rows that cross crates, as tests: the library itself is empty.
+#![tactic(auto)]
+
+#[cfg(test)]
+mod graphs;
+#[cfg(test)]
+mod programs;
+#[cfg(test)]
+mod runs;
+#[cfg(test)]
+mod sample;

@@ -1,0 +1,79 @@
+//! Why a run of the program didn't do what was asked for.
+
+ghost use Rattle.std.specs.Prelude.{◌≡◌, ◌≤◌};
+ghost use Rattle.idlc_main.specs.Fault.{fault_of};
+ghost use Rattle.idlc_main.specs.declared.fault.Fault.TheVariants.{NoMemory};
+
+use program_runner::RunFault;
+use std::alloc::AllocError;
+use thiserror::Error;
+
+/// A fault has as its text the line that stands behind `idlc: ` on standard error.
+#[derive(Debug, Drop, Error)]
+pub enum Fault<'a> {
+    /// The words aren't those of a command.
+    #[error(transparent)]
+    Usage(clap::Error),
+    /// The word for the byte order is neither of the two.
+    #[error(transparent)]
+    BadOrder(clap::Error),
+    #[error("a word isn't UTF-8")]
+    NotText,
+    /// `clap` passed words without one that it requires, which no contract of it rules out.
+    #[error("a word is missing")]
+    NoWord,
+    /// There is no such table.
+    #[error("cannot read {table}")]
+    Unread { table: &'a str },
+    /// The table has no type of that name.
+    #[error("no type {name}")]
+    NoType { name: &'a str },
+    /// An odd number of digits, or a character that is none.
+    #[error("bad hex")]
+    BadHex,
+    /// The run was refused.
+    #[error(transparent)]
+    Refused(RunFault),
+    /// Standard output can't be written, of which no line tells.
+    #[error("cannot write")]
+    Unwritten,
+    #[error("no memory")]
+    NoMemory,
+}
+
+impl<'a> Fault<'a> {
+    ghost use Rattle.idlc_main.specs.Fault.{status_of};
+
+    /// The status with which the program ends: 1 for refused input, 2 for usage, 3 for files and
+    /// standard output, 4 for want of memory.
+    pub fn status(&self) -> u8
+        ensures status { result ≡ status_of self.now }
+        ensures range { (1 ≤ result) × (result ≤ 4) }
+    {
+        match self {
+            Fault::NoType { .. } | Fault::BadHex | Fault::Refused(_) => 1,
+            Fault::Usage(_) | Fault::BadOrder(_) | Fault::NotText | Fault::NoWord => 2,
+            Fault::Unread { .. } | Fault::Unwritten => 3,
+            Fault::NoMemory => 4,
+        }
+    }
+}
+
+impl<'a> From<AllocError> for Fault<'a> {
+    ghost from_gives = { λ _ fault. fault ≡ NoMemory };
+
+    fn from(_error: AllocError) -> Fault<'a> {
+        Fault::NoMemory
+    }
+}
+
+impl<'a> From<RunFault> for Fault<'a> {
+    ghost from_gives = { λ refusal fault. fault ≡ fault_of refusal };
+
+    fn from(refusal: RunFault) -> Fault<'a> {
+        match refusal {
+            RunFault::NoMemory => Fault::NoMemory,
+            refusal => Fault::Refused(refusal),
+        }
+    }
+}

@@ -1,0 +1,129 @@
+//! The commands `encode` and `decode`.
+
+ghost use Rattle.std.specs.Prelude.{◌≡◌, ◌≢◌, ◌<◌, length, [], ◌∷◌, ◌++◌, codes};
+ghost use Rattle.std.specs.Prelude.{IfOk, IfErr, IsOk, IsErr, IsErrAnd, Ok, Err};
+ghost use Rattle.std.specs.String.{string_bytes};
+ghost use Rattle.std.specs.Fmt.{decimal};
+ghost use Rattle.hex.specs.Hex.{decode_of, encode_lower};
+ghost use Rattle.idlc_main.specs.Fault.{OnlyIf, IsOfRun, IsTold};
+
+use crate::fault::Fault;
+use crate::sample::{NAME, Sample};
+use hex::FromHexError;
+use position_checker::Accepted;
+use std::alloc::{AllocError, Global};
+use type_graph::Order;
+
+/// From a tape to octets, or from octets to a tape.
+#[derive(Clone, Copy, Debug, PartialEq, Eq)]
+pub enum Way {
+    Encode,
+    Decode,
+}
+
+/// One value to marshal.
+#[derive(Clone, Copy, Debug)]
+pub struct Request<'a> {
+    pub way: Way,
+    /// The name of a table.
+    pub table: &'a str,
+    /// The name of a type of the table.
+    pub name: &'a str,
+    pub order: Order,
+    /// The position of the first octet.
+    pub pos: u64,
+    /// The tape or the octets, in hexadecimal.
+    pub hex: &'a str,
+}
+
+fn octets_of<'a>(alloc: Global, text: &str) -> Result<Vec<u8>, Fault<'a>>
+    ensures ok { IfOk result (λ octets. decode_of text.now ≡ Ok octets.items) }
+    ensures err { IfErr result (λ fault.
+        OnlyIf fault ((fault ≡ Fault.BadHex) × IsErr (decode_of text.now))) }
+{
+    match hex::decode(alloc, text) {
+        Ok(octets) => Ok(octets),
+        Err(FromHexError::OutOfMemory) => Err(Fault::NoMemory),
+        Err(_) => Err(Fault::BadHex),
+    }
+}
+
+/// A line of octets in lower case.
+fn octets_line(alloc: Global, octets: &[u8]) -> Result<String, AllocError>
+    ensures { IfOk result (λ line. string_bytes line ≡ encode_lower octets.now ++ 10 ∷ []) }
+{
+    let mut line = hex::encode(alloc, octets)?;
+    line.push_str("\n")?;
+    Ok(line)
+}
+
+/// A line of how many octets were taken and the tape that they gave.
+fn reading_line(alloc: Global, taken: usize, tape: &[u8]) -> Result<String, AllocError>
+    ensures { IfOk result (λ line.
+        string_bytes line ≡ decimal taken ++ 32 ∷ encode_lower tape.now ++ 10 ∷ []) }
+{
+    let line = octets_line(alloc, tape)?;
+    format!(in alloc; "{taken} {line}")
+}
+
+fn encode<'a>(
+    alloc: Global,
+    table: &Accepted,
+    node: u32,
+    request: &Request<'a>,
+    tape: &[u8],
+) -> Result<String, Fault<'a>>
+    requires { node < length table.now.graph }
+    ensures { IfErr result IsOfRun }
+{
+    let octets = table.write(alloc, node, request.order, request.pos, tape)?;
+    Ok(octets_line(alloc, octets.as_slice())?)
+}
+
+fn decode<'a>(
+    alloc: Global,
+    table: &Accepted,
+    node: u32,
+    request: &Request<'a>,
+    octets: &[u8],
+) -> Result<String, Fault<'a>>
+    requires { node < length table.now.graph }
+    ensures { IfErr result IsOfRun }
+{
+    let (tape, taken) = table.read(alloc, node, request.order, request.pos, octets)?;
+    Ok(reading_line(alloc, taken, tape.as_slice())?)
+}
+
+/// The line that answers a request: the octets of a tape, or how many octets were taken and the
+/// tape, in lower case hexadecimal.
+///
+/// # Errors
+/// The first in the order of the words: no such table, no such type, bad hexadecimal digits, a
+/// refusal of the run. Want of memory can come before each but the first.
+pub fn marshal<'a>(alloc: Global, request: &Request<'a>) -> Result<String, Fault<'a>>
+    ensures table { request.now.table.now ≢ codes "builtin"
+        → result ≡ Err (Fault.Unread request.now.table) }
+    ensures name { request.now.table.now ≡ codes "builtin" → request.now.name.now ≢ codes "S"
+        → IsErrAnd result (λ fault. OnlyIf fault (fault ≡ Fault.NoType request.now.name)) }
+    ensures hex { request.now.table.now ≡ codes "builtin" → request.now.name.now ≡ codes "S"
+        → IsErr (decode_of request.now.hex.now)
+        → IsErrAnd result (λ fault. OnlyIf fault (fault ≡ Fault.BadHex)) }
+    ensures run { request.now.table.now ≡ codes "builtin" → request.now.name.now ≡ codes "S"
+        → IsOk (decode_of request.now.hex.now) → IfErr result IsOfRun }
+    ensures told { IfErr result IsTold }
+{
+    if request.table != NAME {
+        return Err(Fault::Unread {
+            table: request.table,
+        });
+    }
+    let sample = Sample::new(alloc)?;
+    let Some(node) = sample.node_of(request.name) else {
+        return Err(Fault::NoType { name: request.name });
+    };
+    let input = octets_of(alloc, request.hex)?;
+    match request.way {
+        Way::Encode => encode(alloc, &sample.table, node, request, input.as_slice()),
+        Way::Decode => decode(alloc, &sample.table, node, request, input.as_slice()),
+    }
+}
