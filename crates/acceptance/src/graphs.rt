@@ -1,10 +1,9 @@
 //! Which lists of nodes are graphs, and which fault the others get.
 
+use crate::sample;
 use std::alloc::{AllocError, Global};
 use std::test::Fail;
 use type_graph::{Graph, GraphFault, GraphLimit, Members, Node, Width};
-
-use crate::sample;
 
 fn record(alloc: Global, members: &[u32]) -> Result<Node, AllocError> {
     Ok(Node::Struct {
@@ -53,48 +52,81 @@ fn octets(alloc: Global, count: u32) -> Result<Graph, GraphFault> {
 fn the_sample_is_a_graph(rt: HostRuntime) -> Result<(), Fail> {
     let graph = sample::graph(rt.alloc())?;
     assert_eq!(rt; graph.nodes().len(), 4);
-    assert!(rt; matches!(graph.node(1), Node::Whole { width: Width::Four, signed: false }));
+    assert!(rt;
+        matches!(
+            graph.node(1),
+            Node::Whole {
+                width: Width::Four,
+                signed: false
+            }
+        )
+    );
     assert!(rt; octets(rt.alloc(), 0).is_ok());
     Ok(())
+}
+
+/// The number of the fault, a hundred more where it is a passed limit, 0 where there is none.
+fn fault_of(graph: Result<Graph, GraphFault>) -> u32 {
+    match graph {
+        Ok(_) => 0,
+        Err(GraphFault::SelfHeld { line: 0 }) => 30,
+        Err(GraphFault::Limit { which, line: 0 }) => limit_of(which),
+        Err(GraphFault::BadNode) => 37,
+        Err(_) => 99,
+    }
+}
+
+fn limit_of(which: GraphLimit) -> u32 {
+    match which {
+        GraphLimit::Nodes => 135,
+        GraphLimit::Members => 235,
+        GraphLimit::AllMembers => 335,
+        GraphLimit::Path => 435,
+        _ => 99,
+    }
+}
+
+fn narrow() -> Node {
+    Node::Whole {
+        width: Width::One,
+        signed: true,
+    }
 }
 
 #[test]
 fn nodes_that_break_a_rule(rt: HostRuntime) -> Result<(), Fail> {
     let alloc = rt.alloc();
-    let narrow = Node::Whole {
-        width: Width::One,
-        signed: true,
-    };
-    assert!(rt; matches!(of(alloc, narrow), Err(GraphFault::BadNode)));
-    assert!(rt; matches!(of(alloc, record(alloc, &[])?), Err(GraphFault::BadNode)));
-    assert!(rt; matches!(of(alloc, record(alloc, &[1])?), Err(GraphFault::BadNode)));
-    assert!(rt; matches!(of(alloc, record(alloc, &[0])?), Err(GraphFault::SelfHeld { line: 0 })));
+    let faults = [
+        fault_of(of(alloc, narrow())),
+        fault_of(of(alloc, record(alloc, &[])?)),
+        fault_of(of(alloc, record(alloc, &[1])?)),
+        fault_of(of(alloc, record(alloc, &[0])?)),
+    ];
+    assert_eq!(rt; faults, [37, 37, 37, 30]);
     Ok(())
 }
 
 #[test]
-fn limits(rt: HostRuntime) -> Result<(), Fail> {
+fn limits(rt: HostRuntime) {
     let alloc = rt.alloc();
-    let passed = |graph: Result<Graph, GraphFault>| match graph {
-        Err(GraphFault::Limit { which, line: 0 }) => Some(which),
-        _ => None,
-    };
-    assert!(rt; chain(alloc, 64).is_ok());
-    assert!(rt; passed(chain(alloc, 65)) == Some(GraphLimit::Path));
-    assert!(rt; octets(alloc, 4096).is_ok());
-    assert!(rt; passed(octets(alloc, 4097)) == Some(GraphLimit::Nodes));
-    assert!(rt; wide(alloc, 32, 1024).is_ok());
-    assert!(rt; passed(wide(alloc, 1, 1025)) == Some(GraphLimit::Members));
-    assert!(rt; passed(wide(alloc, 33, 1024)) == Some(GraphLimit::AllMembers));
-    Ok(())
+    let paths = [fault_of(chain(alloc, 64)), fault_of(chain(alloc, 65))];
+    assert_eq!(rt; paths, [0, 435]);
+    let nodes = [fault_of(octets(alloc, 4096)), fault_of(octets(alloc, 4097))];
+    assert_eq!(rt; nodes, [0, 135]);
+    let members = [
+        fault_of(wide(alloc, 32, 1024)),
+        fault_of(wide(alloc, 1, 1025)),
+        fault_of(wide(alloc, 33, 1024)),
+    ];
+    assert_eq!(rt; members, [0, 235, 335]);
 }
 
 #[test]
 fn texts_of_faults(rt: HostRuntime) -> Result<(), Fail> {
     let alloc = rt.alloc();
-    let text = format!(in alloc; "{}", GraphFault::SelfHeld { line: 0 })?;
-    assert_eq!(rt; text.as_str(), "30 SelfHeld line 0");
-    let text = format!(in alloc; "{}", GraphFault::BadNode)?;
-    assert_eq!(rt; text.as_str(), "37 BadNode");
+    let held = format!(in alloc; "{}", GraphFault::SelfHeld { line: 0 })?;
+    assert_eq!(rt; held.as_str(), "30 SelfHeld line 0");
+    let bad = format!(in alloc; "{}", GraphFault::BadNode)?;
+    assert_eq!(rt; bad.as_str(), "37 BadNode");
     Ok(())
 }

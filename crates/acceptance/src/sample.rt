@@ -51,7 +51,11 @@ pub fn routines(alloc: Global) -> Result<Vec<Routine>, AllocError> {
         width: Width::Four,
         n: 1,
     };
-    let mut calls = pair(alloc, Instr::Call { routine: 0 }, Instr::Call { routine: 1 })?;
+    let mut calls = pair(
+        alloc,
+        Instr::Call { routine: 0 },
+        Instr::Call { routine: 1 },
+    )?;
     calls.push(Instr::Call { routine: 2 })?;
     let mut routines = Vec::new(alloc);
     routines.push(routine(0, 0, one(alloc, Instr::Octets { n: 1 })?))?;
