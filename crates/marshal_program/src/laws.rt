@@ -13,8 +13,7 @@ ghost use Rattle.marshal_program.specs.Plain.{HasPlainProgram, plain_program};
 pub fn run_has_period_eight()
     ensures { (program : List Routine) (way : Way) (depth routine p q : ℕ) (tape octets : List ℕ) → q % 8 ≡ p % 8
         → Runs program way depth routine p tape octets → Runs program way depth routine q tape octets }
-{
-}
+{}
 
 /// Every routine of a plain program relates the tapes and octets that its node means: at every
 /// depth and position, in both byte orders, whatever the gaps may hold.
@@ -22,5 +21,4 @@ pub fn plain_program_is_right()
     ensures right { (graph : List Node) → HasPlainProgram graph → (way : Way) (depth number p : ℕ) (tape octets : List ℕ) → number < length graph
         → Runs (plain_program graph) way depth number p tape octets ↔ Means graph way depth number p tape octets }
     ensures every_graph { (graph : List Node) → IsGraph graph → HasPlainProgram graph }
-{
-}
+{}

@@ -12,28 +12,24 @@ ghost use Rattle.type_graph.specs.GraphRules.{IsGraph};
 pub fn gap_is_least()
     ensures reaches { (p : ℕ) (w : Width) → (p + pad p (octets_in w)) % octets_in w ≡ 0 }
     ensures least { (p q : ℕ) (w : Width) → (p + q) % octets_in w ≡ 0 → pad p (octets_in w) ≤ q }
-{
-}
+{}
 
 /// What octets mean at a position, they mean at every position that is the same modulo 8.
 pub fn meaning_has_period_eight()
     ensures { (graph : List Node) (way : Way) (depth number p q : ℕ) (tape octets : List ℕ) → q % 8 ≡ p % 8
         → Means graph way depth number p tape octets → Means graph way depth number q tape octets }
-{
-}
+{}
 
 /// A tape is that of one value of its type.
 pub fn tape_has_one_value()
     ensures { (graph : List Node) → IsGraph graph → (number depth : ℕ) (value other : Tree)
         → Fits graph (node_at graph number) value depth → Fits graph (node_at graph number) other depth
         → tape_of graph (node_at graph number) value ≡ tape_of graph (node_at graph number) other → value ≡ other }
-{
-}
+{}
 
 /// One front of a list of octets has a meaning, and one tape.
 pub fn front_has_one_tape()
     ensures { (graph : List Node) → IsGraph graph → (way : Way) (depth number p : ℕ) (tape1 tape2 octets1 octets2 rest1 rest2 : List ℕ)
         → Means graph way depth number p tape1 octets1 → Means graph way depth number p tape2 octets2
         → octets1 ++ rest1 ≡ octets2 ++ rest2 → (tape1 ≡ tape2) × (octets1 ≡ octets2) }
-{
-}
+{}
