@@ -1,3 +1,4 @@
 pub mod Fault
 pub mod Sample
 pub mod Way
+pub mod Lines

@@ -1,11 +1,14 @@
 //! The commands `encode` and `decode`.
 
 ghost use Rattle.std.specs.Prelude.{◌≡◌, ◌≢◌, ◌<◌, length, [], ◌∷◌, ◌++◌, codes};
-ghost use Rattle.std.specs.Prelude.{IfOk, IfErr, IsOk, IsErr, IsErrAnd, Ok, Err};
+ghost use Rattle.std.specs.Prelude.{List, ℕ, IfOk, IfErr, IsOk, IsErr, IsErrAnd, Ok, Err};
 ghost use Rattle.std.specs.String.{string_bytes};
 ghost use Rattle.std.specs.Fmt.{decimal};
 ghost use Rattle.hex.specs.Hex.{decode_of, encode_lower};
 ghost use Rattle.idlc_main.specs.Fault.{OnlyIf, IsOfRun, IsTold};
+ghost use Rattle.idlc_main.specs.Lines.{PrintsOctets, PrintsTape, Answers};
+ghost use Rattle.type_graph.specs.Words.{reading, writing};
+ghost use Rattle.type_graph.specs.Encoding.{Means};
 
 use crate::fault::Fault;
 use crate::sample::{NAME, Sample};
@@ -74,7 +77,9 @@ fn encode<'a>(
     tape: &[u8],
 ) -> Result<String, Fault<'a>>
     requires { node < length table.now.graph }
-    ensures { IfErr result IsOfRun }
+    ensures ok { IfOk result (λ line. PrintsOctets table.now.graph request.now.order node request.now.pos tape.now (string_bytes line)) }
+    ensures err { IfErr result (λ fault. IsOfRun fault × OnlyIf fault ((octets : List ℕ)
+        → Means table.now.graph (writing request.now.order) 64 node request.now.pos tape.now octets → ⊥)) }
 {
     let octets = table.write(alloc, node, request.order, request.pos, tape)?;
     Ok(octets_line(alloc, octets.as_slice())?)
@@ -88,7 +93,9 @@ fn decode<'a>(
     octets: &[u8],
 ) -> Result<String, Fault<'a>>
     requires { node < length table.now.graph }
-    ensures { IfErr result IsOfRun }
+    ensures ok { IfOk result (λ line. PrintsTape table.now.graph request.now.order node request.now.pos octets.now (string_bytes line)) }
+    ensures err { IfErr result (λ fault. IsOfRun fault × OnlyIf fault ((tape front rest : List ℕ) → octets.now ≡ front ++ rest
+        → Means table.now.graph (reading request.now.order) 64 node request.now.pos tape front → ⊥)) }
 {
     let (tape, taken) = table.read(alloc, node, request.order, request.pos, octets)?;
     Ok(reading_line(alloc, taken, tape.as_slice())?)
@@ -110,6 +117,7 @@ pub fn marshal<'a>(alloc: Global, request: &Request<'a>) -> Result<String, Fault
         → IsErrAnd result (λ fault. OnlyIf fault (fault ≡ Fault.BadHex)) }
     ensures run { request.now.table.now ≡ codes "builtin" → request.now.name.now ≡ codes "S"
         → IsOk (decode_of request.now.hex.now) → IfErr result IsOfRun }
+    ensures answers { IfOk result (λ line. Answers request.now.way request.now.order request.now.pos request.now.hex.now (string_bytes line)) }
     ensures told { IfErr result IsTold }
 {
     if request.table != NAME {

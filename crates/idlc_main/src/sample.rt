@@ -3,11 +3,9 @@
 ghost use Rattle.std.specs.Prelude.{◌≡◌, ◌↔◌, IfOk, IfSome, IsSome, codes};
 ghost use Rattle.type_graph.specs.GraphRules.{IsGraph};
 ghost use Rattle.type_graph.specs.Refusal.{OnlyIf as OnlyIfGraph};
-ghost use Rattle.marshal_program.specs.ProgramRules.{IsProgram};
-ghost use Rattle.marshal_program.specs.Refusal.{OnlyIf as OnlyIfProgram};
 ghost use Rattle.idlc_main.specs.Sample.{everywhere, sample_nodes, sample_program};
 
-use marshal_program::{Code, Instr, Program, Routine, TableFault};
+use marshal_program::{Code, Instr, Program, Routine};
 use position_checker::{Accepted, check};
 use std::alloc::{AllocError, Global};
 use type_graph::{Graph, GraphFault, Members, Node, Width};
@@ -64,17 +62,8 @@ fn routine(node: u32, rank: u32, code: Vec<Instr>) -> Routine
     }
 }
 
-/// The rules hold, so that only memory can have been the cause.
+/// The rules hold, so that no program is refused.
 #[tactic(auto, using(crate::proofs::SampleRules::sample_is_program))]
-fn program_memory(fault: TableFault) -> AllocError
-    requires { OnlyIfProgram fault (IsProgram sample_program → ⊥) }
-{
-    match fault {
-        TableFault::NoMemory => AllocError,
-        _ => unreachable!(),
-    }
-}
-
 fn program(alloc: Global) -> Result<Program, AllocError>
     ensures { IfOk result (λ program. program ≡ sample_program) }
 {
@@ -99,7 +88,7 @@ fn program(alloc: Global) -> Result<Program, AllocError>
     ]?;
     match Program::new(routines) {
         Ok(program) => Ok(program),
-        Err(fault) => Err(program_memory(fault)),
+        Err(_) => unreachable!(),
     }
 }
 

@@ -1,7 +1,7 @@
 //! The words of a command line, as `clap` reads them.
 
-ghost use Rattle.std.specs.Prelude.{◌≡◌, ◌≢◌, ◌↔◌, ℕ, List, codes, IsErr, IfErr, IfSome, Err, Some};
-ghost use Rattle.std.specs.Str.Parse.{digits_value, without_leading_plus};
+ghost use Rattle.std.specs.Prelude.{◌≡◌, ◌≢◌, ◌<◌, ◌^◌, ◌↔◌, IsSome, ℕ, List, codes, IsErr, IfErr, IfSome, Err, Some};
+ghost use Rattle.std.specs.Str.Parse.{IsNumeral, digits_value, without_leading_plus};
 ghost use Rattle.clap.specs.Values.{kind_of};
 ghost use Rattle.clap.specs.Matches.{found_of, first_value, one_text, subcommand_name_of};
 ghost use Rattle.idlc_main.specs.Fault.{IsOfWords, IsTold};
@@ -69,6 +69,13 @@ fn request_in<'a>(way: Way, matches: &ArgMatches<'a>) -> Option<Request<'a>>
         → digits_value 10 (without_leading_plus text) ≡ request.pos) }
     ensures hex { IfSome result (λ request.
         first_value (found_of matches.now) (codes "HEX") ≡ Some request.hex.now) }
+    ensures whole { IsSome (first_value (found_of matches.now) (codes "T"))
+        → IsSome (first_value (found_of matches.now) (codes "NAME"))
+        → IsSome (first_value (found_of matches.now) (codes "ORDER"))
+        → IsSome (first_value (found_of matches.now) (codes "HEX"))
+        → (text : List ℕ) → one_text (found_of matches.now) (codes "POS") ≡ Some text
+        → IsNumeral 10 (without_leading_plus text)
+        → digits_value 10 (without_leading_plus text) < 2 ^ 64 → IsSome result }
 {
     let order = match matches.get_str("ORDER")? {
         "little" => Order::Little,

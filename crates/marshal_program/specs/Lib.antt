@@ -2,4 +2,3 @@ pub mod Does
 pub mod ProgramRules
 pub mod RuleTests
 pub mod Plain
-pub mod Refusal

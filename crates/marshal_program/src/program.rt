@@ -1,8 +1,7 @@
 //! A marshalling program: a list of routines that keeps the rules of a program.
 
-ghost use Rattle.std.specs.Prelude.{◌≡◌, ◌<◌, length, slice_get, IfOk, IfErr, Some};
+ghost use Rattle.std.specs.Prelude.{◌≡◌, ◌<◌, length, slice_get, IfOk, OnErr, Some};
 ghost use Rattle.marshal_program.specs.ProgramRules.{IsRoutine, IsProgram};
-ghost use Rattle.marshal_program.specs.Refusal.{OnlyIf};
 
 use crate::fault::TableFault;
 use crate::instr::Routine;
@@ -36,7 +35,7 @@ impl Program {
     pub fn new(routines: Vec<Routine>) -> Result<Program, TableFault>
         ensures kept { IfOk result (λ program. program ≡ routines.items) }
         ensures rules { IfOk result IsProgram }
-        ensures refused { IfErr result (λ fault. OnlyIf fault (IsProgram routines.items → ⊥)) }
+        ensures refused { OnErr result (IsProgram routines.items → ⊥) }
     {
         let count = routines.len();
         if count > MAX_ROUTINES || !has_few_instrs(&routines) {

@@ -1,0 +1,36 @@
+-- The lines that the commands print.
+use Rattle.std.specs.Prelude.{◌≡◌, ℕ, ◌≤◌, List, [], ◌∷◌, ◌++◌, length, take, Ok}
+use Rattle.std.specs.Fmt.{decimal}
+use Rattle.hex.specs.Hex.{decode_of, encode_lower}
+use Rattle.type_graph.specs.declared.node.Node.{Node}
+use Rattle.type_graph.specs.declared.width.Order.{Order}
+use Rattle.type_graph.specs.Words.{reading, writing}
+use Rattle.type_graph.specs.Encoding.{Means}
+use Rattle.idlc_main.specs.declared.marshal.Way.{Way}
+use Rattle.idlc_main.specs.declared.marshal.Way.TheVariants.{Encode, Decode}
+use Rattle.idlc_main.specs.Sample.{sample_nodes}
+
+-- the digits of the CDR octets of the value that the tape is
+pub record PrintsOctets (graph : List Node) (order : Order) (node pos : ℕ) (tape line : List ℕ) : Type 0 where
+  pub octets : List ℕ
+  pub line_is : line ≡ encode_lower octets ++ 10 ∷ []
+  pub means : Means graph (writing order) 64 node pos tape octets
+
+-- how many octets encode a value, and the digits of its tape
+pub record PrintsTape (graph : List Node) (order : Order) (node pos : ℕ) (octets line : List ℕ) : Type 0 where
+  pub taken : ℕ
+  pub within : taken ≤ length octets
+  pub tape : List ℕ
+  pub line_is : line ≡ decimal taken ++ 32 ∷ encode_lower tape ++ 10 ∷ []
+  pub means : Means graph (reading order) 64 node pos tape (take taken octets)
+
+-- what a command prints of its input, for the structure of the sample
+abbrev pub Prints : Way → Order → ℕ → List ℕ → List ℕ → Type 0
+Prints Encode order pos tape line = PrintsOctets sample_nodes order 3 pos tape line
+Prints Decode order pos octets line = PrintsTape sample_nodes order 3 pos octets line
+
+-- the same of input that is written in hexadecimal
+pub record Answers (way : Way) (order : Order) (pos : ℕ) (digits line : List ℕ) : Type 0 where
+  pub input : List ℕ
+  pub digits_are : decode_of digits ≡ Ok input
+  pub prints : Prints way order pos input line
