@@ -25,16 +25,33 @@ within_from_some : {A : Type 0} (P : A → Type 0) (xs : List A) (k : ℕ) (r : 
 within_from_some P xs k None e h = absurd h
 within_from_some P xs k (Some x) e h = slice_get_within xs k x e
 
+-- a part is in the graph
+part_within : (graph : List Node) (number : ℕ) → IsPart graph number → number < length graph
+part_within graph number is_part = within_from_some IsNoFrame graph number (slice_get graph number) refl is_part
+
+parts_within : (graph : List Node) (numbers : List ℕ) → All (IsPart graph) numbers → All (λ number. number < length graph) numbers
+parts_within graph numbers parts = All-weaker (IsPart graph) (λ number. number < length graph) (part_within graph) numbers parts
+
+-- so is a default
+default_within : (graph : List Node) (default : Option ℕ) → IfSome default (IsPart graph) → IfSome default (λ number. number < length graph)
+default_within graph None h = tt
+default_within graph (Some number) h = part_within graph number h
+
 -- what a node that keeps its rules holds is in the graph
 pub held_within : (graph : List Node) (node : Node) → IsNode graph node → All (λ number. number < length graph) (held_by node)
-held_within graph (Struct members) h = All-weaker (IsPart graph) (λ number. number < length graph) (λ number is_part. within_from_some IsNoFrame graph number (slice_get graph number) refl is_part) members h.parts
+held_within graph (Array elem n) h = All-cons (λ number. number < length graph) elem [] (part_within graph elem h.0) (All-nil (λ number. number < length graph))
+held_within graph (Struct members) h = parts_within graph members h.1.parts
+held_within graph (Frame members) h = parts_within graph members h.parts
+held_within graph (Union switch arms default) h =
+    (union_holds (λ number. number < length graph) arms default).0 (All-weaker (λ (arm : ℤ × ℕ). IsPart graph arm.1) (λ (arm : ℤ × ℕ). arm.1 < length graph) (λ arm part. part_within graph arm.1 part) arms h.parts, default_within graph default h.default_part)
 held_within graph (Whole width signed) h = All-nil (λ number. number < length graph)
 held_within graph Octet h = All-nil (λ number. number < length graph)
+held_within graph Char h = All-nil (λ number. number < length graph)
+held_within graph Boolean h = All-nil (λ number. number < length graph)
+held_within graph (Enum n) h = All-nil (λ number. number < length graph)
 held_within graph (Text bound) h = All-nil (λ number. number < length graph)
-held_within graph Char h = absurd h
-held_within graph Boolean h = absurd h
-held_within graph (Enum n) h = absurd h
-held_within graph (Seq elem bound) h = absurd h
-held_within graph (Array elem n) h = absurd h
-held_within graph (Union switch arms default) h = absurd h
-held_within graph (Frame members) h = absurd h
+held_within graph (Seq elem bound) h = All-nil (λ number. number < length graph)
+
+-- and so are the elements of a sequence
+pub elem_within : (graph : List Node) (elem bound : ℕ) → IsNode graph (Seq elem bound) → elem < length graph
+elem_within graph elem bound h = part_within graph elem h.0

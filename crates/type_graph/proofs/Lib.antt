@@ -9,3 +9,4 @@ pub mod LeadLaws
 pub mod OneTape
 pub mod OneReading
 pub mod Worked
+mod LabelLaws

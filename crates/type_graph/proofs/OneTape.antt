@@ -22,7 +22,7 @@ FitsWord node = Unit {0}
 
 -- those of a node that keeps its rules do
 pub node_fits_word : (graph : List Node) (node : Node) → IsNode graph node → FitsWord node
-node_fits_word graph (Enum limit) h = absurd h
+node_fits_word graph (Enum limit) h = let most = h.1 in omega (arith, most)
 node_fits_word graph node h = tt
 
 -- and so do those of each node of a graph

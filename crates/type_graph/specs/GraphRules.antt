@@ -1,11 +1,11 @@
 -- What makes a list of nodes a graph of types.
-use Rattle.std.specs.Prelude.{ℕ, zero, suc, ◌<◌, ◌≤◌, List, [], ◌∷◌, ◌++◌, length, map, option_to_list, slice_get, IsSomeAnd, EachIndex, All, sum_by}
+use Rattle.std.specs.Prelude.{◌≢◌, ℕ, zero, suc, ◌<◌, ◌≤◌, ℤ, pos, ◌<ℤ◌, List, [], ◌∷◌, ◌++◌, length, map, Option, option_to_list, slice_get, slice_index_or, IsSomeAnd, IfSome, EachIndex, All, sum_by}
 use Rattle.std.specs.List.{AllByRecursion}
 use Rattle.type_graph.specs.declared.width.Width.{Width}
 use Rattle.type_graph.specs.declared.width.Width.TheVariants.{One}
 use Rattle.type_graph.specs.declared.node.Node.{Node}
-use Rattle.type_graph.specs.declared.node.Node.TheVariants.{Whole, Octet, Text, Array, Struct, Union, Frame}
-use Rattle.type_graph.specs.Value.{node_at}
+use Rattle.type_graph.specs.declared.node.Node.TheVariants.{Whole, Octet, Char, Boolean, Enum, Text, Seq, Array, Struct, Union, Frame}
+use Rattle.type_graph.specs.Value.{node_at, IsNumber}
 
 -- integers have 2, 4 or 8 octets
 abbrev pub IsWide : Width → Type 0
@@ -20,19 +20,53 @@ IsNoFrame node = Unit {0}
 abbrev pub IsPart : List Node → ℕ → Type 0
 IsPart graph number = IsSomeAnd (slice_get graph number) IsNoFrame
 
--- a structure has a member, and at most so many as a type may have
+-- at most so many members as a type may have
 pub record AreMembers (graph : List Node) (members : List ℕ) : Type 0 where
-  pub some : 0 < length members
   pub limited : length members ≤ 1024
   pub parts : All (IsPart graph) members
 
--- the rules of one node; a kind of node that has no rule here isn't served yet
+-- the kinds that the discriminator of a union may have (ISO/IEC 19500-1, unions)
+abbrev pub IsSwitch : Node → Type 0
+IsSwitch (Whole width signed) = Unit {0}
+IsSwitch Char = Unit {0}
+IsSwitch Boolean = Unit {0}
+IsSwitch (Enum n) = Unit {0}
+IsSwitch node = ⊥
+
+abbrev pub label_at : List (ℤ × ℕ) → ℕ → ℤ
+label_at arms place = (slice_index_or arms place (pos 0, 0)).0
+
+-- some value of the discriminator is no label
+pub record HasOther (switch : Node) (arms : List (ℤ × ℕ)) : Type 0 where
+  pub other : ℤ
+  pub is_value : IsNumber switch other
+  pub no_label : All (λ arm. arm.0 ≢ other) arms
+
+-- The labels of a union rise strictly and are values of its discriminator; there is a default only where they aren't
+-- all of them.
+pub record IsUnion (graph : List Node) (switch : ℕ) (arms : List (ℤ × ℕ)) (default : Option ℕ) : Type 0 where
+  pub switches : IsSomeAnd (slice_get graph switch) IsSwitch
+  pub limited : length arms ≤ 1024
+  pub rising : (place : ℕ) → suc place < length arms → label_at arms place <ℤ label_at arms (suc place)
+  pub labels : All (λ arm. IsNumber (node_at graph switch) arm.0) arms
+  pub parts : All (λ arm. IsPart graph arm.1) arms
+  pub default_part : IfSome default (IsPart graph)
+  pub needed : IfSome default (λ member. HasOther (node_at graph switch) arms)
+
+-- The rules of one node: widths of 2, 4 or 8 octets, an enumerator, an element, a member at least, and no more than
+-- the limits allow.
 abbrev pub IsNode : List Node → Node → Type 0
 IsNode graph (Whole width signed) = IsWide width
 IsNode graph Octet = Unit {0}
-IsNode graph (Text bound) = Unit {0}
-IsNode graph (Struct members) = AreMembers graph members
-IsNode graph node = ⊥
+IsNode graph Char = Unit {0}
+IsNode graph Boolean = Unit {0}
+IsNode graph (Enum n) = (0 < n) × (n ≤ 65536)
+IsNode graph (Text bound) = bound ≤ 4294967295
+IsNode graph (Seq elem bound) = IsPart graph elem × (bound ≤ 4294967295)
+IsNode graph (Array elem n) = IsPart graph elem × (0 < n) × (n ≤ 1048576)
+IsNode graph (Struct members) = (0 < length members) × AreMembers graph members
+IsNode graph (Union switch arms default) = IsUnion graph switch arms default
+IsNode graph (Frame members) = AreMembers graph members
 
 -- the nodes that a value of the node holds without a sequence between; a union's discriminator isn't counted
 abbrev pub held_by : Node → List ℕ

@@ -7,3 +7,4 @@ pub mod GraphRules
 pub mod Walks
 pub mod Refusal
 pub mod Levels
+pub mod Labels

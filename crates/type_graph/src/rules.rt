@@ -8,12 +8,19 @@ ghost use Rattle.type_graph.specs.Refusal.{OnlyIf};
 
 use crate::fault::{GraphFault, GraphLimit};
 use crate::node::Node;
+use crate::unions::check_union;
 use crate::width::Width;
 use std::alloc::{AllocError, Global};
 
 pub const MAX_NODES: usize = 4096;
 
-const MAX_MEMBERS: usize = 1024;
+pub const MAX_MEMBERS: usize = 1024;
+
+const MAX_ENUMERATORS: u32 = 65536;
+
+const MAX_SIZE: u32 = 1_048_576;
+
+const MAX_BOUND: usize = 4_294_967_295;
 
 const MAX_ALL_MEMBERS: usize = 32768;
 
@@ -29,34 +36,109 @@ fn check_width(width: Width) -> Result<(), GraphFault>
     }
 }
 
+/// Whether a node may refer to the number.
+pub fn is_part(nodes: &[Node], number: u32) -> bool
+    ensures { IsTrue result ↔ IsPart nodes.now number }
+{
+    match nodes.get(number as usize) {
+        None | Some(Node::Frame { .. }) => false,
+        Some(_) => true,
+    }
+}
+
+fn are_parts(nodes: &[Node], members: &[u32]) -> bool
+    ensures { IsTrue result ↔ All (IsPart nodes.now) members.now }
+{
+    members.iter().all(|number| is_part(nodes, *number))
+}
+
 fn check_part(nodes: &[Node], number: u32) -> Result<(), GraphFault>
     ensures ok { OnOk result (IsPart nodes.now number) }
     ensures err { OnErr result (IsPart nodes.now number → ⊥) }
 {
-    match nodes.get(number as usize) {
-        None => Err(GraphFault::BadNode),
-        Some(Node::Frame { .. }) => Err(GraphFault::BadNode),
-        Some(_) => Ok(()),
+    if !is_part(nodes, number) {
+        return Err(GraphFault::BadNode);
     }
+    Ok(())
 }
 
 fn check_members(nodes: &[Node], members: &[u32]) -> Result<(), GraphFault>
     ensures ok { OnOk result (AreMembers nodes.now members.now) }
     ensures err { OnErr result (AreMembers nodes.now members.now → ⊥) }
 {
-    if members.is_empty() {
-        return Err(GraphFault::BadNode);
-    }
     if members.len() > MAX_MEMBERS {
         return Err(GraphFault::Limit {
             which: GraphLimit::Members,
             line: 0,
         });
     }
-    for number in members {
-        check_part(nodes, *number)?;
+    if !are_parts(nodes, members) {
+        return Err(GraphFault::BadNode);
     }
     Ok(())
+}
+
+fn check_struct(nodes: &[Node], members: &[u32]) -> Result<(), GraphFault>
+    ensures ok { OnOk result ((0 < length members.now) × AreMembers nodes.now members.now) }
+    ensures err { OnErr result ((0 < length members.now) × AreMembers nodes.now members.now → ⊥) }
+{
+    if members.is_empty() {
+        return Err(GraphFault::BadNode);
+    }
+    check_members(nodes, members)
+}
+
+fn check_enum(n: u32) -> Result<(), GraphFault>
+    ensures ok { OnOk result ((0 < n) × (n ≤ 65536)) }
+    ensures err { OnErr result ((0 < n) × (n ≤ 65536) → ⊥) }
+{
+    if n == 0 {
+        return Err(GraphFault::BadNode);
+    }
+    if n > MAX_ENUMERATORS {
+        return Err(GraphFault::Limit {
+            which: GraphLimit::Enumerators,
+            line: 0,
+        });
+    }
+    Ok(())
+}
+
+fn check_array(nodes: &[Node], elem: u32, n: u32) -> Result<(), GraphFault>
+    ensures ok { OnOk result (IsPart nodes.now elem × (0 < n) × (n ≤ 1048576)) }
+    ensures err { OnErr result (IsPart nodes.now elem × (0 < n) × (n ≤ 1048576) → ⊥) }
+{
+    if n == 0 {
+        return Err(GraphFault::BadNode);
+    }
+    if n > MAX_SIZE {
+        return Err(GraphFault::Limit {
+            which: GraphLimit::Size,
+            line: 0,
+        });
+    }
+    check_part(nodes, elem)
+}
+
+fn check_bound(bound: u32) -> Result<(), GraphFault>
+    ensures ok { OnOk result (bound ≤ 4294967295) }
+    ensures err { OnErr result (bound ≤ 4294967295 → ⊥) }
+{
+    if bound as usize > MAX_BOUND {
+        return Err(GraphFault::Limit {
+            which: GraphLimit::Bound,
+            line: 0,
+        });
+    }
+    Ok(())
+}
+
+fn check_seq(nodes: &[Node], elem: u32, bound: u32) -> Result<(), GraphFault>
+    ensures ok { OnOk result (IsPart nodes.now elem × (bound ≤ 4294967295)) }
+    ensures err { OnErr result (IsPart nodes.now elem × (bound ≤ 4294967295) → ⊥) }
+{
+    check_bound(bound)?;
+    check_part(nodes, elem)
 }
 
 fn check_node(nodes: &[Node], node: &Node) -> Result<(), GraphFault>
@@ -65,9 +147,18 @@ fn check_node(nodes: &[Node], node: &Node) -> Result<(), GraphFault>
 {
     match node {
         Node::Whole { width, .. } => check_width(*width),
-        Node::Octet | Node::Text { .. } => Ok(()),
-        Node::Struct { members } => check_members(nodes, members.as_slice()),
-        _ => Err(GraphFault::BadNode),
+        Node::Octet | Node::Char | Node::Boolean => Ok(()),
+        Node::Text { bound } => check_bound(*bound),
+        Node::Enum { n } => check_enum(*n),
+        Node::Seq { elem, bound } => check_seq(nodes, *elem, *bound),
+        Node::Array { elem, n } => check_array(nodes, *elem, *n),
+        Node::Struct { members } => check_struct(nodes, members.as_slice()),
+        Node::Union {
+            switch,
+            arms,
+            default,
+        } => check_union(nodes, *switch, arms.as_slice(), *default),
+        Node::Frame { members } => check_members(nodes, members.as_slice()),
     }
 }
 
