@@ -7,3 +7,6 @@ pub mod GraphRules
 pub mod Walks
 pub mod Refusal
 pub mod Levels
+pub mod Leaves
+pub mod Zero
+pub mod Shapes

@@ -6,6 +6,7 @@ pub mod graph;
 pub mod laws;
 pub mod node;
 mod rules;
+mod shape;
 pub mod width;
 
 pub use fault::{GraphFault, GraphLimit};

@@ -17,7 +17,7 @@ const MAX_MEMBERS: usize = 1024;
 
 const MAX_ALL_MEMBERS: usize = 32768;
 
-const MAX_PATH: usize = 64;
+pub const MAX_PATH: usize = 64;
 
 fn check_width(width: Width) -> Result<(), GraphFault>
     ensures ok { OnOk result (IsWide width) }
