@@ -1,5 +1,8 @@
 pub mod Held
 pub mod LevelLaws
+pub mod ShapeLaws
+pub mod ShapeLevels
+pub mod ZeroLaws
 pub mod WordLaws
 pub mod RelationLaws
 pub mod AtomLaws

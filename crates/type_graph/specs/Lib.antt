@@ -8,3 +8,6 @@ pub mod Walks
 pub mod Refusal
 pub mod Levels
 pub mod Labels
+pub mod Leaves
+pub mod Zero
+pub mod Shapes

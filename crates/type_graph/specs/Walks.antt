@@ -27,6 +27,10 @@ unfoldable pub lead_within : ℕ → List Node → ℕ → Width
 lead_within zero graph number = One
 lead_within (suc levels) graph number = lead_by (lead_within levels graph) graph (node_at graph number)
 
+-- in a graph it is found within 64 levels
+abbrev pub lead_of : List Node → ℕ → Width
+lead_of graph number = lead_within 64 graph number
+
 -- one more than the greatest; 0 for none
 abbrev pub above : (ℕ → ℕ) → List ℕ → ℕ
 above height [] = 0

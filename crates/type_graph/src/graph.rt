@@ -1,13 +1,20 @@
 //! The graph of types: a list of nodes that keeps the rules of a graph.
 
-ghost use Rattle.std.specs.Prelude.{◌≡◌, ◌<◌, length, slice_get, IfOk, IfErr, Some};
+ghost use Rattle.std.specs.Prelude.{◌≡◌, ◌<◌, ℕ, length, slice_get, IfSome, IfNone, IfOk, IfErr, Some};
 ghost use Rattle.type_graph.specs.GraphRules.{IsNode, IsGraph};
 ghost use Rattle.type_graph.specs.Refusal.{OnlyIf};
+ghost use Rattle.type_graph.specs.declared.width.Width.{Width};
+ghost use Rattle.type_graph.specs.Value.{node_at, tape_of};
+ghost use Rattle.type_graph.specs.Walks.{lead_of};
+ghost use Rattle.type_graph.specs.Leaves.{IsUniform};
+ghost use Rattle.type_graph.specs.Zero.{zero_value};
 
 use crate::fault::{GraphFault, GraphLimit};
 use crate::node::Node;
 use crate::rules::{MAX_NODES, check_all_members, check_nodes, check_paths};
-use std::alloc::Global;
+use crate::shape::{Run, Shape, lead_from, shape_at, shapes_of, zeros};
+use crate::width::Width;
+use std::alloc::{AllocError, Global};
 use std::marker::Model;
 
 /// The types of a specification, each named by its place in the list of nodes. A contract sees a
@@ -15,6 +22,7 @@ use std::marker::Model;
 #[derive(Debug, Drop)]
 pub struct Graph {
     nodes: Vec<Node>,
+    shapes: Vec<Shape>,
 }
 
 impl Model for Graph {
@@ -24,10 +32,11 @@ impl Model for Graph {
     ghost Value = { List Node };
 
     ghost use Rattle.type_graph.specs.GraphRules.{IsGraph};
+    ghost use Rattle.type_graph.specs.Shapes.{AreShapesWithin};
 
     ghost view = { λ g. g.nodes.items };
 
-    ghost invariant = { λ g. IsGraph g.nodes.items };
+    ghost invariant = { λ g. IsGraph g.nodes.items × AreShapesWithin 64 g.nodes.items g.shapes.items };
 }
 
 impl Graph {
@@ -49,7 +58,8 @@ impl Graph {
         check_nodes(&nodes)?;
         check_all_members(&nodes)?;
         check_paths(alloc, &nodes)?;
-        Ok(Graph { nodes })
+        let shapes = shapes_of(alloc, &nodes)?;
+        Ok(Graph { nodes, shapes })
     }
 
     /// All nodes, in order.
@@ -68,5 +78,39 @@ impl Graph {
         ensures rules { IsGraph self.now }
     {
         &self.nodes[number as usize]
+    }
+
+    /// The alignment with which the octets of the node's values begin. Takes no memory.
+    pub fn lead(&self, number: u32) -> Width
+        requires { number < length self.now }
+        ensures { result ≡ lead_of self.now number }
+    {
+        lead_from(&self.nodes, number)
+    }
+
+    /// The width and number of the words that the node's values are, where each is that: a node
+    /// made by arrays, structures and frames alone of integers of one width, or of octets and
+    /// characters, at least one and at most 1,048,576 of them. Takes no memory.
+    pub fn uniform(&self, number: u32) -> Option<(Width, u32)>
+        requires { number < length self.now }
+        ensures some { IfSome result (λ words. IsUniform self.now words.0 words.1 number) }
+        ensures none { IfNone result ((w : Width) (n : ℕ) → IsUniform self.now w n number → ⊥) }
+    {
+        match shape_at(&self.shapes, number).run {
+            Run::Words(width, n) => Some((width, n)),
+            Run::Empty | Run::Mixed => None,
+        }
+    }
+
+    /// The tape of the value of zeros: numbers are 0, strings and sequences empty, and the
+    /// discriminator 0 chooses a union's member.
+    ///
+    /// # Errors
+    /// Want of memory.
+    pub fn zero(&self, alloc: Global, number: u32) -> Result<Vec<u8>, AllocError>
+        requires { number < length self.now }
+        ensures { IfOk result (λ tape. tape.items ≡ tape_of self.now (node_at self.now number) (zero_value 64 self.now number)) }
+    {
+        zeros(alloc, shape_at(&self.shapes, number).size)
     }
 }

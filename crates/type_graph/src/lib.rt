@@ -7,6 +7,7 @@ pub mod laws;
 pub mod node;
 mod rules;
 mod unions;
+mod shape;
 pub mod width;
 
 pub use fault::{GraphFault, GraphLimit};

@@ -24,7 +24,7 @@ const MAX_BOUND: usize = 4_294_967_295;
 
 const MAX_ALL_MEMBERS: usize = 32768;
 
-const MAX_PATH: usize = 64;
+pub const MAX_PATH: usize = 64;
 
 fn check_width(width: Width) -> Result<(), GraphFault>
     ensures ok { OnOk result (IsWide width) }

@@ -1,0 +1,5 @@
+use Rattle.type_graph.specs.Shapes.{AreShapesWithin}
+use Rattle.type_graph.proofs.shape.shapes_of.Given as goal
+
+abbrev pub invariant-loop : goal.invariant-loop
+invariant-loop l = AreShapesWithin l.counter l.nodes l.table.items
