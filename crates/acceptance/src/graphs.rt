@@ -5,7 +5,7 @@ use std::alloc::{AllocError, Global};
 use std::test::Fail;
 use type_graph::{Graph, GraphFault, GraphLimit, Members, Node, Width};
 
-fn record(alloc: Global, members: &[u32]) -> Result<Node, AllocError> {
+pub fn record(alloc: Global, members: &[u32]) -> Result<Node, AllocError> {
     Ok(Node::Struct {
         members: Members::new(members.to_vec(alloc)?),
     })
@@ -66,10 +66,14 @@ fn the_sample_is_a_graph(rt: HostRuntime) -> Result<(), Fail> {
 }
 
 /// The number of the fault, a hundred more where it is a passed limit, 0 where there is none.
-fn fault_of(graph: Result<Graph, GraphFault>) -> u32 {
+pub fn fault_of(graph: Result<Graph, GraphFault>) -> u32 {
     match graph {
         Ok(_) => 0,
         Err(GraphFault::SelfHeld { line: 0 }) => 30,
+        Err(GraphFault::LabelTwice { line: 0 }) => 31,
+        Err(GraphFault::LabelRange { line: 0 }) => 32,
+        Err(GraphFault::DefaultNeedless { line: 0 }) => 33,
+        Err(GraphFault::BadSwitch { line: 0 }) => 34,
         Err(GraphFault::Limit { which, line: 0 }) => limit_of(which),
         Err(GraphFault::BadNode) => 37,
         Err(_) => 99,
@@ -82,7 +86,9 @@ fn limit_of(which: GraphLimit) -> u32 {
         GraphLimit::Members => 235,
         GraphLimit::AllMembers => 335,
         GraphLimit::Path => 435,
-        _ => 99,
+        GraphLimit::Enumerators => 535,
+        GraphLimit::Size => 635,
+        GraphLimit::Bound => 735,
     }
 }
 

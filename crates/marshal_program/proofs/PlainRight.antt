@@ -1,8 +1,10 @@
 -- The plain program of a graph is right: what the routine of a node relates is what the node means, at every position.
-use Rattle.std.proofs.Common.{◌≡◌, ℕ, zero, suc, ◌-◌, ◌<◌, ◌≤◌, ℤ, true, false, List, [], ◌∷◌, ◌++◌, length, map, Option, slice_get, slice_index_or, option_to_list, if◌then◌else◌, int_eq, sym, subst, arith, inl, inr, refl}
+use Rattle.std.proofs.Common.{◌≡◌, ℕ, zero, suc, ◌-◌, ◌<◌, ◌≤◌, ℤ, true, false, List, [], ◌∷◌, ◌++◌, length, map, Option, Some, None, slice_get, slice_index_or, option_to_list, if◌then◌else◌, int_eq, sym, subst, arith, inl, inr, refl}
 use Rattle.std.proofs.lemmas.Bool.{cases_lt}
 use Rattle.std.proofs.lemmas.List.{get_or_past}
-use Rattle.std.proofs.lemmas.List.Elements.{All-get_or, recursion_from_All}
+use Rattle.std.proofs.lemmas.Option.{get_or_from_slice_get}
+use Rattle.std.specs.Prelude.{IsSomeAnd}
+use Rattle.std.proofs.lemmas.List.Elements.{All-get_or, All-head, recursion_from_All}
 use Rattle.std.specs.List.{AllByRecursion}
 use Rattle.type_graph.specs.declared.width.Width.{Width}
 use Rattle.type_graph.specs.declared.width.Width.TheVariants.{One, Two, Four, Eight}
@@ -13,12 +15,12 @@ use Rattle.type_graph.specs.Relation.{Relation, Then, Chain, Anywhere, Same}
 use Rattle.type_graph.specs.Atoms.{Gap, Chosen}
 use Rattle.type_graph.specs.Value.{IsNumeric, node_at, number_width, IsNumber, arm_of}
 use Rattle.type_graph.specs.Encoding.{NodeMeans, Means}
-use Rattle.type_graph.specs.GraphRules.{held_by, IsShallow, IsNode, IsGraph}
+use Rattle.type_graph.specs.GraphRules.{held_by, IsShallow, IsSwitch, IsNode, IsGraph}
 use Rattle.type_graph.specs.Walks.{lead_within}
 use Rattle.type_graph.proofs.RelationLaws.{same_refl, same_sym, same_trans, then_same_anywhere, then_nothing, many_one, many_same_anywhere, chain_same_anywhere, chain-map}
 use Rattle.type_graph.proofs.AtomLaws.{octet_run_one, counted_same_deep, first_same, chosen_same}
 use Rattle.type_graph.proofs.Openings.{gap_one_then, whole_means, octet_means, char_means, boolean_means, enum_means, text_means, seq_means, array_means, struct_means, frame_means, union_means}
-use Rattle.type_graph.proofs.Held.{held_within}
+use Rattle.type_graph.proofs.Held.{held_within, elem_within}
 use Rattle.type_graph.proofs.LeadLaws.{IsFilled, first_leads, lead_leads}
 use Rattle.marshal_program.specs.declared.instr.Instr.{Instr}
 use Rattle.marshal_program.specs.declared.instr.Instr.TheVariants.{Call, Switch}
@@ -26,13 +28,33 @@ use Rattle.marshal_program.specs.Does.{Does, code_of, code_at, Runs}
 use Rattle.marshal_program.specs.Plain.{HasPlainRoutine, HasPlainProgram, disc_of, aligned_to, plain_code, plain_from, plain_program}
 use Rattle.marshal_program.proofs.RunLaws.{runs_opened}
 
+-- a node by which a union may switch has numbers as values
+switch_numeric : (node : Node) → IsSwitch node → IsNumeric node
+switch_numeric (nodes.Whole w signed) h = tt
+switch_numeric nodes.Char h = tt
+switch_numeric nodes.Boolean h = tt
+switch_numeric (nodes.Enum n) h = tt
+switch_numeric node h = absurd h
+
+-- and so has the node of its number
+numeric_at : (graph : List Node) (switch : ℕ) (found : Option Node) → slice_get graph switch ≡ found → IsSomeAnd found IsSwitch → IsNumeric (node_at graph switch)
+numeric_at graph switch None e h = absurd h
+numeric_at graph switch (Some node) e h = subst IsNumeric (sym (get_or_from_slice_get graph switch node nodes.Octet e)) (switch_numeric node h)
+
 -- what a node that keeps its rules refers to
 pub plain_node : (graph : List Node) (node : Node) → IsNode graph node → HasPlainRoutine graph node
-plain_node graph (nodes.Struct members) h = recursion_from_All (λ m. m < length graph) members (held_within graph (nodes.Struct members) h)
 plain_node graph (nodes.Whole w signed) h = tt
 plain_node graph nodes.Octet h = tt
+plain_node graph nodes.Char h = tt
+plain_node graph nodes.Boolean h = tt
+plain_node graph (nodes.Enum n) h = tt
 plain_node graph (nodes.Text bound) h = tt
-plain_node graph node h = absurd h
+plain_node graph (nodes.Seq elem bound) h = elem_within graph elem bound h
+plain_node graph (nodes.Array elem n) h = (All-head (λ m. m < length graph) elem [] (held_within graph (nodes.Array elem n) h), h.1)
+plain_node graph (nodes.Struct members) h = recursion_from_All (λ m. m < length graph) members (held_within graph (nodes.Struct members) h)
+plain_node graph (nodes.Frame members) h = recursion_from_All (λ m. m < length graph) members (held_within graph (nodes.Frame members) h)
+plain_node graph (nodes.Union switch arms default) h =
+    (numeric_at graph switch (slice_get graph switch) refl h.switches, recursion_from_All (λ m. m < length graph) (map (λ arm. arm.1) arms ++ option_to_list default) (held_within graph (nodes.Union switch arms default) h))
 
 -- a graph that keeps its rules is one
 pub plain_graph : (graph : List Node) → IsGraph graph → HasPlainProgram graph

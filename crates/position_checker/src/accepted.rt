@@ -15,7 +15,7 @@ use marshal_program::{Program, Routine};
 use program_runner::RunFault;
 use std::alloc::Global;
 use std::marker::Model;
-use type_graph::{Graph, Node, Order};
+use type_graph::{Graph, Order};
 
 /// Types and routines that are right for them. A contract sees the two lists.
 #[derive(Debug, Drop)]
@@ -41,13 +41,13 @@ fn routine_at(routines: &[Routine], number: usize) -> Option<&Routine>
     routines.get(number)
 }
 
-fn check_routines(nodes: &[Node], routines: &[Routine]) -> Result<(), CheckFault>
-    requires graph { IsGraph nodes.now }
+fn check_routines(graph: &Graph, routines: &[Routine]) -> Result<(), CheckFault>
+    requires types { IsGraph graph.now }
     requires program { IsProgram routines.now }
-    ensures ok { OnOk result (routines.now ≡ plain_program nodes.now) }
-    ensures err { OnErr result (routines.now ≢ plain_program nodes.now) }
+    ensures ok { OnOk result (routines.now ≡ plain_program graph.now) }
+    ensures err { OnErr result (routines.now ≢ plain_program graph.now) }
 {
-    for (number, node) in nodes.iter().enumerate() {
+    for (number, node) in graph.nodes().iter().enumerate() {
         match routine_at(routines, number) {
             None => {
                 return Err(CheckFault::WrongWork {
@@ -55,12 +55,13 @@ fn check_routines(nodes: &[Node], routines: &[Routine]) -> Result<(), CheckFault
                     instr: 0,
                 });
             }
-            Some(routine) => check_routine(nodes, routines, number as u32, node, routine)?,
+            Some(routine) => check_routine(graph, routines, number as u32, node, routine)?,
         }
     }
-    if routines.len() != nodes.len() {
+    let count = graph.nodes().len();
+    if routines.len() != count {
         return Err(CheckFault::WrongWork {
-            routine: nodes.len() as u32,
+            routine: count as u32,
             instr: 0,
         });
     }
@@ -78,7 +79,7 @@ pub fn check(graph: Graph, program: Program) -> Result<Accepted, CheckFault>
     ensures right { IfOk result IsRight }
     ensures refused { OnErr result (program ≢ plain_program graph) }
 {
-    check_routines(graph.nodes(), program.routines())?;
+    check_routines(&graph, program.routines())?;
     Ok(Accepted { graph, program })
 }
 

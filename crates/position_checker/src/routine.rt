@@ -1,6 +1,6 @@
 //! A routine of the plain program.
 
-ghost use Rattle.std.specs.Prelude.{◌≡◌, ◌≢◌, ◌+◌, ◌<◌, ◌≤◌, ◌^◌, ◌↔◌, List, length, slice_get, replicate, Some, IfSome, IfNone, OnOk, OnErr, IsTrue, All};
+ghost use Rattle.std.specs.Prelude.{◌≡◌, ◌≢◌, ◌+◌, ◌<◌, ◌≤◌, ◌^◌, ◌↔◌, List, ◌++◌, map, option_to_list, length, slice_get, replicate, Some, IfSome, IfNone, OnOk, OnErr, IsTrue, All};
 ghost use Rattle.type_graph.specs.GraphRules.{IsNode, IsGraph, held_by};
 ghost use Rattle.type_graph.specs.Walks.{above};
 ghost use Rattle.marshal_program.specs.ProgramRules.{IsRoutine, IsProgram};
@@ -10,7 +10,7 @@ ghost use Rattle.position_checker.specs.PlainTests.{rank_at, IsPlainRoutine};
 use crate::code::first_wrong;
 use crate::fault::CheckFault;
 use marshal_program::Routine;
-use type_graph::Node;
+use type_graph::{Graph, Node};
 
 fn rank_of(routines: &[Routine], number: u32) -> u32
     ensures { result ≡ rank_at routines.now number }
@@ -34,16 +34,42 @@ fn rank_above(routines: &[Routine], numbers: &[u32]) -> u32
     rank
 }
 
+fn rank_above_default(routines: &[Routine], default: Option<u32>) -> u32
+    requires { IsProgram routines.now }
+    ensures { result ≡ above (rank_at routines.now) (option_to_list default) }
+{
+    match default {
+        None => 0,
+        Some(number) => rank_of(routines, number) + 1,
+    }
+}
+
+/// The same of the arms of a union and its default.
+fn rank_above_arms(routines: &[Routine], arms: &[(i128, u32)], default: Option<u32>) -> u32
+    requires { IsProgram routines.now }
+    ensures { result ≡ above (rank_at routines.now) (map (λ arm. arm.1) arms.now ++ option_to_list default) }
+{
+    let mut rank = rank_above_default(routines, default);
+    for (_, number) in arms.iter().rev() {
+        rank = (rank_of(routines, *number) + 1).max(rank);
+    }
+    rank
+}
+
 /// The rank that the routine of a node has to have.
-fn plain_rank(nodes: &[Node], routines: &[Routine], node: &Node) -> u32
-    requires program { IsProgram routines.now }
-    requires kept { IsNode nodes.now node.now }
+fn plain_rank(routines: &[Routine], node: &Node) -> u32
+    requires { IsProgram routines.now }
     ensures { result ≡ above (rank_at routines.now) (held_by node.now) }
 {
     match node {
-        Node::Struct { members } => rank_above(routines, members.as_slice()),
-        Node::Whole { .. } | Node::Octet | Node::Text { .. } => 0,
-        _ => unreachable!(),
+        Node::Struct { members } | Node::Frame { members } => {
+            rank_above(routines, members.as_slice())
+        }
+        Node::Array { elem, .. } => rank_of(routines, *elem) + 1,
+        Node::Union { arms, default, .. } => {
+            rank_above_arms(routines, arms.as_slice(), *default)
+        }
+        _ => 0,
     }
 }
 
@@ -59,7 +85,7 @@ fn has_plain_head(number: u32, rank: u32, routine: &Routine) -> bool
 
 /// A routine is the plain one of a node, or the first place where it isn't.
 pub fn check_routine(
-    nodes: &[Node],
+    graph: &Graph,
     routines: &[Routine],
     number: u32,
     node: &Node,
@@ -67,18 +93,18 @@ pub fn check_routine(
 ) -> Result<(), CheckFault>
     requires program { IsProgram routines.now }
     requires few { length routine.now.code < 2 ^ 32 }
-    requires kept { IsNode nodes.now node.now }
-    ensures ok { OnOk result (IsPlainRoutine nodes.now routines.now number node.now routine.now) }
-    ensures err { OnErr result (IsPlainRoutine nodes.now routines.now number node.now routine.now → ⊥) }
+    requires kept { IsNode graph.now node.now }
+    ensures ok { OnOk result (IsPlainRoutine graph.now routines.now number node.now routine.now) }
+    ensures err { OnErr result (IsPlainRoutine graph.now routines.now number node.now routine.now → ⊥) }
 {
-    let rank = plain_rank(nodes, routines, node);
+    let rank = plain_rank(routines, node);
     if !has_plain_head(number, rank, routine) {
         return Err(CheckFault::WrongWork {
             routine: number,
             instr: 0,
         });
     }
-    match first_wrong(nodes, node, routine.code.as_slice()) {
+    match first_wrong(graph, node, routine.code.as_slice()) {
         None => Ok(()),
         Some(instr) => Err(CheckFault::WrongWork {
             routine: number,

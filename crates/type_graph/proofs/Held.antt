@@ -5,7 +5,7 @@ use Rattle.std.proofs.lemmas.List.Elements.{All-cons, All-nil, All-head, All-tai
 use Rattle.std.proofs.lemmas.Option.{slice_get_within}
 use Rattle.type_graph.specs.declared.node.Node.{Node}
 use Rattle.type_graph.specs.declared.node.Node.TheVariants.{Whole, Octet, Char, Boolean, Enum, Text, Seq, Array, Struct, Union, Frame}
-use Rattle.type_graph.specs.GraphRules.{IsNoFrame, IsPart, IsNode, held_by}
+use Rattle.type_graph.specs.GraphRules.{IsNoFrame, IsPart, IsSwitch, IsNode, held_by}
 
 default_holds : (P : ℕ → Type 0) (default : Option ℕ) → IfSome default P ↔ All P (option_to_list default)
 default_holds P None = ((λ h. All-nil P), (λ h. tt))
@@ -55,3 +55,7 @@ held_within graph (Seq elem bound) h = All-nil (λ number. number < length graph
 -- and so are the elements of a sequence
 pub elem_within : (graph : List Node) (elem bound : ℕ) → IsNode graph (Seq elem bound) → elem < length graph
 elem_within graph elem bound h = part_within graph elem h.0
+
+-- and so is the discriminator of a union
+pub switch_within : (graph : List Node) (switch : ℕ) (arms : List (ℤ × ℕ)) (default : Option ℕ) → IsNode graph (Union switch arms default) → switch < length graph
+switch_within graph switch arms default h = within_from_some IsSwitch graph switch (slice_get graph switch) refl h.switches

@@ -1,13 +1,14 @@
 //! The graph of types of an IDL specification, and what their values are in CDR.
 #![tactic(auto)]
 
+mod cycles;
 pub mod fault;
 pub mod graph;
 pub mod laws;
 pub mod node;
 mod rules;
-mod unions;
 mod shape;
+mod unions;
 pub mod width;
 
 pub use fault::{GraphFault, GraphLimit};

@@ -124,3 +124,19 @@ pub enum Node {
         members: Members,
     },
 }
+
+impl Node {
+    ghost use Rattle.type_graph.specs.Value.{number_width};
+
+    /// The size of the node's numbers, where these are its values: of an integer its own, of an
+    /// enumeration 4 octets, else one.
+    pub fn number_width(&self) -> Width
+        ensures { result ≡ number_width self.now }
+    {
+        match self {
+            Node::Whole { width, .. } => *width,
+            Node::Enum { .. } => Width::Four,
+            _ => Width::One,
+        }
+    }
+}

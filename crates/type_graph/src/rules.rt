@@ -6,6 +6,7 @@ ghost use Rattle.type_graph.specs.Value.{node_at};
 ghost use Rattle.type_graph.specs.Levels.{IsLevelAbove, IsLevel};
 ghost use Rattle.type_graph.specs.Refusal.{OnlyIf};
 
+use crate::cycles::has_cycle;
 use crate::fault::{GraphFault, GraphLimit};
 use crate::node::Node;
 use crate::unions::check_union;
@@ -270,8 +271,8 @@ fn shallow(alloc: Global, nodes: &[Node], levels: usize) -> Result<Vec<bool>, Al
     Ok(table)
 }
 
-/// A path that is too long is told from a type that holds itself by going down as many levels as
-/// there are nodes.
+/// A path downwards has at most 64 nodes, or a fault that tells a type that holds itself from too
+/// long a path.
 pub fn check_paths(alloc: Global, nodes: &[Node]) -> Result<(), GraphFault>
     requires { All (IsNode nodes.now) nodes.now }
     ensures ok { OnOk result (EachIndex nodes.now (IsShallow 64 nodes.now)) }
@@ -281,12 +282,11 @@ pub fn check_paths(alloc: Global, nodes: &[Node]) -> Result<(), GraphFault>
     if table.iter().all(|is_in| *is_in) {
         return Ok(());
     }
-    let table = shallow(alloc, nodes, nodes.len())?;
-    if table.iter().all(|is_in| *is_in) {
-        return Err(GraphFault::Limit {
-            which: GraphLimit::Path,
-            line: 0,
-        });
+    if has_cycle(alloc, nodes)? {
+        return Err(GraphFault::SelfHeld { line: 0 });
     }
-    Err(GraphFault::SelfHeld { line: 0 })
+    Err(GraphFault::Limit {
+        which: GraphLimit::Path,
+        line: 0,
+    })
 }
