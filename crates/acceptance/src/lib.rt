@@ -9,3 +9,5 @@ mod programs;
 mod runs;
 #[cfg(test)]
 mod sample;
+#[cfg(test)]
+mod shapes;
