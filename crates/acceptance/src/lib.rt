@@ -11,3 +11,5 @@ mod programs;
 mod runs;
 #[cfg(test)]
 mod sample;
+#[cfg(test)]
+mod shapes;

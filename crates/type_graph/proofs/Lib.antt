@@ -1,5 +1,8 @@
 pub mod Held
 pub mod LevelLaws
+pub mod HeldEach
+pub mod WalkLaws
+pub mod UniformLaws
 pub mod ShapeLaws
 pub mod ShapeLevels
 pub mod ZeroLaws

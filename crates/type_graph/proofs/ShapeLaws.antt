@@ -10,8 +10,7 @@ use Rattle.std.proofs.lemmas.Nat.{mul-lt}
 use Rattle.type_graph.specs.declared.width.Width.{Width}
 use Rattle.type_graph.specs.declared.node.Node.{Node}
 use Rattle.type_graph.specs.declared.shape.Run.{Run}
-use Rattle.type_graph.specs.declared.shape.Run.TheVariants.{Empty, Words, Mixed}
-use Rattle.type_graph.specs.Value.{number_width}
+use Rattle.type_graph.specs.declared.shape.Run.TheVariants.{Empty, Mixed}
 use Rattle.type_graph.specs.Leaves.{IsWordOf, AreWords}
 use Rattle.type_graph.specs.declared.shape.Shape.{Shape}
 use Rattle.type_graph.specs.Shapes.{IsRun, IsSize, IsShape}

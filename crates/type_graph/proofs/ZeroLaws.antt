@@ -1,8 +1,8 @@
 -- The value of zeros: its tape has zeros alone, and it fits.
-use Rattle.std.proofs.Common.{◌≡◌, ℕ, zero, suc, ◌+◌, ◌*◌, ◌<◌, ◌≤◌, ℤ, pos, Bool, true, false, cond, List, [], ◌∷◌, ◌++◌, length, map, replicate, sum_by, Option, Some, None, option_to_list, refl, sym, ap, ap₂, ◌∙◌, subst, arith}
+use Rattle.std.proofs.Common.{◌≡◌, inl, inr, ℕ, zero, suc, ◌<◌, ◌≤◌, pos, Bool, true, false, List, [], ◌∷◌, ◌++◌, length, replicate, sum_by, refl, sym, ap, ap₂, ◌∙◌, subst, arith}
 use Rattle.std.specs.List.{AllByRecursion}
-use Rattle.std.specs.Ordering.{int_eq}
-use Rattle.std.proofs.lemmas.List.{replicate-append-replicate}
+use Rattle.std.proofs.lemmas.Bool.{cases_lt}
+use Rattle.std.proofs.lemmas.List.{get_or_past, replicate-append-replicate}
 use Rattle.std.proofs.lemmas.List.Sums.{sum_by-cons}
 use Rattle.type_graph.specs.declared.width.Width.{Width}
 use Rattle.type_graph.specs.declared.width.Width.TheVariants.{One, Two, Four, Eight}
@@ -10,11 +10,13 @@ use Rattle.type_graph.specs.declared.width.Order.TheVariants.{Big}
 use Rattle.type_graph.specs.declared.node.Node.{Node}
 use Rattle.type_graph.specs.declared.node.Node.TheVariants.{Whole, Octet, Char, Boolean, Enum, Text, Seq, Array, Struct, Union, Frame}
 use Rattle.type_graph.specs.Words.{octets_in, word}
-use Rattle.type_graph.specs.Value.{Tree, Number, Bytes, Items, Choice, Trees, NoTree, AndTree, node_at, number_width, arm_of, tape_of, tapes_of}
-use Rattle.type_graph.specs.GraphRules.{held_by, IsShallow}
+use Rattle.type_graph.specs.Value.{Tree, node_at, number_width, arm_of, IsNumber, Fits, FitAll, tape_of, tapes_of}
+use Rattle.type_graph.specs.GraphRules.{held_by, IsShallow, IsNode, IsGraph}
+use Rattle.type_graph.specs.Atoms.{InBound}
 use Rattle.type_graph.specs.Zero.{trees_of, zero_by, zero_value}
 use Rattle.type_graph.specs.Shapes.{size_by, size_within}
-use Rattle.type_graph.proofs.WordLaws.{all_weaken, all_back}
+use Rattle.type_graph.proofs.WordLaws.{all_weaken}
+use Rattle.type_graph.proofs.HeldEach.{all_chosen, all_repeated}
 
 -- the octets of the number 0
 zero_word : (w : Width) → word Big w (pos 0) ≡ replicate (octets_in w) 0
@@ -22,19 +24,6 @@ zero_word One = refl
 zero_word Two = refl
 zero_word Four = refl
 zero_word Eight = refl
-
--- a fact of each node that is held holds of what a discriminator chooses
-all_chosen : (P : ℕ → Type 0) (arms : List (ℤ × ℕ)) (default : Option ℕ) (a : ℤ) → AllByRecursion P (map (λ arm. arm.1) arms ++ option_to_list default) → AllByRecursion P (arm_of arms default a)
-all_chosen P [] default a h = h
-all_chosen P (arm ∷ more) default a h = elim (int_eq arm.0 a) as (λ b. AllByRecursion P (cond b (arm.1 ∷ []) (arm_of more default a))) [
-  | true ↦ (h.0, tt)
-  | false ↦ all_chosen P more default a h.1
-]
-
--- and of each copy
-all_same : (P : ℕ → Type 0) (n number : ℕ) → P number → AllByRecursion P (replicate n number)
-all_same P zero number h = tt
-all_same P (suc n) number h = (h, all_same P n number h)
 
 module _ (graph : List Node) where
   -- the tape of the value has so many zeros
@@ -57,7 +46,7 @@ module _ (graph : List Node) where
   zeros_by tree size (Enum n) a = zero_word Four
   zeros_by tree size (Text bound) a = refl
   zeros_by tree size (Seq elem bound) a = refl
-  zeros_by tree size (Array elem n) a = zeros_of tree size (replicate n elem) (all_same (HasZeros tree size) n elem a.0)
+  zeros_by tree size (Array elem n) a = zeros_of tree size (replicate n elem) (all_repeated (HasZeros tree size) n elem a.0)
   zeros_by tree size (Struct members) a = zeros_of tree size members a
   zeros_by tree size (Frame members) a = zeros_of tree size members a
   zeros_by tree size (Union switch arms default) a =
@@ -72,3 +61,69 @@ module _ (graph : List Node) where
   zeros_within (suc levels) number h =
       zeros_by (zero_value levels graph) (size_within levels graph) (node_at graph number)
       (all_weaken (IsShallow levels graph) (HasZeros (zero_value levels graph) (size_within levels graph)) (held_by (node_at graph number)) (λ m s. zeros_within levels m s) h)
+
+  -- zero is a value where it needs a rule of the graph to be one
+  abbrev pub TakesZero : Node → Type 0
+  TakesZero (Enum n) = 0 < n
+  TakesZero (Union switch arms default) = IsNumber (node_at graph switch) (pos 0)
+  TakesZero node = Unit {0}
+
+  -- a value of zeros fits its node
+  abbrev pub FitsZero : ℕ → (ℕ → Tree) → ℕ → Type 0
+  FitsZero depth tree number = Fits graph (node_at graph number) (tree number) depth
+
+  -- values of zeros fit their nodes
+  fit_zeros : (depth : ℕ) (tree : ℕ → Tree) (numbers : List ℕ) → AllByRecursion (FitsZero depth tree) numbers → FitAll graph numbers (trees_of tree numbers) depth
+  fit_zeros depth tree [] a = tt
+  fit_zeros depth tree (number ∷ numbers) a = (a.0, fit_zeros depth tree numbers a.1)
+
+  -- an integer takes 0
+  whole_zero : (w : Width) (signed : Bool) → IsNumber (Whole w signed) (pos 0)
+  whole_zero One true = omega arith
+  whole_zero Two true = omega arith
+  whole_zero Four true = omega arith
+  whole_zero Eight true = omega arith
+  whole_zero One false = omega arith
+  whole_zero Two false = omega arith
+  whole_zero Four false = omega arith
+  whole_zero Eight false = omega arith
+
+  -- no bound is below 0
+  none_in_bound : (bound : ℕ) → InBound bound 0
+  none_in_bound zero = tt
+  none_in_bound (suc b) = omega arith
+
+  -- a node's zeros fit where those of the nodes that it holds do
+  fits_by : (depth : ℕ) → 1 ≤ depth → (tree : ℕ → Tree) (node : Node) → TakesZero node → AllByRecursion (FitsZero depth tree) (held_by node) → Fits graph node (zero_by tree node) depth
+  fits_by depth deep tree (Whole w signed) z a = whole_zero w signed
+  fits_by depth deep tree Octet z a = omega arith
+  fits_by depth deep tree Char z a = omega arith
+  fits_by depth deep tree Boolean z a = omega arith
+  fits_by depth deep tree (Enum n) z a = z
+  fits_by depth deep tree (Text bound) z a = record { in_bound = none_in_bound bound; short = omega arith; octets = tt }
+  fits_by depth deep tree (Seq elem bound) z a = (deep, record { in_bound = none_in_bound bound; short = omega arith }, tt)
+  fits_by depth deep tree (Array elem n) z a = fit_zeros depth tree (replicate n elem) (all_repeated (FitsZero depth tree) n elem a.0)
+  fits_by depth deep tree (Struct members) z a = fit_zeros depth tree members a
+  fits_by depth deep tree (Frame members) z a = fit_zeros depth tree members a
+  fits_by depth deep tree (Union switch arms default) z a = (z, fit_zeros depth tree (arm_of arms default (pos 0)) (all_chosen (FitsZero depth tree) arms default (pos 0) a))
+
+  -- the zeros of a shallow node fit it
+  pub zero_fits : ((number : ℕ) → TakesZero (node_at graph number)) → (depth : ℕ) → 1 ≤ depth → (levels number : ℕ) → IsShallow levels graph number → FitsZero depth (zero_value levels graph) number
+  unfolding IsShallow zero_value
+  zero_fits takes depth deep zero number h = absurd h
+  zero_fits takes depth deep (suc levels) number h =
+      fits_by depth deep (zero_value levels graph) (node_at graph number) (takes number)
+      (all_weaken (IsShallow levels graph) (FitsZero depth (zero_value levels graph)) (held_by (node_at graph number)) (λ m s. zero_fits takes depth deep levels m s) h)
+
+-- a node that keeps its rules
+node_takes_zero : (graph : List Node) (node : Node) → IsNode graph node → TakesZero graph node
+node_takes_zero graph (Enum n) h = absurd h
+node_takes_zero graph (Union switch arms default) h = absurd h
+node_takes_zero graph node h = tt
+
+-- every node of a graph takes zero
+pub takes_zero : (graph : List Node) → IsGraph graph → (number : ℕ) → TakesZero graph (node_at graph number)
+takes_zero graph rules number = elim (cases_lt number (length graph)) as (λ v. TakesZero graph (node_at graph number)) [
+  | inl lt ↦ node_takes_zero graph (node_at graph number) (rules.nodes number Octet lt)
+  | inr le ↦ subst (TakesZero graph) (sym (get_or_past graph number Octet le)) tt
+]

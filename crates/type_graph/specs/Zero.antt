@@ -23,3 +23,7 @@ zero_by tree node = Number (pos 0)
 unfoldable pub zero_value : ℕ → List Node → ℕ → Tree
 zero_value zero graph number = Number (pos 0)
 zero_value (suc levels) graph number = zero_by (zero_value levels graph) (node_at graph number)
+
+-- in a graph nothing lies deeper than 64 levels
+abbrev pub zero_of : List Node → ℕ → Tree
+zero_of graph number = zero_value 64 graph number

@@ -7,7 +7,7 @@ ghost use Rattle.type_graph.specs.declared.width.Width.{Width};
 ghost use Rattle.type_graph.specs.Value.{node_at, tape_of};
 ghost use Rattle.type_graph.specs.Walks.{lead_of};
 ghost use Rattle.type_graph.specs.Leaves.{IsUniform};
-ghost use Rattle.type_graph.specs.Zero.{zero_value};
+ghost use Rattle.type_graph.specs.Zero.{zero_of};
 
 use crate::fault::{GraphFault, GraphLimit};
 use crate::node::Node;
@@ -109,7 +109,7 @@ impl Graph {
     /// Want of memory.
     pub fn zero(&self, alloc: Global, number: u32) -> Result<Vec<u8>, AllocError>
         requires { number < length self.now }
-        ensures { IfOk result (λ tape. tape.items ≡ tape_of self.now (node_at self.now number) (zero_value 64 self.now number)) }
+        ensures { IfOk result (λ tape. tape.items ≡ tape_of self.now (node_at self.now number) (zero_of self.now number)) }
     {
         zeros(alloc, shape_at(&self.shapes, number).size)
     }

@@ -4,9 +4,14 @@ ghost use Rattle.std.specs.Prelude.{◌≡◌, ℕ, ◌+◌, ◌%◌, ◌≤◌,
 ghost use Rattle.type_graph.specs.declared.width.Width.{Width};
 ghost use Rattle.type_graph.specs.declared.node.Node.{Node};
 ghost use Rattle.type_graph.specs.Words.{octets_in, pad, Way};
+ghost use Rattle.type_graph.specs.Relation.{Then, Many, Anywhere, Same};
+ghost use Rattle.type_graph.specs.Atoms.{Gap, AnyWord};
 ghost use Rattle.type_graph.specs.Value.{Tree, node_at, Fits, tape_of};
 ghost use Rattle.type_graph.specs.Encoding.{Means};
 ghost use Rattle.type_graph.specs.GraphRules.{IsGraph};
+ghost use Rattle.type_graph.specs.Walks.{lead_by, lead_of};
+ghost use Rattle.type_graph.specs.Leaves.{leaves_by, leaves_of, IsUniform};
+ghost use Rattle.type_graph.specs.Zero.{zero_by, zero_of};
 
 /// The gap before a number leads to a multiple of its size, and none that is shorter does.
 pub fn gap_is_least()
@@ -32,4 +37,36 @@ pub fn front_has_one_tape()
     ensures { (graph : List Node) → IsGraph graph → (way : Way) (depth number p : ℕ) (tape1 tape2 octets1 octets2 rest1 rest2 : List ℕ)
         → Means graph way depth number p tape1 octets1 → Means graph way depth number p tape2 octets2
         → octets1 ++ rest1 ≡ octets2 ++ rest2 → (tape1 ≡ tape2) × (octets1 ≡ octets2) }
+{}
+
+/// The lead of a node is that of its element, its first member or its discriminator, 4 for an
+/// enumeration, a string or a sequence, and else the width of its numbers.
+pub fn lead_is_of_first_part()
+    ensures { (graph : List Node) → IsGraph graph → (number : ℕ)
+        → lead_of graph number ≡ lead_by (lead_of graph) graph (node_at graph number) }
+{}
+
+/// The leaves of an array are those of its elements, those of a structure or a frame those of its
+/// members; any other node is its own leaf.
+pub fn leaves_are_of_parts()
+    ensures { (graph : List Node) → IsGraph graph → (number : ℕ)
+        → leaves_of graph number ≡ leaves_by (leaves_of graph) (node_at graph number) }
+{}
+
+/// A uniform node is the gap to its width, and its words one behind the other.
+pub fn uniform_is_words()
+    ensures { (graph : List Node) → IsGraph graph → (way : Way) (depth : ℕ) (w : Width) (n number : ℕ)
+        → IsUniform graph w n number → Same Anywhere (Means graph way depth number) (Then (Gap way w) (Many n (AnyWord way w))) }
+{}
+
+/// The value of zeros is made of those of the parts.
+pub fn zero_is_of_parts()
+    ensures { (graph : List Node) → IsGraph graph → (number : ℕ)
+        → zero_of graph number ≡ zero_by (zero_of graph) (node_at graph number) }
+{}
+
+/// The value of zeros is one of the node.
+pub fn zero_fits()
+    ensures { (graph : List Node) → IsGraph graph → (number depth : ℕ) → 1 ≤ depth
+        → Fits graph (node_at graph number) (zero_of graph number) depth }
 {}

@@ -1,8 +1,8 @@
-use Rattle.std.proofs.Common.{◌≡◌, ℕ, suc, ℤ, pos, ◌<◌, List, ◌∷◌, [], length, drop, get_or, Option, Bool, true, sym, ap, ◌∙◌, subst, cond, drop-cons, rules}
+use Rattle.std.proofs.Common.{◌≡◌, ℕ, suc, ℤ, pos, ◌<◌, List, ◌∷◌, [], length, drop, get_or, Option, Bool, true, sym, ap, ◌∙◌, cond, drop-cons, rules}
 use Rattle.std.specs.Ordering.{int_eq}
 use Rattle.std.proofs.lemmas.Int.{to_z-of_z}
 use mir.Syntax.{w128}
-use mir.Val.{SFits, of_z, to_z}
+use mir.Val.{SFits, to_z}
 use Rattle.type_graph.specs.Value.{arm_of}
 use Rattle.type_graph.proofs.shape.arm_of_zero.Goals as goal
 

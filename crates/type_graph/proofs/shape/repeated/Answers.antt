@@ -1,4 +1,4 @@
-use Rattle.std.proofs.Common.{ℕ, replicate, sum_by, sym, subst, arith}
+use Rattle.std.proofs.Common.{ℕ, replicate, sum_by, sym, subst}
 use Rattle.std.proofs.lemmas.List.Folds.{sum_by-replicate}
 use Rattle.std.specs.List.{flat_map}
 use Rattle.type_graph.specs.Shapes.{IsShape, IsSize}

@@ -1,4 +1,4 @@
-use Rattle.std.proofs.Common.{ℕ, List, sum_by, ap, sym, subst, ◌∙◌}
+use Rattle.std.proofs.Common.{ℕ, List, sum_by, sym, subst}
 use Rattle.std.specs.List.{flat_map}
 use Rattle.std.proofs.Common.{inl, inr}
 use Rattle.type_graph.specs.declared.node.Node.{Node}

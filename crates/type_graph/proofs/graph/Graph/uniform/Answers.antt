@@ -1,4 +1,4 @@
-use Rattle.std.proofs.Common.{◌⊎◌, inl, inr, subst}
+use Rattle.std.proofs.Common.{inl, inr, subst}
 use Rattle.type_graph.specs.Leaves.{leaves_of}
 use Rattle.type_graph.specs.Shapes.{IsRun}
 use Rattle.type_graph.proofs.ShapeLaws.{empty_none, mixed_none}
