@@ -15,3 +15,4 @@ pub mod LeadLaws
 pub mod OneTape
 pub mod OneReading
 pub mod Worked
+pub mod WorkedShapes
