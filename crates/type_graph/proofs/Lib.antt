@@ -16,3 +16,4 @@ pub mod OneTape
 pub mod OneReading
 pub mod Worked
 mod LabelLaws
+pub mod WorkedShapes

@@ -10,7 +10,7 @@ use Rattle.type_graph.specs.declared.width.Order.TheVariants.{Big}
 use Rattle.type_graph.specs.declared.node.Node.{Node}
 use Rattle.type_graph.specs.declared.node.Node.TheVariants.{Whole, Octet, Char, Boolean, Enum, Text, Seq, Array, Struct, Union, Frame}
 use Rattle.type_graph.specs.Words.{octets_in, word}
-use Rattle.type_graph.specs.Value.{Tree, node_at, number_width, arm_of, IsNumber, Fits, FitAll, tape_of, tapes_of}
+use Rattle.type_graph.specs.Value.{Tree, node_at, number_width, arm_of, IsNumber, IsNumeric, Fits, FitAll, tape_of, tapes_of}
 use Rattle.type_graph.specs.GraphRules.{held_by, IsShallow, IsNode, IsGraph}
 use Rattle.type_graph.specs.Atoms.{InBound}
 use Rattle.type_graph.specs.Zero.{trees_of, zero_by, zero_value}
@@ -88,6 +88,15 @@ module _ (graph : List Node) where
   whole_zero Four false = omega arith
   whole_zero Eight false = omega arith
 
+  -- a number that takes 0 has it as a value
+  pub numeric_zero : (node : Node) → IsNumeric node → TakesZero node → IsNumber node (pos 0)
+  numeric_zero (Whole w signed) h z = whole_zero w signed
+  numeric_zero Octet h z = omega arith
+  numeric_zero Char h z = omega arith
+  numeric_zero Boolean h z = omega arith
+  numeric_zero (Enum n) h z = z
+  numeric_zero node h z = absurd h
+
   -- no bound is below 0
   none_in_bound : (bound : ℕ) → InBound bound 0
   none_in_bound zero = tt
@@ -95,11 +104,11 @@ module _ (graph : List Node) where
 
   -- a node's zeros fit where those of the nodes that it holds do
   fits_by : (depth : ℕ) → 1 ≤ depth → (tree : ℕ → Tree) (node : Node) → TakesZero node → AllByRecursion (FitsZero depth tree) (held_by node) → Fits graph node (zero_by tree node) depth
-  fits_by depth deep tree (Whole w signed) z a = whole_zero w signed
-  fits_by depth deep tree Octet z a = omega arith
-  fits_by depth deep tree Char z a = omega arith
-  fits_by depth deep tree Boolean z a = omega arith
-  fits_by depth deep tree (Enum n) z a = z
+  fits_by depth deep tree (Whole w signed) z a = numeric_zero (Whole w signed) tt z
+  fits_by depth deep tree Octet z a = numeric_zero Octet tt z
+  fits_by depth deep tree Char z a = numeric_zero Char tt z
+  fits_by depth deep tree Boolean z a = numeric_zero Boolean tt z
+  fits_by depth deep tree (Enum n) z a = numeric_zero (Enum n) tt z
   fits_by depth deep tree (Text bound) z a = record { in_bound = none_in_bound bound; short = omega arith; octets = tt }
   fits_by depth deep tree (Seq elem bound) z a = (deep, record { in_bound = none_in_bound bound; short = omega arith }, tt)
   fits_by depth deep tree (Array elem n) z a = fit_zeros depth tree (replicate n elem) (all_repeated (FitsZero depth tree) n elem a.0)
@@ -115,15 +124,15 @@ module _ (graph : List Node) where
       fits_by depth deep (zero_value levels graph) (node_at graph number) (takes number)
       (all_weaken (IsShallow levels graph) (FitsZero depth (zero_value levels graph)) (held_by (node_at graph number)) (λ m s. zero_fits takes depth deep levels m s) h)
 
--- a node that keeps its rules
-node_takes_zero : (graph : List Node) (node : Node) → IsNode graph node → TakesZero graph node
-node_takes_zero graph (Enum n) h = absurd h
-node_takes_zero graph (Union switch arms default) h = absurd h
-node_takes_zero graph node h = tt
+-- a node of a graph that keeps its rules; of the kinds that need one none is served yet
+node_takes_zero : (graph : List Node) → IsGraph graph → (node : Node) → IsNode graph node → TakesZero graph node
+node_takes_zero graph rules (Enum n) h = absurd h
+node_takes_zero graph rules (Union switch arms default) h = absurd h
+node_takes_zero graph rules node h = tt
 
 -- every node of a graph takes zero
 pub takes_zero : (graph : List Node) → IsGraph graph → (number : ℕ) → TakesZero graph (node_at graph number)
 takes_zero graph rules number = elim (cases_lt number (length graph)) as (λ v. TakesZero graph (node_at graph number)) [
-  | inl lt ↦ node_takes_zero graph (node_at graph number) (rules.nodes number Octet lt)
+  | inl lt ↦ node_takes_zero graph rules (node_at graph number) (rules.nodes number Octet lt)
   | inr le ↦ subst (TakesZero graph) (sym (get_or_past graph number Octet le)) tt
 ]

@@ -1,7 +1,7 @@
 //! What is read off each node of a list: its lead, of which words its values are made, and how long
 //! the tape of its zeros is.
 
-ghost use Rattle.std.specs.Prelude.{◌≡◌, ◌<◌, ◌≤◌, ◌+◌, ◌*◌, ℕ, pos, List, [], ◌∷◌, ◌++◌, length, option_to_list, replicate, slice_index_or, sum_by, IfOk};
+ghost use Rattle.std.specs.Prelude.{◌≡◌, ◌≤◌, ◌+◌, ◌*◌, ℕ, pos, List, [], ◌∷◌, ◌++◌, length, option_to_list, replicate, slice_index_or, sum_by, IfOk};
 ghost use Rattle.std.specs.List.{AllByRecursion, flat_map};
 ghost use Rattle.type_graph.specs.declared.node.Node.{Node};
 ghost use Rattle.type_graph.specs.Value.{node_at, number_width, arm_of};
@@ -161,7 +161,8 @@ pub struct Shape {
     pub size: Option<usize>,
 }
 
-fn nothing() -> Shape
+/// The shape of no nodes.
+fn shape_of_none() -> Shape
     ensures { IsShape [] 0 result }
 {
     Shape {
@@ -183,7 +184,7 @@ fn repeated(count: u32, shape: Shape) -> Shape
     ensures { (leaves : ℕ → List Node) (size : ℕ → ℕ) (number : ℕ) → IsShape (leaves number) (size number) shape → IsShape (flat_map leaves (replicate count number)) (sum_by size (replicate count number)) result }
 {
     if count == 0 {
-        return nothing();
+        return shape_of_none();
     }
     Shape {
         run: repeated_run(count, shape.run),
@@ -204,6 +205,7 @@ fn leaf(node: &Node, size: Option<usize>) -> Shape
     Shape { run, size }
 }
 
+/// The shape at a number: past the end of the table that of an octet.
 pub fn shape_at(table: &[Shape], number: u32) -> Shape
     ensures { result ≡ slice_index_or table.now number octet_shape }
 {
@@ -216,7 +218,7 @@ pub fn shape_at(table: &[Shape], number: u32) -> Shape
 fn shape_of_members(table: &[Shape], members: &[u32]) -> Shape
     ensures { (leaves : ℕ → List Node) (size : ℕ → ℕ) → AreShapes table.now leaves size → IsShape (flat_map leaves members.now) (sum_by size members.now) result }
 {
-    let mut shape = nothing();
+    let mut shape = shape_of_none();
     for number in members {
         shape = joined(shape, shape_at(table, *number));
     }
