@@ -1,6 +1,8 @@
 -- The value of zeros: its tape has zeros alone, and it fits.
-use Rattle.std.proofs.Common.{◌≡◌, inl, inr, ℕ, zero, suc, ◌<◌, ◌≤◌, pos, Bool, true, false, List, [], ◌∷◌, ◌++◌, length, replicate, sum_by, refl, sym, ap, ap₂, ◌∙◌, subst, arith}
+use Rattle.std.proofs.Common.{◌≡◌, inl, inr, ℕ, zero, suc, ◌<◌, ◌≤◌, pos, Bool, true, false, List, [], ◌∷◌, ◌++◌, length, replicate, sum_by, Option, Some, None, slice_get, refl, sym, ap, ap₂, ◌∙◌, subst, arith}
 use Rattle.std.specs.List.{AllByRecursion}
+use Rattle.std.specs.Prelude.{IsSomeAnd}
+use Rattle.std.proofs.lemmas.Option.{slice_get_within, get_or_from_slice_get}
 use Rattle.std.proofs.lemmas.Bool.{cases_lt}
 use Rattle.std.proofs.lemmas.List.{get_or_past, replicate-append-replicate}
 use Rattle.std.proofs.lemmas.List.Sums.{sum_by-cons}
@@ -11,7 +13,7 @@ use Rattle.type_graph.specs.declared.node.Node.{Node}
 use Rattle.type_graph.specs.declared.node.Node.TheVariants.{Whole, Octet, Char, Boolean, Enum, Text, Seq, Array, Struct, Union, Frame}
 use Rattle.type_graph.specs.Words.{octets_in, word}
 use Rattle.type_graph.specs.Value.{Tree, node_at, number_width, arm_of, IsNumber, IsNumeric, Fits, FitAll, tape_of, tapes_of}
-use Rattle.type_graph.specs.GraphRules.{held_by, IsShallow, IsNode, IsGraph}
+use Rattle.type_graph.specs.GraphRules.{held_by, IsShallow, IsSwitch, IsNode, IsGraph}
 use Rattle.type_graph.specs.Atoms.{InBound}
 use Rattle.type_graph.specs.Zero.{trees_of, zero_by, zero_value}
 use Rattle.type_graph.specs.Shapes.{size_by, size_within}
@@ -124,10 +126,26 @@ module _ (graph : List Node) where
       fits_by depth deep (zero_value levels graph) (node_at graph number) (takes number)
       (all_weaken (IsShallow levels graph) (FitsZero depth (zero_value levels graph)) (held_by (node_at graph number)) (λ m s. zero_fits takes depth deep levels m s) h)
 
--- a node of a graph that keeps its rules; of the kinds that need one none is served yet
+-- 0 is a value of a discriminator
+switch_zero : (graph : List Node) (node : Node) → IsSwitch node → IsNode graph node → IsNumber node (pos 0)
+switch_zero graph (Whole w signed) s h = whole_zero graph w signed
+switch_zero graph Char s h = omega arith
+switch_zero graph Boolean s h = omega arith
+switch_zero graph (Enum n) s h = h.0
+switch_zero graph node s h = absurd s
+
+-- of the one of a union too
+zero_at_switch : (graph : List Node) (switch : ℕ) → IsGraph graph → (found : Option Node) → slice_get graph switch ≡ found → IsSomeAnd found IsSwitch → IsNumber (node_at graph switch) (pos 0)
+zero_at_switch graph switch rules None e s = absurd s
+zero_at_switch graph switch rules (Some node) e s =
+    let is : node_at graph switch ≡ node = get_or_from_slice_get graph switch node Octet e in
+    let keeps = rules.nodes switch Octet (slice_get_within graph switch node e) in
+    subst (λ (n : Node). IsNumber n (pos 0)) (sym is) (switch_zero graph node s (subst (IsNode graph) is keeps))
+
+-- a node that keeps its rules in a graph
 node_takes_zero : (graph : List Node) → IsGraph graph → (node : Node) → IsNode graph node → TakesZero graph node
-node_takes_zero graph rules (Enum n) h = absurd h
-node_takes_zero graph rules (Union switch arms default) h = absurd h
+node_takes_zero graph rules (Enum n) h = h.0
+node_takes_zero graph rules (Union switch arms default) h = zero_at_switch graph switch rules (slice_get graph switch) refl h.switches
 node_takes_zero graph rules node h = tt
 
 -- every node of a graph takes zero
