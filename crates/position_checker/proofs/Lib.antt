@@ -2,3 +2,4 @@ pub mod Lists
 pub mod Ranks
 pub mod PlainList
 pub mod Acceptance
+pub mod Arms

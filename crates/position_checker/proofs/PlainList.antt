@@ -1,6 +1,7 @@
 -- A list of plain routines is the plain program.
-use Rattle.std.proofs.Common.{◌≡◌, ℕ, zero, suc, ◌+◌, ◌^◌, ◌<◌, List, [], ◌∷◌, length, replicate, Some, slice_get, slice_index_or, refl, sym, ap, subst, ◌∙◌, add-zero, zero-add, arith}
+use Rattle.std.proofs.Common.{◌≡◌, ℕ, zero, suc, ◌+◌, ◌^◌, ◌<◌, List, [], ◌∷◌, length, replicate, Option, Some, None, slice_get, slice_index_or, refl, sym, ap, subst, ◌∙◌, add-zero, zero-add, arith}
 use Rattle.std.specs.List.{AllByRecursion}
+use Rattle.std.specs.Prelude.{IsSomeAnd}
 use Rattle.std.proofs.lemmas.List.Elements.{recursion_from_All}
 use Rattle.std.proofs.lemmas.List.Sums.{get_or-le-sum_by}
 use Rattle.std.proofs.lemmas.Option.{slice_get_within, get_or_from_slice_get}
@@ -14,7 +15,7 @@ use Rattle.marshal_program.specs.declared.instr.Instr.{Instr}
 use Rattle.marshal_program.specs.declared.instr.Routine.{Routine}
 use Rattle.marshal_program.specs.ProgramRules.{IsProgram}
 use Rattle.marshal_program.specs.Plain.{plain_code, plain_routine, plain_from, plain_program}
-use Rattle.position_checker.specs.PlainTests.{rank_of, rank_at, IsPlainRoutine}
+use Rattle.position_checker.specs.PlainTests.{rank_of, rank_at, IsPlainRoutine, HasPlainAt}
 use Rattle.position_checker.proofs.Lists.{same_from_gets}
 use Rattle.position_checker.proofs.Ranks.{both, above_same, ranks_are_heights, height_steady}
 
@@ -38,12 +39,17 @@ plain_program_at graph k lt = plain_from_at graph 0 graph k lt ∙ ap (λ (n : �
 
 -- ---- what the tests say
 
--- each node has a plain routine at its place
-pub record HasPlainAt (graph : List Node) (program : List Routine) (number : ℕ) : Type 0 where
+-- a node has a plain routine at its place
+pub record PlainAt (graph : List Node) (program : List Routine) (number : ℕ) : Type 0 where
   pub routine : Routine
   pub there : slice_get program number ≡ Some routine
   pub plain : IsPlainRoutine graph program number (node_at graph number) routine
 
+plain_at : (graph : List Node) (program : List Routine) (number : ℕ) (found : Option Routine) → slice_get program number ≡ found → IsSomeAnd found (IsPlainRoutine graph program number (node_at graph number)) → PlainAt graph program number
+plain_at graph program number None e h = absurd h
+plain_at graph program number (Some routine) e h = record { routine = routine; there = e; plain = h }
+
+-- so has each below a number
 abbrev pub PlainBelow : List Node → List Routine → ℕ → Type 0
 PlainBelow graph program limit = (number : ℕ) → number < limit → HasPlainAt graph program number
 
@@ -65,11 +71,11 @@ pub program_is_plain : (graph : List Node) (program : List Routine) → IsGraph 
 program_is_plain graph program rules long plain =
     let rank = rank_at program in
     let step = λ (number : ℕ) (lt : number < length graph).
-    let at = plain number lt in
+    let at = plain_at graph program number (slice_get program number) refl (plain number lt) in
     ap rank_of at.there ∙ at.plain.rank_is in
     same_from_gets program (plain_program graph) (long ∙ sym (length-plain_program graph)) (λ k lt.
     let inside : k < length graph = omega (arith, long) in
-    let at = plain k inside in
+    let at = plain_at graph program k (slice_get program k) refl (plain k inside) in
     let height : rank k ≡ height_within 64 graph k = ranks_are_heights graph rank (parts_within graph rules) step 64 k inside (rules.shallow k inside) in
     let rank_is : at.routine.rank ≡ height_within 64 graph k = ap rank_of (sym at.there) ∙ height in
     plain_program_at graph k inside ∙ ap (λ (r : Routine). Some r) (sym (same_routine graph k (height_within 64 graph k) (node_at graph k) at.routine at.plain.node_is at.plain.entry_is at.plain.exits_are rank_is at.plain.code_is)) ∙ sym at.there)
@@ -87,14 +93,11 @@ plain_rank_is graph rules number lt =
 pub plain_is_plain : (graph : List Node) → IsGraph graph → (number : ℕ) → number < length graph → IsPlainRoutine graph (plain_program graph) number (node_at graph number) (plain_routine graph number (node_at graph number))
 plain_is_plain graph rules number lt = record { node_is = refl; entry_is = refl; exits_are = refl; rank_is = plain_rank_is graph rules number lt; code_is = refl }
 
--- where a routine isn't plain, the program isn't
-pub not_plain : (graph : List Node) (program : List Routine) (number : ℕ) (routine : Routine) → IsGraph graph → number < length graph → slice_get program number ≡ Some routine
-    → (IsPlainRoutine graph program number (node_at graph number) routine → ⊥) → program ≡ plain_program graph → ⊥
-not_plain graph program number routine rules lt there wrong e =
-    let found : Some routine ≡ Some (plain_routine graph number (node_at graph number)) = sym there ∙ ap (λ (p : List Routine). slice_get p number) e ∙ plain_program_at graph number lt in
-    let is : plain_routine graph number (node_at graph number) ≡ routine = cc in
-    wrong (subst (λ (p : List Routine). IsPlainRoutine graph p number (node_at graph number) routine) (sym e)
-    (subst (λ (r : Routine). IsPlainRoutine graph (plain_program graph) number (node_at graph number) r) is (plain_is_plain graph rules number lt)))
+-- and so has its routines
+pub plain_has : (graph : List Node) (program : List Routine) (number : ℕ) → IsGraph graph → number < length graph → program ≡ plain_program graph → HasPlainAt graph program number
+plain_has graph program number rules lt e =
+    subst (λ (p : List Routine). HasPlainAt graph p number) (sym e)
+    (subst (λ (found : Option Routine). IsSomeAnd found (IsPlainRoutine graph (plain_program graph) number (node_at graph number))) (sym (plain_program_at graph number lt)) (plain_is_plain graph rules number lt))
 
 -- no routine of a program has more instructions than all together
 pub few_instrs : (program : List Routine) (number : ℕ) (routine : Routine) → IsProgram program → slice_get program number ≡ Some routine → length routine.code < 2 ^ 32

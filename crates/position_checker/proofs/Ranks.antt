@@ -1,5 +1,5 @@
 -- Ranks, one above the other.
-use Rattle.std.proofs.Common.{◌≡◌, ℕ, zero, suc, ◌+◌, ◌<◌, max, List, [], ◌∷◌, length, drop, get_or, refl, ap, ap₂, ◌∙◌, drop-cons, add-one, arith}
+use Rattle.std.proofs.Common.{◌≡◌, ℕ, zero, suc, ◌+◌, ◌<◌, max, List, [], ◌∷◌, ◌++◌, length, drop, get_or, refl, ap, ap₂, ◌∙◌, drop-cons, add-one, arith}
 use Rattle.std.specs.List.{AllByRecursion}
 use Rattle.type_graph.specs.declared.node.Node.{Node}
 use Rattle.type_graph.specs.Value.{node_at}
@@ -42,3 +42,8 @@ height_steady graph zero number shallow = absurd shallow
 height_steady graph (suc levels) number shallow =
     above_same (height_within levels graph) (height_within (suc levels) graph) (held_by (node_at graph number))
     (all_weaken (IsShallow levels graph) (λ part. height_within levels graph part ≡ height_within (suc levels) graph part) (held_by (node_at graph number)) (λ part s. height_steady graph levels part s) shallow)
+
+-- above two lists is above the one or the other
+pub above_joined : (height : ℕ → ℕ) (numbers more : List ℕ) → above height (numbers ++ more) ≡ max (above height numbers) (above height more)
+above_joined height [] more = omega arith
+above_joined height (number ∷ numbers) more = let rest = above_joined height numbers more in omega (arith, rest)

@@ -1,5 +1,6 @@
 -- The plain program of a graph, tested node by node.
-use Rattle.std.specs.Prelude.{◌≡◌, ℕ, Option, Some, None, List, slice_get, replicate}
+use Rattle.std.specs.Prelude.{◌≡◌, ℕ, Option, Some, None, List, slice_get, replicate, IsSomeAnd}
+use Rattle.type_graph.specs.Value.{node_at}
 use Rattle.type_graph.specs.declared.node.Node.{Node}
 use Rattle.type_graph.specs.GraphRules.{held_by}
 use Rattle.type_graph.specs.Walks.{above}
@@ -20,3 +21,7 @@ pub record IsPlainRoutine (graph : List Node) (program : List Routine) (number :
   pub exits_are : routine.exits ≡ replicate 8 255
   pub rank_is : routine.rank ≡ above (rank_at program) (held_by node)
   pub code_is : routine.code ≡ plain_code graph node
+
+-- the node of a number has its routine at the same place
+abbrev pub HasPlainAt : List Node → List Routine → ℕ → Type 0
+HasPlainAt graph program number = IsSomeAnd (slice_get program number) (IsPlainRoutine graph program number (node_at graph number))

@@ -7,6 +7,7 @@ ghost use Rattle.type_graph.specs.Encoding.{Means};
 ghost use Rattle.marshal_program.specs.ProgramRules.{IsProgram};
 ghost use Rattle.marshal_program.specs.Plain.{plain_program};
 ghost use Rattle.program_runner.specs.Refusal.{OnlyIf};
+ghost use Rattle.position_checker.specs.PlainTests.{HasPlainAt};
 ghost use Rattle.position_checker.specs.Table.{IsRight};
 
 use crate::fault::CheckFault;
@@ -34,31 +35,32 @@ impl Model for Accepted {
     ghost invariant = { λ a. IsAccepted (record { graph = a.graph; program = a.program }) };
 }
 
-fn routine_at(routines: &[Routine], number: usize) -> Option<&Routine>
-    ensures some { IfSome result (λ routine. slice_get routines.now number ≡ Some routine.now) }
-    ensures none { IfNone result (slice_get routines.now number ≡ None) }
+#[tactic(auto, using(std::proofs::lemmas::Option::get_or_from_slice_get, crate::proofs::PlainList::few_instrs))]
+fn check_routine_at(graph: &Graph, routines: &[Routine], number: u32) -> Result<(), CheckFault>
+    requires program { IsProgram routines.now }
+    requires node { number < length graph.now }
+    ensures ok { OnOk result (HasPlainAt graph.now routines.now number) }
+    ensures err { OnErr result (HasPlainAt graph.now routines.now number → ⊥) }
 {
-    routines.get(number)
+    match routines.get(number as usize) {
+        None => Err(CheckFault::WrongWork {
+            routine: number,
+            instr: 0,
+        }),
+        Some(routine) => check_routine(graph, routines, number, graph.node(number), routine),
+    }
 }
 
 fn check_routines(graph: &Graph, routines: &[Routine]) -> Result<(), CheckFault>
-    requires types { IsGraph graph.now }
-    requires program { IsProgram routines.now }
+    requires { IsProgram routines.now }
+    ensures types { IsGraph graph.now }
     ensures ok { OnOk result (routines.now ≡ plain_program graph.now) }
     ensures err { OnErr result (routines.now ≢ plain_program graph.now) }
 {
-    for (number, node) in graph.nodes().iter().enumerate() {
-        match routine_at(routines, number) {
-            None => {
-                return Err(CheckFault::WrongWork {
-                    routine: number as u32,
-                    instr: 0,
-                });
-            }
-            Some(routine) => check_routine(graph, routines, number as u32, node, routine)?,
-        }
-    }
     let count = graph.nodes().len();
+    for number in 0..count {
+        check_routine_at(graph, routines, number as u32)?;
+    }
     if routines.len() != count {
         return Err(CheckFault::WrongWork {
             routine: count as u32,

@@ -94,17 +94,39 @@ fn is_times(instr: &Instr, count: u32, of: u32) -> bool
     }
 }
 
+fn is_same_disc(disc: Disc, other: Disc) -> bool
+    ensures { IsTrue result ↔ (disc ≡ other) }
+{
+    disc == other
+}
+
+fn are_same_arms(arms: &[(i128, u32)], others: &[(i128, u32)]) -> bool
+    ensures { IsTrue result ↔ (arms.now ≡ others.now) }
+{
+    arms == others
+}
+
+fn is_same_default(default: Option<u32>, other: Option<u32>) -> bool
+    ensures { IsTrue result ↔ (default ≡ other) }
+{
+    default == other
+}
+
 fn is_switch(instr: &Instr, kind: Disc, of: &Arms, default: Option<u32>) -> bool
     ensures { IsTrue result ↔ (instr.now ≡ instrs.Switch kind of.now default) }
 {
-    match instr {
-        Instr::Switch {
-            disc,
-            arms,
-            otherwise,
-        } => *disc == kind && arms.as_slice() == of.as_slice() && *otherwise == default,
-        _ => false,
-    }
+    let Instr::Switch {
+        disc,
+        arms,
+        otherwise,
+    } = instr
+    else {
+        return false;
+    };
+    let is_disc = is_same_disc(*disc, kind);
+    let are_arms = are_same_arms(arms.as_slice(), of.as_slice());
+    let is_default = is_same_default(*otherwise, default);
+    is_disc && are_arms && is_default
 }
 
 /// A node as the discriminator of a switch.
