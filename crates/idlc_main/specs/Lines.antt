@@ -24,12 +24,27 @@ pub record PrintsTape (graph : List Node) (order : Order) (node pos : ℕ) (octe
   pub line_is : line ≡ decimal taken ++ 32 ∷ encode_lower tape ++ 10 ∷ []
   pub means : Means graph (reading order) 64 node pos tape (take taken octets)
 
+-- no octets are the CDR octets of a value with that tape
+abbrev pub HasNoOctets : List Node → Order → ℕ → ℕ → List ℕ → Type 0
+HasNoOctets graph order node pos tape =
+    (octets : List ℕ) → Means graph (writing order) 64 node pos tape octets → ⊥
+
+-- no front of the octets encodes a value, whatever its padding
+abbrev pub HasNoTape : List Node → Order → ℕ → ℕ → List ℕ → Type 0
+HasNoTape graph order node pos octets =
+    (tape front rest : List ℕ) → octets ≡ front ++ rest → Means graph (reading order) 64 node pos tape front → ⊥
+
 -- what a command prints of its input, for the structure of the sample
 abbrev pub Prints : Way → Order → ℕ → List ℕ → List ℕ → Type 0
 Prints Encode order pos tape line = PrintsOctets sample_nodes order 3 pos tape line
 Prints Decode order pos octets line = PrintsTape sample_nodes order 3 pos octets line
 
--- the same of input that is written in hexadecimal
+-- there is nothing to print of the input
+abbrev pub HasNoAnswer : Way → Order → ℕ → List ℕ → Type 0
+HasNoAnswer Encode order pos tape = HasNoOctets sample_nodes order 3 pos tape
+HasNoAnswer Decode order pos octets = HasNoTape sample_nodes order 3 pos octets
+
+-- what a command prints, of input that is written in hexadecimal
 pub record Answers (way : Way) (order : Order) (pos : ℕ) (digits line : List ℕ) : Type 0 where
   pub input : List ℕ
   pub digits_are : decode_of digits ≡ Ok input

@@ -6,7 +6,7 @@ ghost use Rattle.std.specs.String.{string_bytes};
 ghost use Rattle.std.specs.Fmt.{decimal};
 ghost use Rattle.hex.specs.Hex.{decode_of, encode_lower};
 ghost use Rattle.idlc_main.specs.Fault.{OnlyIf, IsOfRun, IsTold};
-ghost use Rattle.idlc_main.specs.Lines.{PrintsOctets, PrintsTape, Answers};
+ghost use Rattle.idlc_main.specs.Lines.{PrintsOctets, PrintsTape, Prints, Answers, HasNoOctets, HasNoTape, HasNoAnswer};
 ghost use Rattle.type_graph.specs.Words.{reading, writing};
 ghost use Rattle.type_graph.specs.Encoding.{Means};
 
@@ -78,8 +78,8 @@ fn encode<'a>(
 ) -> Result<String, Fault<'a>>
     requires { node < length table.now.graph }
     ensures ok { IfOk result (λ line. PrintsOctets table.now.graph request.now.order node request.now.pos tape.now (string_bytes line)) }
-    ensures err { IfErr result (λ fault. IsOfRun fault × OnlyIf fault ((octets : List ℕ)
-        → Means table.now.graph (writing request.now.order) 64 node request.now.pos tape.now octets → ⊥)) }
+    ensures err { IfErr result (λ fault. IsOfRun fault × OnlyIf fault
+        (HasNoOctets table.now.graph request.now.order node request.now.pos tape.now)) }
 {
     let octets = table.write(alloc, node, request.order, request.pos, tape)?;
     Ok(octets_line(alloc, octets.as_slice())?)
@@ -94,11 +94,30 @@ fn decode<'a>(
 ) -> Result<String, Fault<'a>>
     requires { node < length table.now.graph }
     ensures ok { IfOk result (λ line. PrintsTape table.now.graph request.now.order node request.now.pos octets.now (string_bytes line)) }
-    ensures err { IfErr result (λ fault. IsOfRun fault × OnlyIf fault ((tape front rest : List ℕ) → octets.now ≡ front ++ rest
-        → Means table.now.graph (reading request.now.order) 64 node request.now.pos tape front → ⊥)) }
+    ensures err { IfErr result (λ fault. IsOfRun fault × OnlyIf fault
+        (HasNoTape table.now.graph request.now.order node request.now.pos octets.now)) }
 {
     let (tape, taken) = table.read(alloc, node, request.order, request.pos, octets)?;
     Ok(reading_line(alloc, taken, tape.as_slice())?)
+}
+
+/// The answer for the structure of the sample table, where the digits are already read.
+fn answer<'a>(
+    alloc: Global,
+    sample: &Sample,
+    node: u32,
+    request: &Request<'a>,
+    input: &[u8],
+) -> Result<String, Fault<'a>>
+    requires { node ≡ 3 }
+    ensures ok { IfOk result (λ line. Prints request.now.way request.now.order request.now.pos input.now (string_bytes line)) }
+    ensures err { IfErr result (λ fault. IsOfRun fault × OnlyIf fault
+        (HasNoAnswer request.now.way request.now.order request.now.pos input.now)) }
+{
+    match request.way {
+        Way::Encode => encode(alloc, &sample.table, node, request, input),
+        Way::Decode => decode(alloc, &sample.table, node, request, input),
+    }
 }
 
 /// The line that answers a request: the octets of a tape, or how many octets were taken and the
@@ -116,7 +135,9 @@ pub fn marshal<'a>(alloc: Global, request: &Request<'a>) -> Result<String, Fault
         → IsErr (decode_of request.now.hex.now)
         → IsErrAnd result (λ fault. OnlyIf fault (fault ≡ Fault.BadHex)) }
     ensures run { request.now.table.now ≡ codes "builtin" → request.now.name.now ≡ codes "S"
-        → IsOk (decode_of request.now.hex.now) → IfErr result IsOfRun }
+        → (input : List ℕ) → decode_of request.now.hex.now ≡ Ok input
+        → IfErr result (λ fault. IsOfRun fault × OnlyIf fault
+        (HasNoAnswer request.now.way request.now.order request.now.pos input)) }
     ensures answers { IfOk result (λ line. Answers request.now.way request.now.order request.now.pos request.now.hex.now (string_bytes line)) }
     ensures told { IfErr result IsTold }
 {
@@ -130,8 +151,5 @@ pub fn marshal<'a>(alloc: Global, request: &Request<'a>) -> Result<String, Fault
         return Err(Fault::NoType { name: request.name });
     };
     let input = octets_of(alloc, request.hex)?;
-    match request.way {
-        Way::Encode => encode(alloc, &sample.table, node, request, input.as_slice()),
-        Way::Decode => decode(alloc, &sample.table, node, request, input.as_slice()),
-    }
+    answer(alloc, &sample, node, request, input.as_slice())
 }
