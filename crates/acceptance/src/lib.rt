@@ -6,6 +6,8 @@ mod graphs;
 #[cfg(test)]
 mod kinds;
 #[cfg(test)]
+mod models;
+#[cfg(test)]
 mod programs;
 #[cfg(test)]
 mod runs;

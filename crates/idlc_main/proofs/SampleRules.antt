@@ -22,7 +22,6 @@ each_shallow (suc (suc (suc (suc n)))) within = absurd (omega arith)
 
 members_rules : AreMembers sample_nodes (0 ∷ 1 ∷ 2 ∷ [])
 members_rules = record {
-  some = omega arith;
   limited = omega arith;
   parts = All-from_recursion (IsPart sample_nodes) (0 ∷ 1 ∷ 2 ∷ []) (tt, (tt, (tt, tt)));
 }
@@ -30,7 +29,7 @@ members_rules = record {
 pub sample_is_graph : IsGraph sample_nodes
 sample_is_graph = record {
   limited = omega arith;
-  nodes = All-from_recursion (IsNode sample_nodes) sample_nodes (tt, (tt, (tt, (members_rules, tt))));
+  nodes = All-from_recursion (IsNode sample_nodes) sample_nodes (tt, (tt, (omega arith, ((omega arith, members_rules), tt))));
   members = omega arith;
   shallow = each_shallow;
 }

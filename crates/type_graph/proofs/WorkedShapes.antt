@@ -1,5 +1,5 @@
 -- Nodes worked out by hand: their leads, of which words they are made, and the tapes of their zeros.
-use Rattle.std.proofs.Common.{◌≡◌, ℕ, pos, ℤ, true, false, List, [], ◌∷◌, None, Some, refl, sym, ◌∙◌, arith}
+use Rattle.std.proofs.Common.{◌≡◌, ℕ, pos, true, false, List, [], ◌∷◌, None, Some, refl, sym, ◌∙◌, arith}
 use Rattle.type_graph.specs.declared.width.Width.{Width}
 use Rattle.type_graph.specs.declared.width.Width.TheVariants.{One, Two, Four, Eight}
 use Rattle.type_graph.specs.declared.node.Node.{Node}

@@ -49,7 +49,8 @@ pub enum GraphFault {
     /// A oneway operation that answers something.
     #[error("36 BadOneway line {line}")]
     BadOneway { line: u32 },
-    /// A number out of range, an empty structure or enumeration, a frame that is referred to.
+    /// A number out of range, an empty structure or enumeration, a frame that is referred to, a
+    /// broken rule of a model.
     #[error("37 BadNode")]
     BadNode,
     #[error("no memory")]

@@ -21,21 +21,11 @@ enum Leading {
     As(u32),
 }
 
-fn width_of(node: &Node) -> Width
-    ensures { result ≡ number_width node.now }
-{
-    match node {
-        Node::Whole { width, .. } => *width,
-        Node::Enum { .. } => Width::Four,
-        _ => Width::One,
-    }
-}
-
 fn width_at(nodes: &[Node], number: u32) -> Width
     ensures { result ≡ number_width (node_at nodes.now number) }
 {
     match nodes.get(number as usize) {
-        Some(node) => width_of(node),
+        Some(node) => node.number_width(),
         None => Width::One,
     }
 }
@@ -59,7 +49,7 @@ fn lead_step(nodes: &[Node], node: &Node) -> Leading
             members.as_slice(),
         ),
         Node::Union { switch, .. } => Leading::By(width_at(nodes, *switch)),
-        _ => Leading::By(width_of(node)),
+        _ => Leading::By(node.number_width()),
     }
 }
 
@@ -276,7 +266,7 @@ fn shape_of(nodes: &[Node], table: &[Shape], node: &Node) -> Shape
             let arm = arm_of_zero(arms.as_slice(), *default);
             leaf(node, size_of_union(width_at(nodes, *switch), table, arm))
         }
-        _ => leaf(node, Some(size_of_width(width_of(node)))),
+        _ => leaf(node, Some(size_of_width(node.number_width()))),
     }
 }
 

@@ -1,0 +1,13 @@
+//! What an IDL specification declares: its types with their names, interfaces, operations and
+//! exceptions.
+#![tactic(auto)]
+
+mod items;
+mod model;
+mod names;
+mod signatures;
+
+pub use items::Items;
+pub use model::Model;
+pub use names::{Name, NameTable};
+pub use signatures::{Exception, Interface, Operation};

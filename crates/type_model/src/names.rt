@@ -1,0 +1,165 @@
+//! Names, and the table that looks them up.
+
+ghost use Rattle.std.specs.Prelude.{◌≡◌, ◌≢◌, ◌<◌, ◌≤◌, ◌↔◌, ℕ, List, All, Contains, length, slice_get, slice_index_or, map, IfSome, IfNone, IfOk, IfErr, OnOk, IsTrue, Some, true, false};
+ghost use Rattle.std.specs.String.{string_bytes};
+ghost use Rattle.indexmap.specs.IndexMap.{values};
+ghost use Rattle.type_model.specs.Names.{AreDistinct, AreNames, AreMarks, IsNamed, pairs_of};
+ghost use Rattle.type_graph.specs.Refusal.{OnlyIf};
+
+use crate::items::Items;
+use indexmap::IndexMap;
+use std::alloc::Global;
+use std::marker::Model;
+use type_graph::GraphFault;
+
+/// A name or a repository id. A contract sees its octets.
+#[derive(Debug, Drop)]
+pub struct Name {
+    text: String,
+}
+
+impl Model for Name {
+    ghost use Rattle.std.specs.Prelude.{ℕ, List};
+    ghost use Rattle.std.specs.String.{string_bytes};
+
+    ghost Value = { List ℕ };
+
+    ghost view = { λ n. string_bytes n.text };
+}
+
+impl Name {
+    /// The name of this text. Takes no memory.
+    pub fn new(text: String) -> Self
+        ensures { result ≡ string_bytes text }
+    {
+        Name { text }
+    }
+
+    pub fn as_str(&self) -> &str
+        ensures { result.now ≡ self.now }
+    {
+        self.text.as_str()
+    }
+
+    /// Gives the text back. Takes no memory.
+    pub fn into_string(self) -> String
+        ensures { string_bytes result ≡ self }
+    {
+        self.text
+    }
+}
+
+/// Names that differ, looked up by their text and told from their nodes. A contract sees the names
+/// in order of declaration.
+#[derive(Debug, Drop)]
+pub struct NameTable {
+    nodes: IndexMap<String, u32>,
+    /// True at the number of each node that has a name.
+    marks: Vec<bool>,
+}
+
+impl Model for NameTable {
+    ghost use Rattle.std.specs.Prelude.{ℕ, List};
+    ghost use Rattle.type_model.specs.Names.{IsTable, pairs_of};
+
+    ghost Value = { List (List ℕ × ℕ) };
+
+    ghost view = { λ t. pairs_of t.nodes.entries };
+
+    ghost invariant = { λ t. IsTable (pairs_of t.nodes.entries) t.marks.items };
+}
+
+/// The map from names to nodes, in the order of the list.
+fn map_of(alloc: Global, names: Items<(Name, u32)>) -> Result<IndexMap<String, u32>, GraphFault>
+    ensures kept { IfOk result (λ nodes. pairs_of nodes.entries ≡ names) }
+    ensures distinct { OnOk result (AreDistinct names) }
+    ensures refused { IfErr result (λ fault. OnlyIf fault (AreDistinct names → ⊥)) }
+{
+    let mut nodes = IndexMap::new(alloc);
+    for (name, node) in names.into_vec() {
+        if nodes.insert(name.into_string(), node)?.is_some() {
+            return Err(GraphFault::BadNode);
+        }
+    }
+    Ok(nodes)
+}
+
+/// True at each number below the count that a name has.
+fn marks_of(
+    alloc: Global,
+    nodes: &IndexMap<String, u32>,
+    count: usize,
+) -> Result<Vec<bool>, GraphFault>
+    ensures marks { IfOk result (λ marks. AreMarks (values nodes.now) marks.items) }
+    ensures within { OnOk result (All (λ number. number < count) (values nodes.now)) }
+    ensures refused { IfErr result (λ fault. OnlyIf fault (All (λ number. number < count) (values nodes.now) → ⊥)) }
+{
+    let mut marks = vec![in alloc; false; count]?;
+    for place in 0..nodes.len() {
+        let node = nodes[place] as usize;
+        if node >= count {
+            return Err(GraphFault::BadNode);
+        }
+        marks[node] = true;
+    }
+    Ok(marks)
+}
+
+impl NameTable {
+    /// The table of these names, of nodes below the count.
+    ///
+    /// # Errors
+    /// A name that stands twice or a node out of range is `BadNode`; or want of memory.
+    pub fn new(
+        alloc: Global,
+        names: Items<(Name, u32)>,
+        count: usize,
+    ) -> Result<NameTable, GraphFault>
+        ensures kept { IfOk result (λ table. table ≡ names) }
+        ensures rules { OnOk result (AreNames count names) }
+        ensures refused { IfErr result (λ fault. OnlyIf fault (AreNames count names → ⊥)) }
+    {
+        let nodes = map_of(alloc, names)?;
+        let marks = marks_of(alloc, &nodes, count)?;
+        Ok(NameTable { nodes, marks })
+    }
+
+    /// How many names there are.
+    pub fn len(&self) -> usize
+        ensures value { result ≡ length self.now }
+        ensures distinct { AreDistinct self.now }
+    {
+        self.nodes.len()
+    }
+
+    pub fn is_empty(&self) -> bool
+        ensures { IsTrue result ↔ (length self.now ≡ 0) }
+    {
+        self.nodes.is_empty()
+    }
+
+    /// The name at a place in the order of declaration, and its node.
+    pub fn pair(&self, place: usize) -> (&str, u32)
+        requires { place < length self.now }
+        ensures value { slice_get self.now place ≡ Some (result.0.now, result.1) }
+        ensures distinct { AreDistinct self.now }
+    {
+        let (name, node) = self.nodes.get_index(place).unwrap();
+        (name.as_str(), *node)
+    }
+
+    /// The node of a name.
+    pub fn node_of(&self, name: &str) -> Option<u32>
+        ensures found { (node : ℕ) → (result ≡ Some node) ↔ Contains self.now (name.now, node) }
+        ensures missing { IfNone result (All (λ pair. pair.0 ≢ name.now) self.now) }
+    {
+        self.nodes.get(name).copied()
+    }
+
+    /// Whether some name has this node.
+    pub fn is_named(&self, node: u32) -> bool
+        ensures { IsTrue result ↔ IsNamed self.now node }
+    {
+        self.marks.get(node as usize).copied().unwrap_or(false)
+    }
+}
