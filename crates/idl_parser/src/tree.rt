@@ -1,0 +1,6 @@
+//! The tree of an IDL specification.
+
+pub mod definitions;
+pub mod expression;
+pub mod names;
+pub mod types;
