@@ -1,11 +1,12 @@
 -- How the pieces of tokens are read one after another.
 use Rattle.std.proofs.Common.{◌≡◌, ℕ, zero, suc, ◌+◌, ◌<◌, ◌≤◌, List, [], ◌∷◌, ◌++◌, Option, Some, length, take, get_or, refl, sym, ap, ◌∙◌, arith, length-append, add-one}
-use Rattle.std.proofs.lemmas.List.{append_assoc}
-use Rattle.std.proofs.Math.Seq.{take-suc}
+use Rattle.std.proofs.lemmas.List.{append_assoc, append-nil}
+use Rattle.std.proofs.Math.Seq.{take-length}
 use Rattle.idl_lexer.specs.declared.token.Kind.{Kind}
 use Rattle.idl_lexer.specs.declared.token.Kind.TheVariants.{Ident, Keyword, Punct, Number, CharLit, TextLit, Pragma}
 use Rattle.idl_lexer.specs.declared.token.Token.{Token}
-use Rattle.idl_parser.specs.Pieces.{Piece, Parsed, piece, pieces, pieces_from, kept_number}
+use Rattle.idl_parser.specs.Reading.{Parsed, Continued}
+use Rattle.idl_tree.specs.Pieces.{Piece, piece, pieces, pieces_from, kept_number}
 
 pub append_left : {A : Type 0} (a b c : List A) → a ++ (b ++ c) ≡ a ++ b ++ c
 append_left a b c = sym (append_assoc a b c)
@@ -40,3 +41,20 @@ read_one tokens at t kind text lt is k x = record {
   on = omega arith;
   within = omega arith;
 }
+
+pub append_none : {A : Type 0} (a : List A) → a ++ [] ≡ a
+append_none a = append-nil a
+
+length_pieces : (n : ℕ) (tokens : List Token) → length (pieces_from n tokens) ≡ length tokens
+unfolding piece
+length_pieces n [] = refl
+length_pieces n (t ∷ ts) = ap suc (length_pieces (n + 1) ts)
+
+-- what is read up to the last token is all
+pub all_read : (tokens : List Token) (spelled : List Piece) (next : ℕ)
+    → Continued tokens 0 spelled next → length tokens ≤ next → spelled ≡ pieces tokens
+unfolding pieces
+all_read tokens spelled next read le =
+    let all : next ≡ length (pieces_from 0 tokens) =
+    omega (arith, read.within (omega arith), length_pieces 0 tokens) in
+    read.spells ∙ ap (λ n. take n (pieces_from 0 tokens)) all ∙ take-length (pieces_from 0 tokens)

@@ -1,5 +1,2 @@
--- The tokens that the tree of an IDL specification spells.
-pub mod Pieces
-pub mod Yields
-pub mod TypeYields
-pub mod DefinitionYields
+-- From where to where a part of a tree is read.
+pub mod Reading

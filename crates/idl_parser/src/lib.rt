@@ -1,8 +1,13 @@
-//! The tree of an IDL specification (ISO/IEC 19500-1, IDL grammar).
+//! Reads the tree of an IDL specification from its tokens (ISO/IEC 19500-1, IDL grammar).
 #![tactic(auto)]
 
 pub mod fault;
+mod parser;
 mod read;
-pub mod tree;
 
 pub use fault::ParseFault;
+pub use idl_tree as tree;
+pub use parser::parse;
+
+#[cfg(test)]
+mod tests;

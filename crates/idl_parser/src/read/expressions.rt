@@ -4,15 +4,18 @@
 ghost use Rattle.std.specs.Prelude.{◌≡◌, ◌+◌, ◌++◌, ◌≤◌, IfOk, IfSome, List, take, length, codes};
 ghost use Rattle.std.specs.List.{flat_map};
 ghost use Rattle.idl_lexer.specs.declared.token.Kind.TheVariants.{TextLit};
-ghost use Rattle.idl_parser.specs.Pieces.{Parsed, Piece, pieces, mark, leaf};
-ghost use Rattle.idl_parser.specs.Yields.{operator_yield, operator_text, sign_yield, expr_yield, operand_yield, texts_yield};
+ghost use Rattle.idl_parser.specs.Reading.{Parsed};
+ghost use Rattle.idl_tree.specs.Pieces.{Piece, pieces, mark, leaf};
+ghost use Rattle.idl_tree.specs.Yields.{operator_yield, sign_yield, expr_yield, operand_yield, texts_yield};
 
 use crate::fault::ParseFault;
 use crate::read::names::read_scoped_name;
-use crate::read::tokens::{inside, is_keyword, is_kind, is_mark, line_at, read_keyword, read_leaf, read_mark};
-use crate::tree::expression::{Expr, Operand, Operator, Sign};
-use crate::tree::names::Leaf;
+use crate::read::tokens::{
+    Read, inside, is_keyword, is_kind, is_mark, line_at, read_keyword, read_leaf, read_mark,
+};
 use idl_lexer::{Kind, Token};
+use idl_tree::expression::{Expr, Operand, Operator, Sign};
+use idl_tree::names::Leaf;
 use std::alloc::Global;
 
 /// The operators of each level, the loosest first.
@@ -34,26 +37,6 @@ const BOUND_LEVELS: [&[Operator]; 6] = [
     &[Operator::Add, Operator::Subtract],
     &[Operator::Multiply, Operator::Divide, Operator::Remainder],
 ];
-
-impl Operator {
-    /// The mark of the operator; the right shift has it twice.
-    fn text(self) -> &'static str
-        ensures { result.now ≡ operator_text self }
-    {
-        match self {
-            Operator::Or => "|",
-            Operator::Xor => "^",
-            Operator::And => "&",
-            Operator::ShiftLeft => "<<",
-            Operator::ShiftRight => ">",
-            Operator::Add => "+",
-            Operator::Subtract => "-",
-            Operator::Multiply => "*",
-            Operator::Divide => "/",
-            Operator::Remainder => "%",
-        }
-    }
-}
 
 /// Whether two `>` that touch stand at a place.
 fn is_right_shift(tokens: &[Token<'_>], at: usize) -> bool {
@@ -92,57 +75,8 @@ fn read_operator(tokens: &[Token<'_>], at: usize, wanted: Operator) -> Result<us
     }
 }
 
-/// The first operand and the others behind it, or the first alone.
-fn chained<'a>(
-    alloc: Global,
-    first: Expr<'a>,
-    rest: Vec<Operand<'a>>,
-) -> Result<Expr<'a>, ParseFault>
-    ensures { IfOk result (λ e. expr_yield e ≡ expr_yield first.entry ++ flat_map operand_yield rest.entry.items) }
-{
-    if rest.is_empty() {
-        return Ok(first);
-    }
-    Ok(Expr::Chain {
-        first: Box::new(alloc, first)?,
-        rest,
-    })
-}
-
-fn signed<'a>(
-    alloc: Global,
-    line: usize,
-    sign: Sign,
-    operand: Expr<'a>,
-) -> Result<Expr<'a>, ParseFault>
-    ensures { IfOk result (λ e. expr_yield e ≡ sign_yield sign ++ expr_yield operand.entry) }
-{
-    Ok(Expr::Signed {
-        line,
-        sign,
-        operand: Box::new(alloc, operand)?,
-    })
-}
-
-fn parenthesized<'a>(
-    alloc: Global,
-    line: usize,
-    inner: Expr<'a>,
-) -> Result<Expr<'a>, ParseFault>
-    ensures { IfOk result (λ e. expr_yield e ≡ mark (codes "(") ++ expr_yield inner.entry ++ mark (codes ")")) }
-{
-    Ok(Expr::Parenthesized {
-        line,
-        inner: Box::new(alloc, inner)?,
-    })
-}
-
 /// Text literals, one or more.
-fn read_texts<'a>(
-    alloc: Global,
-    tokens: &[Token<'a>],
-    at: usize,
-) -> Result<(Vec<Leaf<'a>>, usize), ParseFault>
+fn read_texts<'a>(alloc: Global, tokens: &[Token<'a>], at: usize) -> Read<Vec<Leaf<'a>>>
     ensures { IfOk result (λ r. Parsed tokens.now at (texts_yield r.0.items) r.1) }
 {
     let (first, mut next) = read_leaf(tokens, at, Kind::TextLit)?;
@@ -155,7 +89,7 @@ fn read_texts<'a>(
     Ok((texts, next))
 }
 
-fn read_boolean<'a>(tokens: &[Token<'a>], at: usize) -> Result<(Expr<'a>, usize), ParseFault>
+fn read_boolean<'a>(tokens: &[Token<'a>], at: usize) -> Read<Expr<'a>>
     ensures { IfOk result (λ r. Parsed tokens.now at (expr_yield r.0) r.1) }
 {
     let value = is_keyword(tokens, at, "TRUE");
@@ -169,11 +103,7 @@ fn read_boolean<'a>(tokens: &[Token<'a>], at: usize) -> Result<(Expr<'a>, usize)
 }
 
 /// A name or a literal.
-fn read_atom<'a>(
-    alloc: Global,
-    tokens: &[Token<'a>],
-    at: usize,
-) -> Result<(Expr<'a>, usize), ParseFault>
+fn read_atom<'a>(alloc: Global, tokens: &[Token<'a>], at: usize) -> Read<Expr<'a>>
     ensures { IfOk result (λ r. Parsed tokens.now at (expr_yield r.0) r.1) }
 {
     if is_kind(tokens, at, Kind::Number) {
@@ -193,7 +123,7 @@ fn read_atom<'a>(
     }
 }
 
-fn read_sign(tokens: &[Token<'_>], at: usize) -> Result<(Sign, usize), ParseFault>
+fn read_sign(tokens: &[Token<'_>], at: usize) -> Read<Sign>
     ensures { IfOk result (λ r. Parsed tokens.now at (sign_yield r.0) r.1) }
 {
     if is_mark(tokens, at, "-") {
@@ -204,12 +134,7 @@ fn read_sign(tokens: &[Token<'_>], at: usize) -> Result<(Sign, usize), ParseFaul
 }
 
 #[cycle(expressions)]
-fn read_primary<'a>(
-    alloc: Global,
-    tokens: &[Token<'a>],
-    at: usize,
-    depth: usize,
-) -> Result<(Expr<'a>, usize), ParseFault>
+fn read_primary<'a>(alloc: Global, tokens: &[Token<'a>], at: usize, depth: usize) -> Read<Expr<'a>>
     ensures { IfOk result (λ r. Parsed tokens.now at (expr_yield r.0) r.1) }
 {
     if !is_mark(tokens, at, "(") {
@@ -220,16 +145,11 @@ fn read_primary<'a>(
     let start = read_mark(tokens, at, "(")?;
     let (inner, end) = read_level(alloc, tokens, start, &LEVELS, left)?;
     let next = read_mark(tokens, end, ")")?;
-    Ok((parenthesized(alloc, line, inner)?, next))
+    Ok((Expr::new_parenthesized(alloc, line, inner)?, next))
 }
 
 #[cycle(expressions)]
-fn read_unary<'a>(
-    alloc: Global,
-    tokens: &[Token<'a>],
-    at: usize,
-    depth: usize,
-) -> Result<(Expr<'a>, usize), ParseFault>
+fn read_unary<'a>(alloc: Global, tokens: &[Token<'a>], at: usize, depth: usize) -> Read<Expr<'a>>
     ensures { IfOk result (λ r. Parsed tokens.now at (expr_yield r.0) r.1) }
 {
     if !is_mark(tokens, at, "-") && !is_mark(tokens, at, "+") {
@@ -238,7 +158,7 @@ fn read_unary<'a>(
     let line = line_at(tokens, at);
     let (sign, start) = read_sign(tokens, at)?;
     let (operand, next) = read_primary(alloc, tokens, start, depth)?;
-    Ok((signed(alloc, line, sign, operand)?, next))
+    Ok((Expr::new_signed(alloc, line, sign, operand)?, next))
 }
 
 /// Reads operands of the tighter levels, with operators of the first level between them.
@@ -249,7 +169,7 @@ fn read_level<'a>(
     at: usize,
     levels: &[&[Operator]],
     depth: usize,
-) -> Result<(Expr<'a>, usize), ParseFault>
+) -> Read<Expr<'a>>
     ensures { IfOk result (λ r. Parsed tokens.now at (expr_yield r.0) r.1) }
 {
     let Some((level, tighter)) = levels.split_first() else {
@@ -263,7 +183,7 @@ fn read_level<'a>(
         rest.push(Operand { operator, operand })?;
         next = end;
     }
-    Ok((chained(alloc, first, rest)?, next))
+    Ok((Expr::new_chain(alloc, first, rest)?, next))
 }
 
 /// Reads a constant expression, with room for as many levels of parentheses as are left.
@@ -272,7 +192,7 @@ pub(crate) fn read_expr<'a>(
     tokens: &[Token<'a>],
     at: usize,
     depth: usize,
-) -> Result<(Expr<'a>, usize), ParseFault>
+) -> Read<Expr<'a>>
     ensures { IfOk result (λ r. Parsed tokens.now at (expr_yield r.0) r.1) }
 {
     read_level(alloc, tokens, at, &LEVELS, depth)
@@ -284,7 +204,7 @@ pub(crate) fn read_bound<'a>(
     tokens: &[Token<'a>],
     at: usize,
     depth: usize,
-) -> Result<(Expr<'a>, usize), ParseFault>
+) -> Read<Expr<'a>>
     ensures { IfOk result (λ r. Parsed tokens.now at (expr_yield r.0) r.1) }
 {
     read_level(alloc, tokens, at, &BOUND_LEVELS, depth)

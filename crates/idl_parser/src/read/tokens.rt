@@ -3,14 +3,18 @@
 
 ghost use Rattle.std.specs.Prelude.{◌≡◌, ◌+◌, IfOk, IsTrue};
 ghost use Rattle.std.specs.Bool.{OnTrue};
-ghost use Rattle.idl_parser.specs.Pieces.{Parsed, piece, keyword, mark, leaf};
+ghost use Rattle.idl_parser.specs.Reading.{Parsed};
+ghost use Rattle.idl_tree.specs.Pieces.{piece, keyword, mark, leaf};
 
 use crate::fault::ParseFault;
-use crate::tree::names::Leaf;
 use idl_lexer::{Kind, Token};
+use idl_tree::names::Leaf;
+
+/// What is read, and the place behind it.
+pub(crate) type Read<T> = Result<(T, usize), ParseFault>;
 
 /// The keywords of what isn't served.
-const LEFT_OUT: [&str; 31] = [
+const LEFT_OUT: [&str; 32] = [
     "abstract",
     "any",
     "component",
@@ -42,6 +46,7 @@ const LEFT_OUT: [&str; 31] = [
     "ValueBase",
     "valuetype",
     "wchar",
+    "wstring",
 ];
 
 fn left_out(token: &Token<'_>) -> Option<&'static str> {
@@ -118,11 +123,7 @@ pub(crate) fn read_mark(tokens: &[Token<'_>], at: usize, text: &str) -> Result<u
 }
 
 /// Reads a token of a kind.
-pub(crate) fn read_leaf<'a>(
-    tokens: &[Token<'a>],
-    at: usize,
-    kind: Kind,
-) -> Result<(Leaf<'a>, usize), ParseFault>
+pub(crate) fn read_leaf<'a>(tokens: &[Token<'a>], at: usize, kind: Kind) -> Read<Leaf<'a>>
     ensures read { IfOk result (λ r. Parsed tokens.now at (leaf kind r.0) r.1) }
     ensures number { IfOk result (λ r. r.0.number ≡ at) }
 {

@@ -1,6 +1,6 @@
 use Rattle.std.proofs.Common.{◌-◌, length}
-use Rattle.idl_parser.specs.Pieces.{Parsed}
-use Rattle.idl_parser.specs.Yields.{texts_yield}
+use Rattle.idl_parser.specs.Reading.{Parsed}
+use Rattle.idl_tree.specs.Yields.{texts_yield}
 use Rattle.idl_parser.proofs.read.expressions.read_texts.Given as goal
 
 abbrev pub invariant-parts : goal.invariant-parts
