@@ -8,6 +8,3 @@ mod read;
 pub use fault::ParseFault;
 pub use idl_tree as tree;
 pub use parser::parse;
-
-#[cfg(test)]
-mod tests;

@@ -40,12 +40,10 @@ const BOUND_LEVELS: [&[Operator]; 6] = [
 
 /// Whether two `>` that touch stand at a place.
 fn is_right_shift(tokens: &[Token<'_>], at: usize) -> bool {
-    match tokens.get(at..) {
-        Some([first, second, ..]) => {
-            first.end == second.start && first.text == ">" && second.text == ">"
-        }
-        _ => false,
-    }
+    let second = at.saturating_add(1);
+    let end = tokens.get(at).map(|token| token.end);
+    let start = tokens.get(second).map(|token| token.start);
+    is_mark(tokens, at, ">") && is_mark(tokens, second, ">") && end == start
 }
 
 fn is_operator(tokens: &[Token<'_>], at: usize, wanted: Operator) -> bool {

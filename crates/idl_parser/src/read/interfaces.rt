@@ -36,15 +36,19 @@ fn read_raises<'a>(
     Ok((Some(names), read_mark(tokens, end, ")")?))
 }
 
-/// Reads what an attribute that stands alone raises.
+/// Reads what an attribute raises, which only one that stands alone may do.
 fn read_raised<'a>(
     alloc: Global,
     tokens: &[Token<'a>],
     at: usize,
     is_readonly: bool,
+    is_alone: bool,
 ) -> Read<Raised<'a>>
     ensures { IfOk result (λ r. Continued tokens.now at (raised_yield r.0) r.1) }
 {
+    if !is_alone {
+        return Ok((Raised::Nothing, at));
+    }
     if is_readonly {
         let (raises, next) = read_raises(alloc, tokens, at, "raises")?;
         let raised = match raises {
@@ -81,11 +85,8 @@ fn read_attribute<'a>(
     let start = read_keyword(tokens, word, "attribute")?;
     let (attribute_type, behind) = read_param_type(alloc, tokens, start, depth)?;
     let (identifiers, end) = read_identifiers(alloc, tokens, behind)?;
-    let (raised, next) = if identifiers.rest.is_empty() {
-        read_raised(alloc, tokens, end, is_readonly)?
-    } else {
-        (Raised::Nothing, end)
-    };
+    let is_alone = identifiers.rest.is_empty();
+    let (raised, next) = read_raised(alloc, tokens, end, is_readonly, is_alone)?;
     let attribute = Attribute {
         is_readonly,
         attribute_type,

@@ -1,8 +1,7 @@
-//! What no contract says: which fault a source gets, its line, and that good sources are taken.
+//! What no contract of the parser says: which fault a source gets, its line, and that good sources are taken.
 
-use crate::fault::ParseFault;
-use crate::parser::parse;
 use idl_lexer::lex;
+use idl_parser::{ParseFault, parse};
 use idl_tree::definitions::{Const, Declaration, Definition};
 use idl_tree::expression::Expr;
 use idl_tree::types::ConstType;
@@ -122,21 +121,9 @@ const BAD: [(&str, u32, usize); 60] = [
     ("interface I { attribute sequence<long> a; };", 10, 1),
     ("interface I { attribute long a, b getraises (E); };", 10, 1),
     ("interface I { attribute long a raises (E); };", 10, 1),
-    (
-        "interface I { attribute long a setraises (E) getraises (F); };",
-        10,
-        1,
-    ),
-    (
-        "interface I { readonly attribute long a, b raises (E); };",
-        10,
-        1,
-    ),
-    (
-        "interface I { readonly attribute long a getraises (E); };",
-        10,
-        1,
-    ),
+    ("interface I { attribute long a setraises (E) getraises (F); };", 10, 1),
+    ("interface I { readonly attribute long a, b raises (E); };", 10, 1),
+    ("interface I { readonly attribute long a getraises (E); };", 10, 1),
     ("interface I { readonly long a; };", 10, 1),
     ("interface I { void f(long a); };", 10, 1),
     ("interface I { void f(in long a,); };", 10, 1),
@@ -237,61 +224,13 @@ const DEEP: [([&str; 5], usize, u32); 18] = [
     (["typedef ", "sequence<", "long, (1)", ">", " T;"], 64, 13),
     (["", "module M {", "", "};", ""], 64, 0),
     (["", "module M {", "", "};", ""], 65, 13),
-    (
-        [
-            "",
-            "module M {",
-            "interface I { exception E { long a; }; };",
-            "};",
-            "",
-        ],
-        64,
-        0,
-    ),
-    (
-        ["", "module M {", "interface I { enum E { A }; };", "};", ""],
-        64,
-        13,
-    ),
-    (
-        [
-            "",
-            "module M {",
-            "union U switch (enum E { A }) { case A: long a; };",
-            "};",
-            "",
-        ],
-        62,
-        0,
-    ),
-    (
-        [
-            "",
-            "module M {",
-            "union U switch (enum E { A }) { case A: long a; };",
-            "};",
-            "",
-        ],
-        63,
-        13,
-    ),
+    (["", "module M {", "interface I { exception E { long a; }; };", "};", ""], 64, 0),
+    (["", "module M {", "interface I { enum E { A }; };", "};", ""], 64, 13),
+    (["", "module M {", "union U switch (enum E { A }) { case A: long a; };", "};", ""], 62, 0),
+    (["", "module M {", "union U switch (enum E { A }) { case A: long a; };", "};", ""], 63, 13),
     (["typedef ", "struct S { ", "long a; ", "} s; ", ""], 65, 13),
-    (
-        ["module M { typedef ", "sequence<", "struct", ">", " T; };"],
-        62,
-        10,
-    ),
-    (
-        [
-            "module M { struct S { ",
-            "sequence<",
-            "long",
-            ">",
-            " t; }; };",
-        ],
-        63,
-        13,
-    ),
+    (["module M { typedef ", "sequence<", "struct", ">", " T; };"], 62, 10),
+    (["module M { struct S { ", "sequence<", "long", ">", " t; }; };"], 63, 13),
 ];
 
 #[test]
@@ -310,15 +249,11 @@ fn operands(alloc: Global, source: &str) -> Result<usize, Fail> {
     let spec = parse(alloc, &tokens)?;
     Ok(match spec.definitions.as_slice() {
         [
-            Definition::Declaration(
-                Declaration::Const(
-                    Const {
-                        value: Expr::Chain { rest, .. },
-                        ..
-                    },
-                ),
-            ),
-            ..
+            Definition::Declaration(Declaration::Const(Const {
+                value: Expr::Chain { rest, .. },
+                ..
+            })),
+            ..,
         ] => rest.len(),
         _ => 0,
     })
@@ -350,26 +285,16 @@ fn names_keep_their_first_token(rt: HostRuntime) -> Result<(), Fail> {
     let spec = parse(alloc, &tokens)?;
     let found = match spec.definitions.as_slice() {
         [
-            Definition::Declaration(
-                Declaration::Const(
-                    Const {
-                        const_type: ConstType::Name(first),
-                        value: Expr::Name(second),
-                        identifier,
-                    },
-                ),
-            ),
+            Definition::Declaration(Declaration::Const(Const {
+                const_type: ConstType::Name(first),
+                value: Expr::Name(second),
+                identifier,
+            })),
         ] => {
             assert_eq!(rt; first.first_name(), "A");
             assert_eq!(rt; second.first_name(), "C");
             assert_eq!(rt; identifier.name(), "X");
-            [
-                first.number,
-                first.line,
-                second.number,
-                second.line,
-                identifier.number,
-            ]
+            [first.number, first.line, second.number, second.line, identifier.number]
         }
         _ => [0, 0, 0, 0, 0],
     };
@@ -394,8 +319,7 @@ fn faults_have_texts(rt: HostRuntime) -> Result<(), Fail> {
         out.push_str(fault.to_string(alloc)?.as_str())?;
         out.push('|')?;
     }
-    let want =
-        "10 Unexpected line 3|11 EndOfFile line 3|12 LeftOut line 3|13 TooDeep line 3|no memory|";
+    let want = "10 Unexpected line 3|11 EndOfFile line 3|12 LeftOut line 3|13 TooDeep line 3|no memory|";
     assert_eq!(rt; out.as_str(), want);
     Ok(())
 }
