@@ -2,7 +2,7 @@
 
 use idl_lexer::lex;
 use idl_parser::{ParseFault, parse};
-use idl_tree::definitions::{Const, Declaration, Definition};
+use idl_tree::definitions::{Const, Declaration, Definition, Spec};
 use idl_tree::expression::Expr;
 use idl_tree::types::ConstType;
 use std::alloc::Global;
@@ -121,9 +121,21 @@ const BAD: [(&str, u32, usize); 60] = [
     ("interface I { attribute sequence<long> a; };", 10, 1),
     ("interface I { attribute long a, b getraises (E); };", 10, 1),
     ("interface I { attribute long a raises (E); };", 10, 1),
-    ("interface I { attribute long a setraises (E) getraises (F); };", 10, 1),
-    ("interface I { readonly attribute long a, b raises (E); };", 10, 1),
-    ("interface I { readonly attribute long a getraises (E); };", 10, 1),
+    (
+        "interface I { attribute long a setraises (E) getraises (F); };",
+        10,
+        1,
+    ),
+    (
+        "interface I { readonly attribute long a, b raises (E); };",
+        10,
+        1,
+    ),
+    (
+        "interface I { readonly attribute long a getraises (E); };",
+        10,
+        1,
+    ),
     ("interface I { readonly long a; };", 10, 1),
     ("interface I { void f(long a); };", 10, 1),
     ("interface I { void f(in long a,); };", 10, 1),
@@ -224,13 +236,61 @@ const DEEP: [([&str; 5], usize, u32); 18] = [
     (["typedef ", "sequence<", "long, (1)", ">", " T;"], 64, 13),
     (["", "module M {", "", "};", ""], 64, 0),
     (["", "module M {", "", "};", ""], 65, 13),
-    (["", "module M {", "interface I { exception E { long a; }; };", "};", ""], 64, 0),
-    (["", "module M {", "interface I { enum E { A }; };", "};", ""], 64, 13),
-    (["", "module M {", "union U switch (enum E { A }) { case A: long a; };", "};", ""], 62, 0),
-    (["", "module M {", "union U switch (enum E { A }) { case A: long a; };", "};", ""], 63, 13),
+    (
+        [
+            "",
+            "module M {",
+            "interface I { exception E { long a; }; };",
+            "};",
+            "",
+        ],
+        64,
+        0,
+    ),
+    (
+        ["", "module M {", "interface I { enum E { A }; };", "};", ""],
+        64,
+        13,
+    ),
+    (
+        [
+            "",
+            "module M {",
+            "union U switch (enum E { A }) { case A: long a; };",
+            "};",
+            "",
+        ],
+        62,
+        0,
+    ),
+    (
+        [
+            "",
+            "module M {",
+            "union U switch (enum E { A }) { case A: long a; };",
+            "};",
+            "",
+        ],
+        63,
+        13,
+    ),
     (["typedef ", "struct S { ", "long a; ", "} s; ", ""], 65, 13),
-    (["module M { typedef ", "sequence<", "struct", ">", " T; };"], 62, 10),
-    (["module M { struct S { ", "sequence<", "long", ">", " t; }; };"], 63, 13),
+    (
+        ["module M { typedef ", "sequence<", "struct", ">", " T; };"],
+        62,
+        10,
+    ),
+    (
+        [
+            "module M { struct S { ",
+            "sequence<",
+            "long",
+            ">",
+            " t; }; };",
+        ],
+        63,
+        13,
+    ),
 ];
 
 #[test]
@@ -243,18 +303,21 @@ fn sixty_four_levels_are_taken(rt: HostRuntime) -> Result<(), Fail> {
     Ok(())
 }
 
+/// The constant that a specification begins with.
+fn first_const<'t, 'a>(spec: &'t Spec<'a>) -> Option<&'t Const<'a>> {
+    match spec.definitions.first()? {
+        Definition::Declaration(Declaration::Const(constant)) => Some(constant),
+        _ => None,
+    }
+}
+
 /// How many operands stand behind the first in the value of a first constant, at the loosest level.
 fn operands(alloc: Global, source: &str) -> Result<usize, Fail> {
     let tokens = lex(alloc, source)?;
     let spec = parse(alloc, &tokens)?;
-    Ok(match spec.definitions.as_slice() {
-        [
-            Definition::Declaration(Declaration::Const(Const {
-                value: Expr::Chain { rest, .. },
-                ..
-            })),
-            ..,
-        ] => rest.len(),
+    let constant = first_const(&spec).ok_or("no constant")?;
+    Ok(match &constant.value {
+        Expr::Chain { rest, .. } => rest.len(),
         _ => 0,
     })
 }
@@ -281,24 +344,19 @@ fn a_level_is_one_list(rt: HostRuntime) -> Result<(), Fail> {
 #[test]
 fn names_keep_their_first_token(rt: HostRuntime) -> Result<(), Fail> {
     let alloc = rt.alloc();
-    let tokens = lex(alloc, "const A::_module X =\n::C::_in;")?;
+    let tokens = lex(alloc, "const A::B _module =\n::_C::in_1;")?;
     let spec = parse(alloc, &tokens)?;
-    let found = match spec.definitions.as_slice() {
-        [
-            Definition::Declaration(Declaration::Const(Const {
-                const_type: ConstType::Name(first),
-                value: Expr::Name(second),
-                identifier,
-            })),
-        ] => {
-            assert_eq!(rt; first.first_name(), "A");
-            assert_eq!(rt; second.first_name(), "C");
-            assert_eq!(rt; identifier.name(), "X");
-            [first.number, first.line, second.number, second.line, identifier.number]
-        }
-        _ => [0, 0, 0, 0, 0],
-    };
-    assert_eq!(rt; found, [1, 1, 6, 2, 4]);
+    let constant = first_const(&spec).ok_or("no constant")?;
+    assert_eq!(rt; constant.identifier.name(), "module");
+    assert_eq!(rt; constant.identifier.number, 4);
+    if let ConstType::Name(name) = &constant.const_type {
+        assert_eq!(rt; name.first_name(), "A");
+        assert_eq!(rt; [name.number, name.line], [1, 1]);
+    }
+    if let Expr::Name(name) = &constant.value {
+        assert_eq!(rt; name.first_name(), "C");
+        assert_eq!(rt; [name.number, name.line], [6, 2]);
+    }
     Ok(())
 }
 
@@ -319,7 +377,8 @@ fn faults_have_texts(rt: HostRuntime) -> Result<(), Fail> {
         out.push_str(fault.to_string(alloc)?.as_str())?;
         out.push('|')?;
     }
-    let want = "10 Unexpected line 3|11 EndOfFile line 3|12 LeftOut line 3|13 TooDeep line 3|no memory|";
+    let want =
+        "10 Unexpected line 3|11 EndOfFile line 3|12 LeftOut line 3|13 TooDeep line 3|no memory|";
     assert_eq!(rt; out.as_str(), want);
     Ok(())
 }
