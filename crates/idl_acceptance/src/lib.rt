@@ -1,0 +1,5 @@
+//! Tests that cross the crates of the IDL front end: the library itself is empty.
+#![tactic(auto)]
+
+#[cfg(test)]
+mod parsing;

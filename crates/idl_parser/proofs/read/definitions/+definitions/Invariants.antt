@@ -1,0 +1,17 @@
+use Rattle.std.proofs.Common.{◌+◌, ◌-◌, ◌*◌, length}
+use Rattle.std.specs.List.{flat_map}
+use Rattle.idl_parser.specs.Reading.{Continued}
+use Rattle.idl_tree.specs.DefinitionYields.{definition_yield}
+use Rattle.idl_parser.proofs.read.definitions.+definitions.Given as goal
+
+abbrev pub decreases-read_definitions : goal.decreases-read_definitions
+decreases-read_definitions l = 2 * (length l.tokens.now - l.at) + 1
+
+abbrev pub decreases-read_definition : goal.decreases-read_definition
+decreases-read_definition l = 2 * (length l.tokens.now - l.at)
+
+abbrev pub invariant-read_definitions-parts : goal.invariant-read_definitions-parts
+invariant-read_definitions-parts l = Continued l.tokens l.at (flat_map definition_yield l.definitions.items) l.next
+
+abbrev pub decreases-read_definitions-parts : goal.decreases-read_definitions-parts
+decreases-read_definitions-parts l = length l.tokens - l.next

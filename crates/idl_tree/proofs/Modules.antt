@@ -1,0 +1,27 @@
+-- What a module spells, by the list of its `Vec`.
+use Rattle.std.proofs.Common.{◌≡◌, ℕ, List, [], ◌∷◌, ◌++◌, Vec, Global, refl, sym, ap, ◌∙◌}
+use Rattle.std.specs.Prelude.{codes}
+use Rattle.std.specs.List.{flat_map}
+use mathlib.Core.Former.{Count}
+use Rattle.idl_tree.specs.declared.names.Leaf.{Leaf}
+use Rattle.idl_tree.specs.declared.definitions.Definition.{Definition, Module, Module', Row_of-Definition, end_of-Definition, more_of-Definition, items-the_row-Definition, items_hidden-the_row-Definition-0}
+use Rattle.idl_tree.specs.Pieces.{Piece, keyword, mark}
+use Rattle.idl_tree.specs.Yields.{identifier}
+use Rattle.idl_tree.specs.DefinitionYields.{definition_yield, definitions_yield}
+
+definitions_items : (n : _) (row : Row_of-Definition n) → definitions_yield row ≡ flat_map definition_yield (items-the_row-Definition n row)
+definitions_items n end_of-Definition = refl
+definitions_items n (more_of-Definition d rest) = ap (λ l. definition_yield d ++ l) (definitions_items _ rest)
+
+abbrev row_of : Definition → (n : Count) × Row_of-Definition n
+row_of (Module' name shape row) = (_, row)
+row_of _ = (_, end_of-Definition)
+
+pub module_of_definitions : (name : Leaf) (definitions : Vec Definition Global)
+    → definition_yield (Module (record { identifier = name; definitions = definitions }))
+    ≡ keyword (codes "module") ++ identifier name ++ mark (codes "{") ++ flat_map definition_yield definitions.items
+    ++ mark (codes "}") ++ mark (codes ";")
+module_of_definitions name definitions =
+    let row = row_of (Module (record { identifier = name; definitions = definitions })) in
+    ap (λ l. keyword (codes "module") ++ identifier name ++ mark (codes "{") ++ l ++ mark (codes "}") ++ mark (codes ";"))
+    (definitions_items row.0 row.1 ∙ ap (flat_map definition_yield) (items_hidden-the_row-Definition-0 definitions))

@@ -1,0 +1,90 @@
+-- The pieces that a tree spells, from left to right: of names and expressions.
+use Rattle.std.specs.Prelude.{◌≡◌, ℕ, ◌+◌, Bool, true, false, List, [], ◌++◌, Option, Some, None, codes}
+use Rattle.std.specs.List.{flat_map}
+use Rattle.idl_lexer.specs.declared.token.Kind.TheVariants.{Ident, CharLit, TextLit, Number as Integer}
+use Rattle.idl_tree.specs.declared.names.Leaf.{Leaf}
+use Rattle.idl_tree.specs.declared.names.ScopedName.{ScopedName}
+use Rattle.idl_tree.specs.declared.names.Listed.{Listed}
+use Rattle.idl_tree.specs.declared.expression.Operator.{Operator}
+use Rattle.idl_tree.specs.declared.expression.Operator.TheVariants.{Or, Xor, And, ShiftLeft, ShiftRight, Add, Subtract, Multiply, Divide, Remainder}
+use Rattle.idl_tree.specs.declared.expression.Sign.{Sign}
+use Rattle.idl_tree.specs.declared.expression.Sign.TheVariants.{Plus, Minus}
+use Rattle.idl_tree.specs.declared.expression.Expr.{Expr, Name, Number, Character, Text, Boolean, Parenthesized', Signed', Chain', Row_of-Operand, end_of-Operand, more_of-Operand}
+use Rattle.idl_tree.specs.declared.expression.Operand.{Operand}
+use Rattle.idl_tree.specs.Pieces.{Piece, piece, keyword, mark, leaf}
+
+abbrev pub identifier : Leaf → List Piece
+identifier l = leaf Ident l
+
+-- one part or more, with commas between them
+abbrev pub listed : {T : Type 0} → (T → List Piece) → Listed T → List Piece
+listed part l = part l.first ++ flat_map (λ x. mark (codes ",") ++ part x) l.rest.items
+
+-- a part that may be left out
+abbrev pub optional : {T : Type 0} → (T → List Piece) → Option T → List Piece
+optional part None = []
+optional part (Some x) = part x
+
+-- :: before the first identifier, and how many tokens it is
+abbrev pub root : Bool → List Piece
+root true = mark (codes "::")
+root false = []
+
+abbrev pub root_len : Bool → ℕ
+root_len true = 1
+root_len false = 0
+
+-- a name's number is that of its first token: the identifier stands there, or behind the ::
+abbrev pub name_yield : ScopedName → List Piece
+name_yield s =
+    root s.is_rooted ++ piece Ident (s.number + root_len s.is_rooted) s.first.now
+    ++ flat_map (λ l. mark (codes "::") ++ identifier l) s.rest.items
+
+abbrev pub names_yield : Listed ScopedName → List Piece
+names_yield names = listed name_yield names
+
+abbrev pub operator_text : Operator → List ℕ
+operator_text Or = codes "|"
+operator_text Xor = codes "^"
+operator_text And = codes "&"
+operator_text ShiftLeft = codes "<<"
+operator_text ShiftRight = codes ">"
+operator_text Add = codes "+"
+operator_text Subtract = codes "-"
+operator_text Multiply = codes "*"
+operator_text Divide = codes "/"
+operator_text Remainder = codes "%"
+
+-- the right shift is two marks
+abbrev pub operator_yield : Operator → List Piece
+operator_yield ShiftRight = mark (codes ">") ++ mark (codes ">")
+operator_yield o = mark (operator_text o)
+
+abbrev pub sign_yield : Sign → List Piece
+sign_yield Plus = mark (codes "+")
+sign_yield Minus = mark (codes "-")
+
+abbrev pub boolean_yield : Bool → List Piece
+boolean_yield true = keyword (codes "TRUE")
+boolean_yield false = keyword (codes "FALSE")
+
+abbrev pub texts_yield : List Leaf → List Piece
+texts_yield texts = flat_map (λ l. leaf TextLit l) texts
+
+abbrev mutual
+  pub expr_yield : Expr → List Piece
+  expr_yield (Name n) = name_yield n
+  expr_yield (Number l) = leaf Integer l
+  expr_yield (Character l) = leaf CharLit l
+  expr_yield (Text ls) = texts_yield ls.items
+  expr_yield (Boolean b line) = boolean_yield b
+  expr_yield (Parenthesized' line p inner) = mark (codes "(") ++ expr_yield inner ++ mark (codes ")")
+  expr_yield (Signed' line s p inner) = sign_yield s ++ expr_yield inner
+  expr_yield (Chain' p first shape rest) = expr_yield first ++ operands_yield rest
+
+  pub operands_yield : {n : _} → Row_of-Operand n → List Piece
+  operands_yield end_of-Operand = []
+  operands_yield (more_of-Operand o e rest) = operator_yield o ++ expr_yield e ++ operands_yield rest
+
+abbrev pub operand_yield : Operand → List Piece
+operand_yield x = operator_yield x.operator ++ expr_yield x.operand

@@ -1,0 +1,9 @@
+//! The tree of an IDL specification (ISO/IEC 19500-1, IDL grammar), and what tokens it spells.
+//!
+//! Public functions make the nodes that hold a list or a box, and say what they spell.
+#![tactic(auto)]
+
+pub mod definitions;
+pub mod expression;
+pub mod names;
+pub mod types;
