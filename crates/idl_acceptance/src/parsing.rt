@@ -219,7 +219,7 @@ fn an_end_inside_is_told(rt: HostRuntime) -> Result<(), Fail> {
             early = early.saturating_add(1);
         }
     }
-    assert_eq!(rt; early, tokens.len() - 1);
+    assert_eq!(rt; early.saturating_add(1), tokens.len());
     Ok(())
 }
 
