@@ -118,50 +118,16 @@ fn labels_of_unions(rt: HostRuntime) -> Result<(), Fail> {
     Ok(())
 }
 
+/// A union over a short of so many labels, from 0 on.
+fn labelled(alloc: Global, count: usize) -> Result<u32, AllocError> {
+    let labels: Vec<i128> = (0..1025).take(count).collect(alloc)?;
+    union(alloc, 3, &labels, Some(0))
+}
+
 #[test]
 fn most_labels(rt: HostRuntime) -> Result<(), Fail> {
     let alloc = rt.alloc();
-    let labels: Vec<i128> = (0..1025).collect(alloc)?;
-    let most = [
-        union(alloc, 3, &labels[..1024], Some(0))?,
-        union(alloc, 3, &labels, Some(0))?,
-    ];
-    assert_eq!(rt; most, [0, 235]);
-    Ok(())
-}
-
-/// 64 layers of 64 structures; each holds eight of the layer below, the lowest an octet.
-fn lattice(alloc: Global) -> Result<Vec<Node>, AllocError> {
-    let mut nodes = Vec::new(alloc);
-    for place in 0..64 {
-        nodes.push(if place == 0 { Node::Octet } else { Node::Char })?;
-    }
-    for layer in 1..64 {
-        for place in 0..64 {
-            let mut members = Vec::new(alloc);
-            for next in 0..8 {
-                members.push((layer - 1) * 64 + (place + next) % 64)?;
-            }
-            let members = Members::new(members);
-            nodes.push(Node::Struct { members })?;
-        }
-    }
-    Ok(nodes)
-}
-
-#[test]
-fn shared_parts(rt: HostRuntime) -> Result<(), Fail> {
-    let alloc = rt.alloc();
-    let graph = Graph::from_nodes(alloc, lattice(alloc)?)?;
-    let tops = [0, 64, 6 * 64, 7 * 64, 4095];
-    let words = tops.map(|number| match graph.uniform(number) {
-        Some((Width::One, n)) => n,
-        _ => 0,
-    });
-    assert_eq!(rt; words, [1, 8, 262_144, 0, 0]);
-    assert!(rt; graph.lead(4095) == Width::One);
-    assert_eq!(rt; graph.zero(alloc, 128)?.len(), 64);
-    assert!(rt; graph.zero(alloc, 4095).is_err());
+    assert_eq!(rt; [labelled(alloc, 1024)?, labelled(alloc, 1025)?], [0, 235]);
     Ok(())
 }
 
