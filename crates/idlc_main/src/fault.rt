@@ -19,7 +19,7 @@ pub enum Fault<'a> {
     BadOrder(clap::Error),
     #[error("a word isn't UTF-8")]
     NotText,
-    /// `clap` passed words without one that it requires, which no contract of it rules out.
+    /// `clap` passed words that ask for nothing, which its contract doesn't rule out.
     #[error("a word is missing")]
     NoWord,
     /// There is no such table.

@@ -1,8 +1,10 @@
 //! The program `idlc`: marshals values by the tables of an IDL specification.
 #![tactic(auto)]
 
-ghost use Rattle.std.specs.Prelude.{◌≡◌, ◌≢◌, ◌≤◌, IfErr};
-ghost use Rattle.idlc_main.specs.Fault.{IsTold};
+ghost use Rattle.std.specs.Prelude.{◌≡◌, ◌≢◌, ◌≤◌, ◌⊎◌, IfErr, IsErrAnd, MatchResult};
+ghost use Rattle.idlc_main.specs.Fault.{IsOfWords, IsTold};
+ghost use Rattle.idlc_main.specs.Words.{Ask, AsksFor, IsMistaken, texts};
+ghost use Rattle.idlc_main.specs.Answer.{IsEndOf, IsPrinted, IsToldOf};
 
 mod fault;
 mod marshal;
@@ -26,7 +28,10 @@ fn print<'a, O: io::Write>(
     words: &'a [&'a str],
     out: &mut O,
 ) -> Result<(), Fault<'a>>
-    ensures { IfErr result (λ fault. IsTold fault → out.new ≡ out.old) }
+    ensures asked { (ask : Ask) → AsksFor (texts words.now) ask → MatchResult result
+        (λ _. IsPrinted ask (O.contents out.old) (O.contents out.new)) (IsToldOf ask) }
+    ensures mistaken { IsMistaken (texts words.now) → IsErrAnd result IsOfWords }
+    ensures silent { IfErr result (λ fault. IsTold fault → out.new ≡ out.old) }
 {
     let text = answer(alloc, words)?;
     if out.write_all(text.as_bytes()).is_err() || out.flush().is_err() {
@@ -55,6 +60,9 @@ pub fn run<R: AllocGlobal, O: io::Write, E: io::Write>(
     err: &mut E,
 ) -> u8
     ensures range { result ≤ 4 }
+    ensures asked { (ask : Ask) → AsksFor (texts words.now) ask
+        → IsEndOf ask result (O.contents out.old) (O.contents out.new) }
+    ensures mistaken { IsMistaken (texts words.now) → (result ≡ 2) ⊎ (result ≡ 4) }
     ensures silent { result ≢ 0 → result ≢ 3 → out.new ≡ out.old }
 {
     match print(rt.alloc(), words, out) {

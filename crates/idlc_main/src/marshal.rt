@@ -6,6 +6,7 @@ ghost use Rattle.std.specs.String.{string_bytes};
 ghost use Rattle.std.specs.Fmt.{decimal};
 ghost use Rattle.hex.specs.Hex.{decode_of, encode_lower};
 ghost use Rattle.idlc_main.specs.Fault.{OnlyIf, IsOfRun, IsTold};
+ghost use Rattle.idlc_main.specs.Answer.{IsAnswer, ask_of};
 ghost use Rattle.idlc_main.specs.Lines.{PrintsOctets, PrintsTape, Prints, Answers, HasNoOctets, HasNoTape, HasNoAnswer};
 ghost use Rattle.type_graph.specs.Words.{reading, writing};
 ghost use Rattle.type_graph.specs.Encoding.{Means};
@@ -127,18 +128,9 @@ fn answer<'a>(
 /// The first in the order of the words: no such table, no such type, bad hexadecimal digits, a
 /// refusal of the run. Want of memory can come before each but the first.
 pub fn marshal<'a>(alloc: Global, request: &Request<'a>) -> Result<String, Fault<'a>>
+    ensures answers { IsAnswer (ask_of request.now) result }
     ensures table { request.now.table.now ≢ codes "builtin"
         → result ≡ Err (Fault.Unread request.now.table) }
-    ensures name { request.now.table.now ≡ codes "builtin" → request.now.name.now ≢ codes "S"
-        → IsErrAnd result (λ fault. OnlyIf fault (fault ≡ Fault.NoType request.now.name)) }
-    ensures hex { request.now.table.now ≡ codes "builtin" → request.now.name.now ≡ codes "S"
-        → IsErr (decode_of request.now.hex.now)
-        → IsErrAnd result (λ fault. OnlyIf fault (fault ≡ Fault.BadHex)) }
-    ensures run { request.now.table.now ≡ codes "builtin" → request.now.name.now ≡ codes "S"
-        → (input : List ℕ) → decode_of request.now.hex.now ≡ Ok input
-        → IfErr result (λ fault. IsOfRun fault × OnlyIf fault
-        (HasNoAnswer request.now.way request.now.order request.now.pos input)) }
-    ensures answers { IfOk result (λ line. Answers request.now.way request.now.order request.now.pos request.now.hex.now (string_bytes line)) }
     ensures told { IfErr result IsTold }
 {
     if request.table != NAME {

@@ -1,8 +1,11 @@
 //! The words of a command line, as `clap` reads them.
 
-ghost use Rattle.std.specs.Prelude.{◌≡◌, ◌≢◌, ◌<◌, ◌^◌, ◌↔◌, IsSome, ℕ, List, codes, IsErr, IfErr, IfSome, Err, Some};
+ghost use Rattle.std.specs.Prelude.{◌≡◌, ◌≢◌, ◌<◌, ◌^◌, ◌↔◌, IsSome, IsSomeAnd, ℕ, List, codes, IsErr, IsErrAnd, IfErr, IfOk, IfSome, Err, Some, None, false};
 ghost use Rattle.std.specs.Str.Parse.{IsNumeral, digits_value, without_leading_plus};
-ghost use Rattle.clap.specs.Values.{kind_of};
+ghost use Rattle.clap.specs.Words.{app_of, kind_of, rule_of, Row, subcommand_rows_of};
+ghost use Rattle.clap.specs.declared.builder.value_parser.ValueParser.TheVariants.{Names};
+ghost use Rattle.idlc_main.specs.Words.{Ask, AsksFor, IsMistaken, Tells, texts, command_app, program_app, wanted};
+ghost use Rattle.idlc_main.specs.Answer.{IsAnswer, ask_of};
 ghost use Rattle.clap.specs.Matches.{found_of, first_value, one_text, subcommand_name_of};
 ghost use Rattle.idlc_main.specs.Fault.{IsOfWords, IsTold};
 ghost use Rattle.idlc_main.specs.Way.{name_of};
@@ -16,44 +19,45 @@ use type_graph::Order;
 
 const ORDERS: [&str; 2] = ["big", "little"];
 
+/// A word that has to be there.
+fn wanted<'a>(alloc: Global, id: &'a str, help: &'a str) -> Arg<'a>
+    ensures rule { rule_of result ≡ wanted id.entry.now None }
+    ensures local { result.global ≡ false }
+{
+    Arg::new(alloc, id).help(help).required(true)
+}
+
 /// The two commands take the same words.
 fn command<'a>(
     alloc: Global,
+    orders: &'a [&'a str],
     name: &'a str,
-    about: &'a str,
     hex: &'a str,
-) -> Result<Command<'a>, AllocError> {
-    let table = Arg::new(alloc, "T").help("builtin, the sample table");
-    let name_of_type = Arg::new(alloc, "NAME").help("The name of a type of the table");
-    let order = Arg::new(alloc, "ORDER")
-        .value_parser(ORDERS.as_slice())
-        .help("The byte order");
-    let pos = Arg::new(alloc, "POS")
-        .value_parser(value_parser!(u64))
-        .help("The position of the first octet");
-    let hex = Arg::new(alloc, "HEX").help(hex);
+) -> Result<Command<'a>, AllocError>
+    ensures { IfOk result (λ command. app_of command ≡ command_app (Names orders.entry) name.entry.now) }
+{
+    let order = wanted(alloc, "ORDER", "The byte order").value_parser(orders);
+    let pos = wanted(alloc, "POS", "The position of the first octet").value_parser(value_parser!(
+        u64
+    ));
     Command::new(alloc, name)
-        .about(about)
-        .arg(table.required(true))?
-        .arg(name_of_type.required(true))?
-        .arg(order.required(true))?
-        .arg(pos.required(true))?
-        .arg(hex.required(true))
+        .arg(wanted(alloc, "T", "builtin, the sample table"))?
+        .arg(wanted(alloc, "NAME", "The name of a type of the table"))?
+        .arg(order)?
+        .arg(pos)?
+        .arg(wanted(alloc, "HEX", hex))
 }
 
-fn program<'a>(alloc: Global) -> Result<Command<'a>, AllocError> {
-    let encode = command(
-        alloc,
-        "encode",
-        "Writes the octets of a value",
-        "The value's tape",
-    )?;
-    let decode = command(alloc, "decode", "Reads a value from octets", "The octets")?;
+fn program<'a>(alloc: Global, orders: &'a [&'a str]) -> Result<Command<'a>, AllocError>
+    ensures { IfOk result (λ program. app_of program ≡ program_app (Names orders.entry)) }
+{
+    let encode = command(alloc, orders, "encode", "The value's tape")?;
+    let decode = command(alloc, orders, "decode", "The octets")?;
     Command::new(alloc, "idlc")
         .about("Marshals the values of IDL types in CDR")
         .subcommand_required(true)
-        .subcommand(encode)?
-        .subcommand(decode)
+        .subcommand(encode.about("Writes the octets of a value"))?
+        .subcommand(decode.about("Reads a value from octets"))
 }
 
 fn request_in<'a>(way: Way, matches: &ArgMatches<'a>) -> Option<Request<'a>>
@@ -93,8 +97,10 @@ fn request_in<'a>(way: Way, matches: &ArgMatches<'a>) -> Option<Request<'a>>
 
 /// What the words ask for. `clap` has seen to it that none is missing.
 fn request<'a>(matches: &ArgMatches<'a>) -> Option<Request<'a>>
-    ensures { IfSome result (λ request.
+    ensures command { IfSome result (λ request.
         subcommand_name_of matches.now ≡ Some (name_of request.way)) }
+    ensures asked { (ask : Ask) (rows : List Row) → subcommand_rows_of matches.now ≡ Some (name_of ask.way, rows)
+        → Tells rows ask → IsSomeAnd result (λ request. ask_of request ≡ ask) }
 {
     let (name, words) = matches.subcommand()?;
     match name {
@@ -124,9 +130,11 @@ fn help_or_fault<'a>(alloc: Global, error: clap::Error) -> Result<String, Fault<
 
 /// The text that a run on these words puts on standard output.
 pub fn answer<'a>(alloc: Global, words: &'a [&'a str]) -> Result<String, Fault<'a>>
-    ensures { IfErr result IsTold }
+    ensures asked { (ask : Ask) → AsksFor (texts words.now) ask → IsAnswer ask result }
+    ensures mistaken { IsMistaken (texts words.now) → IsErrAnd result IsOfWords }
+    ensures told { IfErr result IsTold }
 {
-    match program(alloc)?.try_get_matches_from(words) {
+    match program(alloc, ORDERS.as_slice())?.try_get_matches_from(words) {
         Err(error) => help_or_fault(alloc, error),
         Ok(matches) => match request(&matches) {
             Some(request) => marshal(alloc, &request),

@@ -1,0 +1,78 @@
+-- What seven words ask for.
+use Rattle.std.proofs.Common.{◌≡◌, ◌&&◌, refl, ap, true, List, [], ◌∷◌, Some, None, codes, arith, Bor}
+use Rattle.std.specs.List.{list_any}
+use Rattle.std.specs.Str.{bytes_eq}
+use Rattle.clap.specs.Words.{Row, Text, reading_of, subcommand_of, takes}
+use Rattle.clap.specs.declared.builder.value_parser.ValueParser.TheVariants.{Names, String}
+use Rattle.clap.specs.declared.parser.matches.ValueSource.TheVariants.{CommandLine}
+use Rattle.clap.proofs.OnLiterals.{clap_on_literals}
+use Rattle.type_graph.specs.declared.width.Order.TheVariants.{Big}
+use Rattle.idlc_main.specs.declared.marshal.Way.TheVariants.{Encode}
+use Rattle.idlc_main.specs.Words.{Ask, AsksFor, IsReadAs, Tells, program_app, texts}
+
+abbrev words : List Text
+words = codes "idlc" ∷ codes "encode" ∷ codes "builtin" ∷ codes "S" ∷ codes "big" ∷ codes "12" ∷ codes "07" ∷ []
+
+abbrev ask : Ask
+ask = record {
+  way = Encode;
+  table = codes "builtin";
+  name = codes "S";
+  order = Big;
+  pos = 12;
+  hex = codes "07";
+}
+
+-- what clap keeps of a word
+abbrev row : Text → Text → Row
+row id word = record {
+  id = id;
+  values = word ∷ [];
+  count = None;
+  source = Some CommandLine;
+  reading = reading_of String;
+}
+
+abbrev found : List Row
+found = row (codes "T") (codes "builtin") ∷ row (codes "NAME") (codes "S") ∷ row (codes "ORDER") (codes "big") ∷ row (codes "POS") (codes "12")
+    ∷ row (codes "HEX") (codes "07") ∷ []
+
+module _ (orders : Bor (List (Bor Text))) (are : texts orders.now ≡ codes "big" ∷ codes "little" ∷ []) where
+  any_big : (names : List (Bor Text)) → texts names ≡ codes "big" ∷ codes "little" ∷ [] → list_any (λ name. bytes_eq name.now (codes "big")) names ≡ true
+  any_big [] names_are = absurd cc
+  any_big (first ∷ rest) names_are =
+      let first_is : first.now ≡ codes "big" = cc in rw first_is refl
+
+  are_taken : takes (program_app (Names orders)) words ≡ true
+  unfolding clap_on_literals
+  are_taken = ap (λ b. b && true && true && true && true) (any_big orders.now are)
+
+  is_encode : subcommand_of (program_app (Names orders)) words ≡ Some (codes "encode", found)
+  unfolding clap_on_literals
+  is_encode = refl
+
+  tells : Tells found ask
+  unfolding clap_on_literals
+  tells = record {
+    table = refl;
+    name = refl;
+    order = refl;
+    digits = codes "12";
+    pos = refl;
+    numeral = (omega arith, (omega arith, (omega arith, tt)));
+    number = refl;
+    in_64_bits = omega arith;
+    hex = refl;
+  }
+
+  pub is_read : IsReadAs (program_app (Names orders)) words ask
+  is_read = record {
+    taken = are_taken;
+    rows = found;
+    command = is_encode;
+    tells = tells;
+  }
+
+-- so a clause that speaks of what words ask for speaks of these
+pub words_ask : AsksFor words ask
+words_ask orders takes_orders = rw takes_orders.is_of_names (is_read takes_orders.names takes_orders.are_orders)
