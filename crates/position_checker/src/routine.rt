@@ -50,8 +50,8 @@ fn rank_above_arms(routines: &[Routine], arms: &[(i128, u32)], default: Option<u
     ensures { result ≡ above (rank_at routines.now) (map (λ arm. arm.1) arms.now ++ option_to_list default) }
 {
     let mut rank = rank_above_default(routines, default);
-    for (_, number) in arms {
-        rank = (rank_of(routines, *number) + 1).max(rank);
+    for (_, member) in arms {
+        rank = (rank_of(routines, *member) + 1).max(rank);
     }
     rank
 }
