@@ -1,11 +1,11 @@
 //! A routine of the plain program.
 
-ghost use Rattle.std.specs.Prelude.{◌≡◌, ◌≢◌, ◌+◌, ◌<◌, ◌≤◌, ◌^◌, ◌↔◌, List, ◌++◌, map, option_to_list, length, slice_get, replicate, Some, IfSome, IfNone, OnOk, OnErr, IsTrue, All};
+ghost use Rattle.std.specs.Prelude.{◌≡◌, ◌≢◌, ◌+◌, ◌<◌, ◌≤◌, ◌^◌, ◌↔◌, List, ◌++◌, map, option_to_list, length, slice_get, replicate, Some, IfSome, IfNone, IfErr, OnOk, OnErr, IsTrue, All};
 ghost use Rattle.type_graph.specs.GraphRules.{IsNode, IsGraph, held_by};
 ghost use Rattle.type_graph.specs.Walks.{above};
 ghost use Rattle.marshal_program.specs.ProgramRules.{IsRoutine, IsProgram};
 ghost use Rattle.marshal_program.specs.Plain.{plain_code};
-ghost use Rattle.position_checker.specs.PlainTests.{rank_at, IsPlainRoutine};
+ghost use Rattle.position_checker.specs.PlainTests.{rank_at, IsFaultOf, IsPlainRoutine, IsWrongAt};
 
 use crate::code::first_wrong;
 use crate::fault::CheckFault;
@@ -96,6 +96,7 @@ pub fn check_routine(
     requires kept { IsNode graph.now node.now }
     ensures ok { OnOk result (IsPlainRoutine graph.now routines.now number node.now routine.now) }
     ensures err { OnErr result (IsPlainRoutine graph.now routines.now number node.now routine.now → ⊥) }
+    ensures fault { IfErr result (IsFaultOf number (IsWrongAt graph.now routines.now number node.now routine.now)) }
 {
     let rank = plain_rank(routines, node);
     if !has_plain_head(number, rank, routine) {
