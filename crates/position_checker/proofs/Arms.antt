@@ -1,5 +1,5 @@
 -- Arms are compared one by one.
-use Rattle.std.proofs.Common.{◌≡◌, ℕ, ℤ, Bool, true, false, ◌&&◌, refl, ap, ap₂, ◌∙◌, sym}
+use Rattle.std.proofs.Common.{◌≡◌, ℕ, ℤ, Bool, true, false, ◌&&◌, refl, ap, ap₂}
 use Rattle.std.specs.Bool.{Decides}
 
 -- both tests passed

@@ -1,19 +1,11 @@
 -- Ranks, one above the other.
-use Rattle.std.proofs.Common.{◌≡◌, ℕ, zero, suc, ◌+◌, ◌<◌, max, List, [], ◌∷◌, ◌++◌, length, drop, get_or, refl, ap, ap₂, ◌∙◌, drop-cons, add-one, arith}
+use Rattle.std.proofs.Common.{◌≡◌, ℕ, zero, suc, ◌<◌, max, List, [], ◌∷◌, ◌++◌, length, refl, ap₂, ◌∙◌, arith}
 use Rattle.std.specs.List.{AllByRecursion}
 use Rattle.type_graph.specs.declared.node.Node.{Node}
 use Rattle.type_graph.specs.Value.{node_at}
 use Rattle.type_graph.specs.GraphRules.{held_by, IsShallow}
 use Rattle.type_graph.specs.Walks.{above, height_within}
 use Rattle.type_graph.proofs.WordLaws.{all_weaken}
-
--- one more is looked at
-pub above_more : (height : ℕ → ℕ) (numbers : List ℕ) (i rank next : ℕ) → i < length numbers → next ≡ max (height (get_or numbers i 0) + 1) rank
-    → max rank (above height (drop i numbers)) ≡ above height numbers → max next (above height (drop (i + 1) numbers)) ≡ above height numbers
-above_more height numbers i rank next lt is so_far =
-    let cut : drop i numbers ≡ get_or numbers i 0 ∷ drop (i + 1) numbers = rw add-one (drop-cons numbers i 0 lt) in
-    let step : above height (drop i numbers) ≡ max (suc (height (get_or numbers i 0))) (above height (drop (i + 1) numbers)) = ap (above height) cut in
-    omega (arith, is, so_far, step)
 
 -- heights that agree on the parts agree above them
 pub above_same : (height other : ℕ → ℕ) (numbers : List ℕ) → AllByRecursion (λ number. height number ≡ other number) numbers → above height numbers ≡ above other numbers

@@ -7,7 +7,7 @@ ghost use Rattle.type_graph.specs.Encoding.{Means};
 ghost use Rattle.marshal_program.specs.ProgramRules.{IsProgram};
 ghost use Rattle.marshal_program.specs.Plain.{plain_program};
 ghost use Rattle.program_runner.specs.Refusal.{OnlyIf};
-ghost use Rattle.position_checker.specs.PlainTests.{HasPlainAt};
+ghost use Rattle.position_checker.specs.PlainTests.{HasPlainAt, IsFaultOf, IsFirstFault, IsWrongRoutine};
 ghost use Rattle.position_checker.specs.Table.{IsRight};
 
 use crate::fault::CheckFault;
@@ -41,6 +41,7 @@ fn check_routine_at(graph: &Graph, routines: &[Routine], number: u32) -> Result<
     requires node { number < length graph.now }
     ensures ok { OnOk result (HasPlainAt graph.now routines.now number) }
     ensures err { OnErr result (HasPlainAt graph.now routines.now number → ⊥) }
+    ensures fault { IfErr result (IsFaultOf number (IsWrongRoutine graph.now routines.now number)) }
 {
     match routines.get(number as usize) {
         None => Err(CheckFault::WrongWork {
@@ -56,6 +57,7 @@ fn check_routines(graph: &Graph, routines: &[Routine]) -> Result<(), CheckFault>
     ensures types { IsGraph graph.now }
     ensures ok { OnOk result (routines.now ≡ plain_program graph.now) }
     ensures err { OnErr result (routines.now ≢ plain_program graph.now) }
+    ensures first { IfErr result (IsFirstFault graph.now routines.now) }
 {
     let count = graph.nodes().len();
     for number in 0..count {
@@ -75,11 +77,12 @@ fn check_routines(graph: &Graph, routines: &[Routine]) -> Result<(), CheckFault>
 /// # Errors
 /// `WrongWork` at the first routine that differs: at instruction 0 where it differs beside its
 /// code, is missing or is one too many, else at the first instruction that differs, or at the
-/// code's length where it ends early.
+/// code's length where it ends early. A rank is judged by those of the routines of its parts.
 pub fn check(graph: Graph, program: Program) -> Result<Accepted, CheckFault>
     ensures kept { IfOk result (λ accepted. (accepted.graph ≡ graph) × (accepted.program ≡ program)) }
     ensures right { IfOk result IsRight }
     ensures refused { OnErr result (program ≢ plain_program graph) }
+    ensures first { IfErr result (IsFirstFault graph program) }
 {
     check_routines(&graph, program.routines())?;
     Ok(Accepted { graph, program })

@@ -5,6 +5,7 @@ ghost use Rattle.type_graph.specs.GraphRules.{IsNode};
 ghost use Rattle.type_graph.specs.declared.node.Node.TheVariants as nodes;
 ghost use Rattle.marshal_program.specs.declared.instr.Instr.TheVariants as instrs;
 ghost use Rattle.marshal_program.specs.Plain.{disc_of, plain_code};
+ghost use Rattle.position_checker.specs.PlainTests.{IsFirstDifference};
 
 use marshal_program::{Disc, Instr};
 use type_graph::{Arms, Graph, Node, Width};
@@ -143,6 +144,7 @@ fn disc_for(node: &Node) -> Disc
         _ => Disc::Char,
     }
 }
+
 /// Whether an instruction is the one that the code of a union has at a place.
 fn is_union_instr(
     graph: &Graph,
@@ -247,6 +249,7 @@ pub fn first_wrong(graph: &Graph, node: &Node, code: &[Instr]) -> Option<u32>
     requires few { length code.now < 2 ^ 32 }
     ensures same { IfNone result (code.now ≡ plain_code graph.now node.now) }
     ensures differs { IfSome result (λ _. code.now ≢ plain_code graph.now node.now) }
+    ensures first { IfSome result (λ place. IsFirstDifference (plain_code graph.now node.now) code.now place) }
 {
     for (place, instr) in code.iter().enumerate() {
         if !is_plain_instr(graph, node, place, instr) {

@@ -1,11 +1,11 @@
 //! A routine of the plain program.
 
-ghost use Rattle.std.specs.Prelude.{◌≡◌, ◌≢◌, ◌+◌, ◌<◌, ◌≤◌, ◌^◌, ◌↔◌, List, ◌++◌, map, option_to_list, length, slice_get, replicate, Some, IfSome, IfNone, OnOk, OnErr, IsTrue, All};
+ghost use Rattle.std.specs.Prelude.{◌≡◌, ◌≢◌, ◌+◌, ◌<◌, ◌≤◌, ◌^◌, ◌↔◌, List, ◌++◌, map, option_to_list, length, slice_get, replicate, Some, IfSome, IfNone, IfErr, OnOk, OnErr, IsTrue, All};
 ghost use Rattle.type_graph.specs.GraphRules.{IsNode, IsGraph, held_by};
 ghost use Rattle.type_graph.specs.Walks.{above};
 ghost use Rattle.marshal_program.specs.ProgramRules.{IsRoutine, IsProgram};
 ghost use Rattle.marshal_program.specs.Plain.{plain_code};
-ghost use Rattle.position_checker.specs.PlainTests.{rank_at, IsPlainRoutine};
+ghost use Rattle.position_checker.specs.PlainTests.{rank_at, IsFaultOf, IsPlainRoutine, IsWrongAt};
 
 use crate::code::first_wrong;
 use crate::fault::CheckFault;
@@ -50,8 +50,8 @@ fn rank_above_arms(routines: &[Routine], arms: &[(i128, u32)], default: Option<u
     ensures { result ≡ above (rank_at routines.now) (map (λ arm. arm.1) arms.now ++ option_to_list default) }
 {
     let mut rank = rank_above_default(routines, default);
-    for (_, number) in arms {
-        rank = (rank_of(routines, *number) + 1).max(rank);
+    for (_, member) in arms {
+        rank = (rank_of(routines, *member) + 1).max(rank);
     }
     rank
 }
@@ -96,6 +96,7 @@ pub fn check_routine(
     requires kept { IsNode graph.now node.now }
     ensures ok { OnOk result (IsPlainRoutine graph.now routines.now number node.now routine.now) }
     ensures err { OnErr result (IsPlainRoutine graph.now routines.now number node.now routine.now → ⊥) }
+    ensures fault { IfErr result (IsFaultOf number (IsWrongAt graph.now routines.now number node.now routine.now)) }
 {
     let rank = plain_rank(routines, node);
     if !has_plain_head(number, rank, routine) {
