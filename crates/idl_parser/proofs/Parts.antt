@@ -1,5 +1,5 @@
 -- How parts that are read one behind another are one part.
-use Rattle.std.proofs.Common.{◌≡◌, ℕ, List, ◌++◌, ap, ◌∙◌, arith}
+use Rattle.std.proofs.Common.{ℕ, List, ◌++◌, ap, ◌∙◌, arith}
 use Rattle.idl_lexer.specs.declared.token.Token.{Token}
 use Rattle.idl_tree.specs.Pieces.{Piece}
 use Rattle.idl_parser.specs.Reading.{Parsed, Continued}

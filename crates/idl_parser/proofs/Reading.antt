@@ -1,12 +1,12 @@
 -- How the pieces of tokens are read one after another.
-use Rattle.std.proofs.Common.{◌≡◌, ℕ, zero, suc, ◌+◌, ◌<◌, ◌≤◌, List, [], ◌∷◌, ◌++◌, Option, Some, length, take, get_or, refl, sym, ap, ◌∙◌, arith, length-append, add-one}
+use Rattle.std.proofs.Common.{◌≡◌, ℕ, zero, suc, ◌+◌, ◌<◌, ◌≤◌, List, [], ◌∷◌, ◌++◌, length, take, get_or, refl, sym, ap, ◌∙◌, arith, add-one}
 use Rattle.std.proofs.lemmas.List.{append_assoc, append-nil}
 use Rattle.std.proofs.Math.Seq.{take-length}
 use Rattle.idl_lexer.specs.declared.token.Kind.{Kind}
-use Rattle.idl_lexer.specs.declared.token.Kind.TheVariants.{Ident, Keyword, Punct, Number, CharLit, TextLit, Pragma}
+use Rattle.idl_lexer.specs.declared.token.Kind.TheVariants.{Keyword, Punct}
 use Rattle.idl_lexer.specs.declared.token.Token.{Token}
 use Rattle.idl_parser.specs.Reading.{Parsed, Continued}
-use Rattle.idl_tree.specs.Pieces.{Piece, piece, pieces, pieces_from, kept_number}
+use Rattle.idl_tree.specs.Pieces.{Piece, piece, pieces, pieces_from}
 
 pub append_left : {A : Type 0} (a b c : List A) → a ++ (b ++ c) ≡ a ++ b ++ c
 append_left a b c = sym (append_assoc a b c)

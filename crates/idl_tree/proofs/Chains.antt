@@ -1,5 +1,5 @@
 -- What a chain of operands spells, by the list of its `Vec`.
-use Rattle.std.proofs.Common.{◌≡◌, ℕ, List, [], ◌∷◌, ◌++◌, Vec, Global, refl, sym, ap, ◌∙◌}
+use Rattle.std.proofs.Common.{◌≡◌, ◌++◌, Vec, Global, refl, ap, ◌∙◌}
 use Rattle.std.specs.Prelude.{Box}
 use Rattle.std.specs.List.{flat_map}
 use mathlib.Core.Former.{Count}

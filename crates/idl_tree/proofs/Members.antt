@@ -1,5 +1,5 @@
 -- What members and cases spell, by the list of their `Vec`.
-use Rattle.std.proofs.Common.{◌≡◌, ℕ, List, [], ◌∷◌, ◌++◌, Vec, Global, refl, sym, ap, ◌∙◌}
+use Rattle.std.proofs.Common.{◌≡◌, ◌++◌, Vec, Global, refl, ap, ◌∙◌}
 use Rattle.std.specs.Prelude.{codes}
 use Rattle.std.specs.List.{flat_map}
 use mathlib.Core.Former.{Count}
@@ -10,10 +10,9 @@ use Rattle.idl_tree.specs.declared.types.UnionType.{UnionType, UnionType', Row_o
 use denote.Hole.Carrier.{roll}
 use Rattle.idl_tree.specs.declared.types.TypeSpec.TheBlock.{hidden-the_row-Member-0, hidden-the_row-Case-1}
 use Rattle.idl_tree.specs.declared.types.TypeSpec.TheViews.{roll-StructType, roll-UnionType}
-use Rattle.idl_tree.specs.declared.types.Declarator.{Declarator}
 use Rattle.idl_tree.specs.declared.types.Member.{Member}
 use Rattle.idl_tree.specs.declared.types.Case.{Case}
-use Rattle.idl_tree.specs.Pieces.{Piece, keyword, mark}
+use Rattle.idl_tree.specs.Pieces.{keyword, mark}
 use Rattle.idl_tree.specs.Yields.{identifier, listed}
 use Rattle.idl_tree.specs.TypeYields.{type_yield, declarator_yield, label_yield, member_yield, members_yield, case_yield, cases_yield, struct_yield, union_yield, switch_yield}
 

@@ -1,11 +1,11 @@
 -- What a module spells, by the list of its `Vec`.
-use Rattle.std.proofs.Common.{◌≡◌, ℕ, List, [], ◌∷◌, ◌++◌, Vec, Global, refl, sym, ap, ◌∙◌}
+use Rattle.std.proofs.Common.{◌≡◌, ◌++◌, Vec, Global, refl, ap, ◌∙◌}
 use Rattle.std.specs.Prelude.{codes}
 use Rattle.std.specs.List.{flat_map}
 use mathlib.Core.Former.{Count}
 use Rattle.idl_tree.specs.declared.names.Leaf.{Leaf}
 use Rattle.idl_tree.specs.declared.definitions.Definition.{Definition, Module, Module', Row_of-Definition, end_of-Definition, more_of-Definition, items-the_row-Definition, items_hidden-the_row-Definition-0}
-use Rattle.idl_tree.specs.Pieces.{Piece, keyword, mark}
+use Rattle.idl_tree.specs.Pieces.{keyword, mark}
 use Rattle.idl_tree.specs.Yields.{identifier}
 use Rattle.idl_tree.specs.DefinitionYields.{definition_yield, definitions_yield}
 

@@ -1,8 +1,7 @@
 -- The pieces that a tree spells, from left to right: of definitions, and of a whole specification.
-use Rattle.std.specs.Prelude.{◌≡◌, ℕ, Bool, true, false, List, [], ◌++◌, Option, Some, None, codes}
+use Rattle.std.specs.Prelude.{ℕ, Bool, true, false, List, [], ◌++◌, Option, Some, None, codes}
 use Rattle.std.specs.List.{flat_map}
 use Rattle.idl_lexer.specs.declared.token.Kind.TheVariants.{Pragma as PragmaToken}
-use Rattle.idl_tree.specs.declared.names.Leaf.{Leaf}
 use Rattle.idl_tree.specs.declared.names.Listed.{Listed}
 use Rattle.idl_tree.specs.declared.names.ScopedName.{ScopedName}
 use Rattle.idl_tree.specs.declared.types.ParamType.{ParamType}
@@ -24,7 +23,6 @@ use Rattle.idl_tree.specs.declared.definitions.Export.TheVariants as Exports
 use Rattle.idl_tree.specs.declared.definitions.Interface.{Interface}
 use Rattle.idl_tree.specs.declared.definitions.Interface.TheVariants.{Ahead, Defined}
 use Rattle.idl_tree.specs.declared.definitions.Definition.{Definition, Pragma, Declaration as Declared, Interface as InterfaceDcl, Module', Row_of-Definition, end_of-Definition, more_of-Definition}
-use Rattle.idl_tree.specs.declared.definitions.Module.{Module}
 use Rattle.idl_tree.specs.declared.definitions.Spec.{Spec}
 use Rattle.idl_tree.specs.Pieces.{Piece, keyword, mark, leaf}
 use Rattle.idl_tree.specs.Yields.{identifier, listed, optional, names_yield, expr_yield}

@@ -3,3 +3,4 @@ pub mod Pieces
 pub mod Yields
 pub mod TypeYields
 pub mod DefinitionYields
+pub mod Lines

@@ -1,7 +1,7 @@
 -- What a tree keeps of tokens.
 use Rattle.std.specs.Prelude.{ℕ, ◌+◌, List, [], ◌∷◌, ◌++◌, Option, Some, None}
 use Rattle.idl_lexer.specs.declared.token.Kind.{Kind}
-use Rattle.idl_lexer.specs.declared.token.Kind.TheVariants.{Ident, Keyword, Punct, Number, CharLit, TextLit, Pragma}
+use Rattle.idl_lexer.specs.declared.token.Kind.TheVariants.{Keyword, Punct}
 use Rattle.idl_lexer.specs.declared.token.Token.{Token}
 use Rattle.idl_tree.specs.declared.names.Leaf.{Leaf}
 

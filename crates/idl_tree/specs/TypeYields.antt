@@ -1,8 +1,6 @@
 -- The pieces that a tree spells, from left to right: of types.
-use Rattle.std.specs.Prelude.{◌≡◌, ℕ, List, [], ◌++◌, Option, Some, None, codes}
+use Rattle.std.specs.Prelude.{List, [], ◌++◌, codes}
 use Rattle.std.specs.List.{flat_map}
-use Rattle.idl_tree.specs.declared.names.Leaf.{Leaf}
-use Rattle.idl_tree.specs.declared.names.Listed.{Listed}
 use Rattle.idl_tree.specs.declared.expression.Expr.{Expr}
 use Rattle.idl_tree.specs.declared.types.Integer.{Integer}
 use Rattle.idl_tree.specs.declared.types.Integer.TheVariants.{Signed, Unsigned}

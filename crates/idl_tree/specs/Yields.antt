@@ -1,5 +1,5 @@
 -- The pieces that a tree spells, from left to right: of names and expressions.
-use Rattle.std.specs.Prelude.{◌≡◌, ℕ, ◌+◌, Bool, true, false, List, [], ◌++◌, Option, Some, None, codes}
+use Rattle.std.specs.Prelude.{ℕ, ◌+◌, Bool, true, false, List, [], ◌++◌, Option, Some, None, codes}
 use Rattle.std.specs.List.{flat_map}
 use Rattle.idl_lexer.specs.declared.token.Kind.TheVariants.{Ident, CharLit, TextLit, Number as Integer}
 use Rattle.idl_tree.specs.declared.names.Leaf.{Leaf}

@@ -1,9 +1,10 @@
 //! Constant expressions.
 
-ghost use Rattle.std.specs.Prelude.{◌≡◌, ◌++◌, IfOk, codes};
+ghost use Rattle.std.specs.Prelude.{◌≡◌, ◌++◌, Some, IfOk, codes};
 ghost use Rattle.std.specs.List.{flat_map};
 ghost use Rattle.idl_tree.specs.Pieces.{mark};
 ghost use Rattle.idl_tree.specs.Yields.{operator_text, sign_yield, expr_yield, operand_yield};
+ghost use Rattle.idl_tree.specs.Lines.{mark_line};
 
 use crate::names::{Leaf, ScopedName};
 use std::alloc::{AllocError, Global};
@@ -114,7 +115,8 @@ impl<'a> Expr<'a> {
         sign: Sign,
         operand: Expr<'a>,
     ) -> Result<Expr<'a>, AllocError>
-        ensures { IfOk result (λ e. expr_yield e ≡ sign_yield sign ++ expr_yield operand.entry) }
+        ensures spells { IfOk result (λ e. expr_yield e ≡ sign_yield sign ++ expr_yield operand.entry) }
+        ensures line { IfOk result (λ e. mark_line e ≡ Some line) }
     {
         Ok(Expr::Signed {
             line,
@@ -129,8 +131,9 @@ impl<'a> Expr<'a> {
         line: usize,
         inner: Expr<'a>,
     ) -> Result<Expr<'a>, AllocError>
-        ensures { IfOk result (λ e. expr_yield e ≡
+        ensures spells { IfOk result (λ e. expr_yield e ≡
             mark (codes "(") ++ expr_yield inner.entry ++ mark (codes ")")) }
+        ensures line { IfOk result (λ e. mark_line e ≡ Some line) }
     {
         Ok(Expr::Parenthesized {
             line,

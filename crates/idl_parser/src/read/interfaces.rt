@@ -1,9 +1,10 @@
 //! Interfaces, their operations and attributes.
 #![tactic(auto, using(crate::proofs::Reading::append_left, crate::proofs::Reading::append_none, std::proofs::lemmas::List::flat_map_more))]
 
-ghost use Rattle.std.specs.Prelude.{◌≡◌, ◌+◌, ◌++◌, ◌≤◌, ◌<◌, IfOk, List, length, codes};
+ghost use Rattle.std.specs.Prelude.{◌≡◌, ◌+◌, ◌++◌, ◌≤◌, ◌<◌, true, IfOk, List, length, codes};
 ghost use Rattle.std.specs.List.{flat_map};
 ghost use Rattle.idl_parser.specs.Reading.{Parsed, Continued};
+ghost use Rattle.idl_parser.specs.Raises.{may_raise, raises_fit};
 ghost use Rattle.idl_tree.specs.Yields.{optional, listed};
 ghost use Rattle.idl_tree.specs.DefinitionYields.{raises_yield, readonly_yield, raised_yield, attribute_yield, direction_yield, param_yield, oneway_yield, result_yield, operation_yield, export_yield, bases_yield, interface_yield};
 
@@ -44,7 +45,8 @@ fn read_raised<'a>(
     is_readonly: bool,
     is_alone: bool,
 ) -> Read<Raised<'a>>
-    ensures { IfOk result (λ r. Continued tokens.now at (raised_yield r.0) r.1) }
+    ensures read { IfOk result (λ r. Continued tokens.now at (raised_yield r.0) r.1) }
+    ensures fits { IfOk result (λ r. may_raise is_readonly is_alone r.0 ≡ true) }
 {
     if !is_alone {
         return Ok((Raised::Nothing, at));
@@ -79,7 +81,8 @@ fn read_attribute<'a>(
     at: usize,
     depth: usize,
 ) -> Read<Attribute<'a>>
-    ensures { IfOk result (λ r. Parsed tokens.now at (attribute_yield r.0) r.1) }
+    ensures read { IfOk result (λ r. Parsed tokens.now at (attribute_yield r.0) r.1) }
+    ensures fits { IfOk result (λ r. raises_fit r.0 ≡ true) }
 {
     let (is_readonly, word) = read_readonly(tokens, at)?;
     let start = read_keyword(tokens, word, "attribute")?;

@@ -1,5 +1,4 @@
 use Rattle.std.proofs.Common.{◌-◌, length}
-use Rattle.std.specs.Prelude.{codes}
 use Rattle.idl_parser.specs.Reading.{Parsed}
 use Rattle.idl_tree.specs.Yields.{identifier, listed}
 use Rattle.idl_parser.proofs.read.names.read_identifiers.Given as goal

@@ -1,7 +1,6 @@
 use Rattle.std.proofs.Common.{◌-◌, length}
-use Rattle.std.specs.Prelude.{codes}
 use Rattle.idl_parser.specs.Reading.{Parsed}
-use Rattle.idl_tree.specs.Yields.{name_yield, names_yield}
+use Rattle.idl_tree.specs.Yields.{names_yield}
 use Rattle.idl_parser.proofs.read.names.read_scoped_names.Given as goal
 
 abbrev pub invariant-parts : goal.invariant-parts
