@@ -174,6 +174,32 @@ fn bad_sources_get_their_fault(rt: HostRuntime) -> Result<(), Fail> {
     Ok(())
 }
 
+/// The number of the token that a fault tells.
+fn unexpected_token(alloc: Global, source: &str) -> Result<Option<usize>, Fail> {
+    let tokens = lex(alloc, source)?;
+    Ok(match parse(alloc, &tokens) {
+        Err(ParseFault::Unexpected { at, .. }) => Some(at),
+        _ => None,
+    })
+}
+
+#[test]
+fn the_token_is_told(rt: HostRuntime) -> Result<(), Fail> {
+    let alloc = rt.alloc();
+    let table = [
+        (";", 0),
+        ("module A :: B { };", 2),
+        ("const long X = ;", 4),
+        ("const long X = 1 > > 2;", 5),
+        ("interface I { void f(long a); };", 6),
+        ("struct A { long a; } const long X = 1;", 7),
+    ];
+    for (source, at) in table {
+        assert_eq!(rt; unexpected_token(alloc, source)?, Some(at));
+    }
+    Ok(())
+}
+
 /// What is left out, as a fault tells it.
 fn left_out(alloc: Global, source: &str) -> Result<&'static str, Fail> {
     let tokens = lex(alloc, source)?;
@@ -224,7 +250,7 @@ fn an_end_inside_is_told(rt: HostRuntime) -> Result<(), Fail> {
 }
 
 /// Shapes with so many levels, and the fault's number.
-const DEEP: [([&str; 5], usize, u32); 18] = [
+const DEEP: [([&str; 5], usize, u32); 19] = [
     (["const long X = ", "(", "1", ")", ";"], 64, 0),
     (["const long X = ", "(", "1", ")", ";"], 65, 13),
     (["const long X = ", "-(", "1", ") + 1", ";"], 65, 13),
@@ -274,6 +300,7 @@ const DEEP: [([&str; 5], usize, u32); 18] = [
         63,
         13,
     ),
+    (["typedef ", "struct S { ", "long a; ", "} s; ", ""], 64, 0),
     (["typedef ", "struct S { ", "long a; ", "} s; ", ""], 65, 13),
     (
         ["module M { typedef ", "sequence<", "struct", ">", " T; };"],
