@@ -1,2 +1,5 @@
+pub mod ViewLaws
 pub mod PartLaws
 pub mod FitLaws
+pub mod WordForms
+pub mod PackLaws

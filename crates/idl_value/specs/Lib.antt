@@ -1,3 +1,4 @@
 pub mod View
 pub mod Refusal
 pub mod PartList
+pub mod Packing

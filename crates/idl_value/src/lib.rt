@@ -1,20 +1,23 @@
 //! Values of IDL types outside any program, and their tapes.
 #![tactic(auto)]
 
-ghost use Rattle.std.specs.Prelude.{◌≡◌, ◌<◌, ◌↔◌, length, IsTrue};
-ghost use Rattle.type_graph.specs.Value.{node_at, Fits};
+ghost use Rattle.std.specs.Prelude.{◌≡◌, ◌<◌, ◌↔◌, length, IsTrue, IfOk, OnOk, IsErrOf};
+ghost use Rattle.type_graph.specs.Value.{node_at, Fits, tape_of};
 ghost use Rattle.idl_value.specs.View.{tree_of};
 
 pub mod fault;
 mod fitting;
 mod nodes;
 mod numbers;
+mod packing;
 mod parts;
 mod texts;
 pub mod value;
 
 use crate::fitting::is_value;
+use crate::packing::push_value;
 pub use fault::ValueFault;
+use std::alloc::Global;
 use type_graph::Graph;
 pub use value::Value;
 
@@ -27,4 +30,23 @@ pub fn conforms(graph: &Graph, node: u32, value: &Value) -> bool
     ensures { IsTrue result ↔ Fits graph.now (node_at graph.now node) (tree_of value.now) 64 }
 {
     is_value(graph, node, value, MAX_DEPTH)
+}
+
+/// The tape of a value of a node.
+///
+/// # Errors
+/// `NotOfType` exactly where the value isn't one of the node, or want of memory.
+pub fn pack(alloc: Global, graph: &Graph, node: u32, value: &Value) -> Result<Vec<u8>, ValueFault>
+    requires { node < length graph.now }
+    ensures fits { OnOk result (Fits graph.now (node_at graph.now node) (tree_of value.now) 64) }
+    ensures tape { IfOk result (λ tape. tape.items ≡ tape_of graph.now (node_at graph.now node) (tree_of value.now)) }
+    ensures not_of_type { IsErrOf result ValueFault.NotOfType ↔ ¬ Fits graph.now (node_at graph.now node) (tree_of value.now) 64 }
+    ensures never_not_a_tape { ¬ IsErrOf result ValueFault.NotATape }
+{
+    if !conforms(graph, node, value) {
+        return Err(ValueFault::NotOfType);
+    }
+    let mut tape = Vec::new(alloc);
+    push_value(&mut tape, graph, node, value)?;
+    Ok(tape)
 }

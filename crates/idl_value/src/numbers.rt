@@ -1,11 +1,26 @@
 //! Numbers: which are values of a node, and their octets.
 
-ghost use Rattle.std.specs.Prelude.{◌≡◌, ◌<◌, ◌≤◌, ◌^◌, ◌↔◌, IsTrue};
-ghost use Rattle.type_graph.specs.Words.{words_of};
+ghost use Rattle.std.specs.Prelude.{◌≡◌, ◌≤◌, ◌++◌, ◌↔◌, pos, IsTrue, OnOk};
+ghost use Rattle.type_graph.specs.declared.width.Width.TheVariants.{Four};
+ghost use Rattle.type_graph.specs.declared.width.Order.TheVariants.{Big};
+ghost use Rattle.type_graph.specs.Words.{octets_in, words_of, word};
 ghost use Rattle.type_graph.specs.Atoms.{IsBelow, IsCount};
-ghost use Rattle.type_graph.specs.Value.{IsSigned, IsNumber};
+ghost use Rattle.type_graph.specs.Value.{IsSigned, IsNumber, number_width};
 
+use std::alloc::AllocError;
 use type_graph::{Node, Width};
+
+fn octet_count(width: Width) -> usize
+    ensures value { result ≡ octets_in width }
+    ensures small { result ≤ 8 }
+{
+    match width {
+        Width::One => 1,
+        Width::Two => 2,
+        Width::Four => 4,
+        Width::Eight => 8,
+    }
+}
 
 /// How many patterns the octets of a width have.
 fn pattern_count(width: Width) -> u128
@@ -57,4 +72,22 @@ pub fn is_count(bound: u32, count: usize) -> bool
     ensures { IsTrue result ↔ IsCount bound count }
 {
     count <= 0xFFFF_FFFF && (bound == 0 || count <= bound as usize)
+}
+
+/// Puts a number of a node behind a tape: the lowest of its octets in two's complement, in big
+/// order.
+pub fn push_number(tape: &mut Vec<u8>, node: &Node, n: i128) -> Result<(), AllocError>
+    ensures { OnOk result (IsNumber node.now n → tape.new.items ≡ tape.old.items ++ word Big (number_width node.now) n) }
+{
+    let octets = n.to_be_bytes();
+    let width = octet_count(node.number_width());
+    tape.extend_from_slice(octets.split_at(16 - width).1)
+}
+
+/// Puts a count, or the length of a string, behind a tape.
+pub fn push_count(tape: &mut Vec<u8>, count: usize) -> Result<(), AllocError>
+    ensures { OnOk result (tape.new.items ≡ tape.old.items ++ word Big Four (pos count)) }
+{
+    let octets = count.to_be_bytes();
+    tape.extend_from_slice(octets.split_at(4).1)
 }

@@ -1,7 +1,13 @@
 //! Strings: which are values of a node, and their octets.
 
-ghost use Rattle.std.specs.Prelude.{◌≡◌, ◌↔◌, IsTrue};
+ghost use Rattle.std.specs.Prelude.{◌≡◌, ◌++◌, ◌↔◌, pos, length, IsTrue, OnOk};
+ghost use Rattle.type_graph.specs.declared.width.Width.TheVariants.{Four};
+ghost use Rattle.type_graph.specs.declared.width.Order.TheVariants.{Big};
+ghost use Rattle.type_graph.specs.Words.{word};
 ghost use Rattle.type_graph.specs.Atoms.{IsText};
+
+use crate::numbers::push_count;
+use std::alloc::AllocError;
 
 /// Whether octets are a string of a bound, 0 for none. With the terminating zero its length fits
 /// its word, so it is one less than a sequence may be long.
@@ -11,4 +17,12 @@ pub fn is_text(bound: u32, text: &[u8]) -> bool
     text.len() < 0xFFFF_FFFF
         && (bound == 0 || text.len() <= bound as usize)
         && text.iter().all(|octet| *octet != 0)
+}
+
+/// Puts the length of a string and its octets behind a tape.
+pub fn push_text(tape: &mut Vec<u8>, text: &[u8]) -> Result<(), AllocError>
+    ensures { OnOk result (tape.new.items ≡ tape.old.items ++ (word Big Four (pos (length text.now)) ++ text.now)) }
+{
+    push_count(tape, text.len())?;
+    tape.extend_from_slice(text)
 }
