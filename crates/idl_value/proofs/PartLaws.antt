@@ -14,6 +14,9 @@ module _ (graph : List Node) where
   held_are_within : (node : Node) → IsNode graph node → AreWithin graph (held_by node)
   held_are_within node h = recursion_from_All (λ number. number < length graph) (held_by node) (held_within graph node h)
 
+  pub repeated_are_within : (n number : ℕ) → number < length graph → AreWithin graph (replicate n number)
+  repeated_are_within n number lt = all_repeated (λ m. m < length graph) n number lt
+
   pub elements_are_within : (elem bound n : ℕ) → IsNode graph (Seq elem bound) → AreWithin graph (replicate n elem)
   elements_are_within elem bound n h = all_repeated (λ number. number < length graph) n elem (elem_within graph elem bound h)
 

@@ -1,6 +1,7 @@
 //! Whether values are of a type.
 
-ghost use Rattle.std.specs.Prelude.{◌≡◌, ℕ, ◌<◌, ◌↔◌, length, IsTrue};
+ghost use Rattle.std.specs.Prelude.{◌≡◌, ℕ, ◌<◌, ◌↔◌, List, length, IsTrue};
+ghost use Rattle.type_graph.specs.declared.node.Node.{Node};
 ghost use Rattle.type_graph.specs.GraphRules.{IsNode};
 ghost use Rattle.type_graph.specs.Value.{node_at, Bytes, Items, Choice, IsNumber, Fits, FitAll};
 ghost use Rattle.idl_value.specs.View.{tree_of, trees_of, member_of};
@@ -13,8 +14,8 @@ use crate::texts::is_text;
 use crate::value::Value;
 use type_graph::{Graph, Node};
 
-fn is_string(graph: &Graph, node: &Node, text: &[u8]) -> bool
-    ensures { (depth : ℕ) → IsTrue result ↔ Fits graph.now node.now (Bytes text.now) depth }
+fn is_string(node: &Node, text: &[u8]) -> bool
+    ensures { (graph : List Node) (depth : ℕ) → IsTrue result ↔ Fits graph node.now (Bytes text.now) depth }
 {
     match node {
         Node::Text { bound } => is_text(*bound, text),
@@ -33,7 +34,7 @@ pub fn is_value(graph: &Graph, number: u32, value: &Value, depth: u32) -> bool
     };
     match value {
         Value::Whole(n) => is_number(node, *n),
-        Value::Text(text) => is_string(graph, node, text),
+        Value::Text(text) => is_string(node, text),
         Value::Items(values) => are_items(graph, node, values, depth),
         Value::Choice { disc, member } => is_choice(graph, node, *disc, member, depth),
     }

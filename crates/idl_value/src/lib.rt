@@ -1,21 +1,25 @@
 //! Values of IDL types outside any program, and their tapes.
 #![tactic(auto)]
 
-ghost use Rattle.std.specs.Prelude.{◌≡◌, ◌<◌, ◌↔◌, length, IsTrue, IfOk, OnOk, IsErrOf};
-ghost use Rattle.type_graph.specs.Value.{node_at, Fits, tape_of};
+ghost use Rattle.std.specs.Prelude.{◌≡◌, ◌<◌, ◌↔◌, length, IsTrue, IfOk, IfErr, OnOk, IsErrOf};
+ghost use Rattle.type_graph.specs.Value.{Tree, node_at, Fits, tape_of};
 ghost use Rattle.idl_value.specs.View.{tree_of};
+ghost use Rattle.idl_value.specs.Refusal.{RefusesTape};
 
 pub mod fault;
 mod fitting;
+pub mod laws;
 mod nodes;
 mod numbers;
 mod packing;
 mod parts;
 mod texts;
+mod unpacking;
 pub mod value;
 
 use crate::fitting::is_value;
 use crate::packing::push_value;
+use crate::unpacking::read_value;
 pub use fault::ValueFault;
 use std::alloc::Global;
 use type_graph::Graph;
@@ -49,4 +53,22 @@ pub fn pack(alloc: Global, graph: &Graph, node: u32, value: &Value) -> Result<Ve
     let mut tape = Vec::new(alloc);
     push_value(&mut tape, graph, node, value)?;
     Ok(tape)
+}
+
+/// The value of a node that has this tape, the whole of it.
+///
+/// # Errors
+/// `NotATape` only where no value of the node has this tape, or want of memory.
+pub fn unpack(alloc: Global, graph: &Graph, node: u32, tape: &[u8]) -> Result<Value, ValueFault>
+    requires { node < length graph.now }
+    ensures fits { IfOk result (λ value. Fits graph.now (node_at graph.now node) (tree_of value) 64) }
+    ensures tape { IfOk result (λ value. tape_of graph.now (node_at graph.now node) (tree_of value) ≡ tape.now) }
+    ensures refused { IfErr result (λ fault. RefusesTape fault ((value : Tree) → Fits graph.now (node_at graph.now node) value 64
+        → tape_of graph.now (node_at graph.now node) value ≡ tape.now → ⊥)) }
+{
+    let (value, rest) = read_value(alloc, graph, node, tape, MAX_DEPTH)?;
+    if !rest.is_empty() {
+        return Err(ValueFault::NotATape);
+    }
+    Ok(value)
 }

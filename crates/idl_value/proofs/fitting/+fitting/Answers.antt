@@ -1,8 +1,8 @@
-use Rattle.std.proofs.Common.{ℕ, ℤ, ◌↔◌, List, length, false, IsTrue, option_to_list, inl, inr, refl, sym, ap, ◌∙◌, subst, arith, rules}
+use Rattle.std.proofs.Common.{◌≡◌, ℕ, ℤ, ◌↔◌, List, length, false, IsTrue, option_to_list, inl, inr, refl, sym, ap, ◌∙◌, subst, arith, rules}
 use Rattle.type_graph.specs.declared.node.Node.{Node}
 use Rattle.type_graph.specs.declared.node.Node.TheVariants.{Union}
 use Rattle.type_graph.specs.GraphRules.{IsNode}
-use Rattle.type_graph.specs.Value.{Items, Choice, node_at, arm_of, IsNumber, Fits, FitAll}
+use Rattle.type_graph.specs.Value.{Bytes, Items, Choice, node_at, arm_of, IsNumber, Fits, FitAll}
 use Rattle.idl_value.specs.View.{tree_of, trees_of, member_of}
 use Rattle.idl_value.specs.PartList.{AreWithin}
 use Rattle.std.proofs.lemmas.Bool.{false≢true}
@@ -10,6 +10,7 @@ use Rattle.std.proofs.lemmas.Int.{to_z-of_z}
 use mir.Syntax.{w128}
 use mir.Val.{SFits}
 use Rattle.type_graph.proofs.Held.{switch_within}
+use Rattle.idl_value.proofs.ViewLaws.{tree_of-text}
 use Rattle.idl_value.proofs.PartLaws.{elements_are_within, copies_are_within, members_are_within, frame_is_within, arm_is_within}
 use Rattle.idl_value.proofs.FitLaws.{sequence_fits, no_sequence, union_fits, empty_union_fits}
 use Rattle.idl_value.proofs.fitting.+fitting.Goals as goal
@@ -86,3 +87,13 @@ is_choice-returns-in-None-None t c = λ node_rules.
     let fits = subst (λ node. Fits graph node (Choice disc (member_of c.args.member.now)) c.args.depth) (sym c.in-Union.is)
     (subst (λ member. Fits graph (Union switch arms default) (Choice disc (member_of member)) c.args.depth) (sym c.in-None-None.is-1) whole) in
     (λ t. fits, λ h. refl)
+
+pub is_value-returns-in-Text : goal.is_value-returns-in-Text
+is_value-returns-in-Text t c = λ inside.
+    let graph = c.args.graph.now in
+    let node : c.in-Some.node.now ≡ node_at graph c.args.number = search rules in
+    let r = c.is_string.result in
+    let same = c.is_string.ensures graph c.args.depth in
+    let tree = ap Bytes c.deref.ensures.value ∙ sym (ap tree_of c.in-Text.is ∙ tree_of-text c.in-Text.text) in
+    subst (λ value. IsTrue r ↔ Fits graph (node_at graph c.args.number) value c.args.depth) tree
+    (subst (λ found. IsTrue r ↔ Fits graph found (Bytes c.deref.result.now) c.args.depth) node same)
