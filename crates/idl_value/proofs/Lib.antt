@@ -4,4 +4,5 @@ pub mod FitLaws
 pub mod WordForms
 pub mod PackLaws
 pub mod Heights
+pub mod TapeLengths
 pub mod UnpackLaws

@@ -98,8 +98,8 @@ fn read_sequence<'t>(
     tape: &'t [u8],
     depth: u32,
 ) -> Result<(Value, &'t [u8]), ValueFault>
-    ensures found { IfOk result (λ r. IsGraph graph.now → elem < length graph.now → Begins graph.now (Seq elem bound) depth tape.entry.now (tree_of r.0) r.1.now) }
-    ensures refused { IfErr result (λ fault. IsGraph graph.now → elem < length graph.now → RefusesTape fault (BeginsWithNone graph.now (Seq elem bound) depth tape.entry.now)) }
+    ensures found { IfOk result (λ r. IsGraph graph.now → IsNode graph.now (Seq elem bound) → Begins graph.now (Seq elem bound) depth tape.entry.now (tree_of r.0) r.1.now) }
+    ensures refused { IfErr result (λ fault. IsGraph graph.now → IsNode graph.now (Seq elem bound) → RefusesTape fault (BeginsWithNone graph.now (Seq elem bound) depth tape.entry.now)) }
 {
     if depth == 0 {
         return Err(ValueFault::NotATape);
@@ -108,6 +108,10 @@ fn read_sequence<'t>(
         return Err(ValueFault::NotATape);
     };
     if !is_count(bound, count) {
+        return Err(ValueFault::NotATape);
+    }
+    // Each element takes an octet at least.
+    if count > rest.len() {
         return Err(ValueFault::NotATape);
     }
     let parts = Parts::Copies {

@@ -1,4 +1,4 @@
-use Rattle.std.proofs.Common.{◌≡◌, ℕ, ℤ, ◌≤◌, List, ◌∷◌, [], ◌++◌, replicate, Some, option_to_list, inl, inr, refl, sym, ap, ap₂, ◌∙◌, subst, arith, rules}
+use Rattle.std.proofs.Common.{◌≡◌, ◌-◌, ℕ, ℤ, ◌≤◌, List, ◌∷◌, [], ◌++◌, replicate, Some, option_to_list, inl, inr, refl, sym, ap, ap₂, ◌∙◌, subst, arith, rules}
 use Rattle.std.proofs.lemmas.Result.{err_from_is_err_and, IfOk-weaker, IfErr-weaker}
 use Rattle.std.proofs.lemmas.Int.{to_z-of_z}
 use mir.Syntax.{w128}
@@ -18,6 +18,7 @@ use Rattle.idl_value.specs.Unpacking.{IsItems, Begins, BeginsWithNone, BeginsAll
 use Rattle.idl_value.proofs.ViewLaws.{tree_of-items, tree_of-choice}
 use Rattle.idl_value.proofs.PartLaws.{repeated_are_within, copies_are_within, members_are_within, frame_is_within, arm_is_within}
 use Rattle.idl_value.proofs.Heights.{height_in, height_unfolds, height_bound, above_copies, above_arm}
+use Rattle.idl_value.proofs.TapeLengths.{too_few_octets}
 use Rattle.idl_value.proofs.UnpackLaws.{joined, joined-none, begins_next, only_next, none_next, refuses_weaker, no_switch, no_items, items_begin, array_items, struct_items, frame_items, sequence_begins, no_sequence_begins, union_begins, no_union_begins}
 use Rattle.idl_value.proofs.unpacking.+unpacking.Goals as goal
 
@@ -81,8 +82,9 @@ read_sequence-read_values-requires t c =
     (omega (arith, d, copies, bound), tt)
 
 pub read_sequence-returns-clause-found : goal.read_sequence-returns-clause-found
-read_sequence-returns-clause-found t c = λ rules_of_graph inside.
+read_sequence-returns-clause-found t c = λ rules_of_graph node_rules.
     let graph = c.args.graph.now in
+    let inside = elem_within graph c.args.elem c.args.bound node_rules in
     let values = c.in_ok-values.values in
     let behind = c.in_ok-values.rest.now in
     let read = c.in-Some.ensures.found in
@@ -94,11 +96,19 @@ read_sequence-returns-clause-found t c = λ rules_of_graph inside.
 pub read_sequence-returns-in_err-values-clause-refused : goal.read_sequence-returns-in_err-values-clause-refused
 read_sequence-returns-in_err-values-clause-refused t c =
     let p = err_from_is_err_and c.from_residual.result c.from_residual.ensures.1 in
-    rw (p.1, p.2) (λ rules_of_graph inside.
+    rw (p.1, p.2) (λ rules_of_graph node_rules.
     let graph = c.args.graph.now in
+    let inside = elem_within graph c.args.elem c.args.bound node_rules in
     let read = c.in-Some.ensures.found in
     refuses_weaker _ (no_sequence_begins graph c.args.elem c.args.bound c.args.depth c.in-Some.count c.args.tape.now c.in-Some.rest.now read.0 read.1)
     (c.in_err-values.ensures.refused rules_of_graph (repeated_are_within graph c.in-Some.count c.args.elem inside)))
+
+pub read_sequence-returns-then-count-rest-clause-refused : goal.read_sequence-returns-then-count-rest-clause-refused
+read_sequence-returns-then-count-rest-clause-refused t c = λ rules_of_graph node_rules.
+    let graph = c.args.graph.now in
+    let read = c.in-Some.ensures.found in
+    no_sequence_begins graph c.args.elem c.args.bound c.args.depth c.in-Some.count c.args.tape.now c.in-Some.rest.now read.0 read.1
+    (too_few_octets graph rules_of_graph c.in-Some.count c.args.elem (c.args.depth - 1) c.in-Some.rest.now node_rules.0 (omega arith))
 
 pub read_value-read_items-requires : goal.read_value-read_items-requires
 read_value-read_items-requires t c =
@@ -142,8 +152,8 @@ read_value-returns-in-Seq-clause-found t c =
     let node : c.in-Some.node.now ≡ node_at graph number = search rules in
     let is = sym node ∙ c.in-Seq.is in
     IfOk-weaker c.read_sequence.result _ _ (λ r found inside.
-    let within = elem_within graph c.in-Seq.elem c.in-Seq.bound (subst (IsNode graph) is (c.nodes.ensures.rules.nodes number Octet inside)) in
-    subst (λ at. Begins graph at c.args.depth c.args.tape.now (tree_of r.0) r.1.now) (sym is) (found c.nodes.ensures.rules within)) c.read_sequence.ensures.found
+    let node_rules = subst (IsNode graph) is (c.nodes.ensures.rules.nodes number Octet inside) in
+    subst (λ at. Begins graph at c.args.depth c.args.tape.now (tree_of r.0) r.1.now) (sym is) (found c.nodes.ensures.rules node_rules)) c.read_sequence.ensures.found
 
 pub read_value-returns-in-Seq-clause-refused : goal.read_value-returns-in-Seq-clause-refused
 read_value-returns-in-Seq-clause-refused t c =
@@ -152,8 +162,8 @@ read_value-returns-in-Seq-clause-refused t c =
     let node : c.in-Some.node.now ≡ node_at graph number = search rules in
     let is = sym node ∙ c.in-Seq.is in
     IfErr-weaker c.read_sequence.result _ _ (λ fault refused inside.
-    let within = elem_within graph c.in-Seq.elem c.in-Seq.bound (subst (IsNode graph) is (c.nodes.ensures.rules.nodes number Octet inside)) in
-    subst (λ at. RefusesTape fault (BeginsWithNone graph at c.args.depth c.args.tape.now)) (sym is) (refused c.nodes.ensures.rules within)) c.read_sequence.ensures.refused
+    let node_rules = subst (IsNode graph) is (c.nodes.ensures.rules.nodes number Octet inside) in
+    subst (λ at. RefusesTape fault (BeginsWithNone graph at c.args.depth c.args.tape.now)) (sym is) (refused c.nodes.ensures.rules node_rules)) c.read_sequence.ensures.refused
 
 pub read_value-returns-in-Array-clause-found : goal.read_value-returns-in-Array-clause-found
 read_value-returns-in-Array-clause-found t c =
