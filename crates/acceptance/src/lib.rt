@@ -15,3 +15,5 @@ mod runs;
 mod sample;
 #[cfg(test)]
 mod shapes;
+#[cfg(test)]
+mod values;

@@ -1,0 +1,8 @@
+pub mod ViewLaws
+pub mod PartLaws
+pub mod FitLaws
+pub mod WordForms
+pub mod PackLaws
+pub mod Heights
+pub mod TapeLengths
+pub mod UnpackLaws

@@ -1,0 +1,5 @@
+pub mod View
+pub mod Refusal
+pub mod PartList
+pub mod Packing
+pub mod Unpacking
