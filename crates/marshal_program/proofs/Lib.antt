@@ -1,3 +1,5 @@
 pub mod GrowthLaws
 pub mod RunLaws
 pub mod PlainRight
+pub mod WorkLaws
+pub mod Chosen

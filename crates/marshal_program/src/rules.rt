@@ -1,12 +1,13 @@
 //! The tests of the rules that make a list of routines a program.
 
-ghost use Rattle.std.specs.Prelude.{◌≡◌, ◌<◌, ◌≤◌, ◌↔◌, All, length, IsTrue};
+ghost use Rattle.std.specs.Prelude.{◌≡◌, ◌<◌, ◌≤◌, ◌↔◌, All, length, IsTrue, option_to_list};
 ghost use Rattle.std.specs.List.{list_any};
 ghost use Rattle.type_graph.specs.GraphRules.{IsWide};
-ghost use Rattle.marshal_program.specs.ProgramRules.{named_by, called_by, is_work, TakesOctet, IsLower, all_instrs};
+ghost use Rattle.type_graph.specs.Labels.{AreRising};
+ghost use Rattle.marshal_program.specs.ProgramRules.{IsDisc, arms_of, named_by, called_by, is_work, TakesOctet, IsLower, all_instrs};
 ghost use Rattle.marshal_program.specs.RuleTests.{HasNumbers, HasAllNumbers, NamesWork, CallsLower};
 
-use crate::instr::{Instr, Routine};
+use crate::instr::{Disc, Instr, Routine};
 use type_graph::Width;
 
 pub const MAX_ROUTINES: usize = 8192;
@@ -14,6 +15,9 @@ pub const MAX_ROUTINES: usize = 8192;
 const MAX_INSTRS: usize = 65536;
 
 const MAX_RANK: u32 = 63;
+
+/// How many times `Times` may run a routine.
+const MAX_TIMES: u32 = 1_048_576;
 
 fn is_wide(width: Width) -> bool
     ensures { IsTrue result ↔ IsWide width }
@@ -24,16 +28,69 @@ fn is_wide(width: Width) -> bool
     }
 }
 
+fn is_disc(disc: Disc) -> bool
+    ensures { IsTrue result ↔ IsDisc disc }
+{
+    match disc {
+        Disc::Char | Disc::Boolean => true,
+        Disc::Word { width, .. } => is_wide(width),
+        Disc::Enum { n } => n > 0,
+    }
+}
+
+fn are_rising(arms: &[(i128, u32)]) -> bool
+    ensures { IsTrue result ↔ AreRising arms.now }
+{
+    for next in 1..arms.len() {
+        if arms[next - 1].0 >= arms[next].0 {
+            return false;
+        }
+    }
+    true
+}
+
+fn labels_in_range(count: usize, arms: &[(i128, u32)]) -> bool
+    ensures { IsTrue result ↔ All (λ arm. arm.1 < count) arms.now }
+{
+    arms.iter().all(|arm| (arm.1 as usize) < count)
+}
+
+fn other_in_range(count: usize, otherwise: Option<u32>) -> bool
+    ensures { IsTrue result ↔ All (λ number. number < count) (option_to_list otherwise) }
+{
+    match otherwise {
+        None => true,
+        Some(number) => (number as usize) < count,
+    }
+}
+
+fn are_in_range(count: usize, arms: &[(i128, u32)], otherwise: Option<u32>) -> bool
+    ensures { IsTrue result ↔ All (λ number. number < count) (arms_of arms.now otherwise) }
+{
+    labels_in_range(count, arms) && other_in_range(count, otherwise)
+}
+
 fn has_numbers(count: usize, instr: &Instr) -> bool
     ensures { IsTrue result ↔ HasNumbers count instr.now }
 {
     match instr {
         Instr::Align { to } => is_wide(*to),
-        Instr::Octets { n } => *n > 0,
+        Instr::Octets { n } | Instr::Bools { n } => *n > 0,
         Instr::Words { width, n } => is_wide(*width) && *n > 0,
-        Instr::Text { .. } => true,
-        Instr::Call { routine } => (*routine as usize) < count,
-        _ => false,
+        Instr::EnumWord { limit } => *limit > 0,
+        Instr::Text { .. } | Instr::SeqOctets { .. } | Instr::SeqBools { .. } => true,
+        Instr::SeqWords { width, .. } => is_wide(*width),
+        Instr::Times { n, routine } => { *n > 0 && *n <= MAX_TIMES && (*routine as usize) < count }
+        Instr::SeqOf { routine, .. } | Instr::Call { routine } => (*routine as usize) < count,
+        Instr::Switch {
+            disc,
+            arms,
+            otherwise,
+        } => {
+            is_disc(*disc)
+                && are_rising(arms.as_slice())
+                && are_in_range(count, arms.as_slice(), *otherwise)
+        }
     }
 }
 
@@ -73,11 +130,39 @@ fn takes_octet(routines: &[Routine], number: u32) -> bool
     }
 }
 
+fn labels_take_octet(routines: &[Routine], arms: &[(i128, u32)]) -> bool
+    ensures { IsTrue result ↔ All (λ arm. TakesOctet routines.now arm.1) arms.now }
+{
+    arms.iter().all(|arm| takes_octet(routines, arm.1))
+}
+
+fn other_takes_octet(routines: &[Routine], otherwise: Option<u32>) -> bool
+    ensures { IsTrue result ↔ All (TakesOctet routines.now) (option_to_list otherwise) }
+{
+    match otherwise {
+        None => true,
+        Some(number) => takes_octet(routines, number),
+    }
+}
+
+fn all_take_octet(routines: &[Routine], arms: &[(i128, u32)], otherwise: Option<u32>) -> bool
+    ensures { IsTrue result ↔ All (TakesOctet routines.now) (arms_of arms.now otherwise) }
+{
+    labels_take_octet(routines, arms) && other_takes_octet(routines, otherwise)
+}
+
 fn instr_names_work(routines: &[Routine], instr: &Instr) -> bool
     ensures { IsTrue result ↔ All (TakesOctet routines.now) (named_by instr.now) }
 {
     match instr {
-        Instr::Call { routine } => takes_octet(routines, *routine),
+        Instr::SeqOf { routine, .. } | Instr::Times { routine, .. } | Instr::Call { routine } => {
+            takes_octet(routines, *routine)
+        }
+        Instr::Switch {
+            arms,
+            otherwise,
+            ..
+        } => all_take_octet(routines, arms.as_slice(), *otherwise),
         _ => true,
     }
 }
@@ -99,11 +184,39 @@ fn is_lower(routines: &[Routine], rank: u32, number: u32) -> bool
     }
 }
 
+fn labels_lower(routines: &[Routine], rank: u32, arms: &[(i128, u32)]) -> bool
+    ensures { IsTrue result ↔ All (λ arm. IsLower routines.now rank arm.1) arms.now }
+{
+    arms.iter().all(|arm| is_lower(routines, rank, arm.1))
+}
+
+fn other_lower(routines: &[Routine], rank: u32, otherwise: Option<u32>) -> bool
+    ensures { IsTrue result ↔ All (IsLower routines.now rank) (option_to_list otherwise) }
+{
+    match otherwise {
+        None => true,
+        Some(number) => is_lower(routines, rank, number),
+    }
+}
+
+fn all_lower(routines: &[Routine], rank: u32, arms: &[(i128, u32)], otherwise: Option<u32>) -> bool
+    ensures { IsTrue result ↔ All (IsLower routines.now rank) (arms_of arms.now otherwise) }
+{
+    labels_lower(routines, rank, arms) && other_lower(routines, rank, otherwise)
+}
+
 fn instr_calls_lower(routines: &[Routine], rank: u32, instr: &Instr) -> bool
     ensures { IsTrue result ↔ All (IsLower routines.now rank) (called_by instr.now) }
 {
     match instr {
-        Instr::Call { routine } => is_lower(routines, rank, *routine),
+        Instr::Times { routine, .. } | Instr::Call { routine } => {
+            is_lower(routines, rank, *routine)
+        }
+        Instr::Switch {
+            arms,
+            otherwise,
+            ..
+        } => all_lower(routines, rank, arms.as_slice(), *otherwise),
         _ => true,
     }
 }

@@ -6,5 +6,7 @@ pub mod PassAgreement
 pub mod WordAgreement
 pub mod TextParts
 pub mod TextAgreement
+pub mod NumberAgreement
+pub mod DiscAgreement
 pub mod RunAgreement
 pub mod WholeRuns

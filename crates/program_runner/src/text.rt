@@ -2,7 +2,8 @@
 
 ghost use Rattle.std.specs.Prelude.{◌≡◌, ◌==◌};
 ghost use Rattle.std.specs.List.{list_any};
-ghost use Rattle.program_runner.specs.Steps.{Gives, number_at, is_over, read_length, tape_length, no_zero, terminated, unterminated};
+ghost use Rattle.type_graph.specs.declared.width.Width.TheVariants.{Four};
+ghost use Rattle.program_runner.specs.Steps.{Gives, has_no_bool, number_at, is_over, read_length, tape_length, no_zero, terminated, unterminated};
 
 use crate::fault::RunFault;
 use memchr::memchr;
@@ -10,7 +11,7 @@ use type_graph::Order;
 
 /// The unsigned long at the front (ISO/IEC 19500-2, CDR, integer data types).
 pub fn number_at_front(order: Order, octets: &[u8]) -> Result<u32, RunFault>
-    ensures { Gives (λ n. n) result (number_at order octets.now) }
+    ensures { Gives (λ n. n) result (number_at order Four octets.now) }
 {
     if octets.len() < 4 {
         return Err(RunFault::Short);
@@ -22,7 +23,15 @@ pub fn number_at_front(order: Order, octets: &[u8]) -> Result<u32, RunFault>
     }
 }
 
-fn is_over_bound(bound: u32, n: u32) -> bool
+/// One of the octets is neither 0 nor 1.
+pub fn has_no_bool(octets: &[u8]) -> bool
+    ensures { result ≡ has_no_bool octets.now }
+{
+    octets.iter().any(|octet| *octet > 1)
+}
+
+/// More than a bound, where there is one.
+pub fn is_over_bound(bound: u32, n: u32) -> bool
     ensures { result ≡ is_over bound n }
 {
     bound != 0 && n > bound

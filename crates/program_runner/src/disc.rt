@@ -1,0 +1,158 @@
+//! The numbers of discriminators.
+
+ghost use Rattle.std.specs.Prelude.{◌≡◌, ◌<◌, ◌++◌, ◌^◌, ◌-◌, ◌*◌, nat_lt, pos, negsuc, if◌then◌else◌, IfOk, OnOk, option_to_list};
+ghost use Rattle.type_graph.specs.declared.width.Width.TheVariants.{One, Two, Eight};
+ghost use Rattle.type_graph.specs.Words.{octets_in, words_of, plain_word};
+ghost use Rattle.type_graph.specs.Value.{arm_of, number_width};
+ghost use Rattle.marshal_program.specs.Does.{node_of};
+ghost use Rattle.program_runner.specs.Steps.{Gives, number_at, disc_number};
+
+use crate::fault::RunFault;
+use crate::text::number_at_front;
+use crate::words::push_number;
+use marshal_program::Disc;
+use std::alloc::AllocError;
+use type_graph::{Order, Width};
+
+/// The size of a discriminator.
+pub fn disc_width(disc: Disc) -> Width
+    ensures { result ≡ number_width (node_of disc) }
+{
+    match disc {
+        Disc::Char | Disc::Boolean => Width::One,
+        Disc::Word { width, .. } => width,
+        Disc::Enum { .. } => Width::Four,
+    }
+}
+
+fn octet_at_front(octets: &[u8]) -> Result<u8, RunFault>
+    ensures { Gives (λ n. n) result (number_at Order.Big One octets.now) }
+{
+    match octets.first() {
+        None => Err(RunFault::Short),
+        Some(octet) => Ok(*octet),
+    }
+}
+
+fn short_at_front(order: Order, octets: &[u8]) -> Result<u16, RunFault>
+    ensures { Gives (λ n. n) result (number_at order Two octets.now) }
+{
+    if octets.len() < 2 {
+        return Err(RunFault::Short);
+    }
+    let word = [octets[0], octets[1]];
+    match order {
+        Order::Big => Ok(u16::from_be_bytes(word)),
+        Order::Little => Ok(u16::from_le_bytes(word)),
+    }
+}
+
+fn long_long_at_front(order: Order, octets: &[u8]) -> Result<u64, RunFault>
+    ensures { Gives (λ n. n) result (number_at order Eight octets.now) }
+{
+    if octets.len() < 8 {
+        return Err(RunFault::Short);
+    }
+    let word = [
+        octets[0], octets[1], octets[2], octets[3], octets[4], octets[5], octets[6], octets[7],
+    ];
+    match order {
+        Order::Big => Ok(u64::from_be_bytes(word)),
+        Order::Little => Ok(u64::from_le_bytes(word)),
+    }
+}
+
+/// The unsigned number of a width at the front (ISO/IEC 19500-2, CDR, integer data types).
+pub fn word_at_front(order: Order, width: Width, octets: &[u8]) -> Result<u64, RunFault>
+    ensures value { Gives (λ n. n) result (number_at order width octets.now) }
+    ensures small { IfOk result (λ n. n < words_of width) }
+{
+    match width {
+        Width::One => Ok(octet_at_front(octets)? as u64),
+        Width::Two => Ok(short_at_front(order, octets)? as u64),
+        Width::Four => Ok(number_at_front(order, octets)? as u64),
+        Width::Eight => long_long_at_front(order, octets),
+    }
+}
+
+fn push_short(out: &mut Vec<u8>, order: Order, n: u16) -> Result<(), AllocError>
+    ensures { OnOk result (out.new.items ≡ out.old.items ++ plain_word order Two n) }
+{
+    let word = match order {
+        Order::Big => n.to_be_bytes(),
+        Order::Little => n.to_le_bytes(),
+    };
+    out.extend_from_slice(&word)
+}
+
+fn push_long_long(out: &mut Vec<u8>, order: Order, n: u64) -> Result<(), AllocError>
+    ensures { OnOk result (out.new.items ≡ out.old.items ++ plain_word order Eight n) }
+{
+    let word = match order {
+        Order::Big => n.to_be_bytes(),
+        Order::Little => n.to_le_bytes(),
+    };
+    out.extend_from_slice(&word)
+}
+
+fn push_octet(out: &mut Vec<u8>, order: Order, n: u8) -> Result<(), AllocError>
+    ensures { OnOk result (out.new.items ≡ out.old.items ++ plain_word order One n) }
+{
+    Ok(out.push(n)?)
+}
+
+/// An unsigned number of a width at the end.
+pub fn push_word(out: &mut Vec<u8>, order: Order, width: Width, n: u64) -> Result<(), AllocError>
+    requires { n < words_of width }
+    ensures { OnOk result (out.new.items ≡ out.old.items ++ plain_word order width n) }
+{
+    match width {
+        Width::One => push_octet(out, order, n as u8),
+        Width::Two => push_short(out, order, n as u16),
+        Width::Four => push_number(out, order, n as u32),
+        Width::Eight => push_long_long(out, order, n),
+    }
+}
+
+/// The number of two's complement that a pattern of a width stands for.
+fn signed_number(width: Width, n: u64) -> i128
+    requires { n < words_of width }
+    ensures { result ≡ (if nat_lt n (2 ^ (8 * octets_in width - 1)) then pos n else negsuc (words_of width - 1 - n)) }
+{
+    let (half, count) = match width {
+        Width::One => (0x80, 0x100),
+        Width::Two => (0x8000, 0x1_0000),
+        Width::Four => (0x8000_0000, 0x1_0000_0000),
+        Width::Eight => (0x8000_0000_0000_0000, 0x1_0000_0000_0000_0000),
+    };
+    let n = n as i128;
+    if n < half { n } else { n - count }
+}
+
+/// The number that the octets of a discriminator stand for.
+pub fn disc_number(disc: Disc, n: u64) -> Result<i128, RunFault>
+    requires { n < words_of (number_width (node_of disc)) }
+    ensures { Gives (λ a. a) result (disc_number disc n) }
+{
+    match disc {
+        Disc::Boolean if n > 1 => Err(RunFault::BadBool),
+        Disc::Enum { n: limit } if n >= limit as u64 => Err(RunFault::BadEnum),
+        Disc::Word {
+            width,
+            signed: true,
+        } => Ok(signed_number(width, n)),
+        _ => Ok(n as i128),
+    }
+}
+
+/// What the label `a` chooses, if anything.
+pub fn chosen(arms: &[(i128, u32)], otherwise: Option<u32>, a: i128) -> Option<u32>
+    ensures { option_to_list result ≡ arm_of arms.now otherwise a }
+{
+    for (label, number) in arms {
+        if *label == a {
+            return Some(*number);
+        }
+    }
+    otherwise
+}
