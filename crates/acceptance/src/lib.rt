@@ -4,6 +4,8 @@
 #[cfg(test)]
 mod graphs;
 #[cfg(test)]
+mod instructions;
+#[cfg(test)]
 mod kinds;
 #[cfg(test)]
 mod models;
