@@ -3,6 +3,5 @@ pub mod PartLaws
 pub mod FitLaws
 pub mod WordForms
 pub mod PackLaws
-pub mod Heights
 pub mod TapeLengths
 pub mod UnpackLaws

@@ -3,3 +3,5 @@ pub mod RunLaws
 pub mod PlainRight
 pub mod WorkLaws
 pub mod Chosen
+pub mod PlainPlaces
+pub mod PlainRules

@@ -1,7 +1,8 @@
-//! Why octets are no table, and a list of routines no program.
+//! Why octets are no table, a list of routines no program, and why no program was made.
 
 ghost use Rattle.std.specs.Prelude.{◌≡◌};
 ghost use Rattle.marshal_program.specs.declared.fault.TableFault.TheVariants.{NoMemory};
+ghost use Rattle.marshal_program.specs.declared.fault.GenFault.TheVariants.{NoMemory as NoMemoryToMake};
 
 use std::alloc::{AllocError, AllocFailed};
 use thiserror::Error;
@@ -43,5 +44,31 @@ impl<T: Drop> From<AllocFailed<T>> for TableFault {
 
     fn from(_error: AllocFailed<T>) -> TableFault {
         TableFault::NoMemory
+    }
+}
+
+/// Why no program was made of a model. A fault has its number and name as its text.
+#[derive(Debug, Drop, Error)]
+pub enum GenFault {
+    /// The program would pass a limit.
+    #[error("70 Limit")]
+    Limit,
+    #[error("no memory")]
+    NoMemory,
+}
+
+impl From<AllocError> for GenFault {
+    ghost from_gives = { λ _ fault. fault ≡ NoMemoryToMake };
+
+    fn from(_error: AllocError) -> GenFault {
+        GenFault::NoMemory
+    }
+}
+
+impl<T: Drop> From<AllocFailed<T>> for GenFault {
+    ghost from_gives = { λ _ fault. fault ≡ NoMemoryToMake };
+
+    fn from(_error: AllocFailed<T>) -> GenFault {
+        GenFault::NoMemory
     }
 }

@@ -7,6 +7,7 @@ ghost use Rattle.type_graph.specs.Encoding.{Means};
 ghost use Rattle.type_graph.specs.GraphRules.{IsGraph};
 ghost use Rattle.marshal_program.specs.declared.instr.Routine.{Routine};
 ghost use Rattle.marshal_program.specs.Does.{Runs};
+ghost use Rattle.marshal_program.specs.ProgramRules.{IsProgram};
 ghost use Rattle.marshal_program.specs.Plain.{HasPlainProgram, plain_program};
 
 /// What a routine relates at a position, it relates at every position that is the same modulo 8.
@@ -21,4 +22,9 @@ pub fn plain_program_is_right()
     ensures right { (graph : List Node) → HasPlainProgram graph → (way : Way) (depth number p : ℕ) (tape octets : List ℕ) → number < length graph
         → Runs (plain_program graph) way depth number p tape octets ↔ Means graph way depth number p tape octets }
     ensures every_graph { (graph : List Node) → IsGraph graph → HasPlainProgram graph }
+{}
+
+/// The plain program of a graph that keeps its rules keeps those of a program, its limits included.
+pub fn plain_program_keeps_the_rules()
+    ensures { (graph : List Node) → IsGraph graph → IsProgram (plain_program graph) }
 {}

@@ -7,6 +7,6 @@ pub mod laws;
 pub mod program;
 mod rules;
 
-pub use fault::TableFault;
+pub use fault::{GenFault, TableFault};
 pub use instr::{Code, Disc, Instr, Routine};
 pub use program::Program;

@@ -14,7 +14,7 @@ use Rattle.program_runner.specs.declared.fault.RunFault.{RunFault}
 use Rattle.program_runner.specs.declared.fault.RunFault.TheVariants.{Short, BadBool, BadEnum, BadLength, NoTerminator, ZeroInside, OverBound, TooDeep, TapeLeft, NoMemory}
 use Rattle.program_runner.specs.Refusal.{OnlyIf}
 use Rattle.position_checker.specs.Table.{Table, IsAccepted}
-use Rattle.position_checker.proofs.PlainList.{length-plain_program}
+use Rattle.marshal_program.proofs.PlainPlaces.{length-plain_program}
 
 -- a graph and its plain program
 plain_is_accepted : (graph : List Node) → IsGraph graph → IsAccepted (record { graph = graph; program = plain_program graph })

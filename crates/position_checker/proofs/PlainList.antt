@@ -1,5 +1,5 @@
 -- A list of plain routines is the plain program.
-use Rattle.std.proofs.Common.{◌≡◌, ℕ, zero, suc, ◌+◌, ◌^◌, ◌<◌, List, [], ◌∷◌, length, replicate, Option, Some, None, slice_get, slice_index_or, refl, sym, ap, subst, ◌∙◌, add-zero, zero-add, arith}
+use Rattle.std.proofs.Common.{◌≡◌, ℕ, zero, suc, ◌^◌, ◌<◌, List, length, replicate, Option, Some, None, slice_get, slice_index_or, refl, sym, ap, subst, ◌∙◌, arith}
 use Rattle.std.specs.List.{AllByRecursion}
 use Rattle.std.specs.Prelude.{IsSomeAnd}
 use Rattle.std.proofs.lemmas.List.Elements.{recursion_from_All}
@@ -11,31 +11,15 @@ use Rattle.type_graph.specs.Value.{node_at}
 use Rattle.type_graph.specs.GraphRules.{IsGraph, IsShallow, held_by}
 use Rattle.type_graph.specs.Walks.{above, height_within}
 use Rattle.type_graph.proofs.Held.{held_within}
+use Rattle.type_graph.proofs.Heights.{above_same, height_steady}
 use Rattle.marshal_program.specs.declared.instr.Instr.{Instr}
 use Rattle.marshal_program.specs.declared.instr.Routine.{Routine}
 use Rattle.marshal_program.specs.ProgramRules.{IsProgram}
-use Rattle.marshal_program.specs.Plain.{plain_code, plain_routine, plain_from, plain_program}
+use Rattle.marshal_program.specs.Plain.{plain_code, plain_routine, plain_program}
+use Rattle.marshal_program.proofs.PlainPlaces.{length-plain_program, plain_program_at}
 use Rattle.position_checker.specs.PlainTests.{rank_of, rank_at, IsPlainRoutine, HasPlainAt}
 use Rattle.position_checker.proofs.Lists.{same_from_gets}
-use Rattle.position_checker.proofs.Ranks.{both, above_same, ranks_are_heights, height_steady}
-
--- ---- the plain program, place by place
-
-length-plain_from : (graph : List Node) (from : ℕ) (list : List Node) → length (plain_from graph from list) ≡ length list
-length-plain_from graph from [] = refl
-length-plain_from graph from (node ∷ more) = ap suc (length-plain_from graph (suc from) more)
-
-pub length-plain_program : (graph : List Node) → length (plain_program graph) ≡ length graph
-length-plain_program graph = length-plain_from graph 0 graph
-
-plain_from_at : (graph : List Node) (from : ℕ) (list : List Node) (k : ℕ) → k < length list → slice_get (plain_from graph from list) k ≡ Some (plain_routine graph (from + k) (slice_index_or list k Octet))
-plain_from_at graph from [] k lt = absurd (omega arith)
-plain_from_at graph from (node ∷ more) zero lt = rw add-zero refl
-plain_from_at graph from (node ∷ more) (suc k) lt =
-    plain_from_at graph (suc from) more k (omega arith) ∙ ap (λ (n : ℕ). Some (plain_routine graph n (slice_index_or more k Octet))) (omega arith)
-
-pub plain_program_at : (graph : List Node) (k : ℕ) → k < length graph → slice_get (plain_program graph) k ≡ Some (plain_routine graph k (node_at graph k))
-plain_program_at graph k lt = plain_from_at graph 0 graph k lt ∙ ap (λ (n : ℕ). Some (plain_routine graph n (node_at graph k))) (zero-add k)
+use Rattle.position_checker.proofs.Ranks.{both, ranks_are_heights}
 
 -- ---- what the tests say
 

@@ -2,6 +2,7 @@ pub mod Held
 pub mod LevelLaws
 pub mod HeldEach
 pub mod WalkLaws
+pub mod Heights
 pub mod UniformLaws
 pub mod ShapeLaws
 pub mod ShapeLevels

@@ -40,3 +40,7 @@ above height (number ∷ numbers) = max (suc (height number)) (above height numb
 unfoldable pub height_within : ℕ → List Node → ℕ → ℕ
 height_within zero graph number = 0
 height_within (suc levels) graph number = above (height_within levels graph) (held_by (node_at graph number))
+
+-- in a graph it is found within 64 levels
+abbrev pub height_of : List Node → ℕ → ℕ
+height_of graph number = height_within 64 graph number

@@ -17,7 +17,8 @@ use Rattle.idl_value.specs.Refusal.{RefusesTape}
 use Rattle.idl_value.specs.Unpacking.{IsItems, Begins, BeginsWithNone, BeginsAll, BeginsAllWithNone}
 use Rattle.idl_value.proofs.ViewLaws.{tree_of-items, tree_of-choice}
 use Rattle.idl_value.proofs.PartLaws.{repeated_are_within, copies_are_within, members_are_within, frame_is_within, arm_is_within}
-use Rattle.idl_value.proofs.Heights.{height_in, height_unfolds, height_bound, above_copies, above_arm}
+use Rattle.type_graph.specs.Walks.{height_of}
+use Rattle.type_graph.proofs.Heights.{height_unfolds, height_bound, above_copies, above_arm}
 use Rattle.idl_value.proofs.TapeLengths.{too_few_octets}
 use Rattle.idl_value.proofs.UnpackLaws.{joined, joined-none, begins_next, only_next, none_next, refuses_weaker, no_switch, no_items, items_begin, array_items, struct_items, frame_items, sequence_begins, no_sequence_begins, union_begins, no_union_begins}
 use Rattle.idl_value.proofs.unpacking.+unpacking.Goals as goal
@@ -34,7 +35,7 @@ read_values-loop-number-preserved t c =
     let behind = c.in_ok-value.behind.now in
     let values = c.loop-number.values.items in
     let before = c.loop-number.invariant in
-    let heights = subst (λ numbers. above (height_in graph) numbers ≤ above (height_in graph) parts) c.in-Some.ensures before.0 in
+    let heights = subst (λ numbers. above (height_of graph) numbers ≤ above (height_of graph) parts) c.in-Some.ensures before.0 in
     let pushed : c.push.new.self.items ≡ values ++ c.in_ok-value.value ∷ [] = search rules in (
       omega (arith, heights),
       λ rules_of_graph inside.
@@ -76,7 +77,7 @@ read_values-returns-in_err-value-clause-refused t c =
 
 pub read_sequence-read_values-requires : goal.read_sequence-read_values-requires
 read_sequence-read_values-requires t c =
-    let copies = above_copies (height_in c.args.graph.now) c.in-Some.count c.args.elem in
+    let copies = above_copies (height_of c.args.graph.now) c.in-Some.count c.args.elem in
     let bound = height_bound 64 c.args.graph.now c.args.elem in
     let d = c.decreases in
     (omega (arith, d, copies, bound), tt)
@@ -115,8 +116,8 @@ read_value-read_items-requires t c =
     let graph = c.args.graph.now in
     let number = c.args.number in
     let node : c.in-Some.node.now ≡ node_at graph number = search rules in
-    let copies = above_copies (height_in graph) c.in-Array.n c.in-Array.elem in
-    let unfolds = subst (λ found. height_in graph number ≡ above (height_in graph) (held_by found)) (sym node ∙ c.in-Array.is) (height_unfolds graph c.nodes.ensures.rules number) in
+    let copies = above_copies (height_of graph) c.in-Array.n c.in-Array.elem in
+    let unfolds = subst (λ found. height_of graph number ≡ above (height_of graph) (held_by found)) (sym node ∙ c.in-Array.is) (height_unfolds graph c.nodes.ensures.rules number) in
     let d = c.decreases in
     (omega (arith, d, copies, unfolds), tt)
 
@@ -127,11 +128,11 @@ read_value-read_items-requires-in-Struct t c =
     let members = c.in-Struct.members in
     let node : c.in-Some.node.now ≡ node_at graph number = search rules in
     let unfolds = height_unfolds graph c.nodes.ensures.rules number in
-    let held : height_in graph number ≡ above (height_in graph) members = elim c.in-Struct.is [
-      | inl e ↦ subst (λ found. height_in graph number ≡ above (height_in graph) (held_by found)) (sym node ∙ e) unfolds
-      | inr e ↦ subst (λ found. height_in graph number ≡ above (height_in graph) (held_by found)) (sym node ∙ e) unfolds
+    let held : height_of graph number ≡ above (height_of graph) members = elim c.in-Struct.is [
+      | inl e ↦ subst (λ found. height_of graph number ≡ above (height_of graph) (held_by found)) (sym node ∙ e) unfolds
+      | inr e ↦ subst (λ found. height_of graph number ≡ above (height_of graph) (held_by found)) (sym node ∙ e) unfolds
     ] in
-    let same = ap (above (height_in graph)) c.as_slice-in-Struct.ensures in
+    let same = ap (above (height_of graph)) c.as_slice-in-Struct.ensures in
     let d = c.decreases in
     (omega (arith, d, held, same), tt)
 
@@ -140,8 +141,8 @@ read_value-read_choice-requires t c =
     let graph = c.args.graph.now in
     let number = c.args.number in
     let node : c.in-Some.node.now ≡ node_at graph number = search rules in
-    let unfolds = subst (λ found. height_in graph number ≡ above (height_in graph) (held_by found)) (sym node ∙ c.in-Union.is) (height_unfolds graph c.nodes.ensures.rules number) in
-    let same = ap (λ (l : List (ℤ × ℕ)). above (height_in graph) (held_by (Union c.in-Union.switch l c.in-Union.default))) c.as_slice.ensures in
+    let unfolds = subst (λ found. height_of graph number ≡ above (height_of graph) (held_by found)) (sym node ∙ c.in-Union.is) (height_unfolds graph c.nodes.ensures.rules number) in
+    let same = ap (λ (l : List (ℤ × ℕ)). above (height_of graph) (held_by (Union c.in-Union.switch l c.in-Union.default))) c.as_slice.ensures in
     let d = c.decreases in
     (omega (arith, d, unfolds, same), tt)
 
@@ -241,7 +242,7 @@ read_choice-returns-in_default-read_number-clause-refused t c = λ union_rules.
 pub read_choice-read_value-requires : goal.read_choice-read_value-requires
 read_choice-read_value-requires t c =
     let chosen = ap option_to_list (sym c.in-Some-chosen.is) ∙ c.chosen.ensures in
-    let lower = above_arm (height_in c.args.graph.now) c.args.switch c.args.arms.now c.args.default _ c.in-Some-chosen.number chosen in
+    let lower = above_arm (height_of c.args.graph.now) c.args.switch c.args.arms.now c.args.default _ c.in-Some-chosen.number chosen in
     let d = c.decreases in
     (omega (arith, d, lower), tt)
 

@@ -2,7 +2,8 @@ use Rattle.std.proofs.Common.{List, length, ap, ◌∙◌, arith}
 use Rattle.std.proofs.lemmas.Result.{err_from_is_err_and}
 use Rattle.type_graph.specs.declared.node.Node.{Node}
 use Rattle.marshal_program.specs.declared.instr.Routine.{Routine}
-use Rattle.position_checker.proofs.PlainList.{length-plain_program, program_is_plain, plain_has}
+use Rattle.marshal_program.proofs.PlainPlaces.{length-plain_program}
+use Rattle.position_checker.proofs.PlainList.{program_is_plain, plain_has}
 use Rattle.position_checker.proofs.accepted.check_routines.Goals as goal
 
 pub returns-in_err-check_routine_at-clause-err : goal.returns-in_err-check_routine_at-clause-err
