@@ -1,13 +1,12 @@
 //! Whether values are of a type.
 
-ghost use Rattle.std.specs.Prelude.{◌≡◌, ℕ, ◌<◌, ◌↔◌, List, length, IsTrue};
+ghost use Rattle.std.specs.Prelude.{ℕ, ◌<◌, ◌↔◌, List, length, IsTrue};
 ghost use Rattle.type_graph.specs.declared.node.Node.{Node};
 ghost use Rattle.type_graph.specs.GraphRules.{IsNode};
 ghost use Rattle.type_graph.specs.Value.{node_at, Bytes, Items, Choice, IsNumber, Fits, FitAll};
 ghost use Rattle.idl_value.specs.View.{tree_of, trees_of, member_of};
 ghost use Rattle.idl_value.specs.PartList.{numbers_of, AreWithin};
 
-use crate::nodes::chosen;
 use crate::numbers::{is_count, is_number};
 use crate::parts::Parts;
 use crate::texts::is_text;
@@ -108,7 +107,7 @@ fn is_choice(
     if !is_switch_value(graph, *switch, disc) {
         return false;
     }
-    match (chosen(arms.as_slice(), *default, disc), member) {
+    match (arms.chosen(*default, disc), member) {
         (Some(number), Some(value)) => is_value(graph, number, value, depth),
         (None, None) => true,
         _ => false,

@@ -9,7 +9,6 @@ ghost use Rattle.idl_value.specs.Refusal.{RefusesTape};
 pub mod fault;
 mod fitting;
 pub mod laws;
-mod nodes;
 mod numbers;
 mod packing;
 mod parts;

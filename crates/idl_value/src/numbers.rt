@@ -1,6 +1,6 @@
 //! Numbers: which are values of a node, and their octets.
 
-ghost use Rattle.std.specs.Prelude.{◌≡◌, ◌<◌, ◌≤◌, ◌^◌, ◌++◌, ◌↔◌, ℕ, ℤ, pos, List, length, IsTrue, OnOk, IfSome, IfNone};
+ghost use Rattle.std.specs.Prelude.{◌≡◌, ◌<◌, ◌^◌, ◌++◌, ◌↔◌, ℕ, ℤ, pos, List, length, IsTrue, OnOk, IfSome, IfNone};
 ghost use Rattle.type_graph.specs.declared.node.Node.{Node};
 ghost use Rattle.type_graph.specs.declared.width.Width.TheVariants.{Four};
 ghost use Rattle.type_graph.specs.declared.width.Order.TheVariants.{Big};
@@ -11,18 +11,6 @@ ghost use Rattle.type_graph.specs.Value.{IsSigned, IsNumber, number_width};
 
 use std::alloc::AllocError;
 use type_graph::{Node, Width};
-
-fn octet_count(width: Width) -> usize
-    ensures value { result ≡ octets_in width }
-    ensures small { result ≤ 8 }
-{
-    match width {
-        Width::One => 1,
-        Width::Two => 2,
-        Width::Four => 4,
-        Width::Eight => 8,
-    }
-}
 
 /// How many patterns the octets of a width have.
 fn pattern_count(width: Width) -> u128
@@ -82,7 +70,7 @@ pub fn push_number(tape: &mut Vec<u8>, node: &Node, n: i128) -> Result<(), Alloc
     ensures { OnOk result (IsNumber node.now n → tape.new.items ≡ tape.old.items ++ word Big (number_width node.now) n) }
 {
     let octets = n.to_be_bytes();
-    let width = octet_count(node.number_width());
+    let width = node.number_width().octets();
     tape.extend_from_slice(octets.split_at(16 - width).1)
 }
 
@@ -115,7 +103,7 @@ fn read_word(width: Width, tape: &[u8]) -> Option<(u64, &[u8])>
     ensures found { IfSome result (λ r. (r.0 < words_of width) × (tape.now ≡ plain_word Big width r.0 ++ r.1.now)) }
     ensures refused { IfNone result (length tape.now < octets_in width) }
 {
-    let count = octet_count(width);
+    let count = width.octets();
     if tape.len() < count {
         return None;
     }

@@ -9,7 +9,6 @@ ghost use Rattle.idl_value.specs.View.{tree_of, trees_of, member_of};
 ghost use Rattle.idl_value.specs.PartList.{numbers_of, AreWithin};
 ghost use Rattle.idl_value.specs.Packing.{AddsValue, AddsValues};
 
-use crate::nodes::chosen;
 use crate::numbers::{push_count, push_number};
 use crate::parts::Parts;
 use crate::texts::push_text;
@@ -110,7 +109,7 @@ fn push_choice(
         return Ok(());
     };
     push_switch(tape, graph, *switch, disc)?;
-    match (chosen(arms.as_slice(), *default, disc), member) {
+    match (arms.chosen(*default, disc), member) {
         (Some(number), Some(value)) => push_value(tape, graph, number, value),
         _ => Ok(()),
     }

@@ -1,6 +1,6 @@
 //! The values of tapes.
 
-ghost use Rattle.std.specs.Prelude.{◌≡◌, ◌<◌, ◌≤◌, ℕ, List, length, IfOk, IfErr};
+ghost use Rattle.std.specs.Prelude.{◌<◌, ℕ, List, length, IfOk, IfErr};
 ghost use Rattle.type_graph.specs.declared.node.Node.{Node};
 ghost use Rattle.type_graph.specs.declared.node.Node.TheVariants.{Text, Seq, Union};
 ghost use Rattle.type_graph.specs.GraphRules.{IsNode, IsGraph};
@@ -11,13 +11,12 @@ ghost use Rattle.idl_value.specs.Refusal.{RefusesTape};
 ghost use Rattle.idl_value.specs.Unpacking.{IsItems, Begins, BeginsWithNone, BeginsAll, BeginsAllWithNone};
 
 use crate::fault::ValueFault;
-use crate::nodes::chosen;
 use crate::numbers::{is_count, read_count, read_number};
 use crate::parts::Parts;
 use crate::texts::read_text;
 use crate::value::Value;
 use std::alloc::Global;
-use type_graph::{Graph, Node};
+use type_graph::{Arms, Graph, Node};
 
 /// An integer, octet, character, boolean or enumerator at the front, and the rest.
 fn read_whole<'t>(node: &Node, tape: &'t [u8]) -> Result<(Value, &'t [u8]), ValueFault>
@@ -76,15 +75,7 @@ pub fn read_value<'t>(
             switch,
             arms,
             default,
-        } => read_choice(
-            alloc,
-            graph,
-            *switch,
-            arms.as_slice(),
-            *default,
-            tape,
-            depth,
-        ),
+        } => read_choice(alloc, graph, *switch, arms, *default, tape, depth),
         _ => read_whole(node, tape),
     }
 }
@@ -167,7 +158,7 @@ fn read_choice<'t>(
     alloc: Global,
     graph: &Graph,
     switch: u32,
-    arms: &[(i128, u32)],
+    arms: &Arms,
     default: Option<u32>,
     tape: &'t [u8],
     depth: u32,
@@ -181,7 +172,7 @@ fn read_choice<'t>(
     let Some((disc, rest)) = read_number(node, tape) else {
         return Err(ValueFault::NotATape);
     };
-    let Some(number) = chosen(arms, default, disc) else {
+    let Some(number) = arms.chosen(default, disc) else {
         return Ok((Value::Choice { disc, member: None }, rest));
     };
     let (value, rest) = read_value(alloc, graph, number, rest, depth)?;

@@ -1,9 +1,8 @@
 //! The tests of the rules that make a list of routines a program.
 
-ghost use Rattle.std.specs.Prelude.{◌≡◌, ◌<◌, ◌≤◌, ◌↔◌, All, length, IsTrue, option_to_list};
+ghost use Rattle.std.specs.Prelude.{◌≡◌, ◌<◌, ◌≤◌, ◌↔◌, All, IsTrue, option_to_list};
 ghost use Rattle.std.specs.List.{list_any};
 ghost use Rattle.type_graph.specs.GraphRules.{IsWide};
-ghost use Rattle.type_graph.specs.Labels.{AreRising};
 ghost use Rattle.marshal_program.specs.ProgramRules.{IsDisc, arms_of, named_by, called_by, is_work, TakesOctet, IsLower, all_instrs};
 ghost use Rattle.marshal_program.specs.RuleTests.{HasNumbers, HasAllNumbers, NamesWork, CallsLower};
 
@@ -36,17 +35,6 @@ fn is_disc(disc: Disc) -> bool
         Disc::Word { width, .. } => is_wide(width),
         Disc::Enum { n } => n > 0,
     }
-}
-
-fn are_rising(arms: &[(i128, u32)]) -> bool
-    ensures { IsTrue result ↔ AreRising arms.now }
-{
-    for next in 1..arms.len() {
-        if arms[next - 1].0 >= arms[next].0 {
-            return false;
-        }
-    }
-    true
 }
 
 fn labels_in_range(count: usize, arms: &[(i128, u32)]) -> bool
@@ -87,9 +75,7 @@ fn has_numbers(count: usize, instr: &Instr) -> bool
             arms,
             otherwise,
         } => {
-            is_disc(*disc)
-                && are_rising(arms.as_slice())
-                && are_in_range(count, arms.as_slice(), *otherwise)
+            is_disc(*disc) && arms.is_rising() && are_in_range(count, arms.as_slice(), *otherwise)
         }
     }
 }

@@ -1,9 +1,9 @@
 //! The numbers of discriminators.
 
-ghost use Rattle.std.specs.Prelude.{◌≡◌, ◌<◌, ◌++◌, ◌^◌, ◌-◌, ◌*◌, nat_lt, pos, negsuc, if◌then◌else◌, IfOk, OnOk, option_to_list};
+ghost use Rattle.std.specs.Prelude.{◌≡◌, ◌<◌, ◌++◌, ◌^◌, ◌-◌, ◌*◌, nat_lt, pos, negsuc, if◌then◌else◌, IfOk, OnOk};
 ghost use Rattle.type_graph.specs.declared.width.Width.TheVariants.{One, Two, Eight};
 ghost use Rattle.type_graph.specs.Words.{octets_in, words_of, plain_word};
-ghost use Rattle.type_graph.specs.Value.{arm_of, number_width};
+ghost use Rattle.type_graph.specs.Value.{number_width};
 ghost use Rattle.marshal_program.specs.Does.{node_of};
 ghost use Rattle.program_runner.specs.Steps.{Gives, number_at, disc_number};
 
@@ -143,16 +143,4 @@ pub fn disc_number(disc: Disc, n: u64) -> Result<i128, RunFault>
         } => Ok(signed_number(width, n)),
         _ => Ok(n as i128),
     }
-}
-
-/// What the label `a` chooses, if anything.
-pub fn chosen(arms: &[(i128, u32)], otherwise: Option<u32>, a: i128) -> Option<u32>
-    ensures { option_to_list result ≡ arm_of arms.now otherwise a }
-{
-    for (label, number) in arms {
-        if *label == a {
-            return Some(*number);
-        }
-    }
-    otherwise
 }

@@ -1,6 +1,6 @@
 //! Octets at the end of a list: zeros for a gap, numbers in a byte order.
 
-ghost use Rattle.std.specs.Prelude.{◌≡◌, ◌<◌, ◌≤◌, ◌*◌, ◌++◌, length, reverse, replicate, IfOk, OnOk, pos};
+ghost use Rattle.std.specs.Prelude.{◌≡◌, ◌<◌, ◌≤◌, ◌*◌, ◌++◌, length, reverse, replicate, OnOk};
 ghost use Rattle.type_graph.specs.declared.width.Width.TheVariants.{Four};
 ghost use Rattle.type_graph.specs.Words.{octets_in, plain_word, pad};
 ghost use Rattle.program_runner.specs.Steps.{turned, in_order};
@@ -9,25 +9,12 @@ use arrayvec::ArrayVec;
 use std::alloc::AllocError;
 use type_graph::{Order, Width};
 
-/// The size of a number, in octets.
-pub fn octet_count(width: Width) -> usize
-    ensures value { result ≡ octets_in width }
-    ensures small { (1 ≤ result) × (result ≤ 8) }
-{
-    match width {
-        Width::One => 1,
-        Width::Two => 2,
-        Width::Four => 4,
-        Width::Eight => 8,
-    }
-}
-
 /// How many octets lie between a position and the next multiple of the width.
 pub fn gap_at(place: u64, to: Width) -> usize
     ensures value { result ≡ pad place (octets_in to) }
     ensures short { result < 8 }
 {
-    let k = octet_count(to) as u64;
+    let k = to.octets() as u64;
     ((k - place % k) % k) as usize
 }
 

@@ -250,7 +250,7 @@ pub plain_word_same : (o : Order) (w : Width) (m n : ℕ) → m < words_of w →
 plain_word_same o w m n hm hn e = sym (number_of-plain_word o w m hm) ∙ ap (number_of o w) e ∙ number_of-plain_word o w n hn
 
 -- half of the patterns are of numbers below 0
-words_halves : (w : Width) → words_of w ≡ 2 ^ (8 * octets_in w - 1) + 2 ^ (8 * octets_in w - 1)
+pub words_halves : (w : Width) → words_of w ≡ 2 ^ (8 * octets_in w - 1) + 2 ^ (8 * octets_in w - 1)
 words_halves One = refl
 words_halves Two = refl
 words_halves Four = refl

@@ -17,7 +17,10 @@ impl Model for Members {
     ghost view = { λ m. m.nodes.items };
 }
 
-ghost use Rattle.std.specs.Prelude.{◌≡◌};
+ghost use Rattle.std.specs.Prelude.{◌≡◌, ◌<◌, ◌<ℤ◌, ◌≤ℤ◌, ◌↔◌, ℕ, suc, length, option_to_list, IsTrue, IfSome, IfNone};
+ghost use Rattle.type_graph.specs.Value.{arm_of, number_width};
+ghost use Rattle.type_graph.specs.GraphRules.{label_at};
+ghost use Rattle.type_graph.specs.Labels.{AreRising};
 
 impl Members {
     /// The members in this order. Takes no memory.
@@ -39,6 +42,20 @@ impl Members {
     {
         self.nodes
     }
+}
+
+/// The place of the first label that isn't less than the next, if there is one.
+pub(crate) fn first_fall(arms: &[(i128, u32)]) -> Option<usize>
+    ensures falls { IfSome result (λ place. (suc place < length arms.now) × (label_at arms.now (suc place) ≤ℤ label_at arms.now place)) }
+    ensures first { IfSome result (λ place. (before : ℕ) → before < place → label_at arms.now before <ℤ label_at arms.now (suc before)) }
+    ensures none { IfNone result (AreRising arms.now) }
+{
+    for next in 1..arms.len() {
+        if arms[next - 1].0 >= arms[next].0 {
+            return Some(next - 1);
+        }
+    }
+    None
 }
 
 /// The arms of a union, or of an instruction that switches as one does: pairs of a label and a
@@ -75,6 +92,25 @@ impl Arms {
         ensures { result.items ≡ self }
     {
         self.pairs
+    }
+
+    /// The number that a label chooses, else `otherwise`.
+    pub fn chosen(&self, otherwise: Option<u32>, label: i128) -> Option<u32>
+        ensures { option_to_list result ≡ arm_of self.now otherwise label }
+    {
+        for arm in &self.pairs {
+            if arm.0 == label {
+                return Some(arm.1);
+            }
+        }
+        otherwise
+    }
+
+    /// Whether each label is less than the next.
+    pub fn is_rising(&self) -> bool
+        ensures { IsTrue result ↔ AreRising self.now }
+    {
+        first_fall(&self.pairs).is_none()
     }
 }
 
@@ -126,8 +162,6 @@ pub enum Node {
 }
 
 impl Node {
-    ghost use Rattle.type_graph.specs.Value.{number_width};
-
     /// The size of the node's numbers, where these are its values: of an integer its own, of an
     /// enumeration 4 octets, else one.
     pub fn number_width(&self) -> Width

@@ -1,10 +1,10 @@
 //! What is read off each node of a list: its lead, of which words its values are made, and how long
 //! the tape of its zeros is.
 
-ghost use Rattle.std.specs.Prelude.{◌≡◌, ◌≤◌, ◌+◌, ◌*◌, ℕ, pos, List, [], ◌∷◌, ◌++◌, length, option_to_list, replicate, slice_index_or, sum_by, IfOk};
+ghost use Rattle.std.specs.Prelude.{◌≡◌, ◌≤◌, ◌+◌, ◌*◌, ℕ, List, [], ◌∷◌, ◌++◌, length, option_to_list, replicate, slice_index_or, sum_by, IfOk};
 ghost use Rattle.std.specs.List.{AllByRecursion, flat_map};
 ghost use Rattle.type_graph.specs.declared.node.Node.{Node};
-ghost use Rattle.type_graph.specs.Value.{node_at, number_width, arm_of};
+ghost use Rattle.type_graph.specs.Value.{node_at, number_width};
 ghost use Rattle.type_graph.specs.Words.{octets_in};
 ghost use Rattle.type_graph.specs.Walks.{first_lead, lead_by, lead_of};
 ghost use Rattle.type_graph.specs.Leaves.{IsWordOf, AreWords};
@@ -215,34 +215,11 @@ fn shape_of_members(table: &[Shape], members: &[u32]) -> Shape
     shape
 }
 
-/// What the discriminator 0 chooses.
-fn arm_of_zero(arms: &[(i128, u32)], default: Option<u32>) -> Option<u32>
-    ensures { option_to_list result ≡ arm_of arms.now default (pos 0) }
-{
-    for (label, number) in arms {
-        if *label == 0 {
-            return Some(*number);
-        }
-    }
-    default
-}
-
-fn size_of_width(width: Width) -> usize
-    ensures { result ≡ octets_in width }
-{
-    match width {
-        Width::One => 1,
-        Width::Two => 2,
-        Width::Four => 4,
-        Width::Eight => 8,
-    }
-}
-
 /// The size of a union's tape of zeros: of its discriminator, and of what that chooses.
 fn size_of_union(switch: Width, table: &[Shape], arm: Option<u32>) -> Option<usize>
     ensures { (leaves : ℕ → List Node) (size : ℕ → ℕ) → AreShapes table.now leaves size → IsSize (octets_in switch + sum_by size (option_to_list arm)) result }
 {
-    let first = Some(size_of_width(switch));
+    let first = Some(switch.octets());
     match arm {
         None => first,
         Some(number) => joined_size(first, shape_at(table, number).size),
@@ -263,10 +240,10 @@ fn shape_of(nodes: &[Node], table: &[Shape], node: &Node) -> Shape
             arms,
             default,
         } => {
-            let arm = arm_of_zero(arms.as_slice(), *default);
+            let arm = arms.chosen(*default, 0);
             leaf(node, size_of_union(width_at(nodes, *switch), table, arm))
         }
-        _ => leaf(node, Some(size_of_width(node.number_width()))),
+        _ => leaf(node, Some(node.number_width().octets())),
     }
 }
 

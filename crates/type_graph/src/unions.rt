@@ -1,13 +1,13 @@
 //! The tests of the rules of a union (ISO/IEC 19500-1, unions).
 
-ghost use Rattle.std.specs.Prelude.{◌≡◌, ◌^◌, ◌<◌, ◌≤◌, ◌<ℤ◌, ◌≤ℤ◌, ◌+ℤ◌, ◌↔◌, true, false, ℕ, suc, All, length, pos, IsTrue, IsSomeAnd, IfOk, IfSome, IfNone, OnOk, OnErr, slice_get};
+ghost use Rattle.std.specs.Prelude.{◌≡◌, ◌^◌, ◌<◌, ◌≤◌, ◌<ℤ◌, ◌≤ℤ◌, ◌+ℤ◌, ◌↔◌, true, false, All, pos, IsTrue, IsSomeAnd, IfOk, IfSome, IfNone, OnOk, OnErr, slice_get};
 ghost use Rattle.type_graph.specs.declared.node.Node.TheVariants.{Whole};
-ghost use Rattle.type_graph.specs.GraphRules.{IsSwitch, IsPart, IsUnion, HasOther, label_at};
+ghost use Rattle.type_graph.specs.GraphRules.{IsSwitch, IsPart, IsUnion};
 ghost use Rattle.type_graph.specs.Labels.{AreValues, AreWithin, AreRising, HasOtherWithin};
-ghost use Rattle.type_graph.specs.Value.{node_at, IsNumber};
+ghost use Rattle.type_graph.specs.Value.{node_at};
 
 use crate::fault::{GraphFault, GraphLimit};
-use crate::node::Node;
+use crate::node::{Node, first_fall};
 use crate::rules::{MAX_MEMBERS, is_part};
 use crate::width::Width;
 
@@ -110,27 +110,17 @@ fn are_parts(nodes: &[Node], arms: &[(i128, u32)]) -> bool
     arms.iter().all(|arm| is_part(nodes, arm.1))
 }
 
-fn check_next(label: i128, next: i128) -> Result<(), GraphFault>
-    ensures ok { OnOk result (label <ℤ next) }
-    ensures err { OnErr result (label <ℤ next → ⊥) }
-{
-    if label == next {
-        return Err(GraphFault::LabelTwice { line: 0 });
-    }
-    if label > next {
-        return Err(GraphFault::BadNode);
-    }
-    Ok(())
-}
-
 fn check_rising(arms: &[(i128, u32)]) -> Result<(), GraphFault>
     ensures ok { OnOk result (AreRising arms.now) }
     ensures err { OnErr result (AreRising arms.now → ⊥) }
 {
-    for next in 1..arms.len() {
-        check_next(arms[next - 1].0, arms[next].0)?;
+    let Some(place) = first_fall(arms) else {
+        return Ok(());
+    };
+    if arms[place].0 == arms[place + 1].0 {
+        return Err(GraphFault::LabelTwice { line: 0 });
     }
-    Ok(())
+    Err(GraphFault::BadNode)
 }
 
 /// A value of the discriminator is no label: there are more of those than of these.

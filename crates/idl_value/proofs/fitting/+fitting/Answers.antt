@@ -1,4 +1,4 @@
-use Rattle.std.proofs.Common.{◌≡◌, ℕ, ℤ, ◌↔◌, List, length, false, IsTrue, option_to_list, inl, inr, refl, sym, ap, ◌∙◌, subst, arith, rules}
+use Rattle.std.proofs.Common.{◌≡◌, ◌↔◌, length, false, IsTrue, option_to_list, inl, inr, refl, sym, ap, ◌∙◌, subst, arith, rules}
 use Rattle.type_graph.specs.declared.node.Node.{Node}
 use Rattle.type_graph.specs.declared.node.Node.TheVariants.{Union}
 use Rattle.type_graph.specs.GraphRules.{IsNode}
@@ -59,7 +59,7 @@ is_choice-returns-in-Some-Some t c = λ node_rules.
     let fits : SFits w128 disc = search rules in
     let disc_is = to_z-of_z w128 disc fits in
     let union_rules = subst (IsNode graph) c.in-Union.is node_rules in
-    let chosen = ap option_to_list (sym c.in-Some-Some.is-0) ∙ c.chosen.ensures ∙ ap (arm_of c.as_slice.result.now default) disc_is ∙ ap (λ (l : List (ℤ × ℕ)). arm_of l default disc) c.as_slice.ensures in
+    let chosen = ap option_to_list (sym c.in-Some-Some.is-0) ∙ c.chosen.ensures ∙ ap (arm_of arms default) disc_is in
     let inside = subst (AreWithin graph) (sym chosen) (arm_is_within graph switch arms default disc union_rules) in
     let tested = c.is_switch_value.ensures (switch_within graph switch arms default union_rules) in
     let value = subst (IsNumber (node_at graph switch)) disc_is (tested.0 c.if-not-is_switch_value.false) in
@@ -80,7 +80,7 @@ is_choice-returns-in-None-None t c = λ node_rules.
     let fits : SFits w128 disc = search rules in
     let disc_is = to_z-of_z w128 disc fits in
     let union_rules = subst (IsNode graph) c.in-Union.is node_rules in
-    let chosen = ap option_to_list (sym c.in-None-None.is-0) ∙ c.chosen.ensures ∙ ap (arm_of c.as_slice.result.now default) disc_is ∙ ap (λ (l : List (ℤ × ℕ)). arm_of l default disc) c.as_slice.ensures in
+    let chosen = ap option_to_list (sym c.in-None-None.is-0) ∙ c.chosen.ensures ∙ ap (arm_of arms default) disc_is in
     let tested = c.is_switch_value.ensures (switch_within graph switch arms default union_rules) in
     let value = subst (IsNumber (node_at graph switch)) disc_is (tested.0 c.if-not-is_switch_value.false) in
     let whole = empty_union_fits graph switch arms default disc c.args.depth value chosen in

@@ -1,4 +1,4 @@
-use Rattle.std.proofs.Common.{◌≡◌, ℕ, ℤ, ◌+◌, List, ◌∷◌, ◌++◌, length, drop, option_to_list, inl, inr, sym, ap, ◌∙◌, subst, rules}
+use Rattle.std.proofs.Common.{◌≡◌, ℕ, ℤ, ◌+◌, ◌∷◌, ◌++◌, length, drop, option_to_list, inl, inr, sym, ap, ◌∙◌, subst, rules}
 use Rattle.std.proofs.lemmas.Result.{on_ok_weaker}
 use Rattle.std.proofs.lemmas.Int.{to_z-of_z}
 use mir.Syntax.{w128}
@@ -84,7 +84,7 @@ push_choice-returns-in-Some-Some t c = on_ok_weaker c.push_value.result (λ adds
     let fits : SFits w128 disc = search rules in
     let disc_is = to_z-of_z w128 disc fits in
     let union_rules = subst (IsNode graph) c.in-Union.is node_rules in
-    let chosen = ap option_to_list (sym c.in-Some-Some.is-0) ∙ c.chosen.ensures ∙ ap (arm_of c.as_slice.result.now default) disc_is ∙ ap (λ (l : List (ℤ × ℕ)). arm_of l default disc) c.as_slice.ensures in
+    let chosen = ap option_to_list (sym c.in-Some-Some.is-0) ∙ c.chosen.ensures ∙ ap (arm_of arms default) disc_is in
     let inside = subst (AreWithin graph) (sym chosen) (arm_is_within graph switch arms default disc union_rules) in
     let old = c.args.tape.now.items in
     let mid = c.push_switch.new.tape.items in
@@ -106,7 +106,7 @@ push_choice-returns-in_default-2-2 t c = λ node_rules.
     let fits : SFits w128 disc = search rules in
     let disc_is = to_z-of_z w128 disc fits in
     let union_rules = subst (IsNode graph) c.in-Union.is node_rules in
-    let chosen = ap option_to_list (sym c.in_default-2.is-0) ∙ c.chosen.ensures ∙ ap (arm_of c.as_slice.result.now default) disc_is ∙ ap (λ (l : List (ℤ × ℕ)). arm_of l default disc) c.as_slice.ensures in
+    let chosen = ap option_to_list (sym c.in_default-2.is-0) ∙ c.chosen.ensures ∙ ap (arm_of arms default) disc_is in
     let old = c.args.tape.now.items in
     let mid = c.push_switch.new.tape.items in
     let switched = subst (λ (a : ℤ). IsNumber (node_at graph switch) a → mid ≡ old ++ word Big (number_width (node_at graph switch)) a) disc_is (c.in_ok-push_switch.ensures (switch_within graph switch arms default union_rules)) in

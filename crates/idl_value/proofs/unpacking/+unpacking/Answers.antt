@@ -132,7 +132,7 @@ read_value-read_items-requires-in-Struct t c =
       | inl e ↦ subst (λ found. height_of graph number ≡ above (height_of graph) (held_by found)) (sym node ∙ e) unfolds
       | inr e ↦ subst (λ found. height_of graph number ≡ above (height_of graph) (held_by found)) (sym node ∙ e) unfolds
     ] in
-    let same = ap (above (height_of graph)) c.as_slice-in-Struct.ensures in
+    let same = ap (above (height_of graph)) c.as_slice.ensures in
     let d = c.decreases in
     (omega (arith, d, held, same), tt)
 
@@ -142,9 +142,8 @@ read_value-read_choice-requires t c =
     let number = c.args.number in
     let node : c.in-Some.node.now ≡ node_at graph number = search rules in
     let unfolds = subst (λ found. height_of graph number ≡ above (height_of graph) (held_by found)) (sym node ∙ c.in-Union.is) (height_unfolds graph c.nodes.ensures.rules number) in
-    let same = ap (λ (l : List (ℤ × ℕ)). above (height_of graph) (held_by (Union c.in-Union.switch l c.in-Union.default))) c.as_slice.ensures in
     let d = c.decreases in
-    (omega (arith, d, unfolds, same), tt)
+    (omega (arith, d, unfolds), tt)
 
 pub read_value-returns-in-Seq-clause-found : goal.read_value-returns-in-Seq-clause-found
 read_value-returns-in-Seq-clause-found t c =
@@ -202,7 +201,7 @@ read_value-returns-in-Struct-clause-found t c =
     let node : c.in-Some.node.now ≡ node_at graph number = search rules in
     IfOk-weaker c.read_items-in-Struct.result _ _ (λ r found inside.
     let node_rules = c.nodes.ensures.rules.nodes number Octet inside in
-    let items = subst (λ numbers. AreWithin graph numbers → IsItems graph numbers depth tape (tree_of r.0) r.1.now) c.as_slice-in-Struct.ensures (found c.nodes.ensures.rules) in
+    let items = subst (λ numbers. AreWithin graph numbers → IsItems graph numbers depth tape (tree_of r.0) r.1.now) c.as_slice.ensures (found c.nodes.ensures.rules) in
     elim c.in-Struct.is [
       | inl e ↦ subst (λ at. Begins graph at depth tape (tree_of r.0) r.1.now) (sym (sym node ∙ e))
           (items_begin graph (Struct members) members depth tape (tree_of r.0) r.1.now (λ values h. (h, refl)) (items (members_are_within graph members (subst (IsNode graph) (sym node ∙ e) node_rules))))
@@ -220,7 +219,7 @@ read_value-returns-in-Struct-clause-refused t c =
     let node : c.in-Some.node.now ≡ node_at graph number = search rules in
     IfErr-weaker c.read_items-in-Struct.result _ _ (λ fault refused inside.
     let node_rules = c.nodes.ensures.rules.nodes number Octet inside in
-    let items = subst (λ numbers. AreWithin graph numbers → RefusesTape fault (BeginsAllWithNone graph numbers depth tape)) c.as_slice-in-Struct.ensures (refused c.nodes.ensures.rules) in
+    let items = subst (λ numbers. AreWithin graph numbers → RefusesTape fault (BeginsAllWithNone graph numbers depth tape)) c.as_slice.ensures (refused c.nodes.ensures.rules) in
     elim c.in-Struct.is [
       | inl e ↦ subst (λ at. RefusesTape fault (BeginsWithNone graph at depth tape)) (sym (sym node ∙ e))
           (refuses_weaker fault (no_items graph (Struct members) members depth tape (λ values h. (h, refl)) (struct_items graph members depth)) (items (members_are_within graph members (subst (IsNode graph) (sym node ∙ e) node_rules))))

@@ -14,6 +14,6 @@ returns-in-Array c = λ leaves size known.
 
 pub returns-in-Struct : goal.returns-in-Struct
 returns-in-Struct c = λ leaves size known.
-    let parts = subst (λ (members : List ℕ). IsShape (flat_map leaves members) (sum_by size members) c.shape_of_members.result) c.as_slice-in-Struct.ensures (c.shape_of_members.ensures leaves size known) in
+    let parts = subst (λ (members : List ℕ). IsShape (flat_map leaves members) (sum_by size members) c.shape_of_members.result) c.as_slice.ensures (c.shape_of_members.ensures leaves size known) in
     let IsIt : Node → Type 0 = λ node. IsShape (leaves_by leaves node) (size_by size c.args.nodes.now node) c.shape_of_members.result in
     elim c.in-Struct.is [ inl e ↦ subst IsIt (sym e) parts | inr e ↦ subst IsIt (sym e) parts ]
