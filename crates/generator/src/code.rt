@@ -4,7 +4,7 @@ ghost use Rattle.std.specs.Prelude.{◌≡◌, ◌<◌, [], ◌∷◌, length, m
 ghost use Rattle.type_graph.specs.GraphRules.{IsNode};
 ghost use Rattle.type_graph.specs.declared.node.Node.TheVariants as nodes;
 ghost use Rattle.marshal_program.specs.declared.instr.Instr.TheVariants as instrs;
-ghost use Rattle.marshal_program.specs.Plain.{aligned_to, disc_of, plain_code};
+ghost use Rattle.marshal_program.specs.Plain.{aligned_to, plain_code};
 
 use marshal_program::{Disc, Instr};
 use std::alloc::{AllocError, Global};
@@ -33,21 +33,6 @@ fn calls(alloc: Global, members: &[u32]) -> Result<Vec<Instr>, AllocError>
     Ok(code)
 }
 
-/// A node as the discriminator of a switch.
-fn disc_for(node: &Node) -> Disc
-    ensures { result ≡ disc_of node.now }
-{
-    match node {
-        Node::Boolean => Disc::Boolean,
-        Node::Whole { width, signed } => Disc::Word {
-            width: *width,
-            signed: *signed,
-        },
-        Node::Enum { n } => Disc::Enum { n: *n },
-        _ => Disc::Char,
-    }
-}
-
 fn copied(alloc: Global, arms: &Arms) -> Result<Arms, AllocError>
     ensures { IfOk result (λ copy. copy ≡ arms.now) }
 {
@@ -69,7 +54,7 @@ fn switched(
 {
     let node = graph.node(switch);
     let instr = Instr::Switch {
-        disc: disc_for(node),
+        disc: Disc::of(node),
         arms: copied(alloc, arms)?,
         otherwise: default,
     };

@@ -3,7 +3,7 @@
 ghost use Rattle.std.specs.Prelude.{◌≡◌};
 
 use std::marker::Model;
-use type_graph::{Arms, Width};
+use type_graph::{Arms, Node, Width};
 
 /// The discriminator of a union.
 #[derive(Clone, Copy, Debug, PartialEq, Eq)]
@@ -13,6 +13,26 @@ pub enum Disc {
     Word { width: Width, signed: bool },
     /// An enumeration of `n` enumerators.
     Enum { n: u32 },
+}
+
+impl Disc {
+    ghost use Rattle.std.specs.Prelude.{◌≡◌};
+    ghost use Rattle.marshal_program.specs.Plain.{disc_of};
+
+    /// The discriminator whose type is the node; of a node that can't be one, a character.
+    pub fn of(node: &Node) -> Disc
+        ensures { result ≡ disc_of node.now }
+    {
+        match node {
+            Node::Boolean => Disc::Boolean,
+            Node::Whole { width, signed } => Disc::Word {
+                width: *width,
+                signed: *signed,
+            },
+            Node::Enum { n } => Disc::Enum { n: *n },
+            _ => Disc::Char,
+        }
+    }
 }
 
 /// One step of a routine: it relates a piece of a tape with octets at a position. A routine is

@@ -4,7 +4,7 @@ ghost use Rattle.std.specs.Prelude.{◌≡◌, ◌≢◌, ◌<◌, ◌^◌, ◌�
 ghost use Rattle.type_graph.specs.GraphRules.{IsNode};
 ghost use Rattle.type_graph.specs.declared.node.Node.TheVariants as nodes;
 ghost use Rattle.marshal_program.specs.declared.instr.Instr.TheVariants as instrs;
-ghost use Rattle.marshal_program.specs.Plain.{disc_of, plain_code};
+ghost use Rattle.marshal_program.specs.Plain.{plain_code};
 ghost use Rattle.position_checker.specs.PlainTests.{IsFirstDifference};
 
 use marshal_program::{Disc, Instr};
@@ -130,21 +130,6 @@ fn is_switch(instr: &Instr, kind: Disc, of: &Arms, default: Option<u32>) -> bool
     is_disc && are_arms && is_default
 }
 
-/// A node as the discriminator of a switch.
-fn disc_for(node: &Node) -> Disc
-    ensures { result ≡ disc_of node.now }
-{
-    match node {
-        Node::Boolean => Disc::Boolean,
-        Node::Whole { width, signed } => Disc::Word {
-            width: *width,
-            signed: *signed,
-        },
-        Node::Enum { n } => Disc::Enum { n: *n },
-        _ => Disc::Char,
-    }
-}
-
 /// Whether an instruction is the one that the code of a union has at a place.
 fn is_union_instr(
     graph: &Graph,
@@ -159,7 +144,7 @@ fn is_union_instr(
 {
     let node = graph.node(switch);
     let width = node.number_width();
-    let is_switch_here = is_switch(instr, disc_for(node), arms, default);
+    let is_switch_here = is_switch(instr, Disc::of(node), arms, default);
     match place {
         0 if width == Width::One => is_switch_here,
         0 => is_align(instr, width),

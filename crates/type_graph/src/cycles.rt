@@ -3,38 +3,10 @@
 use crate::node::Node;
 use std::alloc::{AllocError, Global};
 
-/// How many nodes a value of the node holds without a sequence between.
-fn part_count(node: &Node) -> usize {
-    match node {
-        Node::Array { .. } => 1,
-        Node::Struct { members } | Node::Frame { members } => members.as_slice().len(),
-        Node::Union { arms, default, .. } => arms
-            .as_slice()
-            .len()
-            .saturating_add(usize::from(default.is_some())),
-        _ => 0,
-    }
-}
-
-/// The number of the one at a place.
-fn part_at(node: &Node, place: usize) -> Option<u32> {
-    match node {
-        Node::Array { elem, .. } => Some(*elem),
-        Node::Struct { members } | Node::Frame { members } => {
-            members.as_slice().get(place).copied()
-        }
-        Node::Union { arms, default, .. } => match arms.as_slice().get(place) {
-            Some(arm) => Some(arm.1),
-            None => *default,
-        },
-        _ => None,
-    }
-}
-
 /// Counts the node's parts once more.
 fn hold(holders: &mut [u32], node: &Node) {
-    for place in 0..part_count(node) {
-        if let Some(part) = part_at(node, place)
+    for place in 0..node.held_count() {
+        if let Some(part) = node.held_at(place)
             && let Some(count) = holders.get_mut(part as usize)
         {
             *count = count.saturating_add(1);
@@ -44,8 +16,8 @@ fn hold(holders: &mut [u32], node: &Node) {
 
 /// Counts the node's parts once less, and adds those that nothing holds any more.
 fn let_go(holders: &mut [u32], free: &mut Vec<usize>, node: &Node) -> Result<(), AllocError> {
-    for place in 0..part_count(node) {
-        if let Some(part) = part_at(node, place)
+    for place in 0..node.held_count() {
+        if let Some(part) = node.held_at(place)
             && let Some(count) = holders.get_mut(part as usize)
         {
             *count = count.saturating_sub(1);

@@ -17,9 +17,9 @@ impl Model for Members {
     ghost view = { λ m. m.nodes.items };
 }
 
-ghost use Rattle.std.specs.Prelude.{◌≡◌, ◌<◌, ◌<ℤ◌, ◌≤ℤ◌, ◌↔◌, ℕ, suc, length, option_to_list, IsTrue, IfSome, IfNone};
+ghost use Rattle.std.specs.Prelude.{◌≡◌, ◌<◌, ◌<ℤ◌, ◌≤ℤ◌, ◌↔◌, ◌++◌, ℕ, suc, length, map, option_to_list, slice_get, IsTrue, IfSome, IfNone};
 ghost use Rattle.type_graph.specs.Value.{arm_of, number_width};
-ghost use Rattle.type_graph.specs.GraphRules.{label_at};
+ghost use Rattle.type_graph.specs.GraphRules.{held_by, label_at};
 ghost use Rattle.type_graph.specs.Labels.{AreRising};
 
 impl Members {
@@ -161,6 +161,19 @@ pub enum Node {
     },
 }
 
+/// What a union's labels choose, and behind it what every other value does.
+fn chosen_at(arms: &[(i128, u32)], default: Option<u32>, place: usize) -> Option<u32>
+    ensures { result ≡ slice_get (map (λ arm. arm.1) arms.now ++ option_to_list default) place }
+{
+    if place < arms.len() {
+        return Some(arms[place].1);
+    }
+    if place == arms.len() {
+        return default;
+    }
+    None
+}
+
 impl Node {
     /// The size of the node's numbers, where these are its values: of an integer its own, of an
     /// enumeration 4 octets, else one.
@@ -171,6 +184,35 @@ impl Node {
             Node::Whole { width, .. } => *width,
             Node::Enum { .. } => Width::Four,
             _ => Width::One,
+        }
+    }
+
+    /// How many nodes a value of this one holds without a sequence between, each counted as often
+    /// as it is named; the type of a union's discriminator isn't.
+    pub fn held_count(&self) -> usize
+        ensures { result ≡ length (held_by self.now) }
+    {
+        match self {
+            Node::Array { .. } => 1,
+            Node::Struct { members } | Node::Frame { members } => members.as_slice().len(),
+            Node::Union { arms, default, .. } => {
+                arms.as_slice().len() + usize::from(default.is_some())
+            }
+            _ => 0,
+        }
+    }
+
+    /// The number of the one at a place, of a union first those of its arms.
+    pub fn held_at(&self, place: usize) -> Option<u32>
+        ensures { result ≡ slice_get (held_by self.now) place }
+    {
+        match self {
+            Node::Array { elem, .. } if place == 0 => Some(*elem),
+            Node::Struct { members } | Node::Frame { members } => {
+                members.as_slice().get(place).copied()
+            }
+            Node::Union { arms, default, .. } => chosen_at(arms.as_slice(), *default, place),
+            _ => None,
         }
     }
 }
