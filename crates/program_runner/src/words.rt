@@ -1,6 +1,6 @@
 //! Octets at the end of a list: zeros for a gap, numbers in a byte order.
 
-ghost use Rattle.std.specs.Prelude.{◌≡◌, ◌<◌, ◌≤◌, ◌*◌, ◌++◌, length, reverse, replicate, OnOk};
+ghost use Rattle.std.specs.Prelude.{◌≡◌, ◌<◌, ◌+◌, ◌*◌, ◌++◌, length, take, drop, replicate, OnOk};
 ghost use Rattle.type_graph.specs.declared.width.Width.TheVariants.{Four};
 ghost use Rattle.type_graph.specs.Words.{octets_in, plain_word, pad};
 ghost use Rattle.program_runner.specs.Steps.{turned, in_order};
@@ -30,45 +30,46 @@ pub fn push_zeros(out: &mut Vec<u8>, n: usize) -> Result<(), AllocError>
     out.extend_from_slice(zeros.as_slice())
 }
 
-fn push_reversed(out: &mut Vec<u8>, word: &[u8]) -> Result<(), AllocError>
-    requires { length word.now ≤ 8 }
-    ensures { OnOk result (out.new.items ≡ out.old.items ++ reverse word.now) }
+/// Turns the words of `N` octets from a place to the end round, one by one.
+fn turn_words<const N: usize>(out: &mut Vec<u8>, start: usize, n: u32)
+    requires { start + n * N ≡ length out.old.items }
+    ensures { out.new.items ≡ take start out.old.items ++ turned N n (drop start out.old.items) }
 {
-    let mut octets: ArrayVec<u8, 8> = ArrayVec::new();
-    let _ = octets.try_extend_from_slice(word);
-    octets.as_mut_slice().reverse();
-    out.extend_from_slice(octets.as_slice())
+    let mut at = start;
+    for _ in 0..n {
+        out.slice_mut(at..at + N).reverse();
+        at += N;
+    }
 }
 
-fn push_turned(out: &mut Vec<u8>, width: usize, n: u32, words: &[u8]) -> Result<(), AllocError>
-    requires narrow { width ≤ 8 }
-    requires whole { length words.now ≡ n * width }
-    ensures { OnOk result (out.new.items ≡ out.old.items ++ turned width n words.now) }
+/// Copies all words at once, so that room is made once, and then turns them where they lie.
+fn push_turned<const N: usize>(out: &mut Vec<u8>, n: u32, words: &[u8]) -> Result<(), AllocError>
+    requires { length words.now ≡ n * N }
+    ensures { OnOk result (out.new.items ≡ out.old.items ++ turned N n words.now) }
 {
-    let mut rest = words;
-    for _ in 0..n {
-        let (word, more) = rest.split_at(width);
-        push_reversed(out, word)?;
-        rest = more;
-    }
+    let start = out.len();
+    out.extend_from_slice(words)?;
+    turn_words::<N>(out, start, n);
     Ok(())
 }
 
-/// Numbers at the end, between big order and another.
+/// Numbers of the width at the end, between big order and another.
 pub fn push_words(
     out: &mut Vec<u8>,
     order: Order,
-    width: usize,
+    width: Width,
     n: u32,
     words: &[u8],
 ) -> Result<(), AllocError>
-    requires narrow { width ≤ 8 }
-    requires whole { length words.now ≡ n * width }
-    ensures { OnOk result (out.new.items ≡ out.old.items ++ in_order order width n words.now) }
+    requires { length words.now ≡ n * octets_in width }
+    ensures { OnOk result (out.new.items ≡ out.old.items ++ in_order order (octets_in width) n words.now) }
 {
-    match order {
-        Order::Big => out.extend_from_slice(words),
-        Order::Little => push_turned(out, width, n, words),
+    match (order, width) {
+        (Order::Big, _) => out.extend_from_slice(words),
+        (Order::Little, Width::One) => push_turned::<1>(out, n, words),
+        (Order::Little, Width::Two) => push_turned::<2>(out, n, words),
+        (Order::Little, Width::Four) => push_turned::<4>(out, n, words),
+        (Order::Little, Width::Eight) => push_turned::<8>(out, n, words),
     }
 }
 
