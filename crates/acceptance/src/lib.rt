@@ -1,4 +1,4 @@
-//! Rows that cross crates, as tests: the library itself is empty.
+//! Tests that cross crates: the library itself is empty.
 #![tactic(auto)]
 
 #[cfg(test)]
@@ -8,9 +8,17 @@ mod instructions;
 #[cfg(test)]
 mod kinds;
 #[cfg(test)]
+mod marshal;
+#[cfg(test)]
 mod models;
 #[cfg(test)]
+mod plain;
+#[cfg(test)]
 mod programs;
+#[cfg(test)]
+mod refusals;
+#[cfg(test)]
+mod rules;
 #[cfg(test)]
 mod runs;
 #[cfg(test)]
@@ -19,3 +27,5 @@ mod sample;
 mod shapes;
 #[cfg(test)]
 mod values;
+#[cfg(test)]
+mod worked;

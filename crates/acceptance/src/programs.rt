@@ -28,7 +28,7 @@ fn gap(alloc: Global) -> Result<Routine, AllocError> {
 }
 
 /// The number of the fault, 0 where there is none.
-fn fault_of(program: Result<Program, TableFault>) -> u8 {
+pub fn fault_of(program: Result<Program, TableFault>) -> u8 {
     match program {
         Ok(_) => 0,
         Err(TableFault::BadNumber) => 52,

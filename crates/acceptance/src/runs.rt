@@ -1,9 +1,8 @@
 //! The runner on the sample program: the structure of 7, 1 and "hi", and strings.
 
+use crate::marshal::{big, read_fault, write_fault};
 use crate::sample;
-use marshal_program::Program;
-use program_runner::{RunFault, read, write};
-use std::alloc::Global;
+use program_runner::{read, write};
 use std::test::Fail;
 use type_graph::Order;
 
@@ -14,38 +13,6 @@ const AT_3: [u8; 12] = [7, 0, 0, 0, 1, 0, 0, 0, 3, 0x68, 0x69, 0];
 const PADDED: [u8; 17] = [
     7, 0xFF, 0xEE, 0xDD, 0, 0, 0, 1, 0, 0, 0, 3, 0x68, 0x69, 0, 0xAA, 0xBB,
 ];
-
-/// The number of the fault, 0 where there is none.
-fn number_of(fault: &RunFault) -> u8 {
-    match fault {
-        RunFault::Short => 60,
-        RunFault::BadLength => 63,
-        RunFault::NoTerminator => 64,
-        RunFault::ZeroInside => 65,
-        RunFault::TapeLeft => 68,
-        _ => 99,
-    }
-}
-
-fn read_fault(alloc: Global, program: &Program, octets: &[u8]) -> u8 {
-    if program.routines().len() <= 2 {
-        return 99;
-    }
-    match read(alloc, program, 2, Order::Big, 0, octets) {
-        Ok(_) => 0,
-        Err(fault) => number_of(&fault),
-    }
-}
-
-fn write_fault(alloc: Global, program: &Program, tape: &[u8]) -> u8 {
-    if program.routines().len() <= 2 {
-        return 99;
-    }
-    match write(alloc, program, 2, Order::Big, 0, tape) {
-        Ok(_) => 0,
-        Err(fault) => number_of(&fault),
-    }
-}
 
 #[test]
 fn both_ways(rt: HostRuntime) -> Result<(), Fail> {
@@ -65,13 +32,14 @@ fn both_ways(rt: HostRuntime) -> Result<(), Fail> {
 fn octets_that_are_no_string(rt: HostRuntime) -> Result<(), Fail> {
     let alloc = rt.alloc();
     let program = sample::program(alloc)?;
+    let at = big(2, 0);
     let faults = [
-        read_fault(alloc, &program, &[0, 0, 0]),
-        read_fault(alloc, &program, &[0, 0, 0, 0]),
-        read_fault(alloc, &program, &[0, 0, 0, 2, 0x41]),
-        read_fault(alloc, &program, &[0, 0, 0, 1, 0x41]),
-        read_fault(alloc, &program, &[0, 0, 0, 3, 0, 0, 0]),
-        read_fault(alloc, &program, &[0, 0, 0, 1, 0]),
+        read_fault(alloc, &program, at, &[0, 0, 0]),
+        read_fault(alloc, &program, at, &[0, 0, 0, 0]),
+        read_fault(alloc, &program, at, &[0, 0, 0, 2, 0x41]),
+        read_fault(alloc, &program, at, &[0, 0, 0, 1, 0x41]),
+        read_fault(alloc, &program, at, &[0, 0, 0, 3, 0, 0, 0]),
+        read_fault(alloc, &program, at, &[0, 0, 0, 1, 0]),
     ];
     assert_eq!(rt; faults, [60, 63, 60, 64, 65, 0]);
     Ok(())
@@ -81,13 +49,14 @@ fn octets_that_are_no_string(rt: HostRuntime) -> Result<(), Fail> {
 fn tapes_that_are_no_string(rt: HostRuntime) -> Result<(), Fail> {
     let alloc = rt.alloc();
     let program = sample::program(alloc)?;
+    let at = big(2, 0);
     let faults = [
-        write_fault(alloc, &program, &[0, 0, 0]),
-        write_fault(alloc, &program, &[255, 255, 255, 255]),
-        write_fault(alloc, &program, &[0, 0, 0, 2, 0x41]),
-        write_fault(alloc, &program, &[0, 0, 0, 1, 0]),
-        write_fault(alloc, &program, &[0, 0, 0, 0, 0]),
-        write_fault(alloc, &program, &[0, 0, 0, 1, 0x41]),
+        write_fault(alloc, &program, at, &[0, 0, 0]),
+        write_fault(alloc, &program, at, &[255, 255, 255, 255]),
+        write_fault(alloc, &program, at, &[0, 0, 0, 2, 0x41]),
+        write_fault(alloc, &program, at, &[0, 0, 0, 1, 0]),
+        write_fault(alloc, &program, at, &[0, 0, 0, 0, 0]),
+        write_fault(alloc, &program, at, &[0, 0, 0, 1, 0x41]),
     ];
     assert_eq!(rt; faults, [60, 63, 60, 65, 68, 0]);
     Ok(())

@@ -178,7 +178,7 @@ fn chain(alloc: Global, length: u32) -> Result<Value, AllocError> {
     Ok(Value::Items(vec![in alloc; Value::Whole(1), kids]?))
 }
 
-fn chain_tape(alloc: Global, length: u32) -> Result<Vec<u8>, AllocError> {
+pub fn chain_tape(alloc: Global, length: u32) -> Result<Vec<u8>, AllocError> {
     let mut tape = Vec::new(alloc);
     for _ in 1..length {
         tape.extend_from_slice(&[1, 0, 0, 0, 1])?;
