@@ -117,6 +117,24 @@ fn the_routines_of_a_tree(rt: HostRuntime) -> Result<(), Fail> {
     Ok(())
 }
 
+/// Each structure holds the one before twice, so that 2 to the 63rd paths lead down to the octet.
+#[test]
+fn shared_parts_are_looked_at_once(rt: HostRuntime) -> Result<(), Fail> {
+    let alloc = rt.alloc();
+    let mut nodes = vec![in alloc; Node::Octet]?;
+    for below in 0..63 {
+        nodes.push(record(alloc, &[below, below])?)?;
+    }
+    let program = program_of(alloc, nodes)?;
+    let ranks: Vec<u32> = program
+        .routines()
+        .iter()
+        .map(|routine| routine.rank)
+        .collect(alloc)?;
+    assert!(rt; ranks.iter().copied().eq(0..64));
+    Ok(())
+}
+
 #[test]
 fn no_nodes_no_routines(rt: HostRuntime) -> Result<(), Fail> {
     let program = program_of(rt.alloc(), Vec::new(rt.alloc()))?;
