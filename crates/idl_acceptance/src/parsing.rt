@@ -37,7 +37,7 @@ fn nested(alloc: Global, shape: [&str; 5], times: usize) -> Result<String, Fail>
 }
 
 /// Sources that are taken: each production at least once.
-const GOOD: [&str; 40] = [
+const GOOD: [&str; 43] = [
     "",
     "module M {};",
     "module M { module N {\n#pragma prefix \"a\"\n }; };",
@@ -78,6 +78,9 @@ const GOOD: [&str; 40] = [
     "module A { const long X = ::A::B; interface I; interface I { void f(); }; };",
     "typedef sequence<long, A::B> T;",
     "struct S { sequence<S> kids; };",
+    "union U switch (long) { case (1): long a; };",
+    "exception E { sequence<long> a; };",
+    "interface I { attribute string<(1)> a; string<(1)> f(in string<(1)> b); };",
 ];
 
 /// Sources that are refused, with the fault's number and line.
@@ -250,7 +253,7 @@ fn an_end_inside_is_told(rt: HostRuntime) -> Result<(), Fail> {
 }
 
 /// Shapes with so many levels, and the fault's number.
-const DEEP: [([&str; 5], usize, u32); 19] = [
+const DEEP: [([&str; 5], usize, u32); 21] = [
     (["const long X = ", "(", "1", ")", ";"], 64, 0),
     (["const long X = ", "(", "1", ")", ";"], 65, 13),
     (["const long X = ", "-(", "1", ") + 1", ";"], 65, 13),
@@ -303,6 +306,28 @@ const DEEP: [([&str; 5], usize, u32); 19] = [
     (["typedef ", "struct S { ", "long a; ", "} s; ", ""], 64, 0),
     (["typedef ", "struct S { ", "long a; ", "} s; ", ""], 65, 13),
     (
+        [
+            "typedef ",
+            "union U switch (long) { case 1: ",
+            "long a; ",
+            "} u; ",
+            "",
+        ],
+        64,
+        0,
+    ),
+    (
+        [
+            "typedef ",
+            "union U switch (long) { case 1: ",
+            "long a; ",
+            "} u; ",
+            "",
+        ],
+        65,
+        13,
+    ),
+    (
         ["module M { typedef ", "sequence<", "struct", ">", " T; };"],
         62,
         10,
@@ -338,13 +363,29 @@ fn first_const<'t, 'a>(spec: &'t Spec<'a>) -> Option<&'t Const<'a>> {
     }
 }
 
-/// How many operands stand behind the first in the value of a first constant, at the loosest level.
+/// How many operands stand behind the first, at the loosest level.
+fn rest_len(value: &Expr<'_>) -> usize {
+    match value {
+        Expr::Chain { rest, .. } => rest.len(),
+        _ => 0,
+    }
+}
+
+/// The same of the value of a first constant.
 fn operands(alloc: Global, source: &str) -> Result<usize, Fail> {
     let tokens = lex(alloc, source)?;
     let spec = parse(alloc, &tokens)?;
     let constant = first_const(&spec).ok_or("no constant")?;
-    Ok(match &constant.value {
-        Expr::Chain { rest, .. } => rest.len(),
+    Ok(rest_len(&constant.value))
+}
+
+/// The same of the bound of a first constant, a string.
+fn bound_operands(alloc: Global, source: &str) -> Result<usize, Fail> {
+    let tokens = lex(alloc, source)?;
+    let spec = parse(alloc, &tokens)?;
+    let constant = first_const(&spec).ok_or("no constant")?;
+    Ok(match &constant.const_type {
+        ConstType::String(Some(bound)) => rest_len(bound),
         _ => 0,
     })
 }
@@ -359,6 +400,12 @@ fn a_level_is_one_list(rt: HostRuntime) -> Result<(), Fail> {
         ("const long X = 1 | 2 ^ 3 & 4 << 5 + 6 * 7;", 1),
         ("const long X = 1 * 2 + 3 >> 4 & 5 ^ 6 | 7;", 1),
         ("const long X = (1 + 2);", 0),
+        ("const long X = 1 | 2 ^ 3 | 4;", 2),
+        ("const long X = 1 ^ 2 & 3 ^ 4;", 2),
+        ("const long X = 1 & 2 << 3 & 4;", 2),
+        ("const long X = 1 << 2 + 3 >> 4;", 2),
+        ("const long X = 1 - 2 * 3 + 4;", 2),
+        ("const long X = 1 * 2 / 3 % 4;", 3),
     ];
     for (source, count) in table {
         assert_eq!(rt; operands(alloc, source)?, count);
@@ -369,13 +416,33 @@ fn a_level_is_one_list(rt: HostRuntime) -> Result<(), Fail> {
 }
 
 #[test]
+fn a_bound_has_the_same_levels(rt: HostRuntime) -> Result<(), Fail> {
+    let alloc = rt.alloc();
+    let table = [
+        ("const string<1 | 2 ^ 3 | 4> X = \"a\";", 2),
+        ("const string<1 ^ 2 & 3 ^ 4> X = \"a\";", 2),
+        ("const string<1 & 2 << 3 & 4> X = \"a\";", 2),
+        ("const string<1 << 2 + 3 << 4> X = \"a\";", 2),
+        ("const string<1 - 2 * 3 + 4> X = \"a\";", 2),
+        ("const string<1 * 2 / 3 % 4> X = \"a\";", 3),
+    ];
+    for (source, count) in table {
+        assert_eq!(rt; bound_operands(alloc, source)?, count);
+    }
+    Ok(())
+}
+
+#[test]
 fn names_keep_their_first_token(rt: HostRuntime) -> Result<(), Fail> {
     let alloc = rt.alloc();
     let tokens = lex(alloc, "const A::B _module =\n::_C::in_1;")?;
     let spec = parse(alloc, &tokens)?;
     let constant = first_const(&spec).ok_or("no constant")?;
     assert_eq!(rt; constant.identifier.name(), "module");
-    assert_eq!(rt; constant.identifier.number, 4);
+    assert_eq!(rt;
+        [constant.identifier.number, constant.identifier.line],
+        [4, 1]
+    );
     if let ConstType::Name(name) = &constant.const_type {
         assert_eq!(rt; name.first_name(), "A");
         assert_eq!(rt; [name.number, name.line], [1, 1]);
@@ -383,7 +450,40 @@ fn names_keep_their_first_token(rt: HostRuntime) -> Result<(), Fail> {
     if let Expr::Name(name) = &constant.value {
         assert_eq!(rt; name.first_name(), "C");
         assert_eq!(rt; [name.number, name.line], [6, 2]);
+        assert_eq!(rt;
+            name.rest.first().map(|part| [part.number, part.line]),
+            Some([9, 2])
+        );
     }
+    Ok(())
+}
+
+/// The lines of a sign, of the parenthesis behind it and of the truth value inside.
+fn marks(value: &Expr<'_>) -> Option<[usize; 3]> {
+    let Expr::Signed {
+        line: sign,
+        operand,
+        ..
+    } = value
+    else {
+        return None;
+    };
+    let Expr::Parenthesized { line: open, inner } = &**operand else {
+        return None;
+    };
+    match &**inner {
+        Expr::Boolean { line, .. } => Some([*sign, *open, *line]),
+        _ => None,
+    }
+}
+
+#[test]
+fn marks_keep_their_line(rt: HostRuntime) -> Result<(), Fail> {
+    let alloc = rt.alloc();
+    let tokens = lex(alloc, "const long X =\n-\n(\nTRUE\n);")?;
+    let spec = parse(alloc, &tokens)?;
+    let constant = first_const(&spec).ok_or("no constant")?;
+    assert_eq!(rt; marks(&constant.value), Some([2, 3, 4]));
     Ok(())
 }
 
