@@ -2,9 +2,9 @@
 
 use idl_lexer::lex;
 use idl_parser::{ParseFault, parse};
-use idl_tree::definitions::{Const, Declaration, Definition, Spec};
+use idl_tree::definitions::{Const, Declaration, Definition, Spec, TypeDcl};
 use idl_tree::expression::Expr;
-use idl_tree::types::ConstType;
+use idl_tree::types::{ConstType, Label};
 use std::alloc::Global;
 use std::test::Fail;
 
@@ -376,7 +376,7 @@ fn operands(alloc: Global, source: &str) -> Result<usize, Fail> {
     let tokens = lex(alloc, source)?;
     let spec = parse(alloc, &tokens)?;
     let constant = first_const(&spec).ok_or("no constant")?;
-    Ok(rest_len(&constant.value))
+    Ok(rest_len(&constant.value.expr))
 }
 
 /// The same of the bound of a first constant, a string.
@@ -385,7 +385,7 @@ fn bound_operands(alloc: Global, source: &str) -> Result<usize, Fail> {
     let spec = parse(alloc, &tokens)?;
     let constant = first_const(&spec).ok_or("no constant")?;
     Ok(match &constant.const_type {
-        ConstType::String(Some(bound)) => rest_len(bound),
+        ConstType::String(Some(bound)) => rest_len(&bound.expr),
         _ => 0,
     })
 }
@@ -447,7 +447,7 @@ fn names_keep_their_first_token(rt: HostRuntime) -> Result<(), Fail> {
         assert_eq!(rt; name.first_name(), "A");
         assert_eq!(rt; [name.number, name.line], [1, 1]);
     }
-    if let Expr::Name(name) = &constant.value {
+    if let Expr::Name(name) = &constant.value.expr {
         assert_eq!(rt; name.first_name(), "C");
         assert_eq!(rt; [name.number, name.line], [6, 2]);
         assert_eq!(rt;
@@ -483,7 +483,32 @@ fn marks_keep_their_line(rt: HostRuntime) -> Result<(), Fail> {
     let tokens = lex(alloc, "const long X =\n-\n(\nTRUE\n);")?;
     let spec = parse(alloc, &tokens)?;
     let constant = first_const(&spec).ok_or("no constant")?;
-    assert_eq!(rt; marks(&constant.value), Some([2, 3, 4]));
+    assert_eq!(rt; marks(&constant.value.expr), Some([2, 3, 4]));
+    Ok(())
+}
+
+/// The line of the default label of a union that a specification begins with.
+fn default_line(spec: &Spec<'_>) -> Option<usize> {
+    let Definition::Declaration(Declaration::TypeDcl(TypeDcl::Union(union))) = spec
+        .definitions
+        .first()?
+    else {
+        return None;
+    };
+    let label = union.cases.last()?.labels.last()?;
+    match label {
+        Label::Default { line } => Some(*line),
+        Label::Case(_) => None,
+    }
+}
+
+#[test]
+fn a_default_keeps_its_line(rt: HostRuntime) -> Result<(), Fail> {
+    let alloc = rt.alloc();
+    let source = "union U switch (long) {\ncase 1: long a;\ncase 2:\ndefault: long b; };";
+    let tokens = lex(alloc, source)?;
+    let spec = parse(alloc, &tokens)?;
+    assert_eq!(rt; default_line(&spec), Some(4));
     Ok(())
 }
 

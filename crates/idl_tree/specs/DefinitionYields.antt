@@ -25,7 +25,7 @@ use Rattle.idl_tree.specs.declared.definitions.Interface.TheVariants.{Ahead, Def
 use Rattle.idl_tree.specs.declared.definitions.Definition.{Definition, Pragma, Declaration as Declared, Interface as InterfaceDcl, Module', Row_of-Definition, end_of-Definition, more_of-Definition}
 use Rattle.idl_tree.specs.declared.definitions.Spec.{Spec}
 use Rattle.idl_tree.specs.Pieces.{Piece, keyword, mark, leaf}
-use Rattle.idl_tree.specs.Yields.{identifier, listed, optional, names_yield, expr_yield}
+use Rattle.idl_tree.specs.Yields.{identifier, listed, optional, names_yield, const_expr_yield}
 use Rattle.idl_tree.specs.TypeYields.{const_type_yield, param_type_yield, type_yield, struct_yield, union_yield, enum_yield, declarator_yield, member_yield}
 
 abbrev pub type_dcl_yield : TypeDcl → List Piece
@@ -40,7 +40,7 @@ type_dcl_yield (TypeDcls.UnionAhead id) = keyword (codes "union") ++ identifier 
 abbrev pub const_yield : Const → List Piece
 const_yield c =
     keyword (codes "const") ++ const_type_yield c.const_type ++ identifier c.identifier ++ mark (codes "=")
-    ++ expr_yield c.value
+    ++ const_expr_yield c.value
 
 abbrev pub except_yield : Except → List Piece
 except_yield e =

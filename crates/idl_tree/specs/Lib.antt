@@ -4,3 +4,4 @@ pub mod Yields
 pub mod TypeYields
 pub mod DefinitionYields
 pub mod Lines
+pub mod Grouping

@@ -1,7 +1,7 @@
 -- The pieces that a tree spells, from left to right: of types.
 use Rattle.std.specs.Prelude.{List, [], ◌++◌, codes}
 use Rattle.std.specs.List.{flat_map}
-use Rattle.idl_tree.specs.declared.expression.Expr.{Expr}
+use Rattle.idl_tree.specs.declared.const_expr.ConstExpr.{ConstExpr}
 use Rattle.idl_tree.specs.declared.types.Integer.{Integer}
 use Rattle.idl_tree.specs.declared.types.Integer.TheVariants.{Signed, Unsigned}
 use Rattle.idl_tree.specs.declared.types.IntegerSize.{IntegerSize}
@@ -23,7 +23,7 @@ use Rattle.idl_tree.specs.declared.types.UnionType.{UnionType, UnionType', Row_o
 use Rattle.idl_tree.specs.declared.types.Member.{Member}
 use Rattle.idl_tree.specs.declared.types.Case.{Case}
 use Rattle.idl_tree.specs.Pieces.{Piece, keyword, mark}
-use Rattle.idl_tree.specs.Yields.{identifier, listed, optional, name_yield, expr_yield}
+use Rattle.idl_tree.specs.Yields.{identifier, listed, optional, name_yield, const_expr_yield}
 
 abbrev pub integer_size_yield : IntegerSize → List Piece
 integer_size_yield Short = keyword (codes "short")
@@ -34,8 +34,8 @@ abbrev pub integer_yield : Integer → List Piece
 integer_yield (Signed size) = integer_size_yield size
 integer_yield (Unsigned size) = keyword (codes "unsigned") ++ integer_size_yield size
 
-abbrev pub string_bound_yield : Expr → List Piece
-string_bound_yield bound = mark (codes "<") ++ expr_yield bound ++ mark (codes ">")
+abbrev pub string_bound_yield : ConstExpr → List Piece
+string_bound_yield bound = mark (codes "<") ++ const_expr_yield bound ++ mark (codes ">")
 
 abbrev pub const_type_yield : ConstType → List Piece
 const_type_yield (ConstTypes.Integer i) = integer_yield i
@@ -49,8 +49,8 @@ abbrev pub param_type_yield : ParamType → List Piece
 param_type_yield (ParamTypes.Plain t) = const_type_yield t
 param_type_yield ParamTypes.Object = keyword (codes "Object")
 
-abbrev pub sequence_bound_yield : Expr → List Piece
-sequence_bound_yield bound = mark (codes ",") ++ expr_yield bound
+abbrev pub sequence_bound_yield : ConstExpr → List Piece
+sequence_bound_yield bound = mark (codes ",") ++ const_expr_yield bound
 
 abbrev pub simple_type_yield : SimpleType → List Piece
 simple_type_yield (Plain t) = param_type_yield t
@@ -58,8 +58,8 @@ simple_type_yield (Sequence' p element bound) =
     keyword (codes "sequence") ++ mark (codes "<") ++ simple_type_yield element
     ++ optional sequence_bound_yield bound ++ mark (codes ">")
 
-abbrev pub size_yield : Expr → List Piece
-size_yield size = mark (codes "[") ++ expr_yield size ++ mark (codes "]")
+abbrev pub size_yield : ConstExpr → List Piece
+size_yield size = mark (codes "[") ++ const_expr_yield size ++ mark (codes "]")
 
 abbrev pub declarator_yield : Declarator → List Piece
 declarator_yield d = identifier d.identifier ++ flat_map size_yield d.sizes.items
@@ -77,7 +77,7 @@ switch_yield (SwitchTypes.Enum e) = enum_yield e
 switch_yield (SwitchTypes.Name n) = name_yield n
 
 abbrev pub label_yield : Label → List Piece
-label_yield (Labels.Case e) = keyword (codes "case") ++ expr_yield e ++ mark (codes ":")
+label_yield (Labels.Case e) = keyword (codes "case") ++ const_expr_yield e ++ mark (codes ":")
 label_yield (Labels.Default line) = keyword (codes "default") ++ mark (codes ":")
 
 abbrev mutual

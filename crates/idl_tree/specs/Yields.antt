@@ -11,6 +11,7 @@ use Rattle.idl_tree.specs.declared.expression.Sign.{Sign}
 use Rattle.idl_tree.specs.declared.expression.Sign.TheVariants.{Plus, Minus}
 use Rattle.idl_tree.specs.declared.expression.Expr.{Expr, Name, Number, Character, Text, Boolean, Parenthesized', Signed', Chain', Row_of-Operand, end_of-Operand, more_of-Operand}
 use Rattle.idl_tree.specs.declared.expression.Operand.{Operand}
+use Rattle.idl_tree.specs.declared.const_expr.ConstExpr.{ConstExpr}
 use Rattle.idl_tree.specs.Pieces.{Piece, piece, keyword, mark, leaf}
 
 abbrev pub identifier : Leaf → List Piece
@@ -88,3 +89,6 @@ abbrev mutual
 
 abbrev pub operand_yield : Operand → List Piece
 operand_yield x = operator_yield x.operator ++ expr_yield x.operand
+
+abbrev pub const_expr_yield : ConstExpr → List Piece
+const_expr_yield c = expr_yield c.expr

@@ -6,7 +6,7 @@ ghost use Rattle.idl_tree.specs.Pieces.{keyword, mark};
 ghost use Rattle.idl_tree.specs.Yields.{identifier as identifier_yield};
 ghost use Rattle.idl_tree.specs.DefinitionYields.{definition_yield};
 
-use crate::expression::Expr;
+use crate::const_expr::ConstExpr;
 use crate::names::{Leaf, Listed, ScopedName};
 use crate::types::{
     ConstType, Declarator, EnumType, Member, ParamType, StructType, TypeSpec, UnionType,
@@ -32,7 +32,7 @@ pub enum TypeDcl<'a> {
 pub struct Const<'a> {
     pub const_type: ConstType<'a>,
     pub identifier: Leaf<'a>,
-    pub value: Expr<'a>,
+    pub value: ConstExpr<'a>,
 }
 
 #[derive(Drop)]

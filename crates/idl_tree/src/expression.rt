@@ -1,7 +1,8 @@
 //! Constant expressions.
 
-ghost use Rattle.std.specs.Prelude.{◌≡◌, ◌++◌, Some, IfOk, codes};
-ghost use Rattle.std.specs.List.{flat_map};
+ghost use Rattle.std.specs.Prelude.{◌≡◌, ◌++◌, ◌≤◌, ℕ, suc, Some, IfOk, codes};
+ghost use Rattle.std.specs.List.{AllByRecursion, flat_map};
+ghost use Rattle.idl_tree.specs.Grouping.{IsOfLevel, IsOperandOf};
 ghost use Rattle.idl_tree.specs.Pieces.{mark};
 ghost use Rattle.idl_tree.specs.Yields.{operator_text, sign_yield, expr_yield, operand_yield};
 ghost use Rattle.idl_tree.specs.Lines.{mark_line};
@@ -96,8 +97,9 @@ impl<'a> Expr<'a> {
         first: Expr<'a>,
         rest: Vec<Operand<'a>>,
     ) -> Result<Expr<'a>, AllocError>
-        ensures { IfOk result (λ e. expr_yield e ≡
+        ensures spells { IfOk result (λ e. expr_yield e ≡
             expr_yield first.entry ++ flat_map operand_yield rest.entry.items) }
+        ensures groups { IfOk result (λ e. (level : ℕ) → level ≤ 5 → IsOfLevel (suc level) first.entry → AllByRecursion (IsOperandOf level) rest.entry.items → IsOfLevel level e) }
     {
         if rest.is_empty() {
             return Ok(first);
@@ -116,6 +118,7 @@ impl<'a> Expr<'a> {
         operand: Expr<'a>,
     ) -> Result<Expr<'a>, AllocError>
         ensures spells { IfOk result (λ e. expr_yield e ≡ sign_yield sign ++ expr_yield operand.entry) }
+        ensures groups { IfOk result (λ e. IsOfLevel 7 operand.entry → IsOfLevel 6 e) }
         ensures line { IfOk result (λ e. mark_line e ≡ Some line) }
     {
         Ok(Expr::Signed {
@@ -133,6 +136,7 @@ impl<'a> Expr<'a> {
     ) -> Result<Expr<'a>, AllocError>
         ensures spells { IfOk result (λ e. expr_yield e ≡
             mark (codes "(") ++ expr_yield inner.entry ++ mark (codes ")")) }
+        ensures groups { IfOk result (λ e. IsOfLevel 0 inner.entry → IsOfLevel 7 e) }
         ensures line { IfOk result (λ e. mark_line e ≡ Some line) }
     {
         Ok(Expr::Parenthesized {

@@ -3,6 +3,7 @@
 //! Public functions make the nodes that hold a list or a box, and say what they spell.
 #![tactic(auto)]
 
+pub mod const_expr;
 pub mod definitions;
 pub mod expression;
 pub mod names;

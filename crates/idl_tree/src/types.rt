@@ -6,7 +6,7 @@ ghost use Rattle.idl_tree.specs.Pieces.{keyword, mark};
 ghost use Rattle.idl_tree.specs.Yields.{identifier as identifier_yield, optional};
 ghost use Rattle.idl_tree.specs.TypeYields.{simple_type_yield, sequence_bound_yield, switch_yield, struct_yield, union_yield, member_yield, case_yield};
 
-use crate::expression::Expr;
+use crate::const_expr::ConstExpr;
 use crate::names::{Leaf, Listed, ScopedName};
 use std::alloc::{AllocError, Global};
 
@@ -32,7 +32,7 @@ pub enum ConstType<'a> {
     Boolean,
     Octet,
     /// A string, with its bound if it has one.
-    String(Option<Expr<'a>>),
+    String(Option<ConstExpr<'a>>),
     Name(ScopedName<'a>),
 }
 
@@ -49,7 +49,7 @@ pub enum SimpleType<'a> {
     Plain(ParamType<'a>),
     Sequence {
         element: Box<SimpleType<'a>>,
-        bound: Option<Expr<'a>>,
+        bound: Option<ConstExpr<'a>>,
     },
 }
 
@@ -57,7 +57,7 @@ pub enum SimpleType<'a> {
 #[derive(Drop)]
 pub struct Declarator<'a> {
     pub identifier: Leaf<'a>,
-    pub sizes: Vec<Expr<'a>>,
+    pub sizes: Vec<ConstExpr<'a>>,
 }
 
 #[derive(Drop)]
@@ -79,7 +79,7 @@ pub enum SwitchType<'a> {
 /// A label of a union's case.
 #[derive(Drop)]
 pub enum Label<'a> {
-    Case(Expr<'a>),
+    Case(ConstExpr<'a>),
     Default { line: usize },
 }
 
@@ -131,7 +131,7 @@ impl<'a> SimpleType<'a> {
     pub fn new_sequence(
         alloc: Global,
         element: SimpleType<'a>,
-        bound: Option<Expr<'a>>,
+        bound: Option<ConstExpr<'a>>,
     ) -> Result<SimpleType<'a>, AllocError>
         ensures { IfOk result (λ t. simple_type_yield t ≡
             keyword (codes "sequence") ++ mark (codes "<") ++ simple_type_yield element.entry

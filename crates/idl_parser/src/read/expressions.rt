@@ -2,11 +2,12 @@
 #![tactic(auto, using(crate::proofs::Reading::append_left, std::proofs::lemmas::List::flat_map_more))]
 
 ghost use Rattle.std.specs.Prelude.{◌≡◌, ◌+◌, ◌++◌, ◌≤◌, IfOk, IfSome, List, take, length, codes};
-ghost use Rattle.std.specs.List.{flat_map};
+ghost use Rattle.std.specs.List.{AllByRecursion, flat_map};
 ghost use Rattle.idl_lexer.specs.declared.token.Kind.TheVariants.{TextLit};
 ghost use Rattle.idl_parser.specs.Reading.{Parsed};
 ghost use Rattle.idl_tree.specs.Pieces.{Piece, pieces, mark, leaf};
-ghost use Rattle.idl_tree.specs.Yields.{operator_yield, sign_yield, expr_yield, operand_yield, texts_yield};
+ghost use Rattle.idl_tree.specs.Grouping.{level_of, IsOfLevel};
+ghost use Rattle.idl_tree.specs.Yields.{operator_yield, sign_yield, expr_yield, const_expr_yield, operand_yield, texts_yield};
 
 use crate::fault::ParseFault;
 use crate::read::names::read_scoped_name;
@@ -14,29 +15,30 @@ use crate::read::tokens::{
     Read, inside, is_keyword, is_kind, is_mark, line_at, read_keyword, read_leaf, read_mark,
 };
 use idl_lexer::{Kind, Token};
+use idl_tree::const_expr::ConstExpr;
 use idl_tree::expression::{Expr, Operand, Operator, Sign};
 use idl_tree::names::Leaf;
 use std::alloc::Global;
 
-/// The operators of each level, the loosest first.
-const LEVELS: [&[Operator]; 6] = [
-    &[Operator::Or],
-    &[Operator::Xor],
-    &[Operator::And],
-    &[Operator::ShiftLeft, Operator::ShiftRight],
-    &[Operator::Add, Operator::Subtract],
-    &[Operator::Multiply, Operator::Divide, Operator::Remainder],
-];
+/// How many levels of operators there are, the loosest of which is 0.
+const LEVELS: usize = 6;
 
-/// The same between `<` and `>`, where a right shift stands in parentheses.
-const BOUND_LEVELS: [&[Operator]; 6] = [
-    &[Operator::Or],
-    &[Operator::Xor],
-    &[Operator::And],
-    &[Operator::ShiftLeft],
-    &[Operator::Add, Operator::Subtract],
-    &[Operator::Multiply, Operator::Divide, Operator::Remainder],
-];
+/// The operators of a level. In a bound, which stands between `<` and `>`, a right shift is taken in
+/// parentheses only.
+fn operators(level: usize, is_bound: bool) -> &'static [Operator]
+    ensures { AllByRecursion (λ operator. level_of operator ≡ level) result.now }
+{
+    match level {
+        0 => &[Operator::Or],
+        1 => &[Operator::Xor],
+        2 => &[Operator::And],
+        3 if is_bound => &[Operator::ShiftLeft],
+        3 => &[Operator::ShiftLeft, Operator::ShiftRight],
+        4 => &[Operator::Add, Operator::Subtract],
+        5 => &[Operator::Multiply, Operator::Divide, Operator::Remainder],
+        _ => &[],
+    }
+}
 
 /// Whether two `>` that touch stand at a place.
 fn is_right_shift(tokens: &[Token<'_>], at: usize) -> bool {
@@ -53,12 +55,16 @@ fn is_operator(tokens: &[Token<'_>], at: usize, wanted: Operator) -> bool {
     }
 }
 
-/// The operator at a place, if it is one of these.
-fn operator_at(tokens: &[Token<'_>], at: usize, level: &[Operator]) -> Option<Operator> {
-    level
-        .iter()
-        .copied()
-        .find(|wanted| is_operator(tokens, at, *wanted))
+/// The operator at a place, if it is one of the level.
+fn operator_at(tokens: &[Token<'_>], at: usize, level: usize, is_bound: bool) -> Option<Operator>
+    ensures { IfSome result (λ operator. level_of operator ≡ level) }
+{
+    for wanted in operators(level, is_bound) {
+        if is_operator(tokens, at, *wanted) {
+            return Some(*wanted);
+        }
+    }
+    None
 }
 
 fn read_operator(tokens: &[Token<'_>], at: usize, wanted: Operator) -> Result<usize, ParseFault>
@@ -88,7 +94,8 @@ fn read_texts<'a>(alloc: Global, tokens: &[Token<'a>], at: usize) -> Read<Vec<Le
 }
 
 fn read_boolean<'a>(tokens: &[Token<'a>], at: usize) -> Read<Expr<'a>>
-    ensures { IfOk result (λ r. Parsed tokens.now at (expr_yield r.0) r.1) }
+    ensures spells { IfOk result (λ r. Parsed tokens.now at (expr_yield r.0) r.1) }
+    ensures groups { IfOk result (λ r. IsOfLevel 7 r.0) }
 {
     let value = is_keyword(tokens, at, "TRUE");
     let line = line_at(tokens, at);
@@ -102,7 +109,8 @@ fn read_boolean<'a>(tokens: &[Token<'a>], at: usize) -> Read<Expr<'a>>
 
 /// A name or a literal.
 fn read_atom<'a>(alloc: Global, tokens: &[Token<'a>], at: usize) -> Read<Expr<'a>>
-    ensures { IfOk result (λ r. Parsed tokens.now at (expr_yield r.0) r.1) }
+    ensures spells { IfOk result (λ r. Parsed tokens.now at (expr_yield r.0) r.1) }
+    ensures groups { IfOk result (λ r. IsOfLevel 7 r.0) }
 {
     if is_kind(tokens, at, Kind::Number) {
         let (number, next) = read_leaf(tokens, at, Kind::Number)?;
@@ -133,7 +141,8 @@ fn read_sign(tokens: &[Token<'_>], at: usize) -> Read<Sign>
 
 #[cycle(expressions)]
 fn read_primary<'a>(alloc: Global, tokens: &[Token<'a>], at: usize, depth: usize) -> Read<Expr<'a>>
-    ensures { IfOk result (λ r. Parsed tokens.now at (expr_yield r.0) r.1) }
+    ensures spells { IfOk result (λ r. Parsed tokens.now at (expr_yield r.0) r.1) }
+    ensures groups { IfOk result (λ r. IsOfLevel 7 r.0) }
 {
     if !is_mark(tokens, at, "(") {
         return read_atom(alloc, tokens, at);
@@ -141,14 +150,15 @@ fn read_primary<'a>(alloc: Global, tokens: &[Token<'a>], at: usize, depth: usize
     let line = line_at(tokens, at);
     let left = inside(tokens, at, depth)?;
     let start = read_mark(tokens, at, "(")?;
-    let (inner, end) = read_level(alloc, tokens, start, &LEVELS, left)?;
+    let (inner, end) = read_level(alloc, tokens, start, 0, false, left)?;
     let next = read_mark(tokens, end, ")")?;
     Ok((Expr::new_parenthesized(alloc, line, inner)?, next))
 }
 
 #[cycle(expressions)]
 fn read_unary<'a>(alloc: Global, tokens: &[Token<'a>], at: usize, depth: usize) -> Read<Expr<'a>>
-    ensures { IfOk result (λ r. Parsed tokens.now at (expr_yield r.0) r.1) }
+    ensures spells { IfOk result (λ r. Parsed tokens.now at (expr_yield r.0) r.1) }
+    ensures groups { IfOk result (λ r. IsOfLevel 6 r.0) }
 {
     if !is_mark(tokens, at, "-") && !is_mark(tokens, at, "+") {
         return read_primary(alloc, tokens, at, depth);
@@ -159,25 +169,27 @@ fn read_unary<'a>(alloc: Global, tokens: &[Token<'a>], at: usize, depth: usize) 
     Ok((Expr::new_signed(alloc, line, sign, operand)?, next))
 }
 
-/// Reads operands of the tighter levels, with operators of the first level between them.
+/// Reads operands of the tighter levels, with operators of the level between them.
 #[cycle(expressions)]
 fn read_level<'a>(
     alloc: Global,
     tokens: &[Token<'a>],
     at: usize,
-    levels: &[&[Operator]],
+    level: usize,
+    is_bound: bool,
     depth: usize,
 ) -> Read<Expr<'a>>
-    ensures { IfOk result (λ r. Parsed tokens.now at (expr_yield r.0) r.1) }
+    ensures spells { IfOk result (λ r. Parsed tokens.now at (expr_yield r.0) r.1) }
+    ensures groups { IfOk result (λ r. level ≤ 6 → IsOfLevel level r.0) }
 {
-    let Some((level, tighter)) = levels.split_first() else {
+    if level >= LEVELS {
         return read_unary(alloc, tokens, at, depth);
-    };
-    let (first, mut next) = read_level(alloc, tokens, at, tighter, depth)?;
+    }
+    let (first, mut next) = read_level(alloc, tokens, at, level + 1, is_bound, depth)?;
     let mut rest = Vec::new(alloc);
-    'parts: while let Some(operator) = operator_at(tokens, next, level) {
+    'parts: while let Some(operator) = operator_at(tokens, next, level, is_bound) {
         let start = read_operator(tokens, next, operator)?;
-        let (operand, end) = read_level(alloc, tokens, start, tighter, depth)?;
+        let (operand, end) = read_level(alloc, tokens, start, level + 1, is_bound, depth)?;
         rest.push(Operand { operator, operand })?;
         next = end;
     }
@@ -190,10 +202,11 @@ pub(crate) fn read_expr<'a>(
     tokens: &[Token<'a>],
     at: usize,
     depth: usize,
-) -> Read<Expr<'a>>
-    ensures { IfOk result (λ r. Parsed tokens.now at (expr_yield r.0) r.1) }
+) -> Read<ConstExpr<'a>>
+    ensures { IfOk result (λ r. Parsed tokens.now at (const_expr_yield r.0) r.1) }
 {
-    read_level(alloc, tokens, at, &LEVELS, depth)
+    let (expr, next) = read_level(alloc, tokens, at, 0, false, depth)?;
+    Ok((ConstExpr { expr }, next))
 }
 
 /// Reads a constant expression between `<` and `>`.
@@ -202,8 +215,9 @@ pub(crate) fn read_bound<'a>(
     tokens: &[Token<'a>],
     at: usize,
     depth: usize,
-) -> Read<Expr<'a>>
-    ensures { IfOk result (λ r. Parsed tokens.now at (expr_yield r.0) r.1) }
+) -> Read<ConstExpr<'a>>
+    ensures { IfOk result (λ r. Parsed tokens.now at (const_expr_yield r.0) r.1) }
 {
-    read_level(alloc, tokens, at, &BOUND_LEVELS, depth)
+    let (expr, next) = read_level(alloc, tokens, at, 0, true, depth)?;
+    Ok((ConstExpr { expr }, next))
 }

@@ -13,7 +13,7 @@ use crate::read::expressions::{read_bound, read_expr};
 use crate::read::names::{read_identifier, read_identifiers, read_scoped_name};
 use crate::read::tokens::{Read, inside, is_keyword, is_mark, read_keyword, read_mark};
 use idl_lexer::Token;
-use idl_tree::expression::Expr;
+use idl_tree::const_expr::ConstExpr;
 use idl_tree::names::Listed;
 use idl_tree::types::{
     ConstType, Declarator, EnumType, Integer, IntegerSize, ParamType, SimpleType, SwitchType,
@@ -59,7 +59,7 @@ fn read_string_bound<'a>(
     tokens: &[Token<'a>],
     at: usize,
     depth: usize,
-) -> Read<Option<Expr<'a>>>
+) -> Read<Option<ConstExpr<'a>>>
     ensures { IfOk result (λ r. Continued tokens.now at (optional string_bound_yield r.0) r.1) }
 {
     if !is_mark(tokens, at, "<") {
@@ -119,7 +119,7 @@ fn read_sequence_bound<'a>(
     tokens: &[Token<'a>],
     at: usize,
     depth: usize,
-) -> Read<Option<Expr<'a>>>
+) -> Read<Option<ConstExpr<'a>>>
     ensures { IfOk result (λ r. Continued tokens.now at (optional sequence_bound_yield r.0) r.1) }
 {
     if !is_mark(tokens, at, ",") {

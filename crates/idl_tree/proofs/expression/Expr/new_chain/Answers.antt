@@ -1,8 +1,14 @@
-use Rattle.std.proofs.Common.{ap, ◌++◌, ◌∙◌}
+use Rattle.std.proofs.Common.{rules, ◌≡◌, ◌++◌, ◌∙◌, suc, [], sym, ap, subst}
 use Rattle.std.specs.List.{flat_map}
+use Rattle.idl_tree.specs.Grouping.{IsOfLevel}
 use Rattle.idl_tree.specs.Yields.{expr_yield, operand_yield}
-use Rattle.idl_tree.proofs.Chains.{chain_yield}
+use Rattle.idl_tree.proofs.Chains.{chain_yield, chain_level}
 use Rattle.idl_tree.proofs.expression.Expr.new_chain.Goals as goal
 
-pub returns : goal.returns
-returns c = chain_yield c.in_ok-new.field-0 c.args.rest ∙ ap (λ e. expr_yield e ++ flat_map operand_yield c.args.rest.items) c.in_ok-new.ensures.ok
+pub returns-clause-spells : goal.returns-clause-spells
+returns-clause-spells c = chain_yield c.in_ok-new.field-0 c.args.rest ∙ ap (λ e. expr_yield e ++ flat_map operand_yield c.args.rest.items) c.in_ok-new.ensures.ok
+
+pub returns-clause-groups : goal.returns-clause-groups
+returns-clause-groups c = λ level le tighter operands.
+    let some : c.args.rest.items ≡ [] → ⊥ = search rules in
+    chain_level level c.in_ok-new.field-0 c.args.rest le some (subst (IsOfLevel (suc level)) (sym c.in_ok-new.ensures.ok) tighter) operands
