@@ -6,7 +6,6 @@ ghost use Rattle.marshal_program.specs.Plain.{plain_program};
 ghost use Rattle.marshal_program.specs.declared.fault.GenFault.TheVariants.{NoMemory};
 
 mod code;
-mod heights;
 mod routine;
 
 use crate::routine::routines;

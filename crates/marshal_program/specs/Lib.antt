@@ -2,3 +2,4 @@ pub mod Does
 pub mod ProgramRules
 pub mod RuleTests
 pub mod Plain
+pub mod Served

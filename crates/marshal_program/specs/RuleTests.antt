@@ -2,7 +2,7 @@
 use Rattle.std.specs.Prelude.{ℕ, ◌<◌, ◌≤◌, List, All}
 use Rattle.marshal_program.specs.declared.instr.Instr.{Instr}
 use Rattle.marshal_program.specs.declared.instr.Routine.{Routine}
-use Rattle.marshal_program.specs.ProgramRules.{IsInstr, named_by, called_by, TakesOctet, IsLower}
+use Rattle.marshal_program.specs.ProgramRules.{IsShort, IsInstr, AreSets, named_by, called_by, TakesOctet, IsLower}
 
 -- an instruction whose numbers are in range, among so many routines
 pub record HasNumbers (count : ℕ) (instr : Instr) : Type 0 where
@@ -10,7 +10,9 @@ pub record HasNumbers (count : ℕ) (instr : Instr) : Type 0 where
   pub named : All (λ number. number < count) (named_by instr)
 
 pub record HasAllNumbers (count : ℕ) (routine : Routine) : Type 0 where
-  pub entered : 0 < routine.entry
+  pub noded : IsShort routine.node
+  pub entered : (0 < routine.entry) × (routine.entry < 256)
+  pub exits : AreSets routine.exits
   pub ranked : routine.rank ≤ 63
   pub instrs : All (HasNumbers count) routine.code
 

@@ -1,9 +1,8 @@
 //! The instructions of which marshalling routines are made.
 
-ghost use Rattle.std.specs.Prelude.{◌≡◌};
+ghost use Rattle.std.specs.Prelude.{◌≡◌, ◌↔◌, IsTrue};
 
-use std::marker::Model;
-use type_graph::{Arms, Node, Width};
+use type_graph::{Arms, Items, Node, Width};
 
 /// The discriminator of a union.
 #[derive(Clone, Copy, Debug, PartialEq, Eq)]
@@ -38,7 +37,7 @@ impl Disc {
 /// One step of a routine: it relates a piece of a tape with octets at a position. A routine is
 /// named by its number in the program, a bound of 0 is none, and only `Align` and the `first` of
 /// a sequence stand for gaps (ISO/IEC 19500-2, CDR).
-#[derive(Debug, Drop)]
+#[derive(Debug, Drop, PartialEq)]
 pub enum Instr {
     /// The gap to the next multiple.
     Align {
@@ -101,45 +100,132 @@ pub enum Instr {
     },
 }
 
+fn is_disc(disc: Disc, other: Disc) -> bool
+    ensures { IsTrue result ↔ (disc ≡ other) }
+{
+    disc == other
+}
+
+fn is_other(otherwise: Option<u32>, other: Option<u32>) -> bool
+    ensures { IsTrue result ↔ (otherwise ≡ other) }
+{
+    otherwise == other
+}
+
+/// The routines that an instruction names: those of labels, and one more.
+#[derive(Clone, Copy, Debug)]
+pub struct Named<'i> {
+    pub arms: &'i [(i128, u32)],
+    pub other: Option<u32>,
+}
+
+impl Instr {
+    ghost use Rattle.std.specs.Prelude.{◌≡◌, ◌↔◌, IsTrue, []};
+    ghost use Rattle.marshal_program.specs.ProgramRules.{arms_of, named_by, called_by};
+
+    /// Whether the two are one instruction.
+    pub fn is(&self, other: &Instr) -> bool
+        ensures { IsTrue result ↔ (self.now ≡ other.now) }
+    {
+        match (self, other) {
+            (Instr::Align { to }, Instr::Align { to: of }) => *to == *of,
+            (Instr::Octets { n }, Instr::Octets { n: of }) => *n == *of,
+            (Instr::Words { width, n }, Instr::Words { width: by, n: of }) => {
+                *width == *by && *n == *of
+            }
+            (Instr::Bools { n }, Instr::Bools { n: of }) => *n == *of,
+            (Instr::EnumWord { limit }, Instr::EnumWord { limit: of }) => *limit == *of,
+            (Instr::Text { bound }, Instr::Text { bound: of })
+            | (Instr::SeqOctets { bound }, Instr::SeqOctets { bound: of })
+            | (Instr::SeqBools { bound }, Instr::SeqBools { bound: of }) => *bound == *of,
+            (
+                Instr::SeqWords {
+                    width,
+                    first,
+                    bound,
+                },
+                Instr::SeqWords {
+                    width: by,
+                    first: at,
+                    bound: of,
+                },
+            ) => *width == *by && *first == *at && *bound == *of,
+            (
+                Instr::SeqOf {
+                    bound,
+                    first,
+                    routine,
+                },
+                Instr::SeqOf {
+                    bound: of,
+                    first: at,
+                    routine: by,
+                },
+            ) => *bound == *of && *first == *at && *routine == *by,
+            (Instr::Times { n, routine }, Instr::Times { n: of, routine: by }) => {
+                *n == *of && *routine == *by
+            }
+            (Instr::Call { routine }, Instr::Call { routine: by }) => *routine == *by,
+            (
+                Instr::Switch {
+                    disc,
+                    arms,
+                    otherwise,
+                },
+                Instr::Switch {
+                    disc: by,
+                    arms: of,
+                    otherwise: or,
+                },
+            ) => is_disc(*disc, *by) && arms.is(of) && is_other(*otherwise, *or),
+            _ => false,
+        }
+    }
+
+    /// The routines that the instruction names.
+    pub fn named(&self) -> Named<'_>
+        ensures { arms_of result.arms.now result.other ≡ named_by self.now }
+    {
+        match self {
+            Instr::SeqOf { routine, .. } | Instr::Times { routine, .. } | Instr::Call { routine } =>
+                Named {
+                    arms: &[],
+                    other: Some(*routine),
+                },
+            Instr::Switch {
+                arms,
+                otherwise,
+                ..
+            } => Named {
+                arms: arms.as_slice(),
+                other: *otherwise,
+            },
+            _ => Named {
+                arms: &[],
+                other: None,
+            },
+        }
+    }
+
+    /// Those of them that don't stand for the elements of a sequence.
+    pub fn called(&self) -> Named<'_>
+        ensures { arms_of result.arms.now result.other ≡ called_by self.now }
+    {
+        match self {
+            Instr::SeqOf { .. } => Named {
+                arms: &[],
+                other: None,
+            },
+            _ => self.named(),
+        }
+    }
+}
+
 /// The instructions of a routine, in order.
-#[derive(Debug, Drop)]
-pub struct Code {
-    instrs: Vec<Instr>,
-}
-
-impl Model for Code {
-    ghost use Rattle.std.specs.Prelude.{List};
-    ghost use Rattle.marshal_program.specs.declared.instr.Instr.{Instr};
-
-    ghost Value = { List Instr };
-
-    ghost view = { λ c. c.instrs.items };
-}
-
-impl Code {
-    /// The instructions in this order. Takes no memory.
-    pub fn new(instrs: Vec<Instr>) -> Self
-        ensures { result ≡ instrs.items }
-    {
-        Code { instrs }
-    }
-
-    pub fn as_slice(&self) -> &[Instr]
-        ensures { result.now ≡ self.now }
-    {
-        self.instrs.as_slice()
-    }
-
-    /// Gives the list back. Takes no memory.
-    pub fn into_vec(self) -> Vec<Instr>
-        ensures { result.items ≡ self }
-    {
-        self.instrs
-    }
-}
+pub type Code = Items<Instr>;
 
 /// How the values of one node of a type graph are marshalled.
-#[derive(Debug, Drop)]
+#[derive(Debug, Drop, PartialEq)]
 pub struct Routine {
     /// The node's number.
     pub node: u32,

@@ -1,7 +1,8 @@
 //! A marshalling program: a list of routines that keeps the rules of a program.
 
-ghost use Rattle.std.specs.Prelude.{◌≡◌, ◌<◌, length, slice_get, IfOk, OnErr, Some};
+ghost use Rattle.std.specs.Prelude.{◌≡◌, ◌<◌, length, slice_get, IfOk, IfSome, OnErr, Some};
 ghost use Rattle.marshal_program.specs.ProgramRules.{IsRoutine, IsProgram};
+ghost use Rattle.marshal_program.specs.Served.{served_by};
 
 use crate::fault::TableFault;
 use crate::instr::Routine;
@@ -25,6 +26,16 @@ impl Model for Program {
     ghost view = { λ p. p.routines.items };
 
     ghost invariant = { λ p. IsProgram p.routines.items };
+}
+
+/// The place of the first routine of a node that may start at every position.
+fn place_of(routines: &[Routine], node: u32) -> Option<usize>
+    ensures value { result ≡ served_by routines.now node }
+    ensures within { IfSome result (λ place. place < length routines.now) }
+{
+    routines
+        .iter()
+        .position(|routine| routine.node == node && routine.entry == u8::MAX)
 }
 
 impl Program {
@@ -78,5 +89,15 @@ impl Program {
         ensures rules { IsProgram self.now }
     {
         &self.routines[number as usize]
+    }
+
+    /// The number of the routine that serves a node: the first with that node that may start at
+    /// every position. Takes no memory.
+    pub fn serving(&self, node: u32) -> Option<u32>
+        ensures value { result ≡ served_by self.now node }
+        ensures within { IfSome result (λ number. number < length self.now) }
+    {
+        let place = place_of(&self.routines, node)?;
+        Some(place as u32)
     }
 }

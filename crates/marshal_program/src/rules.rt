@@ -3,11 +3,12 @@
 ghost use Rattle.std.specs.Prelude.{◌≡◌, ◌<◌, ◌≤◌, ◌↔◌, All, IsTrue, option_to_list};
 ghost use Rattle.std.specs.List.{list_any};
 ghost use Rattle.type_graph.specs.GraphRules.{IsWide};
-ghost use Rattle.marshal_program.specs.ProgramRules.{IsDisc, arms_of, named_by, called_by, is_work, TakesOctet, IsLower, all_instrs};
+ghost use Rattle.type_graph.specs.Value.{IsSignedIn};
+ghost use Rattle.marshal_program.specs.ProgramRules.{IsDisc, IsInstr, AreLabels, AreSets, arms_of, named_by, called_by, is_work, TakesOctet, IsLower, all_instrs};
 ghost use Rattle.marshal_program.specs.RuleTests.{HasNumbers, HasAllNumbers, NamesWork, CallsLower};
 
-use crate::instr::{Disc, Instr, Routine};
-use type_graph::Width;
+use crate::instr::{Disc, Instr, Named, Routine};
+use type_graph::{Arms, Width};
 
 pub const MAX_ROUTINES: usize = 8192;
 
@@ -37,6 +38,21 @@ fn is_disc(disc: Disc) -> bool
     }
 }
 
+fn are_sized(arms: &[(i128, u32)]) -> bool
+    ensures { IsTrue result ↔ All (λ arm. IsSignedIn 16 arm.0) arms.now }
+{
+    arms.iter().all(|arm| {
+        let _label = arm.0;
+        true
+    })
+}
+
+fn are_labels(arms: &Arms) -> bool
+    ensures { IsTrue result ↔ AreLabels arms.now }
+{
+    arms.is_rising() && are_sized(arms.as_slice())
+}
+
 fn labels_in_range(count: usize, arms: &[(i128, u32)]) -> bool
     ensures { IsTrue result ↔ All (λ arm. arm.1 < count) arms.now }
 {
@@ -52,32 +68,42 @@ fn other_in_range(count: usize, otherwise: Option<u32>) -> bool
     }
 }
 
-fn are_in_range(count: usize, arms: &[(i128, u32)], otherwise: Option<u32>) -> bool
-    ensures { IsTrue result ↔ All (λ number. number < count) (arms_of arms.now otherwise) }
+fn are_in_range(count: usize, names: Named<'_>) -> bool
+    ensures { IsTrue result ↔ All (λ number. number < count) (arms_of names.entry.arms.now names.entry.other) }
 {
-    labels_in_range(count, arms) && other_in_range(count, otherwise)
+    labels_in_range(count, names.arms) && other_in_range(count, names.other)
 }
 
-fn has_numbers(count: usize, instr: &Instr) -> bool
-    ensures { IsTrue result ↔ HasNumbers count instr.now }
+/// What the instruction says by itself is in range.
+fn is_instr(instr: &Instr) -> bool
+    ensures { IsTrue result ↔ IsInstr instr.now }
 {
     match instr {
         Instr::Align { to } => is_wide(*to),
         Instr::Octets { n } | Instr::Bools { n } => *n > 0,
         Instr::Words { width, n } => is_wide(*width) && *n > 0,
         Instr::EnumWord { limit } => *limit > 0,
-        Instr::Text { .. } | Instr::SeqOctets { .. } | Instr::SeqBools { .. } => true,
-        Instr::SeqWords { width, .. } => is_wide(*width),
-        Instr::Times { n, routine } => { *n > 0 && *n <= MAX_TIMES && (*routine as usize) < count }
-        Instr::SeqOf { routine, .. } | Instr::Call { routine } => (*routine as usize) < count,
-        Instr::Switch {
-            disc,
-            arms,
-            otherwise,
-        } => {
-            is_disc(*disc) && arms.is_rising() && are_in_range(count, arms.as_slice(), *otherwise)
+        Instr::Text { bound }
+        | Instr::SeqOctets { bound }
+        | Instr::SeqBools { bound }
+        | Instr::SeqOf { bound, .. } => {
+            let _bound = *bound;
+            true
         }
+        Instr::SeqWords { width, bound, .. } => {
+            let _bound = *bound;
+            is_wide(*width)
+        }
+        Instr::Times { n, .. } => *n > 0 && *n <= MAX_TIMES,
+        Instr::Call { .. } => true,
+        Instr::Switch { disc, arms, .. } => is_disc(*disc) && are_labels(arms),
     }
+}
+
+fn has_numbers(count: usize, instr: &Instr) -> bool
+    ensures { IsTrue result ↔ HasNumbers count instr.now }
+{
+    is_instr(instr) && are_in_range(count, instr.named())
 }
 
 fn all_have_numbers(count: usize, code: &[Instr]) -> bool
@@ -86,11 +112,22 @@ fn all_have_numbers(count: usize, code: &[Instr]) -> bool
     code.iter().all(|instr| has_numbers(count, instr))
 }
 
+fn are_sets(exits: [u8; 8]) -> bool
+    ensures { IsTrue result ↔ AreSets exits }
+{
+    exits.iter().all(|set| {
+        let _set = *set;
+        true
+    })
+}
+
 /// The numbers of a routine are in range, among so many routines.
 pub fn has_all_numbers(count: usize, routine: &Routine) -> bool
     ensures { IsTrue result ↔ HasAllNumbers count routine.now }
 {
+    let _node = routine.node;
     routine.entry > 0
+        && are_sets(routine.exits)
         && routine.rank <= MAX_RANK
         && all_have_numbers(count, routine.code.as_slice())
 }
@@ -131,26 +168,16 @@ fn other_takes_octet(routines: &[Routine], otherwise: Option<u32>) -> bool
     }
 }
 
-fn all_take_octet(routines: &[Routine], arms: &[(i128, u32)], otherwise: Option<u32>) -> bool
-    ensures { IsTrue result ↔ All (TakesOctet routines.now) (arms_of arms.now otherwise) }
+fn all_take_octet(routines: &[Routine], names: Named<'_>) -> bool
+    ensures { IsTrue result ↔ All (TakesOctet routines.now) (arms_of names.entry.arms.now names.entry.other) }
 {
-    labels_take_octet(routines, arms) && other_takes_octet(routines, otherwise)
+    labels_take_octet(routines, names.arms) && other_takes_octet(routines, names.other)
 }
 
 fn instr_names_work(routines: &[Routine], instr: &Instr) -> bool
     ensures { IsTrue result ↔ All (TakesOctet routines.now) (named_by instr.now) }
 {
-    match instr {
-        Instr::SeqOf { routine, .. } | Instr::Times { routine, .. } | Instr::Call { routine } => {
-            takes_octet(routines, *routine)
-        }
-        Instr::Switch {
-            arms,
-            otherwise,
-            ..
-        } => all_take_octet(routines, arms.as_slice(), *otherwise),
-        _ => true,
-    }
+    all_take_octet(routines, instr.named())
 }
 
 /// Each routine that this one names takes an octet.
@@ -185,26 +212,16 @@ fn other_lower(routines: &[Routine], rank: u32, otherwise: Option<u32>) -> bool
     }
 }
 
-fn all_lower(routines: &[Routine], rank: u32, arms: &[(i128, u32)], otherwise: Option<u32>) -> bool
-    ensures { IsTrue result ↔ All (IsLower routines.now rank) (arms_of arms.now otherwise) }
+fn all_lower(routines: &[Routine], rank: u32, names: Named<'_>) -> bool
+    ensures { IsTrue result ↔ All (IsLower routines.now rank) (arms_of names.entry.arms.now names.entry.other) }
 {
-    labels_lower(routines, rank, arms) && other_lower(routines, rank, otherwise)
+    labels_lower(routines, rank, names.arms) && other_lower(routines, rank, names.other)
 }
 
 fn instr_calls_lower(routines: &[Routine], rank: u32, instr: &Instr) -> bool
     ensures { IsTrue result ↔ All (IsLower routines.now rank) (called_by instr.now) }
 {
-    match instr {
-        Instr::Times { routine, .. } | Instr::Call { routine } => {
-            is_lower(routines, rank, *routine)
-        }
-        Instr::Switch {
-            arms,
-            otherwise,
-            ..
-        } => all_lower(routines, rank, arms.as_slice(), *otherwise),
-        _ => true,
-    }
+    all_lower(routines, rank, instr.called())
 }
 
 /// Each routine that this one calls outside a sequence has a lower rank.

@@ -1,5 +1,5 @@
 -- What an accepted table answers.
-use Rattle.std.proofs.Common.{◌≡◌, ℕ, ◌<◌, List, ◌++◌, length, Result, Ok, Err, sym, le_of_eq, subst}
+use Rattle.std.proofs.Common.{◌≡◌, ◌↔◌, ℕ, List, ◌++◌, Some, Result, Ok, Err, sym, subst}
 use Rattle.std.specs.Prelude.{IfErr}
 use Rattle.type_graph.specs.declared.node.Node.{Node}
 use Rattle.type_graph.specs.GraphRules.{IsGraph}
@@ -13,22 +13,23 @@ use Rattle.marshal_program.proofs.PlainRight.{plain_graph, plain_right}
 use Rattle.program_runner.specs.declared.fault.RunFault.{RunFault}
 use Rattle.program_runner.specs.declared.fault.RunFault.TheVariants.{Short, BadBool, BadEnum, BadLength, NoTerminator, ZeroInside, OverBound, TooDeep, TapeLeft, NoMemory}
 use Rattle.program_runner.specs.Refusal.{OnlyIf}
-use Rattle.position_checker.specs.Table.{Table, IsAccepted}
-use Rattle.marshal_program.proofs.PlainPlaces.{length-plain_program}
+use Rattle.position_checker.specs.Table.{Table, IsRight}
+use Rattle.marshal_program.specs.Served.{served_by}
+use Rattle.marshal_program.proofs.PlainPlaces.{plain_served_within, plain_served_is}
 
 -- a graph and its plain program
-plain_is_accepted : (graph : List Node) → IsGraph graph → IsAccepted (record { graph = graph; program = plain_program graph })
-plain_is_accepted graph rules = record {
-  right = record {
-    same = λ way node p tape octets lt.
-        let same = plain_right graph way (plain_graph graph rules) 64 node lt in
-        (same.to p tape octets tt, same.from p tape octets tt);
-  };
-  served = le_of_eq (sym (length-plain_program graph));
+plain_is_right : (graph : List Node) → IsGraph graph → IsRight (record { graph = graph; program = plain_program graph })
+plain_is_right graph rules = record {
+  same = λ format node routine p tape octets serves.
+      let lt = plain_served_within graph node routine serves in
+      let is : node ≡ routine = plain_served_is graph node routine lt serves in
+      let same = plain_right graph format (plain_graph graph rules) 64 node lt in
+      subst (λ (r : ℕ). Runs (plain_program graph) format 64 r p tape octets ↔ Means graph format 64 node p tape octets) is
+      (same.to p tape octets tt, same.from p tape octets tt);
 }
 
-pub accepted : (graph : List Node) (program : List Routine) → IsGraph graph → program ≡ plain_program graph → IsAccepted (record { graph = graph; program = program })
-accepted graph program rules e = subst (λ (p : List Routine). IsAccepted (record { graph = graph; program = p })) (sym e) (plain_is_accepted graph rules)
+pub accepted : (graph : List Node) (program : List Routine) → IsGraph graph → program ≡ plain_program graph → IsRight (record { graph = graph; program = program })
+accepted graph program rules e = subst (λ (p : List Routine). IsRight (record { graph = graph; program = p })) (sym e) (plain_is_right graph rules)
 
 -- what a fault stands for may be put more weakly
 only_if_weaker : (fault : RunFault) (P Q : Type 0) → (P → Q) → OnlyIf fault P → OnlyIf fault Q
@@ -48,15 +49,15 @@ if_err_weaker P Q f (Ok x) h = tt
 if_err_weaker P Q f (Err e) h = f e h
 
 -- what no routine writes is no value
-pub write_refused : {A : Type 0} (table : Table) → IsAccepted table → (order : Order) (node p : ℕ) (tape : List ℕ) → node < length table.graph → (r : Result A RunFault)
-    → IfErr r (λ fault. OnlyIf fault ((octets : List ℕ) → Runs table.program (writing order) 64 node p tape octets → ⊥))
+pub write_refused : {A : Type 0} (table : Table) → IsRight table → (order : Order) (node routine p : ℕ) (tape : List ℕ) → served_by table.program node ≡ Some routine → (r : Result A RunFault)
+    → IfErr r (λ fault. OnlyIf fault ((octets : List ℕ) → Runs table.program (writing order) 64 routine p tape octets → ⊥))
     → IfErr r (λ fault. OnlyIf fault ((octets : List ℕ) → Means table.graph (writing order) 64 node p tape octets → ⊥))
-write_refused table good order node p tape lt r h =
-    if_err_weaker _ _ (λ fault refused. only_if_weaker fault _ _ (λ none octets means. none octets ((good.right.same (writing order) node p tape octets lt).1 means)) refused) r h
+write_refused table good order node routine p tape serves r h =
+    if_err_weaker _ _ (λ fault refused. only_if_weaker fault _ _ (λ none octets means. none octets ((good.same (writing order) node routine p tape octets serves).1 means)) refused) r h
 
 -- what no routine reads is no value
-pub read_refused : {A : Type 0} (table : Table) → IsAccepted table → (order : Order) (node p : ℕ) (octets : List ℕ) → node < length table.graph → (r : Result A RunFault)
-    → IfErr r (λ fault. OnlyIf fault ((tape front rest : List ℕ) → octets ≡ front ++ rest → Runs table.program (reading order) 64 node p tape front → ⊥))
+pub read_refused : {A : Type 0} (table : Table) → IsRight table → (order : Order) (node routine p : ℕ) (octets : List ℕ) → served_by table.program node ≡ Some routine → (r : Result A RunFault)
+    → IfErr r (λ fault. OnlyIf fault ((tape front rest : List ℕ) → octets ≡ front ++ rest → Runs table.program (reading order) 64 routine p tape front → ⊥))
     → IfErr r (λ fault. OnlyIf fault ((tape front rest : List ℕ) → octets ≡ front ++ rest → Means table.graph (reading order) 64 node p tape front → ⊥))
-read_refused table good order node p octets lt r h =
-    if_err_weaker _ _ (λ fault refused. only_if_weaker fault _ _ (λ none tape front rest e means. none tape front rest e ((good.right.same (reading order) node p tape front lt).1 means)) refused) r h
+read_refused table good order node routine p octets serves r h =
+    if_err_weaker _ _ (λ fault refused. only_if_weaker fault _ _ (λ none tape front rest e means. none tape front rest e ((good.same (reading order) node routine p tape front serves).1 means)) refused) r h

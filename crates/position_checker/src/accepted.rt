@@ -1,13 +1,15 @@
 //! A table that was accepted, and its calls.
 
-ghost use Rattle.std.specs.Prelude.{◌≡◌, ◌≢◌, ◌<◌, ◌≤◌, ◌++◌, ℕ, List, length, take, slice_get, Some, None, IfSome, IfNone, OnOk, OnErr, IfOk, IfErr};
+ghost use Rattle.std.specs.Prelude.{◌≡◌, ◌≢◌, ◌<◌, ◌≤◌, ◌++◌, ◌↔◌, ℕ, List, length, take, IsSome, IsTrue, OnOk, OnErr, IfOk, IfErr};
 ghost use Rattle.type_graph.specs.GraphRules.{IsGraph};
+ghost use Rattle.type_graph.specs.Heights.{AreHeights};
 ghost use Rattle.type_graph.specs.Words.{reading, writing};
 ghost use Rattle.type_graph.specs.Encoding.{Means};
 ghost use Rattle.marshal_program.specs.ProgramRules.{IsProgram};
 ghost use Rattle.marshal_program.specs.Plain.{plain_program};
-ghost use Rattle.program_runner.specs.Refusal.{OnlyIf};
-ghost use Rattle.position_checker.specs.PlainTests.{HasPlainAt, IsFaultOf, IsFirstFault, IsWrongRoutine};
+ghost use Rattle.marshal_program.specs.Served.{served_by};
+ghost use Rattle.program_runner.specs.Refusal.{OnlyIf as OnlyIfRun};
+ghost use Rattle.position_checker.specs.PlainTests.{HasPlainAt, IsFaultOf, IsFirstFault, IsWrongRoutine, OnlyIf};
 ghost use Rattle.position_checker.specs.Table.{IsRight};
 
 use crate::fault::CheckFault;
@@ -26,34 +28,42 @@ pub struct Accepted {
 }
 
 impl Model for Accepted {
-    ghost use Rattle.position_checker.specs.Table.{Table, IsAccepted};
+    ghost use Rattle.position_checker.specs.Table.{Table, IsRight};
 
     ghost Value = { Table };
 
     ghost view = { λ a. record { graph = a.graph; program = a.program } };
 
-    ghost invariant = { λ a. IsAccepted (record { graph = a.graph; program = a.program }) };
+    ghost invariant = { λ a. IsRight (record { graph = a.graph; program = a.program }) };
 }
 
 #[tactic(auto, using(std::proofs::lemmas::Option::get_or_from_slice_get, crate::proofs::PlainList::few_instrs))]
-fn check_routine_at(graph: &Graph, routines: &[Routine], number: u32) -> Result<(), CheckFault>
+fn check_routine_at(
+    graph: &Graph,
+    heights: &[u32],
+    routines: &[Routine],
+    number: u32,
+) -> Result<(), CheckFault>
+    requires heights { AreHeights graph.now heights.now }
     requires program { IsProgram routines.now }
     requires node { number < length graph.now }
     ensures ok { OnOk result (HasPlainAt graph.now routines.now number) }
     ensures err { OnErr result (HasPlainAt graph.now routines.now number → ⊥) }
     ensures fault { IfErr result (IsFaultOf number (IsWrongRoutine graph.now routines.now number)) }
 {
+    let height = heights[number as usize];
     match routines.get(number as usize) {
         None => Err(CheckFault::WrongWork {
             routine: number,
             instr: 0,
         }),
-        Some(routine) => check_routine(graph, routines, number, graph.node(number), routine),
+        Some(routine) => check_routine(graph, height, number, graph.node(number), routine),
     }
 }
 
-fn check_routines(graph: &Graph, routines: &[Routine]) -> Result<(), CheckFault>
-    requires { IsProgram routines.now }
+fn check_routines(graph: &Graph, heights: &[u32], routines: &[Routine]) -> Result<(), CheckFault>
+    requires heights { AreHeights graph.now heights.now }
+    requires program { IsProgram routines.now }
     ensures types { IsGraph graph.now }
     ensures ok { OnOk result (routines.now ≡ plain_program graph.now) }
     ensures err { OnErr result (routines.now ≢ plain_program graph.now) }
@@ -61,7 +71,7 @@ fn check_routines(graph: &Graph, routines: &[Routine]) -> Result<(), CheckFault>
 {
     let count = graph.nodes().len();
     for number in 0..count {
-        check_routine_at(graph, routines, number as u32)?;
+        check_routine_at(graph, heights, routines, number as u32)?;
     }
     if routines.len() != count {
         return Err(CheckFault::WrongWork {
@@ -72,19 +82,20 @@ fn check_routines(graph: &Graph, routines: &[Routine]) -> Result<(), CheckFault>
     Ok(())
 }
 
-/// Accepts a table whose program is the plain program of its graph. Takes no memory.
+/// Accepts a table whose program is the plain program of its graph.
 ///
 /// # Errors
 /// `WrongWork` at the first routine that differs: at instruction 0 where it differs beside its
 /// code, is missing or is one too many, else at the first instruction that differs, or at the
-/// code's length where it ends early. A rank is judged by those of the routines of its parts.
-pub fn check(graph: Graph, program: Program) -> Result<Accepted, CheckFault>
+/// code's length where it ends early. Want of memory.
+pub fn check(alloc: Global, graph: Graph, program: Program) -> Result<Accepted, CheckFault>
     ensures kept { IfOk result (λ accepted. (accepted.graph ≡ graph) × (accepted.program ≡ program)) }
     ensures right { IfOk result IsRight }
-    ensures refused { OnErr result (program ≢ plain_program graph) }
+    ensures refused { IfErr result (λ fault. OnlyIf fault (program ≢ plain_program graph)) }
     ensures first { IfErr result (IsFirstFault graph program) }
 {
-    check_routines(&graph, program.routines())?;
+    let heights = graph.heights(alloc)?;
+    check_routines(&graph, &heights, program.routines())?;
     Ok(Accepted { graph, program })
 }
 
@@ -105,6 +116,14 @@ impl Accepted {
         &self.program
     }
 
+    /// Whether a routine of the table serves the node: the first with that node that may start at
+    /// every position. Takes no memory.
+    pub fn is_served(&self, node: u32) -> bool
+        ensures { IsTrue result ↔ IsSome (served_by self.now.program node) }
+    {
+        self.program.serving(node).is_some()
+    }
+
     /// Writes the CDR octets of the value that the whole tape is, with zeros in the gaps.
     ///
     /// # Errors
@@ -117,11 +136,16 @@ impl Accepted {
         pos: u64,
         tape: &[u8],
     ) -> Result<Vec<u8>, RunFault>
-        requires { node < length self.now.graph }
+        requires { IsSome (served_by self.now.program node) }
         ensures found { IfOk result (λ octets. Means self.now.graph (writing order) 64 node pos tape.now octets.items) }
-        ensures refused { IfErr result (λ fault. OnlyIf fault ((octets : List ℕ) → Means self.now.graph (writing order) 64 node pos tape.now octets → ⊥)) }
+        ensures refused { IfErr result (λ fault. OnlyIfRun fault ((octets : List ℕ) → Means self.now.graph (writing order) 64 node pos tape.now octets → ⊥)) }
     {
-        program_runner::write(alloc, &self.program, node, order, pos, tape)
+        match self.program.serving(node) {
+            Some(routine) => {
+                program_runner::write(alloc, &self.program, routine, order, pos, tape)
+            }
+            None => unreachable!(),
+        }
     }
 
     /// Reads the tape of the value that a front of the octets encodes, whatever stands in the
@@ -137,11 +161,16 @@ impl Accepted {
         pos: u64,
         octets: &[u8],
     ) -> Result<(Vec<u8>, usize), RunFault>
-        requires { node < length self.now.graph }
+        requires { IsSome (served_by self.now.program node) }
         ensures found { IfOk result (λ r. Means self.now.graph (reading order) 64 node pos r.0.items (take r.1 octets.now)) }
         ensures within { IfOk result (λ r. r.1 ≤ length octets.now) }
-        ensures refused { IfErr result (λ fault. OnlyIf fault ((tape front rest : List ℕ) → octets.now ≡ front ++ rest → Means self.now.graph (reading order) 64 node pos tape front → ⊥)) }
+        ensures refused { IfErr result (λ fault. OnlyIfRun fault ((tape front rest : List ℕ) → octets.now ≡ front ++ rest → Means self.now.graph (reading order) 64 node pos tape front → ⊥)) }
     {
-        program_runner::read(alloc, &self.program, node, order, pos, octets)
+        match self.program.serving(node) {
+            Some(routine) => {
+                program_runner::read(alloc, &self.program, routine, order, pos, octets)
+            }
+            None => unreachable!(),
+        }
     }
 }

@@ -1,6 +1,6 @@
 //! The code of a node in the plain program.
 
-ghost use Rattle.std.specs.Prelude.{◌≡◌, ◌≢◌, ◌<◌, ◌^◌, ◌↔◌, ℕ, ℤ, List, Option, length, map, slice_get, Some, IfSome, IfNone, IsTrue};
+ghost use Rattle.std.specs.Prelude.{[], ◌∷◌, ◌≡◌, ◌≢◌, ◌<◌, ◌^◌, ◌↔◌, ℕ, ℤ, List, Option, length, map, slice_get, Some, IfSome, IfNone, IsTrue};
 ghost use Rattle.type_graph.specs.GraphRules.{IsNode};
 ghost use Rattle.type_graph.specs.declared.node.Node.TheVariants as nodes;
 ghost use Rattle.marshal_program.specs.declared.instr.Instr.TheVariants as instrs;
@@ -10,101 +10,10 @@ ghost use Rattle.position_checker.specs.PlainTests.{IsFirstDifference};
 use marshal_program::{Disc, Instr};
 use type_graph::{Arms, Graph, Node, Width};
 
-fn is_align(instr: &Instr, width: Width) -> bool
-    ensures { IsTrue result ↔ (instr.now ≡ instrs.Align width) }
-{
-    match instr {
-        Instr::Align { to } => *to == width,
-        _ => false,
-    }
-}
-
-fn is_word(instr: &Instr, width: Width) -> bool
-    ensures { IsTrue result ↔ (instr.now ≡ instrs.Words width 1) }
-{
-    match instr {
-        Instr::Words { width: of, n } => *of == width && *n == 1,
-        _ => false,
-    }
-}
-
-fn is_octet(instr: &Instr) -> bool
-    ensures { IsTrue result ↔ (instr.now ≡ instrs.Octets 1) }
-{
-    match instr {
-        Instr::Octets { n } => *n == 1,
-        _ => false,
-    }
-}
-
-fn is_text(instr: &Instr, of: u32) -> bool
-    ensures { IsTrue result ↔ (instr.now ≡ instrs.Text of) }
-{
-    match instr {
-        Instr::Text { bound } => *bound == of,
-        _ => false,
-    }
-}
-
-fn is_call(instr: &Instr, of: u32) -> bool
-    ensures { IsTrue result ↔ (instr.now ≡ instrs.Call of) }
-{
-    match instr {
-        Instr::Call { routine } => *routine == of,
-        _ => false,
-    }
-}
-
-fn is_bool(instr: &Instr) -> bool
-    ensures { IsTrue result ↔ (instr.now ≡ instrs.Bools 1) }
-{
-    match instr {
-        Instr::Bools { n } => *n == 1,
-        _ => false,
-    }
-}
-
-fn is_enum_word(instr: &Instr, of: u32) -> bool
-    ensures { IsTrue result ↔ (instr.now ≡ instrs.EnumWord of) }
-{
-    match instr {
-        Instr::EnumWord { limit } => *limit == of,
-        _ => false,
-    }
-}
-
-fn is_seq_of(instr: &Instr, most: u32, lead: Width, of: u32) -> bool
-    ensures { IsTrue result ↔ (instr.now ≡ instrs.SeqOf most lead of) }
-{
-    match instr {
-        Instr::SeqOf {
-            bound,
-            first,
-            routine,
-        } => *bound == most && *first == lead && *routine == of,
-        _ => false,
-    }
-}
-
-fn is_times(instr: &Instr, count: u32, of: u32) -> bool
-    ensures { IsTrue result ↔ (instr.now ≡ instrs.Times count of) }
-{
-    match instr {
-        Instr::Times { n, routine } => *n == count && *routine == of,
-        _ => false,
-    }
-}
-
 fn is_same_disc(disc: Disc, other: Disc) -> bool
     ensures { IsTrue result ↔ (disc ≡ other) }
 {
     disc == other
-}
-
-fn are_same_arms(arms: &[(i128, u32)], others: &[(i128, u32)]) -> bool
-    ensures { IsTrue result ↔ (arms.now ≡ others.now) }
-{
-    arms == others
 }
 
 fn is_same_default(default: Option<u32>, other: Option<u32>) -> bool
@@ -125,7 +34,7 @@ fn is_switch(instr: &Instr, kind: Disc, of: &Arms, default: Option<u32>) -> bool
         return false;
     };
     let is_disc = is_same_disc(*disc, kind);
-    let are_arms = are_same_arms(arms.as_slice(), of.as_slice());
+    let are_arms = arms.is(of);
     let is_default = is_same_default(*otherwise, default);
     is_disc && are_arms && is_default
 }
@@ -147,7 +56,7 @@ fn is_union_instr(
     let is_switch_here = is_switch(instr, Disc::of(node), arms, default);
     match place {
         0 if width == Width::One => is_switch_here,
-        0 => is_align(instr, width),
+        0 => instr.is(&Instr::Align { to: width }),
         1 => width != Width::One && is_switch_here,
         _ => false,
     }
@@ -158,7 +67,18 @@ fn is_member_call(members: &[u32], place: usize, instr: &Instr) -> bool
 {
     match members.get(place) {
         None => false,
-        Some(member) => is_call(instr, *member),
+        Some(member) => instr.is(&Instr::Call { routine: *member }),
+    }
+}
+
+/// Whether an instruction is the one at a place of a gap and what stands behind it.
+fn is_behind(to: Width, work: &Instr, place: usize, instr: &Instr) -> bool
+    ensures { IsTrue result ↔ (slice_get (instrs.Align to ∷ work.now ∷ []) place ≡ Some instr.now) }
+{
+    match place {
+        0 => instr.is(&Instr::Align { to }),
+        1 => instr.is(work),
+        _ => false,
     }
 }
 
@@ -169,9 +89,15 @@ fn is_plain_instr(graph: &Graph, node: &Node, place: usize, instr: &Instr) -> bo
     ensures { IsTrue result ↔ (slice_get (plain_code graph.now node.now) place ≡ Some instr.now) }
 {
     match node {
-        Node::Octet | Node::Char => place == 0 && is_octet(instr),
-        Node::Boolean => place == 0 && is_bool(instr),
-        Node::Array { elem, n } => place == 0 && is_times(instr, *n, *elem),
+        Node::Octet | Node::Char => place == 0 && instr.is(&Instr::Octets { n: 1 }),
+        Node::Boolean => place == 0 && instr.is(&Instr::Bools { n: 1 }),
+        Node::Array { elem, n } => {
+            let times = Instr::Times {
+                n: *n,
+                routine: *elem,
+            };
+            place == 0 && instr.is(&times)
+        }
         Node::Struct { members } | Node::Frame { members } => {
             is_member_call(members.as_slice(), place, instr)
         }
@@ -180,26 +106,25 @@ fn is_plain_instr(graph: &Graph, node: &Node, place: usize, instr: &Instr) -> bo
             arms,
             default,
         } => is_union_instr(graph, *switch, arms, *default, place, instr),
-        Node::Whole { width, .. } => match place {
-            0 => is_align(instr, *width),
-            1 => is_word(instr, *width),
-            _ => false,
-        },
-        Node::Enum { n } => match place {
-            0 => is_align(instr, Width::Four),
-            1 => is_enum_word(instr, *n),
-            _ => false,
-        },
-        Node::Text { bound } => match place {
-            0 => is_align(instr, Width::Four),
-            1 => is_text(instr, *bound),
-            _ => false,
-        },
-        Node::Seq { elem, bound } => match place {
-            0 => is_align(instr, Width::Four),
-            1 => is_seq_of(instr, *bound, graph.lead(*elem), *elem),
-            _ => false,
-        },
+        Node::Whole { width, .. } => {
+            let width = *width;
+            is_behind(width, &Instr::Words { width, n: 1 }, place, instr)
+        }
+        Node::Enum { n } => is_behind(Width::Four, &Instr::EnumWord { limit: *n }, place, instr),
+        Node::Text { bound } => is_behind(
+            Width::Four,
+            &Instr::Text { bound: *bound },
+            place,
+            instr,
+        ),
+        Node::Seq { elem, bound } => {
+            let seq = Instr::SeqOf {
+                bound: *bound,
+                first: graph.lead(*elem),
+                routine: *elem,
+            };
+            is_behind(Width::Four, &seq, place, instr)
+        }
     }
 }
 

@@ -1,8 +1,9 @@
 -- Tables of shallow nodes, grown by one node, and by one level.
-use Rattle.std.proofs.Common.{◌≡◌, ◌↔◌, ◌<◌, ◌+◌, ℕ, suc, Bool, true, false, IsTrue, List, [], ◌∷◌, ◌++◌, length, get_or, replicate, All, sym, ap, subst, ◌∙◌, arith, below_more, add-one}
+use Rattle.std.proofs.Common.{◌≡◌, ◌↔◌, ◌<◌, ◌+◌, ℕ, zero, suc, Bool, true, false, IsTrue, List, [], ◌∷◌, ◌++◌, length, get_or, slice_get, replicate, All, Option, IfSome, sym, ap, subst, ◌∙◌, arith, below_more, add-one, add-zero}
 use Rattle.std.specs.List.{AllByRecursion}
 use Rattle.std.proofs.Math.Seq.{get_or-append_seam}
 use Rattle.std.proofs.Math.ListN.{get_or-append, get_or-replicate, length-replicate}
+use Rattle.std.proofs.lemmas.Option.{slice_get-get_or}
 use Rattle.std.proofs.lemmas.List.Elements.{All-cons, All-nil, All-head, All-tail}
 use Rattle.type_graph.specs.declared.node.Node.{Node}
 use Rattle.type_graph.specs.declared.node.Node.TheVariants.{Octet}
@@ -13,6 +14,13 @@ use Rattle.type_graph.proofs.Held.{held_within}
 
 abbrev AboveAt : List Node → List Bool → List Bool → ℕ → Type 0
 AboveAt graph table next number = IsIn next number ↔ All (IsIn table) (held_by (node_at graph number))
+
+-- what holds of the part at a place, and of all parts
+pub part_known : (P : ℕ → Type 0) (parts : List ℕ) (place : ℕ) (part : Option ℕ) → part ≡ slice_get parts place → place < length parts → IfSome part P → P (get_or parts place 0)
+part_known P parts place part is lt h = subst (λ (o : Option ℕ). IfSome o P) (is ∙ slice_get-get_or parts place 0 lt) h
+
+pub part_of_all : (P : ℕ → Type 0) (parts : List ℕ) (place : ℕ) (part : Option ℕ) → part ≡ slice_get parts place → place < length parts → All P parts → IfSome part P
+part_of_all P parts place part is lt h = subst (λ (o : Option ℕ). IfSome o P) (sym (is ∙ slice_get-get_or parts place 0 lt)) (h place 0 lt)
 
 -- one more node is told
 pub above_more : (graph : List Node) (table next : List Bool) (i : ℕ) (b : Bool) → length next ≡ i
@@ -59,3 +67,11 @@ pub level_more : (levels : ℕ) (graph : List Node) (table next : List Bool) →
 level_more levels graph table next rules level above =
     let more : IsLevel (suc levels) graph next = record { long = above.long; same = shallow_above levels graph table next rules level above } in
     rw add-one more
+
+-- a table that is its own next one is that of every later level
+pub level_stays : (levels more : ℕ) (graph : List Node) (table : List Bool) → All (IsNode graph) graph → IsLevel levels graph table → IsLevelAbove graph table table → IsLevel (levels + more) graph table
+level_stays levels zero graph table rules level above = rw add-zero level
+level_stays levels (suc more) graph table rules level above =
+    let next = level_more (levels + more) graph table table rules (level_stays levels more graph table rules level above) above in
+    let e : levels + suc more ≡ levels + more + 1 = omega arith in
+    rw e next

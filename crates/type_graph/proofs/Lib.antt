@@ -2,7 +2,7 @@ pub mod Held
 pub mod LevelLaws
 pub mod HeldEach
 pub mod WalkLaws
-pub mod Heights
+pub mod HeightLaws
 pub mod UniformLaws
 pub mod ShapeLaws
 pub mod ShapeLevels
@@ -13,8 +13,11 @@ pub mod AtomLaws
 pub mod MeaningMoves
 pub mod Openings
 pub mod LeadLaws
+pub mod WrittenRead
 pub mod OneTape
 pub mod OneReading
 pub mod Worked
-mod LabelLaws
+pub mod LabelLaws
 pub mod WorkedShapes
+pub mod KnownHeights
+pub mod ArmsLaws

@@ -1,5 +1,5 @@
 -- Tables of shapes, grown by one node, and by one level.
-use Rattle.std.proofs.Common.{◌≡◌, ℕ, suc, ◌+◌, ◌<◌, ◌≤◌, inl, inr, List, [], ◌∷◌, ◌++◌, length, get_or, refl, sym, ap, subst, ◌∙◌, arith, below_more, add-one}
+use Rattle.std.proofs.Common.{◌≡◌, ℕ, zero, suc, ◌+◌, ◌<◌, ◌≤◌, inl, inr, List, [], ◌∷◌, ◌++◌, length, get_or, refl, sym, ap, subst, ◌∙◌, arith, below_more, add-one, add-zero}
 use Rattle.std.proofs.lemmas.Bool.{cases_lt}
 use Rattle.std.proofs.lemmas.List.{get_or_past}
 use Rattle.std.proofs.Math.Seq.{get_or-append_seam}
@@ -68,3 +68,11 @@ pub shape_known : (graph list : List Node) (table given : List Shape) (number : 
 shape_known graph list table given number shape known e f is =
     let read : shape ≡ get_or table number octet_shape = is ∙ ap (λ (t : List Shape). get_or t number octet_shape) f in
     subst (λ (l : List Node). IsShape (leaves_of l number) (size_within 64 l number) shape) e (subst (IsShape (leaves_of graph number) (size_within 64 graph number)) (sym read) (known.at number))
+
+-- a table that is its own next one is that of every later level
+pub shapes_stay : (levels more : ℕ) (graph : List Node) (table : List Shape) → AreShapesWithin levels graph table → AreShapesBy graph table table → AreShapesWithin (levels + more) graph table
+shapes_stay levels zero graph table known above = rw add-zero known
+shapes_stay levels (suc more) graph table known above =
+    let next = shapes_more (levels + more) graph table table (shapes_stay levels more graph table known above) above in
+    let e : levels + suc more ≡ levels + more + 1 = omega arith in
+    rw e next

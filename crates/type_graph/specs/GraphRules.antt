@@ -1,5 +1,6 @@
 -- What makes a list of nodes a graph of types.
-use Rattle.std.specs.Prelude.{◌≢◌, ℕ, zero, suc, ◌<◌, ◌≤◌, ℤ, pos, ◌<ℤ◌, List, [], ◌∷◌, ◌++◌, length, map, Option, option_to_list, slice_get, slice_index_or, IsSomeAnd, IfSome, EachIndex, All, sum_by}
+use Rattle.std.specs.Prelude.{◌≢◌, ℕ, zero, suc, ◌<◌, ◌≤◌, ℤ, pos, ◌<ℤ◌, List, [], ◌∷◌, ◌++◌, length, map, Option}
+use Rattle.std.specs.Prelude.{option_to_list, slice_get, slice_index_or, IsSomeAnd, IfSome, EachIndex, All, sum_by}
 use Rattle.std.specs.List.{AllByRecursion}
 use Rattle.type_graph.specs.declared.width.Width.{Width}
 use Rattle.type_graph.specs.declared.width.Width.TheVariants.{One}
@@ -77,7 +78,9 @@ held_by (Frame members) = members
 held_by node = []
 
 -- No path downwards from the node that passes no sequence has more than so many nodes. A cycle that passes no sequence
--- is a path without end.
+-- is a path without end. A list of nodes names its nodes by numbers and may go round, so a definition that follows them
+-- downwards counts the levels left, here and where leads, heights, leaves, sizes and zeros are read off; in a graph 64
+-- levels reach the end of every path, so that there no such number is seen.
 unfoldable pub IsShallow : ℕ → List Node → ℕ → Type 0
 IsShallow zero graph number = ⊥
 IsShallow (suc levels) graph number = AllByRecursion (IsShallow levels graph) (held_by (node_at graph number))

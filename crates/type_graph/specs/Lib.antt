@@ -1,5 +1,6 @@
 pub mod Words
 pub mod Relation
+pub mod Comparison
 pub mod Atoms
 pub mod Value
 pub mod Encoding
@@ -11,3 +12,4 @@ pub mod Labels
 pub mod Leaves
 pub mod Zero
 pub mod Shapes
+pub mod Heights

@@ -1,8 +1,53 @@
--- When a graph is refused.
+-- When a list of nodes is refused, and where it breaks the rules.
+use Rattle.std.specs.Prelude.{◌≡◌, ℕ, suc, ◌<◌, ℤ, List, [], length}
 use Rattle.type_graph.specs.declared.fault.GraphFault.{GraphFault}
 use Rattle.type_graph.specs.declared.fault.GraphFault.TheVariants.{NoMemory}
+use Rattle.type_graph.specs.declared.fault.NodeRule.{NodeRule}
+use Rattle.type_graph.specs.declared.fault.NodeRule.TheVariants.{LabelTwice, LabelRange}
+use Rattle.type_graph.specs.declared.fault.RuleFault.{RuleFault}
+use Rattle.type_graph.specs.declared.fault.RuleFault.TheVariants.{TooManyNodes, TooManyMembers, InNode, SelfHeld, LongPath}
+use Rattle.type_graph.specs.declared.node.Node.{Node}
+use Rattle.type_graph.specs.declared.node.Node.TheVariants.{Octet, Union}
+use Rattle.type_graph.specs.Value.{node_at, IsNumber}
+use Rattle.type_graph.specs.GraphRules.{IsNode, IsShallow, all_members, label_at}
 
 -- want of memory is the cause, or the fact holds
 abbrev pub OnlyIf : GraphFault → Type 0 → Type 0
 OnlyIf NoMemory fact = Unit {0}
 OnlyIf fault fact = fact
+
+-- the label at a place is no value of the discriminator
+pub record IsOutside (switch : Node) (arms : List (ℤ × ℕ)) (place : ℕ) : Type 0 where
+  pub within : place < length arms
+  pub outside : IsNumber switch (label_at arms place) → ⊥
+
+-- the label at a place is that of the arm before it
+pub record IsRepeated (arms : List (ℤ × ℕ)) (place : ℕ) : Type 0 where
+  pub within : place < length arms
+  pub before : ℕ
+  pub next : place ≡ suc before
+  pub same : label_at arms before ≡ label_at arms place
+
+-- what a rule of a union's labels tells of the place
+abbrev pub IsPlace : List Node → ℕ → List (ℤ × ℕ) → NodeRule → Type 0
+IsPlace graph switch arms (LabelRange place) = IsOutside (node_at graph switch) arms place
+IsPlace graph switch arms (LabelTwice place) = IsRepeated arms place
+IsPlace graph switch arms rule = Unit {0}
+
+-- of any node
+abbrev pub IsPlaceIn : List Node → Node → NodeRule → Type 0
+IsPlaceIn graph (Union switch arms default) rule = IsPlace graph switch arms rule
+IsPlaceIn graph node rule = Unit {0}
+
+-- the node breaks the rules of nodes, this one at its place
+pub record BreaksRule (graph : List Node) (node : Node) (rule : NodeRule) : Type 0 where
+  pub broken : IsNode graph node → ⊥
+  pub place : IsPlaceIn graph node rule
+
+-- The list breaks the rule that the fault says: one of the list, one of a node in it, or that on paths from a node.
+abbrev pub IsFault : List Node → RuleFault → Type 0
+IsFault graph TooManyNodes = 4096 < length graph
+IsFault graph (TooManyMembers node) = (node < length graph) × (32768 < all_members graph)
+IsFault graph (InNode node rule) = (node < length graph) × BreaksRule graph (node_at graph node) rule
+IsFault graph (SelfHeld node place) = (node < length graph) × (IsShallow 64 graph node → ⊥)
+IsFault graph (LongPath node) = (node < length graph) × (IsShallow 64 graph node → ⊥)

@@ -1,7 +1,7 @@
 -- How a piece of a tape and octets at a position may be related, and how such relations are joined. The position of
 -- the octets counts from the start of the message or encapsulation. A tape is the form in which values travel inside
 -- the product: numbers in big order, without gaps.
-use Rattle.std.specs.Prelude.{◌≡◌, ℕ, zero, suc, ◌+◌, ◌%◌, List, [], ◌∷◌, ◌++◌, length}
+use Rattle.std.specs.Prelude.{◌≡◌, ℕ, zero, suc, ◌+◌, List, [], ◌∷◌, ◌++◌, length}
 
 -- position, piece of the tape, octets
 abbrev pub Relation : Type 1
@@ -34,23 +34,3 @@ Many (suc n) R = Then R (Many n R)
 abbrev pub Chain : {A : Type 0} → (A → Relation) → List A → Relation
 Chain R [] = Nothing
 Chain R (a ∷ more) = Then (R a) (Chain R more)
-
--- a set of positions, and the set of all
-abbrev pub Positions : Type 1
-Positions = ℕ → Type 0
-
-abbrev pub Anywhere : Positions
-Anywhere p = Unit {0}
-
--- at the positions of the set the two relate the same
-pub record Same (S : Positions) (R Q : Relation) : Type 0 where
-  pub to : (p : ℕ) (tape octets : List ℕ) → S p → R p tape octets → Q p tape octets
-  pub from : (p : ℕ) (tape octets : List ℕ) → S p → Q p tape octets → R p tape octets
-
--- from a position of the first set the octets end at one of the second
-pub record Ends (S X : Positions) (R : Relation) : Type 0 where
-  pub at : (p : ℕ) (tape octets : List ℕ) → S p → R p tape octets → X (p + length octets)
-
--- what the first relates at a position, the second relates at each position that differs by a multiple of 8
-pub record Moves (R Q : Relation) : Type 0 where
-  pub at : (p q : ℕ) (tape octets : List ℕ) → q % 8 ≡ p % 8 → R p tape octets → Q q tape octets

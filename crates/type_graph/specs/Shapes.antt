@@ -63,8 +63,13 @@ AreShapesWithin levels graph table = AreShapes table (leaves_within levels graph
 
 -- the shape of a node, found in a table
 abbrev pub IsShapeBy : List Node → List Shape → Node → Shape → Type 0
-IsShapeBy graph table node shape = (leaves : ℕ → List Node) (size : ℕ → ℕ) → AreShapes table leaves size → IsShape (leaves_by leaves node) (size_by size graph node) shape
+IsShapeBy graph table node shape =
+    (leaves : ℕ → List Node) (size : ℕ → ℕ) → AreShapes table leaves size
+    → IsShape (leaves_by leaves node) (size_by size graph node) shape
 
 -- the table of the shapes that are found in another
 pub record AreShapesBy (graph : List Node) (table next : List Shape) : Type 0 where
-  pub by : (leaves : ℕ → List Node) (size : ℕ → ℕ) → AreShapes table leaves size → AreShapes next (λ number. leaves_by leaves (node_at graph number)) (λ number. size_by size graph (node_at graph number))
+  pub by : (leaves : ℕ → List Node) (size : ℕ → ℕ) → AreShapes table leaves size
+      → AreShapes next
+      (λ number. leaves_by leaves (node_at graph number))
+      (λ number. size_by size graph (node_at graph number))

@@ -1,4 +1,6 @@
--- Numbers as octets, and the octets between them (ISO/IEC 19500-2, CDR transfer syntax: primitive types, alignment).
+-- Numbers as octets, and the octets between them. The clauses that are named here and in the files beside this one are
+-- those of ISO/IEC 19500-2 on the CDR transfer syntax. A rule marked (own) is this project's, where the standard leaves
+-- a choice open or says more.
 use Rattle.std.specs.Prelude.{◌≡◌, ℕ, ◌-◌, ◌*◌, ◌%◌, ◌^◌, ◌<◌, ℤ, pos, negsuc, List, length}
 use Rattle.std.specs.Int.{bytes_high_first, bytes_low_first}
 use Rattle.std.specs.List.{AllByRecursion}
@@ -7,30 +9,49 @@ use Rattle.type_graph.specs.declared.width.Width.TheVariants.{One, Two, Four, Ei
 use Rattle.type_graph.specs.declared.width.Order.{Order}
 use Rattle.type_graph.specs.declared.width.Order.TheVariants.{Big, Little}
 
--- how many octets a number of the width has, and so of which number its position is a multiple
+-- how many patterns k octets have
+abbrev pub patterns : ℕ → ℕ
+patterns k = 2 ^ (8 * k)
+
+-- k octets of an unsigned number: the highest first in big order, the lowest first in little order (primitive types)
+abbrev pub plain_octets : Order → ℕ → ℕ → List ℕ
+plain_octets Big k n = bytes_high_first k n
+plain_octets Little k n = bytes_low_first 0 k n
+
+-- the pattern of k octets that stands for a number; negsuc n is the number - 1 - n (primitive types: signed integers)
+abbrev pub twos_complement : ℕ → ℤ → ℕ
+twos_complement k (pos n) = n
+twos_complement k (negsuc n) = patterns k - 1 - n
+
+-- k octets of a number in a byte order
+abbrev pub octets_of : Order → ℕ → ℤ → List ℕ
+octets_of order k n = plain_octets order k (twos_complement k n)
+
+-- CDR has numbers of 1, 2, 4 and 8 octets; the position of one is a multiple of its size (alignment).
 abbrev pub octets_in : Width → ℕ
 octets_in One = 1
 octets_in Two = 2
 octets_in Four = 4
 octets_in Eight = 8
 
--- how many patterns the octets of the width have
+-- the wider of two: what is a multiple of it is a multiple of both
+abbrev pub wider : Width → Width → Width
+wider One v = v
+wider Two One = Two
+wider Two v = v
+wider Four Eight = Eight
+wider Four v = Four
+wider Eight v = Eight
+
 abbrev pub words_of : Width → ℕ
-words_of w = 2 ^ (8 * octets_in w)
+words_of w = patterns (octets_in w)
 
--- the octets of an unsigned number: the highest first in big order, the lowest first in little order
 abbrev pub plain_word : Order → Width → ℕ → List ℕ
-plain_word Big w n = bytes_high_first (octets_in w) n
-plain_word Little w n = bytes_low_first 0 (octets_in w) n
+plain_word order w n = plain_octets order (octets_in w) n
 
--- two's complement: negsuc n is the number - 1 - n
-abbrev pub complement : Width → ℤ → ℕ
-complement w (pos n) = n
-complement w (negsuc n) = words_of w - 1 - n
-
--- the octets of a number in a byte order
+-- the octets of a number of the width in a byte order
 abbrev pub word : Order → Width → ℤ → List ℕ
-word order w n = plain_word order w (complement w n)
+word order w n = octets_of order (octets_in w) n
 
 -- how many octets lie between position p and the next multiple of k: the least number q with p + q divisible by k
 abbrev pub pad : ℕ → ℕ → ℕ
@@ -40,21 +61,21 @@ pad p k = (k - p % k) % k
 abbrev pub AllBelow : ℕ → List ℕ → Type 0
 AllBelow limit = AllByRecursion (λ n. n < limit)
 
--- What may stand in a gap. The standard leaves the octets of a gap undefined; a writer of this project writes zeros.
+-- What may stand in a gap. The standard leaves the octets of a gap undefined (alignment); a reader takes any, and a
+-- writer leaves zeros (own).
 pub data Padding : Type 0 where
   Zeros : Padding
   AnyOctets : Padding
 
 -- how octets stand for numbers: their byte order, and what is in the gaps
-pub record Way : Type 0 where
+pub record Format : Type 0 where
   pub order : Order
   pub padding : Padding
 
--- a reader takes whatever stands in a gap, and a writer leaves zeros there
-abbrev pub reading : Order → Way
+abbrev pub reading : Order → Format
 reading byte_order = record { order = byte_order; padding = AnyOctets }
 
-abbrev pub writing : Order → Way
+abbrev pub writing : Order → Format
 writing byte_order = record { order = byte_order; padding = Zeros }
 
 abbrev pub IsPadding : Padding → List ℕ → Type 0
@@ -62,6 +83,6 @@ IsPadding Zeros = AllBelow 1
 IsPadding AnyOctets = AllBelow 256
 
 -- the octets between position p and the next multiple of the width
-pub record IsGap (way : Way) (w : Width) (p : ℕ) (gap : List ℕ) : Type 0 where
+pub record IsGap (format : Format) (w : Width) (p : ℕ) (gap : List ℕ) : Type 0 where
   pub long : length gap ≡ pad p (octets_in w)
-  pub filled : IsPadding way.padding gap
+  pub filled : IsPadding format.padding gap

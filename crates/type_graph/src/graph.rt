@@ -6,12 +6,14 @@ ghost use Rattle.type_graph.specs.Refusal.{OnlyIf};
 ghost use Rattle.type_graph.specs.declared.width.Width.{Width};
 ghost use Rattle.type_graph.specs.Value.{node_at, tape_of};
 ghost use Rattle.type_graph.specs.Walks.{lead_of};
+ghost use Rattle.type_graph.specs.Heights.{AreHeights};
 ghost use Rattle.type_graph.specs.Leaves.{IsUniform};
 ghost use Rattle.type_graph.specs.Zero.{zero_of};
 
-use crate::fault::{GraphFault, GraphLimit};
+use crate::fault::GraphFault;
+use crate::heights::heights_of;
 use crate::node::Node;
-use crate::rules::{MAX_NODES, check_all_members, check_nodes, check_paths};
+use crate::rules::find_fault;
 use crate::shape::{Run, Shape, lead_from, shape_at, shapes_of, zeros};
 use crate::width::Width;
 use std::alloc::{AllocError, Global};
@@ -49,15 +51,9 @@ impl Graph {
         ensures rules { IfOk result IsGraph }
         ensures refused { IfErr result (λ fault. OnlyIf fault (IsGraph nodes.items → ⊥)) }
     {
-        if nodes.len() > MAX_NODES {
-            return Err(GraphFault::Limit {
-                which: GraphLimit::Nodes,
-                line: 0,
-            });
+        if let Some(fault) = find_fault(alloc, &nodes)? {
+            return Err(fault.at_line(0));
         }
-        check_nodes(&nodes)?;
-        check_all_members(&nodes)?;
-        check_paths(alloc, &nodes)?;
         let shapes = shapes_of(alloc, &nodes)?;
         Ok(Graph { nodes, shapes })
     }
@@ -86,6 +82,17 @@ impl Graph {
         ensures { result ≡ lead_of self.now number }
     {
         lead_from(&self.nodes, number)
+    }
+
+    /// The height of each node, in order: how many steps the longest path downwards from it has
+    /// that passes no sequence. Each node is looked at once, however parts are shared.
+    ///
+    /// # Errors
+    /// Want of memory.
+    pub fn heights(&self, alloc: Global) -> Result<Vec<u32>, AllocError>
+        ensures { IfOk result (λ heights. AreHeights self.now heights.items) }
+    {
+        heights_of(alloc, self)
     }
 
     /// The width and number of the words that the node's values are, where each is that: a node

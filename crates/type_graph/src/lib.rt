@@ -4,14 +4,20 @@
 mod cycles;
 pub mod fault;
 pub mod graph;
+mod heights;
+pub mod items;
 pub mod laws;
 pub mod node;
 mod rules;
 mod shape;
 mod unions;
+pub mod values;
 pub mod width;
 
-pub use fault::{GraphFault, GraphLimit};
+pub use fault::{GraphFault, GraphLimit, NodeRule, RuleFault};
 pub use graph::Graph;
-pub use node::{Arms, Members, Node};
+pub use items::{Arms, Items, Members};
+pub use node::Node;
+pub use rules::find_fault;
+pub use values::Values;
 pub use width::{Order, Width};

@@ -1,19 +1,19 @@
 //! The tests of the rules that make a list of nodes a graph.
 
-ghost use Rattle.std.specs.Prelude.{◌≡◌, ◌<◌, ◌≤◌, ◌↔◌, ℕ, All, length, slice_get, slice_index_or, option_to_list, map, ◌++◌, IfSome, IfOk, IfErr, OnOk, OnErr, IsTrue, EachIndex, Some, true, false};
-ghost use Rattle.type_graph.specs.GraphRules.{IsNode, IsPart, AreMembers, IsGraph, IsShallow, IsNoFrame, IsWide, all_members, members_in, held_by};
-ghost use Rattle.type_graph.specs.Value.{node_at};
+ghost use Rattle.std.specs.Prelude.{◌≡◌, ◌<◌, ◌≤◌, ◌↔◌, ℕ, All, length, slice_get, slice_index_or, IfSome, IfNone, IfOk, IfErr, OnOk, OnErr, IsTrue, EachIndex, true, false};
+ghost use Rattle.type_graph.specs.GraphRules.{IsNode, IsPart, AreMembers, IsGraph, IsShallow, IsWide, all_members, members_in, held_by};
 ghost use Rattle.type_graph.specs.Levels.{IsLevelAbove, IsLevel};
-ghost use Rattle.type_graph.specs.Refusal.{OnlyIf};
+ghost use Rattle.type_graph.specs.Refusal.{IsPlaceIn, IsFault};
 
-use crate::cycles::has_cycle;
-use crate::fault::{GraphFault, GraphLimit};
+use crate::cycles::find_cycle;
+use crate::fault::{GraphLimit, NodeRule, RuleFault};
 use crate::node::Node;
 use crate::unions::check_union;
 use crate::width::Width;
 use std::alloc::{AllocError, Global};
+use std::mem;
 
-pub const MAX_NODES: usize = 4096;
+const MAX_NODES: usize = 4096;
 
 pub const MAX_MEMBERS: usize = 1024;
 
@@ -21,18 +21,16 @@ const MAX_ENUMERATORS: u32 = 65536;
 
 const MAX_SIZE: u32 = 1_048_576;
 
-const MAX_BOUND: usize = 4_294_967_295;
-
 const MAX_ALL_MEMBERS: usize = 32768;
 
 pub const MAX_PATH: usize = 64;
 
-fn check_width(width: Width) -> Result<(), GraphFault>
+fn check_width(width: Width) -> Result<(), NodeRule>
     ensures ok { OnOk result (IsWide width) }
     ensures err { OnErr result (IsWide width → ⊥) }
 {
     match width {
-        Width::One => Err(GraphFault::BadNode),
+        Width::One => Err(NodeRule::BadNode),
         _ => Ok(()),
     }
 }
@@ -53,103 +51,90 @@ fn are_parts(nodes: &[Node], members: &[u32]) -> bool
     members.iter().all(|number| is_part(nodes, *number))
 }
 
-fn check_part(nodes: &[Node], number: u32) -> Result<(), GraphFault>
+fn check_part(nodes: &[Node], number: u32) -> Result<(), NodeRule>
     ensures ok { OnOk result (IsPart nodes.now number) }
     ensures err { OnErr result (IsPart nodes.now number → ⊥) }
 {
     if !is_part(nodes, number) {
-        return Err(GraphFault::BadNode);
+        return Err(NodeRule::BadNode);
     }
     Ok(())
 }
 
-fn check_members(nodes: &[Node], members: &[u32]) -> Result<(), GraphFault>
+fn check_members(nodes: &[Node], members: &[u32]) -> Result<(), NodeRule>
     ensures ok { OnOk result (AreMembers nodes.now members.now) }
     ensures err { OnErr result (AreMembers nodes.now members.now → ⊥) }
 {
     if members.len() > MAX_MEMBERS {
-        return Err(GraphFault::Limit {
+        return Err(NodeRule::Limit {
             which: GraphLimit::Members,
-            line: 0,
         });
     }
     if !are_parts(nodes, members) {
-        return Err(GraphFault::BadNode);
+        return Err(NodeRule::BadNode);
     }
     Ok(())
 }
 
-fn check_struct(nodes: &[Node], members: &[u32]) -> Result<(), GraphFault>
+fn check_struct(nodes: &[Node], members: &[u32]) -> Result<(), NodeRule>
     ensures ok { OnOk result ((0 < length members.now) × AreMembers nodes.now members.now) }
     ensures err { OnErr result ((0 < length members.now) × AreMembers nodes.now members.now → ⊥) }
 {
     if members.is_empty() {
-        return Err(GraphFault::BadNode);
+        return Err(NodeRule::BadNode);
     }
     check_members(nodes, members)
 }
 
-fn check_enum(n: u32) -> Result<(), GraphFault>
+fn check_enum(n: u32) -> Result<(), NodeRule>
     ensures ok { OnOk result ((0 < n) × (n ≤ 65536)) }
     ensures err { OnErr result ((0 < n) × (n ≤ 65536) → ⊥) }
 {
     if n == 0 {
-        return Err(GraphFault::BadNode);
+        return Err(NodeRule::BadNode);
     }
     if n > MAX_ENUMERATORS {
-        return Err(GraphFault::Limit {
+        return Err(NodeRule::Limit {
             which: GraphLimit::Enumerators,
-            line: 0,
         });
     }
     Ok(())
 }
 
-fn check_array(nodes: &[Node], elem: u32, n: u32) -> Result<(), GraphFault>
+fn check_array(nodes: &[Node], elem: u32, n: u32) -> Result<(), NodeRule>
     ensures ok { OnOk result (IsPart nodes.now elem × (0 < n) × (n ≤ 1048576)) }
     ensures err { OnErr result (IsPart nodes.now elem × (0 < n) × (n ≤ 1048576) → ⊥) }
 {
     if n == 0 {
-        return Err(GraphFault::BadNode);
+        return Err(NodeRule::BadNode);
     }
     if n > MAX_SIZE {
-        return Err(GraphFault::Limit {
+        return Err(NodeRule::Limit {
             which: GraphLimit::Size,
-            line: 0,
         });
     }
     check_part(nodes, elem)
 }
 
-fn check_bound(bound: u32) -> Result<(), GraphFault>
-    ensures ok { OnOk result (bound ≤ 4294967295) }
-    ensures err { OnErr result (bound ≤ 4294967295 → ⊥) }
-{
-    if bound as usize > MAX_BOUND {
-        return Err(GraphFault::Limit {
-            which: GraphLimit::Bound,
-            line: 0,
-        });
-    }
-    Ok(())
-}
-
-fn check_seq(nodes: &[Node], elem: u32, bound: u32) -> Result<(), GraphFault>
+fn check_seq(nodes: &[Node], elem: u32, bound: u32) -> Result<(), NodeRule>
     ensures ok { OnOk result (IsPart nodes.now elem × (bound ≤ 4294967295)) }
     ensures err { OnErr result (IsPart nodes.now elem × (bound ≤ 4294967295) → ⊥) }
 {
-    check_bound(bound)?;
     check_part(nodes, elem)
 }
 
-fn check_node(nodes: &[Node], node: &Node) -> Result<(), GraphFault>
+fn check_node(nodes: &[Node], node: &Node) -> Result<(), NodeRule>
     ensures ok { OnOk result (IsNode nodes.now node.now) }
     ensures err { OnErr result (IsNode nodes.now node.now → ⊥) }
+    ensures place { IfErr result (IsPlaceIn nodes.now node.now) }
 {
     match node {
         Node::Whole { width, .. } => check_width(*width),
         Node::Octet | Node::Char | Node::Boolean => Ok(()),
-        Node::Text { bound } => check_bound(*bound),
+        Node::Text { bound } => {
+            let _bound = *bound;
+            Ok(())
+        }
         Node::Enum { n } => check_enum(*n),
         Node::Seq { elem, bound } => check_seq(nodes, *elem, *bound),
         Node::Array { elem, n } => check_array(nodes, *elem, *n),
@@ -163,14 +148,17 @@ fn check_node(nodes: &[Node], node: &Node) -> Result<(), GraphFault>
     }
 }
 
-pub fn check_nodes(nodes: &[Node]) -> Result<(), GraphFault>
-    ensures ok { OnOk result (All (IsNode nodes.now) nodes.now) }
-    ensures err { OnErr result (All (IsNode nodes.now) nodes.now → ⊥) }
+/// The first node that breaks a rule of nodes.
+fn find_in_nodes(nodes: &[Node]) -> Option<RuleFault>
+    ensures none { IfNone result (All (IsNode nodes.now) nodes.now) }
+    ensures some { IfSome result (IsFault nodes.now) }
 {
-    for node in nodes {
-        check_node(nodes, node)?;
+    for (number, node) in nodes.iter().enumerate() {
+        if let Err(rule) = check_node(nodes, node) {
+            return Some(RuleFault::InNode { node: number, rule });
+        }
     }
-    Ok(())
+    None
 }
 
 fn member_count(node: &Node) -> usize
@@ -183,22 +171,20 @@ fn member_count(node: &Node) -> usize
     }
 }
 
-pub fn check_all_members(nodes: &[Node]) -> Result<(), GraphFault>
-    ensures ok { OnOk result (all_members nodes.now ≤ 32768) }
-    ensures err { OnErr result (32768 < all_members nodes.now) }
+/// The node with which the members of all types are too many.
+fn find_too_many_members(nodes: &[Node]) -> Option<RuleFault>
+    ensures none { IfNone result (all_members nodes.now ≤ 32768) }
+    ensures some { IfSome result (IsFault nodes.now) }
 {
     let mut left = MAX_ALL_MEMBERS;
-    for node in nodes {
+    for (number, node) in nodes.iter().enumerate() {
         let count = member_count(node);
         if count > left {
-            return Err(GraphFault::Limit {
-                which: GraphLimit::AllMembers,
-                line: 0,
-            });
+            return Some(RuleFault::TooManyMembers { node: number });
         }
         left -= count;
     }
-    Ok(())
+    None
 }
 
 /// Whether the number is in the table of those that are shallow enough.
@@ -208,85 +194,112 @@ fn is_in(table: &[bool], number: u32) -> bool
     table.get(number as usize).copied().unwrap_or(false)
 }
 
-fn are_arms_in(table: &[bool], arms: &[(i128, u32)]) -> bool
-    ensures { IsTrue result ↔ All (λ arm. slice_index_or table.now arm.1 false ≡ true) arms.now }
+fn is_none_or_in(table: &[bool], part: Option<u32>) -> bool
+    ensures { IsTrue result ↔ IfSome part (λ number. slice_index_or table.now number false ≡ true) }
 {
-    arms.iter().all(|arm| is_in(table, arm.1))
-}
-
-fn is_default_in(table: &[bool], default: Option<u32>) -> bool
-    ensures { IsTrue result ↔ IfSome default (λ number. slice_index_or table.now number false ≡ true) }
-{
-    match default {
+    match part {
         None => true,
         Some(number) => is_in(table, number),
     }
-}
-
-fn is_union_in(table: &[bool], arms: &[(i128, u32)], default: Option<u32>) -> bool
-    ensures { IsTrue result ↔ All (λ number. slice_index_or table.now number false ≡ true) (map (λ arm. arm.1) arms.now ++ option_to_list default) }
-{
-    let in_arms = are_arms_in(table, arms);
-    let in_default = is_default_in(table, default);
-    in_arms && in_default
 }
 
 /// Whether each node that a value of this one holds is in the table.
 fn is_above(table: &[bool], node: &Node) -> bool
     ensures { IsTrue result ↔ All (λ number. slice_index_or table.now number false ≡ true) (held_by node.now) }
 {
-    match node {
-        Node::Array { elem, .. } => is_in(table, *elem),
-        Node::Struct { members } | Node::Frame { members } => {
-            members
-                .as_slice()
-                .iter()
-                .all(|number| is_in(table, *number))
+    for place in 0..node.held_count() {
+        if !is_none_or_in(table, node.held_at(place)) {
+            return false;
         }
-        Node::Union { arms, default, .. } => is_union_in(table, arms.as_slice(), *default),
-        _ => true,
     }
+    true
 }
 
 /// One level more: the nodes of which each part is in the table.
-fn level_above(alloc: Global, nodes: &[Node], table: &[bool]) -> Result<Vec<bool>, AllocError>
-    ensures { IfOk result (λ next. IsLevelAbove nodes.now table.now next.items) }
+fn level_above(nodes: &[Node], table: &[bool], next: &mut Vec<bool>) -> Result<(), AllocError>
+    ensures { OnOk result (IsLevelAbove nodes.now table.now next.new.items) }
 {
-    let mut next = Vec::new(alloc);
+    next.clear();
     for node in nodes {
         next.push(is_above(table, node))?;
     }
-    Ok(next)
+    Ok(())
 }
 
-/// The nodes from which every path downwards that passes no sequence has at most so many nodes.
+/// The nodes from which every path downwards that passes no sequence has at most so many nodes. A
+/// level that changes nothing is the last.
 fn shallow(alloc: Global, nodes: &[Node], levels: usize) -> Result<Vec<bool>, AllocError>
     requires { All (IsNode nodes.now) nodes.now }
     ensures { IfOk result (λ table. IsLevel levels nodes.now table.items) }
 {
     let mut table = vec![in alloc; false; nodes.len()]?;
+    let mut next = Vec::new(alloc);
     for _ in 0..levels {
-        table = level_above(alloc, nodes, &table)?;
+        level_above(nodes, &table, &mut next)?;
+        if next == table {
+            return Ok(table);
+        }
+        mem::swap(&mut table, &mut next);
     }
     Ok(table)
 }
 
-/// A path downwards has at most 64 nodes, or a fault that tells a type that holds itself from too
-/// long a path.
-pub fn check_paths(alloc: Global, nodes: &[Node]) -> Result<(), GraphFault>
+/// Whether a number is that of a node that isn't in the table.
+fn is_missing(table: &[bool], number: usize) -> bool
+    ensures { IsTrue result → (number < length table.now) × (slice_index_or table.now number false ≡ false) }
+{
+    number < table.len() && !table[number]
+}
+
+fn first_missing(table: &[bool]) -> Option<usize>
+    ensures none { IfNone result (EachIndex table.now (λ number. slice_index_or table.now number false ≡ true)) }
+    ensures some { IfSome result (λ number. (number < length table.now) × (slice_index_or table.now number false ≡ false)) }
+{
+    for number in 0..table.len() {
+        if !table[number] {
+            return Some(number);
+        }
+    }
+    None
+}
+
+/// A path downwards that has more than 64 nodes, or one that goes round.
+fn find_in_paths(alloc: Global, nodes: &[Node]) -> Result<Option<RuleFault>, AllocError>
     requires { All (IsNode nodes.now) nodes.now }
-    ensures ok { OnOk result (EachIndex nodes.now (IsShallow 64 nodes.now)) }
-    ensures err { IfErr result (λ fault. OnlyIf fault (EachIndex nodes.now (IsShallow 64 nodes.now) → ⊥)) }
+    ensures none { IfOk result (λ found. IfNone found (EachIndex nodes.now (IsShallow 64 nodes.now))) }
+    ensures some { IfOk result (λ found. IfSome found (IsFault nodes.now)) }
 {
     let table = shallow(alloc, nodes, MAX_PATH)?;
-    if table.iter().all(|is_in| *is_in) {
-        return Ok(());
+    let Some(node) = first_missing(&table) else {
+        return Ok(None);
+    };
+    match find_cycle(alloc, nodes)? {
+        Some(held) if is_missing(&table, held.node) => Ok(Some(RuleFault::SelfHeld {
+            node: held.node,
+            place: held.place,
+        })),
+        _ => Ok(Some(RuleFault::LongPath { node })),
     }
-    if has_cycle(alloc, nodes)? {
-        return Err(GraphFault::SelfHeld { line: 0 });
+}
+
+/// The first rule of a graph that a list of nodes breaks, if it breaks one: rules of the list
+/// first, then those of the nodes in order, then those on paths, where a type that holds itself
+/// comes before too long a path.
+///
+/// # Errors
+/// Want of memory.
+pub fn find_fault(alloc: Global, nodes: &[Node]) -> Result<Option<RuleFault>, AllocError>
+    ensures none { IfOk result (λ found. IfNone found (IsGraph nodes.now)) }
+    ensures some { IfOk result (λ found. IfSome found (IsFault nodes.now)) }
+{
+    if nodes.len() > MAX_NODES {
+        return Ok(Some(RuleFault::TooManyNodes));
     }
-    Err(GraphFault::Limit {
-        which: GraphLimit::Path,
-        line: 0,
-    })
+    if let Some(fault) = find_in_nodes(nodes) {
+        return Ok(Some(fault));
+    }
+    if let Some(fault) = find_too_many_members(nodes) {
+        return Ok(Some(fault));
+    }
+    find_in_paths(alloc, nodes)
 }

@@ -1,7 +1,7 @@
 //! What is read off each node of a list: its lead, of which words its values are made, and how long
 //! the tape of its zeros is.
 
-ghost use Rattle.std.specs.Prelude.{◌≡◌, ◌≤◌, ◌+◌, ◌*◌, ℕ, List, [], ◌∷◌, ◌++◌, length, option_to_list, replicate, slice_index_or, sum_by, IfOk};
+ghost use Rattle.std.specs.Prelude.{◌≡◌, ◌≤◌, ◌+◌, ◌*◌, ℕ, List, [], ◌∷◌, ◌++◌, length, option_to_list, replicate, slice_index_or, sum_by, IfOk, OnOk, IsTrue, ◌↔◌};
 ghost use Rattle.std.specs.List.{AllByRecursion, flat_map};
 ghost use Rattle.type_graph.specs.declared.node.Node.{Node};
 ghost use Rattle.type_graph.specs.Value.{node_at, number_width};
@@ -14,6 +14,7 @@ use crate::node::Node;
 use crate::rules::MAX_PATH;
 use crate::width::Width;
 use std::alloc::{AllocError, Global};
+use std::mem;
 
 /// The lead of a node: known, or that of another node.
 enum Leading {
@@ -76,7 +77,7 @@ pub fn lead_from(nodes: &[Node], number: u32) -> Width
 }
 
 /// Of which words nodes are made, one behind the other.
-#[derive(Clone, Copy, Debug)]
+#[derive(Clone, Copy, Debug, PartialEq, Eq)]
 pub enum Run {
     /// No word.
     Empty,
@@ -144,7 +145,7 @@ fn repeated_size(count: u32, size: Option<usize>) -> Option<usize>
 }
 
 /// What is computed of a node, or of nodes one behind the other.
-#[derive(Clone, Copy, Debug)]
+#[derive(Clone, Copy, Debug, PartialEq, Eq)]
 pub struct Shape {
     pub run: Run,
     /// The size of the tape of zeros, unless it passes 64 bits.
@@ -248,24 +249,49 @@ fn shape_of(nodes: &[Node], table: &[Shape], node: &Node) -> Shape
 }
 
 /// The shapes of all nodes, where the table has those of their parts.
-fn shapes_above(alloc: Global, nodes: &[Node], table: &[Shape]) -> Result<Vec<Shape>, AllocError>
-    ensures { IfOk result (λ next. AreShapesBy nodes.now table.now next.items) }
+fn shapes_above(nodes: &[Node], table: &[Shape], next: &mut Vec<Shape>) -> Result<(), AllocError>
+    ensures { OnOk result (AreShapesBy nodes.now table.now next.new.items) }
 {
-    let mut next = Vec::new(alloc);
+    next.clear();
     for node in nodes {
         next.push(shape_of(nodes, table, node))?;
     }
-    Ok(next)
+    Ok(())
+}
+
+fn is_same(shape: Shape, other: Shape) -> bool
+    ensures { IsTrue result ↔ (shape ≡ other) }
+{
+    shape == other
+}
+
+fn are_same(shapes: &[Shape], others: &[Shape]) -> bool
+    ensures { IsTrue result → (shapes.now ≡ others.now) }
+{
+    if shapes.len() != others.len() {
+        return false;
+    }
+    for (place, shape) in shapes.iter().enumerate() {
+        if !is_same(*shape, others[place]) {
+            return false;
+        }
+    }
+    true
 }
 
 /// The shapes of all nodes, found level by level: so a node that many share is looked at once a
-/// level.
+/// level. A level that changes nothing is the last.
 pub fn shapes_of(alloc: Global, nodes: &[Node]) -> Result<Vec<Shape>, AllocError>
     ensures { IfOk result (λ table. AreShapesWithin 64 nodes.now table.items) }
 {
     let mut table = Vec::new(alloc);
+    let mut next = Vec::new(alloc);
     for _ in 0..MAX_PATH {
-        table = shapes_above(alloc, nodes, &table)?;
+        shapes_above(nodes, &table, &mut next)?;
+        if are_same(&next, &table) {
+            return Ok(table);
+        }
+        mem::swap(&mut table, &mut next);
     }
     Ok(table)
 }

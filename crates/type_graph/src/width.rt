@@ -11,8 +11,9 @@ pub enum Width {
 }
 
 impl Width {
-    ghost use Rattle.std.specs.Prelude.{◌≡◌, ◌≤◌};
-    ghost use Rattle.type_graph.specs.Words.{octets_in};
+    ghost use Rattle.std.specs.Prelude.{◌≡◌, ◌≤◌, ◌<◌};
+    ghost use Rattle.type_graph.specs.Words.{octets_in, words_of, twos_complement};
+    ghost use Rattle.type_graph.specs.Value.{IsSigned};
 
     /// How many octets a number of the width has.
     pub fn octets(self) -> usize
@@ -25,6 +26,29 @@ impl Width {
             Width::Four => 4,
             Width::Eight => 8,
         }
+    }
+
+    /// How many patterns the octets of the width have.
+    pub fn patterns(self) -> u128
+        ensures { result ≡ words_of self }
+    {
+        match self {
+            Width::One => 0x100,
+            Width::Two => 0x1_0000,
+            Width::Four => 0x1_0000_0000,
+            Width::Eight => 0x1_0000_0000_0000_0000,
+        }
+    }
+
+    /// The signed number for which a pattern stands in two's complement.
+    pub fn signed_number(self, pattern: u64) -> i128
+        requires { pattern < words_of self }
+        ensures signed { IsSigned self result }
+        ensures pattern { twos_complement (octets_in self) result ≡ pattern }
+    {
+        let count = self.patterns() as i128;
+        let n = i128::from(pattern);
+        if n < count / 2 { n } else { n - count }
     }
 }
 

@@ -2,12 +2,10 @@
 //! exceptions.
 #![tactic(auto)]
 
-mod items;
 mod model;
 mod names;
 mod signatures;
 
-pub use items::Items;
 pub use model::Model;
 pub use names::{Name, NameTable};
 pub use signatures::{Exception, Interface, Operation};

@@ -6,11 +6,10 @@ ghost use Rattle.type_model.specs.ModelRules.{AreDeclared, BeginsWithId, IsExcep
 ghost use Rattle.type_model.specs.Names.{IsNamed};
 ghost use Rattle.type_graph.specs.Refusal.{OnlyIf};
 
-use crate::items::Items;
 use crate::names::{Name, NameTable};
 use crate::signatures::{Exception, Interface, Operation};
 use std::alloc::Global;
-use type_graph::{Graph, GraphFault, Node};
+use type_graph::{Graph, GraphFault, Items, Node};
 
 /// The types of a specification with their names, and what it declares beside types.
 #[derive(Debug, Drop)]

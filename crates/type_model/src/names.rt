@@ -6,11 +6,10 @@ ghost use Rattle.indexmap.specs.IndexMap.{values};
 ghost use Rattle.type_model.specs.Names.{AreDistinct, AreNames, AreMarks, IsNamed, pairs_of};
 ghost use Rattle.type_graph.specs.Refusal.{OnlyIf};
 
-use crate::items::Items;
 use indexmap::IndexMap;
 use std::alloc::Global;
 use std::marker::Model;
-use type_graph::GraphFault;
+use type_graph::{GraphFault, Items};
 
 /// A name or a repository id. A contract sees its octets.
 #[derive(Debug, Drop)]

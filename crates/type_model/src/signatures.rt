@@ -1,7 +1,7 @@
 //! Interfaces, operations and exceptions of a model, each known by its place in its list.
 
-use crate::items::Items;
 use crate::names::Name;
+use type_graph::Items;
 
 #[derive(Debug, Drop)]
 pub struct Interface {

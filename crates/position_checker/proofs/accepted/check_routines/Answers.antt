@@ -10,7 +10,7 @@ pub returns-in_err-check_routine_at-clause-err : goal.returns-in_err-check_routi
 returns-in_err-check_routine_at-clause-err c =
     let long = ap (λ (g : List Node). length g) c.nodes-count.ensures.value in
     let p = err_from_is_err_and c.from_residual.result c.from_residual.ensures.1 in
-    rw p.1 (λ e. c.in_err-check_routine_at.ensures.err (plain_has c.args.graph.now c.args.routines.now c.loop-number.number c.nodes-count.ensures.rules (omega (arith, long)) e))
+    rw p.1 (λ e. c.in_err-check_routine_at.ensures.err (plain_has c.args.graph.now c.args.routines.now c.loop-number.number (omega (arith, long)) e))
 
 pub returns-then-routines-count-clause-err : goal.returns-then-routines-count-clause-err
 returns-then-routines-count-clause-err c = λ e.
@@ -21,4 +21,4 @@ returns-then-routines-count-clause-err c = λ e.
 pub returns-clause-ok : goal.returns-clause-ok
 returns-clause-ok c =
     let count = ap (λ (g : List Node). length g) c.nodes-count.ensures.value in
-    program_is_plain c.args.graph.now c.args.routines.now c.nodes-count.ensures.rules (omega (arith, count)) (λ number lt. c.loop-number.invariant number (omega (arith, count)))
+    program_is_plain c.args.graph.now c.args.routines.now (omega (arith, count)) (λ number lt. c.loop-number.invariant number (omega (arith, count)))

@@ -1,6 +1,0 @@
-use Rattle.std.proofs.Common.{◌≡◌, drop}
-use Rattle.type_graph.specs.Value.{arm_of}
-use Rattle.type_graph.proofs.node.Arms.chosen.Given as goal
-
-abbrev pub invariant-loop-arm : goal.invariant-loop-arm
-invariant-loop-arm l = arm_of (drop l.arm-index l.self) l.otherwise l.fn.label ≡ arm_of l.self l.otherwise l.fn.label
