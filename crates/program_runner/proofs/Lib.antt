@@ -4,6 +4,7 @@ pub mod Calls
 pub mod Agreement
 pub mod PassAgreement
 pub mod WordAgreement
+pub mod Judged
 pub mod TextParts
 pub mod TextAgreement
 pub mod NumberAgreement

@@ -3,7 +3,7 @@
 ghost use Rattle.std.specs.Prelude.{◌≡◌, ◌==◌};
 ghost use Rattle.std.specs.List.{list_any};
 ghost use Rattle.type_graph.specs.declared.width.Width.TheVariants.{Four};
-ghost use Rattle.program_runner.specs.Steps.{Gives, has_no_bool, number_at, is_over, read_length, tape_length, no_zero, terminated, unterminated};
+ghost use Rattle.program_runner.specs.Steps.{Gives, has_no_bool, judged_bools, number_at, is_over, read_length, tape_length, no_zero, terminated, unterminated};
 
 use crate::fault::RunFault;
 use memchr::memchr;
@@ -24,10 +24,23 @@ pub fn number_at_front(order: Order, octets: &[u8]) -> Result<u32, RunFault>
 }
 
 /// One of the octets is neither 0 nor 1.
-pub fn has_no_bool(octets: &[u8]) -> bool
+fn has_no_bool(octets: &[u8]) -> bool
     ensures { result ≡ has_no_bool octets.now }
 {
     octets.iter().any(|octet| *octet > 1)
+}
+
+/// Refuses so many octets at the front unless they are there and each is 0 or 1.
+pub fn judge_bools(n: usize, octets: &[u8]) -> Result<(), RunFault>
+    ensures { Gives (λ done. done) result (judged_bools n octets.now) }
+{
+    if octets.len() < n {
+        return Err(RunFault::Short);
+    }
+    if has_no_bool(&octets[..n]) {
+        return Err(RunFault::BadBool);
+    }
+    Ok(())
 }
 
 /// More than a bound, where there is one.
