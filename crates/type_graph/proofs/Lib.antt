@@ -17,6 +17,7 @@ pub mod WrittenRead
 pub mod OneTape
 pub mod OneReading
 pub mod Worked
+pub mod WorkedKinds
 pub mod LabelLaws
 pub mod WorkedShapes
 pub mod KnownHeights

@@ -21,11 +21,11 @@ length-zeros zero = refl
 length-zeros (suc n) = let more = length-zeros n in omega arith
 
 -- one behind the other
-joined : (A B : Encoding) (p : ℕ) (octets1 octets2 : List ℕ) → A p octets1 → B (p + length octets1) octets2 → Joined A B p (octets1 ++ octets2)
+pub joined : (A B : Encoding) (p : ℕ) (octets1 octets2 : List ℕ) → A p octets1 → B (p + length octets1) octets2 → Joined A B p (octets1 ++ octets2)
 joined A B p x1 x2 a b = record { octets1 = x1; octets2 = x2; octets_is = refl; first = a; second = b }
 
 -- a number behind zeros
-aligned : (o : Order) (w : Width) (n : ℤ) (p k : ℕ) → k ≡ pad p (octets_in w) → Aligned (zeros_in o) w n p (replicate k 0 ++ word o w n)
+pub aligned : (o : Order) (w : Width) (n : ℤ) (p k : ℕ) → k ≡ pad p (octets_in w) → Aligned (zeros_in o) w n p (replicate k 0 ++ word o w n)
 aligned o w n p k e = record {
   octets1 = replicate k 0;
   octets2 = word o w n;
@@ -35,7 +35,7 @@ aligned o w n p k e = record {
 }
 
 -- nothing more
-no_more : (p : ℕ) → Just [] p []
+pub no_more : (p : ℕ) → Just [] p []
 no_more p = refl
 
 -- ---- a structure of an octet, an unsigned long and a string: 7, 1, "hi"

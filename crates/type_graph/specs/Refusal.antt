@@ -1,5 +1,5 @@
 -- When a list of nodes is refused, and where it breaks the rules.
-use Rattle.std.specs.Prelude.{◌≡◌, ℕ, suc, ◌<◌, ℤ, List, [], length}
+use Rattle.std.specs.Prelude.{◌≡◌, ℕ, suc, ◌<◌, ℤ, List, length}
 use Rattle.type_graph.specs.declared.fault.GraphFault.{GraphFault}
 use Rattle.type_graph.specs.declared.fault.GraphFault.TheVariants.{NoMemory}
 use Rattle.type_graph.specs.declared.fault.NodeRule.{NodeRule}
@@ -7,7 +7,7 @@ use Rattle.type_graph.specs.declared.fault.NodeRule.TheVariants.{LabelTwice, Lab
 use Rattle.type_graph.specs.declared.fault.RuleFault.{RuleFault}
 use Rattle.type_graph.specs.declared.fault.RuleFault.TheVariants.{TooManyNodes, TooManyMembers, InNode, SelfHeld, LongPath}
 use Rattle.type_graph.specs.declared.node.Node.{Node}
-use Rattle.type_graph.specs.declared.node.Node.TheVariants.{Octet, Union}
+use Rattle.type_graph.specs.declared.node.Node.TheVariants.{Union}
 use Rattle.type_graph.specs.Value.{node_at, IsNumber}
 use Rattle.type_graph.specs.GraphRules.{IsNode, IsShallow, all_members, label_at}
 

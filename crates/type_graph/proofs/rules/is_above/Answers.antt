@@ -1,4 +1,4 @@
-use Rattle.std.proofs.Common.{◌≡◌, ◌<◌, ℕ, length, true, false, slice_index_or, All, take, take_all, refl, sym, ◌∙◌, arith}
+use Rattle.std.proofs.Common.{◌≡◌, ◌<◌, length, true, false, slice_index_or, take_all, refl, sym, ◌∙◌, arith}
 use Rattle.std.proofs.lemmas.List.Elements.{All-more, All-same}
 use Rattle.type_graph.specs.GraphRules.{held_by}
 use Rattle.type_graph.proofs.LevelLaws.{part_known, part_of_all}
