@@ -1,6 +1,6 @@
 -- The values of a type, and the tape of a value. The clauses named are those of ISO/IEC 19500-2 on the CDR transfer
 -- syntax; a rule marked (own) is this project's.
-use Rattle.std.specs.Prelude.{ℕ, zero, suc, ◌-◌, ◌*◌, ◌^◌, ◌<◌, ◌≤◌, ℤ, pos, negsuc, true, false}
+use Rattle.std.specs.Prelude.{ℕ, zero, suc, ◌-◌, ◌*◌, ◌^◌, ◌<◌, ◌≤◌, nat_lt, ℤ, pos, negsuc, true, false}
 use Rattle.std.specs.Prelude.{List, [], ◌∷◌, ◌++◌, length, replicate, Option, slice_index_or, if◌then◌else◌, option_to_list}
 use Rattle.std.specs.List.{AllByRecursion}
 use Rattle.std.specs.Ordering.{int_eq}
@@ -47,6 +47,10 @@ IsSignedIn k (negsuc n) = n < 2 ^ (8 * k - 1)
 
 abbrev pub IsSigned : Width → ℤ → Type 0
 IsSigned w n = IsSignedIn (octets_in w) n
+
+-- the number for which a pattern of the width stands in two's complement
+abbrev pub signed_of : Width → ℕ → ℤ
+signed_of w n = if nat_lt n (2 ^ (8 * octets_in w - 1)) then pos n else negsuc (words_of w - 1 - n)
 
 -- The numbers that are values of a node, which is an integer, octet, character, boolean or enumeration (primitive
 -- types, enumerated types). A boolean is 0 or 1 and an enumerator one of those declared; others are refused (own).

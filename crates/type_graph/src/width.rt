@@ -13,7 +13,7 @@ pub enum Width {
 impl Width {
     ghost use Rattle.std.specs.Prelude.{◌≡◌, ◌≤◌, ◌<◌};
     ghost use Rattle.type_graph.specs.Words.{octets_in, words_of, twos_complement};
-    ghost use Rattle.type_graph.specs.Value.{IsSigned};
+    ghost use Rattle.type_graph.specs.Value.{IsSigned, signed_of};
 
     /// How many octets a number of the width has.
     pub fn octets(self) -> usize
@@ -43,6 +43,7 @@ impl Width {
     /// The signed number for which a pattern stands in two's complement.
     pub fn signed_number(self, pattern: u64) -> i128
         requires { pattern < words_of self }
+        ensures value { result ≡ signed_of self pattern }
         ensures signed { IsSigned self result }
         ensures pattern { twos_complement (octets_in self) result ≡ pattern }
     {
