@@ -2,11 +2,15 @@
 #![tactic(auto)]
 
 #[cfg(test)]
+mod depth;
+#[cfg(test)]
+mod faults;
+#[cfg(test)]
 mod graphs;
 #[cfg(test)]
-mod instructions;
-#[cfg(test)]
 mod kinds;
+#[cfg(test)]
+mod large;
 #[cfg(test)]
 mod marshal;
 #[cfg(test)]

@@ -8,7 +8,7 @@ use std::test::Fail;
 use type_graph::{Arms, Width};
 
 /// The program of routine 0 with one instruction, and an octet as routine 1.
-fn of(alloc: Global, instr: Instr) -> Result<Program, Fail> {
+pub fn of(alloc: Global, instr: Instr) -> Result<Program, Fail> {
     let octet = sample::one(alloc, Instr::Octets { n: 1 })?;
     let routines = vec![in alloc;
         sample::routine(0, 1, sample::one(alloc, instr)?),
@@ -124,7 +124,8 @@ fn bounded_and_not(
     ])
 }
 
-/// A bound is told before too few octets, and a count of 4,294,967,295 asks for no memory.
+/// A bound is told before too few octets. That neither asks for memory is what
+/// `tests/refused_allocations` shows.
 const COUNTED: [[u32; 2]; 8] = [
     [0, 0],
     [60, 60],

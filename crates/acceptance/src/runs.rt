@@ -1,10 +1,13 @@
-//! The runner on the sample program: the structure of 7, 1 and "hi", and strings.
+//! The runner on the sample program, the structure of 7, 1 and "hi" and strings, and on instructions that a plain
+//! program doesn't have.
 
-use crate::marshal::{big, read_fault, write_fault};
+use crate::marshal::{big, both_ways, read_fault, write_fault};
+use crate::refusals::of;
 use crate::sample;
+use marshal_program::Instr;
 use program_runner::{read, write};
 use std::test::Fail;
-use type_graph::Order;
+use type_graph::{Order, Width};
 
 const TAPE: [u8; 11] = [7, 0, 0, 0, 1, 0, 0, 0, 2, 0x68, 0x69];
 
@@ -15,7 +18,7 @@ const PADDED: [u8; 17] = [
 ];
 
 #[test]
-fn both_ways(rt: HostRuntime) -> Result<(), Fail> {
+fn the_structure(rt: HostRuntime) -> Result<(), Fail> {
     let alloc = rt.alloc();
     let program = sample::program(alloc)?;
     assert_eq!(rt; program.routines().len(), 4);
@@ -59,5 +62,26 @@ fn tapes_that_are_no_string(rt: HostRuntime) -> Result<(), Fail> {
         write_fault(alloc, &program, at, &[0, 0, 0, 1, 0x41]),
     ];
     assert_eq!(rt; faults, [60, 63, 60, 65, 68, 0]);
+    Ok(())
+}
+
+/// A gap stands before the first number only where there is one.
+#[test]
+fn runs_of_numbers(rt: HostRuntime) -> Result<(), Fail> {
+    let alloc = rt.alloc();
+    let words = Instr::SeqWords {
+        width: Width::Eight,
+        first: Width::Eight,
+        bound: 0,
+    };
+    let program = of(alloc, words)?;
+    let tape = [0, 0, 0, 1, 0, 0, 0, 0, 0, 0, 0, 5];
+    let octets = [0, 0, 0, 1, 0, 0, 0, 0, 0, 0, 0, 0, 0, 0, 0, 5];
+    let runs = [
+        both_ways(alloc, &program, big(0, 0), &[0; 4], &[0; 4]),
+        both_ways(alloc, &program, big(0, 0), &tape, &octets),
+        both_ways(alloc, &program, big(0, 4), &tape, &tape),
+    ];
+    assert_eq!(rt; runs, [[0; 2]; 3]);
     Ok(())
 }

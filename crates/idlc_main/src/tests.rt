@@ -1,9 +1,6 @@
 use crate::run;
-use crate::sample::Sample;
 use std::io;
 use std::process::Abort;
-use std::test::Fail;
-use type_graph::Order;
 
 const TAPE: &str = "0700000001000000026869";
 
@@ -248,24 +245,4 @@ fn says_nothing_of_a_full_output(rt: HostRuntime) {
         assert_eq!(rt; run(&rt, help.as_slice(), &mut Full(room), &mut told), 3);
         assert!(rt; told.is_empty(), "{told:?}");
     }
-}
-
-#[test]
-fn reads_texts(rt: HostRuntime) -> Result<(), Fail> {
-    let alloc = rt.alloc();
-    let sample = Sample::new(alloc)?;
-    let rows = [
-        ([0, 0, 0, 0].as_slice(), "63 BadLength"),
-        ([0, 0, 0, 1, 0x41].as_slice(), "64 NoTerminator"),
-        ([0, 0, 0, 1, 0].as_slice(), "5 [0, 0, 0, 0]"),
-        ([0, 0, 0, 3, 0, 0, 0].as_slice(), "65 ZeroInside"),
-    ];
-    for (octets, wanted) in rows {
-        let answer = match sample.table.read(alloc, 2, Order::Big, 0, octets) {
-            Ok((tape, taken)) => format!(in alloc; "{taken} {tape:?}")?,
-            Err(fault) => format!(in alloc; "{fault}")?,
-        };
-        assert!(rt; answer.as_str() == wanted, "{octets:?}: {answer}");
-    }
-    Ok(())
 }

@@ -1,0 +1,94 @@
+//! The texts of the faults: each has its number and its name, and a line where one is known.
+
+use idl_value::ValueFault;
+use marshal_program::{GenFault, TableFault};
+use position_checker::CheckFault;
+use program_runner::RunFault;
+use std::alloc::Global;
+use std::fmt::Display;
+use std::test::Fail;
+use type_graph::{GraphFault, GraphLimit};
+
+/// The texts of the faults, each with a bar behind it.
+fn texts<F: Display>(alloc: Global, faults: &[F]) -> Result<String, Fail> {
+    let mut out = String::new(alloc);
+    for fault in faults {
+        out.push_str(fault.to_string(alloc)?.as_str())?;
+        out.push('|')?;
+    }
+    Ok(out)
+}
+
+#[test]
+fn faults_of_graphs(rt: HostRuntime) -> Result<(), Fail> {
+    let line = 7;
+    let which = GraphLimit::Nodes;
+    let faults = [
+        GraphFault::SelfHeld { line },
+        GraphFault::LabelTwice { line },
+        GraphFault::LabelRange { line },
+        GraphFault::DefaultNeedless { line },
+        GraphFault::BadSwitch { line },
+        GraphFault::Limit { which, line },
+        GraphFault::BadOneway { line },
+        GraphFault::BadNode,
+        GraphFault::NoMemory,
+    ];
+    let want = "30 SelfHeld line 7|31 LabelTwice line 7|32 LabelRange line 7|\
+        33 DefaultNeedless line 7|34 BadSwitch line 7|35 Limit line 7|36 BadOneway line 7|\
+        37 BadNode|no memory|";
+    assert_eq!(rt; texts(rt.alloc(), &faults)?.as_str(), want);
+    Ok(())
+}
+
+#[test]
+fn faults_of_values_and_programs(rt: HostRuntime) -> Result<(), Fail> {
+    let values = [
+        ValueFault::NotOfType,
+        ValueFault::NotATape,
+        ValueFault::NoMemory,
+    ];
+    let want = "40 NotOfType|41 NotATape|no memory|";
+    assert_eq!(rt; texts(rt.alloc(), &values)?.as_str(), want);
+    let programs = [
+        TableFault::NotATable,
+        TableFault::Version,
+        TableFault::BadNumber,
+        TableFault::RankRises,
+        TableFault::Trailing,
+        TableFault::EmptyRoutine,
+        TableFault::NoMemory,
+    ];
+    let want =
+        "50 NotATable|51 Version|52 BadNumber|53 RankRises|54 Trailing|55 EmptyRoutine|no memory|";
+    assert_eq!(rt; texts(rt.alloc(), &programs)?.as_str(), want);
+    let makers = [GenFault::Limit, GenFault::NoMemory];
+    assert_eq!(rt; texts(rt.alloc(), &makers)?.as_str(), "70 Limit|no memory|");
+    Ok(())
+}
+
+#[test]
+fn faults_of_runs_and_tables(rt: HostRuntime) -> Result<(), Fail> {
+    let runs = [
+        RunFault::Short,
+        RunFault::BadBool,
+        RunFault::BadEnum,
+        RunFault::BadLength,
+        RunFault::NoTerminator,
+        RunFault::ZeroInside,
+        RunFault::OverBound,
+        RunFault::TooDeep,
+        RunFault::TapeLeft,
+        RunFault::NoMemory,
+    ];
+    let want = "60 Short|61 BadBool|62 BadEnum|63 BadLength|64 NoTerminator|65 ZeroInside|\
+        66 OverBound|67 TooDeep|68 TapeLeft|no memory|";
+    assert_eq!(rt; texts(rt.alloc(), &runs)?.as_str(), want);
+    let tables = [CheckFault::WrongWork {
+        routine: 4,
+        instr: 2,
+    }];
+    let want = "80 WrongWork routine 4 instruction 2|";
+    assert_eq!(rt; texts(rt.alloc(), &tables)?.as_str(), want);
+    Ok(())
+}
