@@ -8,8 +8,8 @@ use crate::values::unpacks;
 use marshal_program::{Instr, Program};
 use std::alloc::{AllocError, Global};
 use std::test::Fail;
-use type_graph::{Graph, Node, Width};
-use type_model::{Items, Model, Name};
+use type_graph::{Graph, Items, Node, Width};
+use type_model::{Model, Name};
 
 const MEBI: u32 = 1_048_576;
 

@@ -6,8 +6,8 @@ use position_checker::Accepted;
 use program_runner::{RunFault, read, write};
 use std::alloc::Global;
 use std::test::Fail;
-use type_graph::{Graph, Node, Order};
-use type_model::{Items, Model};
+use type_graph::{Graph, Items, Node, Order};
+use type_model::Model;
 
 /// The plain program of a graph of these nodes, none of which has a name.
 pub fn program_of(alloc: Global, nodes: Vec<Node>) -> Result<Program, Fail> {

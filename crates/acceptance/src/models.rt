@@ -2,8 +2,8 @@
 
 use std::alloc::{AllocError, Global};
 use std::test::Fail;
-use type_graph::{Graph, GraphFault, Members, Node};
-use type_model::{Exception, Interface, Items, Model, Name, Operation};
+use type_graph::{Graph, GraphFault, Items, Members, Node};
+use type_model::{Exception, Interface, Model, Name, Operation};
 
 fn name(alloc: Global, text: &str) -> Result<Name, AllocError> {
     Ok(Name::new(String::from_str(alloc, text)?))

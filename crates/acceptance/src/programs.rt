@@ -72,7 +72,7 @@ fn numbers_come_first_and_ranks_last(rt: HostRuntime) -> Result<(), Fail> {
 /// The routine and the instruction that the checker names, [99, 99] where it accepts.
 fn refusal(alloc: Global, routines: Vec<Routine>) -> Result<[u32; 2], Fail> {
     let program = Program::new(routines)?;
-    match check(sample::graph(alloc)?, program) {
+    match check(alloc, sample::graph(alloc)?, program) {
         Ok(_) => Ok([99; 2]),
         Err(CheckFault::WrongWork { routine, instr }) => Ok([routine, instr]),
     }

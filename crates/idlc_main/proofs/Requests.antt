@@ -6,9 +6,9 @@ use Rattle.clap.specs.declared.parser.matches.Found.{Found}
 use Rattle.clap.proofs.WalkLemmas.{first_value-rows, one_text-rows}
 use Rattle.type_graph.specs.declared.width.Order.{Order}
 use Rattle.type_graph.specs.declared.width.Order.TheVariants.{Big, Little}
-use Rattle.idlc_main.specs.declared.marshal.Format.{Format}
-use Rattle.idlc_main.specs.declared.marshal.Format.TheVariants.{Encode, Decode}
-use Rattle.idlc_main.specs.Format.{name_of}
+use Rattle.idlc_main.specs.declared.marshal.Way.{Way}
+use Rattle.idlc_main.specs.declared.marshal.Way.TheVariants.{Encode, Decode}
+use Rattle.idlc_main.specs.Way.{name_of}
 use Rattle.idlc_main.specs.declared.marshal.Request.{Request}
 use Rattle.idlc_main.specs.Words.{Ask, Tells, word_of}
 use Rattle.idlc_main.specs.Answer.{ask_of}
@@ -28,10 +28,10 @@ order_of found Big Big is little = refl
 order_of found Little Big is little =
     absurd (different 6 3 (ap length (same_some found (codes "little") (codes "big") (little.0 refl) is)) (omega arith))
 
-module _ (found : Found) (format : Format) where
+module _ (found : Found) (way : Way) where
   -- the request has what was found for each word
   pub record IsRequest (request : Request) : Type 0 where
-    pub way_is : request.format ≡ format
+    pub way_is : request.way ≡ way
     pub table : first_value found (codes "T") ≡ Some request.table.now
     pub name : first_value found (codes "NAME") ≡ Some request.name.now
     pub order : (request.order ≡ Little) ↔ (first_value found (codes "ORDER") ≡ Some (codes "little"))
@@ -55,7 +55,7 @@ module _ (found : Found) (format : Format) where
     digits_are : one_text found (codes "POS") ≡ Some tells.digits
     digits_are = one_text-rows found (codes "POS") ∙ tells.pos
 
-    pub is_asked : (request : Request) → format ≡ ask.format → IsRequest request → ask_of request ≡ ask
+    pub is_asked : (request : Request) → way ≡ ask.way → IsRequest request → ask_of request ≡ ask
     is_asked request way_is is =
         let table : request.table.now ≡ ask.table = same_some _ _ _ is.table (found_first _ _ tells.table) in
         let name : request.name.now ≡ ask.name = same_some _ _ _ is.name (found_first _ _ tells.name) in
@@ -69,18 +69,18 @@ module _ (found : Found) (format : Format) where
         (some_since _ _ (found_first _ _ tells.order)) (some_since _ _ (found_first _ _ tells.hex))
         tells.digits digits_are tells.numeral (rw tells.number tells.in_64_bits)
 
-    pub asked : (result : Option Request) → format ≡ ask.format → IsWhole result
-        → IfSome result (λ request. request.format ≡ format)
+    pub asked : (result : Option Request) → way ≡ ask.way → IsWhole result
+        → IfSome result (λ request. request.way ≡ way)
         → IfSome result (λ request. first_value found (codes "T") ≡ Some request.table.now)
         → IfSome result (λ request. first_value found (codes "NAME") ≡ Some request.name.now)
         → IfSome result (λ request. (request.order ≡ Little) ↔ (first_value found (codes "ORDER") ≡ Some (codes "little")))
         → IfSome result (λ request. (text : Text) → one_text found (codes "POS") ≡ Some text → digits_value 10 (without_leading_plus text) ≡ request.pos)
         → IfSome result (λ request. first_value found (codes "HEX") ≡ Some request.hex.now)
         → IsSomeAnd result (λ request. ask_of request ≡ ask)
-    asked None way_is whole format table name order pos hex =
+    asked None way_is whole way table name order pos hex =
         let bad : false ≡ true = some_asked None whole in absurd cc
-    asked (Some request) way_is whole format table name order pos hex = is_asked request way_is (record {
-      way_is = format;
+    asked (Some request) way_is whole way table name order pos hex = is_asked request way_is (record {
+      way_is = way;
       table = table;
       name = name;
       order = order;
@@ -88,7 +88,7 @@ module _ (found : Found) (format : Format) where
       hex = hex;
     })
 
-pub same_way : (a b : Format) → name_of a ≡ name_of b → a ≡ b
+pub same_way : (a b : Way) → name_of a ≡ name_of b → a ≡ b
 same_way Encode Encode same = refl
 same_way Decode Decode same = refl
 same_way Encode Decode same = absurd (different 101 100 (ap (λ t. slice_index t 0) same) (omega arith))

@@ -12,7 +12,7 @@ use Rattle.idlc_main.specs.Lines.{Answers, HasNoAnswer}
 
 abbrev pub ask_of : Request → Ask
 ask_of request = record {
-  format = request.format;
+  way = request.way;
   table = request.table.now;
   name = request.name.now;
   order = request.order;
@@ -28,14 +28,14 @@ pub record IsOfSample (ask : Ask) : Type 0 where
 -- the line that answers
 pub record IsLine (ask : Ask) (line : List ℕ) : Type 0 where
   pub sample : IsOfSample ask
-  pub answers : Answers ask.format ask.order ask.pos ask.hex line
+  pub answers : Answers ask.way ask.order ask.pos ask.hex line
 
 -- the value that is asked for isn't there
 pub record IsEmptyAsk (ask : Ask) : Type 0 where
   pub sample : IsOfSample ask
   pub input : List ℕ
   pub digits_are : decode_of ask.hex ≡ Ok input
-  pub none : HasNoAnswer ask.format ask.order ask.pos input
+  pub none : HasNoAnswer ask.way ask.order ask.pos input
 
 -- the fault that answers
 abbrev pub IsFaultOf : Ask → Fault → Type 0

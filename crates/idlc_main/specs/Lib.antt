@@ -1,6 +1,6 @@
 pub mod Fault
 pub mod Sample
-pub mod Format
+pub mod Way
 pub mod Lines
 pub mod Words
 pub mod Answer

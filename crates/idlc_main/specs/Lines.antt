@@ -6,8 +6,8 @@ use Rattle.type_graph.specs.declared.node.Node.{Node}
 use Rattle.type_graph.specs.declared.width.Order.{Order}
 use Rattle.type_graph.specs.Words.{reading, writing}
 use Rattle.type_graph.specs.Encoding.{Means}
-use Rattle.idlc_main.specs.declared.marshal.Format.{Format}
-use Rattle.idlc_main.specs.declared.marshal.Format.TheVariants.{Encode, Decode}
+use Rattle.idlc_main.specs.declared.marshal.Way.{Way}
+use Rattle.idlc_main.specs.declared.marshal.Way.TheVariants.{Encode, Decode}
 use Rattle.idlc_main.specs.Sample.{sample_nodes}
 
 -- the digits of the CDR octets of the value that the tape is
@@ -35,17 +35,17 @@ HasNoTape graph order node pos octets =
     (tape front rest : List ℕ) → octets ≡ front ++ rest → Means graph (reading order) 64 node pos tape front → ⊥
 
 -- what a command prints of its input, for the structure of the sample
-abbrev pub Prints : Format → Order → ℕ → List ℕ → List ℕ → Type 0
+abbrev pub Prints : Way → Order → ℕ → List ℕ → List ℕ → Type 0
 Prints Encode order pos tape line = PrintsOctets sample_nodes order 3 pos tape line
 Prints Decode order pos octets line = PrintsTape sample_nodes order 3 pos octets line
 
 -- there is nothing to print of the input
-abbrev pub HasNoAnswer : Format → Order → ℕ → List ℕ → Type 0
+abbrev pub HasNoAnswer : Way → Order → ℕ → List ℕ → Type 0
 HasNoAnswer Encode order pos tape = HasNoOctets sample_nodes order 3 pos tape
 HasNoAnswer Decode order pos octets = HasNoTape sample_nodes order 3 pos octets
 
 -- what a command prints, of input that is written in hexadecimal
-pub record Answers (format : Format) (order : Order) (pos : ℕ) (digits line : List ℕ) : Type 0 where
+pub record Answers (way : Way) (order : Order) (pos : ℕ) (digits line : List ℕ) : Type 0 where
   pub input : List ℕ
   pub digits_are : decode_of digits ≡ Ok input
-  pub prints : Prints format order pos input line
+  pub prints : Prints way order pos input line

@@ -1,9 +1,9 @@
 -- The two commands.
 use Rattle.std.specs.Prelude.{ℕ, List, codes}
-use Rattle.idlc_main.specs.declared.marshal.Format.{Format}
-use Rattle.idlc_main.specs.declared.marshal.Format.TheVariants.{Encode, Decode}
+use Rattle.idlc_main.specs.declared.marshal.Way.{Way}
+use Rattle.idlc_main.specs.declared.marshal.Way.TheVariants.{Encode, Decode}
 
 -- the word that asks for one
-abbrev pub name_of : Format → List ℕ
+abbrev pub name_of : Way → List ℕ
 name_of Encode = codes "encode"
 name_of Decode = codes "decode"

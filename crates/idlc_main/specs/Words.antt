@@ -10,9 +10,9 @@ use Rattle.clap.specs.declared.error.kind.ErrorKind.{ErrorKind}
 use Rattle.clap.specs.declared.error.kind.ErrorKind.TheVariants.{DisplayHelp, DisplayVersion}
 use Rattle.type_graph.specs.declared.width.Order.{Order}
 use Rattle.type_graph.specs.declared.width.Order.TheVariants.{Big, Little}
-use Rattle.idlc_main.specs.declared.marshal.Format.{Format}
-use Rattle.idlc_main.specs.declared.marshal.Format.TheVariants.{Encode, Decode}
-use Rattle.idlc_main.specs.Format.{name_of}
+use Rattle.idlc_main.specs.declared.marshal.Way.{Way}
+use Rattle.idlc_main.specs.declared.marshal.Way.TheVariants.{Encode, Decode}
+use Rattle.idlc_main.specs.Way.{name_of}
 
 -- the texts behind references
 abbrev pub texts : List (Bor Text) → List Text
@@ -20,7 +20,7 @@ texts = map (λ word. word.now)
 
 -- one value to marshal
 pub record Ask : Type 0 where
-  pub format : Format
+  pub way : Way
   pub table : Text
   pub name : Text
   pub order : Order
@@ -51,8 +51,8 @@ command_app orders name = with_rule
     (wanted (codes "POS") (Some (Unsigned 0 18446744073709551615))))
     (wanted (codes "HEX") None)
 
-abbrev pub with_command : ValueParser → App → Format → App
-with_command orders app format = with_subcommand app (command_app orders (name_of format)).top
+abbrev pub with_command : ValueParser → App → Way → App
+with_command orders app way = with_subcommand app (command_app orders (name_of way)).top
 
 -- the two commands, of which a run has to name one
 abbrev pub program_app : ValueParser → App
@@ -75,7 +75,7 @@ pub record Tells (rows : List Row) (ask : Ask) : Type 0 where
 pub record IsReadAs (app : App) (words : List Text) (ask : Ask) : Type 0 where
   pub taken : takes app words ≡ true
   pub rows : List Row
-  pub command : subcommand_of app words ≡ Some (name_of ask.format, rows)
+  pub command : subcommand_of app words ≡ Some (name_of ask.way, rows)
   pub tells : Tells rows ask
 
 -- clap takes the words, and they ask for this

@@ -20,7 +20,7 @@ use type_graph::Order;
 
 /// From a tape to octets, or from octets to a tape.
 #[derive(Clone, Copy, Debug, PartialEq, Eq)]
-pub enum Format {
+pub enum Way {
     Encode,
     Decode,
 }
@@ -28,7 +28,7 @@ pub enum Format {
 /// One value to marshal.
 #[derive(Clone, Copy, Debug)]
 pub struct Request<'a> {
-    pub format: Format,
+    pub way: Way,
     /// The name of a table.
     pub table: &'a str,
     /// The name of a type of the table.
@@ -111,13 +111,13 @@ fn answer<'a>(
     input: &[u8],
 ) -> Result<String, Fault<'a>>
     requires { node ≡ 3 }
-    ensures ok { IfOk result (λ line. Prints request.now.format request.now.order request.now.pos input.now (string_bytes line)) }
+    ensures ok { IfOk result (λ line. Prints request.now.way request.now.order request.now.pos input.now (string_bytes line)) }
     ensures err { IfErr result (λ fault. IsOfRun fault × OnlyIf fault
-        (HasNoAnswer request.now.format request.now.order request.now.pos input.now)) }
+        (HasNoAnswer request.now.way request.now.order request.now.pos input.now)) }
 {
-    match request.format {
-        Format::Encode => encode(alloc, &sample.table, node, request, input),
-        Format::Decode => decode(alloc, &sample.table, node, request, input),
+    match request.way {
+        Way::Encode => encode(alloc, &sample.table, node, request, input),
+        Way::Decode => decode(alloc, &sample.table, node, request, input),
     }
 }
 

@@ -6,7 +6,7 @@ ghost use Rattle.type_graph.specs.Refusal.{OnlyIf as OnlyIfGraph};
 ghost use Rattle.idlc_main.specs.Sample.{everywhere, sample_nodes, sample_program};
 
 use marshal_program::{Code, Instr, Program, Routine};
-use position_checker::{Accepted, check};
+use position_checker::{Accepted, CheckFault, check};
 use std::alloc::{AllocError, Global};
 use type_graph::{Graph, GraphFault, Members, Node, Width};
 
@@ -109,9 +109,10 @@ impl Sample {
     pub fn new(alloc: Global) -> Result<Sample, AllocError>
         ensures { IfOk result (λ sample. sample.table.program ≡ sample_program) }
     {
-        match check(graph(alloc)?, program(alloc)?) {
+        match check(alloc, graph(alloc)?, program(alloc)?) {
             Ok(table) => Ok(Sample { table }),
-            Err(_) => unreachable!(),
+            Err(CheckFault::NoMemory) => Err(AllocError),
+            Err(CheckFault::WrongWork { .. }) => unreachable!(),
         }
     }
 

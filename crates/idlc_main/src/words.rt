@@ -8,10 +8,10 @@ ghost use Rattle.idlc_main.specs.Words.{Ask, AsksFor, IsMistaken, Tells, texts, 
 ghost use Rattle.idlc_main.specs.Answer.{IsAnswer, ask_of};
 ghost use Rattle.clap.specs.Matches.{found_of, first_value, one_text, subcommand_name_of};
 ghost use Rattle.idlc_main.specs.Fault.{IsOfWords, IsTold};
-ghost use Rattle.idlc_main.specs.Format.{name_of};
+ghost use Rattle.idlc_main.specs.Way.{name_of};
 
 use crate::fault::Fault;
-use crate::marshal::{Request, Format, marshal};
+use crate::marshal::{Request, Way, marshal};
 use clap::error::ErrorKind;
 use clap::{Arg, ArgMatches, Command, value_parser};
 use std::alloc::{AllocError, Global};
@@ -60,8 +60,8 @@ fn program<'a>(alloc: Global, orders: &'a [&'a str]) -> Result<Command<'a>, Allo
         .subcommand(decode.about("Reads a value from octets"))
 }
 
-fn request_in<'a>(format: Format, matches: &ArgMatches<'a>) -> Option<Request<'a>>
-    ensures format { IfSome result (λ request. request.format ≡ format) }
+fn request_in<'a>(way: Way, matches: &ArgMatches<'a>) -> Option<Request<'a>>
+    ensures way { IfSome result (λ request. request.way ≡ way) }
     ensures table { IfSome result (λ request.
         first_value (found_of matches.now) (codes "T") ≡ Some request.table.now) }
     ensures name { IfSome result (λ request.
@@ -86,7 +86,7 @@ fn request_in<'a>(format: Format, matches: &ArgMatches<'a>) -> Option<Request<'a
         _ => Order::Big,
     };
     Some(Request {
-        format,
+        way,
         table: matches.get_str("T")?,
         name: matches.get_str("NAME")?,
         order,
@@ -98,14 +98,14 @@ fn request_in<'a>(format: Format, matches: &ArgMatches<'a>) -> Option<Request<'a
 /// What the words ask for. `clap` has seen to it that none is missing.
 fn request<'a>(matches: &ArgMatches<'a>) -> Option<Request<'a>>
     ensures command { IfSome result (λ request.
-        subcommand_name_of matches.now ≡ Some (name_of request.format)) }
-    ensures asked { (ask : Ask) (rows : List Row) → subcommand_rows_of matches.now ≡ Some (name_of ask.format, rows)
+        subcommand_name_of matches.now ≡ Some (name_of request.way)) }
+    ensures asked { (ask : Ask) (rows : List Row) → subcommand_rows_of matches.now ≡ Some (name_of ask.way, rows)
         → Tells rows ask → IsSomeAnd result (λ request. ask_of request ≡ ask) }
 {
     let (name, words) = matches.subcommand()?;
     match name {
-        "encode" => request_in(Format::Encode, words),
-        "decode" => request_in(Format::Decode, words),
+        "encode" => request_in(Way::Encode, words),
+        "decode" => request_in(Way::Decode, words),
         _ => None,
     }
 }

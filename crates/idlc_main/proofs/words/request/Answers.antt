@@ -1,6 +1,6 @@
 use Rattle.std.proofs.Common.{ap, sym, refl, Option, Some, None, List, option_map, ◌≡◌, ◌∙◌}
 use Rattle.clap.specs.Words.{Row, Text, found_of, rows_of}
-use Rattle.idlc_main.specs.declared.marshal.Format.TheVariants.{Encode, Decode}
+use Rattle.idlc_main.specs.declared.marshal.Way.TheVariants.{Encode, Decode}
 use Rattle.idlc_main.proofs.Requests.{asked, same_some, same_way}
 use Rattle.idlc_main.proofs.words.request.Goals as goal
 
@@ -13,20 +13,20 @@ second = option_map (λ p. p.1)
 
 pub returns-in-encode-clause-asked : goal.returns-in-encode-clause-asked
 returns-in-encode-clause-asked c ask rows command tells =
-    let way_is : Encode ≡ ask.format = same_way Encode ask.format (
+    let way_is : Encode ≡ ask.way = same_way Encode ask.way (
     sym c.in-encode.is ∙ same_some _ _ _ (sym c.in_ok-name.ensures.name) (sym (first_of_pair _ _) ∙ ap (option_map (λ (p : Text × List Row). p.0)) command)
     ) in
     let rows_are : rows_of (found_of c.in_ok-name.words.now) ≡ rows =
     let both : Some (rows_of (found_of c.in_ok-name.words.now)) ≡ Some rows = c.in_ok-name.ensures.rows ∙ ap second command in cc in
     let e = c.request_in.ensures in
-    asked (found_of c.in_ok-name.words.now) Encode ask (rw rows_are tells) c.request_in.result way_is e.whole e.format e.table e.name e.order e.pos e.hex
+    asked (found_of c.in_ok-name.words.now) Encode ask (rw rows_are tells) c.request_in.result way_is e.whole e.way e.table e.name e.order e.pos e.hex
 
 pub returns-in-decode-clause-asked : goal.returns-in-decode-clause-asked
 returns-in-decode-clause-asked c ask rows command tells =
-    let way_is : Decode ≡ ask.format = same_way Decode ask.format (
+    let way_is : Decode ≡ ask.way = same_way Decode ask.way (
     sym c.in-decode.is ∙ same_some _ _ _ (sym c.in_ok-name.ensures.name) (sym (first_of_pair _ _) ∙ ap (option_map (λ (p : Text × List Row). p.0)) command)
     ) in
     let rows_are : rows_of (found_of c.in_ok-name.words.now) ≡ rows =
     let both : Some (rows_of (found_of c.in_ok-name.words.now)) ≡ Some rows = c.in_ok-name.ensures.rows ∙ ap second command in cc in
     let e = c.request_in-in-decode.ensures in
-    asked (found_of c.in_ok-name.words.now) Decode ask (rw rows_are tells) c.request_in-in-decode.result way_is e.whole e.format e.table e.name e.order e.pos e.hex
+    asked (found_of c.in_ok-name.words.now) Decode ask (rw rows_are tells) c.request_in-in-decode.result way_is e.whole e.way e.table e.name e.order e.pos e.hex
