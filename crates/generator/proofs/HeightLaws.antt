@@ -9,7 +9,7 @@ use Rattle.type_graph.specs.declared.node.Node.TheVariants.{Octet}
 use Rattle.type_graph.specs.Value.{node_at}
 use Rattle.type_graph.specs.GraphRules.{held_by, IsGraph}
 use Rattle.type_graph.specs.Walks.{above, height_within, height_of}
-use Rattle.type_graph.proofs.Heights.{height_unfolds}
+use Rattle.type_graph.proofs.HeightLaws.{height_unfolds}
 use Rattle.generator.specs.Heights.{AreKnown}
 
 -- past the end of a graph there is nothing below

@@ -4,8 +4,7 @@ use Rattle.type_graph.specs.declared.node.Node.{Node}
 use Rattle.std.specs.Prelude.{Box}
 use Rattle.std.specs.declared.alloc.Global.{Global}
 use Rattle.type_graph.specs.declared.node.Node.TheVariants.{Seq, Union}
-use Rattle.type_graph.specs.Atoms.{IsCount}
-use Rattle.type_graph.specs.Value.{Items, Choice, count, node_at, arm_of, IsNumber, Fits, FitAll}
+use Rattle.type_graph.specs.Value.{Items, Choice, count, node_at, arm_of, IsNumber, Fits, FitAll, IsCount}
 use Rattle.idl_value.specs.declared.value.Value.{Value}
 use Rattle.idl_value.specs.View.{tree_of, trees_of, member_of}
 

@@ -6,8 +6,7 @@ use Rattle.type_graph.specs.declared.width.Order.TheVariants.{Big}
 use Rattle.type_graph.specs.declared.node.Node.{Node}
 use Rattle.type_graph.specs.declared.node.Node.TheVariants.{Seq, Array, Struct, Union, Frame}
 use Rattle.type_graph.specs.Words.{word}
-use Rattle.type_graph.specs.Atoms.{IsCount}
-use Rattle.type_graph.specs.Value.{Tree, Trees, Number, Bytes, Items, Choice, NoTree, AndTree, count, node_at, IsNumber, IsNumeric, number_width, arm_of, Fits, FitAll, tape_of, tapes_of}
+use Rattle.type_graph.specs.Value.{Tree, Trees, Number, Bytes, Items, Choice, NoTree, AndTree, count, node_at, IsNumber, IsNumeric, number_width, arm_of, Fits, FitAll, tape_of, tapes_of, IsCount}
 use Rattle.type_graph.specs.GraphRules.{IsGraph}
 use Rattle.type_graph.proofs.Openings.{numeric_alone}
 use Rattle.type_graph.proofs.OneTape.{FitsWord, graph_fits_words, cut_same, number_same, one_front}

@@ -4,10 +4,9 @@ ghost use Rattle.std.specs.Prelude.{◌≡◌, ◌<◌, ◌^◌, ◌++◌, ◌�
 ghost use Rattle.type_graph.specs.declared.node.Node.{Node};
 ghost use Rattle.type_graph.specs.declared.width.Width.TheVariants.{Four};
 ghost use Rattle.type_graph.specs.declared.width.Order.TheVariants.{Big};
-ghost use Rattle.type_graph.specs.Words.{octets_in, words_of, plain_word, complement, word};
+ghost use Rattle.type_graph.specs.Words.{octets_in, words_of, plain_word, twos_complement, word};
 ghost use Rattle.type_graph.specs.GraphRules.{IsNode};
-ghost use Rattle.type_graph.specs.Atoms.{IsBelow, IsCount};
-ghost use Rattle.type_graph.specs.Value.{IsSigned, IsNumber, number_width};
+ghost use Rattle.type_graph.specs.Value.{IsSigned, IsNumber, number_width, IsBelow, IsCount};
 
 use std::alloc::AllocError;
 use type_graph::{Node, Width};
@@ -114,8 +113,8 @@ fn read_word(width: Width, tape: &[u8]) -> Option<(u64, &[u8])>
 /// The number of a signed integer type of which this is the pattern.
 fn signed_of_word(width: Width, word: u64) -> i128
     requires { word < words_of width }
-    ensures pattern { complement width result ≡ word }
-    ensures only { (n : ℤ) → IsSigned width n → complement width n ≡ word → n ≡ result }
+    ensures pattern { twos_complement (octets_in width) result ≡ word }
+    ensures only { (n : ℤ) → IsSigned width n → twos_complement (octets_in width) n ≡ word → n ≡ result }
 {
     let count = pattern_count(width) as i128;
     let n = i128::from(word);
@@ -125,8 +124,8 @@ fn signed_of_word(width: Width, word: u64) -> i128
 /// The only number that can be a value of the node with this pattern.
 fn number_of_pattern(node: &Node, word: u64) -> i128
     requires { word < words_of (number_width node.now) }
-    ensures pattern { complement (number_width node.now) result ≡ word }
-    ensures only { (n : ℤ) → IsNumber node.now n → complement (number_width node.now) n ≡ word → n ≡ result }
+    ensures pattern { twos_complement (octets_in (number_width node.now)) result ≡ word }
+    ensures only { (n : ℤ) → IsNumber node.now n → twos_complement (octets_in (number_width node.now)) n ≡ word → n ≡ result }
 {
     match node {
         Node::Whole {

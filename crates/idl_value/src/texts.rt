@@ -4,7 +4,7 @@ ghost use Rattle.std.specs.Prelude.{◌≡◌, ◌++◌, ◌↔◌, ℕ, pos, Li
 ghost use Rattle.type_graph.specs.declared.width.Width.TheVariants.{Four};
 ghost use Rattle.type_graph.specs.declared.width.Order.TheVariants.{Big};
 ghost use Rattle.type_graph.specs.Words.{word};
-ghost use Rattle.type_graph.specs.Atoms.{IsText};
+ghost use Rattle.type_graph.specs.Value.{IsText};
 
 use crate::numbers::{push_count, read_count};
 use std::alloc::AllocError;

@@ -10,8 +10,9 @@ use Rattle.type_graph.specs.declared.width.Width.{Width}
 use Rattle.type_graph.specs.declared.width.Width.TheVariants.{One, Two, Four, Eight}
 use Rattle.type_graph.specs.declared.node.Node.{Node}
 use Rattle.type_graph.specs.declared.node.Node.TheVariants as nodes
-use Rattle.type_graph.specs.Words.{Way}
-use Rattle.type_graph.specs.Relation.{Relation, Then, Chain, Anywhere, Same}
+use Rattle.type_graph.specs.Words.{Format}
+use Rattle.type_graph.specs.Relation.{Relation, Then, Chain}
+use Rattle.type_graph.specs.Comparison.{Anywhere, Same}
 use Rattle.type_graph.specs.Atoms.{Gap, Chosen}
 use Rattle.type_graph.specs.Value.{IsNumeric, node_at, number_width, IsNumber, arm_of}
 use Rattle.type_graph.specs.Encoding.{NodeMeans, Means}
@@ -102,14 +103,14 @@ all_both : {A : Type 0} (P Q V : A → Type 0) (xs : List A) → ((x : A) → P 
 all_both P Q V [] f a b = tt
 all_both P Q V (x ∷ xs) f a b = (f x a.0 b.0, all_both P Q V xs f a.1 b.1)
 
-module _ (graph : List Node) (way : Way) (good : HasPlainProgram graph) where
+module _ (graph : List Node) (format : Format) (good : HasPlainProgram graph) where
   -- the routine of a number is right at a depth
   abbrev Right : ℕ → ℕ → Type 0
-  Right depth number = Same Anywhere (Runs (plain_program graph) way depth number) (Means graph way depth number)
+  Right depth number = Same Anywhere (Runs (plain_program graph) format depth number) (Means graph format depth number)
 
   -- what an instruction of the program does
   abbrev Done : ℕ → Instr → Relation
-  Done depth = Does (Runs (plain_program graph) way) way depth
+  Done depth = Does (Runs (plain_program graph) format) format depth
 
   -- the arrays of the graph have an element, also past its end, where no array stands
   filled : (number : ℕ) → IsFilled (node_at graph number)
@@ -120,20 +121,20 @@ module _ (graph : List Node) (way : Way) (good : HasPlainProgram graph) where
       ]
 
   -- code behind an alignment, which one octet has not
-  aligned_does : (depth : ℕ) (w : Width) (code : List Instr) → Same Anywhere (Chain (Done depth) (aligned_to w code)) (Then (Gap way w) (Chain (Done depth) code))
-  aligned_does d One code = same_sym (gap_one_then graph way)
+  aligned_does : (depth : ℕ) (w : Width) (code : List Instr) → Same Anywhere (Chain (Done depth) (aligned_to w code)) (Then (Gap format w) (Chain (Done depth) code))
+  aligned_does d One code = same_sym (gap_one_then graph format)
   aligned_does d Two code = same_refl
   aligned_does d Four code = same_refl
   aligned_does d Eight code = same_refl
 
   -- what a label chooses is right where the arms and the default are
   chosen_does : (depth : ℕ) (arms : List (ℤ × ℕ)) (default : Option ℕ) → AllByRecursion (Right depth) (map (λ arm. arm.1) arms ++ option_to_list default) → (a : ℤ)
-      → Same Anywhere (Chain (Runs (plain_program graph) way depth) (arm_of arms default a)) (Chain (Means graph way depth) (arm_of arms default a))
-  chosen_does d arms default right a = chain_same_anywhere (Runs (plain_program graph) way d) (Means graph way d) (arm_of arms default a) (arm_of_all (Right d) arms default a right)
+      → Same Anywhere (Chain (Runs (plain_program graph) format depth) (arm_of arms default a)) (Chain (Means graph format depth) (arm_of arms default a))
+  chosen_does d arms default right a = chain_same_anywhere (Runs (plain_program graph) format d) (Means graph format d) (arm_of arms default a) (arm_of_all (Right d) arms default a right)
 
   -- a switch chooses as a union of its discriminator's kind
   switch_does : (depth : ℕ) (switch : Node) (arms : List (ℤ × ℕ)) (default : Option ℕ) → IsNumeric switch → AllByRecursion (Right depth) (map (λ arm. arm.1) arms ++ option_to_list default)
-      → Same Anywhere (Done depth (Switch (disc_of switch) arms default)) (Chosen way (number_width switch) (IsNumber switch) (λ a. Chain (Means graph way depth) (arm_of arms default a)))
+      → Same Anywhere (Done depth (Switch (disc_of switch) arms default)) (Chosen format (number_width switch) (IsNumber switch) (λ a. Chain (Means graph format depth) (arm_of arms default a)))
   switch_does d (nodes.Whole w signed) arms default i right = chosen_same (λ a h. chosen_does d arms default right a)
   switch_does d nodes.Octet arms default i right = chosen_same (λ a h. chosen_does d arms default right a)
   switch_does d nodes.Char arms default i right = chosen_same (λ a h. chosen_does d arms default right a)
@@ -143,40 +144,40 @@ module _ (graph : List Node) (way : Way) (good : HasPlainProgram graph) where
 
   -- the code of a node is right where the routines of its parts are, and those of elements with one of the depth less
   code_right : (depth : ℕ) (node : Node) → HasPlainRoutine graph node → (1 ≤ depth → (m : ℕ) → m < length graph → Right (depth - 1) m) → AllByRecursion (Right depth) (held_by node)
-      → Same Anywhere (Chain (Done depth) (plain_code graph node)) (NodeMeans graph way depth node)
+      → Same Anywhere (Chain (Done depth) (plain_code graph node)) (NodeMeans graph format depth node)
   code_right d (nodes.Whole w signed) plain deep held =
-      same_trans (then_same_anywhere same_refl (same_trans then_nothing many_one)) (same_sym (whole_means graph way d w signed))
+      same_trans (then_same_anywhere same_refl (same_trans then_nothing many_one)) (same_sym (whole_means graph format d w signed))
   code_right d nodes.Octet plain deep held =
-      same_trans then_nothing (same_trans (octet_run_one (omega arith)) (same_sym (octet_means graph way d)))
+      same_trans then_nothing (same_trans (octet_run_one (omega arith)) (same_sym (octet_means graph format d)))
   code_right d nodes.Char plain deep held =
-      same_trans then_nothing (same_trans (octet_run_one (omega arith)) (same_sym (char_means graph way d)))
+      same_trans then_nothing (same_trans (octet_run_one (omega arith)) (same_sym (char_means graph format d)))
   code_right d nodes.Boolean plain deep held =
-      same_trans then_nothing (same_trans (octet_run_one (omega arith)) (same_sym (boolean_means graph way d)))
+      same_trans then_nothing (same_trans (octet_run_one (omega arith)) (same_sym (boolean_means graph format d)))
   code_right d (nodes.Enum n) plain deep held =
-      same_trans (then_same_anywhere same_refl then_nothing) (same_sym (enum_means graph way d n))
+      same_trans (then_same_anywhere same_refl then_nothing) (same_sym (enum_means graph format d n))
   code_right d (nodes.Text bound) plain deep held =
-      same_trans (then_same_anywhere same_refl then_nothing) (same_sym (text_means graph way d bound))
+      same_trans (then_same_anywhere same_refl then_nothing) (same_sym (text_means graph format d bound))
   code_right d (nodes.Seq elem bound) plain deep held =
       let lead = lead_within 64 graph elem in
       same_trans (then_same_anywhere same_refl (same_trans then_nothing (counted_same_deep (λ h n.
-      same_trans (first_same way lead n (many_same_anywhere n (deep h elem plain))) (first_leads n (lead_leads graph way (d - 1) filled 64 elem (good.shallow elem plain)))))))
-      (same_sym (seq_means graph way d elem bound))
+      same_trans (first_same format lead n (many_same_anywhere n (deep h elem plain))) (first_leads n (lead_leads graph format (d - 1) filled 64 elem (good.shallow elem plain)))))))
+      (same_sym (seq_means graph format d elem bound))
   code_right d (nodes.Array elem n) plain deep held =
-      same_trans then_nothing (same_trans (many_same_anywhere n held.0) (same_sym (array_means graph way d elem n)))
+      same_trans then_nothing (same_trans (many_same_anywhere n held.0) (same_sym (array_means graph format d elem n)))
   code_right d (nodes.Struct members) plain deep held =
-      same_trans (chain-map (Done d) Call members) (same_trans (chain_same_anywhere (Runs (plain_program graph) way d) (Means graph way d) members held) (same_sym (struct_means graph way d members)))
+      same_trans (chain-map (Done d) Call members) (same_trans (chain_same_anywhere (Runs (plain_program graph) format d) (Means graph format d) members held) (same_sym (struct_means graph format d members)))
   code_right d (nodes.Frame members) plain deep held =
-      same_trans (chain-map (Done d) Call members) (same_trans (chain_same_anywhere (Runs (plain_program graph) way d) (Means graph way d) members held) (same_sym (frame_means graph way d members)))
+      same_trans (chain-map (Done d) Call members) (same_trans (chain_same_anywhere (Runs (plain_program graph) format d) (Means graph format d) members held) (same_sym (frame_means graph format d members)))
   code_right d (nodes.Union switch arms default) plain deep held =
       let node = node_at graph switch in
       same_trans (aligned_does d (number_width node) (Switch (disc_of node) arms default ∷ []))
       (same_trans (then_same_anywhere same_refl (same_trans then_nothing (switch_does d node arms default plain.0 held)))
-      (same_sym (union_means graph way d switch arms default)))
+      (same_sym (union_means graph format d switch arms default)))
 
   -- a routine is right where the code of its node is
-  runs_right : (depth number : ℕ) → number < length graph → Same Anywhere (Chain (Done depth) (plain_code graph (node_at graph number))) (Means graph way depth number) → Right depth number
+  runs_right : (depth number : ℕ) → number < length graph → Same Anywhere (Chain (Done depth) (plain_code graph (node_at graph number))) (Means graph format depth number) → Right depth number
   runs_right d n h right =
-      same_trans (runs_opened (plain_program graph) way d n) (subst (λ code. Same Anywhere (Chain (Done d) code) (Means graph way d n)) (sym (code_at-plain_program graph n h)) right)
+      same_trans (runs_opened (plain_program graph) format d n) (subst (λ code. Same Anywhere (Chain (Done d) code) (Means graph format d n)) (sym (code_at-plain_program graph n h)) right)
 
   -- at one depth, level by level
   right_within : (depth levels number : ℕ) → (1 ≤ depth → (m : ℕ) → m < length graph → Right (depth - 1) m) → number < length graph → IsShallow levels graph number → Right depth number
@@ -189,7 +190,7 @@ module _ (graph : List Node) (way : Way) (good : HasPlainProgram graph) where
       runs_right d n h (code_right d node plain deep held)
 
   -- what the routine of a node relates is what the node means
-  pub plain_right : (depth number : ℕ) → number < length graph → Same Anywhere (Runs (plain_program graph) way depth number) (Means graph way depth number)
+  pub plain_right : (depth number : ℕ) → number < length graph → Same Anywhere (Runs (plain_program graph) format depth number) (Means graph format depth number)
   plain_right zero n h = right_within zero 64 n (λ deep m r. absurd (omega arith)) h (good.shallow n h)
   plain_right (suc d) n h =
       let less : d ≡ suc d - 1 = omega arith in

@@ -20,8 +20,8 @@ use Rattle.marshal_program.proofs.PlainPlaces.{length-plain_program}
 plain_is_accepted : (graph : List Node) → IsGraph graph → IsAccepted (record { graph = graph; program = plain_program graph })
 plain_is_accepted graph rules = record {
   right = record {
-    same = λ way node p tape octets lt.
-        let same = plain_right graph way (plain_graph graph rules) 64 node lt in
+    same = λ format node p tape octets lt.
+        let same = plain_right graph format (plain_graph graph rules) 64 node lt in
         (same.to p tape octets tt, same.from p tape octets tt);
   };
   served = le_of_eq (sym (length-plain_program graph));

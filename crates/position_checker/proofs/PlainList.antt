@@ -11,7 +11,7 @@ use Rattle.type_graph.specs.Value.{node_at}
 use Rattle.type_graph.specs.GraphRules.{IsGraph, IsShallow, held_by}
 use Rattle.type_graph.specs.Walks.{above, height_within}
 use Rattle.type_graph.proofs.Held.{held_within}
-use Rattle.type_graph.proofs.Heights.{above_same, height_steady}
+use Rattle.type_graph.proofs.HeightLaws.{above_same, height_steady}
 use Rattle.marshal_program.specs.declared.instr.Instr.{Instr}
 use Rattle.marshal_program.specs.declared.instr.Routine.{Routine}
 use Rattle.marshal_program.specs.ProgramRules.{IsProgram}

@@ -5,7 +5,7 @@ use Rattle.type_graph.specs.declared.node.Node.{Node}
 use Rattle.type_graph.specs.Value.{node_at}
 use Rattle.type_graph.specs.GraphRules.{held_by, IsShallow}
 use Rattle.type_graph.specs.Walks.{above, height_within}
-use Rattle.type_graph.proofs.Heights.{above_same}
+use Rattle.type_graph.proofs.HeightLaws.{above_same}
 
 -- what follows of each from two facts
 pub both : (P Q R : ℕ → Type 0) (numbers : List ℕ) → ((n : ℕ) → P n → Q n → R n) → AllByRecursion P numbers → AllByRecursion Q numbers → AllByRecursion R numbers

@@ -4,8 +4,8 @@ use Rattle.type_graph.specs.declared.width.Width.{Width}
 use Rattle.type_graph.specs.declared.width.Width.TheVariants.{Four}
 use Rattle.type_graph.specs.declared.node.Node.{Node}
 use Rattle.type_graph.specs.declared.node.Node.TheVariants.{Seq, Array, Struct, Union, Frame}
-use Rattle.type_graph.specs.Words.{Way}
-use Rattle.type_graph.specs.Relation.{Moves}
+use Rattle.type_graph.specs.Words.{Format}
+use Rattle.type_graph.specs.Comparison.{Moves}
 use Rattle.type_graph.specs.Value.{Tree, Number, Bytes, Items, Choice, Trees, NoTree, AndTree, count, node_at, number_width, arm_of}
 use Rattle.type_graph.specs.Encoding.{Encoding, Joined, Aligned, Encodes, EncodeAll, NodeMeans, Means}
 use Rattle.type_graph.proofs.WordLaws.{pad_moved}
@@ -25,8 +25,8 @@ joined_stays A B a b p q x e r = record {
 }
 
 -- a gap depends on the position modulo 8 alone
-aligned_stays : (way : Way) (w : Width) (n : ℤ) → Stays (Aligned way w n)
-aligned_stays way w n p q x e r = record {
+aligned_stays : (format : Format) (w : Width) (n : ℤ) → Stays (Aligned format w n)
+aligned_stays format w n p q x e r = record {
   octets1 = r.octets1;
   octets2 = r.octets2;
   octets_is = r.octets_is;
@@ -36,41 +36,41 @@ aligned_stays way w n p q x e r = record {
 
 mutual
   -- a value's octets
-  encodes_stays : (way : Way) (graph : List Node) (node : Node) (value : Tree) → Stays (Encodes way graph node value)
-  encodes_stays way graph node (Number n) p q x e r = aligned_stays way (number_width node) n p q x e r
-  encodes_stays way graph node (Bytes text) p q x e r =
-      joined_stays (Aligned way Four (pos (suc (length text)))) _ (aligned_stays way Four (pos (suc (length text)))) (λ p q x e r. r) p q x e r
-  encodes_stays way graph (Seq elem bound) (Items values) p q x e r =
-      joined_stays (Aligned way Four (pos (count values))) (EncodeAll way graph (replicate (count values) elem) values) (aligned_stays way Four (pos (count values))) (λ p q x e r. encode_all_stays way graph (replicate (count values) elem) values p q x e r) p q x e r
-  encodes_stays way graph (Array elem n) (Items values) p q x e r = encode_all_stays way graph (replicate n elem) values p q x e r
-  encodes_stays way graph (Struct members) (Items values) p q x e r = encode_all_stays way graph members values p q x e r
-  encodes_stays way graph (Frame members) (Items values) p q x e r = encode_all_stays way graph members values p q x e r
-  encodes_stays way graph (Union switch arms default) (Choice a values) p q x e r =
-      joined_stays (Aligned way (number_width (node_at graph switch)) a) (EncodeAll way graph (arm_of arms default a) values) (aligned_stays way (number_width (node_at graph switch)) a) (λ p q x e r. encode_all_stays way graph (arm_of arms default a) values p q x e r) p q x e r
-  encodes_stays way graph node value p q x e r = absurd r
+  encodes_stays : (format : Format) (graph : List Node) (node : Node) (value : Tree) → Stays (Encodes format graph node value)
+  encodes_stays format graph node (Number n) p q x e r = aligned_stays format (number_width node) n p q x e r
+  encodes_stays format graph node (Bytes text) p q x e r =
+      joined_stays (Aligned format Four (pos (suc (length text)))) _ (aligned_stays format Four (pos (suc (length text)))) (λ p q x e r. r) p q x e r
+  encodes_stays format graph (Seq elem bound) (Items values) p q x e r =
+      joined_stays (Aligned format Four (pos (count values))) (EncodeAll format graph (replicate (count values) elem) values) (aligned_stays format Four (pos (count values))) (λ p q x e r. encode_all_stays format graph (replicate (count values) elem) values p q x e r) p q x e r
+  encodes_stays format graph (Array elem n) (Items values) p q x e r = encode_all_stays format graph (replicate n elem) values p q x e r
+  encodes_stays format graph (Struct members) (Items values) p q x e r = encode_all_stays format graph members values p q x e r
+  encodes_stays format graph (Frame members) (Items values) p q x e r = encode_all_stays format graph members values p q x e r
+  encodes_stays format graph (Union switch arms default) (Choice a values) p q x e r =
+      joined_stays (Aligned format (number_width (node_at graph switch)) a) (EncodeAll format graph (arm_of arms default a) values) (aligned_stays format (number_width (node_at graph switch)) a) (λ p q x e r. encode_all_stays format graph (arm_of arms default a) values p q x e r) p q x e r
+  encodes_stays format graph node value p q x e r = absurd r
 
   -- the octets of several values
-  encode_all_stays : (way : Way) (graph : List Node) (numbers : List ℕ) (values : Trees) → Stays (EncodeAll way graph numbers values)
-  encode_all_stays way graph [] NoTree p q x e r = r
-  encode_all_stays way graph (number ∷ numbers) (AndTree value values) p q x e r =
-      joined_stays (Encodes way graph (node_at graph number) value) (EncodeAll way graph numbers values) (λ p q x e r. encodes_stays way graph (node_at graph number) value p q x e r) (λ p q x e r. encode_all_stays way graph numbers values p q x e r) p q x e r
-  encode_all_stays way graph numbers values p q x e r = absurd r
+  encode_all_stays : (format : Format) (graph : List Node) (numbers : List ℕ) (values : Trees) → Stays (EncodeAll format graph numbers values)
+  encode_all_stays format graph [] NoTree p q x e r = r
+  encode_all_stays format graph (number ∷ numbers) (AndTree value values) p q x e r =
+      joined_stays (Encodes format graph (node_at graph number) value) (EncodeAll format graph numbers values) (λ p q x e r. encodes_stays format graph (node_at graph number) value p q x e r) (λ p q x e r. encode_all_stays format graph numbers values p q x e r) p q x e r
+  encode_all_stays format graph numbers values p q x e r = absurd r
 
 -- the octets of a node's values depend on the position modulo 8 alone
-pub node_means_moves : {graph : List Node} {way : Way} {depth : ℕ} {node : Node} → Moves (NodeMeans graph way depth node) (NodeMeans graph way depth node)
-node_means_moves {graph} {way} {depth} {node} = record {
+pub node_means_moves : {graph : List Node} {format : Format} {depth : ℕ} {node : Node} → Moves (NodeMeans graph format depth node) (NodeMeans graph format depth node)
+node_means_moves {graph} {format} {depth} {node} = record {
   at = λ p q t x e r. record {
     value = r.value;
     fits = r.fits;
     tape_is = r.tape_is;
-    encodes = encodes_stays way graph node r.value p q x e r.encodes;
+    encodes = encodes_stays format graph node r.value p q x e r.encodes;
   };
 }
 
 -- and so do those of the node of a number
-pub means_moves : (graph : List Node) (way : Way) (depth number : ℕ) → Moves (Means graph way depth number) (Means graph way depth number)
-means_moves graph way depth number = node_means_moves
+pub means_moves : (graph : List Node) (format : Format) (depth number : ℕ) → Moves (Means graph format depth number) (Means graph format depth number)
+means_moves graph format depth number = node_means_moves
 
 -- at 8 more they are the same
-pub means_at_eight : (graph : List Node) (way : Way) (depth number p : ℕ) (tape octets : List ℕ) → Means graph way depth number p tape octets → Means graph way depth number (p + 8) tape octets
-means_at_eight graph way depth number p t x r = (means_moves graph way depth number).at p (p + 8) t x (omega arith) r
+pub means_at_eight : (graph : List Node) (format : Format) (depth number p : ℕ) (tape octets : List ℕ) → Means graph format depth number p tape octets → Means graph format depth number (p + 8) tape octets
+means_at_eight graph format depth number p t x r = (means_moves graph format depth number).at p (p + 8) t x (omega arith) r

@@ -9,8 +9,7 @@ use Rattle.type_graph.specs.declared.width.Order.TheVariants.{Big}
 use Rattle.type_graph.specs.declared.node.Node.{Node}
 use Rattle.type_graph.specs.declared.node.Node.TheVariants.{Whole, Octet, Char, Boolean, Enum, Text, Seq, Array, Struct, Union, Frame}
 use Rattle.type_graph.specs.Words.{word}
-use Rattle.type_graph.specs.Atoms.{IsBelow}
-use Rattle.type_graph.specs.Value.{IsNumeric, Tree, Number, Bytes, Items, Choice, Trees, NoTree, AndTree, count, node_at, IsNumber, number_width, arm_of, Fits, FitAll, tape_of, tapes_of}
+use Rattle.type_graph.specs.Value.{IsNumeric, Tree, Number, Bytes, Items, Choice, Trees, NoTree, AndTree, count, node_at, IsNumber, number_width, arm_of, Fits, FitAll, tape_of, tapes_of, IsBelow}
 use Rattle.type_graph.specs.GraphRules.{IsNode, IsGraph}
 use Rattle.type_graph.proofs.Openings.{numeric_alone}
 use Rattle.type_graph.proofs.WordLaws.{length-word, below_word_same, signed_word_same, plain_word_same}

@@ -5,10 +5,11 @@ use Rattle.type_graph.specs.declared.width.Width.TheVariants.{One, Four}
 use Rattle.type_graph.specs.declared.width.Order.TheVariants.{Big}
 use Rattle.type_graph.specs.declared.node.Node.{Node}
 use Rattle.type_graph.specs.declared.node.Node.TheVariants.{Whole, Octet, Char, Boolean, Enum, Text, Seq, Array, Struct, Union, Frame}
-use Rattle.type_graph.specs.Words.{Way, word}
-use Rattle.type_graph.specs.Relation.{Relation, Then, Many, Chain, Positions, Anywhere, Same}
-use Rattle.type_graph.specs.Atoms.{Gap, HeldWord, WordBelow, AnyWord, IsCount, TextRun, Counted, Chosen}
-use Rattle.type_graph.specs.Value.{IsNumeric, Tree, Number, Bytes, Items, Choice, Trees, NoTree, AndTree, count, node_at, IsNumber, number_width, arm_of, Fits, FitAll, tape_of, tapes_of}
+use Rattle.type_graph.specs.Words.{Format, word}
+use Rattle.type_graph.specs.Relation.{Relation, Then, Many, Chain}
+use Rattle.type_graph.specs.Comparison.{Positions, Anywhere, Same}
+use Rattle.type_graph.specs.Atoms.{Gap, HeldWord, WordBelow, AnyWord, TextRun, Counted, Chosen}
+use Rattle.type_graph.specs.Value.{IsNumeric, Tree, Number, Bytes, Items, Choice, Trees, NoTree, AndTree, count, node_at, IsNumber, number_width, arm_of, Fits, FitAll, tape_of, tapes_of, IsCount}
 use Rattle.type_graph.specs.Encoding.{Encodes, EncodeAll, NodeMeans, Means}
 use Rattle.type_graph.proofs.RelationLaws.{end_of_cut, same_refl, same_trans, same_at, then_same_anywhere, nothing_then, chain_many}
 use Rattle.type_graph.proofs.AtomLaws.{no_gap_one, signed_word, counted_same, chosen_same}
@@ -19,11 +20,11 @@ IsANumber (Number n) = Unit {0}
 IsANumber value = ⊥
 
 -- Tape and octets are those of one value for each of the nodes.
-pub record EachMeans (graph : List Node) (way : Way) (depth : ℕ) (numbers : List ℕ) (p : ℕ) (tape octets : List ℕ) : Type 0 where
+pub record EachMeans (graph : List Node) (format : Format) (depth : ℕ) (numbers : List ℕ) (p : ℕ) (tape octets : List ℕ) : Type 0 where
   pub values : Trees
   pub fits : FitAll graph numbers values depth
   pub tape_is : tape ≡ tapes_of graph numbers values
-  pub encodes : EncodeAll way graph numbers values p octets
+  pub encodes : EncodeAll format graph numbers values p octets
 
 -- all values of such a node are numbers
 pub numeric_alone : (graph : List Node) (node : Node) (value : Tree) (depth : ℕ) → IsNumeric node → Fits graph node value depth → IsANumber value
@@ -36,12 +37,12 @@ numeric_alone graph (Union switch arms default) v d i f = absurd i
 numeric_alone graph (Frame members) v d i f = absurd i
 numeric_alone graph node v d i f = absurd f
 
-module _ (graph : List Node) (way : Way) where
+module _ (graph : List Node) (format : Format) where
   -- ---- numbers
 
   -- a number taken apart
-  number_to : (depth : ℕ) (node : Node) (value : Tree) (p : ℕ) (tape octets : List ℕ) → IsNumeric node → Fits graph node value depth → tape ≡ tape_of graph node value → Encodes way graph node value p octets
-      → Then (Gap way (number_width node)) (HeldWord way (number_width node) (IsNumber node)) p tape octets
+  number_to : (depth : ℕ) (node : Node) (value : Tree) (p : ℕ) (tape octets : List ℕ) → IsNumeric node → Fits graph node value depth → tape ≡ tape_of graph node value → Encodes format graph node value p octets
+      → Then (Gap format (number_width node)) (HeldWord format (number_width node) (IsNumber node)) p tape octets
   number_to d node (Number n) p t x i f e r = record {
     tape1 = [];
     tape2 = t;
@@ -55,7 +56,7 @@ module _ (graph : List Node) (way : Way) where
   number_to d node v p t x i f e r = absurd (numeric_alone graph node v d i f)
 
   -- the gap to the width of a number, and its word
-  pub number_means : {S : Positions} (depth : ℕ) (node : Node) → IsNumeric node → Same S (NodeMeans graph way depth node) (Then (Gap way (number_width node)) (HeldWord way (number_width node) (IsNumber node)))
+  pub number_means : {S : Positions} (depth : ℕ) (node : Node) → IsNumeric node → Same S (NodeMeans graph format depth node) (Then (Gap format (number_width node)) (HeldWord format (number_width node) (IsNumber node)))
   number_means d node i = record {
     to = λ p t x s r. number_to d node r.value p t x i r.fits r.tape_is r.encodes;
     from = λ p t x s r. record {
@@ -67,47 +68,47 @@ module _ (graph : List Node) (way : Way) where
   }
 
   -- an integer: the gap, any word
-  pub whole_means : {S : Positions} (depth : ℕ) (w : Width) (signed : Bool) → Same S (NodeMeans graph way depth (Whole w signed)) (Then (Gap way w) (AnyWord way w))
+  pub whole_means : {S : Positions} (depth : ℕ) (w : Width) (signed : Bool) → Same S (NodeMeans graph format depth (Whole w signed)) (Then (Gap format w) (AnyWord format w))
   whole_means d w true = same_at (same_trans (number_means d (Whole w true) tt) (then_same_anywhere same_refl (signed_word w)))
   whole_means d w false = number_means d (Whole w false) tt
 
   -- an octet behind the gap to one, which is empty
-  pub octet_means_gap : {S : Positions} (depth : ℕ) → Same S (NodeMeans graph way depth Octet) (Then (Gap way One) (AnyWord way One))
+  pub octet_means_gap : {S : Positions} (depth : ℕ) → Same S (NodeMeans graph format depth Octet) (Then (Gap format One) (AnyWord format One))
   octet_means_gap d = number_means d Octet tt
 
   -- a character behind it
-  pub char_means_gap : {S : Positions} (depth : ℕ) → Same S (NodeMeans graph way depth Char) (Then (Gap way One) (AnyWord way One))
+  pub char_means_gap : {S : Positions} (depth : ℕ) → Same S (NodeMeans graph format depth Char) (Then (Gap format One) (AnyWord format One))
   char_means_gap d = number_means d Char tt
 
   -- a boolean behind it
-  pub boolean_means_gap : {S : Positions} (depth : ℕ) → Same S (NodeMeans graph way depth Boolean) (Then (Gap way One) (WordBelow way One 2))
+  pub boolean_means_gap : {S : Positions} (depth : ℕ) → Same S (NodeMeans graph format depth Boolean) (Then (Gap format One) (WordBelow format One 2))
   boolean_means_gap d = number_means d Boolean tt
 
   -- what stands behind the gap to one
-  pub gap_one_then : {S : Positions} {R : Relation} → Same S (Then (Gap way One) R) R
+  pub gap_one_then : {S : Positions} {R : Relation} → Same S (Then (Gap format One) R) R
   gap_one_then = same_at (same_trans (then_same_anywhere no_gap_one same_refl) nothing_then)
 
   -- an octet: any octet
-  pub octet_means : {S : Positions} (depth : ℕ) → Same S (NodeMeans graph way depth Octet) (AnyWord way One)
+  pub octet_means : {S : Positions} (depth : ℕ) → Same S (NodeMeans graph format depth Octet) (AnyWord format One)
   octet_means d = same_trans (octet_means_gap d) gap_one_then
 
   -- a character: any octet
-  pub char_means : {S : Positions} (depth : ℕ) → Same S (NodeMeans graph way depth Char) (AnyWord way One)
+  pub char_means : {S : Positions} (depth : ℕ) → Same S (NodeMeans graph format depth Char) (AnyWord format One)
   char_means d = same_trans (char_means_gap d) gap_one_then
 
   -- a boolean: 0 or 1
-  pub boolean_means : {S : Positions} (depth : ℕ) → Same S (NodeMeans graph way depth Boolean) (WordBelow way One 2)
+  pub boolean_means : {S : Positions} (depth : ℕ) → Same S (NodeMeans graph format depth Boolean) (WordBelow format One 2)
   boolean_means d = same_trans (boolean_means_gap d) gap_one_then
 
   -- an enumerator: the gap to 4, a word below their number
-  pub enum_means : {S : Positions} (depth n : ℕ) → Same S (NodeMeans graph way depth (Enum n)) (Then (Gap way Four) (WordBelow way Four n))
+  pub enum_means : {S : Positions} (depth n : ℕ) → Same S (NodeMeans graph format depth (Enum n)) (Then (Gap format Four) (WordBelow format Four n))
   enum_means d n = number_means d (Enum n) tt
 
   -- ---- strings
 
   -- a string taken apart
-  text_to : (depth bound : ℕ) (value : Tree) (p : ℕ) (tape octets : List ℕ) → Fits graph (Text bound) value depth → tape ≡ tape_of graph (Text bound) value → Encodes way graph (Text bound) value p octets
-      → Then (Gap way Four) (TextRun way bound) p tape octets
+  text_to : (depth bound : ℕ) (value : Tree) (p : ℕ) (tape octets : List ℕ) → Fits graph (Text bound) value depth → tape ≡ tape_of graph (Text bound) value → Encodes format graph (Text bound) value p octets
+      → Then (Gap format Four) (TextRun format bound) p tape octets
   text_to d bound (Bytes text) p t x f e r = record {
     tape1 = [];
     tape2 = t;
@@ -120,18 +121,18 @@ module _ (graph : List Node) (way : Way) where
       text = text;
       is_text = f;
       tape_is = e;
-      octets_is = ap₂ (λ a b. a ++ b) r.first.second r.second ∙ sym (append_assoc (word way.order Four (pos (suc (length text)))) text (0 ∷ []));
+      octets_is = ap₂ (λ a b. a ++ b) r.first.second r.second ∙ sym (append_assoc (word format.order Four (pos (suc (length text)))) text (0 ∷ []));
     };
   }
   text_to d bound v p t x f e r = absurd f
 
   -- a string: the gap to 4, its length, octets and zero
-  pub text_means : {S : Positions} (depth bound : ℕ) → Same S (NodeMeans graph way depth (Text bound)) (Then (Gap way Four) (TextRun way bound))
+  pub text_means : {S : Positions} (depth bound : ℕ) → Same S (NodeMeans graph format depth (Text bound)) (Then (Gap format Four) (TextRun format bound))
   text_means d bound = record {
     to = λ p t x s r. text_to d bound r.value p t x r.fits r.tape_is r.encodes;
     from = λ p t x s r.
         let text = r.second.text in
-        let size = word way.order Four (pos (suc (length text))) in
+        let size = word format.order Four (pos (suc (length text))) in
         record {
           value = Bytes text;
           fits = r.second.is_text;
@@ -149,8 +150,8 @@ module _ (graph : List Node) (way : Way) where
   -- ---- one for each of some nodes
 
   -- values one behind the other are a chain
-  each_to : (depth : ℕ) (numbers : List ℕ) (values : Trees) (p : ℕ) (tape octets : List ℕ) → FitAll graph numbers values depth → tape ≡ tapes_of graph numbers values → EncodeAll way graph numbers values p octets
-      → Chain (Means graph way depth) numbers p tape octets
+  each_to : (depth : ℕ) (numbers : List ℕ) (values : Trees) (p : ℕ) (tape octets : List ℕ) → FitAll graph numbers values depth → tape ≡ tapes_of graph numbers values → EncodeAll format graph numbers values p octets
+      → Chain (Means graph format depth) numbers p tape octets
   each_to d [] NoTree p t x f e r = record { no_tape = e; no_octets = r }
   each_to d (number ∷ numbers) (AndTree value values) p t x f e r = record {
     tape1 = tape_of graph (node_at graph number) value;
@@ -165,7 +166,7 @@ module _ (graph : List Node) (way : Way) where
   each_to d numbers values p t x f e r = absurd f
 
   -- a chain is values one behind the other
-  each_from : (depth : ℕ) (numbers : List ℕ) (p : ℕ) (tape octets : List ℕ) → Chain (Means graph way depth) numbers p tape octets → EachMeans graph way depth numbers p tape octets
+  each_from : (depth : ℕ) (numbers : List ℕ) (p : ℕ) (tape octets : List ℕ) → Chain (Means graph format depth) numbers p tape octets → EachMeans graph format depth numbers p tape octets
   each_from d [] p t x r = record { values = NoTree; fits = tt; tape_is = r.no_tape; encodes = r.no_octets }
   each_from d (number ∷ numbers) p t x r =
       let more = each_from d numbers (p + length r.octets1) r.tape2 r.octets2 r.second in
@@ -177,61 +178,61 @@ module _ (graph : List Node) (way : Way) where
       }
 
   -- a value for each is the chain of what they mean
-  pub each_means : {S : Positions} (depth : ℕ) (numbers : List ℕ) → Same S (EachMeans graph way depth numbers) (Chain (Means graph way depth) numbers)
+  pub each_means : {S : Positions} (depth : ℕ) (numbers : List ℕ) → Same S (EachMeans graph format depth numbers) (Chain (Means graph format depth) numbers)
   each_means d numbers = record {
     to = λ p t x s r. each_to d numbers r.values p t x r.fits r.tape_is r.encodes;
     from = λ p t x s r. each_from d numbers p t x r;
   }
 
   -- an array's values
-  array_to : (depth elem n : ℕ) (value : Tree) (p : ℕ) (tape octets : List ℕ) → Fits graph (Array elem n) value depth → tape ≡ tape_of graph (Array elem n) value → Encodes way graph (Array elem n) value p octets
-      → EachMeans graph way depth (replicate n elem) p tape octets
+  array_to : (depth elem n : ℕ) (value : Tree) (p : ℕ) (tape octets : List ℕ) → Fits graph (Array elem n) value depth → tape ≡ tape_of graph (Array elem n) value → Encodes format graph (Array elem n) value p octets
+      → EachMeans graph format depth (replicate n elem) p tape octets
   array_to d elem n (Items values) p t x f e r = record { values = values; fits = f; tape_is = e; encodes = r }
   array_to d elem n v p t x f e r = absurd f
 
   -- an array is a value for each element
-  array_each : {S : Positions} (depth elem n : ℕ) → Same S (NodeMeans graph way depth (Array elem n)) (EachMeans graph way depth (replicate n elem))
+  array_each : {S : Positions} (depth elem n : ℕ) → Same S (NodeMeans graph format depth (Array elem n)) (EachMeans graph format depth (replicate n elem))
   array_each d elem n = record {
     to = λ p t x s r. array_to d elem n r.value p t x r.fits r.tape_is r.encodes;
     from = λ p t x s r. record { value = Items r.values; fits = r.fits; tape_is = r.tape_is; encodes = r.encodes };
   }
 
   -- an array: its elements
-  pub array_means : {S : Positions} (depth elem n : ℕ) → Same S (NodeMeans graph way depth (Array elem n)) (Many n (Means graph way depth elem))
-  array_means d elem n = same_trans (array_each d elem n) (same_trans (each_means d (replicate n elem)) (chain_many (Means graph way d) n elem))
+  pub array_means : {S : Positions} (depth elem n : ℕ) → Same S (NodeMeans graph format depth (Array elem n)) (Many n (Means graph format depth elem))
+  array_means d elem n = same_trans (array_each d elem n) (same_trans (each_means d (replicate n elem)) (chain_many (Means graph format d) n elem))
 
   -- a structure's values
-  struct_to : (depth : ℕ) (members : List ℕ) (value : Tree) (p : ℕ) (tape octets : List ℕ) → Fits graph (Struct members) value depth → tape ≡ tape_of graph (Struct members) value → Encodes way graph (Struct members) value p octets
-      → EachMeans graph way depth members p tape octets
+  struct_to : (depth : ℕ) (members : List ℕ) (value : Tree) (p : ℕ) (tape octets : List ℕ) → Fits graph (Struct members) value depth → tape ≡ tape_of graph (Struct members) value → Encodes format graph (Struct members) value p octets
+      → EachMeans graph format depth members p tape octets
   struct_to d members (Items values) p t x f e r = record { values = values; fits = f; tape_is = e; encodes = r }
   struct_to d members v p t x f e r = absurd f
 
   -- a structure is a value for each member
-  struct_each : {S : Positions} (depth : ℕ) (members : List ℕ) → Same S (NodeMeans graph way depth (Struct members)) (EachMeans graph way depth members)
+  struct_each : {S : Positions} (depth : ℕ) (members : List ℕ) → Same S (NodeMeans graph format depth (Struct members)) (EachMeans graph format depth members)
   struct_each d members = record {
     to = λ p t x s r. struct_to d members r.value p t x r.fits r.tape_is r.encodes;
     from = λ p t x s r. record { value = Items r.values; fits = r.fits; tape_is = r.tape_is; encodes = r.encodes };
   }
 
   -- a structure: its members
-  pub struct_means : {S : Positions} (depth : ℕ) (members : List ℕ) → Same S (NodeMeans graph way depth (Struct members)) (Chain (Means graph way depth) members)
+  pub struct_means : {S : Positions} (depth : ℕ) (members : List ℕ) → Same S (NodeMeans graph format depth (Struct members)) (Chain (Means graph format depth) members)
   struct_means d members = same_trans (struct_each d members) (each_means d members)
 
   -- a frame's values
-  frame_to : (depth : ℕ) (members : List ℕ) (value : Tree) (p : ℕ) (tape octets : List ℕ) → Fits graph (Frame members) value depth → tape ≡ tape_of graph (Frame members) value → Encodes way graph (Frame members) value p octets
-      → EachMeans graph way depth members p tape octets
+  frame_to : (depth : ℕ) (members : List ℕ) (value : Tree) (p : ℕ) (tape octets : List ℕ) → Fits graph (Frame members) value depth → tape ≡ tape_of graph (Frame members) value → Encodes format graph (Frame members) value p octets
+      → EachMeans graph format depth members p tape octets
   frame_to d members (Items values) p t x f e r = record { values = values; fits = f; tape_is = e; encodes = r }
   frame_to d members v p t x f e r = absurd f
 
   -- a frame is a value for each member
-  frame_each : {S : Positions} (depth : ℕ) (members : List ℕ) → Same S (NodeMeans graph way depth (Frame members)) (EachMeans graph way depth members)
+  frame_each : {S : Positions} (depth : ℕ) (members : List ℕ) → Same S (NodeMeans graph format depth (Frame members)) (EachMeans graph format depth members)
   frame_each d members = record {
     to = λ p t x s r. frame_to d members r.value p t x r.fits r.tape_is r.encodes;
     from = λ p t x s r. record { value = Items r.values; fits = r.fits; tape_is = r.tape_is; encodes = r.encodes };
   }
 
   -- a frame: its members
-  pub frame_means : {S : Positions} (depth : ℕ) (members : List ℕ) → Same S (NodeMeans graph way depth (Frame members)) (Chain (Means graph way depth) members)
+  pub frame_means : {S : Positions} (depth : ℕ) (members : List ℕ) → Same S (NodeMeans graph format depth (Frame members)) (Chain (Means graph format depth) members)
   frame_means d members = same_trans (frame_each d members) (each_means d members)
 
   -- ---- sequences
@@ -243,8 +244,8 @@ module _ (graph : List Node) (way : Way) where
   fit_all_count d elem n values f = absurd f
 
   -- a sequence taken apart
-  seq_to : (depth elem bound : ℕ) (value : Tree) (p : ℕ) (tape octets : List ℕ) → Fits graph (Seq elem bound) value depth → tape ≡ tape_of graph (Seq elem bound) value → Encodes way graph (Seq elem bound) value p octets
-      → Then (Gap way Four) (Counted way depth bound (λ n. EachMeans graph way (depth - 1) (replicate n elem))) p tape octets
+  seq_to : (depth elem bound : ℕ) (value : Tree) (p : ℕ) (tape octets : List ℕ) → Fits graph (Seq elem bound) value depth → tape ≡ tape_of graph (Seq elem bound) value → Encodes format graph (Seq elem bound) value p octets
+      → Then (Gap format Four) (Counted format depth bound (λ n. EachMeans graph format (depth - 1) (replicate n elem))) p tape octets
   seq_to d elem bound (Items values) p t x f e r = record {
     tape1 = [];
     tape2 = t;
@@ -269,7 +270,7 @@ module _ (graph : List Node) (way : Way) where
           values = values;
           fits = f.2;
           tape_is = refl;
-          encodes = subst (λ q. EncodeAll way graph (replicate (count values) elem) values q r.octets2) (end_of_cut p r.octets1 r.first.octets1 r.first.octets2 r.first.octets_is) r.second;
+          encodes = subst (λ q. EncodeAll format graph (replicate (count values) elem) values q r.octets2) (end_of_cut p r.octets1 r.first.octets1 r.first.octets2 r.first.octets_is) r.second;
         };
       };
     };
@@ -277,8 +278,8 @@ module _ (graph : List Node) (way : Way) where
   seq_to d elem bound v p t x f e r = absurd f
 
   -- a sequence put together
-  seq_from : (depth elem bound : ℕ) (p : ℕ) (tape octets : List ℕ) → Then (Gap way Four) (Counted way depth bound (λ n. EachMeans graph way (depth - 1) (replicate n elem))) p tape octets
-      → NodeMeans graph way depth (Seq elem bound) p tape octets
+  seq_from : (depth elem bound : ℕ) (p : ℕ) (tape octets : List ℕ) → Then (Gap format Four) (Counted format depth bound (λ n. EachMeans graph format (depth - 1) (replicate n elem))) p tape octets
+      → NodeMeans graph format depth (Seq elem bound) p tape octets
   seq_from d elem bound p t x r =
       let c = r.second in
       let each = c.parts.second in
@@ -298,28 +299,28 @@ module _ (graph : List Node) (way : Way) where
             octets2 = c.parts.octets1;
             octets_is = refl;
             first = r.first.gap;
-            second = c.parts.first.octets_is ∙ ap (λ m. word way.order Four (pos m)) n;
+            second = c.parts.first.octets_is ∙ ap (λ m. word format.order Four (pos m)) n;
           };
-          second = subst (λ m. EncodeAll way graph (replicate m elem) each.values (p + length gap_and_word) c.parts.octets2) n
-              (subst (λ q. EncodeAll way graph (replicate c.number elem) each.values q c.parts.octets2) (sym (end_of_cut p gap_and_word r.octets1 c.parts.octets1 refl)) each.encodes);
+          second = subst (λ m. EncodeAll format graph (replicate m elem) each.values (p + length gap_and_word) c.parts.octets2) n
+              (subst (λ q. EncodeAll format graph (replicate c.number elem) each.values q c.parts.octets2) (sym (end_of_cut p gap_and_word r.octets1 c.parts.octets1 refl)) each.encodes);
         };
       }
 
   -- a sequence: the gap to 4, the count, and so many elements with one of the depth less
-  pub seq_means : {S : Positions} (depth elem bound : ℕ) → Same S (NodeMeans graph way depth (Seq elem bound)) (Then (Gap way Four) (Counted way depth bound (λ n. Many n (Means graph way (depth - 1) elem))))
+  pub seq_means : {S : Positions} (depth elem bound : ℕ) → Same S (NodeMeans graph format depth (Seq elem bound)) (Then (Gap format Four) (Counted format depth bound (λ n. Many n (Means graph format (depth - 1) elem))))
   seq_means d elem bound =
-      let each : Same Anywhere (NodeMeans graph way d (Seq elem bound)) (Then (Gap way Four) (Counted way d bound (λ n. EachMeans graph way (d - 1) (replicate n elem)))) = record {
+      let each : Same Anywhere (NodeMeans graph format d (Seq elem bound)) (Then (Gap format Four) (Counted format d bound (λ n. EachMeans graph format (d - 1) (replicate n elem)))) = record {
         to = λ p t x s r. seq_to d elem bound r.value p t x r.fits r.tape_is r.encodes;
         from = λ p t x s r. seq_from d elem bound p t x r;
       } in
-      same_at (same_trans each (then_same_anywhere same_refl (counted_same (λ n. same_trans (each_means (d - 1) (replicate n elem)) (chain_many (Means graph way (d - 1)) n elem)))))
+      same_at (same_trans each (then_same_anywhere same_refl (counted_same (λ n. same_trans (each_means (d - 1) (replicate n elem)) (chain_many (Means graph format (d - 1)) n elem)))))
 
   -- ---- unions
 
   -- a union taken apart
   union_to : (depth switch : ℕ) (arms : List (ℤ × ℕ)) (default : Option ℕ) (value : Tree) (p : ℕ) (tape octets : List ℕ) → Fits graph (Union switch arms default) value depth → tape ≡ tape_of graph (Union switch arms default) value
-      → Encodes way graph (Union switch arms default) value p octets
-      → Then (Gap way (number_width (node_at graph switch))) (Chosen way (number_width (node_at graph switch)) (IsNumber (node_at graph switch)) (λ a. EachMeans graph way depth (arm_of arms default a))) p tape octets
+      → Encodes format graph (Union switch arms default) value p octets
+      → Then (Gap format (number_width (node_at graph switch))) (Chosen format (number_width (node_at graph switch)) (IsNumber (node_at graph switch)) (λ a. EachMeans graph format depth (arm_of arms default a))) p tape octets
   union_to d switch arms default (Choice a values) p t x f e r = record {
     tape1 = [];
     tape2 = t;
@@ -343,7 +344,7 @@ module _ (graph : List Node) (way : Way) where
           values = values;
           fits = f.1;
           tape_is = refl;
-          encodes = subst (λ q. EncodeAll way graph (arm_of arms default a) values q r.octets2) (end_of_cut p r.octets1 r.first.octets1 r.first.octets2 r.first.octets_is) r.second;
+          encodes = subst (λ q. EncodeAll format graph (arm_of arms default a) values q r.octets2) (end_of_cut p r.octets1 r.first.octets1 r.first.octets2 r.first.octets_is) r.second;
         };
       };
     };
@@ -352,8 +353,8 @@ module _ (graph : List Node) (way : Way) where
 
   -- a union put together
   union_from : (depth switch : ℕ) (arms : List (ℤ × ℕ)) (default : Option ℕ) (p : ℕ) (tape octets : List ℕ)
-      → Then (Gap way (number_width (node_at graph switch))) (Chosen way (number_width (node_at graph switch)) (IsNumber (node_at graph switch)) (λ a. EachMeans graph way depth (arm_of arms default a))) p tape octets
-      → NodeMeans graph way depth (Union switch arms default) p tape octets
+      → Then (Gap format (number_width (node_at graph switch))) (Chosen format (number_width (node_at graph switch)) (IsNumber (node_at graph switch)) (λ a. EachMeans graph format depth (arm_of arms default a))) p tape octets
+      → NodeMeans graph format depth (Union switch arms default) p tape octets
   union_from d switch arms default p t x r =
       let c = r.second in
       let each = c.parts.second in
@@ -367,15 +368,15 @@ module _ (graph : List Node) (way : Way) where
           octets2 = c.parts.octets2;
           octets_is = r.octets_is ∙ ap (λ l. r.octets1 ++ l) c.parts.octets_is ∙ sym (append_assoc r.octets1 c.parts.octets1 c.parts.octets2);
           first = record { octets1 = r.octets1; octets2 = c.parts.octets1; octets_is = refl; first = r.first.gap; second = c.parts.first.octets_is };
-          second = subst (λ q. EncodeAll way graph (arm_of arms default c.number) each.values q c.parts.octets2) (sym (end_of_cut p gap_and_word r.octets1 c.parts.octets1 refl)) each.encodes;
+          second = subst (λ q. EncodeAll format graph (arm_of arms default c.number) each.values q c.parts.octets2) (sym (end_of_cut p gap_and_word r.octets1 c.parts.octets1 refl)) each.encodes;
         };
       }
 
   -- a union: the gap to its switch's width, the discriminator, and what it chooses
-  pub union_means : {S : Positions} (depth switch : ℕ) (arms : List (ℤ × ℕ)) (default : Option ℕ) → Same S (NodeMeans graph way depth (Union switch arms default))
-      (Then (Gap way (number_width (node_at graph switch))) (Chosen way (number_width (node_at graph switch)) (IsNumber (node_at graph switch)) (λ a. Chain (Means graph way depth) (arm_of arms default a))))
+  pub union_means : {S : Positions} (depth switch : ℕ) (arms : List (ℤ × ℕ)) (default : Option ℕ) → Same S (NodeMeans graph format depth (Union switch arms default))
+      (Then (Gap format (number_width (node_at graph switch))) (Chosen format (number_width (node_at graph switch)) (IsNumber (node_at graph switch)) (λ a. Chain (Means graph format depth) (arm_of arms default a))))
   union_means d switch arms default =
-      let each : Same Anywhere (NodeMeans graph way d (Union switch arms default)) (Then (Gap way (number_width (node_at graph switch))) (Chosen way (number_width (node_at graph switch)) (IsNumber (node_at graph switch)) (λ a. EachMeans graph way d (arm_of arms default a)))) = record {
+      let each : Same Anywhere (NodeMeans graph format d (Union switch arms default)) (Then (Gap format (number_width (node_at graph switch))) (Chosen format (number_width (node_at graph switch)) (IsNumber (node_at graph switch)) (λ a. EachMeans graph format d (arm_of arms default a)))) = record {
         to = λ p t x s r. union_to d switch arms default r.value p t x r.fits r.tape_is r.encodes;
         from = λ p t x s r. union_from d switch arms default p t x r;
       } in

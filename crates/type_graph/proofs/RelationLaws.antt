@@ -1,7 +1,8 @@
 -- The algebra of relations: what is the same as what, where octets end, and what moves by 8.
 use Rattle.std.proofs.Common.{◌≡◌, ℕ, zero, suc, ◌+◌, List, [], ◌∷◌, ◌++◌, length, map, replicate, refl, sym, ap, ◌∙◌, subst, append_assoc, append-nil, length-append, zero-add, arith}
 use Rattle.std.specs.List.{AllByRecursion}
-use Rattle.type_graph.specs.Relation.{Relation, Nothing, Then, Many, Chain, Positions, Anywhere, Same, Ends, Moves}
+use Rattle.type_graph.specs.Relation.{Relation, Nothing, Then, Many, Chain}
+use Rattle.type_graph.specs.Comparison.{Positions, Anywhere, Same, Ends, Moves}
 
 -- where octets that are cut in two end
 pub end_of_cut : (p : ℕ) (x x1 x2 : List ℕ) → x ≡ x1 ++ x2 → p + length x ≡ p + length x1 + length x2

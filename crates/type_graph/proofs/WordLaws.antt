@@ -8,9 +8,8 @@ use Rattle.type_graph.specs.declared.width.Width.{Width}
 use Rattle.type_graph.specs.declared.width.Width.TheVariants.{One, Two, Four, Eight}
 use Rattle.type_graph.specs.declared.width.Order.{Order}
 use Rattle.type_graph.specs.declared.width.Order.TheVariants.{Big, Little}
-use Rattle.type_graph.specs.Words.{octets_in, words_of, plain_word, complement, word, pad, AllBelow, Padding, Zeros, AnyOctets, IsPadding}
-use Rattle.type_graph.specs.Atoms.{IsBelow}
-use Rattle.type_graph.specs.Value.{IsSigned}
+use Rattle.type_graph.specs.Words.{octets_in, words_of, plain_word, twos_complement, word, pad, AllBelow, Padding, Zeros, AnyOctets, IsPadding}
+use Rattle.type_graph.specs.Value.{IsSigned, IsBelow}
 
 -- ---- gaps
 
@@ -155,7 +154,7 @@ length-plain_word Little Eight n = refl
 
 -- the same of any number's
 pub length-word : (o : Order) (w : Width) (n : ℤ) → length (word o w n) ≡ octets_in w
-length-word o w n = length-plain_word o w (complement w n)
+length-word o w n = length-plain_word o w (twos_complement (octets_in w) n)
 
 -- an octet of a number is an octet
 byte_below : (i n : ℕ) → byte_at i n < 256
@@ -179,7 +178,7 @@ plain_word_below Little w n = low_first_below 0 (octets_in w) n
 
 -- the same of any number's
 pub word_below : (o : Order) (w : Width) (n : ℤ) → AllBelow 256 (word o w n)
-word_below o w n = plain_word_below o w (complement w n)
+word_below o w n = plain_word_below o w (twos_complement (octets_in w) n)
 
 -- a word of one octet is that octet
 pub plain_word_one : (o : Order) (n : ℕ) → n < 256 → plain_word o One n ≡ n ∷ []
@@ -257,7 +256,7 @@ words_halves Four = refl
 words_halves Eight = refl
 
 -- two's complement of a number of the width
-pub complement_signed : (w : Width) (n : ℤ) → IsSigned w n → complement w n < words_of w
+pub complement_signed : (w : Width) (n : ℤ) → IsSigned w n → twos_complement (octets_in w) n < words_of w
 complement_signed w (pos n) h =
     let halves = words_halves w in
     omega (arith, halves)
@@ -266,12 +265,12 @@ complement_signed w (negsuc n) h =
     omega (arith, halves)
 
 -- and of one without a sign
-pub complement_below : (w : Width) (n : ℤ) → IsBelow (words_of w) n → complement w n < words_of w
+pub complement_below : (w : Width) (n : ℤ) → IsBelow (words_of w) n → twos_complement (octets_in w) n < words_of w
 complement_below w (pos n) h = h
 complement_below w (negsuc n) h = absurd h
 
 -- every pattern is that of a number with a sign
-pub signed_of : (w : Width) (m : ℕ) → m < words_of w → (n : ℤ) × IsSigned w n × (complement w n ≡ m)
+pub signed_of : (w : Width) (m : ℕ) → m < words_of w → (n : ℤ) × IsSigned w n × (twos_complement (octets_in w) n ≡ m)
 signed_of w m h =
     let halves = words_halves w in
     elim (cases_lt m (2 ^ (8 * octets_in w - 1))) [
@@ -280,7 +279,7 @@ signed_of w m h =
     ]
 
 -- and of no other
-pub complement_same : (w : Width) (m n : ℤ) → IsSigned w m → IsSigned w n → complement w m ≡ complement w n → m ≡ n
+pub complement_same : (w : Width) (m n : ℤ) → IsSigned w m → IsSigned w n → twos_complement (octets_in w) m ≡ twos_complement (octets_in w) n → m ≡ n
 complement_same w (pos m) (pos n) hm hn e = ap pos e
 complement_same w (pos m) (negsuc n) hm hn e =
     let halves = words_halves w in
@@ -302,7 +301,7 @@ below_word_same o w (negsuc m) n hm hn e = absurd hm
 -- numbers with a sign of one word are one
 pub signed_word_same : (o : Order) (w : Width) (m n : ℤ) → IsSigned w m → IsSigned w n → word o w m ≡ word o w n → m ≡ n
 signed_word_same o w m n hm hn e =
-    complement_same w m n hm hn (plain_word_same o w (complement w m) (complement w n) (complement_signed w m hm) (complement_signed w n hn) e)
+    complement_same w m n hm hn (plain_word_same o w (twos_complement (octets_in w) m) (twos_complement (octets_in w) n) (complement_signed w m hm) (complement_signed w n hn) e)
 
 -- every string of so many octets is the word of a number without a sign
 pub below_of_octets : (o : Order) (w : Width) (octets : List ℕ) → length octets ≡ octets_in w → AllBelow 256 octets

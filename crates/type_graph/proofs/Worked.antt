@@ -6,14 +6,13 @@ use Rattle.type_graph.specs.declared.width.Order.{Order}
 use Rattle.type_graph.specs.declared.width.Order.TheVariants.{Big, Little}
 use Rattle.type_graph.specs.declared.node.Node.{Node}
 use Rattle.type_graph.specs.declared.node.Node.TheVariants.{Whole, Octet, Boolean, Text, Seq, Struct, Union}
-use Rattle.type_graph.specs.Words.{octets_in, word, pad, Way, Zeros}
-use Rattle.type_graph.specs.Atoms.{IsCount}
-use Rattle.type_graph.specs.Value.{Tree, Number, Bytes, Items, Choice, NoTree, AndTree, Fits, tape_of}
+use Rattle.type_graph.specs.Words.{octets_in, word, pad, Format, Zeros}
+use Rattle.type_graph.specs.Value.{Tree, Number, Bytes, Items, Choice, NoTree, AndTree, Fits, tape_of, IsCount}
 use Rattle.type_graph.specs.Encoding.{Encoding, Just, Joined, Aligned, Means}
 use Rattle.type_graph.proofs.WordLaws.{zeros_below}
 
 -- gaps are zeros
-abbrev pub zeros_in : Order → Way
+abbrev pub zeros_in : Order → Format
 zeros_in o = record { order = o; padding = Zeros }
 
 -- as many as are written

@@ -12,9 +12,8 @@ use Rattle.type_graph.specs.declared.width.Order.TheVariants.{Big}
 use Rattle.type_graph.specs.declared.node.Node.{Node}
 use Rattle.type_graph.specs.declared.node.Node.TheVariants.{Whole, Octet, Char, Boolean, Enum, Text, Seq, Array, Struct, Union, Frame}
 use Rattle.type_graph.specs.Words.{octets_in, word}
-use Rattle.type_graph.specs.Value.{Tree, node_at, number_width, arm_of, IsNumber, IsNumeric, Fits, FitAll, tape_of, tapes_of}
+use Rattle.type_graph.specs.Value.{Tree, node_at, number_width, arm_of, IsNumber, IsNumeric, Fits, FitAll, tape_of, tapes_of, InBound}
 use Rattle.type_graph.specs.GraphRules.{held_by, IsShallow, IsSwitch, IsNode, IsGraph}
-use Rattle.type_graph.specs.Atoms.{InBound}
 use Rattle.type_graph.specs.Zero.{trees_of, zero_by, zero_value}
 use Rattle.type_graph.specs.Shapes.{size_by, size_within}
 use Rattle.type_graph.proofs.WordLaws.{all_weaken}

@@ -7,7 +7,6 @@ use Rattle.type_graph.specs.declared.width.Order.TheVariants.{Big}
 use Rattle.type_graph.specs.declared.node.Node.{Node}
 use Rattle.type_graph.specs.declared.node.Node.TheVariants.{Whole, Octet, Char, Boolean, Enum, Text, Seq, Array, Struct, Union, Frame}
 use Rattle.type_graph.specs.Words.{octets_in, words_of, word}
-use Rattle.type_graph.specs.Atoms.{IsBelow, IsText, IsCount}
 
 -- a value without its type
 mutual

@@ -24,13 +24,13 @@ plain_word Big w n = bytes_high_first (octets_in w) n
 plain_word Little w n = bytes_low_first 0 (octets_in w) n
 
 -- two's complement: negsuc n is the number - 1 - n
-abbrev pub complement : Width → ℤ → ℕ
-complement w (pos n) = n
-complement w (negsuc n) = words_of w - 1 - n
+abbrev pub twos_complement : Width → ℤ → ℕ
+twos_complement (octets_in w) (pos n) = n
+twos_complement (octets_in w) (negsuc n) = words_of w - 1 - n
 
 -- the octets of a number in a byte order
 abbrev pub word : Order → Width → ℤ → List ℕ
-word order w n = plain_word order w (complement w n)
+word order w n = plain_word order w (twos_complement (octets_in w) n)
 
 -- how many octets lie between position p and the next multiple of k: the least number q with p + q divisible by k
 abbrev pub pad : ℕ → ℕ → ℕ
@@ -46,15 +46,15 @@ pub data Padding : Type 0 where
   AnyOctets : Padding
 
 -- how octets stand for numbers: their byte order, and what is in the gaps
-pub record Way : Type 0 where
+pub record Format : Type 0 where
   pub order : Order
   pub padding : Padding
 
 -- a reader takes whatever stands in a gap, and a writer leaves zeros there
-abbrev pub reading : Order → Way
+abbrev pub reading : Order → Format
 reading byte_order = record { order = byte_order; padding = AnyOctets }
 
-abbrev pub writing : Order → Way
+abbrev pub writing : Order → Format
 writing byte_order = record { order = byte_order; padding = Zeros }
 
 abbrev pub IsPadding : Padding → List ℕ → Type 0
@@ -62,6 +62,6 @@ IsPadding Zeros = AllBelow 1
 IsPadding AnyOctets = AllBelow 256
 
 -- the octets between position p and the next multiple of the width
-pub record IsGap (way : Way) (w : Width) (p : ℕ) (gap : List ℕ) : Type 0 where
+pub record IsGap (format : Format) (w : Width) (p : ℕ) (gap : List ℕ) : Type 0 where
   pub long : length gap ≡ pad p (octets_in w)
-  pub filled : IsPadding way.padding gap
+  pub filled : IsPadding format.padding gap

@@ -3,8 +3,9 @@
 ghost use Rattle.std.specs.Prelude.{◌≡◌, ℕ, ◌+◌, ◌%◌, ◌≤◌, List, ◌++◌};
 ghost use Rattle.type_graph.specs.declared.width.Width.{Width};
 ghost use Rattle.type_graph.specs.declared.node.Node.{Node};
-ghost use Rattle.type_graph.specs.Words.{octets_in, pad, Way};
-ghost use Rattle.type_graph.specs.Relation.{Then, Many, Anywhere, Same};
+ghost use Rattle.type_graph.specs.Words.{octets_in, pad, Format};
+ghost use Rattle.type_graph.specs.Relation.{Then, Many};
+ghost use Rattle.type_graph.specs.Comparison.{Anywhere, Same};
 ghost use Rattle.type_graph.specs.Atoms.{Gap, AnyWord};
 ghost use Rattle.type_graph.specs.Value.{Tree, node_at, Fits, tape_of};
 ghost use Rattle.type_graph.specs.Encoding.{Means};
@@ -21,8 +22,8 @@ pub fn gap_is_least()
 
 /// What octets mean at a position, they mean at every position that is the same modulo 8.
 pub fn meaning_has_period_eight()
-    ensures { (graph : List Node) (way : Way) (depth number p q : ℕ) (tape octets : List ℕ) → q % 8 ≡ p % 8
-        → Means graph way depth number p tape octets → Means graph way depth number q tape octets }
+    ensures { (graph : List Node) (format : Format) (depth number p q : ℕ) (tape octets : List ℕ) → q % 8 ≡ p % 8
+        → Means graph format depth number p tape octets → Means graph format depth number q tape octets }
 {}
 
 /// A tape is that of one value of its type.
@@ -34,8 +35,8 @@ pub fn tape_has_one_value()
 
 /// One front of a list of octets has a meaning, and one tape.
 pub fn front_has_one_tape()
-    ensures { (graph : List Node) → IsGraph graph → (way : Way) (depth number p : ℕ) (tape1 tape2 octets1 octets2 rest1 rest2 : List ℕ)
-        → Means graph way depth number p tape1 octets1 → Means graph way depth number p tape2 octets2
+    ensures { (graph : List Node) → IsGraph graph → (format : Format) (depth number p : ℕ) (tape1 tape2 octets1 octets2 rest1 rest2 : List ℕ)
+        → Means graph format depth number p tape1 octets1 → Means graph format depth number p tape2 octets2
         → octets1 ++ rest1 ≡ octets2 ++ rest2 → (tape1 ≡ tape2) × (octets1 ≡ octets2) }
 {}
 
@@ -55,8 +56,8 @@ pub fn leaves_are_of_parts()
 
 /// A uniform node is the gap to its width, and its words one behind the other.
 pub fn uniform_is_words()
-    ensures { (graph : List Node) → IsGraph graph → (way : Way) (depth : ℕ) (w : Width) (n number : ℕ)
-        → IsUniform graph w n number → Same Anywhere (Means graph way depth number) (Then (Gap way w) (Many n (AnyWord way w))) }
+    ensures { (graph : List Node) → IsGraph graph → (format : Format) (depth : ℕ) (w : Width) (n number : ℕ)
+        → IsUniform graph w n number → Same Anywhere (Means graph format depth number) (Then (Gap format w) (Many n (AnyWord format w))) }
 {}
 
 /// The value of zeros is made of those of the parts.

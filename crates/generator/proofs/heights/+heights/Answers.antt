@@ -2,7 +2,7 @@ use Rattle.std.proofs.Common.{rules, ◌≡◌, ◌∙◌, ◌≤◌, ℕ, max, 
 use Rattle.type_graph.specs.Value.{node_at}
 use Rattle.type_graph.specs.Walks.{height_of}
 use Rattle.type_graph.specs.GraphRules.{held_by}
-use Rattle.type_graph.proofs.Heights.{height_bound}
+use Rattle.type_graph.proofs.HeightLaws.{height_bound}
 use Rattle.generator.specs.Heights.{AreKnown}
 use Rattle.generator.proofs.HeightLaws.{height_past, height_at, part_falls, height_more, none_within}
 use Rattle.generator.proofs.heights.+heights.Goals.{height_above-in-Some, height_above-in_default}

@@ -6,8 +6,7 @@ use mir.Val.{SFits, to_z, of_z}
 use Rattle.type_graph.specs.declared.node.Node.TheVariants.{Octet, Seq, Array, Struct, Union, Frame}
 use Rattle.type_graph.specs.declared.width.Order.TheVariants.{Big}
 use Rattle.type_graph.specs.Words.{word}
-use Rattle.type_graph.specs.Atoms.{IsCount}
-use Rattle.type_graph.specs.Value.{node_at, number_width, arm_of, IsNumber, Trees, NoTree, AndTree, Choice}
+use Rattle.type_graph.specs.Value.{node_at, number_width, arm_of, IsNumber, Trees, NoTree, AndTree, Choice, IsCount}
 use Rattle.type_graph.specs.GraphRules.{IsNode, held_by}
 use Rattle.type_graph.specs.Walks.{above}
 use Rattle.type_graph.proofs.Held.{switch_within, elem_within}
@@ -18,7 +17,7 @@ use Rattle.idl_value.specs.Unpacking.{IsItems, Begins, BeginsWithNone, BeginsAll
 use Rattle.idl_value.proofs.ViewLaws.{tree_of-items, tree_of-choice}
 use Rattle.idl_value.proofs.PartLaws.{repeated_are_within, copies_are_within, members_are_within, frame_is_within, arm_is_within}
 use Rattle.type_graph.specs.Walks.{height_of}
-use Rattle.type_graph.proofs.Heights.{height_unfolds, height_bound, above_copies, above_arm}
+use Rattle.type_graph.proofs.HeightLaws.{height_unfolds, height_bound, above_copies, above_arm}
 use Rattle.idl_value.proofs.TapeLengths.{too_few_octets}
 use Rattle.idl_value.proofs.UnpackLaws.{joined, joined-none, begins_next, only_next, none_next, refuses_weaker, no_switch, no_items, items_begin, array_items, struct_items, frame_items, sequence_begins, no_sequence_begins, union_begins, no_union_begins}
 use Rattle.idl_value.proofs.unpacking.+unpacking.Goals as goal

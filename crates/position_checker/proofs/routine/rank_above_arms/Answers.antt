@@ -2,7 +2,7 @@ use Rattle.std.proofs.Common.{◌≡◌, ℕ, ℤ, List, [], map, drop, length-d
 use Rattle.std.proofs.lemmas.List.{nil_from_length}
 use Rattle.type_graph.specs.Walks.{above}
 use Rattle.position_checker.specs.PlainTests.{rank_at}
-use Rattle.type_graph.proofs.Heights.{above_joined}
+use Rattle.type_graph.proofs.HeightLaws.{above_joined}
 use Rattle.position_checker.proofs.routine.rank_above_arms.Goals as goal
 
 pub returns : goal.returns
