@@ -7,7 +7,7 @@ ghost use Rattle.type_graph.specs.Value.{node_at, Bytes, Items, Choice, IsNumber
 ghost use Rattle.idl_value.specs.View.{tree_of, trees_of, member_of};
 ghost use Rattle.idl_value.specs.PartList.{numbers_of, AreWithin};
 
-use crate::numbers::{is_count, is_number};
+use crate::numbers::{is_count};
 use crate::parts::Parts;
 use crate::texts::is_text;
 use crate::value::Value;
@@ -32,7 +32,7 @@ pub fn is_value(graph: &Graph, number: u32, value: &Value, depth: u32) -> bool
         return false;
     };
     match value {
-        Value::Whole(n) => is_number(node, *n),
+        Value::Whole(n) => node.has_number(*n),
         Value::Text(text) => is_string(node, text),
         Value::Items(values) => are_items(graph, node, values, depth),
         Value::Choice { disc, member } => is_choice(graph, node, *disc, member, depth),
@@ -118,7 +118,7 @@ fn is_switch_value(graph: &Graph, switch: u32, disc: i128) -> bool
     ensures { switch < length graph.now → IsTrue result ↔ IsNumber (node_at graph.now switch) disc }
 {
     match graph.nodes().get(switch as usize) {
-        Some(node) => is_number(node, disc),
+        Some(node) => node.has_number(disc),
         None => false,
     }
 }

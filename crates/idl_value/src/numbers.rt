@@ -11,51 +11,6 @@ ghost use Rattle.type_graph.specs.Value.{IsSigned, IsNumber, number_width, IsBel
 use std::alloc::AllocError;
 use type_graph::{Node, Width};
 
-/// How many patterns the octets of a width have.
-fn pattern_count(width: Width) -> u128
-    ensures { result ≡ words_of width }
-{
-    match width {
-        Width::One => 0x100,
-        Width::Two => 0x1_0000,
-        Width::Four => 0x1_0000_0000,
-        Width::Eight => 0x1_0000_0000_0000_0000,
-    }
-}
-
-fn is_signed(width: Width, n: i128) -> bool
-    ensures { IsTrue result ↔ IsSigned width n }
-{
-    let half = (pattern_count(width) / 2) as i128;
-    -half <= n && n < half
-}
-
-fn is_below(limit: u128, n: i128) -> bool
-    ensures { IsTrue result ↔ IsBelow limit n }
-{
-    0 <= n && (n as u128) < limit
-}
-
-/// Whether a number is a value of a node.
-pub fn is_number(node: &Node, n: i128) -> bool
-    ensures { IsTrue result ↔ IsNumber node.now n }
-{
-    match node {
-        Node::Whole {
-            width,
-            signed: true,
-        } => is_signed(*width, n),
-        Node::Whole {
-            width,
-            signed: false,
-        } => is_below(pattern_count(*width), n),
-        Node::Octet | Node::Char => is_below(0x100, n),
-        Node::Boolean => is_below(2, n),
-        Node::Enum { n: limit } => is_below(u128::from(*limit), n),
-        _ => false,
-    }
-}
-
 /// Whether a sequence of a bound, 0 for none, may have so many elements.
 pub fn is_count(bound: u32, count: usize) -> bool
     ensures { IsTrue result ↔ IsCount bound count }
@@ -111,14 +66,13 @@ fn read_word(width: Width, tape: &[u8]) -> Option<(u64, &[u8])>
 }
 
 /// The number of a signed integer type of which this is the pattern.
+#[tactic(auto, using(type_graph::proofs::WordLaws::complement_same))]
 fn signed_of_word(width: Width, word: u64) -> i128
     requires { word < words_of width }
     ensures pattern { twos_complement (octets_in width) result ≡ word }
     ensures only { (n : ℤ) → IsSigned width n → twos_complement (octets_in width) n ≡ word → n ≡ result }
 {
-    let count = pattern_count(width) as i128;
-    let n = i128::from(word);
-    if n < count / 2 { n } else { n - count }
+    width.signed_number(word)
 }
 
 /// The only number that can be a value of the node with this pattern.
@@ -144,7 +98,7 @@ pub fn read_number<'t>(node: &Node, tape: &'t [u8]) -> Option<(i128, &'t [u8])>
 {
     let (word, rest) = read_word(node.number_width(), tape)?;
     let n = number_of_pattern(node, word);
-    if !is_number(node, n) {
+    if !node.has_number(n) {
         return None;
     }
     Some((n, rest))

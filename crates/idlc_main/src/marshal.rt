@@ -1,6 +1,6 @@
 //! The commands `encode` and `decode`.
 
-ghost use Rattle.std.specs.Prelude.{◌≡◌, ◌≢◌, ◌<◌, length, [], ◌∷◌, ◌++◌, codes};
+ghost use Rattle.std.specs.Prelude.{◌≡◌, ◌≢◌, [], ◌∷◌, ◌++◌, codes, IsSome};
 ghost use Rattle.std.specs.Prelude.{List, ℕ, IfOk, IfErr, IsOk, IsErr, IsErrAnd, Ok, Err};
 ghost use Rattle.std.specs.String.{string_bytes};
 ghost use Rattle.std.specs.Fmt.{decimal};
@@ -10,6 +10,7 @@ ghost use Rattle.idlc_main.specs.Answer.{IsAnswer, ask_of};
 ghost use Rattle.idlc_main.specs.Lines.{PrintsOctets, PrintsTape, Prints, Answers, HasNoOctets, HasNoTape, HasNoAnswer};
 ghost use Rattle.type_graph.specs.Words.{reading, writing};
 ghost use Rattle.type_graph.specs.Encoding.{Means};
+ghost use Rattle.marshal_program.specs.Served.{served_by};
 
 use crate::fault::Fault;
 use crate::sample::{NAME, Sample};
@@ -77,7 +78,7 @@ fn encode<'a>(
     request: &Request<'a>,
     tape: &[u8],
 ) -> Result<String, Fault<'a>>
-    requires { node < length table.now.graph }
+    requires { IsSome (served_by table.now.program node) }
     ensures ok { IfOk result (λ line. PrintsOctets table.now.graph request.now.order node request.now.pos tape.now (string_bytes line)) }
     ensures err { IfErr result (λ fault. IsOfRun fault × OnlyIf fault
         (HasNoOctets table.now.graph request.now.order node request.now.pos tape.now)) }
@@ -93,7 +94,7 @@ fn decode<'a>(
     request: &Request<'a>,
     octets: &[u8],
 ) -> Result<String, Fault<'a>>
-    requires { node < length table.now.graph }
+    requires { IsSome (served_by table.now.program node) }
     ensures ok { IfOk result (λ line. PrintsTape table.now.graph request.now.order node request.now.pos octets.now (string_bytes line)) }
     ensures err { IfErr result (λ fault. IsOfRun fault × OnlyIf fault
         (HasNoTape table.now.graph request.now.order node request.now.pos octets.now)) }
@@ -103,6 +104,7 @@ fn decode<'a>(
 }
 
 /// The answer for the structure of the sample table, where the digits are already read.
+#[tactic(auto, using(crate::proofs::SampleRules::structure_served))]
 fn answer<'a>(
     alloc: Global,
     sample: &Sample,

@@ -98,6 +98,7 @@ fn program(alloc: Global) -> Result<Program, AllocError>
 pub struct Sample {
     pub table: Accepted,
     ghost four_types: { table.graph ≡ sample_nodes },
+    ghost four_routines: { table.program ≡ sample_program },
 }
 
 impl Sample {

@@ -2,61 +2,59 @@ use crate::run;
 use std::io;
 use std::process::Abort;
 
-const TAPE: &str = "0700000001000000026869";
-
-/// Runs the program over memory, and holds its status and its streams to what is wanted.
-fn expect<R: AllocGlobal + Abort>(rt: &R, words: &[&str], status: u8, out: &str, err: &str) {
-    let mut wrote = Vec::new(rt.alloc());
-    let mut told = Vec::new(rt.alloc());
-    let ended = run(rt, words, &mut wrote, &mut told);
-    assert_eq!(rt; ended, status, "{words:?}");
-    assert!(rt; wrote.as_slice() == out.as_bytes(), "{words:?}: {wrote:?}");
-    assert!(rt; told.as_slice() == err.as_bytes(), "{words:?}: {told:?}");
+/// Runs the program over memory with the words of a line, which blanks part.
+fn run_line<R: AllocGlobal, O: io::Write, E: io::Write>(
+    rt: &R,
+    line: &str,
+    out: &mut O,
+    err: &mut E,
+) -> u8 {
+    let mut words = Vec::new(rt.alloc());
+    for word in line.split(' ') {
+        if words.push(word).is_err() {
+            return 99;
+        }
+    }
+    run(rt, words.as_slice(), out, err)
 }
 
+/// Holds the status and the streams of a run to what is wanted.
+fn expect<R: AllocGlobal + Abort>(rt: &R, line: &str, status: u8, out: &str, err: &str) {
+    let mut wrote = Vec::new(rt.alloc());
+    let mut told = Vec::new(rt.alloc());
+    let ended = run_line(rt, line, &mut wrote, &mut told);
+    assert_eq!(rt; ended, status, "{line}");
+    assert!(rt; wrote.as_slice() == out.as_bytes(), "{line}: {wrote:?}");
+    assert!(rt; told.as_slice() == err.as_bytes(), "{line}: {told:?}");
+}
+
+/// At the last position the next octet stands at a multiple of 4.
 #[test]
 fn marshals_the_sample_structure(rt: HostRuntime) {
     let rows = [
         (
-            ["idlc", "encode", "builtin", "S", "big", "0", TAPE],
+            "idlc encode builtin S big 0 0700000001000000026869",
             "070000000000000100000003686900\n",
         ),
         (
-            ["idlc", "encode", "builtin", "S", "big", "3", TAPE],
+            "idlc encode builtin S big 3 0700000001000000026869",
             "070000000100000003686900\n",
         ),
         (
-            ["idlc", "encode", "builtin", "S", "little", "0", TAPE],
+            "idlc encode builtin S little 0 0700000001000000026869",
             "070000000100000003000000686900\n",
         ),
-        // The next octet stands at a multiple of 4.
         (
-            [
-                "idlc",
-                "encode",
-                "builtin",
-                "S",
-                "big",
-                "18446744073709551615",
-                TAPE,
-            ],
+            "idlc encode builtin S big 18446744073709551615 0700000001000000026869",
             "070000000100000003686900\n",
         ),
         (
-            [
-                "idlc",
-                "decode",
-                "builtin",
-                "S",
-                "big",
-                "0",
-                "07FFEEDD0000000100000003686900AABB",
-            ],
+            "idlc decode builtin S big 0 07FFEEDD0000000100000003686900AABB",
             "15 0700000001000000026869\n",
         ),
     ];
-    for (words, out) in rows {
-        expect(&rt, words.as_slice(), 0, out, "");
+    for (line, out) in rows {
+        expect(&rt, line, 0, out, "");
     }
 }
 
@@ -64,155 +62,76 @@ fn marshals_the_sample_structure(rt: HostRuntime) {
 fn tells_the_first_fault(rt: HostRuntime) {
     let rows = [
         (
-            [
-                "idlc",
-                "decode",
-                "builtin",
-                "S",
-                "big",
-                "0",
-                "07FFEEDD0000000100000003",
-            ],
-            1,
-            "idlc: 60 Short\n",
+            "decode builtin S big 0 07FFEEDD0000000100000003",
+            "60 Short",
         ),
+        ("encode builtin T big 0 00", "no type T"),
+        ("encode builtin S big 0 0", "bad hex"),
+        ("decode builtin S big 0 0g", "bad hex"),
         (
-            ["idlc", "encode", "builtin", "T", "big", "0", "00"],
-            1,
-            "idlc: no type T\n",
+            "encode builtin S big 0 070000000100000002686900",
+            "68 TapeLeft",
         ),
-        (
-            ["idlc", "encode", "builtin", "S", "big", "0", "0"],
-            1,
-            "idlc: bad hex\n",
-        ),
-        (
-            ["idlc", "decode", "builtin", "S", "big", "0", "0g"],
-            1,
-            "idlc: bad hex\n",
-        ),
-        (
-            [
-                "idlc",
-                "encode",
-                "builtin",
-                "S",
-                "big",
-                "0",
-                "070000000100000002686900",
-            ],
-            1,
-            "idlc: 68 TapeLeft\n",
-        ),
-        (
-            ["idlc", "decode", "builtin", "S", "big", "0", "07"],
-            1,
-            "idlc: 60 Short\n",
-        ),
-        (
-            ["idlc", "encode", "builtin", "S", "big", "0", ""],
-            1,
-            "idlc: 60 Short\n",
-        ),
-        (
-            ["idlc", "encode", "builtin", "T", "big", "0", "0"],
-            1,
-            "idlc: no type T\n",
-        ),
-        (
-            ["idlc", "encode", "a.table", "T", "big", "0", "0"],
-            3,
-            "idlc: cannot read a.table\n",
-        ),
-        (
-            ["idlc", "decode", "Builtin", "S", "big", "0", "07"],
-            3,
-            "idlc: cannot read Builtin\n",
-        ),
+        ("decode builtin S big 0 07", "60 Short"),
+        ("encode builtin S big 0 ", "60 Short"),
+        ("encode builtin T big 0 0", "no type T"),
     ];
-    for (words, status, err) in rows {
-        expect(&rt, words.as_slice(), status, "", err);
+    for (line, fault) in rows {
+        refuse(&rt, line, 1, fault);
+    }
+    refuse(&rt, "encode a.table T big 0 0", 3, "cannot read a.table");
+    refuse(&rt, "decode Builtin S big 0 07", 3, "cannot read Builtin");
+}
+
+/// The words behind the first, and the fault behind the name of the program.
+fn refuse<R: AllocGlobal + Abort>(rt: &R, words: &str, status: u8, fault: &str) {
+    let line = format!(in rt.alloc(); "idlc {words}");
+    let told = format!(in rt.alloc(); "idlc: {fault}\n");
+    match (line, told) {
+        (Ok(line), Ok(told)) => expect(rt, line.as_str(), status, "", told.as_str()),
+        _ => assert!(rt; false, "no memory"),
     }
 }
 
+/// The last stands with its name in the place of the order.
 #[test]
 fn refuses_other_words(rt: HostRuntime) {
     let rows = [
-        (["idlc"].as_slice(), false),
-        (
-            ["idlc", "recode", "builtin", "S", "big", "0", TAPE].as_slice(),
-            false,
-        ),
-        (
-            ["idlc", "encode", "builtin", "S", "big", "0"].as_slice(),
-            false,
-        ),
-        (
-            ["idlc", "encode", "builtin", "S", "big", "0", TAPE, TAPE].as_slice(),
-            false,
-        ),
-        (
-            [
-                "idlc",
-                "decode",
-                "builtin",
-                "S",
-                "big",
-                "18446744073709551616",
-                TAPE,
-            ]
-            .as_slice(),
-            false,
-        ),
-        (
-            ["idlc", "decode", "builtin", "S", "big", "-1", TAPE].as_slice(),
-            false,
-        ),
-        (
-            ["idlc", "encode", "a.table", "T", "middle", "0", "0"].as_slice(),
-            true,
-        ),
-        (
-            ["idlc", "decode", "builtin", "S", "BIG", "0", TAPE].as_slice(),
-            true,
-        ),
-        // The name stands in the place of the order.
-        (
-            [
-                "idlc", "encode", "builtin", "builtin", "S", "big", "0", TAPE,
-            ]
-            .as_slice(),
-            true,
-        ),
+        ("idlc", false),
+        ("idlc recode builtin S big 0 00", false),
+        ("idlc encode builtin S big 0", false),
+        ("idlc encode builtin S big 0 00 00", false),
+        ("idlc decode builtin S big 18446744073709551616 00", false),
+        ("idlc decode builtin S big -1 00", false),
+        ("idlc encode a.table T middle 0 0", true),
+        ("idlc decode builtin S BIG 0 00", true),
+        ("idlc encode builtin builtin S big 0 00", true),
     ];
-    for (words, is_order) in rows {
+    for (line, is_order) in rows {
         let mut wrote = Vec::new(rt.alloc());
         let mut told = Vec::new(rt.alloc());
-        assert_eq!(rt; run(&rt, words, &mut wrote, &mut told), 2, "{words:?}");
-        assert!(rt;
-            wrote.is_empty() && told.as_slice().starts_with(b"error: "),
-            "{words:?}: {told:?}"
-        );
-        let line = b"\nidlc: order is big or little\n";
-        assert_eq!(rt;
-            told.as_slice().ends_with(line),
-            is_order,
-            "{words:?}: {told:?}"
-        );
+        assert_eq!(rt; run_line(&rt, line, &mut wrote, &mut told), 2, "{line}");
+        let told = told.as_slice();
+        let ends = [
+            wrote.is_empty(),
+            told.starts_with(b"error: "),
+            told.ends_with(b"\nidlc: order is big or little\n"),
+        ];
+        assert_eq!(rt; ends, [true, true, is_order], "{line}: {told:?}");
     }
 }
 
 #[test]
 fn helps(rt: HostRuntime) {
-    for words in [["idlc", "--help"], ["idlc", "help"], ["idlc", "-h"]] {
+    for line in ["idlc --help", "idlc help", "idlc -h"] {
         let mut wrote = Vec::new(rt.alloc());
         let mut told = Vec::new(rt.alloc());
+        assert_eq!(rt; run_line(&rt, line, &mut wrote, &mut told), 0, "{line}");
         assert_eq!(rt;
-            run(&rt, words.as_slice(), &mut wrote, &mut told),
-            0,
-            "{words:?}"
+            [wrote.is_empty(), told.is_empty()],
+            [false, true],
+            "{line}"
         );
-        assert!(rt; !wrote.is_empty() && told.is_empty(), "{words:?}: {told:?}");
     }
 }
 
@@ -236,13 +155,18 @@ impl io::Write for Full {
 
 #[test]
 fn says_nothing_of_a_full_output(rt: HostRuntime) {
-    for room in [0, 5] {
-        let words = ["idlc", "encode", "builtin", "S", "big", "0", TAPE];
-        let mut told = Vec::new(rt.alloc());
-        assert_eq!(rt; run(&rt, words.as_slice(), &mut Full(room), &mut told), 3);
-        assert!(rt; told.is_empty(), "{told:?}");
-        let help = ["idlc", "--help"];
-        assert_eq!(rt; run(&rt, help.as_slice(), &mut Full(room), &mut told), 3);
-        assert!(rt; told.is_empty(), "{told:?}");
+    for line in [
+        "idlc encode builtin S big 0 0700000001000000026869",
+        "idlc --help",
+    ] {
+        for room in [0, 5] {
+            let mut told = Vec::new(rt.alloc());
+            assert_eq!(rt;
+                run_line(&rt, line, &mut Full(room), &mut told),
+                3,
+                "{line}"
+            );
+            assert!(rt; told.is_empty(), "{line}: {told:?}");
+        }
     }
 }

@@ -1,8 +1,8 @@
 //! The numbers of discriminators.
 
-ghost use Rattle.std.specs.Prelude.{◌≡◌, ◌<◌, ◌++◌, ◌^◌, ◌-◌, ◌*◌, nat_lt, pos, negsuc, if◌then◌else◌, IfOk, OnOk};
+ghost use Rattle.std.specs.Prelude.{◌≡◌, ◌<◌, ◌++◌, IfOk, OnOk};
 ghost use Rattle.type_graph.specs.declared.width.Width.TheVariants.{One, Two, Eight};
-ghost use Rattle.type_graph.specs.Words.{octets_in, words_of, plain_word};
+ghost use Rattle.type_graph.specs.Words.{words_of, plain_word};
 ghost use Rattle.type_graph.specs.Value.{number_width};
 ghost use Rattle.marshal_program.specs.Does.{node_of};
 ghost use Rattle.program_runner.specs.Steps.{Gives, number_at, disc_number};
@@ -114,21 +114,6 @@ pub fn push_word(out: &mut Vec<u8>, order: Order, width: Width, n: u64) -> Resul
     }
 }
 
-/// The number of two's complement that a pattern of a width stands for.
-fn signed_number(width: Width, n: u64) -> i128
-    requires { n < words_of width }
-    ensures { result ≡ (if nat_lt n (2 ^ (8 * octets_in width - 1)) then pos n else negsuc (words_of width - 1 - n)) }
-{
-    let (half, count) = match width {
-        Width::One => (0x80, 0x100),
-        Width::Two => (0x8000, 0x1_0000),
-        Width::Four => (0x8000_0000, 0x1_0000_0000),
-        Width::Eight => (0x8000_0000_0000_0000, 0x1_0000_0000_0000_0000),
-    };
-    let n = n as i128;
-    if n < half { n } else { n - count }
-}
-
 /// The number that the octets of a discriminator stand for.
 pub fn disc_number(disc: Disc, n: u64) -> Result<i128, RunFault>
     requires { n < words_of (number_width (node_of disc)) }
@@ -140,7 +125,7 @@ pub fn disc_number(disc: Disc, n: u64) -> Result<i128, RunFault>
         Disc::Word {
             width,
             signed: true,
-        } => Ok(signed_number(width, n)),
+        } => Ok(width.signed_number(n)),
         _ => Ok(n as i128),
     }
 }
