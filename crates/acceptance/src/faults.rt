@@ -84,11 +84,12 @@ fn faults_of_runs_and_tables(rt: HostRuntime) -> Result<(), Fail> {
     let want = "60 Short|61 BadBool|62 BadEnum|63 BadLength|64 NoTerminator|65 ZeroInside|\
         66 OverBound|67 TooDeep|68 TapeLeft|no memory|";
     assert_eq!(rt; texts(rt.alloc(), &runs)?.as_str(), want);
-    let tables = [CheckFault::WrongWork {
+    let wrong = CheckFault::WrongWork {
         routine: 4,
         instr: 2,
-    }];
-    let want = "80 WrongWork routine 4 instruction 2|";
+    };
+    let tables = [wrong, CheckFault::NoMemory];
+    let want = "80 WrongWork routine 4 instruction 2|no memory|";
     assert_eq!(rt; texts(rt.alloc(), &tables)?.as_str(), want);
     Ok(())
 }

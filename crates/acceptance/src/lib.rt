@@ -16,6 +16,8 @@ mod marshal;
 #[cfg(test)]
 mod models;
 #[cfg(test)]
+mod places;
+#[cfg(test)]
 mod plain;
 #[cfg(test)]
 mod programs;

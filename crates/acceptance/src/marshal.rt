@@ -101,7 +101,7 @@ pub fn accepted_both_ways(
     tape: &[u8],
     octets: &[u8],
 ) -> [u32; 2] {
-    if at.routine as usize >= accepted.graph().nodes().len() {
+    if !accepted.is_served(at.routine) {
         return [99, 99];
     }
     let written = accepted.write(alloc, at.routine, at.order, at.pos, tape);

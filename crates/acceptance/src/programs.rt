@@ -75,6 +75,7 @@ fn refusal(alloc: Global, routines: Vec<Routine>) -> Result<[u32; 2], Fail> {
     match check(alloc, sample::graph(alloc)?, program) {
         Ok(_) => Ok([99; 2]),
         Err(CheckFault::WrongWork { routine, instr }) => Ok([routine, instr]),
+        Err(CheckFault::NoMemory) => Ok([98; 2]),
     }
 }
 
@@ -92,6 +93,48 @@ fn tables(rt: HostRuntime) -> Result<(), Fail> {
         refusal(alloc, more)?,
     ];
     assert_eq!(rt; refusals, [[99, 99], [3, 0], [4, 0]]);
+    Ok(())
+}
+
+/// The sample's routines with another first one.
+fn with_first(alloc: Global, first: Routine) -> Result<[u32; 2], Fail> {
+    let mut routines = sample::routines(alloc)?;
+    if let Some(routine) = routines.get_mut(0) {
+        *routine = first;
+    }
+    refusal(alloc, routines)
+}
+
+/// A routine is judged beside its code too: its node, entry, exits and rank. The rank of the
+/// structure is still above that of its parts where theirs are too high, which is not its fault.
+#[test]
+fn beside_the_code(rt: HostRuntime) -> Result<(), Fail> {
+    let alloc = rt.alloc();
+    let mut entry = octet(alloc)?;
+    entry.entry = 127;
+    let mut exits = octet(alloc)?;
+    exits.exits = [255, 255, 255, 255, 255, 255, 255, 1];
+    let mut node = octet(alloc)?;
+    node.node = 1;
+    let refusals = [
+        with_first(alloc, octet(alloc)?)?,
+        with_first(alloc, entry)?,
+        with_first(alloc, exits)?,
+        with_first(alloc, node)?,
+    ];
+    assert_eq!(rt; refusals, [[99, 99], [0, 0], [0, 0], [0, 0]]);
+    Ok(())
+}
+
+/// The long's rank is one too high, and that of the structure above it: the long is at fault.
+#[test]
+fn a_rank_too_high(rt: HostRuntime) -> Result<(), Fail> {
+    let alloc = rt.alloc();
+    let mut routines = sample::routines(alloc)?;
+    for routine in routines.iter_mut().skip(1) {
+        routine.rank = routine.node;
+    }
+    assert_eq!(rt; refusal(alloc, routines)?, [1, 0]);
     Ok(())
 }
 
