@@ -1,3 +1,4 @@
 pub mod Runs
 pub mod Lexing
-pub mod Ascii
+pub mod Inside
+pub mod Alone

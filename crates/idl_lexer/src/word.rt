@@ -6,7 +6,7 @@ ghost use Rattle.std.specs.List.{list_any};
 ghost use Rattle.std.specs.Str.{bytes_eq};
 ghost use Rattle.idl_lexer.specs.Words.{is_keyword as listed, is_keyword_in_some_case as listed_in_some_case};
 ghost use Rattle.idl_lexer.specs.Words.{same_but_for_case, IsIdentifier};
-ghost use Rattle.idl_lexer.specs.Tokens.{Begins};
+ghost use Rattle.idl_lexer.specs.Forms.{Begins};
 
 use crate::fault::LexFault;
 use crate::octets::word_len;
