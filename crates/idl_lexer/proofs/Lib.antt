@@ -2,3 +2,4 @@ pub mod Runs
 pub mod Lexing
 pub mod Inside
 pub mod Alone
+pub mod Keywords

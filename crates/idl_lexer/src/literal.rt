@@ -6,7 +6,8 @@ ghost use Rattle.idl_lexer.specs.Literals.{escape_value, IsCharacter, IsCharLite
 
 use crate::fault::LexFault;
 use crate::number::number_of;
-use crate::octets::{hex_len, octal_len};
+use crate::octets::{are_ascii, hex_len, octal_len};
+use memchr::memchr2;
 
 /// The octet that the digits write in this radix, where it is one.
 fn octet_of(digits: &[u8], radix: u32) -> Option<u8>
@@ -76,7 +77,7 @@ fn escape(octets: &[u8], line: usize) -> Result<(u8, usize), LexFault>
     match octets {
         [_, b'x', ..] => hex_escape(octets, line),
         [_, b'0'..=b'7', ..] => octal_escape(octets, line),
-        [_] | [_, b'\n', ..] | [_, b'\r', b'\n', ..] => Err(LexFault::OpenLiteral { line }),
+        [_] | [_, b'\n', ..] => Err(LexFault::OpenLiteral { line }),
         [_, letter, ..] if letter.is_ascii() => match letter_escape(*letter) {
             Some(value) => Ok((value, 2)),
             None => Err(LexFault::BadEscape { line }),
@@ -100,23 +101,38 @@ fn character(octets: &[u8], quote: u8, line: usize) -> Result<(u8, usize), LexFa
     }
 }
 
+/// The fault of a character literal that goes on with these octets: a character outside ASCII in it comes first.
+fn unclosed(octets: &[u8], fault: LexFault, line: usize) -> LexFault {
+    let inside = octets
+        .split_at(memchr2(b'\'', b'\n', octets).unwrap_or(octets.len()))
+        .0;
+    if are_ascii(inside) {
+        fault
+    } else {
+        LexFault::BadChar { line }
+    }
+}
+
 /// How long the character literal at the front is.
 ///
 /// # Errors
 ///
-/// `OpenLiteral` where it isn't closed behind its one character, `BadEscape`, and `BadChar` for a
-/// character outside ASCII.
+/// `OpenLiteral` where it isn't closed behind its one character, `BadEscape`, and `BadChar` where a
+/// character outside ASCII stands anywhere in it.
 pub(crate) fn char_literal(octets: &[u8], line: usize) -> Result<usize, LexFault>
     requires { slice_index octets.now 0 ≡ 39 }
     ensures form { IfOk result (λ n. IsCharLiteral octets.now n) }
     ensures within { IfOk result (λ n. n ≤ length octets.now) }
     ensures long { IfOk result (λ n. 0 < n) }
 {
-    let (_, len) = character(octets.split_at(1).1, b'\'', line)?;
-    if len + 1 < octets.len() && octets[len + 1] == b'\'' {
-        Ok(len + 2)
-    } else {
-        Err(LexFault::OpenLiteral { line })
+    let inner = octets.split_at(1).1;
+    match character(inner, b'\'', line) {
+        Ok((_, len)) if len < inner.len() && inner[len] == b'\'' => Ok(len + 2),
+        Ok((_, len)) => {
+            let open = LexFault::OpenLiteral { line };
+            Err(unclosed(inner.split_at(len).1, open, line))
+        }
+        Err(fault) => Err(unclosed(inner, fault, line)),
     }
 }
 
