@@ -136,9 +136,9 @@ digits_alone test radix most s n v k le d = record {
 pub IsCharacter-take : (quote : ℕ) (s : List ℕ) (n v k : ℕ) → n ≤ k → IsCharacter quote s n v → IsCharacter quote (take k s) n v
 IsCharacter-take quote s n v k le (plain some here is one) =
     plain (omega (arith, length-take k s)) (get_or-take k s 0 0 (omega arith) ∙ here) is one
-IsCharacter-take quote s n v k le (letter b e two) =
+IsCharacter-take quote s n v k le (letter b e is two) =
     let second : slice_index (take k s) 1 ≡ slice_index s 1 = get_or-take k s 1 0 (omega arith) in
-    letter (get_or-take k s 0 0 (omega arith) ∙ b) (rw second e) two
+    letter (get_or-take k s 0 0 (omega arith) ∙ b) (rw second e) (rw second is) two
 IsCharacter-take quote s n v k le (octal m b digits small e) =
     let behind : drop 1 (take k s) ≡ take (k - 1) (drop 1 s) = drop_of_take 1 k s (omega arith) in
     octal m (get_or-take k s 0 0 (omega arith) ∙ b) (rw behind (digits_alone is_octal 8 3 (drop 1 s) m v (k - 1) (omega arith) digits)) small e
@@ -146,11 +146,11 @@ IsCharacter-take quote s n v k le (hexadecimal m b x digits e) =
     let behind : drop 2 (take k s) ≡ take (k - 2) (drop 2 s) = drop_of_take 2 k s (omega arith) in
     hexadecimal m (get_or-take k s 0 0 (omega arith) ∙ b) (get_or-take k s 1 0 (omega arith) ∙ x) (rw behind (digits_alone is_ascii_hexdigit 16 2 (drop 2 s) m v (k - 2) (omega arith) digits)) e
 
-pub AreCharacters-take : (quote : ℕ) (s : List ℕ) (i j k : ℕ) → j ≤ k → AreCharacters quote s i j → AreCharacters quote (take k s) i j
-AreCharacters-take quote s i j k le none = none
-AreCharacters-take quote s i j k le (more m n j2 v rest char nz e) =
-    let behind : drop m (take k s) ≡ take (k - m) (drop m s) = drop_of_take m k s (omega arith) in
-    more m n _ v (AreCharacters-take quote s i m k (omega arith) rest) (rw behind (IsCharacter-take quote (drop m s) n v (k - m) (omega arith) char)) nz e
+pub AreCharacters-take : (quote : ℕ) (s : List ℕ) (m k : ℕ) (vs : List ℕ) → m ≤ k → AreCharacters quote s m vs → AreCharacters quote (take k s) m vs
+AreCharacters-take quote s m k vs le (none s1) = none (take k s)
+AreCharacters-take quote s m k vs le (more s1 n v m1 k1 vs1 char nz rest e) =
+    let behind : drop n (take k s) ≡ take (k - n) (drop n s) = drop_of_take n k s (omega arith) in
+    more (take k s) n v m1 m vs1 (IsCharacter-take quote s n v k (omega arith) char) nz (rw behind (AreCharacters-take quote (drop n s) m1 (k - n) vs1 (omega arith) rest)) e
 
 char_alone : (s : List ℕ) (n : ℕ) → IsCharLiteral s n → IsCharLiteral (take n s) n
 char_alone s n t =
@@ -164,13 +164,15 @@ char_alone s n t =
     }
 
 text_alone : (s : List ℕ) (n : ℕ) → IsTextLiteral s n → IsTextLiteral (take n s) n
-text_alone s n t = record {
-  opens = get_or-take n s 0 0 (omega (arith, t.length)) ∙ t.opens;
-  last = t.last;
-  characters = AreCharacters-take 34 s 1 t.last n (omega (arith, t.length)) t.characters;
-  closes = get_or-take n s t.last 0 (omega (arith, t.length)) ∙ t.closes;
-  length = t.length;
-}
+text_alone s n t =
+    let behind : drop 1 (take n s) ≡ take (n - 1) (drop 1 s) = drop_of_take 1 n s (omega (arith, t.length)) in record {
+      opens = get_or-take n s 0 0 (omega (arith, t.length)) ∙ t.opens;
+      octets = t.octets;
+      inner = t.inner;
+      characters = rw behind (AreCharacters-take 34 (drop 1 s) t.inner (n - 1) t.octets (omega (arith, t.length)) t.characters);
+      closes = get_or-take n s (t.inner + 1) 0 (omega (arith, t.length)) ∙ t.closes;
+      length = t.length;
+    }
 
 pragma_alone : (before s : List ℕ) (n : ℕ) → IsPragmaLine before s n → IsPragmaLine [] (take n s) n
 pragma_alone before s n t =

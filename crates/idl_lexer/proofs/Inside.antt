@@ -15,7 +15,7 @@ use Rattle.idl_lexer.specs.Octets.{is_word, is_one_of, is_line_feed, is_octal, r
 use Rattle.idl_lexer.specs.Words.{IsWord, IsIdentifier}
 use Rattle.idl_lexer.specs.Numbers.{is_word_or_point}
 use Rattle.idl_lexer.specs.Punctuation.{is_pair, is_punctuation, opens_comment}
-use Rattle.idl_lexer.specs.Literals.{escape_value, is_plain, IsCharacter, plain, letter, octal, hexadecimal, AreCharacters, none, more}
+use Rattle.idl_lexer.specs.Literals.{is_escape_letter, is_plain, IsCharacter, plain, letter, octal, hexadecimal, AreCharacters, none, more}
 use Rattle.idl_lexer.specs.Directives.{line_of}
 use Rattle.idl_lexer.specs.Forms.{Begins, IsPragmaLine}
 
@@ -53,12 +53,6 @@ hex_inner c h = record { ascii = hex_ascii c h; on_line = other is_ascii_hexdigi
 
 plain_inner : (quote c : ℕ) → is_plain quote c ≡ true → Inner c
 plain_inner quote c h = record { ascii = grind (arith, nat_tests); on_line = grind (arith, nat_tests) }
-
-letter_ascii : (c v : ℕ) → escape_value c v ≡ true → c < 128
-letter_ascii c v h = grind (arith, nat_tests)
-
-letter_inner : (c v : ℕ) → escape_value c v ≡ true → Inner c
-letter_inner c v h = record { ascii = letter_ascii c v h; on_line = other (λ d. escape_value d v) c refl h }
 
 run_at : (p : ℕ → Bool) (s : List ℕ) (n k : ℕ) → n ≡ run p s → k < n → p (slice_index s k) ≡ true
 run_at p s n k e lt = prefix_len_passes p s k 0 (omega arith)
@@ -138,26 +132,29 @@ hex_digits s m (suc zero) b x some lt = numeral _ 120 x (omega arith) (omega ari
 hex_digits s m (suc (suc j)) b x some lt =
     behind_inner s 2 j (suc (suc j)) (omega arith) (hex_inner _ (run_at is_ascii_hexdigit (drop 2 s) _ j refl (omega arith)))
 
-letter_pair : (s : List ℕ) (v k : ℕ) → slice_index s 0 ≡ 92 → escape_value (slice_index s 1) v ≡ true → k < 2 → Inner (slice_index s k)
-letter_pair s v zero b e lt = numeral _ 92 b (omega arith) (omega arith)
-letter_pair s v (suc zero) b e lt = letter_inner _ v e
-letter_pair s v (suc (suc k)) b e lt = absurd (omega arith)
+letter_inner : (c : ℕ) → is_escape_letter c ≡ true → Inner c
+letter_inner c h = record { ascii = one_ascii (codes "ntvbrfa\\?'\"") c refl h; on_line = other is_escape_letter c refl h }
+
+letter_pair : (s : List ℕ) (k : ℕ) → slice_index s 0 ≡ 92 → is_escape_letter (slice_index s 1) ≡ true → k < 2 → Inner (slice_index s k)
+letter_pair s zero b e lt = numeral _ 92 b (omega arith) (omega arith)
+letter_pair s (suc zero) b e lt = letter_inner _ e
+letter_pair s (suc (suc k)) b e lt = absurd (omega arith)
 
 character_inner : (quote : ℕ) (s : List ℕ) (n v k : ℕ) → IsCharacter quote s n v → k < n → Inner (slice_index s k)
 character_inner quote s n v k (plain some here is one) lt =
     at_inner s 0 k (omega arith) (rw here (plain_inner quote v is))
-character_inner quote s n v k (letter b e two) lt = letter_pair s v k b e (omega arith)
+character_inner quote s n v k (letter b e is two) lt = letter_pair s k b e (omega arith)
 character_inner quote s n v k (octal m b digits small e) lt =
     octal_digits s m k b (omega (arith, digits.whole)) (omega arith)
 character_inner quote s n v k (hexadecimal m b x digits e) lt =
     hex_digits s m k b x (omega (arith, digits.whole)) (omega arith)
 
-characters_inner : (quote : ℕ) (s : List ℕ) (i j k : ℕ) → AreCharacters quote s i j → i ≤ k → k < j → Inner (slice_index s k)
-characters_inner quote s i j k none low lt = absurd (omega arith)
-characters_inner quote s i j k (more m n j2 v rest char nz e) low lt =
-    elim (cases_lt k m) [
-      | inl before ↦ characters_inner quote s i m k rest low before
-      | inr in_it ↦ behind_inner s m (k - m) k (omega arith) (character_inner quote (drop m s) n v (k - m) char (omega arith))
+characters_inner : (quote : ℕ) (s : List ℕ) (m k : ℕ) (vs : List ℕ) → AreCharacters quote s m vs → k < m → Inner (slice_index s k)
+characters_inner quote s m k vs (none s1) lt = absurd (omega arith)
+characters_inner quote s m k vs (more s1 n v m1 k1 vs1 char nz rest e) lt =
+    elim (cases_lt k n) [
+      | inl in_it ↦ character_inner quote s n v k char in_it
+      | inr behind ↦ behind_inner s n (k - n) k (omega arith) (characters_inner quote (drop n s) m1 (k - n) vs1 rest (omega arith))
     ]
 
 char_literal_inner : (s : List ℕ) (inner v k : ℕ) → slice_index s 0 ≡ 39 → IsCharacter 39 (drop 1 s) inner v → slice_index s (inner + 1) ≡ 39 → k < inner + 2 → Inner (slice_index s k)
@@ -168,12 +165,12 @@ char_literal_inner s inner v (suc j) opens char closes lt =
       | inr behind ↦ at_inner s (inner + 1) (suc j) (omega arith) (numeral _ 39 closes (omega arith) (omega arith))
     ]
 
-text_literal_inner : (s : List ℕ) (last k : ℕ) → slice_index s 0 ≡ 34 → AreCharacters 34 s 1 last → slice_index s last ≡ 34 → k < last + 1 → Inner (slice_index s k)
-text_literal_inner s last zero opens chars closes lt = numeral _ 34 opens (omega arith) (omega arith)
-text_literal_inner s last (suc j) opens chars closes lt =
-    elim (cases_lt (suc j) last) [
-      | inl in_it ↦ characters_inner 34 s 1 last (suc j) chars (omega arith) in_it
-      | inr behind ↦ at_inner s last (suc j) (omega arith) (numeral _ 34 closes (omega arith) (omega arith))
+text_literal_inner : (s : List ℕ) (inner k : ℕ) (vs : List ℕ) → slice_index s 0 ≡ 34 → AreCharacters 34 (drop 1 s) inner vs → slice_index s (inner + 1) ≡ 34 → k < inner + 2 → Inner (slice_index s k)
+text_literal_inner s inner zero vs opens chars closes lt = numeral _ 34 opens (omega arith) (omega arith)
+text_literal_inner s inner (suc j) vs opens chars closes lt =
+    elim (cases_lt j inner) [
+      | inl in_it ↦ behind_inner s 1 j (suc j) (omega arith) (characters_inner 34 (drop 1 s) inner j vs chars in_it)
+      | inr behind ↦ at_inner s (inner + 1) (suc j) (omega arith) (numeral _ 34 closes (omega arith) (omega arith))
     ]
 
 true_at : (p : ℕ → Bool) (xs : List ℕ) (i : ℕ) → i < length xs → list_all p xs ≡ true → p (slice_index xs i) ≡ true
@@ -205,7 +202,7 @@ Begins-inner Keyword before s n k t lt = word_inner _ (run_at is_word s n k t.wo
 Begins-inner Punct before s n k t lt = punctuation_inner s n k t lt
 Begins-inner Number before s n k t lt = point_inner _ (run_at is_word_or_point s n k t.whole lt)
 Begins-inner CharLit before s n k t lt = char_literal_inner s t.inner t.value k t.opens t.character t.closes (omega (arith, t.length))
-Begins-inner TextLit before s n k t lt = text_literal_inner s t.last k t.opens t.characters t.closes (omega (arith, t.length))
+Begins-inner TextLit before s n k t lt = text_literal_inner s t.inner k t.octets t.opens t.characters t.closes (omega (arith, t.length))
 Begins-inner Pragma before s n k t lt = pragma_inner before s n k t lt
 
 -- a source may be cut behind a token

@@ -9,3 +9,4 @@ pub mod Gaps
 pub mod Forms
 pub mod Tokens
 pub mod Lexemes
+pub mod Says

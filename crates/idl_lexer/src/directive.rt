@@ -1,9 +1,9 @@
 //! Lines that begin with `#`: markers of lines, and pragmas (ISO/IEC 19500-1, preprocessing, pragma
 //! directives for repository ids).
 
-ghost use Rattle.std.specs.Prelude.{◌≡◌, ◌<◌, ◌≤◌, [], length, take, drop, slice_index, IfSome, IsTrue, IfOk};
+ghost use Rattle.std.specs.Prelude.{◌≡◌, ◌<◌, ◌≤◌, ◌==◌, ◌||◌, [], length, take, drop, slice_index, IfSome, IsTrue, IfOk};
 ghost use Rattle.std.specs.Char.{is_ascii_digit};
-ghost use Rattle.idl_lexer.specs.Octets.{is_blank, past};
+ghost use Rattle.idl_lexer.specs.Octets.{is_blank, past, run};
 ghost use Rattle.idl_lexer.specs.Directives.{before_quote, directive_part, from_quote, is_kept_word, past_word};
 ghost use Rattle.idl_lexer.specs.Directives.{pragma_part, pragma_rest, version_place, word_of};
 ghost use Rattle.idl_lexer.specs.Directives.{IsDigits, IsFile, IsFresh, IsKept, IsMark, IsName, IsPragma};
@@ -13,8 +13,8 @@ ghost use Rattle.idl_lexer.specs.Lexemes.{IsLexeme};
 use crate::fault::LexFault;
 use crate::lexeme::Lexeme;
 use crate::octets::{
-    are_ascii, are_blank, are_blanks_or_digits, blank_len, digit_len, is_blank_octet, line_len,
-    word_len,
+    are_ascii, are_blank, are_blanks_or_digits, behind_first, blank_len, digit_len, is_blank_octet,
+    line_len, word_len,
 };
 use crate::token::Kind;
 use crate::word::identifier_len;
@@ -25,15 +25,6 @@ fn past_blanks(octets: &[u8]) -> &[u8]
     ensures within { length result.now ≤ length octets.now }
 {
     octets.split_at(blank_len(octets)).1
-}
-
-pub(crate) fn behind_first(octets: &[u8]) -> &[u8]
-    ensures { result.now ≡ drop 1 octets.now }
-{
-    match octets {
-        [_, rest @ ..] => rest,
-        [] => octets,
-    }
 }
 
 /// The word at the front, and what follows it and the blanks behind it.
@@ -172,6 +163,17 @@ pub(crate) fn version_at(octets: &[u8]) -> usize
         }
     }
     at
+}
+
+/// How many digits and points stand at the front.
+pub(crate) fn version_len(octets: &[u8]) -> usize
+    ensures value { result ≡ run (λ c. is_ascii_digit c || c == 46) octets.now }
+    ensures within { result ≤ length octets.now }
+{
+    octets
+        .iter()
+        .position(|octet| !octet.is_ascii_digit() && *octet != b'.')
+        .unwrap_or(octets.len())
 }
 
 /// What follows the version number at the front.

@@ -1,8 +1,11 @@
 //! Character and text literals (ISO/IEC 19500-1, lexical conventions, literals).
 
-ghost use Rattle.std.specs.Prelude.{◌≡◌, ◌<◌, ◌≤◌, ℕ, length, slice_index, IfOk, IfSome, true};
-ghost use Rattle.std.specs.Str.Parse.{digits_value};
-ghost use Rattle.idl_lexer.specs.Literals.{escape_value, IsCharacter, IsCharLiteral, IsTextLiteral};
+ghost use Rattle.std.specs.Prelude.{◌≡◌, ◌<◌, ◌≤◌, ℕ, length, drop, slice_index, IfOk, IfSome, IsOk, IsSome, true};
+ghost use Rattle.std.specs.Char.{is_ascii_hexdigit};
+ghost use Rattle.std.specs.Str.Parse.{digits_value, IsNumeral};
+ghost use Rattle.idl_lexer.specs.Octets.{is_octal};
+ghost use Rattle.idl_lexer.specs.Literals.{is_escape_letter, letter_value, IsCharacter, IsCharLiteral};
+ghost use Rattle.idl_lexer.specs.Literals.{IsEscapeDigits, IsTextLiteral};
 
 use crate::fault::LexFault;
 use crate::number::number_of;
@@ -16,6 +19,7 @@ fn octet_of(digits: &[u8], radix: u32) -> Option<u8>
     ensures some { IfSome result (λ v. 0 < length digits.now) }
     ensures value { IfSome result (λ v. v ≡ digits_value radix digits.now) }
     ensures octet { IfSome result (λ v. v < 256) }
+    ensures complete { IsNumeral radix digits.now → digits_value radix digits.now < 256 → IsSome result }
 {
     u8::try_from(number_of(digits, radix)?).ok()
 }
@@ -26,6 +30,7 @@ fn octal_escape(octets: &[u8], line: usize) -> Result<(u8, usize), LexFault>
     ensures form { (quote : ℕ) → IfOk result (λ c. IsCharacter quote octets.now c.1 c.0) }
     ensures within { IfOk result (λ c. c.1 ≤ length octets.now) }
     ensures long { IfOk result (λ c. 0 < c.1) }
+    ensures complete { (m v : ℕ) → IsEscapeDigits is_octal 8 3 (drop 1 octets.now) m v → v < 256 → IsOk result }
 {
     let digits = octets.split_at(1).1;
     let len = octal_len(digits).min(3);
@@ -42,6 +47,7 @@ fn hex_escape(octets: &[u8], line: usize) -> Result<(u8, usize), LexFault>
     ensures form { (quote : ℕ) → IfOk result (λ c. IsCharacter quote octets.now c.1 c.0) }
     ensures within { IfOk result (λ c. c.1 ≤ length octets.now) }
     ensures long { IfOk result (λ c. 0 < c.1) }
+    ensures complete { (m v : ℕ) → IsEscapeDigits is_ascii_hexdigit 16 2 (drop 2 octets.now) m v → IsOk result }
 {
     let digits = octets.split_at(2).1;
     let len = hex_len(digits).min(2);
@@ -52,7 +58,9 @@ fn hex_escape(octets: &[u8], line: usize) -> Result<(u8, usize), LexFault>
 }
 
 fn letter_escape(letter: u8) -> Option<u8>
-    ensures { IfSome result (λ v. escape_value letter v ≡ true) }
+    ensures form { IfSome result (λ v. is_escape_letter letter ≡ true) }
+    ensures value { IfSome result (λ v. v ≡ letter_value letter) }
+    ensures complete { is_escape_letter letter ≡ true → IsSome result }
 {
     match letter {
         b'n' => Some(b'\n'),
@@ -73,6 +81,7 @@ fn escape(octets: &[u8], line: usize) -> Result<(u8, usize), LexFault>
     ensures form { (quote : ℕ) → IfOk result (λ c. IsCharacter quote octets.now c.1 c.0) }
     ensures within { IfOk result (λ c. c.1 ≤ length octets.now) }
     ensures long { IfOk result (λ c. 0 < c.1) }
+    ensures complete { (quote n v : ℕ) → IsCharacter quote octets.now n v → IsOk result }
 {
     match octets {
         [_, b'x', ..] => hex_escape(octets, line),
@@ -87,10 +96,11 @@ fn escape(octets: &[u8], line: usize) -> Result<(u8, usize), LexFault>
 }
 
 /// The octet that the character at the front stands for, and how long it is.
-fn character(octets: &[u8], quote: u8, line: usize) -> Result<(u8, usize), LexFault>
+pub(crate) fn character(octets: &[u8], quote: u8, line: usize) -> Result<(u8, usize), LexFault>
     ensures form { IfOk result (λ c. IsCharacter quote octets.now c.1 c.0) }
     ensures within { IfOk result (λ c. c.1 ≤ length octets.now) }
     ensures long { IfOk result (λ c. 0 < c.1) }
+    ensures complete { (n v : ℕ) → IsCharacter quote octets.now n v → IsOk result }
 {
     match octets {
         [b'\\', ..] => escape(octets, line),
