@@ -27,6 +27,6 @@ Begins CharLit before s n = IsCharLiteral s n
 Begins TextLit before s n = IsTextLiteral s n
 Begins Pragma before s n = IsPragmaLine before s n
 
--- the text is one token of this kind, and nothing more (∥ .. ∥₁ keeps that it is one, and not the way in which it is)
+-- the text is one token of this kind, and nothing more (∥ .. ∥₁ keeps that it is one, and not in which way)
 abbrev pub HasForm : Kind → List ℕ → Type 0
 HasForm kind text = ∥ Begins kind [] text (length text) ∥₁

@@ -28,8 +28,8 @@ pub record IsEscapeDigits (test : ℕ → Bool) (radix most : ℕ) (s : List ℕ
 pub data IsCharacter (quote : ℕ) (s : List ℕ) (n v : ℕ) : Type 0 where
   plain : 0 < length s → slice_index s 0 ≡ v → is_plain quote v ≡ true → n ≡ 1
       → IsCharacter quote s n v
-  letter : slice_index s 0 ≡ 92 → is_escape_letter (slice_index s 1) ≡ true → v ≡ letter_value (slice_index s 1) → n ≡ 2
-      → IsCharacter quote s n v
+  letter : slice_index s 0 ≡ 92 → is_escape_letter (slice_index s 1) ≡ true
+      → v ≡ letter_value (slice_index s 1) → n ≡ 2 → IsCharacter quote s n v
   octal : (m : ℕ) → slice_index s 0 ≡ 92 → IsEscapeDigits is_octal 8 3 (drop 1 s) m v
       → v < 256 → n ≡ m + 1 → IsCharacter quote s n v
   hexadecimal : (m : ℕ) → slice_index s 0 ≡ 92 → slice_index s 1 ≡ 120

@@ -23,6 +23,3 @@ pub use lexer::lex;
 pub use pragmas::{Pragma, is_rooted};
 pub use token::{Kind, Token};
 pub use values::{character_value, number_value, push_octets};
-
-#[cfg(test)]
-mod tests;

@@ -1,8 +1,9 @@
-//! What no contract says: the lines of faults, their texts, and that good sources are taken.
+//! What no contract of the lexer says: which fault a source gets, its line and its text, and that good sources are
+//! taken.
 
-use crate::fault::LexFault;
-use crate::lexer::lex;
-use crate::token::Kind;
+use idl_lexer::{
+    Kind, LexFault, Pragma, Token, character_value, is_rooted, lex, number_value, push_octets,
+};
 use std::alloc::Global;
 use std::test::Fail;
 
@@ -135,8 +136,12 @@ fn literals_have_escapes(rt: HostRuntime) -> Result<(), Fail> {
     assert_eq!(rt; fault(alloc, "\n\"a\nb\""), open);
     assert_eq!(rt; fault(alloc, "\n\"a"), open);
     assert_eq!(rt; fault(alloc, "\n\"a\\\nb\""), open);
-    assert_eq!(rt; fault(alloc, "\n\"a\\\r\nb\""), open);
-    assert_eq!(rt; fault(alloc, "\"é\""), Some(LexFault::BadChar { line: 1 }));
+    assert_eq!(rt; fault(alloc, "\"a\\\r\nb\""), bad);
+    let other = Some(LexFault::BadChar { line: 1 });
+    for source in ["\"é\"", "'é'", "'aé'", "'abé'", "'\\é'", "'\\qé'"] {
+        assert_eq!(rt; fault(alloc, source), other, "{source}");
+    }
+    assert_eq!(rt; fault(alloc, "\n''é"), open);
     Ok(())
 }
 
@@ -196,37 +201,128 @@ fn directives_are_whole_lines(rt: HostRuntime) -> Result<(), Fail> {
 }
 
 #[test]
+fn blanks_in_directives_are_free(rt: HostRuntime) -> Result<(), Fail> {
+    let alloc = rt.alloc();
+    let kept = [
+        "#pragma prefix\"p\"",
+        "#pragma ID A :: B\"x\"",
+        "#pragma ID :: A ::B \"x\" ",
+        "# pragma version ::  M::N\t1.2 ",
+        "#pragma version A1 0.10",
+    ];
+    for line in kept {
+        let tokens = lex(alloc, line)?;
+        assert_eq!(rt; tokens.len(), 1, "{line}");
+        assert_eq!(rt; tokens[0].text, line);
+    }
+    let skipped = "# 1\"f\"\n#2 \"f\"1 2\n# 3 \"f\" 1\t2  3\r\na";
+    assert_eq!(rt; shown(alloc, skipped)?.as_str(), "i4a|");
+    let bad = Some(LexFault::BadDirective { line: 1 });
+    for line in ["#pragma version A1.0", "#pragma version A 1.0.0", "#pragma ID A B \"x\"", "#pragma ID A: :B \"x\""] {
+        assert_eq!(rt; fault(alloc, line), bad, "{line}");
+    }
+    Ok(())
+}
+
+/// What a literal or a pragma says, as text.
+fn said(alloc: Global, token: &Token<'_>) -> Result<String, Fail> {
+    let mut octets = Vec::new(alloc);
+    Ok(match token.kind {
+        Kind::Number => format!(in alloc; "{}", number_value(token.text))?,
+        Kind::CharLit => format!(in alloc; "{}", character_value(token.text))?,
+        Kind::TextLit => {
+            push_octets(token.text, &mut octets)?;
+            format!(in alloc; "{octets:?}")?
+        }
+        Kind::Pragma => match Pragma::read(token.text) {
+            Pragma::Prefix { text } => format!(in alloc; "prefix {text}")?,
+            Pragma::Id { name, text } => {
+                format!(in alloc; "{} {name}is {text}", is_rooted(name))?
+            }
+            Pragma::Version { name, number } => format!(in alloc; "{name}has {number}")?,
+        },
+        Kind::Ident | Kind::Keyword | Kind::Punct => String::new(alloc),
+    })
+}
+
+#[test]
+fn literals_and_pragmas_say_this(rt: HostRuntime) -> Result<(), Fail> {
+    let alloc = rt.alloc();
+    let rows = [
+        ("0", "0"),
+        ("017", "15"),
+        ("18446744073709551615", "18446744073709551615"),
+        ("0x1F", "31"),
+        ("0XfFfFfFfFfFfFfFfF", "18446744073709551615"),
+        ("01777777777777777777777", "18446744073709551615"),
+        ("'a'", "97"),
+        (r"'\n'", "10"),
+        (r"'\''", "39"),
+        (r"'\0'", "0"),
+        (r"'\377'", "255"),
+        (r"'\xfF'", "255"),
+        (r#""""#, "[]"),
+        (r#""\n\t\v\b\r\f\a\\\?\'\"""#, "[10, 9, 11, 8, 13, 12, 7, 92, 63, 39, 34]"),
+        (r#""\1234\x414""#, "[83, 52, 65, 52]"),
+        ("#pragma prefix \"a\\b\" ", "prefix a\\b"),
+        ("#pragma ID ::A :: _b \"x y\"", "true ::A :: _b is x y"),
+        ("#pragma ID A\"\"", "false Ais "),
+        ("#pragma version M::N2 1.20 ", "M::N2 has 1.20"),
+    ];
+    for (source, want) in rows {
+        let tokens = lex(alloc, source)?;
+        assert_eq!(rt; tokens.len(), 1, "{source}");
+        assert_eq!(rt; said(alloc, &tokens[0])?.as_str(), want, "{source}");
+    }
+    Ok(())
+}
+
+/// A text so many times, between a front and a back.
+fn repeated(alloc: Global, shape: [&str; 3], times: usize) -> Result<String, Fail> {
+    let [front, middle, back] = shape;
+    let mut out = String::from_str(alloc, front)?;
+    for _ in 0..times {
+        out.push_str(middle)?;
+    }
+    out.push_str(back)?;
+    Ok(out)
+}
+
+#[test]
+fn large_sources_are_read(rt: HostRuntime) -> Result<(), Fail> {
+    let alloc = rt.alloc();
+    let size = 1 << 20;
+    let comment = repeated(alloc, ["/*", "*\n", "*/"], size)?;
+    assert_eq!(rt; lex(alloc, comment.as_str())?.len(), 0);
+    let open = repeated(alloc, ["\n/*/", "*\n", ""], size)?;
+    assert_eq!(rt; fault(alloc, open.as_str()), Some(LexFault::OpenComment { line: 2 }));
+    let marks = repeated(alloc, ["", "<:", ""], size)?;
+    assert_eq!(rt; lex(alloc, marks.as_str())?.len(), 2 * size);
+    let literal = repeated(alloc, ["\"", "\\x1a", "\""], size)?;
+    let tokens = lex(alloc, literal.as_str())?;
+    assert_eq!(rt; tokens.len(), 1);
+    assert_eq!(rt; said(alloc, &tokens[0])?.len(), 4 * size);
+    let unclosed = repeated(alloc, ["\"", "a", ""], size)?;
+    assert_eq!(rt; fault(alloc, unclosed.as_str()), Some(LexFault::OpenLiteral { line: 1 }));
+    Ok(())
+}
+
+#[test]
 fn faults_have_texts(rt: HostRuntime) -> Result<(), Fail> {
     let alloc = rt.alloc();
     let line = 3;
-    assert_eq!(rt;
-        LexFault::BadChar { line }.to_string(alloc)?.as_str(),
-        "1 BadChar line 3"
-    );
-    assert_eq!(rt;
-        LexFault::OpenComment { line }.to_string(alloc)?.as_str(),
-        "2 OpenComment line 3"
-    );
-    assert_eq!(rt;
-        LexFault::OpenLiteral { line }.to_string(alloc)?.as_str(),
-        "3 OpenLiteral line 3"
-    );
-    assert_eq!(rt;
-        LexFault::BadNumber { line }.to_string(alloc)?.as_str(),
-        "4 BadNumber line 3"
-    );
-    assert_eq!(rt;
-        LexFault::BadEscape { line }.to_string(alloc)?.as_str(),
-        "5 BadEscape line 3"
-    );
-    assert_eq!(rt;
-        LexFault::BadDirective { line }.to_string(alloc)?.as_str(),
-        "6 BadDirective line 3"
-    );
-    assert_eq!(rt;
-        LexFault::KeywordCase { line }.to_string(alloc)?.as_str(),
-        "7 KeywordCase line 3"
-    );
-    assert_eq!(rt; LexFault::NoMemory.to_string(alloc)?.as_str(), "no memory");
+    let rows = [
+        (LexFault::BadChar { line }, "1 BadChar line 3"),
+        (LexFault::OpenComment { line }, "2 OpenComment line 3"),
+        (LexFault::OpenLiteral { line }, "3 OpenLiteral line 3"),
+        (LexFault::BadNumber { line }, "4 BadNumber line 3"),
+        (LexFault::BadEscape { line }, "5 BadEscape line 3"),
+        (LexFault::BadDirective { line }, "6 BadDirective line 3"),
+        (LexFault::KeywordCase { line }, "7 KeywordCase line 3"),
+        (LexFault::NoMemory, "no memory"),
+    ];
+    for (fault, want) in rows {
+        assert_eq!(rt; fault.to_string(alloc)?.as_str(), want);
+    }
     Ok(())
 }
