@@ -277,11 +277,14 @@ fn literals_and_pragmas_say_this(rt: HostRuntime) -> Result<(), Fail> {
     Ok(())
 }
 
-/// A text so many times, between a front and a back.
-fn repeated(alloc: Global, shape: [&str; 3], times: usize) -> Result<String, Fail> {
+/// How large a hostile source is.
+const MIB: usize = 1 << 20;
+
+/// A text again and again, a mebibyte of it, between a front and a back.
+fn repeated(alloc: Global, shape: [&str; 3]) -> Result<String, Fail> {
     let [front, middle, back] = shape;
     let mut out = String::from_str(alloc, front)?;
-    for _ in 0..times {
+    for _ in 0..MIB / middle.len().max(1) {
         out.push_str(middle)?;
     }
     out.push_str(back)?;
@@ -291,19 +294,30 @@ fn repeated(alloc: Global, shape: [&str; 3], times: usize) -> Result<String, Fai
 #[test]
 fn large_sources_are_read(rt: HostRuntime) -> Result<(), Fail> {
     let alloc = rt.alloc();
-    let size = 1 << 20;
-    let comment = repeated(alloc, ["/*", "*\n", "*/"], size)?;
+    let comment = repeated(alloc, ["/*", "*\n", "*/"])?;
     assert_eq!(rt; lex(alloc, comment.as_str())?.len(), 0);
-    let open = repeated(alloc, ["\n/*/", "*\n", ""], size)?;
-    assert_eq!(rt; fault(alloc, open.as_str()), Some(LexFault::OpenComment { line: 2 }));
-    let marks = repeated(alloc, ["", "<:", ""], size)?;
-    assert_eq!(rt; lex(alloc, marks.as_str())?.len(), 2 * size);
-    let literal = repeated(alloc, ["\"", "\\x1a", "\""], size)?;
+    let marks = repeated(alloc, ["", "<:", ""])?;
+    assert_eq!(rt; lex(alloc, marks.as_str())?.len(), MIB);
+    let literal = repeated(alloc, ["\"", "\\x1a", "\""])?;
     let tokens = lex(alloc, literal.as_str())?;
     assert_eq!(rt; tokens.len(), 1);
-    assert_eq!(rt; said(alloc, &tokens[0])?.len(), 4 * size);
-    let unclosed = repeated(alloc, ["\"", "a", ""], size)?;
-    assert_eq!(rt; fault(alloc, unclosed.as_str()), Some(LexFault::OpenLiteral { line: 1 }));
+    let mut octets = Vec::new(alloc);
+    if tokens[0].kind == Kind::TextLit {
+        push_octets(tokens[0].text, &mut octets)?;
+    }
+    assert_eq!(rt; octets.len(), MIB / 4);
+    Ok(())
+}
+
+#[test]
+fn large_open_sources_are_refused(rt: HostRuntime) -> Result<(), Fail> {
+    let alloc = rt.alloc();
+    let comment = repeated(alloc, ["\n/*/", "*\n", ""])?;
+    let fault_of_comment = fault(alloc, comment.as_str());
+    assert_eq!(rt; fault_of_comment, Some(LexFault::OpenComment { line: 2 }));
+    let literal = repeated(alloc, ["\"", "a", ""])?;
+    let fault_of_literal = fault(alloc, literal.as_str());
+    assert_eq!(rt; fault_of_literal, Some(LexFault::OpenLiteral { line: 1 }));
     Ok(())
 }
 
