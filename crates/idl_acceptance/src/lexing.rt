@@ -218,7 +218,12 @@ fn blanks_in_directives_are_free(rt: HostRuntime) -> Result<(), Fail> {
     let skipped = "# 1\"f\"\n#2 \"f\"1 2\n# 3 \"f\" 1\t2  3\r\na";
     assert_eq!(rt; shown(alloc, skipped)?.as_str(), "i4a|");
     let bad = Some(LexFault::BadDirective { line: 1 });
-    for line in ["#pragma version A1.0", "#pragma version A 1.0.0", "#pragma ID A B \"x\"", "#pragma ID A: :B \"x\""] {
+    for line in [
+        "#pragma version A1.0",
+        "#pragma version A 1.0.0",
+        "#pragma ID A B \"x\"",
+        "#pragma ID A: :B \"x\"",
+    ] {
         assert_eq!(rt; fault(alloc, line), bad, "{line}");
     }
     Ok(())
@@ -262,7 +267,10 @@ fn literals_and_pragmas_say_this(rt: HostRuntime) -> Result<(), Fail> {
         (r"'\377'", "255"),
         (r"'\xfF'", "255"),
         (r#""""#, "[]"),
-        (r#""\n\t\v\b\r\f\a\\\?\'\"""#, "[10, 9, 11, 8, 13, 12, 7, 92, 63, 39, 34]"),
+        (
+            r#""\n\t\v\b\r\f\a\\\?\'\"""#,
+            "[10, 9, 11, 8, 13, 12, 7, 92, 63, 39, 34]",
+        ),
         (r#""\1234\x414""#, "[83, 52, 65, 52]"),
         ("#pragma prefix \"a\\b\" ", "prefix a\\b"),
         ("#pragma ID ::A :: _b \"x y\"", "true ::A :: _b is x y"),
