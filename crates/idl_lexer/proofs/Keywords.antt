@@ -1,12 +1,12 @@
 -- Among the words of one's own length.
-use Rattle.std.proofs.Common.{◌≡◌, ◌∙◌, ℕ, Bool, true, false, List, [], ◌∷◌, Bor, filter, length, map, ◌==◌, ◌||◌, ap, refl, sym, eq-eqb}
+use Rattle.std.proofs.Common.{◌≡◌, ◌∙◌, ℕ, Bool, true, List, [], ◌∷◌, Bor, filter, length, map, ◌==◌, ◌||◌, ap, refl, sym, eq-eqb}
 use Rattle.std.specs.Char.{to_ascii_lowercase}
 use Rattle.std.specs.List.{list_any}
 use Rattle.std.specs.Str.{bytes_eq}
 use Rattle.std.proofs.lemmas.List.{length-map}
 use Rattle.std.proofs.lemmas.Map.Views.{any-filter_same}
 use Rattle.std.proofs.lemmas.Slice.Eq.{bytes_eq-Decides}
-use Rattle.idl_lexer.specs.Words.{keywords, is_keyword, is_keyword_in_some_case, same_but_for_case}
+use Rattle.idl_lexer.specs.Words.{keywords, same_but_for_case}
 
 list_any-map : (p : List ℕ → Bool) (ts : List (Bor (List ℕ))) → list_any (λ (t : Bor (List ℕ)). p t.now) ts ≡ list_any p (map (λ (t : Bor (List ℕ)). t.now) ts)
 list_any-map p [] = refl

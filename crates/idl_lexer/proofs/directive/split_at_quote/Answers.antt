@@ -1,4 +1,4 @@
-use Rattle.std.proofs.Common.{◌≡◌, ◌∙◌, ap, drop, take}
+use Rattle.std.proofs.Common.{◌∙◌, ap, drop, take}
 use Rattle.idl_lexer.proofs.Runs.{run-first}
 use Rattle.idl_lexer.proofs.directive.split_at_quote.Goals as goal
 

@@ -1,4 +1,4 @@
-use Rattle.std.proofs.Common.{◌≡◌, ℕ, ◌∙◌, List, length, drop, ap, arith}
+use Rattle.std.proofs.Common.{◌≡◌, ℕ, List, length, drop}
 use Rattle.std.proofs.Math.Logic.{∥∥₁_elim}
 use Rattle.idl_lexer.specs.Literals.{IsCharacter, IsCharLiteral}
 use Rattle.idl_lexer.proofs.Characters.{same_value}

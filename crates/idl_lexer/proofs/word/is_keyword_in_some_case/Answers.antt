@@ -1,6 +1,5 @@
 use Rattle.std.proofs.Common.{◌∙◌}
 use Rattle.idl_lexer.specs.Words.{same_but_for_case}
-use Rattle.std.specs.Str.{bytes_eq}
 use Rattle.idl_lexer.proofs.Keywords.{among, same_but_for_case_len}
 use Rattle.idl_lexer.proofs.word.is_keyword_in_some_case.Goals as goal
 

@@ -1,7 +1,7 @@
 use Rattle.std.proofs.Common.{◌≡◌, ◌∙◌, ℕ, List, codes, take, drop, ap, sym}
 use Rattle.std.specs.Str.{IsAscii}
 use Rattle.std.proofs.lemmas.Str.{IsAscii-drop, IsAscii-take}
-use Rattle.idl_lexer.specs.Directives.{before_quote, from_quote, past_word, pragma_part, pragma_rest, pragma_word, version_number, version_place, word_of}
+use Rattle.idl_lexer.specs.Directives.{before_quote, from_quote, past_word, pragma_part, pragma_word, version_number, version_place, word_of}
 use Rattle.idl_lexer.proofs.PragmaParts.{id_scoped, rest_ascii, version_scoped, version_word}
 use Rattle.idl_lexer.proofs.pragmas.Pragma.read.Goals as goal
 
