@@ -2,4 +2,6 @@
 #![tactic(auto)]
 
 #[cfg(test)]
+mod lexing;
+#[cfg(test)]
 mod parsing;
