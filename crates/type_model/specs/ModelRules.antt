@@ -17,7 +17,13 @@ pub record Parts : Type 0 where
   pub exceptions : List Exception
 
 abbrev pub parts_of : List Node → List (List ℕ × ℕ) → List Interface → List Operation → List Exception → Parts
-parts_of graph names interfaces operations exceptions = record { graph = graph; names = names; interfaces = interfaces; operations = operations; exceptions = exceptions }
+parts_of graph names interfaces operations exceptions = record {
+  graph = graph;
+  names = names;
+  interfaces = interfaces;
+  operations = operations;
+  exceptions = exceptions;
+}
 
 abbrev pub IsFrame : Node → Type 0
 IsFrame (Frame members) = Unit {0}
@@ -52,7 +58,8 @@ pub record IsException (graph : List Node) (names : List (List ℕ × ℕ)) (exc
   pub id : BeginsWithId graph exception.frame
 
 -- what the interfaces, operations and exceptions over a graph with names keep
-pub record AreDeclared (graph : List Node) (names : List (List ℕ × ℕ)) (interfaces : List Interface) (operations : List Operation) (exceptions : List Exception) : Type 0 where
+pub record AreDeclared (graph : List Node) (names : List (List ℕ × ℕ))
+  (interfaces : List Interface) (operations : List Operation) (exceptions : List Exception) : Type 0 where
   pub each_interface : All (IsInterface (length operations)) interfaces
   pub each_operation : All (IsOperation graph names (length exceptions)) operations
   pub each_exception : All (IsException graph names) exceptions
