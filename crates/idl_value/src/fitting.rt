@@ -7,7 +7,7 @@ ghost use Rattle.type_graph.specs.Value.{node_at, Bytes, Items, Choice, IsNumber
 ghost use Rattle.idl_value.specs.View.{tree_of, trees_of, member_of};
 ghost use Rattle.idl_value.specs.PartList.{numbers_of, AreWithin};
 
-use crate::numbers::{is_count};
+use crate::numbers::is_count;
 use crate::parts::Parts;
 use crate::texts::is_text;
 use crate::value::Value;

@@ -59,7 +59,7 @@ pub record IsException (graph : List Node) (names : List (List ℕ × ℕ)) (exc
 
 -- what the interfaces, operations and exceptions over a graph with names keep
 pub record AreDeclared (graph : List Node) (names : List (List ℕ × ℕ))
-  (interfaces : List Interface) (operations : List Operation) (exceptions : List Exception) : Type 0 where
+    (interfaces : List Interface) (operations : List Operation) (exceptions : List Exception) : Type 0 where
   pub each_interface : All (IsInterface (length operations)) interfaces
   pub each_operation : All (IsOperation graph names (length exceptions)) operations
   pub each_exception : All (IsException graph names) exceptions
