@@ -2,4 +2,8 @@
 #![tactic(auto)]
 
 #[cfg(test)]
+mod hostile;
+#[cfg(test)]
 mod parsing;
+#[cfg(test)]
+mod trees;
