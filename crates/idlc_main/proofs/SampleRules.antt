@@ -44,4 +44,4 @@ sample_is_program = subst IsProgram (sym sample_is_plain) (plain_is_program samp
 
 -- a routine serves the structure
 pub structure_served : (program : List Routine) (node : ℕ) → program ≡ sample_program → node ≡ 3 → IsSome (served_by program node)
-structure_served program node is number = subst (λ (p : List Routine). IsSome (served_by p node)) (sym is) (subst (λ (n : ℕ). IsSome (served_by sample_program n)) (sym number) tt)
+structure_served program node is number = subst (λ (p : List Routine). IsSome (served_by p node)) (sym is) (subst (λ (n : ℕ). IsSome (served_by sample_program n)) (sym number) refl)
