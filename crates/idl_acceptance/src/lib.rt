@@ -2,10 +2,4 @@
 #![tactic(auto)]
 
 #[cfg(test)]
-mod hostile;
-#[cfg(test)]
-mod lexing;
-#[cfg(test)]
 mod parsing;
-#[cfg(test)]
-mod trees;

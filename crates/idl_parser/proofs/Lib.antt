@@ -1,4 +1,2 @@
 pub mod Reading
 pub mod Parts
-pub mod Operands
-pub mod Skips

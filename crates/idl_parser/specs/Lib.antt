@@ -1,2 +1,3 @@
 -- From where to where a part of a tree is read.
 pub mod Reading
+pub mod Raises

@@ -1,10 +1,7 @@
--- The tokens that the tree of an IDL specification spells, and its levels.
+-- The tokens that the tree of an IDL specification spells.
 pub mod Pieces
 pub mod Yields
 pub mod TypeYields
 pub mod DefinitionYields
+pub mod Lines
 pub mod Grouping
-pub mod Levels
-pub mod TypeLevels
-pub mod DefinitionLevels
-pub mod Starts

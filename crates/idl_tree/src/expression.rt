@@ -1,13 +1,13 @@
 //! Constant expressions.
 
-ghost use Rattle.std.specs.Prelude.{◌≡◌, ◌++◌, ◌≤◌, ℕ, suc, Bool, true, max, IfOk, codes};
+ghost use Rattle.std.specs.Prelude.{◌≡◌, ◌++◌, ◌≤◌, ℕ, suc, Some, IfOk, codes};
 ghost use Rattle.std.specs.List.{AllByRecursion, flat_map};
 ghost use Rattle.idl_tree.specs.Grouping.{IsOfLevel, IsOperandOf};
-ghost use Rattle.idl_tree.specs.Pieces.{mark, kept_mark};
-ghost use Rattle.idl_tree.specs.Yields.{operator_text, sign_text, expr_yield, operand_yield};
-ghost use Rattle.idl_tree.specs.Levels.{highest, expr_levels, operand_levels};
+ghost use Rattle.idl_tree.specs.Pieces.{mark};
+ghost use Rattle.idl_tree.specs.Yields.{operator_text, sign_yield, expr_yield, operand_yield};
+ghost use Rattle.idl_tree.specs.Lines.{mark_line};
 
-use crate::names::{Leaf, Listed, ScopedName};
+use crate::names::{Leaf, ScopedName};
 use std::alloc::{AllocError, Global};
 
 /// The operators between two operands.
@@ -35,25 +35,23 @@ pub enum Sign {
 
 /// A constant expression.
 #[cycle(expression)]
-#[derive(Debug, Drop)]
+#[derive(Drop)]
 pub enum Expr<'a> {
     Name(ScopedName<'a>),
     Number(Leaf<'a>),
     Character(Leaf<'a>),
     /// Text literals, one or more, which are one text together.
-    Text(Box<Listed<Leaf<'a>>>),
+    Text(Vec<Leaf<'a>>),
     Boolean {
         value: bool,
-        /// The keyword.
-        word: Leaf<'a>,
+        line: usize,
     },
     Parenthesized {
-        /// The opening parenthesis.
-        paren: Leaf<'a>,
+        line: usize,
         inner: Box<Expr<'a>>,
     },
     Signed {
-        mark: Leaf<'a>,
+        line: usize,
         sign: Sign,
         operand: Box<Expr<'a>>,
     },
@@ -66,7 +64,7 @@ pub enum Expr<'a> {
 
 /// An operator and the operand behind it.
 #[cycle(expression)]
-#[derive(Debug, Drop)]
+#[derive(Drop)]
 pub struct Operand<'a> {
     pub operator: Operator,
     pub operand: Expr<'a>,
@@ -101,11 +99,7 @@ impl<'a> Expr<'a> {
     ) -> Result<Expr<'a>, AllocError>
         ensures spells { IfOk result (λ e. expr_yield e ≡
             expr_yield first.entry ++ flat_map operand_yield rest.entry.items) }
-        ensures groups { IfOk result (λ e. (shifts : Bool) (level : ℕ) → level ≤ 5 →
-            IsOfLevel shifts (suc level) first.entry →
-            AllByRecursion (IsOperandOf shifts level) rest.entry.items → IsOfLevel shifts level e) }
-        ensures levels { IfOk result (λ e. expr_levels e ≡
-            max (expr_levels first.entry) (highest operand_levels rest.entry.items)) }
+        ensures groups { IfOk result (λ e. (level : ℕ) → level ≤ 5 → IsOfLevel (suc level) first.entry → AllByRecursion (IsOperandOf level) rest.entry.items → IsOfLevel level e) }
     {
         if rest.is_empty() {
             return Ok(first);
@@ -119,18 +113,16 @@ impl<'a> Expr<'a> {
     /// An operand with a sign before it.
     pub fn new_signed(
         alloc: Global,
-        mark: Leaf<'a>,
+        line: usize,
         sign: Sign,
         operand: Expr<'a>,
     ) -> Result<Expr<'a>, AllocError>
-        ensures spells { IfOk result (λ e. expr_yield e ≡
-            kept_mark (sign_text sign) mark.entry ++ expr_yield operand.entry) }
-        ensures groups { IfOk result (λ e. (shifts : Bool) →
-            IsOfLevel shifts 7 operand.entry → IsOfLevel shifts 6 e) }
-        ensures levels { IfOk result (λ e. expr_levels e ≡ expr_levels operand.entry) }
+        ensures spells { IfOk result (λ e. expr_yield e ≡ sign_yield sign ++ expr_yield operand.entry) }
+        ensures groups { IfOk result (λ e. IsOfLevel 7 operand.entry → IsOfLevel 6 e) }
+        ensures line { IfOk result (λ e. mark_line e ≡ Some line) }
     {
         Ok(Expr::Signed {
-            mark,
+            line,
             sign,
             operand: Box::new(alloc, operand)?,
         })
@@ -139,17 +131,16 @@ impl<'a> Expr<'a> {
     /// An expression in parentheses.
     pub fn new_parenthesized(
         alloc: Global,
-        paren: Leaf<'a>,
+        line: usize,
         inner: Expr<'a>,
     ) -> Result<Expr<'a>, AllocError>
         ensures spells { IfOk result (λ e. expr_yield e ≡
-            kept_mark (codes "(") paren.entry ++ expr_yield inner.entry ++ mark (codes ")")) }
-        ensures groups { IfOk result (λ e. IsOfLevel true 0 inner.entry →
-            (shifts : Bool) → IsOfLevel shifts 7 e) }
-        ensures levels { IfOk result (λ e. expr_levels e ≡ suc (expr_levels inner.entry)) }
+            mark (codes "(") ++ expr_yield inner.entry ++ mark (codes ")")) }
+        ensures groups { IfOk result (λ e. IsOfLevel 0 inner.entry → IsOfLevel 7 e) }
+        ensures line { IfOk result (λ e. mark_line e ≡ Some line) }
     {
         Ok(Expr::Parenthesized {
-            paren,
+            line,
             inner: Box::new(alloc, inner)?,
         })
     }

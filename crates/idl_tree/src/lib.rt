@@ -7,6 +7,4 @@ pub mod const_expr;
 pub mod definitions;
 pub mod expression;
 pub mod names;
-mod readers;
-pub mod spec;
 pub mod types;

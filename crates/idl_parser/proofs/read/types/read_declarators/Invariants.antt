@@ -1,0 +1,11 @@
+use Rattle.std.proofs.Common.{◌-◌, length}
+use Rattle.idl_parser.specs.Reading.{Parsed}
+use Rattle.idl_tree.specs.Yields.{listed}
+use Rattle.idl_tree.specs.TypeYields.{declarator_yield}
+use Rattle.idl_parser.proofs.read.types.read_declarators.Given as goal
+
+abbrev pub invariant-parts : goal.invariant-parts
+invariant-parts l = Parsed l.tokens l.at (listed declarator_yield (record { first = l.first; rest = l.rest })) l.next
+
+abbrev pub decreases-parts : goal.decreases-parts
+decreases-parts l = length l.tokens - l.next
