@@ -3,3 +3,4 @@ pub mod ProgramRules
 pub mod RuleTests
 pub mod Plain
 pub mod Served
+pub mod Joined

@@ -1,0 +1,4 @@
+pub mod Sets
+pub mod Taking
+pub mod Steps
+pub mod Right

@@ -1,0 +1,1 @@
+//! What holds of every program that the checker accepts, as functions that do nothing.

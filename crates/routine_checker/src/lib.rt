@@ -1,0 +1,7 @@
+//! Checks routines: those that are accepted do just what their nodes mean, whoever made them.
+#![tactic(auto)]
+
+mod fault;
+pub mod laws;
+
+pub use fault::{CheckFault, StepFault};
