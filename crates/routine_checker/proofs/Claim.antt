@@ -2,7 +2,7 @@
 use Rattle.std.proofs.Common.{◌≡◌, ℕ, ◌-◌, ◌+◌, ◌<◌, ◌≤◌, ◌%◌, List, length, Some, slice_get, slice_index_or}
 use Rattle.type_graph.specs.declared.node.Node.{Node}
 use Rattle.type_graph.specs.Words.{Format}
-use Rattle.type_graph.specs.Relation.{Relation, Then, Chain}
+use Rattle.type_graph.specs.Relation.{Then, Chain}
 use Rattle.type_graph.specs.Comparison.{Positions, Same, Ends}
 use Rattle.type_graph.specs.Atoms.{Gap}
 use Rattle.type_graph.specs.Encoding.{Means}

@@ -1,1 +1,5 @@
 pub mod Claim
+pub mod SetLaws
+pub mod TakenLaws
+pub mod PieceLaws
+pub mod StepLaws
