@@ -23,35 +23,16 @@ use Rattle.marshal_program.specs.declared.instr.Routine.{Routine}
 use Rattle.marshal_program.specs.Does.{Does, Runs}
 use Rattle.routine_checker.specs.Sets.{Among, moved, gaps_agree}
 use Rattle.routine_checker.specs.Taking.{is_octet, is_whole, is_boolean, is_enum, is_text, is_piece}
-use Rattle.routine_checker.specs.Steps.{State}
+use Rattle.routine_checker.specs.Steps.{State, ends}
 use Rattle.routine_checker.proofs.Claim.{DoesPieces}
-use Rattle.routine_checker.proofs.SetLaws.{agreed, among_moved, among_all}
+use Rattle.routine_checker.proofs.SetLaws.{among_all}
+use Rattle.routine_checker.proofs.GapLaws.{gaps_same, Long, gap_long_ends}
 
 -- ---- gaps
 
--- a gap that agrees is the one that is due
-pub gap_agrees : (format : Format) (set : ℕ) (made due : Width) → gaps_agree set made due ≡ true → Same (Among set) (Gap format made) (Gap format due)
-gap_agrees format set made due e = record {
-  to = λ p t x s r. record { no_tape = r.no_tape; gap = record { long = r.gap.long ∙ agreed set made due e p s; filled = r.gap.filled } };
-  from = λ p t x s r. record { no_tape = r.no_tape; gap = record { long = r.gap.long ∙ sym (agreed set made due e p s); filled = r.gap.filled } };
-}
-
--- behind it what is due there
-pub gap_agrees_then : (format : Format) (set : ℕ) (made due : Width) {R : Relation} → gaps_agree set made due ≡ true → Same (Among set) (Then (Gap format made) R) (Then (Gap format due) R)
-gap_agrees_then format set made due e = then_same (gap_agrees format set made due e) ends_anywhere same_refl
-
--- where k octets behind it end
-pub gap_then_ends : (format : Format) (set : ℕ) (made due : Width) (k : ℕ) {R : Relation} → gaps_agree set made due ≡ true → ((p : ℕ) (tape octets : List ℕ) → R p tape octets → length octets ≡ k) → Ends (Among set) (Among (moved set due k)) (Then (Gap format made) R)
-gap_then_ends format set made due k e long = record {
-  at = λ p t x s r.
-      let gap = r.first.gap.long ∙ agreed set made due e p s in
-      let rest = long (p + length r.octets1) r.tape2 r.octets2 r.second in
-      let place : p + pad p (octets_in due) + k ≡ p + length x = place_of p (pad p (octets_in due)) k (length x) (length r.octets1) (length r.octets2) gap rest (end_of_cut p x r.octets1 r.octets2 r.octets_is) in
-      subst (Among (moved set due k)) place (among_moved set due k p s);
-}
-  where
-    place_of : (p g k n n1 n2 : ℕ) → n1 ≡ g → n2 ≡ k → p + n ≡ p + n1 + n2 → p + g + k ≡ p + n
-    place_of p g k n n1 n2 a b c = omega (arith, a, b, c)
+-- behind a gap that agrees stands what stands behind the one that is due
+pub due_gap_then : (format : Format) (set : ℕ) (made due : Width) {R : Relation} → gaps_agree set made due ≡ true → Same (Among set) (Then (Gap format made) R) (Then (Gap format due) R)
+due_gap_then format set made due e = then_same (gaps_same set made due e) ends_anywhere same_refl
 
 -- ---- nodes
 
@@ -125,45 +106,43 @@ module _ (graph : List Node) (format : Format) (depth : ℕ) where
 -- ---- instructions
 
 module _ (graph : List Node) (program : List Routine) (format : Format) (depth : ℕ) (state : State) where
-  -- the gap that is made with an instruction, and where the two end
-  abbrev Made : Instr → Relation
-  Made instr = Then (Gap format state.gap) (Does (Runs program format) format depth instr)
+  -- what an instruction does
+  abbrev Done : Instr → Relation
+  Done = Does (Runs program format) format depth
 
   -- the nodes of an instruction
   abbrev Pass : Instr → List ℕ → Type 0
   Pass instr = AllByRecursion (λ number. is_piece graph program instr number ≡ true)
 
+  -- an instruction of k octets, behind the gap that is due
+  due_pieces : (instr : Instr) (due : Width) (k : ℕ) (numbers : List ℕ) → ends program instr state.places state.gap ≡ moved state.places due k → gaps_agree state.places state.gap due ≡ true → Long k (Done instr)
+      → Same Anywhere (Then (Gap format due) (Done instr)) (Chain (Means graph format depth) numbers) → DoesPieces graph program format depth instr state numbers
+  due_pieces instr due k numbers e gap long same = record {
+    same = same_trans (due_gap_then format state.places state.gap due gap) (same_at same);
+    ended = subst (λ set. Ends (Among state.places) (Among set) (Chain (Means graph format depth) numbers)) (sym e) (same_ends (same_at same) (gap_long_ends state.places due k long));
+  }
+
   pub octets_pieces : (n : ℕ) (numbers : List ℕ) → Pass (Octets n) numbers → length numbers ≡ n → gaps_agree state.places state.gap One ≡ true → DoesPieces graph program format depth (Octets n) state numbers
   octets_pieces n numbers pass long gap =
       let means = pieces_mean graph format depth (AnyWord format One) (is_piece graph program (Octets n)) (λ number e. octet_node_means graph format depth (node_at graph number) e) n numbers pass long in
-      let same : Same (Among state.places) (Made (Octets n)) (Chain (Means graph format depth) numbers) =
-      same_trans (gap_agrees_then format state.places state.gap One gap) (same_at (same_trans (gap_one_then graph format) (same_trans (octets_words format n (omega arith)) (same_sym means)))) in
-      record { same = same; ended = same_ends same (gap_then_ends format state.places state.gap One n gap (λ p t x r. octet_run_long p t x r)) }
+      due_pieces (Octets n) One n numbers refl gap (λ p t x r. octet_run_long p t x r) (same_trans (gap_one_then graph format) (same_trans (octets_words format n (omega arith)) (same_sym means)))
 
   pub bools_pieces : (n : ℕ) (numbers : List ℕ) → Pass (Bools n) numbers → length numbers ≡ n → gaps_agree state.places state.gap One ≡ true → DoesPieces graph program format depth (Bools n) state numbers
   bools_pieces n numbers pass long gap =
       let means = pieces_mean graph format depth (WordBelow format One 2) (is_piece graph program (Bools n)) (λ number e. boolean_node_means graph format depth (node_at graph number) e) n numbers pass long in
-      let same : Same (Among state.places) (Made (Bools n)) (Chain (Means graph format depth) numbers) =
-      same_trans (gap_agrees_then format state.places state.gap One gap) (same_at (same_trans (gap_one_then graph format) (same_trans (octets_words format n (omega arith)) (same_sym means)))) in
-      record { same = same; ended = same_ends same (gap_then_ends format state.places state.gap One n gap (λ p t x r. octet_run_long p t x r)) }
+      due_pieces (Bools n) One n numbers refl gap (λ p t x r. octet_run_long p t x r) (same_trans (gap_one_then graph format) (same_trans (octets_words format n (omega arith)) (same_sym means)))
 
   pub words_pieces : (width : Width) (n : ℕ) (numbers : List ℕ) → 0 < n → Pass (Words width n) numbers → length numbers ≡ n → gaps_agree state.places state.gap width ≡ true → DoesPieces graph program format depth (Words width n) state numbers
   words_pieces width n numbers some pass long gap =
       let means = pieces_mean graph format depth (Then (Gap format width) (AnyWord format width)) (is_piece graph program (Words width n)) (λ number e. whole_node_means graph format depth width (node_at graph number) e) n numbers pass long in
-      let same : Same (Among state.places) (Made (Words width n)) (Chain (Means graph format depth) numbers) =
-      same_trans (gap_agrees_then format state.places state.gap width gap) (same_at (same_sym (same_trans means (words_same format width n (omega (arith, some)))))) in
-      record { same = same; ended = same_ends same (gap_then_ends format state.places state.gap width (n * octets_in width) gap (many_long (octets_in width) n (λ p t x r. held_word_long p t x r))) }
+      due_pieces (Words width n) width (n * octets_in width) numbers refl gap (many_long (octets_in width) n (λ p t x r. held_word_long p t x r)) (same_sym (same_trans means (words_same format width n (omega (arith, some)))))
 
   pub enum_pieces : (limit : ℕ) (numbers : List ℕ) → Pass (EnumWord limit) numbers → length numbers ≡ 1 → gaps_agree state.places state.gap Four ≡ true → DoesPieces graph program format depth (EnumWord limit) state numbers
   enum_pieces limit numbers pass long gap =
       let means = piece_means graph format depth (Then (Gap format Four) (WordBelow format Four limit)) (is_piece graph program (EnumWord limit)) (λ number e. enum_node_means graph format depth limit (node_at graph number) e) numbers pass long in
-      let same : Same (Among state.places) (Made (EnumWord limit)) (Chain (Means graph format depth) numbers) =
-      same_trans (gap_agrees_then format state.places state.gap Four gap) (same_at (same_sym means)) in
-      record { same = same; ended = same_ends same (gap_then_ends format state.places state.gap Four 4 gap (λ p t x r. held_word_long p t x r)) }
+      due_pieces (EnumWord limit) Four 4 numbers refl gap (λ p t x r. held_word_long p t x r) (same_sym means)
 
   pub text_pieces : (bound : ℕ) (numbers : List ℕ) → Pass (Text bound) numbers → length numbers ≡ 1 → gaps_agree state.places state.gap Four ≡ true → DoesPieces graph program format depth (Text bound) state numbers
   text_pieces bound numbers pass long gap =
       let means = piece_means graph format depth (Then (Gap format Four) (TextRun format bound)) (is_piece graph program (Text bound)) (λ number e. text_node_means graph format depth bound (node_at graph number) e) numbers pass long in
-      let same : Same (Among state.places) (Made (Text bound)) (Chain (Means graph format depth) numbers) =
-      same_trans (gap_agrees_then format state.places state.gap Four gap) (same_at (same_sym means)) in
-      record { same = same; ended = record { at = λ p t x s r. among_all (p + length x) } }
+      record { same = same_trans (due_gap_then format state.places state.gap Four gap) (same_at (same_sym means)); ended = record { at = λ p t x s r. among_all (p + length x) } }
