@@ -2,10 +2,11 @@ pub mod SetLaws
 pub mod GapLaws
 pub mod WordRuns
 pub mod Claim
-pub mod RoutineUse
-pub mod CallPieces
 pub mod TakenLaws
 pub mod PieceLaws
 pub mod StepLaws
+pub mod RoutineUse
+pub mod CallPieces
+pub mod SeqPieces
 pub mod InstrPieces
 pub mod Sound
