@@ -1,5 +1,5 @@
 -- The pieces of Times and Call: nodes whose routine is right.
-use Rattle.std.proofs.Common.{◌≡◌, ℕ, zero, suc, ◌<◌, Bool, true, false, ◌&&◌, List, [], ◌∷◌, length, replicate, Option, Some, None, slice_get, refl, sym, ap, subst, ◌∙◌, arith}
+use Rattle.std.proofs.Common.{◌≡◌, ℕ, zero, suc, ◌<◌, Bool, true, false, ◌&&◌, List, [], ◌∷◌, length, replicate, Option, Some, slice_get, refl, sym, ap, subst, ◌∙◌, arith}
 use Rattle.std.specs.Prelude.{All}
 use Rattle.std.specs.List.{AllByRecursion}
 use Rattle.std.proofs.lemmas.Bool.{eqb-true}
@@ -8,7 +8,7 @@ use Rattle.type_graph.specs.declared.width.Width.{Width}
 use Rattle.type_graph.specs.declared.node.Node.{Node}
 use Rattle.type_graph.specs.Words.{Format}
 use Rattle.type_graph.specs.Relation.{Relation, Then, Many, Chain}
-use Rattle.type_graph.specs.Comparison.{Positions, Anywhere, Same, Ends}
+use Rattle.type_graph.specs.Comparison.{Positions, Same, Ends}
 use Rattle.type_graph.specs.Atoms.{Gap}
 use Rattle.type_graph.specs.Encoding.{Means}
 use Rattle.type_graph.specs.GraphRules.{IsGraph}
@@ -19,11 +19,10 @@ use Rattle.marshal_program.specs.declared.instr.Instr.TheVariants.{Times, Call}
 use Rattle.marshal_program.specs.declared.instr.Routine.{Routine}
 use Rattle.marshal_program.specs.Does.{Runs}
 use Rattle.marshal_program.specs.ProgramRules.{IsLower, called_by}
-use Rattle.routine_checker.specs.Sets.{Among, is_within, moved, left, gaps_serve}
-use Rattle.routine_checker.specs.Taking.{is_node_of, is_routine_of, is_piece, pieces}
-use Rattle.routine_checker.specs.Steps.{State, entry_of, exits_of, node_in, enters, enters_times, times_left, pads, ends, behind_gap}
+use Rattle.routine_checker.specs.Sets.{Among, moved, gaps_serve}
+use Rattle.routine_checker.specs.Taking.{is_node_of, is_routine_of, is_piece}
+use Rattle.routine_checker.specs.Steps.{State, entry_of, exits_of, node_in, enters, enters_times, times_left, pads}
 use Rattle.routine_checker.proofs.Claim.{IsRightAt, Assumes, DoesPieces}
-use Rattle.routine_checker.proofs.SetLaws.{both}
 use Rattle.routine_checker.proofs.GapLaws.{gap_moved, gap_serves}
 use Rattle.routine_checker.proofs.RoutineUse.{Found, found_routine, lower_right, repeated_same, repeated_ends, node_leads_with}
 

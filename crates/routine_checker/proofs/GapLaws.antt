@@ -1,13 +1,12 @@
 -- Gaps at the positions of a set: which are the same, where they end.
-use Rattle.std.proofs.Common.{◌≡◌, ℕ, zero, suc, ◌+◌, ◌*◌, ◌%◌, ◌<◌, ◌≤◌, true, List, [], ◌∷◌, length, refl, sym, ap, subst, ◌∙◌, inl, inr, ◌⊎◌, arith}
+use Rattle.std.proofs.Common.{◌≡◌, ℕ, ◌+◌, true, List, [], length, refl, sym, ap, subst, ◌∙◌, inl, inr, arith}
 use Rattle.std.proofs.lemmas.List.{nil_from_length}
 use Rattle.type_graph.specs.declared.width.Width.{Width}
-use Rattle.type_graph.specs.declared.width.Width.TheVariants.{One, Two, Four, Eight}
 use Rattle.type_graph.specs.Words.{Format, Padding, Zeros, AnyOctets, IsPadding, octets_in, pad}
-use Rattle.type_graph.specs.Relation.{Relation, Nothing, Then, Many}
-use Rattle.type_graph.specs.Comparison.{Positions, Anywhere, Same, Ends}
+use Rattle.type_graph.specs.Relation.{Relation, Then}
+use Rattle.type_graph.specs.Comparison.{Anywhere, Same, Ends}
 use Rattle.type_graph.specs.Atoms.{Gap}
-use Rattle.type_graph.proofs.RelationLaws.{end_of_cut, same_refl, same_sym, same_trans, then_same, then_same_anywhere, then_ends, ends_anywhere, nothing_then}
+use Rattle.type_graph.proofs.RelationLaws.{then_ends, nothing_then}
 use Rattle.type_graph.proofs.LeadLaws.{Leads}
 use Rattle.routine_checker.specs.Sets.{Among, moved, gaps_agree, gaps_serve}
 use Rattle.routine_checker.proofs.SetLaws.{agreed, served, among_moved}

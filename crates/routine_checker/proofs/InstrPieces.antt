@@ -11,6 +11,7 @@ use Rattle.marshal_program.specs.ProgramRules.{IsInstr, called_by, IsLower}
 use Rattle.routine_checker.proofs.Claim.{Assumes}
 use Rattle.routine_checker.proofs.StepLaws.{IsRightStep}
 use Rattle.routine_checker.proofs.PieceLaws.{octets_pieces, words_pieces, bools_pieces, enum_pieces, text_pieces}
+use Rattle.routine_checker.proofs.SwitchPieces.{switch_pieces}
 use Rattle.routine_checker.proofs.SeqPieces.{seq_octets_pieces, seq_bools_pieces, seq_words_pieces, seq_of_pieces}
 use Rattle.routine_checker.proofs.CallPieces.{times_pieces, call_pieces}
 
@@ -28,4 +29,4 @@ right_step graph program format depth rank rules assumes (SeqWords width first b
 right_step graph program format depth rank rules assumes (SeqOf bound first number) itself lower work state numbers pass long entered padded = seq_of_pieces graph program format depth rules rank assumes bound first number state numbers pass long entered padded
 right_step graph program format depth rank rules assumes (Times n number) itself lower work state numbers pass long entered padded = times_pieces graph program format depth rank rules assumes n number state numbers itself.0 lower pass long entered padded
 right_step graph program format depth rank rules assumes (Call number) itself lower work state numbers pass long entered padded = call_pieces graph program format depth rank rules assumes number state numbers lower pass long entered padded
-right_step graph program format depth rank rules assumes (Switch disc arms otherwise) itself lower work state numbers pass long entered padded = ?
+right_step graph program format depth rank rules assumes (Switch disc arms otherwise) itself lower work state numbers pass long entered padded = switch_pieces graph program format depth rank rules assumes disc arms otherwise state numbers lower pass long entered padded

@@ -8,5 +8,6 @@ pub mod StepLaws
 pub mod RoutineUse
 pub mod CallPieces
 pub mod SeqPieces
+pub mod SwitchPieces
 pub mod InstrPieces
 pub mod Sound

@@ -1,19 +1,19 @@
 -- The gap that is made with an instruction that takes words, octets, booleans, an enumerator or a string is what the
 -- nodes that it takes mean.
-use Rattle.std.proofs.Common.{◌≡◌, ℕ, zero, suc, ◌+◌, ◌*◌, ◌<◌, Bool, true, List, [], ◌∷◌, length, refl, sym, subst, ◌∙◌, arith}
+use Rattle.std.proofs.Common.{◌≡◌, ℕ, zero, suc, ◌+◌, ◌*◌, ◌<◌, Bool, true, List, [], ◌∷◌, length, refl, sym, subst, arith}
 use Rattle.std.specs.List.{AllByRecursion}
 use Rattle.std.proofs.lemmas.Bool.{eqb-true, true≢false}
 use Rattle.type_graph.specs.declared.width.Width.{Width}
 use Rattle.type_graph.specs.declared.width.Width.TheVariants.{One, Two, Four, Eight}
 use Rattle.type_graph.specs.declared.node.Node.{Node}
 use Rattle.type_graph.specs.declared.node.Node.TheVariants as nodes
-use Rattle.type_graph.specs.Words.{Format, octets_in, pad}
+use Rattle.type_graph.specs.Words.{Format, octets_in}
 use Rattle.type_graph.specs.Relation.{Relation, Then, Many, Chain}
 use Rattle.type_graph.specs.Comparison.{Anywhere, Same, Ends}
 use Rattle.type_graph.specs.Atoms.{Gap, WordBelow, AnyWord, TextRun}
 use Rattle.type_graph.specs.Value.{node_at}
 use Rattle.type_graph.specs.Encoding.{NodeMeans, Means}
-use Rattle.type_graph.proofs.RelationLaws.{end_of_cut, same_refl, same_sym, same_trans, same_at, same_ends, ends_anywhere, then_same, then_same_anywhere, many_one}
+use Rattle.type_graph.proofs.RelationLaws.{same_refl, same_sym, same_trans, same_at, same_ends, ends_anywhere, then_same, then_same_anywhere, many_one}
 use Rattle.type_graph.proofs.AtomLaws.{octets_words, octet_run_long, held_word_long, many_long}
 use Rattle.type_graph.proofs.Openings.{gap_one_then, whole_means, octet_means, char_means, boolean_means, enum_means, text_means}
 use Rattle.type_graph.proofs.UniformLaws.{words_same}

@@ -1,19 +1,18 @@
 -- Right routines, at positions of a set that is within their entries.
-use Rattle.std.proofs.Common.{◌≡◌, ℕ, zero, suc, ◌+◌, ◌%◌, ◌<◌, ◌≤◌, Bool, true, false, ◌&&◌, eqb, List, [], ◌∷◌, length, Option, Some, None, slice_get, slice_index_or, bit_or, refl, sym, ap, subst, ◌∙◌, inl, inr, arith}
+use Rattle.std.proofs.Common.{◌≡◌, ℕ, zero, suc, ◌+◌, ◌<◌, true, List, length, Option, Some, None, slice_get, bit_or, refl, sym, subst, inl, inr}
 use Rattle.std.specs.Prelude.{IsSomeAnd}
 use Rattle.std.proofs.lemmas.Bool.{eqb-true, true≢false, cases_lt}
 use Rattle.std.proofs.lemmas.List.{get_or_past}
 use Rattle.std.proofs.lemmas.List.Elements.{All-get_or}
-use Rattle.type_graph.specs.declared.width.Width.{Width}
 use Rattle.type_graph.specs.declared.node.Node.{Node}
 use Rattle.type_graph.specs.declared.node.Node.TheVariants as nodes
 use Rattle.type_graph.specs.Words.{Format}
-use Rattle.type_graph.specs.Relation.{Relation, Then, Many}
-use Rattle.type_graph.specs.Comparison.{Positions, Anywhere, Same, Ends}
+use Rattle.type_graph.specs.Relation.{Relation, Many}
+use Rattle.type_graph.specs.Comparison.{Same, Ends}
 use Rattle.type_graph.specs.Value.{node_at}
 use Rattle.type_graph.specs.Encoding.{Means}
 use Rattle.type_graph.specs.GraphRules.{IsNode, IsGraph}
-use Rattle.type_graph.specs.Walks.{lead_of, lead_within}
+use Rattle.type_graph.specs.Walks.{lead_of}
 use Rattle.type_graph.proofs.RelationLaws.{same_refl, then_same, then_ends, same_ends, nothing_ends}
 use Rattle.type_graph.proofs.HeldEach.{shallow_all}
 use Rattle.type_graph.proofs.LeadLaws.{Leads, IsFilled, lead_leads}
@@ -22,7 +21,7 @@ use Rattle.marshal_program.specs.Does.{Runs}
 use Rattle.marshal_program.specs.ProgramRules.{IsLower}
 use Rattle.routine_checker.specs.Sets.{Among, is_within, left, closure}
 use Rattle.routine_checker.specs.Taking.{is_node_of, is_routine_of}
-use Rattle.routine_checker.specs.Steps.{entry_at, exits_at, node_in, lead_at, enters_times, times_left}
+use Rattle.routine_checker.specs.Steps.{enters_times, times_left}
 use Rattle.routine_checker.proofs.Claim.{IsRightAt, Assumes}
 use Rattle.routine_checker.proofs.SetLaws.{both, within_among, among_left, among_or_left}
 

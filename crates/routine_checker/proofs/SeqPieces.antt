@@ -1,6 +1,5 @@
 -- The pieces of the instructions for sequences.
-use Rattle.std.proofs.Common.{◌≡◌, ℕ, zero, suc, ◌+◌, ◌-◌, ◌%◌, ◌<◌, ◌≤◌, Bool, true, false, ◌&&◌, eqb, List, [], ◌∷◌, length, Option, Some, None, slice_get, bit_or, pos, refl, sym, ap, subst, ◌∙◌, arith}
-use Rattle.std.specs.Prelude.{All}
+use Rattle.std.proofs.Common.{◌≡◌, ℕ, zero, suc, ◌+◌, ◌-◌, ◌%◌, ◌<◌, ◌≤◌, Bool, true, eqb, List, [], ◌∷◌, length, Option, Some, slice_get, bit_or, pos, refl, sym, ap, subst, ◌∙◌, arith}
 use Rattle.std.specs.List.{AllByRecursion}
 use Rattle.std.specs.Int.{bit_at}
 use Rattle.std.proofs.lemmas.Bool.{eqb-true, true≢false}
@@ -8,30 +7,30 @@ use Rattle.type_graph.specs.declared.width.Width.{Width}
 use Rattle.type_graph.specs.declared.width.Width.TheVariants.{One, Two, Four, Eight}
 use Rattle.type_graph.specs.declared.node.Node.{Node}
 use Rattle.type_graph.specs.declared.node.Node.TheVariants as nodes
-use Rattle.type_graph.specs.Words.{Format, octets_in}
-use Rattle.type_graph.specs.Relation.{Relation, Nothing, Then, Many, Chain}
+use Rattle.type_graph.specs.Words.{Format}
+use Rattle.type_graph.specs.Relation.{Relation, Then, Many, Chain}
 use Rattle.type_graph.specs.Comparison.{Positions, Anywhere, Same, Ends}
 use Rattle.type_graph.specs.Atoms.{Gap, NumberWord, AnyWord, WordBelow, OctetRun, Counted, GapBeforeFirst}
 use Rattle.type_graph.specs.Value.{node_at}
 use Rattle.type_graph.specs.Encoding.{NodeMeans, Means}
 use Rattle.type_graph.specs.GraphRules.{IsGraph}
 use Rattle.type_graph.specs.Walks.{lead_of}
-use Rattle.type_graph.proofs.RelationLaws.{same_refl, same_sym, same_trans, same_at, then_same, then_same_anywhere, then_ends, same_ends, nothing_ends, ends_anywhere, many_same, many_same_anywhere, then_assoc, chain_one}
+use Rattle.type_graph.proofs.RelationLaws.{same_refl, same_sym, same_trans, then_same, then_ends, same_ends, nothing_ends, ends_anywhere, many_same, many_same_anywhere, chain_one}
 use Rattle.type_graph.proofs.AtomLaws.{number_word_long, octets_words}
-use Rattle.type_graph.proofs.Openings.{seq_means, whole_means, octet_means, char_means, boolean_means}
+use Rattle.type_graph.proofs.Openings.{seq_means}
 use Rattle.type_graph.proofs.LeadLaws.{Leads, then_leads}
 use Rattle.marshal_program.specs.declared.instr.Instr.{Instr}
 use Rattle.marshal_program.specs.declared.instr.Instr.TheVariants.{SeqOctets, SeqBools, SeqWords, SeqOf}
 use Rattle.marshal_program.specs.declared.instr.Routine.{Routine}
 use Rattle.marshal_program.specs.Does.{Does, Runs}
 use Rattle.routine_checker.specs.Sets.{Among, is_within, moved, left, closure, gaps_agree, gaps_serve, multiples}
-use Rattle.routine_checker.specs.Taking.{is_octet, is_boolean, is_whole, is_seq, is_one, is_node_of, is_routine_of, is_piece, pieces}
-use Rattle.routine_checker.specs.Steps.{State, counted, behind_gap, starts, entry_of, exits_of, node_in, lead_at, enters, enters_elements, pads, ends}
+use Rattle.routine_checker.specs.Taking.{is_octet, is_boolean, is_whole, is_seq, is_one, is_routine_of, is_piece}
+use Rattle.routine_checker.specs.Steps.{State, counted, entry_of, exits_of, node_in, lead_at, enters, enters_elements, pads, ends}
 use Rattle.routine_checker.proofs.Claim.{IsRightAt, Assumes, DoesPieces}
-use Rattle.routine_checker.proofs.SetLaws.{both, among_or_left, among_or_right, among_all, among_place, among_moved}
+use Rattle.routine_checker.proofs.SetLaws.{both, among_or_left, among_or_right, among_all, among_place}
 use Rattle.routine_checker.proofs.GapLaws.{gaps_same, Behind, gap_behind, behind_moved, gap_moved, gap_serves}
 use Rattle.routine_checker.proofs.WordRuns.{At, aligned_words, aligned_words_end}
-use Rattle.routine_checker.proofs.TakenLaws.{OnePart, one_part_means}
+use Rattle.routine_checker.proofs.TakenLaws.{one_part_means}
 use Rattle.routine_checker.proofs.PieceLaws.{octet_node_means, whole_node_means, boolean_node_means}
 use Rattle.routine_checker.proofs.RoutineUse.{Found, found_routine, use_same, use_ends, means_ends, among_closure, starts_end, node_leads_with}
 

@@ -1,26 +1,25 @@
 -- A program that is accepted is right: the claim holds at the end of each code, so at its start; then by the depth of
 -- values and within that by ranks.
-use Rattle.std.proofs.Common.{◌≡◌, ℕ, zero, suc, ◌+◌, ◌-◌, ◌%◌, ◌^◌, ◌<◌, ◌≤◌, Bool, true, false, List, [], ◌∷◌, length, All, Option, Some, None, Result, Ok, Err, slice_get, slice_index_or, if◌then◌else◌, refl, sym, ap, subst, ◌∙◌, inl, inr, arith}
+use Rattle.std.proofs.Common.{◌≡◌, ℕ, zero, suc, ◌+◌, ◌-◌, ◌%◌, ◌^◌, ◌<◌, ◌≤◌, Bool, true, false, List, [], ◌∷◌, length, All, Option, Some, None, Result, Ok, Err, slice_get, slice_index_or, if◌then◌else◌, refl, sym, subst, ◌∙◌, inl, inr, arith}
 use Rattle.std.specs.Prelude.{IfOk, ltb}
 use Rattle.std.proofs.lemmas.Bool.{cases_lt}
 use Rattle.std.proofs.lemmas.Result.{IfOk-weaker}
 use Rattle.std.proofs.lemmas.Option.{none-some, same_Some, slice_get_within, get_or_from_slice_get}
-use Rattle.std.proofs.lemmas.List.Elements.{All-head, All-tail, All-get_or}
+use Rattle.std.proofs.lemmas.List.Elements.{All-head, All-tail}
 use Rattle.type_graph.specs.declared.width.Width.TheVariants.{One}
 use Rattle.type_graph.specs.declared.node.Node.{Node}
 use Rattle.type_graph.specs.Words.{Format}
-use Rattle.type_graph.specs.Relation.{Relation, Nothing, Then, Chain}
-use Rattle.type_graph.specs.Comparison.{Positions, Anywhere, Same, Ends}
-use Rattle.type_graph.specs.Atoms.{Gap}
+use Rattle.type_graph.specs.Relation.{Nothing, Chain}
+use Rattle.type_graph.specs.Comparison.{Positions, Same, Ends}
 use Rattle.type_graph.specs.Encoding.{Means}
 use Rattle.type_graph.specs.GraphRules.{IsGraph}
-use Rattle.type_graph.proofs.RelationLaws.{same_refl, same_sym, same_trans, same_at, same_ends, then_nothing, nothing_ends}
+use Rattle.type_graph.proofs.RelationLaws.{same_sym, same_trans, same_at, same_ends, then_nothing, nothing_ends}
 use Rattle.type_graph.proofs.AtomLaws.{no_gap_one}
 use Rattle.type_graph.proofs.Openings.{gap_one_then}
 use Rattle.marshal_program.specs.declared.instr.Instr.{Instr}
 use Rattle.marshal_program.specs.declared.instr.Routine.{Routine}
-use Rattle.marshal_program.specs.Does.{Does, Runs, code_of, code_at}
-use Rattle.marshal_program.specs.ProgramRules.{IsInstr, called_by, IsLower, IsRoutine, IsProgram}
+use Rattle.marshal_program.specs.Does.{Does, Runs, code_of}
+use Rattle.marshal_program.specs.ProgramRules.{IsRoutine, IsProgram}
 use Rattle.marshal_program.proofs.RunLaws.{runs_opened}
 use Rattle.routine_checker.specs.declared.fault.StepFault.{StepFault}
 use Rattle.routine_checker.specs.declared.fault.CheckFault.{CheckFault}
@@ -28,7 +27,7 @@ use Rattle.routine_checker.specs.declared.fault.CheckFault.TheVariants.{WrongWor
 use Rattle.routine_checker.specs.Sets.{has, Among, is_within, gaps_agree}
 use Rattle.routine_checker.specs.Taking.{is_done_within}
 use Rattle.routine_checker.specs.Steps.{State, step, followed_by, followed, end_fault, ended, entry_fault, or_else, entries_fault, routine_fault, routines_fault, program_fault}
-use Rattle.routine_checker.specs.Right.{IsRight, AreRight}
+use Rattle.routine_checker.specs.Right.{AreRight}
 use Rattle.routine_checker.proofs.SetLaws.{has_place, within_among, among_place}
 use Rattle.routine_checker.proofs.GapLaws.{gaps_same}
 use Rattle.routine_checker.proofs.Claim.{IsRightAt, Assumes, Claim}

@@ -1,12 +1,12 @@
 -- Numbers of one width in a row: the gap before the first is the only one.
-use Rattle.std.proofs.Common.{◌≡◌, ℕ, zero, suc, ◌+◌, ◌*◌, ◌%◌, ◌<◌, ◌≤◌, List, length, refl, sym, ap, subst, ◌∙◌, arith}
+use Rattle.std.proofs.Common.{◌≡◌, ℕ, suc, ◌+◌, ◌*◌, ◌%◌, List, length, arith}
 use Rattle.type_graph.specs.declared.width.Width.{Width}
 use Rattle.type_graph.specs.declared.width.Width.TheVariants.{One, Two, Four, Eight}
 use Rattle.type_graph.specs.Words.{Format, octets_in, pad}
 use Rattle.type_graph.specs.Relation.{Relation, Then, Many}
-use Rattle.type_graph.specs.Comparison.{Positions, Anywhere, Same, Ends}
+use Rattle.type_graph.specs.Comparison.{Positions, Same, Ends}
 use Rattle.type_graph.specs.Atoms.{Gap, AnyWord}
-use Rattle.type_graph.proofs.RelationLaws.{same_refl, same_sym, same_trans, then_same, then_same_anywhere, ends_anywhere, then_ends, same_ends, many_same, many_ends, then_assoc}
+use Rattle.type_graph.proofs.RelationLaws.{same_refl, same_sym, same_trans, then_same, then_ends, same_ends, many_same, many_ends, then_assoc}
 use Rattle.type_graph.proofs.AtomLaws.{held_word_long, many_long, gap_ends}
 use Rattle.routine_checker.proofs.GapLaws.{no_gap_then, with_no_gap}
 

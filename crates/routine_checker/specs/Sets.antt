@@ -1,6 +1,6 @@
 -- Sets of positions, of which only the value modulo 8 matters. A set is a number below 256: its bit p is 1 where the
 -- positions whose value modulo 8 is p are among it.
-use Rattle.std.specs.Prelude.{ℕ, zero, suc, ◌+◌, ◌%◌, ◌^◌, Bool, true, not, ◌&&◌, ◌||◌, eqb, List, [], slice_index_or}
+use Rattle.std.specs.Prelude.{ℕ, zero, suc, ◌+◌, ◌%◌, ◌^◌, Bool, true, not, ◌&&◌, ◌||◌, eqb, List, slice_index_or}
 use Rattle.std.specs.Prelude.{if◌then◌else◌, bit_or, IsTrue}
 use Rattle.std.specs.Int.{bit_at}
 use Rattle.type_graph.specs.declared.width.Width.{Width}

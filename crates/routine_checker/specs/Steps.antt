@@ -1,6 +1,6 @@
 -- How the checker follows a routine: the work that is left and the positions that are possible, from instruction to
 -- instruction.
-use Rattle.std.specs.Prelude.{ℕ, zero, suc, ◌+◌, ◌*◌, ◌^◌, Bool, true, false, not, ◌&&◌, ◌||◌, eqb, ltb, is_some, ℤ}
+use Rattle.std.specs.Prelude.{ℕ, zero, suc, ◌*◌, ◌^◌, Bool, true, false, not, ◌&&◌, ◌||◌, eqb, ltb, is_some, ℤ}
 use Rattle.std.specs.Prelude.{List, [], ◌∷◌, length, Option, Some, None, Result, Ok, Err, slice_get, slice_index_or}
 use Rattle.std.specs.Prelude.{bit_or, if◌then◌else◌}
 use Rattle.std.specs.List.{list_all}

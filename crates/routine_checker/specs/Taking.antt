@@ -1,7 +1,7 @@
 -- Work is a list of nodes whose values are still to be related, in order. An instruction takes pieces from its front;
 -- an array, a structure or a frame at the front is opened where it isn't a piece itself.
-use Rattle.std.specs.Prelude.{ℕ, zero, suc, Bool, true, false, ◌&&◌, eqb, ℤ, List, [], ◌∷◌, ◌++◌, length, replicate}
-use Rattle.std.specs.Prelude.{Option, Some, None, is_some, slice_get, if◌then◌else◌}
+use Rattle.std.specs.Prelude.{ℕ, zero, suc, Bool, true, false, ◌&&◌, eqb, ℤ, List, [], ◌∷◌, ◌++◌, replicate}
+use Rattle.std.specs.Prelude.{Option, Some, None, slice_get, if◌then◌else◌}
 use Rattle.std.specs.Ordering.{int_eq}
 use Rattle.type_graph.specs.declared.width.Width.{Width}
 use Rattle.type_graph.specs.declared.node.Node.{Node}
