@@ -1,1 +1,2 @@
+pub mod SetLaws
 pub mod Claim
