@@ -1,2 +1,4 @@
 pub mod SetLaws
+pub mod GapLaws
+pub mod WordRuns
 pub mod Claim
