@@ -2,3 +2,9 @@ pub mod SetLaws
 pub mod GapLaws
 pub mod WordRuns
 pub mod Claim
+pub mod TakenLaws
+pub mod PieceLaws
+pub mod StepLaws
+pub mod RoutineUse
+pub mod CallPieces
+pub mod SeqPieces
