@@ -8,3 +8,4 @@ pub mod StepLaws
 pub mod RoutineUse
 pub mod CallPieces
 pub mod SeqPieces
+pub mod SwitchPieces
