@@ -1,4 +1,5 @@
 pub mod SetLaws
+pub mod PlaceLaws
 pub mod GapLaws
 pub mod WordRuns
 pub mod Claim

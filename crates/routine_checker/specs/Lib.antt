@@ -1,4 +1,5 @@
 pub mod Sets
+pub mod Places
 pub mod Taking
 pub mod Steps
 pub mod Right

@@ -3,5 +3,6 @@
 
 mod fault;
 pub mod laws;
+mod sets;
 
 pub use fault::{CheckFault, StepFault};
