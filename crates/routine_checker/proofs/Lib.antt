@@ -12,3 +12,4 @@ pub mod SeqPieces
 pub mod SwitchPieces
 pub mod InstrPieces
 pub mod Sound
+pub mod OneLaws

@@ -3,3 +3,4 @@ pub mod Places
 pub mod Taking
 pub mod Steps
 pub mod Right
+pub mod Kinds

@@ -3,6 +3,7 @@
 
 mod fault;
 pub mod laws;
+mod pieces;
 mod sets;
 
 pub use fault::{CheckFault, StepFault};
