@@ -13,3 +13,4 @@ pub mod SwitchPieces
 pub mod InstrPieces
 pub mod Sound
 pub mod OneLaws
+pub mod WorkLaws

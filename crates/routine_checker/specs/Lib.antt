@@ -4,3 +4,4 @@ pub mod Taking
 pub mod Steps
 pub mod Right
 pub mod Kinds
+pub mod Work

@@ -5,5 +5,6 @@ mod fault;
 pub mod laws;
 mod pieces;
 mod sets;
+mod work;
 
 pub use fault::{CheckFault, StepFault};

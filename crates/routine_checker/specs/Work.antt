@@ -1,0 +1,16 @@
+-- Work as the code keeps it: a stack whose last element comes first.
+use Rattle.std.specs.Prelude.{ℕ, List, [], ◌∷◌, ◌++◌, Option, Some, None, replicate}
+use Rattle.routine_checker.specs.declared.work.Item.{Item}
+use Rattle.routine_checker.specs.declared.work.Item.TheVariants.{Copies, Numbers}
+
+abbrev pub held : Item → List ℕ
+held (Copies number n) = replicate n number
+held (Numbers numbers) = numbers.now
+
+abbrev pub held_of : Option Item → Option (List ℕ)
+held_of None = None
+held_of (Some item) = Some (held item)
+
+abbrev pub work_of : List Item → List ℕ
+work_of [] = []
+work_of (item ∷ above) = work_of above ++ held item

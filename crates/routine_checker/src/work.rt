@@ -1,0 +1,110 @@
+//! The work that is left of a node.
+
+ghost use Rattle.std.specs.Prelude.{◌≡◌, ◌<◌, [], ◌∷◌, ◌++◌, IfOk, IfSome, IfNone, Some, None, replicate};
+ghost use Rattle.type_graph.specs.Value.{node_at};
+ghost use Rattle.routine_checker.specs.Taking.{parts_of};
+ghost use Rattle.routine_checker.specs.Work.{held, held_of, work_of};
+
+use std::alloc::{AllocError, Global};
+use type_graph::Node;
+
+/// Nodes that follow one another.
+#[derive(Clone, Copy, Debug)]
+pub enum Item<'g> {
+    Copies {
+        number: u32,
+        n: u32,
+    },
+    Numbers {
+        numbers: &'g [u32],
+    },
+}
+
+impl<'g> Item<'g> {
+    /// The first of them, and the rest.
+    fn split(self) -> Option<(u32, Item<'g>)>
+        ensures some { IfSome result (λ split. held self.entry ≡ split.0 ∷ held split.1) }
+        ensures none { IfNone result (held self.entry ≡ []) }
+    {
+        match self {
+            Item::Copies { n: 0, .. } => None,
+            Item::Copies { number, n } => Some((
+                number,
+                Item::Copies {
+                    number,
+                    n: n - 1,
+                },
+            )),
+            Item::Numbers { numbers } => match numbers.split_first() {
+                Some((number, rest)) => Some((*number, Item::Numbers { numbers: rest })),
+                None => None,
+            },
+        }
+    }
+}
+
+/// What a node is opened into.
+fn parts_of(node: &Node) -> Option<Item<'_>>
+    ensures { held_of result ≡ parts_of node.now }
+{
+    match node {
+        Node::Array { elem, n } => Some(Item::Copies {
+            number: *elem,
+            n: *n,
+        }),
+        Node::Struct { members } | Node::Frame { members } => Some(Item::Numbers {
+            numbers: members.as_slice(),
+        }),
+        _ => None,
+    }
+}
+
+fn parts_at(nodes: &[Node], number: u32) -> Option<Item<'_>>
+    ensures { held_of result ≡ parts_of (node_at nodes.now number) }
+{
+    match nodes.get(number as usize) {
+        Some(node) => parts_of(node),
+        None => None,
+    }
+}
+
+/// The nodes whose values are still to be related: what comes first stands last in the list.
+#[derive(Debug, Drop)]
+pub struct Work<'g> {
+    pub items: Vec<Item<'g>>,
+}
+
+impl<'g> Work<'g> {
+    /// The work of one node.
+    pub fn new(alloc: Global, number: u32) -> Result<Work<'g>, AllocError>
+        ensures { IfOk result (λ work. work_of work.items.items ≡ number ∷ []) }
+    {
+        let mut items = Vec::new(alloc);
+        items.push(Item::Copies { number, n: 1 })?;
+        Ok(Work { items })
+    }
+
+    /// Puts nodes in front.
+    #[tactic(auto, using(crate::proofs::WorkLaws::work_pushed))]
+    fn put(&mut self, item: Item<'g>) -> Result<(), AllocError>
+        ensures { IfOk result (λ done. work_of self.new.items.items ≡ held item.entry ++ work_of self.old.items.items) }
+    {
+        self.items.push(item)?;
+        Ok(())
+    }
+
+    /// Takes the first node away.
+    #[tactic(auto, using(crate::proofs::WorkLaws::work_popped))]
+    fn next(&mut self) -> Result<Option<u32>, AllocError>
+        ensures some { IfOk result (λ first. IfSome first (λ number. work_of self.old.items.items ≡ number ∷ work_of self.new.items.items)) }
+        ensures none { IfOk result (λ first. IfNone first (work_of self.old.items.items ≡ [])) }
+    {
+        while let Some(item) = self.items.pop() {
+            if let Some((number, rest)) = item.split() {
+                self.put(rest)?;
+                return Ok(Some(number));
+            }
+        }
+        Ok(None)
+    }
+}
