@@ -14,3 +14,4 @@ pub mod InstrPieces
 pub mod Sound
 pub mod OneLaws
 pub mod WorkLaws
+pub mod TimesLaws

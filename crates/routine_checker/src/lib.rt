@@ -5,6 +5,7 @@ mod fault;
 pub mod laws;
 mod pieces;
 mod sets;
+mod times;
 mod work;
 
 pub use fault::{CheckFault, StepFault};
