@@ -15,3 +15,4 @@ pub mod Sound
 pub mod OneLaws
 pub mod WorkLaws
 pub mod TimesLaws
+pub mod TakeLaws

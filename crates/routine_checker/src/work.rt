@@ -1,12 +1,30 @@
 //! The work that is left of a node.
 
-ghost use Rattle.std.specs.Prelude.{◌≡◌, ◌<◌, [], ◌∷◌, ◌++◌, IfOk, IfSome, IfNone, Some, None, replicate};
+ghost use Rattle.std.specs.Prelude.{◌≡◌, ◌<◌, [], ◌∷◌, ◌++◌, IfOk, IfSome, IfNone, IsTrue, IsFalse, Some, None, replicate};
 ghost use Rattle.type_graph.specs.Value.{node_at};
-ghost use Rattle.routine_checker.specs.Taking.{parts_of};
-ghost use Rattle.routine_checker.specs.Work.{held, held_of, work_of};
+ghost use Rattle.routine_checker.specs.Taking.{parts_of, taken_within};
+ghost use Rattle.routine_checker.specs.Work.{wants, held, held_of, work_of};
 
+use crate::pieces::is_piece;
+use marshal_program::{Instr, Routine};
 use std::alloc::{AllocError, Global};
 use type_graph::Node;
+
+/// The nodes that an instruction of a program takes.
+#[derive(Clone, Copy, Debug)]
+pub struct Wanted<'g> {
+    pub nodes: &'g [Node],
+    pub program: &'g [Routine],
+    pub instr: &'g Instr,
+}
+
+impl<'g> Wanted<'g> {
+    fn is(self, number: u32) -> bool
+        ensures { result ≡ wants self.entry number }
+    {
+        is_piece(self.nodes, self.program, self.instr, number)
+    }
+}
 
 /// Nodes that follow one another.
 #[derive(Clone, Copy, Debug)]
@@ -94,7 +112,6 @@ impl<'g> Work<'g> {
     }
 
     /// Takes the first node away.
-    #[tactic(auto, using(crate::proofs::WorkLaws::work_popped))]
     fn next(&mut self) -> Result<Option<u32>, AllocError>
         ensures some { IfOk result (λ first. IfSome first (λ number. work_of self.old.items.items ≡ number ∷ work_of self.new.items.items)) }
         ensures none { IfOk result (λ first. IfNone first (work_of self.old.items.items ≡ [])) }
@@ -106,5 +123,27 @@ impl<'g> Work<'g> {
             }
         }
         Ok(None)
+    }
+
+    /// Takes the first node that the instruction wants, if nothing but opened nodes stands before
+    /// it.
+    fn take_one(&mut self, wanted: Wanted<'g>) -> Result<bool, AllocError>
+        ensures taken { IfOk result (λ took. IsTrue took → taken_within 64 (wants wanted.entry) wanted.entry.nodes.now (work_of self.old.items.items) ≡ Some (work_of self.new.items.items)) }
+        ensures refused { IfOk result (λ took. IsFalse took → taken_within 64 (wants wanted.entry) wanted.entry.nodes.now (work_of self.old.items.items) ≡ None) }
+    {
+        for level in 0..64u32 {
+            let number = match self.next()? {
+                Some(number) => number,
+                None => return Ok(false),
+            };
+            if wanted.is(number) {
+                return Ok(true);
+            }
+            match parts_at(wanted.nodes, number) {
+                Some(parts) => self.put(parts)?,
+                None => return Ok(false),
+            }
+        }
+        Ok(false)
     }
 }
