@@ -1,5 +1,5 @@
 -- The work on a stack.
-use Rattle.std.proofs.Common.{◌≡◌, ℕ, List, [], ◌∷◌, ◌++◌, length, refl, sym, ap, ◌∙◌, append_assoc, append-nil, arith}
+use Rattle.std.proofs.Common.{◌≡◌, ℕ, zero, suc, ◌-◌, ◌<◌, List, [], ◌∷◌, ◌++◌, replicate, length, refl, sym, ap, ◌∙◌, append_assoc, append-nil, arith}
 use Rattle.routine_checker.specs.declared.work.Item.{Item}
 use Rattle.routine_checker.specs.Work.{held, work_of}
 
@@ -11,3 +11,10 @@ work_pushed (below ∷ items) item = ap (λ work. work ++ held below) (work_push
 -- what is on top came first
 pub work_popped : (items rest : List Item) (item : Item) → items ≡ rest ++ item ∷ [] → work_of items ≡ held item ++ work_of rest
 work_popped items rest item e = ap work_of e ∙ work_pushed rest item
+
+-- one of some copies
+pub first_copy : (work rest left : List ℕ) (number n : ℕ) → 0 < n → work ≡ replicate n number ++ rest → left ≡ replicate (n - 1) number ++ rest → work ≡ number ∷ left
+first_copy work rest left number zero some e f = absurd (omega (arith, some))
+first_copy work rest left number (suc n) some e f =
+    let fewer : suc n - 1 ≡ n = omega arith in
+    e ∙ ap (λ (more : List ℕ). number ∷ more) (sym (f ∙ ap (λ k. replicate k number ++ rest) fewer))

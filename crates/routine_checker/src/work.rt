@@ -39,22 +39,17 @@ pub enum Item<'g> {
 }
 
 impl<'g> Item<'g> {
-    /// The first of them, and the rest.
-    fn split(self) -> Option<(u32, Item<'g>)>
-        ensures some { IfSome result (λ split. held self.entry ≡ split.0 ∷ held split.1) }
+    /// The first of them, how many of it follow one another here, and the rest.
+    fn split(self) -> Option<(u32, u32, Item<'g>)>
+        ensures some { IfSome result (λ split. held self.entry ≡ replicate split.1 split.0 ++ held split.2) }
+        ensures many { IfSome result (λ split. 0 < split.1) }
         ensures none { IfNone result (held self.entry ≡ []) }
     {
         match self {
             Item::Copies { n: 0, .. } => None,
-            Item::Copies { number, n } => Some((
-                number,
-                Item::Copies {
-                    number,
-                    n: n - 1,
-                },
-            )),
+            Item::Copies { number, n } => Some((number, n, Item::Numbers { numbers: &[] })),
             Item::Numbers { numbers } => match numbers.split_first() {
-                Some((number, rest)) => Some((*number, Item::Numbers { numbers: rest })),
+                Some((number, rest)) => Some((*number, 1, Item::Numbers { numbers: rest })),
                 None => None,
             },
         }
@@ -111,18 +106,37 @@ impl<'g> Work<'g> {
         Ok(())
     }
 
+    /// Takes the first node away, and how many copies of it follow one another.
+    fn next_copies(&mut self) -> Result<Option<(u32, u32)>, AllocError>
+        ensures some { IfOk result (λ first. IfSome first (λ copies. work_of self.old.items.items ≡ replicate copies.1 copies.0 ++ work_of self.new.items.items)) }
+        ensures many { IfOk result (λ first. IfSome first (λ copies. 0 < copies.1)) }
+        ensures none { IfOk result (λ first. IfNone first (work_of self.old.items.items ≡ [])) }
+    {
+        while let Some(item) = self.items.pop() {
+            if let Some((number, n, rest)) = item.split() {
+                self.put(rest)?;
+                return Ok(Some((number, n)));
+            }
+        }
+        Ok(None)
+    }
+
     /// Takes the first node away.
+    #[tactic(auto, using(crate::proofs::WorkLaws::first_copy))]
     fn next(&mut self) -> Result<Option<u32>, AllocError>
         ensures some { IfOk result (λ first. IfSome first (λ number. work_of self.old.items.items ≡ number ∷ work_of self.new.items.items)) }
         ensures none { IfOk result (λ first. IfNone first (work_of self.old.items.items ≡ [])) }
     {
-        while let Some(item) = self.items.pop() {
-            if let Some((number, rest)) = item.split() {
-                self.put(rest)?;
-                return Ok(Some(number));
+        match self.next_copies()? {
+            Some((number, n)) => {
+                self.put(Item::Copies {
+                    number,
+                    n: n - 1,
+                })?;
+                Ok(Some(number))
             }
+            None => Ok(None),
         }
-        Ok(None)
     }
 
     /// Takes the first node that the instruction wants, if nothing but opened nodes stands before

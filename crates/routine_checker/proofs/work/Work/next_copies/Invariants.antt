@@ -1,6 +1,6 @@
 use Rattle.std.proofs.Common.{◌≡◌, length}
 use Rattle.routine_checker.specs.Work.{work_of}
-use Rattle.routine_checker.proofs.work.Work.next.Given as goal
+use Rattle.routine_checker.proofs.work.Work.next_copies.Given as goal
 
 abbrev pub invariant-loop-item : goal.invariant-loop-item
 invariant-loop-item l = work_of l.initial.self.items.items ≡ work_of l.self.items.items
