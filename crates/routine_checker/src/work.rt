@@ -1,8 +1,8 @@
 //! The work that is left of a node.
 
-ghost use Rattle.std.specs.Prelude.{◌≡◌, ◌<◌, [], ◌∷◌, ◌++◌, IfOk, IfSome, IfNone, IsTrue, IsFalse, Some, None, replicate};
+ghost use Rattle.std.specs.Prelude.{◌≡◌, ◌<◌, ◌≤◌, ◌-◌, [], ◌∷◌, ◌++◌, IfOk, IfSome, IfNone, IsTrue, IsFalse, Some, None, replicate};
 ghost use Rattle.type_graph.specs.Value.{node_at};
-ghost use Rattle.routine_checker.specs.Taking.{parts_of, taken_within};
+ghost use Rattle.routine_checker.specs.Taking.{parts_of, taken_within, taken, is_done_within};
 ghost use Rattle.routine_checker.specs.Work.{wants, held, held_of, work_of};
 
 use crate::pieces::is_piece;
@@ -154,6 +154,63 @@ impl<'g> Work<'g> {
                 return Ok(true);
             }
             match parts_at(wanted.nodes, number) {
+                Some(parts) => self.put(parts)?,
+                None => return Ok(false),
+            }
+        }
+        Ok(false)
+    }
+
+    /// Takes some of the wanted pieces, as many as are copies of one node, and tells how many; none
+    /// where the first can't be taken.
+    fn take_some(&mut self, wanted: Wanted<'g>, pieces: u32) -> Result<u32, AllocError>
+        requires { 0 < pieces }
+        ensures within { IfOk result (λ n. n ≤ pieces) }
+        ensures taken { IfOk result (λ n. 0 < n → taken pieces (wants wanted.entry) wanted.entry.nodes.now (work_of self.old.items.items) ≡ taken (pieces - n) (wants wanted.entry) wanted.entry.nodes.now (work_of self.new.items.items)) }
+        ensures refused { IfOk result (λ n. n ≡ 0 → taken pieces (wants wanted.entry) wanted.entry.nodes.now (work_of self.old.items.items) ≡ None) }
+    {
+        let (number, copies) = match self.next_copies()? {
+            Some(first) => first,
+            None => return Ok(0),
+        };
+        if wanted.is(number) {
+            let n = copies.min(pieces);
+            self.put(Item::Copies {
+                number,
+                n: copies - n,
+            })?;
+            return Ok(n);
+        }
+        self.put(Item::Copies { number, n: copies })?;
+        Ok(if self.take_one(wanted)? { 1 } else { 0 })
+    }
+
+    /// Takes so many pieces of an instruction, and tells whether they were there.
+    pub fn take(&mut self, wanted: Wanted<'g>, pieces: u32) -> Result<bool, AllocError>
+        ensures taken { IfOk result (λ took. IsTrue took → taken pieces (wants wanted.entry) wanted.entry.nodes.now (work_of self.old.items.items) ≡ Some (work_of self.new.items.items)) }
+        ensures refused { IfOk result (λ took. IsFalse took → taken pieces (wants wanted.entry) wanted.entry.nodes.now (work_of self.old.items.items) ≡ None) }
+    {
+        let mut left = pieces;
+        while left > 0 {
+            let n = self.take_some(wanted, left)?;
+            if n == 0 {
+                return Ok(false);
+            }
+            left -= n;
+        }
+        Ok(true)
+    }
+
+    /// Whether nothing but empty frames is left.
+    pub fn is_done(&mut self, nodes: &'g [Node]) -> Result<bool, AllocError>
+        ensures { IfOk result (λ done. done ≡ is_done_within 64 nodes.now (work_of self.old.items.items)) }
+    {
+        for level in 0..64u32 {
+            let number = match self.next()? {
+                Some(number) => number,
+                None => return Ok(true),
+            };
+            match parts_at(nodes, number) {
                 Some(parts) => self.put(parts)?,
                 None => return Ok(false),
             }
