@@ -11,3 +11,7 @@ pub mod SeqPieces
 pub mod SwitchPieces
 pub mod InstrPieces
 pub mod Sound
+pub mod FullSets
+pub mod Through
+pub mod OwnRoutines
+pub mod PlainPasses
