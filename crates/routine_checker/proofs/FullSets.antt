@@ -102,7 +102,7 @@ unfolding closure
 closure_full n exits set p e =
     among_closure n exits (bit_or set (left set exits)) p (among_or_right set (left set exits) p (subst (λ all. Among all p) (sym e) (among_all p)))
 
-none_among : (p : ℕ) → Among 0 p → ⊥
+pub none_among : (p : ℕ) → Among 0 p → ⊥
 none_among p h = let none = bit_at-zero (p % 8) in let one = eqb-true (bit_at 0 (p % 8)) 1 h in omega (arith, none, one)
 
 -- where elements start, the next may start

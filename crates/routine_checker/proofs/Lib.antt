@@ -14,4 +14,7 @@ pub mod Sound
 pub mod FullSets
 pub mod Through
 pub mod OwnRoutines
+pub mod Names
+pub mod RunGaps
 pub mod PlainPasses
+pub mod JoinedPasses

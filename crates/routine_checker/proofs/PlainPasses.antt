@@ -25,10 +25,11 @@ use Rattle.marshal_program.specs.Plain.{disc_of, aligned_to, plain_code, plain_r
 use Rattle.marshal_program.proofs.PlainPlaces.{length-plain_program, plain_program_at}
 use Rattle.routine_checker.specs.Sets.{gaps_agree, gaps_serve, is_within}
 use Rattle.routine_checker.specs.Taking.{parts_of, opened, is_done_within, is_whole, is_seq, is_enum, is_text, is_octet, is_boolean, is_routine_of, is_disc_of, are_arms_of, is_default_of, is_switch_of, is_piece, pieces, taken}
-use Rattle.routine_checker.specs.Steps.{counted, behind_gap, chosen_from, entry_at, lead_at, enters, pads, ends, program_fault, routine_fault}
+use Rattle.routine_checker.specs.Steps.{name_fault, counted, behind_gap, chosen_from, entry_at, lead_at, enters, pads, ends, program_fault, routine_fault}
 use Rattle.routine_checker.proofs.FullSets.{gaps_same_width, lead_serves, none_serves}
 use Rattle.routine_checker.proofs.Through.{takes_one, takes_copies, takes_opened, Through, nothing_through, align_through, work_through, other_work, routine_none, routines_none}
 use Rattle.routine_checker.proofs.OwnRoutines.{Own, own_lead, own_is, own_isnt, own_enters, own_enters_times, own_enters_elements}
+use Rattle.routine_checker.proofs.Names.{own_named}
 
 -- ---- discriminators
 
@@ -45,25 +46,35 @@ found_is : (P : Node → Type 0) (graph : List Node) (number : ℕ) (found : Opt
 found_is P graph number None e h = absurd h
 found_is P graph number (Some node) e h = subst P (sym (get_or_from_slice_get graph number node nodes.Octet e)) h
 
+-- the code goes through the node, wherever it starts
+abbrev pub FromNode : List Node → List Routine → List Instr → ℕ → Width → Type 0
+FromNode graph program code number gap = (places : ℕ) → Through graph program code (record { work = number ∷ []; places = places; gap = gap })
+
+-- a node of no parts
+pub empty_through : (graph : List Node) (program : List Routine) (number : ℕ) → parts_of (node_at graph number) ≡ Some [] → FromNode graph program [] number One
+unfolding is_done_within
+empty_through graph program number e places = record {
+  last = record { work = number ∷ []; places = places; gap = One };
+  followed_is = λ at instr. refl;
+  done = ap (λ parts. opened false (is_done_within 63 graph) parts []) e;
+  unpadded = gaps_same_width places One;
+}
+
 module _ (graph : List Node) (program : List Routine) (own : (number : ℕ) → number < length graph → Own program number) where
   -- ---- one instruction for the whole node
 
-  -- the node itself, wherever it starts
-  abbrev pub FromNode : List Instr → ℕ → Width → Type 0
-  FromNode code number gap = (places : ℕ) → Through graph program code (record { work = number ∷ []; places = places; gap = gap })
-
   one_through : (instr : Instr) (number : ℕ) (gap : Width) → is_work instr ≡ true → pieces instr ≡ 1 → is_piece graph program instr number ≡ true
-      → ((places : ℕ) → enters program instr places gap ≡ true) → ((places : ℕ) → pads graph program instr places gap ≡ true) → FromNode (instr ∷ []) number gap
+      → ((places : ℕ) → enters program instr places gap ≡ true) → ((places : ℕ) → pads graph program instr places gap ≡ true) → FromNode graph program (instr ∷ []) number gap
   one_through instr number gap work one piece enter pad places =
       work_through graph program instr [] (record { work = number ∷ []; places = places; gap = gap }) [] work
       (ap (λ n. taken n (is_piece graph program instr) graph (number ∷ [])) one ∙ takes_one graph (is_piece graph program instr) number [] piece)
       (enter places) (pad places) (nothing_through graph program (ends program instr places gap))
 
   -- behind the gap to the alignment
-  behind_gap_through : (to : Width) (code : List Instr) (number : ℕ) → FromNode code number to → FromNode (Align to ∷ code) number One
+  behind_gap_through : (to : Width) (code : List Instr) (number : ℕ) → FromNode graph program code number to → FromNode graph program (Align to ∷ code) number One
   behind_gap_through to code number through places = align_through graph program to code (record { work = number ∷ []; places = places; gap = One }) (through places)
 
-  aligned_through : (to : Width) (code : List Instr) (number : ℕ) → FromNode code number to → FromNode (aligned_to to code) number One
+  aligned_through : (to : Width) (code : List Instr) (number : ℕ) → FromNode graph program code number to → FromNode graph program (aligned_to to code) number One
   aligned_through One code number through = through
   aligned_through Two code number through = behind_gap_through Two code number through
   aligned_through Four code number through = behind_gap_through Four code number through
@@ -71,7 +82,7 @@ module _ (graph : List Node) (program : List Routine) (own : (number : ℕ) → 
 
   -- ---- arrays
 
-  times_through : (number elem n : ℕ) → node_at graph number ≡ nodes.Array elem n → 0 < n → elem < length graph → height_of graph elem < height_of graph number → FromNode (Times n elem ∷ []) number One
+  times_through : (number elem n : ℕ) → node_at graph number ≡ nodes.Array elem n → 0 < n → elem < length graph → height_of graph elem < height_of graph number → FromNode graph program (Times n elem ∷ []) number One
   times_through number elem zero e some lt low places = absurd (omega (arith, some))
   times_through number elem (suc n) e some lt low places =
       let wanted = is_routine_of program elem in
@@ -93,19 +104,9 @@ module _ (graph : List Node) (program : List Routine) (own : (number : ℕ) → 
       (own_enters program member routine (behind_gap places One)) (none_serves places (lead_at graph program member))
       (calls_through members within.1 (ends program (Call member) places One))
 
-  -- a node of no parts
-  empty_through : (number : ℕ) → parts_of (node_at graph number) ≡ Some [] → FromNode [] number One
-  unfolding is_done_within
-  empty_through number e places = record {
-    last = record { work = number ∷ []; places = places; gap = One };
-    followed_is = λ at instr. refl;
-    done = ap (λ parts. opened false (is_done_within 63 graph) parts []) e;
-    unpadded = gaps_same_width places One;
-  }
-
   members_through : (number : ℕ) (members : List ℕ) → parts_of (node_at graph number) ≡ Some members → AllByRecursion (λ member. member < length graph) members
-      → AllByRecursion (λ member. height_of graph member < height_of graph number) members → FromNode (map Call members) number One
-  members_through number [] e within low places = empty_through number e places
+      → AllByRecursion (λ member. height_of graph member < height_of graph number) members → FromNode graph program (map Call members) number One
+  members_through number [] e within low places = empty_through graph program number e places
   members_through number (member ∷ members) e within low places =
       let wanted = is_routine_of program member in
       let routine = own member within.0 in
@@ -133,7 +134,7 @@ module _ (graph : List Node) (program : List Routine) (own : (number : ℕ) → 
       (and_from (int_eq arm.0 arm.0 && is_routine_of program arm.1 arm.1) (are_arms_of program arms arms) head more.0, more.1)
 
   switch_through : (number switch : ℕ) (arms : List (ℤ × ℕ)) (default : Option ℕ) → node_at graph number ≡ nodes.Union switch arms default → IsSwitch (node_at graph switch)
-      → AllByRecursion (λ member. member < length graph) (arms_of arms default) → FromNode (plain_code graph (nodes.Union switch arms default)) number One
+      → AllByRecursion (λ member. member < length graph) (arms_of arms default) → FromNode graph program (plain_code graph (nodes.Union switch arms default)) number One
   switch_through number switch arms default e h within =
       let node = node_at graph switch in
       let disc = disc_of node in
@@ -150,7 +151,7 @@ module _ (graph : List Node) (program : List Routine) (own : (number : ℕ) → 
 
   -- ---- sequences
 
-  elements_through : (number elem bound : ℕ) → node_at graph number ≡ nodes.Seq elem bound → elem < length graph → FromNode (plain_code graph (nodes.Seq elem bound)) number One
+  elements_through : (number elem bound : ℕ) → node_at graph number ≡ nodes.Seq elem bound → elem < length graph → FromNode graph program (plain_code graph (nodes.Seq elem bound)) number One
   elements_through number elem bound e lt =
       let routine = own elem lt in
       let first = lead_of graph elem in
@@ -163,8 +164,8 @@ module _ (graph : List Node) (program : List Routine) (own : (number : ℕ) → 
 
   -- ---- each node
 
-  node_through : (number : ℕ) (node : Node) → node_at graph number ≡ node → IsNode graph node → AllByRecursion (λ member. member < length graph) (held_by node)
-      → AllByRecursion (λ member. height_of graph member < height_of graph number) (held_by node) → FromNode (plain_code graph node) number One
+  pub node_through : (number : ℕ) (node : Node) → node_at graph number ≡ node → IsNode graph node → AllByRecursion (λ member. member < length graph) (held_by node)
+      → AllByRecursion (λ member. height_of graph member < height_of graph number) (held_by node) → FromNode graph program (plain_code graph node) number One
   node_through number (nodes.Whole width signed) e rule within low =
       behind_gap_through width (Words width 1 ∷ []) number
       (one_through (Words width 1) number width refl refl (ap (is_whole width) e ∙ eq-eqb (octets_in width) (octets_in width) refl) (λ places. refl) (λ places. gaps_same_width places width))
@@ -194,7 +195,7 @@ module _ (graph : List Node) (program : List Routine) (own : (number : ℕ) → 
         above_each (height_of graph) (height_of graph number) (held_by (node_at graph number)) (omega (arith, over))
 
     -- the plain code of a node goes through
-    pub plain_through : (number : ℕ) → number < length graph → FromNode (plain_code graph (node_at graph number)) number One
+    pub plain_through : (number : ℕ) → number < length graph → FromNode graph program (plain_code graph (node_at graph number)) number One
     plain_through number lt = node_through number (node_at graph number) refl (rules.nodes number nodes.Octet lt) (all_within number lt) (all_low number)
 
 -- ---- the plain program
@@ -218,3 +219,10 @@ plain_passes graph rules =
     let own : Routine = plain_routine graph k (node_at graph k) in
     subst (λ r. routine_fault graph (plain_program graph) number r ≡ None) (same_Some own routine (sym (plain_program_at graph k lt) ∙ there))
     (routine_none graph (plain_program graph) number own lt refl (plain_through graph (plain_program graph) (plain_own graph) rules k lt)))
+
+plain_own_within : (graph : List Node) (number : ℕ) → number < length (plain_program graph) → Own (plain_program graph) number
+plain_own_within graph number lt = let long = length-plain_program graph in plain_own graph number (omega (arith, lt, long))
+
+-- no name of a node is refused
+pub plain_named : (graph : List Node) (number : ℕ) → number < length graph → name_fault (plain_program graph) number ≡ None
+plain_named graph number lt = let long = length-plain_program graph in own_named (plain_program graph) (plain_own_within graph) number (omega (arith, lt, long))
