@@ -18,3 +18,4 @@ pub mod Names
 pub mod RunGaps
 pub mod PlainPasses
 pub mod JoinedPasses
+pub mod Worked
