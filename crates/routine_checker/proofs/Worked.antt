@@ -1,5 +1,5 @@
 -- Programs worked out by hand, with the first fault of each: what the definitions of the checker say of them.
-use Rattle.std.proofs.Common.{◌≡◌, ℕ, true, false, pos, List, [], ◌∷◌, replicate, Some, None, refl}
+use Rattle.std.proofs.Common.{◌≡◌, ℕ, ◌+◌, ◌%◌, ◌^◌, true, false, pos, List, [], ◌∷◌, map, replicate, Some, None, refl}
 use Rattle.type_graph.specs.declared.width.Width.TheVariants.{One, Two, Four, Eight}
 use Rattle.type_graph.specs.declared.node.Node.{Node}
 use Rattle.type_graph.specs.declared.node.Node.TheVariants as nodes
@@ -7,7 +7,7 @@ use Rattle.type_graph.specs.Walks.{lead_within}
 use Rattle.marshal_program.specs.declared.instr.Disc.TheVariants as discs
 use Rattle.marshal_program.specs.declared.instr.Instr.{Instr}
 use Rattle.marshal_program.specs.declared.instr.Instr.TheVariants.{Align, Octets, Words, EnumWord, Text}
-use Rattle.marshal_program.specs.declared.instr.Instr.TheVariants.{SeqOctets, SeqWords, SeqOf, Switch}
+use Rattle.marshal_program.specs.declared.instr.Instr.TheVariants.{SeqOctets, SeqWords, SeqOf, Times, Call, Switch}
 use Rattle.marshal_program.specs.declared.instr.Routine.{Routine}
 use Rattle.marshal_program.specs.Plain.{plain_program}
 use Rattle.marshal_program.specs.Joined.{joined_code, joined_program}
@@ -51,7 +51,7 @@ unfolding routine_fault step taken taken_within each_place gathered is_done_with
 small_gap_at_end = refl
 
 -- two gaps in a row are the wider one
-small_two_gaps : program_fault small (free 3 (Octets 1 ∷ Align Two ∷ Align Four ∷ Words Four 1 ∷ Align One ∷ Text 0 ∷ []) ∷ []) ≡ None
+small_two_gaps : program_fault small (free 3 (Octets 1 ∷ Align Two ∷ Align Four ∷ Words Four 1 ∷ Text 0 ∷ []) ∷ []) ≡ None
 unfolding routine_fault step taken taken_within each_place gathered is_done_within
 small_two_gaps = refl
 
@@ -82,12 +82,22 @@ small_some_entries = refl
 small_some_named : name_fault small_some 3 ≡ Some (NamedEntryNotFull 3)
 small_some_named = refl
 
+-- the routine of the text in the place of the unsigned long
+small_calls_another : program_fault small (free 3 (Octets 1 ∷ Call 1 ∷ Align Four ∷ Text 0 ∷ []) ∷ free 2 (Align Four ∷ Text 0 ∷ []) ∷ []) ≡ Some (WrongWork 0 1)
+unfolding routine_fault step taken taken_within each_place gathered is_done_within
+small_calls_another = refl
+
 -- ---- numbers, alone and in a sequence
 
 -- an unsigned long without its gap
 long_alone : program_fault (nodes.Whole Four false ∷ []) (free 0 (Words Four 1 ∷ []) ∷ []) ≡ Some (WrongPadding 0 0)
 unfolding routine_fault step taken taken_within each_place gathered is_done_within
 long_alone = refl
+
+-- at the end a gap that is always empty
+long_gap_at_end : program_fault (nodes.Whole Four false ∷ []) (free 0 (Align Four ∷ Words Four 1 ∷ Align Two ∷ []) ∷ []) ≡ None
+unfolding routine_fault step taken taken_within each_place gathered is_done_within
+long_gap_at_end = refl
 
 -- a sequence of long longs
 abbrev longs : List Node
@@ -209,11 +219,14 @@ octet_as_boolean = refl
 abbrev maybe : List Node
 maybe = nodes.Boolean ∷ nodes.Whole Two true ∷ nodes.Union 0 ((pos 1, 1) ∷ []) None ∷ []
 
-maybe_default : program_fault maybe (free 2 (Switch discs.Boolean ((pos 1, 1) ∷ []) (Some 1) ∷ []) ∷ free 1 (Align Two ∷ Words Two 1 ∷ []) ∷ []) ≡ Some (WrongWork 0 0)
+abbrev maybe_short : Routine
+maybe_short = free 1 (Align Two ∷ Words Two 1 ∷ [])
+
+maybe_default : program_fault maybe (free 2 (Switch discs.Boolean ((pos 1, 1) ∷ []) (Some 1) ∷ []) ∷ maybe_short ∷ []) ≡ Some (WrongWork 0 0)
 unfolding routine_fault step taken taken_within each_place gathered is_done_within
 maybe_default = refl
 
-maybe_whole : program_fault maybe (free 2 (Switch discs.Boolean ((pos 1, 1) ∷ []) None ∷ []) ∷ free 1 (Align Two ∷ Words Two 1 ∷ []) ∷ []) ≡ None
+maybe_whole : program_fault maybe (free 2 (Switch discs.Boolean ((pos 1, 1) ∷ []) None ∷ []) ∷ maybe_short ∷ []) ≡ None
 unfolding routine_fault step taken taken_within each_place gathered is_done_within lead_within
 maybe_whole = refl
 
@@ -221,6 +234,66 @@ maybe_whole = refl
 octets_without_bound : program_fault (nodes.Octet ∷ nodes.Seq 0 4 ∷ []) (free 1 (Align Four ∷ SeqOctets 0 ∷ []) ∷ []) ≡ Some (WrongWork 0 1)
 unfolding routine_fault step taken taken_within each_place gathered is_done_within is_one
 octets_without_bound = refl
+
+-- two words for a number and an enumerator
+enum_as_word : program_fault (nodes.Whole Four false ∷ nodes.Enum 3 ∷ nodes.Struct (0 ∷ 1 ∷ []) ∷ []) (free 2 (Align Four ∷ Words Four 2 ∷ []) ∷ []) ≡ Some (WrongWork 0 1)
+unfolding routine_fault step taken taken_within each_place gathered is_done_within
+enum_as_word = refl
+
+-- the short at FALSE
+maybe_other_label : program_fault maybe (free 2 (Switch discs.Boolean ((pos 0, 1) ∷ []) None ∷ []) ∷ maybe_short ∷ []) ≡ Some (WrongWork 0 0)
+unfolding routine_fault step taken taken_within each_place gathered is_done_within
+maybe_other_label = refl
+
+-- at TRUE a union instead of the short
+maybe_other_node : program_fault maybe (free 2 (Switch discs.Boolean ((pos 1, 0) ∷ []) None ∷ []) ∷ maybe_short ∷ []) ≡ Some (WrongWork 0 0)
+unfolding routine_fault step taken taken_within each_place gathered is_done_within
+maybe_other_node = refl
+
+-- ---- where octets may end
+
+-- positions n octets further than the entry, modulo 8
+abbrev further : ℕ → List ℕ
+further n = map (λ p. 2 ^ ((p + n) % 8)) (0 ∷ 1 ∷ 2 ∷ 3 ∷ 4 ∷ 5 ∷ 6 ∷ 7 ∷ [])
+
+abbrev ending : ℕ → List ℕ → List Instr → Routine
+ending node exits code = record { node = node; entry = 255; exits = exits; rank = 0; code = code }
+
+-- a union with an octet at each value
+abbrev either : List Node
+either = nodes.Boolean ∷ nodes.Octet ∷ nodes.Union 0 ((pos 0, 1) ∷ (pos 1, 1) ∷ []) None ∷ []
+
+-- a member follows always
+either_ends : program_fault either (ending 2 (further 2) (Switch discs.Boolean ((pos 0, 1) ∷ (pos 1, 1) ∷ []) None ∷ []) ∷ ending 1 (further 1) (Octets 1 ∷ []) ∷ []) ≡ None
+unfolding routine_fault step taken taken_within each_place gathered is_done_within
+either_ends = refl
+
+-- a union with an octet at TRUE
+abbrev one_of_two : List Node
+one_of_two = nodes.Boolean ∷ nodes.Octet ∷ nodes.Union 0 ((pos 1, 1) ∷ []) None ∷ []
+
+-- at FALSE it ends behind the discriminator
+no_member_ends : program_fault one_of_two (ending 2 (further 2) (Switch discs.Boolean ((pos 1, 1) ∷ []) None ∷ []) ∷ ending 1 (further 1) (Octets 1 ∷ []) ∷ []) ≡ Some (ExitsTooSmall 0 0)
+unfolding routine_fault step taken taken_within each_place gathered is_done_within
+no_member_ends = refl
+
+-- five octets
+abbrev five : List Node
+five = nodes.Octet ∷ nodes.Array 0 5 ∷ []
+
+five_times : program_fault five (ending 1 (further 5) (Times 5 1 ∷ []) ∷ ending 0 (further 1) (Octets 1 ∷ []) ∷ []) ≡ None
+unfolding routine_fault step taken taken_within each_place gathered is_done_within enters_times times_left lead_within
+five_times = refl
+
+-- as if it were done once
+five_times_once : program_fault five (ending 1 (further 1) (Times 5 1 ∷ []) ∷ ending 0 (further 1) (Octets 1 ∷ []) ∷ []) ≡ Some (ExitsTooSmall 0 0)
+unfolding routine_fault step taken taken_within each_place gathered is_done_within enters_times times_left lead_within
+five_times_once = refl
+
+-- a text may end anywhere
+text_behind_text : program_fault (nodes.Text 0 ∷ nodes.Struct (0 ∷ 0 ∷ []) ∷ []) (free 1 (Align Four ∷ Text 0 ∷ Text 0 ∷ []) ∷ []) ≡ Some (WrongPadding 0 2)
+unfolding routine_fault step taken taken_within each_place gathered is_done_within
+text_behind_text = refl
 
 -- ---- a plain program
 

@@ -1,4 +1,5 @@
-//! What holds of every program that the checker accepts, and which programs it accepts, as functions that do nothing: each contract is the law.
+//! What holds of every program that the checker accepts, and which programs it accepts, as functions
+//! that do nothing: each contract is the law.
 
 ghost use Rattle.std.specs.Prelude.{◌≡◌, ℕ, ◌<◌, List, None, Some, length};
 ghost use Rattle.type_graph.specs.declared.node.Node.{Node};
