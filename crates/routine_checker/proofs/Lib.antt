@@ -16,3 +16,11 @@ pub mod OneLaws
 pub mod WorkLaws
 pub mod TimesLaws
 pub mod TakeLaws
+pub mod FullSets
+pub mod Through
+pub mod OwnRoutines
+pub mod Names
+pub mod RunGaps
+pub mod PlainPasses
+pub mod JoinedPasses
+pub mod Worked
