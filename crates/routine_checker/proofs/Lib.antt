@@ -24,3 +24,4 @@ pub mod RunGaps
 pub mod PlainPasses
 pub mod JoinedPasses
 pub mod Worked
+pub mod JudgeLaws

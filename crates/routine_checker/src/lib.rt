@@ -3,6 +3,7 @@
 
 mod fault;
 pub mod laws;
+mod judge;
 mod pieces;
 mod sets;
 mod times;
