@@ -25,3 +25,4 @@ pub mod PlainPasses
 pub mod JoinedPasses
 pub mod Worked
 pub mod JudgeLaws
+pub mod StepCode

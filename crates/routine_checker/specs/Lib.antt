@@ -5,3 +5,4 @@ pub mod Steps
 pub mod Right
 pub mod Kinds
 pub mod Work
+pub mod Progress

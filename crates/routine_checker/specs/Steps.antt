@@ -22,7 +22,7 @@ use Rattle.marshal_program.specs.Served.{served_by}
 use Rattle.routine_checker.specs.declared.fault.StepFault.{StepFault}
 use Rattle.routine_checker.specs.declared.fault.StepFault.TheVariants as stops
 use Rattle.routine_checker.specs.declared.fault.CheckFault.{CheckFault}
-use Rattle.routine_checker.specs.declared.fault.CheckFault.TheVariants.{WrongWork, WrongPadding, EntryOutside, ExitsTooSmall, NoRoutine, NamedEntryNotFull}
+use Rattle.routine_checker.specs.declared.fault.CheckFault.TheVariants.{NoMemory, WrongWork, WrongPadding, EntryOutside, ExitsTooSmall, NoRoutine, NamedEntryNotFull}
 use Rattle.routine_checker.specs.Sets.{has, is_within, moved, left, closure, gaps_agree, gaps_serve, multiples}
 use Rattle.routine_checker.specs.Taking.{taken, is_done_within, is_piece, pieces}
 
@@ -179,6 +179,7 @@ abbrev pub fault_at : ℕ → ℕ → StepFault → CheckFault
 fault_at routine instr stops.Work = WrongWork routine instr
 fault_at routine instr stops.Entry = EntryOutside routine instr
 fault_at routine instr stops.Padding = WrongPadding routine instr
+fault_at routine instr stops.NoMemory = NoMemory
 
 abbrev pub followed_by : (State → Result State CheckFault) → ℕ → ℕ → Result State StepFault → Result State CheckFault
 followed_by further routine instr (Err stop) = Err (fault_at routine instr stop)

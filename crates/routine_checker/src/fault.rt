@@ -2,6 +2,7 @@
 
 ghost use Rattle.std.specs.Prelude.{◌≡◌};
 ghost use Rattle.routine_checker.specs.declared.fault.CheckFault.TheVariants.{NoMemory};
+ghost use Rattle.routine_checker.specs.declared.fault.StepFault.TheVariants.{NoMemory as StepNoMemory};
 
 use std::alloc::{AllocError, AllocFailed};
 use thiserror::Error;
@@ -15,6 +16,32 @@ pub enum StepFault {
     Entry,
     /// A gap isn't the one that belongs there.
     Padding,
+    NoMemory,
+}
+
+impl From<AllocError> for StepFault {
+    ghost from_gives = { λ _ fault. fault ≡ StepNoMemory };
+
+    fn from(_error: AllocError) -> StepFault {
+        StepFault::NoMemory
+    }
+}
+
+impl StepFault {
+    ghost use Rattle.std.specs.Prelude.{◌≡◌};
+    ghost use Rattle.routine_checker.specs.Steps.{fault_at};
+
+    /// The fault of a program that has it at an instruction of a routine.
+    pub fn at(self, routine: u32, instr: u32) -> CheckFault
+        ensures { result ≡ fault_at routine instr self }
+    {
+        match self {
+            StepFault::Work => CheckFault::WrongWork { routine, instr },
+            StepFault::Entry => CheckFault::EntryOutside { routine, instr },
+            StepFault::Padding => CheckFault::WrongPadding { routine, instr },
+            StepFault::NoMemory => CheckFault::NoMemory,
+        }
+    }
 }
 
 /// A fault has its number and name as its text, with the place.

@@ -1,12 +1,15 @@
 //! Checks routines: those that are accepted do just what their nodes mean, whoever made them.
 #![tactic(auto)]
 
+mod check;
 mod fault;
 pub mod laws;
 mod judge;
 mod pieces;
 mod sets;
+mod step;
 mod times;
 mod work;
 
+pub use check::check_routines;
 pub use fault::{CheckFault, StepFault};
