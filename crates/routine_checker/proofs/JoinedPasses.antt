@@ -28,7 +28,7 @@ use Rattle.routine_checker.proofs.Through.{takes_first, takes_opened, Through, n
 use Rattle.routine_checker.proofs.OwnRoutines.{Own}
 use Rattle.routine_checker.proofs.PlainPasses.{FromNode, empty_through, node_through, all_within, all_low}
 use Rattle.marshal_program.specs.Served.{served_by}
-use Rattle.routine_checker.proofs.Names.{own_serves, own_named}
+use Rattle.routine_checker.proofs.NameLaws.{own_serves, own_named}
 
 -- ---- one run as an instruction
 

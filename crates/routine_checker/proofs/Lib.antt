@@ -19,10 +19,11 @@ pub mod TakeLaws
 pub mod FullSets
 pub mod Through
 pub mod OwnRoutines
-pub mod Names
+pub mod NameLaws
 pub mod RunGaps
 pub mod PlainPasses
 pub mod JoinedPasses
 pub mod Worked
 pub mod JudgeLaws
 pub mod StepCode
+pub mod CheckCode

@@ -29,7 +29,7 @@ use Rattle.routine_checker.specs.Steps.{name_fault, counted, behind_gap, chosen_
 use Rattle.routine_checker.proofs.FullSets.{gaps_same_width, lead_serves, none_serves}
 use Rattle.routine_checker.proofs.Through.{takes_one, takes_copies, takes_opened, Through, nothing_through, align_through, work_through, other_work, routine_none, routines_none}
 use Rattle.routine_checker.proofs.OwnRoutines.{Own, own_lead, own_is, own_isnt, own_enters, own_enters_times, own_enters_elements}
-use Rattle.routine_checker.proofs.Names.{own_named}
+use Rattle.routine_checker.proofs.NameLaws.{own_named}
 
 -- ---- discriminators
 

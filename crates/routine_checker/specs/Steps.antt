@@ -3,7 +3,7 @@
 use Rattle.std.specs.Prelude.{ℕ, zero, suc, ◌*◌, ◌^◌, Bool, true, false, not, ◌&&◌, ◌||◌, eqb, ltb, is_some, ℤ}
 use Rattle.std.specs.Prelude.{List, [], ◌∷◌, length, Option, Some, None, Result, Ok, Err, slice_get, slice_index_or}
 use Rattle.std.specs.Prelude.{bit_or, if◌then◌else◌}
-use Rattle.std.specs.List.{list_all}
+use Rattle.std.specs.List.{list_all, list_any}
 use Rattle.type_graph.specs.declared.width.Width.{Width}
 use Rattle.type_graph.specs.declared.width.Width.TheVariants.{One, Four}
 use Rattle.type_graph.specs.declared.node.Node.{Node}
@@ -240,8 +240,7 @@ program_fault graph program = routines_fault graph program 0 program
 
 -- some routine is one of the node
 abbrev pub has_routine : List Routine → ℕ → Bool
-has_routine [] node = false
-has_routine (routine ∷ routines) node = eqb routine.node node || has_routine routines node
+has_routine program node = list_any (λ routine. eqb routine.node node) program
 
 abbrev pub name_fault_by : Bool → Bool → ℕ → Option CheckFault
 name_fault_by true some node = None

@@ -96,19 +96,21 @@ fn check_entry<'g>(
     }
 }
 
-/// A routine from each of its entries.
+/// A routine from each of its entries; the graph has so many nodes.
 fn check_routine<'g>(
     alloc: Global,
     graph: &'g Graph,
+    nodes: usize,
     program: &'g [Routine],
     number: u32,
     routine: &'g Routine,
 ) -> Result<(), CheckFault>
-    requires { length routine.now.code ≤ 65536 }
+    requires nodes { nodes ≡ length graph.now }
+    requires code { length routine.now.code ≤ 65536 }
     ensures ok { OnOk result (routine_fault graph.now program.now number routine.now ≡ None) }
     ensures refused { IfErr result (λ fault. OnlyIf fault (routine_fault graph.now program.now number routine.now ≡ Some fault)) }
 {
-    if routine.node as usize >= graph.nodes().len() {
+    if routine.node as usize >= nodes {
         return Err(CheckFault::WrongWork {
             routine: number,
             instr: 0,
@@ -137,9 +139,17 @@ pub fn check_routines(alloc: Global, graph: &Graph, program: &Program) -> Result
     ensures plain { IfErr result (λ fault. OnlyIf fault (program.now ≢ plain_program graph.now)) }
     ensures joined { IfErr result (λ fault. OnlyIf fault (program.now ≢ joined_program graph.now)) }
 {
+    let nodes = graph.nodes().len();
     let routines = program.routines();
     for number in 0..routines.len() {
-        match check_routine(alloc, graph, routines, number as u32, &routines[number]) {
+        match check_routine(
+            alloc,
+            graph,
+            nodes,
+            routines,
+            number as u32,
+            &routines[number],
+        ) {
             Ok(()) => (),
             Err(fault) => return Err(fault),
         }

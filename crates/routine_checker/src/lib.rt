@@ -5,6 +5,7 @@ mod check;
 mod fault;
 pub mod laws;
 mod judge;
+mod names;
 mod pieces;
 mod sets;
 mod step;
@@ -12,4 +13,5 @@ mod times;
 mod work;
 
 pub use check::check_routines;
+pub use names::check_names;
 pub use fault::{CheckFault, StepFault};
