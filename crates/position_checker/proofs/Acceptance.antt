@@ -1,6 +1,9 @@
 -- What an accepted table answers.
-use Rattle.std.proofs.Common.{◌≡◌, ◌↔◌, ℕ, List, ◌++◌, Some, Result, Ok, Err, sym, subst}
-use Rattle.std.specs.Prelude.{IfErr}
+use Rattle.std.proofs.Common.{◌≡◌, ◌↔◌, ℕ, Bool, true, false, ◌&&◌, ◌==◌, List, [], ◌++◌, ◌<◌, length, get_or, slice_index_or, Some, slice_get, Result, Ok, Err, refl, sym, ap, subst, ◌∙◌}
+use Rattle.std.specs.Prelude.{IfErr, IsSome, is_some, All}
+use Rattle.std.proofs.lemmas.Bool.{eqb-true}
+use Rattle.std.proofs.lemmas.Option.{slice_get-get_or}
+use Rattle.std.proofs.lemmas.List.Quantifiers.{position-Some}
 use Rattle.type_graph.specs.declared.node.Node.{Node}
 use Rattle.type_graph.specs.GraphRules.{IsGraph}
 use Rattle.type_graph.specs.declared.width.Order.{Order}
@@ -8,28 +11,75 @@ use Rattle.type_graph.specs.Words.{reading, writing}
 use Rattle.type_graph.specs.Encoding.{Means}
 use Rattle.marshal_program.specs.declared.instr.Routine.{Routine}
 use Rattle.marshal_program.specs.Does.{Runs}
+use Rattle.routine_checker.specs.Sets.{Among}
+use Rattle.routine_checker.specs.Right.{AreRight}
+use Rattle.routine_checker.specs.declared.fault.CheckFault.{CheckFault}
+use Rattle.routine_checker.specs.declared.fault.CheckFault.TheVariants as faults
+use Rattle.routine_checker.specs.Progress.{OnlyIf as CheckOnlyIf}
 use Rattle.marshal_program.specs.Plain.{plain_program}
-use Rattle.marshal_program.proofs.PlainRight.{plain_graph, plain_right}
+use Rattle.marshal_program.specs.Joined.{joined_program}
+use Rattle.marshal_program.proofs.PlainPlaces.{plain_serves}
+use Rattle.routine_checker.proofs.JoinedPasses.{joined_serves}
+use Rattle.routine_checker.proofs.SetLaws.{among_all}
 use Rattle.program_runner.specs.declared.fault.RunFault.{RunFault}
 use Rattle.program_runner.specs.declared.fault.RunFault.TheVariants.{Short, BadBool, BadEnum, BadLength, NoTerminator, ZeroInside, OverBound, TooDeep, TapeLeft, NoMemory}
 use Rattle.program_runner.specs.Refusal.{OnlyIf}
 use Rattle.position_checker.specs.Table.{Table, IsRight}
-use Rattle.marshal_program.specs.Served.{served_by}
-use Rattle.marshal_program.proofs.PlainPlaces.{plain_served_within, plain_served_is}
+use Rattle.marshal_program.specs.Served.{is_serving, served_by}
 
--- a graph and its plain program
-plain_is_right : (graph : List Node) → IsGraph graph → IsRight (record { graph = graph; program = plain_program graph })
-plain_is_right graph rules = record {
-  same = λ format node routine p tape octets serves.
-      let lt = plain_served_within graph node routine serves in
-      let is : node ≡ routine = plain_served_is graph node routine lt serves in
-      let same = plain_right graph format (plain_graph graph rules) 64 node lt in
-      subst (λ (r : ℕ). Runs (plain_program graph) format 64 r p tape octets ↔ Means graph format 64 node p tape octets) is
-      (same.to p tape octets tt, same.from p tape octets tt);
+-- the routine that serves a node is one of the node, and may start everywhere
+pub record Serves (program : List Routine) (node number : ℕ) : Type 0 where
+  pub routine : Routine
+  pub there : slice_get program number ≡ Some routine
+  pub node_is : routine.node ≡ node
+  pub entry_is : routine.entry ≡ 255
+
+both : (a b : Bool) → (a && b) ≡ true → (a ≡ true) × (b ≡ true)
+both true b e = (refl, e)
+both false b e = absurd cc
+
+pub serves : (program : List Routine) (node number : ℕ) → served_by program node ≡ Some number → Serves program node number
+serves program node number e =
+    let none : Routine = record { node = 0; entry = 0; exits = []; rank = 0; code = [] } in
+    let found = position-Some (is_serving node) program number none e in
+    let routine = get_or program number none in
+    let tests = both (routine.node == node) (routine.entry == 255) found.1 in
+    record {
+      routine = routine;
+      there = slice_get-get_or program number none found.0;
+      node_is = eqb-true routine.node node tests.0;
+      entry_is = eqb-true routine.entry 255 tests.1;
+    }
+
+-- where each routine is right, the routine that serves a node is
+pub accepted : (graph : List Node) (program : List Routine) → AreRight graph program → IsRight (record { graph = graph; program = program })
+accepted graph program right = record {
+  same = λ format node number p tape octets e.
+      let found = serves program node number e in
+      let good = (right number found.routine found.there).related format 64 in
+      let among : Among found.routine.entry p = subst (λ entry. Among entry p) (sym found.entry_is) (among_all p) in
+      subst (λ (n : ℕ). Runs program format 64 number p tape octets ↔ Means graph format 64 n p tape octets) found.node_is
+        (good.to p tape octets among, good.from p tape octets among);
 }
 
-pub accepted : (graph : List Node) (program : List Routine) → IsGraph graph → program ≡ plain_program graph → IsRight (record { graph = graph; program = program })
-accepted graph program rules e = subst (λ (p : List Routine). IsRight (record { graph = graph; program = p })) (sym e) (plain_is_right graph rules)
+-- what holds anyway holds where want of memory isn't the cause
+pub whatever_fault : (fault : CheckFault) (P : Type 0) → P → CheckOnlyIf fault P
+whatever_fault faults.NoMemory P h = tt
+whatever_fault (faults.WrongWork routine instr) P h = h
+whatever_fault (faults.WrongPadding routine instr) P h = h
+whatever_fault (faults.EntryOutside routine instr) P h = h
+whatever_fault (faults.ExitsTooSmall routine entry) P h = h
+whatever_fault (faults.NoRoutine node) P h = h
+whatever_fault (faults.NamedEntryNotFull node) P h = h
+
+-- the nodes of the graph are served by its plain and by its joined program
+pub plain_names : (graph : List Node) (program : List Routine) (names : List ℕ) → (All (λ name. IsSome (served_by program name)) names → ⊥) → All (λ name. name < length graph) names → program ≡ plain_program graph → ⊥
+plain_names graph program names unserved within e =
+    unserved (λ k d lt. subst (λ (p : List Routine). IsSome (served_by p (slice_index_or names k d))) (sym e) (ap is_some (plain_serves graph (slice_index_or names k d) (within k d lt))))
+
+pub joined_names : (graph : List Node) (program : List Routine) (names : List ℕ) → (All (λ name. IsSome (served_by program name)) names → ⊥) → All (λ name. name < length graph) names → program ≡ joined_program graph → ⊥
+joined_names graph program names unserved within e =
+    unserved (λ k d lt. subst (λ (p : List Routine). IsSome (served_by p (slice_index_or names k d))) (sym e) (ap is_some (joined_serves graph (slice_index_or names k d) (within k d lt))))
 
 -- what a fault stands for may be put more weakly
 only_if_weaker : (fault : RunFault) (P Q : Type 0) → (P → Q) → OnlyIf fault P → OnlyIf fault Q

@@ -1,2 +1,1 @@
 pub mod Table
-pub mod PlainTests

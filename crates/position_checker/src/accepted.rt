@@ -1,21 +1,18 @@
 //! A table that was accepted, and its calls.
 
-ghost use Rattle.std.specs.Prelude.{◌≡◌, ◌≢◌, ◌<◌, ◌≤◌, ◌++◌, ◌↔◌, ℕ, List, length, take, IsSome, IsTrue, OnOk, OnErr, IfOk, IfErr};
-ghost use Rattle.type_graph.specs.GraphRules.{IsGraph};
-ghost use Rattle.type_graph.specs.Heights.{AreHeights};
+ghost use Rattle.std.specs.Prelude.{◌≡◌, ◌≢◌, ◌<◌, ◌≤◌, ◌++◌, ◌↔◌, ℕ, List, length, take, All, IsSome, IsTrue, OnOk, OnErr, IfOk, IfErr};
 ghost use Rattle.type_graph.specs.Words.{reading, writing};
 ghost use Rattle.type_graph.specs.Encoding.{Means};
-ghost use Rattle.marshal_program.specs.ProgramRules.{IsProgram};
 ghost use Rattle.marshal_program.specs.Plain.{plain_program};
 ghost use Rattle.marshal_program.specs.Served.{served_by};
 ghost use Rattle.program_runner.specs.Refusal.{OnlyIf as OnlyIfRun};
-ghost use Rattle.position_checker.specs.PlainTests.{HasPlainAt, IsFaultOf, IsFirstFault, IsWrongRoutine, OnlyIf};
+ghost use Rattle.marshal_program.specs.Joined.{joined_program};
+ghost use Rattle.routine_checker.specs.Progress.{OnlyIf};
 ghost use Rattle.position_checker.specs.Table.{IsRight};
 
-use crate::fault::CheckFault;
-use crate::routine::check_routine;
-use marshal_program::{Program, Routine};
+use marshal_program::Program;
 use program_runner::RunFault;
+use routine_checker::{CheckFault, check_name, check_routines};
 use std::alloc::Global;
 use std::marker::Model;
 use type_graph::{Graph, Order};
@@ -37,65 +34,47 @@ impl Model for Accepted {
     ghost invariant = { λ a. IsRight (record { graph = a.graph; program = a.program }) };
 }
 
-#[tactic(auto, using(std::proofs::lemmas::Option::get_or_from_slice_get, crate::proofs::PlainList::few_instrs))]
-fn check_routine_at(
-    graph: &Graph,
-    heights: &[u32],
-    routines: &[Routine],
-    number: u32,
-) -> Result<(), CheckFault>
-    requires heights { AreHeights graph.now heights.now }
-    requires program { IsProgram routines.now }
-    requires node { number < length graph.now }
-    ensures ok { OnOk result (HasPlainAt graph.now routines.now number) }
-    ensures err { OnErr result (HasPlainAt graph.now routines.now number → ⊥) }
-    ensures fault { IfErr result (IsFaultOf number (IsWrongRoutine graph.now routines.now number)) }
+/// Each name is one of a node with a routine that may start at every position.
+fn check_each_name(program: &Program, names: &[u32]) -> Result<(), CheckFault>
+    ensures served { OnOk result (All (λ name. IsSome (served_by program.now name)) names.now) }
+    ensures refused { OnErr result (All (λ name. IsSome (served_by program.now name)) names.now → ⊥) }
 {
-    let height = heights[number as usize];
-    match routines.get(number as usize) {
-        None => Err(CheckFault::WrongWork {
-            routine: number,
-            instr: 0,
-        }),
-        Some(routine) => check_routine(graph, height, number, graph.node(number), routine),
-    }
-}
-
-fn check_routines(graph: &Graph, heights: &[u32], routines: &[Routine]) -> Result<(), CheckFault>
-    requires heights { AreHeights graph.now heights.now }
-    requires program { IsProgram routines.now }
-    ensures types { IsGraph graph.now }
-    ensures ok { OnOk result (routines.now ≡ plain_program graph.now) }
-    ensures err { OnErr result (routines.now ≢ plain_program graph.now) }
-    ensures first { IfErr result (IsFirstFault graph.now routines.now) }
-{
-    let count = graph.nodes().len();
-    for number in 0..count {
-        check_routine_at(graph, heights, routines, number as u32)?;
-    }
-    if routines.len() != count {
-        return Err(CheckFault::WrongWork {
-            routine: count as u32,
-            instr: 0,
-        });
+    for name in names {
+        match check_name(program, *name) {
+            Ok(()) => (),
+            Err(fault) => return Err(fault),
+        }
     }
     Ok(())
 }
 
-/// Accepts a table whose program is the plain program of its graph.
+/// Accepts a table, whoever made it, whose routines do just what their nodes mean, each from its
+/// entries, and in which each node of `names` is served. Where the nodes are in the graph, its
+/// plain and its joined program are refused for want of memory alone.
 ///
 /// # Errors
-/// `WrongWork` at the first routine that differs: at instruction 0 where it differs beside its
-/// code, is missing or is one too many, else at the first instruction that differs, or at the
-/// code's length where it ends early. Want of memory.
-pub fn check(alloc: Global, graph: Graph, program: Program) -> Result<Accepted, CheckFault>
+/// The first fault of the routines in order: `WrongWork`, `EntryOutside`, `WrongPadding`,
+/// `ExitsTooSmall`; then of the names in order: `NoRoutine`, `NamedEntryNotFull`. Want of memory.
+pub fn check(
+    alloc: Global,
+    graph: Graph,
+    program: Program,
+    names: &[u32],
+) -> Result<Accepted, CheckFault>
     ensures kept { IfOk result (λ accepted. (accepted.graph ≡ graph) × (accepted.program ≡ program)) }
     ensures right { IfOk result IsRight }
-    ensures refused { IfErr result (λ fault. OnlyIf fault (program ≢ plain_program graph)) }
-    ensures first { IfErr result (IsFirstFault graph program) }
+    ensures served { OnOk result (All (λ name. IsSome (served_by program name)) names.now) }
+    ensures plain { IfErr result (λ fault. OnlyIf fault (All (λ name. name < length graph) names.now → program ≢ plain_program graph)) }
+    ensures joined { IfErr result (λ fault. OnlyIf fault (All (λ name. name < length graph) names.now → program ≢ joined_program graph)) }
 {
-    let heights = graph.heights(alloc)?;
-    check_routines(&graph, &heights, program.routines())?;
+    match check_routines(alloc, &graph, &program) {
+        Ok(()) => (),
+        Err(fault) => return Err(fault),
+    }
+    match check_each_name(&program, names) {
+        Ok(()) => (),
+        Err(fault) => return Err(fault),
+    }
     Ok(Accepted { graph, program })
 }
 

@@ -2,9 +2,6 @@
 #![tactic(auto)]
 
 mod accepted;
-mod code;
-mod fault;
-mod routine;
 
 pub use accepted::{Accepted, check};
-pub use fault::CheckFault;
+pub use routine_checker::CheckFault;

@@ -13,5 +13,5 @@ mod times;
 mod work;
 
 pub use check::check_routines;
-pub use names::check_names;
+pub use names::{check_name, check_names};
 pub use fault::{CheckFault, StepFault};

@@ -13,8 +13,11 @@ fn has_routine(program: &[Routine], node: u32) -> bool
     program.iter().any(|routine| routine.node == node)
 }
 
-/// A node that is asked for by name has a routine that may start at every position.
-fn check_name(program: &Program, node: u32) -> Result<(), CheckFault>
+/// Accepts a node that has a routine that may start at every position. Takes no memory.
+///
+/// # Errors
+/// `NamedEntryNotFull` where some routine is one of the node, else `NoRoutine`.
+pub fn check_name(program: &Program, node: u32) -> Result<(), CheckFault>
     ensures ok { OnOk result (IsSome (served_by program.now node)) }
     ensures refused { OnErr result (IsSome (served_by program.now node) → ⊥) }
     ensures fault { IfErr result (λ fault. name_fault program.now node ≡ Some fault) }
