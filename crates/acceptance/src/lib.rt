@@ -32,6 +32,8 @@ mod sample;
 #[cfg(test)]
 mod shapes;
 #[cfg(test)]
+mod tables;
+#[cfg(test)]
 mod values;
 #[cfg(test)]
 mod worked;

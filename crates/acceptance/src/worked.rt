@@ -38,7 +38,7 @@ fn a_structure(rt: HostRuntime) -> Result<(), Fail> {
 fn a_structure_by_an_accepted_table(rt: HostRuntime) -> Result<(), Fail> {
     let alloc = rt.alloc();
     let program = program_of(alloc, sample::nodes(alloc)?)?;
-    let accepted = check(alloc, sample::graph(alloc)?, program)?;
+    let accepted = check(alloc, sample::graph(alloc)?, program, &[3])?;
     let runs = [
         accepted_both_ways(alloc, &accepted, big(3, 3), &TAPE, &BIG_AT_3),
         accepted_both_ways(alloc, &accepted, little(3, 0), &TAPE, &LITTLE),

@@ -110,10 +110,17 @@ impl Sample {
     pub fn new(alloc: Global) -> Result<Sample, AllocError>
         ensures { IfOk result (λ sample. sample.table.program ≡ sample_program) }
     {
-        match check(alloc, graph(alloc)?, program(alloc)?) {
+        match check(alloc, graph(alloc)?, program(alloc)?, &[TYPE_NUMBER]) {
             Ok(table) => Ok(Sample { table }),
             Err(CheckFault::NoMemory) => Err(AllocError),
-            Err(CheckFault::WrongWork { .. }) => unreachable!(),
+            Err(
+                CheckFault::WrongWork { .. }
+                | CheckFault::WrongPadding { .. }
+                | CheckFault::EntryOutside { .. }
+                | CheckFault::ExitsTooSmall { .. }
+                | CheckFault::NoRoutine { .. }
+                | CheckFault::NamedEntryNotFull { .. },
+            ) => unreachable!(),
         }
     }
 
