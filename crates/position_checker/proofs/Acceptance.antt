@@ -59,7 +59,7 @@ accepted graph program right = record {
       let good = (right number found.routine found.there).related format 64 in
       let among : Among found.routine.entry p = subst (λ entry. Among entry p) (sym found.entry_is) (among_all p) in
       subst (λ (n : ℕ). Runs program format 64 number p tape octets ↔ Means graph format 64 n p tape octets) found.node_is
-        (good.to p tape octets among, good.from p tape octets among);
+      (good.to p tape octets among, good.from p tape octets among);
 }
 
 -- what holds anyway holds where want of memory isn't the cause
