@@ -2,4 +2,10 @@
 #![tactic(auto)]
 
 #[cfg(test)]
+mod hostile;
+#[cfg(test)]
+mod lexing;
+#[cfg(test)]
 mod parsing;
+#[cfg(test)]
+mod trees;

@@ -6,5 +6,7 @@ pub mod Punctuation
 pub mod Literals
 pub mod Directives
 pub mod Gaps
+pub mod Forms
 pub mod Tokens
 pub mod Lexemes
+pub mod Says

@@ -12,13 +12,14 @@ mod lexer;
 mod literal;
 mod number;
 mod octets;
+pub mod pragmas;
 mod punct;
 pub mod token;
+pub mod values;
 mod word;
 
 pub use fault::LexFault;
 pub use lexer::lex;
+pub use pragmas::{Pragma, is_rooted};
 pub use token::{Kind, Token};
-
-#[cfg(test)]
-mod tests;
+pub use values::{character_value, number_value, push_octets};

@@ -1,2 +1,4 @@
 pub mod Reading
 pub mod Parts
+pub mod Operands
+pub mod Skips

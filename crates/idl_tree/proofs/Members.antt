@@ -1,6 +1,6 @@
--- What members and cases spell, by the list of their `Vec`.
-use Rattle.std.proofs.Common.{◌≡◌, ◌++◌, Vec, Global, refl, ap, ◌∙◌}
-use Rattle.std.specs.Prelude.{codes}
+-- Members and cases by the list of their `Vec`: what they spell, and their levels.
+use Rattle.std.proofs.Common.{◌≡◌, ◌++◌, ℕ, suc, max, List, [], ◌∷◌, Vec, Global, refl, sym, ap, ◌∙◌}
+use Rattle.std.specs.Prelude.{Box, codes}
 use Rattle.std.specs.List.{flat_map}
 use mathlib.Core.Former.{Count}
 use Rattle.idl_tree.specs.declared.names.Leaf.{Leaf}
@@ -13,42 +13,91 @@ use Rattle.idl_tree.specs.declared.types.TypeSpec.TheViews.{roll-StructType, rol
 use Rattle.idl_tree.specs.declared.types.Member.{Member}
 use Rattle.idl_tree.specs.declared.types.Case.{Case}
 use Rattle.idl_tree.specs.Pieces.{keyword, mark}
-use Rattle.idl_tree.specs.Yields.{identifier, listed}
-use Rattle.idl_tree.specs.TypeYields.{type_yield, declarator_yield, label_yield, member_yield, members_yield, case_yield, cases_yield, struct_yield, union_yield, switch_yield}
+use Rattle.idl_tree.specs.Yields.{identifier}
+use Rattle.idl_tree.specs.TypeYields.{member_yield, members_yield, case_yield, cases_yield, struct_yield, union_yield, switch_yield}
+use Rattle.idl_tree.specs.Levels.{highest}
+use Rattle.idl_tree.specs.TypeLevels.{member_levels, members_levels, case_levels, cases_levels, struct_levels, union_levels, switch_levels}
+
+-- ---- laws for walks over members and cases
+
+-- a walk over a row of members is the same walk over their list
+pub members_walk : {A : Type 0} (walk : (n : Count) → Row_of-Member n → A) (none : A) (one : Member → A → A)
+    (list : List Member → A)
+    → (walk _ end_of-Member ≡ none) → ((n : Count) (m : Member) (row : Row_of-Member n) → walk _ (more_of-Member m.member_type m.declarators row) ≡ one m (walk _ row))
+    → (list [] ≡ none) → ((m : Member) (ms : List Member) → list (m ∷ ms) ≡ one m (list ms))
+    → (n : Count) (row : Row_of-Member n) → walk n row ≡ list (items-the_row-Member n row)
+members_walk walk none one list we wm le lm n end_of-Member = we ∙ sym le
+members_walk walk none one list we wm le lm n (more_of-Member t declarators rest) =
+    let m : Member = record { member_type = t; declarators = declarators } in
+    wm _ m rest ∙ ap (one m) (members_walk walk none one list we wm le lm _ rest) ∙ sym (lm m _)
 
 members_items : (n : _) (row : Row_of-Member n) → members_yield row ≡ flat_map member_yield (items-the_row-Member n row)
 members_items n end_of-Member = refl
 members_items n (more_of-Member t declarators rest) =
-    ap (λ l. type_yield t ++ listed declarator_yield declarators ++ mark (codes ";") ++ l) (members_items _ rest)
+    ap (λ l. member_yield (record { member_type = t; declarators = declarators }) ++ l) (members_items _ rest)
+
+members_highest : (n : _) (row : Row_of-Member n) → members_levels row ≡ highest member_levels (items-the_row-Member n row)
+members_highest n end_of-Member = refl
+members_highest n (more_of-Member t declarators rest) =
+    ap (max (member_levels (record { member_type = t; declarators = declarators }))) (members_highest _ rest)
 
 cases_items : (n : _) (row : Row_of-Case n) → cases_yield row ≡ flat_map case_yield (items-the_row-Case n row)
 cases_items n end_of-Case = refl
 cases_items n (more_of-Case labels t declarator rest) =
-    ap (λ l. flat_map label_yield labels.items ++ type_yield t ++ declarator_yield declarator ++ mark (codes ";") ++ l)
-    (cases_items _ rest)
+    ap (λ l. case_yield (record { labels = labels; member_type = t; declarator = declarator }) ++ l) (cases_items _ rest)
+
+cases_highest : (n : _) (row : Row_of-Case n) → cases_levels row ≡ highest case_levels (items-the_row-Case n row)
+cases_highest n end_of-Case = refl
+cases_highest n (more_of-Case labels t declarator rest) =
+    ap (max (case_levels (record { labels = labels; member_type = t; declarator = declarator }))) (cases_highest _ rest)
 
 abbrev member_row : StructType → (n : Count) × Row_of-Member n
-member_row (StructType' name shape row) = (_, row)
+member_row (StructType' name p t declarators shape row) = (_, row)
 
 abbrev case_row : UnionType → (n : Count) × Row_of-Case n
-case_row (UnionType' name switch shape row) = (_, row)
+case_row (UnionType' name switch p labels t declarator shape row) = (_, row)
 
-pub struct_of_members : (name : Leaf) (members : Vec Member Global)
-    → struct_yield (roll-StructType (record { identifier = name; members = members }))
-    ≡ keyword (codes "struct") ++ identifier name ++ mark (codes "{") ++ flat_map member_yield members.items ++ mark (codes "}")
+abbrev struct_of : Leaf → Box Member Global → Vec Member Global → StructType
+struct_of name first rest = roll-StructType (record { identifier = name; first = first; rest = rest })
+
+abbrev union_of : Leaf → SwitchType → Box Case Global → Vec Case Global → UnionType
+union_of name switch first rest =
+    roll-UnionType (record { identifier = name; switch = switch; first = first; rest = rest })
+
+pub struct_yields : (name : Leaf) (first : Box Member Global) (rest : Vec Member Global)
+    → struct_yield (struct_of name first rest)
+    ≡ keyword (codes "struct") ++ identifier name ++ mark (codes "{") ++ member_yield first.value
+    ++ flat_map member_yield rest.items ++ mark (codes "}")
 unfolding hidden-the_row-Member-0 roll-StructType roll
-struct_of_members name members =
-    let row = member_row (roll-StructType (record { identifier = name; members = members })) in
-    ap (λ l. keyword (codes "struct") ++ identifier name ++ mark (codes "{") ++ l ++ mark (codes "}"))
-    (members_items row.0 row.1 ∙ ap (flat_map member_yield) (items_hidden-the_row-Member-0 members))
+struct_yields name first rest =
+    let row = member_row (struct_of name first rest) in
+    ap (λ l. keyword (codes "struct") ++ identifier name ++ mark (codes "{") ++ member_yield first.value ++ l ++ mark (codes "}"))
+    (members_items row.0 row.1 ∙ ap (flat_map member_yield) (items_hidden-the_row-Member-0 rest))
 
-pub union_of_cases : (name : Leaf) (switch : SwitchType) (cases : Vec Case Global)
-    → union_yield (roll-UnionType (record { identifier = name; switch = switch; cases = cases }))
+pub struct_nests : (name : Leaf) (first : Box Member Global) (rest : Vec Member Global)
+    → struct_levels (struct_of name first rest) ≡ suc (max (member_levels first.value) (highest member_levels rest.items))
+unfolding hidden-the_row-Member-0 roll-StructType roll
+struct_nests name first rest =
+    let row = member_row (struct_of name first rest) in
+    ap (λ l. suc (max (member_levels first.value) l))
+    (members_highest row.0 row.1 ∙ ap (highest member_levels) (items_hidden-the_row-Member-0 rest))
+
+pub union_yields : (name : Leaf) (switch : SwitchType) (first : Box Case Global) (rest : Vec Case Global)
+    → union_yield (union_of name switch first rest)
     ≡ keyword (codes "union") ++ identifier name ++ keyword (codes "switch") ++ mark (codes "(") ++ switch_yield switch
-    ++ mark (codes ")") ++ mark (codes "{") ++ flat_map case_yield cases.items ++ mark (codes "}")
+    ++ mark (codes ")") ++ mark (codes "{") ++ case_yield first.value ++ flat_map case_yield rest.items ++ mark (codes "}")
 unfolding hidden-the_row-Case-1 roll-UnionType roll
-union_of_cases name switch cases =
-    let row = case_row (roll-UnionType (record { identifier = name; switch = switch; cases = cases })) in
+union_yields name switch first rest =
+    let row = case_row (union_of name switch first rest) in
     ap (λ l. keyword (codes "union") ++ identifier name ++ keyword (codes "switch") ++ mark (codes "(")
-    ++ switch_yield switch ++ mark (codes ")") ++ mark (codes "{") ++ l ++ mark (codes "}"))
-    (cases_items row.0 row.1 ∙ ap (flat_map case_yield) (items_hidden-the_row-Case-1 cases))
+    ++ switch_yield switch ++ mark (codes ")") ++ mark (codes "{") ++ case_yield first.value ++ l ++ mark (codes "}"))
+    (cases_items row.0 row.1 ∙ ap (flat_map case_yield) (items_hidden-the_row-Case-1 rest))
+
+pub union_nests : (name : Leaf) (switch : SwitchType) (first : Box Case Global) (rest : Vec Case Global)
+    → union_levels (union_of name switch first rest)
+    ≡ suc (max (switch_levels switch) (max (case_levels first.value) (highest case_levels rest.items)))
+unfolding hidden-the_row-Case-1 roll-UnionType roll
+union_nests name switch first rest =
+    let row = case_row (union_of name switch first rest) in
+    ap (λ l. suc (max (switch_levels switch) (max (case_levels first.value) l)))
+    (cases_highest row.0 row.1 ∙ ap (highest case_levels) (items_hidden-the_row-Case-1 rest))

@@ -7,4 +7,6 @@ pub mod const_expr;
 pub mod definitions;
 pub mod expression;
 pub mod names;
+mod readers;
+pub mod spec;
 pub mod types;
