@@ -1,5 +1,5 @@
 -- Operands and their levels.
-use Rattle.std.proofs.Common.{◌≡◌, Bool, List, [], ◌∷◌, ◌++◌, sym, subst, arith}
+use Rattle.std.proofs.Common.{◌≡◌, ℕ, ◌≤◌, Bool, List, [], ◌∷◌, ◌++◌, sym, subst, arith}
 use Rattle.std.specs.Prelude.{Result, Ok, Err, IfOk}
 use Rattle.idl_tree.specs.declared.expression.Expr.{Expr}
 use Rattle.idl_tree.specs.Grouping.{IsOfLevel}
@@ -19,3 +19,11 @@ pub unsigned : {E : Type 0} (r : Result Expr E) → IfOk r (λ e. (shifts : Bool
     → IfOk r (λ e. (shifts : Bool) → IsOfLevel shifts 6 e)
 unsigned (Ok e) h = λ shifts. looser shifts e 6 7 (omega arith) (h shifts)
 unsigned (Err e) h = h
+
+-- an operand that may have a sign is of the level behind the last operators
+pub tightest : {E : Type 0} (r : Result Expr E) (level : ℕ) (s : Bool) → 6 ≤ level
+    → IfOk r (λ e. (shifts : Bool) → IsOfLevel shifts 6 e) → IfOk r (λ e. level ≤ 6 → IsOfLevel s level e)
+tightest (Ok e) level s ge h = λ le.
+    let same : 6 ≡ level = omega (arith, ge, le) in
+    subst (λ n. IsOfLevel s n e) same (h s)
+tightest (Err e) level s ge h = h

@@ -224,6 +224,18 @@ impl<'a> Cursor<'a> {
         }
     }
 
+    /// Takes the mark behind a part that is read, and hands the part on.
+    pub(crate) fn closed<T: Drop>(&mut self, part: T, text: &str) -> Result<T, Stop>
+        ensures same { IfOk result (λ p. p ≡ part) }
+        ensures read { IfOk result (λ _. Parsed self.old (mark text.now) self.new) }
+    {
+        if self.take_mark(text) {
+            Ok(part)
+        } else {
+            Err(Stop::Unexpected)
+        }
+    }
+
     /// Takes a token of a kind.
     pub(crate) fn leaf(&mut self, kind: Kind) -> Result<Leaf<'a>, Stop>
         ensures { IfOk result (λ l. Parsed self.old (leaf_yield kind l) self.new) }

@@ -24,8 +24,7 @@ fn read_label<'a>(cursor: &mut Cursor<'a>, room: usize) -> Result<Label<'a>, Sto
 {
     if cursor.take_keyword("case") {
         let value = read_expr(cursor, room)?;
-        cursor.mark(":")?;
-        return Ok(Label::Case(value));
+        return Ok(Label::Case(cursor.closed(value, ":")?));
     }
     let Some(word) = cursor.take(Kind::Keyword, "default") else {
         return Err(Stop::Unexpected);

@@ -53,8 +53,7 @@ fn read_string_bound<'a>(cursor: &mut Cursor<'a>, room: usize) -> Result<Option<
         return Ok(None);
     }
     let bound = read_bound(cursor, room)?;
-    cursor.mark(">")?;
-    Ok(Some(bound))
+    Ok(Some(cursor.closed(bound, ">")?))
 }
 
 /// Reads a string, a name, or a type that is a word alone.
@@ -128,6 +127,15 @@ pub(crate) fn read_simple_type<'a>(
     Ok(SimpleType::new_sequence(cursor.alloc(), element, bound)?)
 }
 
+fn read_size<'a>(cursor: &mut Cursor<'a>, room: usize) -> Result<ConstExpr<'a>, Stop>
+    ensures spells { IfOk result (λ size. Parsed cursor.old (size_yield size) cursor.new) }
+    ensures levels { IfOk result (λ size. const_expr_levels size ≤ room) }
+{
+    cursor.mark("[")?;
+    let size = read_expr(cursor, room)?;
+    cursor.closed(size, "]")
+}
+
 /// Reads the sizes of an array, if there are any.
 fn read_sizes<'a>(cursor: &mut Cursor<'a>, room: usize) -> Result<Vec<ConstExpr<'a>>, Stop>
     ensures spells { IfOk result (λ sizes. Continued cursor.old (flat_map size_yield sizes.items) cursor.new) }
@@ -135,9 +143,7 @@ fn read_sizes<'a>(cursor: &mut Cursor<'a>, room: usize) -> Result<Vec<ConstExpr<
 {
     let mut sizes = Vec::new(cursor.alloc());
     'parts: while cursor.is_mark("[") {
-        cursor.mark("[")?;
-        let size = read_expr(cursor, room)?;
-        cursor.mark("]")?;
+        let size = read_size(cursor, room)?;
         sizes.push(size)?;
     }
     sizes.shrink_to_fit();
