@@ -2,3 +2,4 @@ pub mod Reading
 pub mod Parts
 pub mod Operands
 pub mod Skips
+pub mod Pairs

@@ -1,22 +1,23 @@
 //! Structures and unions, whose members may declare further types.
 #![tactic(auto, using(crate::proofs::Reading::past_append, crate::proofs::Reading::past_none))]
 
-ghost use Rattle.std.specs.Prelude.{◌≡◌, ◌+◌, ◌++◌, ◌≤◌, suc, max, IfOk, List, codes};
+ghost use Rattle.std.specs.Prelude.{◌≡◌, ◌++◌, ◌≤◌, ◌<◌, max, IfOk, List, codes};
 ghost use Rattle.std.specs.List.{flat_map};
 ghost use Rattle.idl_parser.specs.Reading.{Parsed, Continued};
-ghost use Rattle.idl_tree.specs.Yields.{in_order};
-ghost use Rattle.idl_tree.specs.TypeYields.{label_yield, member_yield, case_yield, type_yield, struct_yield, union_yield};
+ghost use Rattle.idl_tree.specs.Pieces.{mark};
+ghost use Rattle.idl_tree.specs.Yields.{in_order, listed};
+ghost use Rattle.idl_tree.specs.TypeYields.{declarator_yield, label_yield, member_yield, case_yield, type_yield, struct_yield, union_yield};
 ghost use Rattle.idl_tree.specs.Levels.{highest, highest_listed};
-ghost use Rattle.idl_tree.specs.TypeLevels.{label_levels, member_levels, case_levels, type_levels, struct_levels, union_levels};
+ghost use Rattle.idl_tree.specs.TypeLevels.{declarator_levels, label_levels, member_levels, case_levels, type_levels, struct_levels, union_levels};
 
 use crate::cursor::Cursor;
 use crate::read::expressions::read_expr;
-use crate::read::lists::read_listed;
+use crate::read::lists::{both, read_listed};
 use crate::read::types::{read_declarator, read_enum, read_simple_type, read_switch};
 use crate::stop::Stop;
 use idl_lexer::Kind;
 use idl_tree::names::Listed;
-use idl_tree::types::{Case, Label, Member, StructType, TypeSpec, UnionType};
+use idl_tree::types::{Case, Declarator, Label, Member, StructType, TypeSpec, UnionType};
 
 fn read_label<'a>(cursor: &mut Cursor<'a>, room: usize) -> Result<Label<'a>, Stop>
     ensures spells { IfOk result (λ l. Parsed cursor.old (label_yield l) cursor.new) }
@@ -62,6 +63,27 @@ fn read_labels<'a>(cursor: &mut Cursor<'a>, room: usize) -> Result<Listed<Label<
     Ok(Listed { first, rest })
 }
 
+/// Reads the declarators of members, and the semicolon behind them.
+fn read_declarators<'a>(
+    cursor: &mut Cursor<'a>,
+    room: usize,
+) -> Result<Listed<Declarator<'a>>, Stop>
+    ensures spells { IfOk result (λ d. Parsed cursor.old (listed declarator_yield d ++ mark (codes ";")) cursor.new) }
+    ensures levels { IfOk result (λ d. highest_listed declarator_levels d ≤ room) }
+{
+    let declarators = read_listed(cursor, room)?;
+    cursor.closed(declarators, ";")
+}
+
+/// Reads the declarator of a case, and the semicolon behind it.
+fn read_case_declarator<'a>(cursor: &mut Cursor<'a>, room: usize) -> Result<Declarator<'a>, Stop>
+    ensures spells { IfOk result (λ d. Parsed cursor.old (declarator_yield d ++ mark (codes ";")) cursor.new) }
+    ensures levels { IfOk result (λ d. declarator_levels d ≤ room) }
+{
+    let declarator = read_declarator(cursor, room)?;
+    cursor.closed(declarator, ";")
+}
+
 #[cycle(constructed)]
 pub(crate) fn read_type<'a>(cursor: &mut Cursor<'a>, room: usize) -> Result<TypeSpec<'a>, Stop>
     ensures spells { IfOk result (λ t. Parsed cursor.old (type_yield t) cursor.new) }
@@ -80,22 +102,22 @@ fn read_member<'a>(cursor: &mut Cursor<'a>, room: usize) -> Result<Member<'a>, S
     ensures spells { IfOk result (λ m. Parsed cursor.old (member_yield m) cursor.new) }
     ensures levels { IfOk result (λ m. member_levels m ≤ room) }
 {
-    let member_type = read_type(cursor, room)?;
-    let declarators = read_listed(cursor, room)?;
-    cursor.mark(";")?;
+    let front = read_type(cursor, room)?;
+    let (member_type, declarators) = both(front, read_declarators(cursor, room))?;
     Ok(Member {
         member_type,
         declarators,
     })
 }
 
-/// Reads members up to a closing brace.
+/// Reads members and the closing brace behind them.
 #[cycle(constructed)]
 pub(crate) fn read_members<'a>(
     cursor: &mut Cursor<'a>,
     room: usize,
 ) -> Result<Vec<Member<'a>>, Stop>
-    ensures spells { IfOk result (λ m. Continued cursor.old (flat_map member_yield m.items) cursor.new) }
+    ensures spells { IfOk result (λ m. Parsed cursor.old
+        (flat_map member_yield m.items ++ mark (codes "}")) cursor.new) }
     ensures levels { IfOk result (λ m. highest member_levels m.items ≤ room) }
 {
     let mut members = Vec::new(cursor.alloc());
@@ -104,7 +126,7 @@ pub(crate) fn read_members<'a>(
         members.push(member)?;
     }
     members.shrink_to_fit();
-    Ok(members)
+    cursor.closed(members, "}")
 }
 
 #[cycle(constructed)]
@@ -115,10 +137,23 @@ pub(crate) fn read_struct<'a>(cursor: &mut Cursor<'a>, room: usize) -> Result<St
     cursor.keyword("struct")?;
     let name = cursor.identifier()?;
     let left = cursor.open("{", room)?;
-    let first = read_member(cursor, left)?;
-    let rest = read_members(cursor, left)?;
-    cursor.mark("}")?;
+    let front = read_member(cursor, left)?;
+    let (first, rest) = both(front, read_members(cursor, left))?;
     Ok(StructType::new(cursor.alloc(), name, first, rest)?)
+}
+
+/// Reads what stands behind the labels of a case.
+#[cycle(constructed)]
+fn read_element<'a>(
+    cursor: &mut Cursor<'a>,
+    room: usize,
+) -> Result<(TypeSpec<'a>, Declarator<'a>), Stop>
+    ensures spells { IfOk result (λ e. Parsed cursor.old
+        (type_yield e.0 ++ (declarator_yield e.1 ++ mark (codes ";"))) cursor.new) }
+    ensures levels { IfOk result (λ e. max (type_levels e.0) (declarator_levels e.1) ≤ room) }
+{
+    let front = read_type(cursor, room)?;
+    both(front, read_case_declarator(cursor, room))
 }
 
 #[cycle(constructed)]
@@ -126,10 +161,8 @@ fn read_case<'a>(cursor: &mut Cursor<'a>, room: usize) -> Result<Case<'a>, Stop>
     ensures spells { IfOk result (λ c. Parsed cursor.old (case_yield c) cursor.new) }
     ensures levels { IfOk result (λ c. case_levels c ≤ room) }
 {
-    let labels = read_labels(cursor, room)?;
-    let member_type = read_type(cursor, room)?;
-    let declarator = read_declarator(cursor, room)?;
-    cursor.mark(";")?;
+    let front = read_labels(cursor, room)?;
+    let (labels, (member_type, declarator)) = both(front, read_element(cursor, room))?;
     Ok(Case {
         labels,
         member_type,
@@ -137,10 +170,11 @@ fn read_case<'a>(cursor: &mut Cursor<'a>, room: usize) -> Result<Case<'a>, Stop>
     })
 }
 
-/// Reads cases up to a closing brace.
+/// Reads cases and the closing brace behind them.
 #[cycle(constructed)]
 fn read_cases<'a>(cursor: &mut Cursor<'a>, room: usize) -> Result<Vec<Case<'a>>, Stop>
-    ensures spells { IfOk result (λ c. Continued cursor.old (flat_map case_yield c.items) cursor.new) }
+    ensures spells { IfOk result (λ c. Parsed cursor.old
+        (flat_map case_yield c.items ++ mark (codes "}")) cursor.new) }
     ensures levels { IfOk result (λ c. highest case_levels c.items ≤ room) }
 {
     let mut cases = Vec::new(cursor.alloc());
@@ -149,7 +183,20 @@ fn read_cases<'a>(cursor: &mut Cursor<'a>, room: usize) -> Result<Vec<Case<'a>>,
         cases.push(case)?;
     }
     cases.shrink_to_fit();
-    Ok(cases)
+    cursor.closed(cases, "}")
+}
+
+/// Reads what stands behind the type of a union's discriminator.
+#[cycle(constructed)]
+fn read_union_body<'a>(cursor: &mut Cursor<'a>, room: usize) -> Result<(Case<'a>, Vec<Case<'a>>), Stop>
+    ensures spells { IfOk result (λ b. Parsed cursor.old (mark (codes ")") ++ mark (codes "{")
+        ++ case_yield b.0 ++ (flat_map case_yield b.1.items ++ mark (codes "}"))) cursor.new) }
+    ensures levels { IfOk result (λ b. max (case_levels b.0) (highest case_levels b.1.items) < room) }
+{
+    cursor.mark(")")?;
+    let left = cursor.open("{", room)?;
+    let first = read_case(cursor, left)?;
+    both(first, read_cases(cursor, left))
 }
 
 #[cycle(constructed)]
@@ -162,11 +209,7 @@ pub(crate) fn read_union<'a>(cursor: &mut Cursor<'a>, room: usize) -> Result<Uni
     cursor.keyword("switch")?;
     cursor.mark("(")?;
     // an enumeration here is declared inside the union
-    let switch = read_switch(cursor, room.saturating_sub(1))?;
-    cursor.mark(")")?;
-    let left = cursor.open("{", room)?;
-    let first = read_case(cursor, left)?;
-    let rest = read_cases(cursor, left)?;
-    cursor.mark("}")?;
+    let front = read_switch(cursor, room.saturating_sub(1))?;
+    let (switch, (first, rest)) = both(front, read_union_body(cursor, room))?;
     Ok(UnionType::new(cursor.alloc(), name, switch, first, rest)?)
 }

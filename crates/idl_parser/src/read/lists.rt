@@ -1,7 +1,7 @@
-//! Lists with commas.
+//! Lists with commas, and parts one behind another.
 #![tactic(auto, using(crate::proofs::Reading::past_append, crate::proofs::Reading::past_none))]
 
-ghost use Rattle.std.specs.Prelude.{◌≡◌, ◌++◌, ◌≤◌, ℕ, List, IfOk, codes};
+ghost use Rattle.std.specs.Prelude.{◌≡◌, ◌++◌, ◌≤◌, ℕ, List, Ok, IfOk, codes};
 ghost use Rattle.std.specs.List.{flat_map};
 ghost use Rattle.idl_parser.specs.Reading.{Parsed, Continued};
 ghost use Rattle.idl_tree.specs.Pieces.{Piece, mark};
@@ -21,6 +21,17 @@ pub(crate) trait Part<'a>: Sized + Drop {
     fn read(cursor: &mut Cursor<'a>, room: usize) -> Result<Self, Stop>
         ensures spells { IfOk result (λ x. Parsed cursor.old (yield_of x) cursor.new) }
         ensures levels { IfOk result (λ x. levels_of x ≤ room) };
+}
+
+/// A part and what is read behind it, if that is read.
+pub(crate) fn both<T: Drop, U: Drop>(first: T, second: Result<U, Stop>) -> Result<(T, U), Stop>
+    ensures first { IfOk result (λ both. both.0 ≡ first) }
+    ensures second { IfOk result (λ both. second ≡ Ok both.1) }
+{
+    match second {
+        Ok(second) => Ok((first, second)),
+        Err(stop) => Err(stop),
+    }
 }
 
 /// Reads further parts, each behind a comma.

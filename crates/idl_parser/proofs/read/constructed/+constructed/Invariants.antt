@@ -18,6 +18,12 @@ decreases-read_member l = 10 * length l.cursor.now + 4
 abbrev pub decreases-read_case : goal.decreases-read_case
 decreases-read_case l = 10 * length l.cursor.now + 4
 
+abbrev pub decreases-read_element : goal.decreases-read_element
+decreases-read_element l = 10 * length l.cursor.now + 4
+
+abbrev pub decreases-read_union_body : goal.decreases-read_union_body
+decreases-read_union_body l = 10 * length l.cursor.now + 2
+
 abbrev pub decreases-read_type : goal.decreases-read_type
 decreases-read_type l = 10 * length l.cursor.now + 3
 
