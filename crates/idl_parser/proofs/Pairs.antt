@@ -3,7 +3,7 @@ use Rattle.std.proofs.Common.{◌≡◌, ◌++◌, ◌∙◌, ◌≤◌, ◌<◌
 use Rattle.std.specs.Prelude.{Result, Ok, Err, IfOk}
 use Rattle.idl_tree.specs.Pieces.{Seen, Piece}
 use Rattle.idl_parser.specs.Reading.{Parsed, Continued}
-use Rattle.idl_parser.proofs.Parts.{part_then, more_then_part}
+use Rattle.idl_parser.proofs.Parts.{part_then, part_then_more, more_then_part}
 
 -- pieces that are grouped otherwise
 pub spelled_as : {a c : List Seen} {x y : List Piece} → x ≡ y → Parsed a x c → Parsed a y c
@@ -17,6 +17,9 @@ group_three p x y z = group_two p (x ++ y) z ∙ ap (λ l. l ++ z) (group_two p 
 
 pub group_within : (p x y z : List Piece) → p ++ (x ++ (y ++ z)) ≡ p ++ x ++ y ++ z
 group_within p x y z = group_two p x (y ++ z) ∙ group_two (p ++ x) y z
+
+pub group_four : (p w x y z : List Piece) → p ++ (w ++ x ++ y ++ z) ≡ p ++ w ++ x ++ y ++ z
+group_four p w x y z = group_two p (w ++ x ++ y) z ∙ ap (λ l. l ++ z) (group_three p w x y)
 
 pub group_five : (p v w x y z : List Piece) → p ++ (v ++ w ++ x ++ (y ++ z)) ≡ p ++ v ++ w ++ x ++ y ++ z
 group_five p v w x y z =
@@ -51,6 +54,20 @@ pub both_handed : {T U E : Type 0} {a b : List Seen} (c : List Seen) (f : T → 
     → IfOk r (λ p. p.0 ≡ first) → IfOk r (λ p. second ≡ Ok p.1) → IfOk r (λ p. Parsed a (f p.0 ++ g p.1) c)
 both_handed c f g first second (Ok p) front back same is = both_read f g first second p front back same is
 both_handed c f g first second (Err e) front back same is = tt
+
+-- where nothing may stand behind
+pub both_handed_more : {T U E : Type 0} {a b : List Seen} (c : List Seen) (f : T → List Piece) (g : U → List Piece) (first : T) (second : Result U E) (r : Result (T × U) E)
+    → Parsed a (f first) b → IfOk second (λ u. Continued b (g u) c)
+    → IfOk r (λ p. p.0 ≡ first) → IfOk r (λ p. second ≡ Ok p.1) → IfOk r (λ p. Parsed a (f p.0 ++ g p.1) c)
+both_handed_more {a = a} {b = b} c f g first second (Ok p) front back same is =
+    let behind : Continued b (g p.1) c = subst (λ r. IfOk r (λ u. Continued b (g u) c)) is back in
+    subst (λ t. Parsed a (f t ++ g p.1) c) (sym same) (part_then_more front behind)
+both_handed_more c f g first second (Err e) front back same is = tt
+
+pub first_handed_level : {T U E : Type 0} (f : T → ℕ) (room : ℕ) (first : T) (r : Result (T × U) E)
+    → f first ≤ room → IfOk r (λ p. p.0 ≡ first) → IfOk r (λ p. f p.0 ≤ room)
+first_handed_level f room first (Ok p) front same = first_level f room first p.0 front same
+first_handed_level f room first (Err e) front same = tt
 
 pub both_handed_levels : {T U E : Type 0} (f : T → ℕ) (g : U → ℕ) (room : ℕ) (first : T) (second : Result U E) (r : Result (T × U) E)
     → f first ≤ room → IfOk second (λ u. g u ≤ room)

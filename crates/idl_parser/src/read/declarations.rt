@@ -1,19 +1,24 @@
 //! What both modules and interfaces declare: types, constants and exceptions.
 #![tactic(auto, using(crate::proofs::Reading::past_append, crate::proofs::Reading::past_none))]
 
-ghost use Rattle.std.specs.Prelude.{◌≡◌, ◌++◌, ◌≤◌, max, IfOk, List};
+ghost use Rattle.std.specs.Prelude.{◌≡◌, ◌++◌, ◌≤◌, max, IfOk, List, codes};
 ghost use Rattle.idl_parser.specs.Reading.{Parsed};
+ghost use Rattle.idl_tree.specs.Pieces.{mark};
+ghost use Rattle.idl_tree.specs.Yields.{identifier as identifier_yield, const_expr_yield};
+ghost use Rattle.idl_tree.specs.Levels.{const_expr_levels};
 ghost use Rattle.idl_tree.specs.DefinitionYields.{type_dcl_yield, const_yield, except_yield, declaration_yield};
 ghost use Rattle.idl_tree.specs.DefinitionLevels.{type_dcl_levels, const_levels, except_levels, declaration_levels};
 
 use crate::cursor::Cursor;
 use crate::read::constructed::{read_members, read_struct, read_type, read_union};
 use crate::read::expressions::read_expr;
-use crate::read::lists::read_listed;
+use crate::read::lists::{both, read_listed};
 use crate::read::types::{read_const_type, read_enum};
 use crate::stop::Stop;
 use idl_lexer::Kind;
+use idl_tree::const_expr::ConstExpr;
 use idl_tree::definitions::{Const, Declaration, Except, TypeDcl};
+use idl_tree::names::Leaf;
 
 /// Whether a word begins a type, a constant or an exception.
 pub(crate) fn is_declaration(word: Option<&str>) -> bool {
@@ -28,8 +33,8 @@ fn read_typedef<'a>(cursor: &mut Cursor<'a>, room: usize) -> Result<TypeDcl<'a>,
     ensures levels { IfOk result (λ t. type_dcl_levels t ≤ room) }
 {
     cursor.keyword("typedef")?;
-    let original = read_type(cursor, room)?;
-    let declarators = read_listed(cursor, room)?;
+    let front = read_type(cursor, room)?;
+    let (original, declarators) = both(front, read_listed(cursor, room))?;
     Ok(TypeDcl::Typedef {
         original,
         declarators,
@@ -72,15 +77,28 @@ fn read_type_dcl<'a>(cursor: &mut Cursor<'a>, room: usize) -> Result<TypeDcl<'a>
     }
 }
 
+/// Reads the identifier and the value of a constant.
+fn read_value<'a>(
+    cursor: &mut Cursor<'a>,
+    room: usize,
+) -> Result<(Leaf<'a>, ConstExpr<'a>), Stop>
+    ensures spells { IfOk result (λ v. Parsed cursor.old
+        (identifier_yield v.0 ++ mark (codes "=") ++ const_expr_yield v.1) cursor.new) }
+    ensures levels { IfOk result (λ v. const_expr_levels v.1 ≤ room) }
+{
+    let identifier = cursor.identifier()?;
+    cursor.mark("=")?;
+    let value = read_expr(cursor, room)?;
+    Ok((identifier, value))
+}
+
 fn read_const<'a>(cursor: &mut Cursor<'a>, room: usize) -> Result<Const<'a>, Stop>
     ensures spells { IfOk result (λ c. Parsed cursor.old (const_yield c) cursor.new) }
     ensures levels { IfOk result (λ c. const_levels c ≤ room) }
 {
     cursor.keyword("const")?;
-    let const_type = read_const_type(cursor, room)?;
-    let identifier = cursor.identifier()?;
-    cursor.mark("=")?;
-    let value = read_expr(cursor, room)?;
+    let front = read_const_type(cursor, room)?;
+    let (const_type, (identifier, value)) = both(front, read_value(cursor, room))?;
     Ok(Const {
         const_type,
         identifier,
@@ -96,7 +114,6 @@ fn read_except<'a>(cursor: &mut Cursor<'a>, room: usize) -> Result<Except<'a>, S
     let identifier = cursor.identifier()?;
     cursor.mark("{")?;
     let members = read_members(cursor, room)?;
-    cursor.mark("}")?;
     Ok(Except {
         identifier,
         members,

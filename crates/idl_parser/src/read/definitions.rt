@@ -3,7 +3,8 @@
 
 ghost use Rattle.std.specs.Prelude.{◌≡◌, ◌++◌, ◌≤◌, suc, max, IfOk, List, codes};
 ghost use Rattle.std.specs.List.{flat_map};
-ghost use Rattle.idl_parser.specs.Reading.{Parsed, Continued};
+ghost use Rattle.idl_parser.specs.Reading.{Parsed};
+ghost use Rattle.idl_tree.specs.Pieces.{mark};
 ghost use Rattle.idl_tree.specs.DefinitionYields.{definition_yield};
 ghost use Rattle.idl_tree.specs.Levels.{highest};
 ghost use Rattle.idl_tree.specs.DefinitionLevels.{definition_levels};
@@ -26,13 +27,11 @@ fn read_single<'a>(cursor: &mut Cursor<'a>, room: usize) -> Result<Definition<'a
     let word = cursor.text(Kind::Keyword);
     if let Some("interface") = word {
         let interface = read_interface(cursor, room)?;
-        cursor.mark(";")?;
-        return Ok(Definition::Interface(interface));
+        return Ok(Definition::Interface(cursor.closed(interface, ";")?));
     }
     if is_declaration(word) {
         let declaration = read_declaration(cursor, room)?;
-        cursor.mark(";")?;
-        return Ok(Definition::Declaration(declaration));
+        return Ok(Definition::Declaration(cursor.closed(declaration, ";")?));
     }
     Err(Stop::Unexpected)
 }
@@ -50,16 +49,16 @@ pub(crate) fn read_definition<'a>(
     }
     let name = cursor.identifier()?;
     let left = cursor.open("{", room)?;
-    let definitions = read_definitions(cursor, left)?;
-    cursor.mark("}")?;
-    cursor.mark(";")?;
+    let inner = read_definitions(cursor, left)?;
+    let definitions = cursor.closed(inner, ";")?;
     Ok(Definition::new_module(name, definitions))
 }
 
-/// Reads definitions up to a closing brace.
+/// Reads definitions and the closing brace behind them.
 #[cycle(definitions)]
 fn read_definitions<'a>(cursor: &mut Cursor<'a>, room: usize) -> Result<Vec<Definition<'a>>, Stop>
-    ensures spells { IfOk result (λ d. Continued cursor.old (flat_map definition_yield d.items) cursor.new) }
+    ensures spells { IfOk result (λ d. Parsed cursor.old
+        (flat_map definition_yield d.items ++ mark (codes "}")) cursor.new) }
     ensures levels { IfOk result (λ d. highest definition_levels d.items ≤ room) }
 {
     let mut definitions = Vec::new(cursor.alloc());
@@ -68,5 +67,5 @@ fn read_definitions<'a>(cursor: &mut Cursor<'a>, room: usize) -> Result<Vec<Defi
         definitions.push(definition)?;
     }
     definitions.shrink_to_fit();
-    Ok(definitions)
+    cursor.closed(definitions, "}")
 }

@@ -4,6 +4,7 @@
 ghost use Rattle.std.specs.Prelude.{◌≡◌, ◌++◌, ◌≤◌, ℕ, Bool, max, IfOk, List, codes};
 ghost use Rattle.std.specs.List.{flat_map};
 ghost use Rattle.idl_parser.specs.Reading.{Parsed, Continued};
+ghost use Rattle.idl_tree.specs.Pieces.{mark};
 ghost use Rattle.idl_tree.specs.Yields.{optional, listed};
 ghost use Rattle.idl_tree.specs.Levels.{highest, highest_listed, optional_levels};
 ghost use Rattle.idl_tree.specs.TypeLevels.{param_type_levels};
@@ -13,7 +14,7 @@ ghost use Rattle.idl_tree.specs.DefinitionLevels.{attribute_levels, param_levels
 
 use crate::cursor::Cursor;
 use crate::read::declarations::{is_declaration, read_declaration};
-use crate::read::lists::{Part, read_listed, read_rest};
+use crate::read::lists::{Part, both, read_listed, read_rest};
 use crate::read::types::read_param_type;
 use crate::stop::Stop;
 use idl_lexer::Kind;
@@ -22,6 +23,9 @@ use idl_tree::definitions::{
 };
 use idl_tree::names::{Leaf, Listed, ScopedName};
 use idl_tree::types::ParamType;
+
+/// The parameters of an operation, and what it raises.
+type Signature<'a> = (Option<Listed<Param<'a>>>, Option<Listed<ScopedName<'a>>>);
 
 /// Reads a word and the exceptions behind it, if the word is there.
 fn read_raises<'a>(
@@ -35,8 +39,7 @@ fn read_raises<'a>(
     }
     cursor.mark("(")?;
     let names = read_listed(cursor, 0)?;
-    cursor.mark(")")?;
-    Ok(Some(names))
+    Ok(Some(cursor.closed(names, ")")?))
 }
 
 /// Takes `readonly`, if it is next.
@@ -94,8 +97,8 @@ fn read_attribute<'a>(cursor: &mut Cursor<'a>, room: usize) -> Result<Attribute<
 {
     let is_readonly = take_readonly(cursor);
     cursor.keyword("attribute")?;
-    let attribute_type = read_param_type(cursor, room)?;
-    let declared = read_attributes(cursor, is_readonly)?;
+    let front = read_param_type(cursor, room)?;
+    let (attribute_type, declared) = both(front, read_attributes(cursor, is_readonly))?;
     Ok(Attribute {
         attribute_type,
         declared,
@@ -125,8 +128,8 @@ impl<'a> Part<'a> for Param<'a> {
 
     fn read(cursor: &mut Cursor<'a>, room: usize) -> Result<Self, Stop> {
         let direction = read_direction(cursor)?;
-        let param_type = read_param_type(cursor, room)?;
-        let identifier = cursor.identifier()?;
+        let front = read_param_type(cursor, room)?;
+        let (param_type, identifier) = both(front, cursor.identifier())?;
         Ok(Param {
             direction,
             param_type,
@@ -164,17 +167,26 @@ fn read_result<'a>(cursor: &mut Cursor<'a>, room: usize) -> Result<Option<ParamT
     Ok(Some(read_param_type(cursor, room)?))
 }
 
+/// Reads the parameters of an operation and what it raises.
+fn read_signature<'a>(cursor: &mut Cursor<'a>, room: usize) -> Result<Signature<'a>, Stop>
+    ensures spells { IfOk result (λ s. Parsed cursor.old (mark (codes "(") ++ optional (listed param_yield) s.0
+        ++ mark (codes ")") ++ optional (raises_yield (codes "raises")) s.1) cursor.new) }
+    ensures levels { IfOk result (λ s. optional_levels (highest_listed param_levels) s.0 ≤ room) }
+{
+    cursor.mark("(")?;
+    let front = read_params(cursor, room)?;
+    let params = cursor.closed(front, ")")?;
+    both(params, read_raises(cursor, "raises"))
+}
+
 fn read_operation<'a>(cursor: &mut Cursor<'a>, room: usize) -> Result<Operation<'a>, Stop>
     ensures spells { IfOk result (λ o. Parsed cursor.old (operation_yield o) cursor.new) }
     ensures levels { IfOk result (λ o. operation_levels o ≤ room) }
 {
     let is_oneway = take_oneway(cursor);
-    let result_type = read_result(cursor, room)?;
-    let identifier = cursor.identifier()?;
-    cursor.mark("(")?;
-    let params = read_params(cursor, room)?;
-    cursor.mark(")")?;
-    let raises = read_raises(cursor, "raises")?;
+    let returned = read_result(cursor, room)?;
+    let (front, identifier) = both(returned, cursor.identifier())?;
+    let (result_type, (params, raises)) = both(front, read_signature(cursor, room))?;
     Ok(Operation {
         is_oneway,
         result_type,
@@ -194,31 +206,30 @@ fn read_export<'a>(cursor: &mut Cursor<'a>, room: usize) -> Result<Export<'a>, S
     let word = cursor.text(Kind::Keyword);
     if is_declaration(word) {
         let declaration = read_declaration(cursor, room)?;
-        cursor.mark(";")?;
-        return Ok(Export::Declaration(declaration));
+        return Ok(Export::Declaration(cursor.closed(declaration, ";")?));
     }
     if let Some("readonly" | "attribute") = word {
         let attribute = read_attribute(cursor, room)?;
-        cursor.mark(";")?;
-        return Ok(Export::Attribute(attribute));
+        return Ok(Export::Attribute(cursor.closed(attribute, ";")?));
     }
     let operation = read_operation(cursor, room)?;
-    cursor.mark(";")?;
-    Ok(Export::Operation(operation))
+    Ok(Export::Operation(cursor.closed(operation, ";")?))
 }
 
-/// Reads exports up to a closing brace.
+/// Reads exports between braces.
 fn read_exports<'a>(cursor: &mut Cursor<'a>, room: usize) -> Result<Vec<Export<'a>>, Stop>
-    ensures spells { IfOk result (λ e. Continued cursor.old (flat_map export_yield e.items) cursor.new) }
+    ensures spells { IfOk result (λ e. Parsed cursor.old
+        (mark (codes "{") ++ flat_map export_yield e.items ++ mark (codes "}")) cursor.new) }
     ensures levels { IfOk result (λ e. highest export_levels e.items ≤ room) }
 {
+    cursor.mark("{")?;
     let mut exports = Vec::new(cursor.alloc());
     'parts: while !cursor.is_mark("}") {
         let export = read_export(cursor, room)?;
         exports.push(export)?;
     }
     exports.shrink_to_fit();
-    Ok(exports)
+    cursor.closed(exports, "}")
 }
 
 /// Reads the bases of an interface, if it has any.
@@ -244,10 +255,8 @@ pub(crate) fn read_interface<'a>(
     if cursor.is_mark(";") {
         return Ok(Interface::Ahead(identifier));
     }
-    let bases = read_bases(cursor)?;
-    cursor.mark("{")?;
-    let exports = read_exports(cursor, room)?;
-    cursor.mark("}")?;
+    let front = read_bases(cursor)?;
+    let (bases, exports) = both(front, read_exports(cursor, room))?;
     Ok(Interface::Defined {
         identifier,
         bases,
