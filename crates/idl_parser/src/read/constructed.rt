@@ -188,7 +188,10 @@ fn read_cases<'a>(cursor: &mut Cursor<'a>, room: usize) -> Result<Vec<Case<'a>>,
 
 /// Reads what stands behind the type of a union's discriminator.
 #[cycle(constructed)]
-fn read_union_body<'a>(cursor: &mut Cursor<'a>, room: usize) -> Result<(Case<'a>, Vec<Case<'a>>), Stop>
+fn read_union_body<'a>(
+    cursor: &mut Cursor<'a>,
+    room: usize,
+) -> Result<(Case<'a>, Vec<Case<'a>>), Stop>
     ensures spells { IfOk result (λ b. Parsed cursor.old (mark (codes ")") ++ mark (codes "{")
         ++ case_yield b.0 ++ (flat_map case_yield b.1.items ++ mark (codes "}"))) cursor.new) }
     ensures levels { IfOk result (λ b. max (case_levels b.0) (highest case_levels b.1.items) < room) }

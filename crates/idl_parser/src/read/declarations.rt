@@ -78,10 +78,7 @@ fn read_type_dcl<'a>(cursor: &mut Cursor<'a>, room: usize) -> Result<TypeDcl<'a>
 }
 
 /// Reads the identifier and the value of a constant.
-fn read_value<'a>(
-    cursor: &mut Cursor<'a>,
-    room: usize,
-) -> Result<(Leaf<'a>, ConstExpr<'a>), Stop>
+fn read_value<'a>(cursor: &mut Cursor<'a>, room: usize) -> Result<(Leaf<'a>, ConstExpr<'a>), Stop>
     ensures spells { IfOk result (λ v. Parsed cursor.old
         (identifier_yield v.0 ++ mark (codes "=") ++ const_expr_yield v.1) cursor.new) }
     ensures levels { IfOk result (λ v. const_expr_levels v.1 ≤ room) }
@@ -120,10 +117,7 @@ fn read_except<'a>(cursor: &mut Cursor<'a>, room: usize) -> Result<Except<'a>, S
     })
 }
 
-pub(crate) fn read_declaration<'a>(
-    cursor: &mut Cursor<'a>,
-    room: usize,
-) -> Result<Declaration<'a>, Stop>
+fn read_declaration<'a>(cursor: &mut Cursor<'a>, room: usize) -> Result<Declaration<'a>, Stop>
     ensures spells { IfOk result (λ d. Parsed cursor.old (declaration_yield d) cursor.new) }
     ensures levels { IfOk result (λ d. declaration_levels d ≤ room) }
 {
@@ -132,4 +126,16 @@ pub(crate) fn read_declaration<'a>(
         Some("exception") => Ok(Declaration::Except(read_except(cursor, room)?)),
         _ => Ok(Declaration::TypeDcl(read_type_dcl(cursor, room)?)),
     }
+}
+
+/// Reads a declaration and the semicolon behind it.
+pub(crate) fn read_ended_declaration<'a>(
+    cursor: &mut Cursor<'a>,
+    room: usize,
+) -> Result<Declaration<'a>, Stop>
+    ensures spells { IfOk result (λ d. Parsed cursor.old (declaration_yield d ++ mark (codes ";")) cursor.new) }
+    ensures levels { IfOk result (λ d. declaration_levels d ≤ room) }
+{
+    let declaration = read_declaration(cursor, room)?;
+    cursor.closed(declaration, ";")
 }

@@ -10,8 +10,8 @@ ghost use Rattle.idl_tree.specs.Levels.{highest};
 ghost use Rattle.idl_tree.specs.DefinitionLevels.{definition_levels};
 
 use crate::cursor::Cursor;
-use crate::read::declarations::{is_declaration, read_declaration};
-use crate::read::interfaces::read_interface;
+use crate::read::declarations::{is_declaration, read_ended_declaration};
+use crate::read::interfaces::read_ended_interface;
 use crate::stop::Stop;
 use idl_lexer::Kind;
 use idl_tree::definitions::Definition;
@@ -26,12 +26,10 @@ fn read_single<'a>(cursor: &mut Cursor<'a>, room: usize) -> Result<Definition<'a
     }
     let word = cursor.text(Kind::Keyword);
     if let Some("interface") = word {
-        let interface = read_interface(cursor, room)?;
-        return Ok(Definition::Interface(cursor.closed(interface, ";")?));
+        return Ok(Definition::Interface(read_ended_interface(cursor, room)?));
     }
     if is_declaration(word) {
-        let declaration = read_declaration(cursor, room)?;
-        return Ok(Definition::Declaration(cursor.closed(declaration, ";")?));
+        return Ok(Definition::Declaration(read_ended_declaration(cursor, room)?));
     }
     Err(Stop::Unexpected)
 }
@@ -44,9 +42,18 @@ pub(crate) fn read_definition<'a>(
     ensures spells { IfOk result (λ d. Parsed cursor.old (definition_yield d) cursor.new) }
     ensures levels { IfOk result (λ d. definition_levels d ≤ room) }
 {
-    if !cursor.take_keyword("module") {
-        return read_single(cursor, room);
+    match cursor.text(Kind::Keyword) {
+        Some("module") => read_module(cursor, room),
+        _ => read_single(cursor, room),
     }
+}
+
+#[cycle(definitions)]
+fn read_module<'a>(cursor: &mut Cursor<'a>, room: usize) -> Result<Definition<'a>, Stop>
+    ensures spells { IfOk result (λ d. Parsed cursor.old (definition_yield d) cursor.new) }
+    ensures levels { IfOk result (λ d. definition_levels d ≤ room) }
+{
+    cursor.keyword("module")?;
     let name = cursor.identifier()?;
     let left = cursor.open("{", room)?;
     let inner = read_definitions(cursor, left)?;

@@ -13,7 +13,7 @@ ghost use Rattle.idl_tree.specs.declared.definitions.Attributes.TheVariants.{Sil
 ghost use Rattle.idl_tree.specs.DefinitionLevels.{attribute_levels, param_levels, operation_levels, export_levels, interface_levels};
 
 use crate::cursor::Cursor;
-use crate::read::declarations::{is_declaration, read_declaration};
+use crate::read::declarations::{is_declaration, read_ended_declaration};
 use crate::read::lists::{Part, both, read_listed, read_rest};
 use crate::read::types::read_param_type;
 use crate::stop::Stop;
@@ -196,6 +196,24 @@ fn read_operation<'a>(cursor: &mut Cursor<'a>, room: usize) -> Result<Operation<
     })
 }
 
+/// Reads attributes and the semicolon behind them.
+fn read_ended_attribute<'a>(cursor: &mut Cursor<'a>, room: usize) -> Result<Attribute<'a>, Stop>
+    ensures spells { IfOk result (λ a. Parsed cursor.old (attribute_yield a ++ mark (codes ";")) cursor.new) }
+    ensures levels { IfOk result (λ a. attribute_levels a ≤ room) }
+{
+    let attribute = read_attribute(cursor, room)?;
+    cursor.closed(attribute, ";")
+}
+
+/// Reads an operation and the semicolon behind it.
+fn read_ended_operation<'a>(cursor: &mut Cursor<'a>, room: usize) -> Result<Operation<'a>, Stop>
+    ensures spells { IfOk result (λ o. Parsed cursor.old (operation_yield o ++ mark (codes ";")) cursor.new) }
+    ensures levels { IfOk result (λ o. operation_levels o ≤ room) }
+{
+    let operation = read_operation(cursor, room)?;
+    cursor.closed(operation, ";")
+}
+
 fn read_export<'a>(cursor: &mut Cursor<'a>, room: usize) -> Result<Export<'a>, Stop>
     ensures spells { IfOk result (λ e. Parsed cursor.old (export_yield e) cursor.new) }
     ensures levels { IfOk result (λ e. export_levels e ≤ room) }
@@ -205,15 +223,12 @@ fn read_export<'a>(cursor: &mut Cursor<'a>, room: usize) -> Result<Export<'a>, S
     }
     let word = cursor.text(Kind::Keyword);
     if is_declaration(word) {
-        let declaration = read_declaration(cursor, room)?;
-        return Ok(Export::Declaration(cursor.closed(declaration, ";")?));
+        return Ok(Export::Declaration(read_ended_declaration(cursor, room)?));
     }
     if let Some("readonly" | "attribute") = word {
-        let attribute = read_attribute(cursor, room)?;
-        return Ok(Export::Attribute(cursor.closed(attribute, ";")?));
+        return Ok(Export::Attribute(read_ended_attribute(cursor, room)?));
     }
-    let operation = read_operation(cursor, room)?;
-    Ok(Export::Operation(cursor.closed(operation, ";")?))
+    Ok(Export::Operation(read_ended_operation(cursor, room)?))
 }
 
 /// Reads exports between braces.
@@ -243,10 +258,7 @@ fn read_bases<'a>(cursor: &mut Cursor<'a>) -> Result<Option<Listed<ScopedName<'a
 }
 
 /// Reads an interface, or one that is declared ahead, which a semicolon tells.
-pub(crate) fn read_interface<'a>(
-    cursor: &mut Cursor<'a>,
-    room: usize,
-) -> Result<Interface<'a>, Stop>
+fn read_interface<'a>(cursor: &mut Cursor<'a>, room: usize) -> Result<Interface<'a>, Stop>
     ensures spells { IfOk result (λ i. Parsed cursor.old (interface_yield i) cursor.new) }
     ensures levels { IfOk result (λ i. interface_levels i ≤ room) }
 {
@@ -262,4 +274,16 @@ pub(crate) fn read_interface<'a>(
         bases,
         exports,
     })
+}
+
+/// Reads an interface and the semicolon behind it.
+pub(crate) fn read_ended_interface<'a>(
+    cursor: &mut Cursor<'a>,
+    room: usize,
+) -> Result<Interface<'a>, Stop>
+    ensures spells { IfOk result (λ i. Parsed cursor.old (interface_yield i ++ mark (codes ";")) cursor.new) }
+    ensures levels { IfOk result (λ i. interface_levels i ≤ room) }
+{
+    let interface = read_interface(cursor, room)?;
+    cursor.closed(interface, ";")
 }

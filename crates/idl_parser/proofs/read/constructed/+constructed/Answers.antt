@@ -93,7 +93,7 @@ pub read_struct-returns-clause-levels : goal.read_struct-returns-clause-levels
 read_struct-returns-clause-levels t c =
     let p = c.in_ok-first in
     let inside = both_levels member_levels (λ r. highest member_levels r.items) c.in_ok-left.left c.in_ok-front.front c.read_members.result
-        (p.first, p.rest) c.in_ok-front.ensures.levels c.read_members.ensures.levels p.ensures.first p.ensures.second in
+    (p.first, p.rest) c.in_ok-front.ensures.levels c.read_members.ensures.levels p.ensures.first p.ensures.second in
     omega (arith, c.in_ok-new.ensures.levels, c.in_ok-left.ensures.levels, inside)
 
 pub read_union_body-returns-clause-spells : goal.read_union_body-returns-clause-spells
