@@ -8,3 +8,5 @@ pub mod Levels
 pub mod TypeLevels
 pub mod DefinitionLevels
 pub mod Starts
+pub mod Lists
+pub mod PartsLeft

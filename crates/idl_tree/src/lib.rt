@@ -4,8 +4,10 @@
 #![tactic(auto)]
 
 pub mod const_expr;
+mod counts;
 pub mod definitions;
 pub mod expression;
+pub mod lists;
 pub mod names;
 mod readers;
 pub mod spec;
