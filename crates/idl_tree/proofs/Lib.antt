@@ -2,3 +2,4 @@ pub mod Chains
 pub mod Members
 pub mod Modules
 pub mod YieldLengths
+pub mod SpelledForms

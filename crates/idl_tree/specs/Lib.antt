@@ -10,3 +10,4 @@ pub mod DefinitionLevels
 pub mod Starts
 pub mod Lists
 pub mod PartsLeft
+pub mod Forms

@@ -10,5 +10,6 @@ pub mod expression;
 pub mod lists;
 pub mod names;
 mod readers;
+mod readings;
 pub mod spec;
 pub mod types;
