@@ -3,3 +3,4 @@ pub mod Members
 pub mod Modules
 pub mod YieldLengths
 pub mod SpelledForms
+pub mod Rows
