@@ -1,9 +1,8 @@
 //! How many tokens names and expressions are.
 
 ghost use Rattle.std.specs.Prelude.{◌≡◌, ◌<◌, ◌^◌, length};
-ghost use Rattle.idl_tree.specs.Yields.{operator_yield, name_yield, expr_yield, const_expr_yield, bound_yield};
+ghost use Rattle.idl_tree.specs.Yields.{operator_yield, name_yield, expr_yield};
 
-use crate::const_expr::{Bound, ConstExpr};
 use crate::expression::{Expr, Operator};
 use crate::names::ScopedName;
 
@@ -47,25 +46,5 @@ impl Expr<'_> {
                 count
             }
         }
-    }
-}
-
-impl ConstExpr<'_> {
-    /// How many tokens the expression is. Takes no memory.
-    pub fn token_count(&self) -> usize
-        requires { length (const_expr_yield self.now) < 2 ^ 64 }
-        ensures { result ≡ length (const_expr_yield self.now) }
-    {
-        self.expr.token_count()
-    }
-}
-
-impl Bound<'_> {
-    /// How many tokens the bound is. Takes no memory.
-    pub fn token_count(&self) -> usize
-        requires { length (bound_yield self.now) < 2 ^ 64 }
-        ensures { result ≡ length (bound_yield self.now) }
-    {
-        self.expr.token_count()
     }
 }

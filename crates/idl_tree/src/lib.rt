@@ -5,6 +5,7 @@
 
 pub mod const_expr;
 mod counts;
+mod debug;
 pub mod definitions;
 pub mod expression;
 pub mod lists;
