@@ -1,5 +1,5 @@
 -- What a chain of operands spells, how it groups, and its levels, by the list of its `Vec`.
-use Rattle.std.proofs.Common.{◌≡◌, ◌++◌, ◌∙◌, ℕ, suc, max, ◌≤◌, Bool, true, false, ◌&&◌, nat_lt, nat_eq, [], Vec, Global, refl, sym, ap, subst, arith}
+use Rattle.std.proofs.Common.{◌≡◌, ◌++◌, ◌∙◌, ℕ, suc, max, ◌≤◌, Bool, true, false, ◌&&◌, nat_lt, [], Vec, Global, refl, sym, subst, arith}
 use Rattle.std.specs.Prelude.{Box}
 use Rattle.std.specs.List.{AllByRecursion, flat_map}
 use Rattle.std.proofs.lemmas.Bool.{and_parts, ltb-true, lt-ltb}
@@ -12,7 +12,7 @@ use Rattle.idl_tree.specs.declared.expression.Operator.TheVariants.{Or, Xor, And
 use Rattle.idl_tree.specs.Grouping.{level_of, first_level, is_operator_of, is_of_level, are_of_level, IsOfLevel, IsOperandOf}
 use Rattle.idl_tree.specs.Levels.{highest, expr_levels, operands_levels, operand_levels}
 use Rattle.idl_tree.proofs.Rows.{chain_walk}
-use Rattle.idl_tree.specs.Yields.{expr_yield, operands_yield, operand_yield, operator_yield}
+use Rattle.idl_tree.specs.Yields.{expr_yield, operands_yield, operand_yield}
 
 abbrev row_of : Expr → (n : Count) × Row_of-Operand n
 row_of (Chain' p first shape row) = (_, row)

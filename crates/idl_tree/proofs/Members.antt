@@ -1,5 +1,5 @@
 -- What structures and unions spell and their levels, by the lists of their `Vec`s.
-use Rattle.std.proofs.Common.{◌≡◌, ◌++◌, ℕ, suc, max, List, [], Vec, Global, refl, ap, ◌∙◌}
+use Rattle.std.proofs.Common.{◌≡◌, ◌++◌, suc, max, List, [], Vec, Global, refl, ap, ◌∙◌}
 use Rattle.std.specs.Prelude.{Box, codes}
 use Rattle.std.specs.List.{flat_map}
 use Rattle.idl_tree.specs.declared.names.Leaf.{Leaf}

@@ -1,6 +1,5 @@
 -- What is spelled by tokens has the forms of their kinds, their numbers, and is as many.
 use Rattle.std.proofs.Common.{◌≡◌, ◌∙◌, ℕ, suc, ◌+◌, Bool, true, false, not, ◌||◌, ◌&&◌, ◌==◌, cond, nat_eq, List, [], ◌∷◌, ◌++◌, Option, Some, None, length, add-zero, ap, subst, sym, refl, arith}
-use Rattle.std.specs.List.{AllByRecursion}
 use Rattle.std.specs.Str.{bytes_eq}
 use Rattle.std.proofs.lemmas.Bool.{and_parts, eqb-true}
 use Rattle.std.proofs.lemmas.Slice.Eq.{bytes_eq-Decides}
@@ -9,7 +8,7 @@ use Rattle.idl_lexer.specs.declared.token.Kind.TheVariants.{Ident, Keyword, Punc
 use Rattle.idl_lexer.specs.declared.token.Token.{Token}
 use Rattle.idl_lexer.specs.Forms.{HasForm}
 use Rattle.idl_tree.specs.declared.spec.Spec.{Spec}
-use Rattle.idl_tree.specs.Pieces.{Piece, Seen, behind, is_end, is_piece, is_place, kind_code, past, seen_from, Spell}
+use Rattle.idl_tree.specs.Pieces.{Piece, Seen, is_end, is_piece, is_place, kind_code, past, seen_from, Spell}
 use Rattle.idl_tree.specs.Forms.{HaveForms, AreNumbered, IsNumbered, IsLeafOf}
 use Rattle.idl_tree.specs.declared.names.Leaf.{Leaf}
 use Rattle.idl_tree.specs.DefinitionYields.{definitions_spelled}
@@ -81,9 +80,10 @@ forms : (ps : List Piece) (n : ℕ) (tokens : List Token) → is_end (past ps (S
 forms [] n tokens h = tt
 forms (p ∷ ps) n [] h = absurd (no_more p ps h)
 forms (p ∷ ps) n (t ∷ ts) h =
-    let first = first_fits p ps _ (seen_from (n + 1) ts) h in
-    (subst (λ k. HasForm k p.text) (sym first.0.kind) (subst (HasForm t.kind) (sym first.0.text) t.form),
-    forms ps (n + 1) ts first.1)
+    let first = first_fits p ps _ (seen_from (n + 1) ts) h in (
+      subst (λ k. HasForm k p.text) (sym first.0.kind) (subst (HasForm t.kind) (sym first.0.text) t.form),
+      forms ps (n + 1) ts first.1,
+    )
 
 numbers : (ps : List Piece) (n : ℕ) (tokens : List Token) → is_end (past ps (Some (seen_from n tokens))) ≡ true → AreNumbered n ps
 numbers [] n tokens h = tt

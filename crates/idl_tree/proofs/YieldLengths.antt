@@ -14,9 +14,9 @@ use Rattle.idl_tree.specs.declared.expression.Operand.{Operand}
 use Rattle.idl_tree.specs.declared.expression.Operator.{Operator}
 use Rattle.idl_tree.specs.declared.expression.Operator.TheVariants.{Or, Xor, And, ShiftLeft, ShiftRight, Add, Subtract, Multiply, Divide, Remainder}
 use Rattle.idl_tree.specs.declared.expression.Sign.{Sign}
-use Rattle.idl_tree.specs.Pieces.{Piece, piece, kept, touching, mark}
+use Rattle.idl_tree.specs.Pieces.{piece, kept, touching, mark}
 use Rattle.idl_tree.specs.Lists.{parts}
-use Rattle.idl_tree.specs.Yields.{identifier, optional, root_yield, text_yield, in_order, path_yield, name_yield, operator_yield, expr_yield, operand_yield}
+use Rattle.idl_tree.specs.Yields.{identifier, optional, root_yield, text_yield, path_yield, name_yield, operator_yield, expr_yield, operand_yield}
 use Rattle.idl_tree.proofs.Chains.{chain_yield}
 
 -- as many as the operator's marks

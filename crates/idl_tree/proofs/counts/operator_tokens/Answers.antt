@@ -1,7 +1,6 @@
-use Rattle.std.proofs.Common.{◌≡◌, ◌≢◌, ◌∙◌, length, refl, sym, ap}
+use Rattle.std.proofs.Common.{◌≡◌, ◌≢◌, ◌∙◌, refl, sym, ap}
 use Rattle.idl_tree.specs.declared.expression.Operator.{Operator}
-use Rattle.idl_tree.specs.declared.expression.Operator.TheVariants.{Or, Xor, And, ShiftLeft, ShiftRight, Add, Subtract, Multiply, Divide, Remainder}
-use Rattle.idl_tree.specs.Yields.{operator_yield}
+use Rattle.idl_tree.specs.declared.expression.Operator.TheVariants.{ShiftRight}
 use Rattle.idl_tree.proofs.YieldLengths.{marks_of, operator_length}
 use Rattle.idl_tree.proofs.counts.operator_tokens.Goals as goal
 

@@ -1,4 +1,4 @@
-use Rattle.std.proofs.Common.{rules, ◌≡◌, ◌∙◌, ℕ, ◌+◌, ◌<◌, length, drop, sym, ap, arith}
+use Rattle.std.proofs.Common.{◌∙◌, ℕ, length, sym, ap, arith}
 use Rattle.std.specs.List.{flat_map}
 use Rattle.std.proofs.lemmas.List.{drop_all}
 use Rattle.idl_tree.specs.declared.expression.Expr.{Expr}

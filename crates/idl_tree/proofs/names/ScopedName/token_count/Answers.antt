@@ -1,4 +1,4 @@
-use Rattle.std.proofs.Common.{◌≡◌, ◌∙◌, ◌+◌, ◌*◌, ◌<◌, ℕ, Bool, true, false, List, cond, length, ap, refl, arith}
+use Rattle.std.proofs.Common.{◌≡◌, ◌∙◌, Bool, true, false, cond, length, ap, refl, arith}
 use Rattle.std.specs.Int.{from_bool}
 use Rattle.idl_tree.proofs.YieldLengths.{name_length}
 use Rattle.idl_tree.proofs.names.ScopedName.token_count.Goals as goal
