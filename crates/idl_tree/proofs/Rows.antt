@@ -3,7 +3,7 @@
 --
 -- A specification that walks over a type that holds itself walks over rows; code walks over lists. `walk` is such a
 -- walk over rows, `none` what it gives at the end, `one` what a part adds to what follows, and `list` the same walk
--- over a list.
+-- over a list. That they are is `refl` at each, where both walks are defined by such clauses.
 use Rattle.std.proofs.Common.{◌≡◌, List, [], ◌∷◌, Vec, Global, sym, ap, ◌∙◌}
 use Rattle.std.specs.Prelude.{Box}
 use mathlib.Core.Former.{Count, this, arity}
