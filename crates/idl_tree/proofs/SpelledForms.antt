@@ -1,5 +1,5 @@
 -- What is spelled by tokens has the forms of their kinds, their numbers, and is as many.
-use Rattle.std.proofs.Common.{◌≡◌, ◌∙◌, ℕ, suc, ◌+◌, Bool, true, false, not, ◌||◌, ◌&&◌, ◌==◌, cond, nat_eq, List, [], ◌∷◌, ◌++◌, Option, Some, None, length, add-zero, ap, subst, sym, refl, arith}
+use Rattle.std.proofs.Common.{◌≡◌, ◌∙◌, ℕ, suc, ◌+◌, codes, Bool, true, false, not, ◌||◌, ◌&&◌, ◌==◌, cond, nat_eq, List, [], ◌∷◌, ◌++◌, Option, Some, None, length, length-append, add-zero, ap, subst, sym, refl, arith}
 use Rattle.std.specs.Str.{bytes_eq}
 use Rattle.std.proofs.lemmas.Bool.{and_parts, eqb-true}
 use Rattle.std.proofs.lemmas.Slice.Eq.{bytes_eq-Decides}
@@ -8,10 +8,13 @@ use Rattle.idl_lexer.specs.declared.token.Kind.TheVariants.{Ident, Keyword, Punc
 use Rattle.idl_lexer.specs.declared.token.Token.{Token}
 use Rattle.idl_lexer.specs.Forms.{HasForm}
 use Rattle.idl_tree.specs.declared.spec.Spec.{Spec}
-use Rattle.idl_tree.specs.Pieces.{Piece, Seen, is_end, is_piece, is_place, kind_code, past, seen_from, Spell}
+use Rattle.idl_tree.specs.Pieces.{Piece, piece, kept, keyword, mark, leaf, Seen, is_end, is_piece, is_place, kind_code, past, seen_from, Spell}
+use Rattle.idl_tree.specs.declared.definitions.Const.{Const}
+use Rattle.idl_tree.specs.Yields.{identifier, const_expr_yield}
+use Rattle.idl_tree.specs.TypeYields.{const_type_yield}
 use Rattle.idl_tree.specs.Forms.{HaveForms, AreNumbered, IsNumbered, IsLeafOf}
 use Rattle.idl_tree.specs.declared.names.Leaf.{Leaf}
-use Rattle.idl_tree.specs.DefinitionYields.{definitions_spelled}
+use Rattle.idl_tree.specs.DefinitionYields.{definitions_spelled, const_yield}
 
 -- ---- a piece and its token
 
@@ -139,3 +142,26 @@ Spec-numbers s = Spell-numbers (definitions_spelled s.definitions.items) s.token
 
 pub Spec-length : (s : Spec) → length (definitions_spelled s.definitions.items) ≡ length s.tokens.now
 Spec-length s = Spell-length (definitions_spelled s.definitions.items) s.tokens.now s.spells
+
+-- ---- leaves
+
+pub leaf_form : (kind : Kind) (l : Leaf) → HaveForms (leaf kind l) → IsLeafOf kind l
+unfolding kept
+leaf_form kind l h = h.0
+
+pub kept_number : (kind : Kind) (text : List ℕ) (l : Leaf) (n : ℕ) → AreNumbered n (kept kind text l) → l.number ≡ n
+unfolding kept
+kept_number kind text l n h = h.0
+
+-- the semicolon of a constant stands behind its identifier, `=` and its value
+pub const_end : (c : Const) (n : ℕ) → AreNumbered n (const_yield c) → n + length (const_yield c) ≡ c.identifier.number + 2 + length (const_expr_yield c.value)
+unfolding kept piece
+const_end c n h =
+    let front = keyword (codes "const") ++ const_type_yield c.const_type in
+    let named = front ++ identifier c.identifier in
+    let equal = named ++ mark (codes "=") in
+    let without_value = AreNumbered-append equal (const_expr_yield c.value) n h in
+    let without_mark = AreNumbered-append named (mark (codes "=")) n without_value.0 in
+    let placed = AreNumbered-append front (identifier c.identifier) n without_mark.0 in
+    let number = kept_number Ident c.identifier.token.now.text.now c.identifier (n + length front) placed.1 in
+    omega (arith, number, length-append equal (const_expr_yield c.value), length-append named (mark (codes "=")), length-append front (identifier c.identifier))
