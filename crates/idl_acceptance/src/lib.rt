@@ -8,4 +8,6 @@ mod lexing;
 #[cfg(test)]
 mod parsing;
 #[cfg(test)]
+mod reading;
+#[cfg(test)]
 mod trees;

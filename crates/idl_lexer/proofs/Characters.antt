@@ -1,6 +1,5 @@
 -- Characters, one behind another.
-use Rattle.std.proofs.Common.{◌≡◌, ◌∙◌, ℕ, ◌+◌, ◌<◌, ◌≢◌, Bool, true, false, not, cond, ◌==◌, inl, inr, List, [], ◌∷◌, ◌++◌, codes, min, take, drop, slice_index, ap, subst, sym, refl, arith, eq-eqb}
-use Rattle.std.specs.Char.{is_ascii_hexdigit}
+use Rattle.std.proofs.Common.{◌≡◌, ◌∙◌, ℕ, ◌+◌, ◌<◌, ◌≢◌, Bool, true, false, not, cond, ◌==◌, inl, inr, List, [], ◌∷◌, ◌++◌, codes, take, drop, slice_index, ap, subst, sym, refl, arith, eq-eqb}
 use Rattle.std.specs.List.{list_all}
 use Rattle.std.specs.Str.Parse.{digits_value}
 use Rattle.std.proofs.lemmas.Bool.Decides.{nat_tests}
@@ -10,7 +9,8 @@ use Rattle.std.proofs.lemmas.List.{drop-drop, get_or-drop}
 use Rattle.std.proofs.lemmas.List.Sums.{prefix_len_passes}
 use Rattle.idl_lexer.proofs.Inside.{and_true, or_true}
 use Rattle.idl_lexer.specs.Octets.{is_octal, is_one_of, run}
-use Rattle.idl_lexer.specs.Literals.{is_escape_letter, is_plain, letter_value, AreCharacters, ClosedCharacters, none, more, IsCharacter, plain, letter, octal, hexadecimal}
+use Rattle.idl_lexer.specs.Readings.{reading, hex_reading, octal_reading, letter_reading, plain_reading}
+use Rattle.idl_lexer.specs.Literals.{is_escape_letter, is_plain, AreCharacters, ClosedCharacters, none, more, IsCharacter, plain, letter, octal, hexadecimal}
 
 -- one more at the end
 pub AreCharacters-push : (quote : ℕ) (s : List ℕ) (m n v k : ℕ) (vs : List ℕ) → AreCharacters quote s m vs → IsCharacter quote (drop m s) n v → v ≢ 0 → k ≡ m + n → AreCharacters quote s k (vs ++ v ∷ [])
@@ -18,32 +18,6 @@ AreCharacters-push quote s m n v k vs (none s2) char other e = more _ n v 0 k []
 AreCharacters-push quote s m n v k vs (more s2 n1 v1 m1 k1 vs1 first nz rest e1) char other e =
     let place : drop k1 s ≡ drop m1 (drop n1 s) = ap (λ j. drop j s) e1 ∙ sym (drop-drop m1 n1 s) in
     more _ n1 v1 (m1 + n) k (vs1 ++ v ∷ []) first nz (AreCharacters-push quote (drop n1 s) m1 n v (m1 + n) vs1 rest (rw place at char) other refl) (omega arith)
-
--- what a character's octets make of it, whatever the rule by which it is one
-abbrev digits_at : (ℕ → Bool) → ℕ → List ℕ → List ℕ
-digits_at test most s = take (min (run test s) most) s
-
-record Reading (s : List ℕ) : Type 0 where
-  len : ℕ
-  value : ℕ
-
-abbrev hex_reading : (s : List ℕ) → Reading s
-hex_reading s = record { len = min (run is_ascii_hexdigit (drop 2 s)) 2 + 2; value = digits_value 16 (digits_at is_ascii_hexdigit 2 (drop 2 s)) }
-
-abbrev octal_reading : (s : List ℕ) → Reading s
-octal_reading s = record { len = min (run is_octal (drop 1 s)) 3 + 1; value = digits_value 8 (digits_at is_octal 3 (drop 1 s)) }
-
-abbrev letter_reading : (s : List ℕ) → Reading s
-letter_reading s = record { len = 2; value = letter_value (slice_index s 1) }
-
-abbrev plain_reading : (s : List ℕ) → Reading s
-plain_reading s = record { len = 1; value = slice_index s 0 }
-
-abbrev reading : (s : List ℕ) → Reading s
-reading s =
-    cond (slice_index s 0 == 92)
-    (cond (slice_index s 1 == 120) (hex_reading s) (cond (is_octal (slice_index s 1)) (octal_reading s) (letter_reading s)))
-    (plain_reading s)
 
 -- what one of these octets passes
 one_passes : (p : ℕ → Bool) (ds : List ℕ) (c : ℕ) → list_all p ds ≡ true → is_one_of ds c ≡ true → p c ≡ true
@@ -132,7 +106,7 @@ Step-at s octets len value step char = moved s octets step.len len step.value va
 plain_no_quote : (v : ℕ) → v ≡ 34 → is_plain 34 v ≡ true → ⊥
 plain_no_quote v e h = let no : is_plain 34 34 ≡ true = rw e at h in cc
 
-no_character : (s : List ℕ) (n v : ℕ) → slice_index s 0 ≡ 34 → IsCharacter 34 s n v → ⊥
+pub no_character : (s : List ℕ) (n v : ℕ) → slice_index s 0 ≡ 34 → IsCharacter 34 s n v → ⊥
 no_character s n v e (plain some here is one) = plain_no_quote v (sym here ∙ e) is
 no_character s n v e (letter b h is two) = omega (arith, b, e)
 no_character s n v e (octal m b digits small k) = omega (arith, b, e)

@@ -5,4 +5,6 @@ pub mod Alone
 pub mod Keywords
 pub mod Digits
 pub mod Characters
+pub mod Readings
+pub mod WordsOfNames
 pub mod PragmaParts

@@ -7,6 +7,7 @@
 mod comment;
 mod directive;
 pub mod fault;
+pub mod identifiers;
 mod lexeme;
 mod lexer;
 mod literal;
@@ -19,6 +20,7 @@ pub mod values;
 mod word;
 
 pub use fault::LexFault;
+pub use identifiers::Identifiers;
 pub use lexer::lex;
 pub use pragmas::{Pragma, is_rooted};
 pub use token::{Kind, Token};

@@ -25,7 +25,7 @@ fn is_word(word: &[u8], wanted: &[u8]) -> bool
     word == wanted
 }
 
-fn ascii_text(octets: &[u8]) -> &str
+pub(crate) fn ascii_text(octets: &[u8]) -> &str
     requires { IsAscii octets.now }
     ensures { result.now ≡ octets.now }
 {

@@ -1,5 +1,5 @@
 -- What a chain of operands spells, how it groups, and its levels, by the list of its `Vec`.
-use Rattle.std.proofs.Common.{◌≡◌, ◌++◌, ◌∙◌, ℕ, suc, max, ◌≤◌, Bool, true, false, ◌&&◌, nat_lt, nat_eq, [], Vec, Global, refl, sym, ap, subst, arith}
+use Rattle.std.proofs.Common.{◌≡◌, ◌++◌, ◌∙◌, ℕ, suc, max, ◌≤◌, Bool, true, false, ◌&&◌, nat_lt, [], Vec, Global, refl, sym, subst, arith}
 use Rattle.std.specs.Prelude.{Box}
 use Rattle.std.specs.List.{AllByRecursion, flat_map}
 use Rattle.std.proofs.lemmas.Bool.{and_parts, ltb-true, lt-ltb}
@@ -11,35 +11,24 @@ use Rattle.idl_tree.specs.declared.expression.Operator.{Operator}
 use Rattle.idl_tree.specs.declared.expression.Operator.TheVariants.{Or, Xor, And, ShiftLeft, ShiftRight, Add, Subtract, Multiply, Divide, Remainder}
 use Rattle.idl_tree.specs.Grouping.{level_of, first_level, is_operator_of, is_of_level, are_of_level, IsOfLevel, IsOperandOf}
 use Rattle.idl_tree.specs.Levels.{highest, expr_levels, operands_levels, operand_levels}
-use Rattle.idl_tree.specs.Yields.{expr_yield, operands_yield, operand_yield, operator_yield}
+use Rattle.idl_tree.proofs.Rows.{chain_walk}
+use Rattle.idl_tree.specs.Yields.{expr_yield, operands_yield, operand_yield}
 
 abbrev row_of : Expr → (n : Count) × Row_of-Operand n
 row_of (Chain' p first shape row) = (_, row)
 row_of _ = (_, end_of-Operand)
 
-operands_items : (n : _) (row : Row_of-Operand n) → operands_yield row ≡ flat_map operand_yield (items-the_row-Operand n row)
-operands_items n end_of-Operand = refl
-operands_items n (more_of-Operand o e rest) = ap (λ l. operator_yield o ++ expr_yield e ++ l) (operands_items _ rest)
-
 pub chain_yield : (first : Box Expr Global) (rest : Vec Operand Global)
     → expr_yield (Chain first rest) ≡ expr_yield first.value ++ flat_map operand_yield rest.items
 chain_yield first rest =
-    let row = row_of (Chain first rest) in
-    ap (λ l. expr_yield first.value ++ l)
-    (operands_items row.0 row.1 ∙ ap (flat_map operand_yield) (items_hidden-the_row-Operand-0 rest))
-
--- ---- nesting
-
-operands_highest : (n : _) (row : Row_of-Operand n) → operands_levels row ≡ highest operand_levels (items-the_row-Operand n row)
-operands_highest n end_of-Operand = refl
-operands_highest n (more_of-Operand o e rest) = ap (max (expr_levels e)) (operands_highest _ rest)
+    chain_walk expr_yield (λ n row. operands_yield row) (λ e others. expr_yield e ++ others) [] (λ x others. operand_yield x ++ others) (flat_map operand_yield)
+    (λ p e shape row. refl) refl (λ n x row. refl) refl (λ x xs. refl) first rest
 
 pub chain_levels : (first : Box Expr Global) (rest : Vec Operand Global)
     → expr_levels (Chain first rest) ≡ max (expr_levels first.value) (highest operand_levels rest.items)
 chain_levels first rest =
-    let row = row_of (Chain first rest) in
-    ap (max (expr_levels first.value))
-    (operands_highest row.0 row.1 ∙ ap (highest operand_levels) (items_hidden-the_row-Operand-0 rest))
+    chain_walk expr_levels (λ n row. operands_levels row) (λ e most. max (expr_levels e) most) 0 (λ x most. max (operand_levels x) most) (highest operand_levels)
+    (λ p e shape row. refl) refl (λ n x row. refl) refl (λ x xs. refl) first rest
 
 -- ---- levels of operators
 

@@ -8,3 +8,6 @@ pub mod Levels
 pub mod TypeLevels
 pub mod DefinitionLevels
 pub mod Starts
+pub mod Lists
+pub mod PartsLeft
+pub mod Forms

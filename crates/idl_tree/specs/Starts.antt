@@ -1,7 +1,6 @@
 -- The parts of names, and the first tokens of names and expressions.
-use Rattle.std.specs.Prelude.{Bool, true, false, List, [], Option, Some, None, is_some}
+use Rattle.std.specs.Prelude.{Bool, false, List, [], Option, Some, None, is_some}
 use Rattle.idl_tree.specs.declared.names.Leaf.{Leaf}
-use Rattle.idl_tree.specs.declared.names.Path.{Path}
 use Rattle.idl_tree.specs.declared.names.ScopedName.{ScopedName}
 use Rattle.idl_tree.specs.declared.names.ScopedName.TheVariants.{Plain, Scoped}
 use Rattle.idl_tree.specs.declared.expression.Expr.{Expr, Name, Number, Character, Text, Boolean, Parenthesized', Signed', Chain'}

@@ -3,7 +3,7 @@ use Rattle.std.specs.List.{flat_map}
 use Rattle.idl_tree.specs.Grouping.{IsOfLevel}
 use Rattle.idl_tree.specs.Levels.{highest, expr_levels, operand_levels}
 use Rattle.idl_tree.specs.Yields.{expr_yield, operand_yield}
-use Rattle.idl_tree.proofs.Chains.{chain_yield, chain_level, chain_levels, looser}
+use Rattle.idl_tree.proofs.Chains.{chain_yield, chain_level, chain_levels}
 use Rattle.idl_tree.proofs.expression.Expr.new_chain.Goals as goal
 
 pub returns-clause-spells : goal.returns-clause-spells
