@@ -2,4 +2,12 @@
 #![tactic(auto)]
 
 #[cfg(test)]
+mod hostile;
+#[cfg(test)]
+mod lexing;
+#[cfg(test)]
 mod parsing;
+#[cfg(test)]
+mod reading;
+#[cfg(test)]
+mod trees;

@@ -2,8 +2,9 @@
 
 use idl_lexer::lex;
 use idl_parser::{ParseFault, parse};
-use idl_tree::definitions::{Const, Declaration, Definition, Spec, TypeDcl};
+use idl_tree::definitions::{Const, Declaration, Definition, TypeDcl};
 use idl_tree::expression::Expr;
+use idl_tree::spec::Spec;
 use idl_tree::types::{ConstType, Label};
 use std::alloc::Global;
 use std::test::Fail;
@@ -438,20 +439,22 @@ fn names_keep_their_first_token(rt: HostRuntime) -> Result<(), Fail> {
     let tokens = lex(alloc, "const A::B _module =\n::_C::in_1;")?;
     let spec = parse(alloc, &tokens)?;
     let constant = first_const(&spec).ok_or("no constant")?;
-    assert_eq!(rt; constant.identifier.name(), "module");
-    assert_eq!(rt;
-        [constant.identifier.number, constant.identifier.line],
-        [4, 1]
-    );
+    let identifier = constant.identifier;
+    assert_eq!(rt; identifier.name(), "module");
+    assert_eq!(rt; [identifier.number, identifier.token.line], [4, 1]);
     if let ConstType::Name(name) = &constant.const_type {
-        assert_eq!(rt; name.first_name(), "A");
-        assert_eq!(rt; [name.number, name.line], [1, 1]);
+        let start = name.start();
+        assert_eq!(rt; start.token.text, "A");
+        assert_eq!(rt; [start.number, start.token.line], [1, 1]);
     }
     if let Expr::Name(name) = &constant.value.expr {
-        assert_eq!(rt; name.first_name(), "C");
-        assert_eq!(rt; [name.number, name.line], [6, 2]);
+        let start = name.start();
+        assert_eq!(rt; start.token.text, "::");
+        assert_eq!(rt; [start.number, start.token.line], [6, 2]);
         assert_eq!(rt;
-            name.rest.first().map(|part| [part.number, part.line]),
+            name.rest()
+                .first()
+                .map(|part| [part.number, part.token.line]),
             Some([9, 2])
         );
     }
@@ -460,19 +463,14 @@ fn names_keep_their_first_token(rt: HostRuntime) -> Result<(), Fail> {
 
 /// The lines of a sign, of the parenthesis behind it and of the truth value inside.
 fn marks(value: &Expr<'_>) -> Option<[usize; 3]> {
-    let Expr::Signed {
-        line: sign,
-        operand,
-        ..
-    } = value
-    else {
+    let Expr::Signed { mark, operand, .. } = value else {
         return None;
     };
-    let Expr::Parenthesized { line: open, inner } = &**operand else {
+    let Expr::Parenthesized { paren, inner } = &**operand else {
         return None;
     };
     match &**inner {
-        Expr::Boolean { line, .. } => Some([*sign, *open, *line]),
+        Expr::Boolean { word, .. } => Some([mark.token.line, paren.token.line, word.token.line]),
         _ => None,
     }
 }
@@ -487,7 +485,7 @@ fn marks_keep_their_line(rt: HostRuntime) -> Result<(), Fail> {
     Ok(())
 }
 
-/// The line of the default label of a union that a specification begins with.
+/// The line of the default label of a union's second case, with which a specification begins.
 fn default_line(spec: &Spec<'_>) -> Option<usize> {
     let Definition::Declaration(Declaration::TypeDcl(TypeDcl::Union(union))) = spec
         .definitions
@@ -495,9 +493,8 @@ fn default_line(spec: &Spec<'_>) -> Option<usize> {
     else {
         return None;
     };
-    let label = union.cases.last()?.labels.last()?;
-    match label {
-        Label::Default { line } => Some(*line),
+    match union.rest.first()?.labels.rest.last()? {
+        Label::Default(word) => Some(word.token.line),
         Label::Case(_) => None,
     }
 }

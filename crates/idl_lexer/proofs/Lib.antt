@@ -1,3 +1,10 @@
 pub mod Runs
 pub mod Lexing
-pub mod Ascii
+pub mod Inside
+pub mod Alone
+pub mod Keywords
+pub mod Digits
+pub mod Characters
+pub mod Readings
+pub mod WordsOfNames
+pub mod PragmaParts

@@ -3,7 +3,7 @@ use Rattle.std.specs.Prelude.{ℕ, ◌<◌, ◌≤◌, List, Option, Some, None,
 use Rattle.idl_lexer.specs.declared.lexeme.Lexeme.{Lexeme}
 use Rattle.idl_lexer.specs.declared.token.Kind.{Kind}
 use Rattle.idl_lexer.specs.Gaps.{Skips}
-use Rattle.idl_lexer.specs.Tokens.{Begins}
+use Rattle.idl_lexer.specs.Forms.{Begins}
 
 abbrev pub IsForm : Option Kind → List ℕ → List ℕ → ℕ → Type 0
 IsForm None before s n = Skips before s n

@@ -4,7 +4,12 @@ pub mod Words
 pub mod Numbers
 pub mod Punctuation
 pub mod Literals
+pub mod Readings
 pub mod Directives
+pub mod Identifiers
+pub mod IdentifiersLeft
 pub mod Gaps
+pub mod Forms
 pub mod Tokens
 pub mod Lexemes
+pub mod Says

@@ -1,5 +1,5 @@
 -- Integer literals (lexical conventions, literals).
-use Rattle.std.specs.Prelude.{◌≡◌, ℕ, ◌^◌, ◌<◌, Bool, true, ◌||◌, ◌==◌, ◌⊎◌, List, take, drop, slice_index}
+use Rattle.std.specs.Prelude.{◌≡◌, ℕ, ◌^◌, ◌<◌, Bool, true, not, ◌||◌, ◌==◌, ◌⊎◌, List, take, drop, slice_index, if◌then◌else◌}
 use Rattle.std.specs.Int.{is_in_range}
 use Rattle.std.specs.Str.Parse.{IsNumeral, digits_value}
 use Rattle.idl_lexer.specs.Octets.{is_word, run}
@@ -25,10 +25,21 @@ pub record IsHexadecimal (t : List ℕ) : Type 0 where
   pub mark : (slice_index t 1 == 120 || slice_index t 1 == 88) ≡ true
   pub digits : IsNumber 16 (drop 2 t)
 
+-- an integer literal
+abbrev pub IsLiteral : List ℕ → Type 0
+IsLiteral t = IsDecimal t ⊎ IsOctal t ⊎ IsHexadecimal t
+
+-- its value
+abbrev pub number_value : List ℕ → ℕ
+number_value t =
+    (if not (slice_index t 0 == 48) then digits_value 10 t
+    else if slice_index t 1 == 120 || slice_index t 1 == 88 then digits_value 16 (drop 2 t)
+    else digits_value 8 t)
+
 abbrev pub is_word_or_point : ℕ → Bool
 is_word_or_point c = is_word c || c == 46
 
 -- s begins with a number of n octets, and no letter, digit, underscore or point follows it at once
 pub record IsInteger (s : List ℕ) (n : ℕ) : Type 0 where
   pub whole : n ≡ run is_word_or_point s
-  pub form : IsDecimal (take n s) ⊎ IsOctal (take n s) ⊎ IsHexadecimal (take n s)
+  pub form : IsLiteral (take n s)

@@ -1,33 +1,13 @@
 -- The tokens of a source.
-use Rattle.std.specs.Prelude.{◌≡◌, ℕ, ◌-◌, ◌<◌, ◌≤◌, true, List, [], ◌∷◌, length, take, drop, slice_range}
-use Rattle.std.specs.Char.{is_ascii}
-use Rattle.std.specs.List.{list_all}
+use Rattle.std.specs.Prelude.{◌≡◌, ℕ, ◌+◌, ◌-◌, ◌<◌, ◌≤◌, List, [], ◌∷◌, length, take, drop, slice_range, count_by}
+use Rattle.std.specs.List.{All}
 use Rattle.idl_lexer.specs.declared.token.Kind.{Kind}
-use Rattle.idl_lexer.specs.declared.token.Kind.TheVariants.{Ident, Keyword, Punct, Number, CharLit, TextLit, Pragma}
+use Rattle.idl_lexer.specs.declared.token.Kind.TheVariants.{Ident}
 use Rattle.idl_lexer.specs.declared.token.Token.{Token}
-use Rattle.idl_lexer.specs.Words.{IsIdentifier, IsKeyword, unescaped}
-use Rattle.idl_lexer.specs.Numbers.{IsInteger}
-use Rattle.idl_lexer.specs.Punctuation.{is_punctuation}
-use Rattle.idl_lexer.specs.Literals.{IsCharLiteral, IsTextLiteral}
-use Rattle.idl_lexer.specs.Directives.{IsFresh, IsKept, line_of}
+use Rattle.idl_lexer.specs.Octets.{is_line_feed}
+use Rattle.idl_lexer.specs.Words.{unescaped}
+use Rattle.idl_lexer.specs.Forms.{Begins}
 use Rattle.idl_lexer.specs.Gaps.{IsGap}
-
--- a pragma that is kept, where only blanks stand before it on its line
-pub record IsPragmaLine (before s : List ℕ) (n : ℕ) : Type 0 where
-  pub fresh : IsFresh before
-  pub ascii : list_all is_ascii (line_of s) ≡ true
-  pub form : IsKept (line_of s)
-  pub whole : n ≡ length (line_of s)
-
--- behind `before`, s begins with a token of this kind of n octets
-abbrev pub Begins : Kind → List ℕ → List ℕ → ℕ → Type 0
-Begins Ident before s n = IsIdentifier s n
-Begins Keyword before s n = IsKeyword s n
-Begins Punct before s n = is_punctuation s n ≡ true
-Begins Number before s n = IsInteger s n
-Begins CharLit before s n = IsCharLiteral s n
-Begins TextLit before s n = IsTextLiteral s n
-Begins Pragma before s n = IsPragmaLine before s n
 
 -- the token is what its span says
 pub record StandsIn (source : List ℕ) (t : Token) : Type 0 where
@@ -46,6 +26,14 @@ LexedPart source from (t ∷ ts) stop =
 -- the tokens of a whole source
 abbrev pub Lexed : List ℕ → List Token → Type 0
 Lexed source tokens = LexedPart source 0 tokens (length source)
+
+-- the line of a place: one more than the line feeds before it
+abbrev pub line_at : List ℕ → ℕ → ℕ
+line_at source place = count_by is_line_feed (take place source) + 1
+
+-- each token has the line of its start
+abbrev pub HaveLines : List ℕ → List Token → Type 0
+HaveLines source tokens = All (λ t. t.line ≡ line_at source t.start) tokens
 
 -- the name that a token stands for: of an identifier without one leading underscore
 abbrev pub name_of : Kind → List ℕ → List ℕ

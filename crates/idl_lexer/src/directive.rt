@@ -1,36 +1,67 @@
 //! Lines that begin with `#`: markers of lines, and pragmas (ISO/IEC 19500-1, preprocessing, pragma
 //! directives for repository ids).
 
-ghost use Rattle.std.specs.Prelude.{◌≡◌, ◌<◌, ◌≤◌, length, slice_index, IfSome, OnSome, IsTrue, IfOk};
-ghost use Rattle.idl_lexer.specs.Octets.{is_blank, past};
-ghost use Rattle.idl_lexer.specs.Directives.{IsAllBlank, IsBlanks, IsDigits, IsFile, IsHash, IsJust, IsMark};
-ghost use Rattle.idl_lexer.specs.Directives.{IsName, IsPragma, IsQuoted, IsScope, IsScopedName};
-ghost use Rattle.idl_lexer.specs.Directives.{is_kept_word, IsFresh, IsKept, IsSkipped};
+ghost use Rattle.std.specs.Prelude.{◌≡◌, ◌<◌, ◌≤◌, ◌==◌, ◌||◌, [], length, take, drop, slice_index, IfSome, IsTrue, IfOk};
+ghost use Rattle.std.specs.Char.{is_ascii_digit};
+ghost use Rattle.idl_lexer.specs.Octets.{is_blank, past, run};
+ghost use Rattle.idl_lexer.specs.Directives.{before_quote, directive_part, from_quote, is_kept_word, past_word};
+ghost use Rattle.idl_lexer.specs.Directives.{pragma_part, pragma_rest, version_place, word_of};
+ghost use Rattle.idl_lexer.specs.Directives.{IsDigits, IsFile, IsFresh, IsKept, IsMark, IsName, IsPragma};
+ghost use Rattle.idl_lexer.specs.Directives.{IsIdEnd, IsQuotedEnd, IsScope, IsScopedName, IsSkipped, IsVersion, IsVersionEnd};
 ghost use Rattle.idl_lexer.specs.Lexemes.{IsLexeme};
 
 use crate::fault::LexFault;
 use crate::lexeme::Lexeme;
 use crate::octets::{
-    are_ascii, are_blank, are_blanks_or_digits, blank_len, digit_len, is_blank_octet, line_len,
-    word_len,
+    are_ascii, are_blank, are_blanks_or_digits, behind_first, blank_len, digit_len, is_blank_octet,
+    line_len, word_len,
 };
 use crate::token::Kind;
 use crate::word::identifier_len;
 use memchr::{memchr, memrchr};
 
 fn past_blanks(octets: &[u8]) -> &[u8]
-    ensures { result.now ≡ past is_blank octets.now }
+    ensures value { result.now ≡ past is_blank octets.now }
+    ensures within { length result.now ≤ length octets.now }
 {
     octets.split_at(blank_len(octets)).1
 }
 
-fn blanks(octets: &[u8]) -> Option<&[u8]>
-    ensures { IfSome result (λ r. IsBlanks octets.now r.now) }
+/// The word at the front, and what follows it and the blanks behind it.
+pub(crate) fn split_word(octets: &[u8]) -> (&[u8], &[u8])
+    ensures word { result.0.now ≡ word_of octets.now }
+    ensures rest { result.1.now ≡ past_word octets.now }
 {
-    match octets {
-        [first, ..] if is_blank_octet(*first) => Some(past_blanks(octets)),
-        _ => None,
-    }
+    let (word, rest) = octets.split_at(word_len(octets));
+    (word, past_blanks(rest))
+}
+
+fn has_hash(line: &[u8]) -> bool
+    ensures { IsTrue result → slice_index line.now 0 ≡ 35 }
+{
+    line.first() == Some(&b'#')
+}
+
+/// What follows the `#` and the blanks behind it.
+fn behind_hash(line: &[u8]) -> &[u8]
+    ensures { result.now ≡ directive_part line.now }
+{
+    past_blanks(behind_first(line))
+}
+
+/// What follows the word `pragma` and the blanks behind it.
+pub(crate) fn behind_pragma(line: &[u8]) -> &[u8]
+    ensures { result.now ≡ pragma_part line.now }
+{
+    split_word(behind_hash(line)).1
+}
+
+/// What stands before the first quote, and the rest from that quote on.
+pub(crate) fn split_at_quote(octets: &[u8]) -> (&[u8], &[u8])
+    ensures before { result.0.now ≡ before_quote octets.now }
+    ensures from { result.1.now ≡ from_quote octets.now }
+{
+    octets.split_at(memchr(b'"', octets).unwrap_or(octets.len()))
 }
 
 fn digits(octets: &[u8]) -> Option<&[u8]>
@@ -51,31 +82,12 @@ fn mark(octets: &[u8], octet: u8) -> Option<&[u8]>
     }
 }
 
-fn just<'a>(octets: &'a [u8], word: &[u8]) -> Option<&'a [u8]>
-    ensures { IfSome result (λ r. IsJust word.now octets.now r.now) }
-{
-    let (found, rest) = octets.split_at(word_len(octets));
-    if found == word { Some(rest) } else { None }
-}
-
-fn quoted(octets: &[u8]) -> Option<&[u8]>
-    ensures { IfSome result (λ r. IsQuoted octets.now r.now) }
-{
-    match octets {
-        [b'"', text @ ..] => {
-            let len = memchr(b'"', text)?;
-            Some(text.split_at(len + 1).1)
-        }
-        _ => None,
-    }
-}
-
 fn name(octets: &[u8]) -> Option<&[u8]>
     ensures form { IfSome result (λ r. IsName octets.now r.now) }
     ensures within { IfSome result (λ r. length r.now ≤ length octets.now) }
 {
     let len = identifier_len(octets)?;
-    Some(octets.split_at(len).1)
+    Some(past_blanks(octets.split_at(len).1))
 }
 
 fn scope(octets: &[u8]) -> Option<&[u8]>
@@ -83,7 +95,7 @@ fn scope(octets: &[u8]) -> Option<&[u8]>
     ensures shorter { IfSome result (λ r. length r.now < length octets.now) }
 {
     match octets {
-        [b':', b':', rest @ ..] => Some(rest),
+        [b':', b':', rest @ ..] => Some(past_blanks(rest)),
         _ => None,
     }
 }
@@ -96,6 +108,15 @@ fn scoped_name(octets: &[u8]) -> Option<&[u8]>
         rest = name(inner)?;
     }
     Some(rest)
+}
+
+fn is_scoped_name(octets: &[u8]) -> bool
+    ensures { IsTrue result → IsScopedName octets.now [] }
+{
+    match scoped_name(octets) {
+        Some(rest) => rest.is_empty(),
+        None => false,
+    }
 }
 
 fn file(octets: &[u8]) -> Option<&[u8]>
@@ -115,25 +136,75 @@ fn file(octets: &[u8]) -> Option<&[u8]>
     }
 }
 
-fn end(octets: &[u8]) -> Option<()>
-    ensures { OnSome result (IsAllBlank octets.now) }
+fn is_quoted_end(octets: &[u8]) -> bool
+    ensures { IsTrue result → IsQuotedEnd octets.now }
 {
-    if are_blank(octets) { Some(()) } else { None }
+    let (_, rest) = split_at_quote(behind_first(octets));
+    octets.first() == Some(&b'"') && rest.first() == Some(&b'"') && are_blank(behind_first(rest))
 }
 
-fn hash(line: &[u8]) -> Option<&[u8]>
-    ensures { IfSome result (λ r. IsHash line.now r.now) }
+fn begins_with_digit(octets: &[u8]) -> bool
+    ensures { result ≡ is_ascii_digit (slice_index octets.now 0) }
 {
-    match line {
-        [b'#', rest @ ..] => Some(past_blanks(rest)),
-        _ => None,
+    octets.first().is_some_and(|octet| octet.is_ascii_digit())
+}
+
+/// Where the first digit behind a blank stands, or the end.
+pub(crate) fn version_at(octets: &[u8]) -> usize
+    ensures value { result ≡ version_place octets.now }
+    ensures within { result ≤ length octets.now }
+{
+    let mut at = 0;
+    while at < octets.len() {
+        let blank = is_blank_octet(octets[at]);
+        at += 1;
+        if blank && begins_with_digit(octets.split_at(at).1) {
+            return at;
+        }
+    }
+    at
+}
+
+/// How many digits and points stand at the front.
+pub(crate) fn version_len(octets: &[u8]) -> usize
+    ensures value { result ≡ run (λ c. is_ascii_digit c || c == 46) octets.now }
+    ensures within { result ≤ length octets.now }
+{
+    octets
+        .iter()
+        .position(|octet| !octet.is_ascii_digit() && *octet != b'.')
+        .unwrap_or(octets.len())
+}
+
+/// What follows the version number at the front.
+fn version_number(octets: &[u8]) -> Option<&[u8]>
+    ensures { IfSome result (λ r. IsVersion octets.now r.now) }
+{
+    digits(mark(digits(octets)?, b'.')?)
+}
+
+fn is_id_end(octets: &[u8]) -> bool
+    ensures { IsTrue result → IsIdEnd octets.now }
+{
+    let (name, text) = split_at_quote(octets);
+    is_scoped_name(name) && is_quoted_end(text)
+}
+
+fn is_version_end(octets: &[u8]) -> bool
+    ensures { IsTrue result → IsVersionEnd octets.now }
+{
+    let (name, number) = octets.split_at(version_at(octets));
+    match version_number(number) {
+        Some(rest) => is_scoped_name(name) && are_blank(rest),
+        None => false,
     }
 }
 
-fn pragma(line: &[u8]) -> Option<&[u8]>
-    ensures { IfSome result (λ r. IsPragma line.now r.now) }
+fn is_pragma(line: &[u8]) -> bool
+    ensures { IsTrue result → IsPragma line.now }
 {
-    just(hash(line)?, b"pragma")
+    let word = split_word(behind_hash(line)).0;
+    has_hash(line) && word == b"pragma".as_slice()
 }
 
 /// Whether the word makes its pragma one for repository ids.
@@ -143,72 +214,54 @@ fn is_kept_name(word: &[u8]) -> bool
     word == b"prefix".as_slice() || word == b"ID".as_slice() || word == b"version".as_slice()
 }
 
-fn prefix_pragma(line: &[u8]) -> Option<()>
-    ensures { OnSome result (IsKept line.now) }
-{
-    let rest = blanks(pragma(line)?)?;
-    let rest = blanks(just(rest, b"prefix")?)?;
-    end(quoted(rest)?)
-}
-
-fn id_pragma(line: &[u8]) -> Option<()>
-    ensures { OnSome result (IsKept line.now) }
-{
-    let rest = blanks(pragma(line)?)?;
-    let rest = blanks(just(rest, b"ID")?)?;
-    let rest = blanks(scoped_name(rest)?)?;
-    end(quoted(rest)?)
-}
-
-fn version_pragma(line: &[u8]) -> Option<()>
-    ensures { OnSome result (IsKept line.now) }
-{
-    let rest = blanks(pragma(line)?)?;
-    let rest = blanks(just(rest, b"version")?)?;
-    let rest = blanks(scoped_name(rest)?)?;
-    let rest = mark(digits(rest)?, b'.')?;
-    end(digits(rest)?)
-}
-
 /// Whether the line is a pragma for repository ids.
 fn is_kept(line: &[u8]) -> bool
     ensures { IsTrue result → IsKept line.now }
 {
-    prefix_pragma(line).is_some() || id_pragma(line).is_some() || version_pragma(line).is_some()
-}
-
-fn marker(line: &[u8]) -> Option<()>
-    ensures { OnSome result (IsSkipped line.now) }
-{
-    let rest = blanks(digits(hash(line)?)?)?;
-    if are_blanks_or_digits(file(rest)?) {
-        Some(())
+    let (word, rest) = split_word(behind_pragma(line));
+    if !is_pragma(line) {
+        false
+    } else if word == b"prefix".as_slice() {
+        is_quoted_end(rest)
+    } else if word == b"ID".as_slice() {
+        is_id_end(rest)
     } else {
-        None
+        word == b"version".as_slice() && is_version_end(rest)
     }
 }
 
-fn line_directive(line: &[u8]) -> Option<()>
-    ensures { OnSome result (IsSkipped line.now) }
+fn is_marker(line: &[u8]) -> bool
+    ensures { IsTrue result → IsSkipped line.now }
 {
-    just(hash(line)?, b"line")?;
-    Some(())
+    let Some(rest) = digits(behind_hash(line)) else {
+        return false;
+    };
+    match file(past_blanks(rest)) {
+        Some(numbers) => has_hash(line) && are_blanks_or_digits(numbers),
+        None => false,
+    }
+}
+
+fn is_line_directive(line: &[u8]) -> bool
+    ensures { IsTrue result → IsSkipped line.now }
+{
+    let word = split_word(behind_hash(line)).0;
+    has_hash(line) && word == b"line".as_slice()
 }
 
 /// A pragma whose first word is none of the kept ones.
-fn other_pragma(line: &[u8]) -> Option<()>
-    ensures { OnSome result (IsSkipped line.now) }
+fn is_other_pragma(line: &[u8]) -> bool
+    ensures { IsTrue result → IsSkipped line.now }
 {
-    let rest = past_blanks(pragma(line)?);
-    let word = rest.split_at(word_len(rest)).0;
-    if is_kept_name(word) { None } else { Some(()) }
+    let word = split_word(behind_pragma(line)).0;
+    is_pragma(line) && !is_kept_name(word)
 }
 
 /// Whether the line is a directive that says nothing about the types.
 fn is_skipped(line: &[u8]) -> bool
     ensures { IsTrue result → IsSkipped line.now }
 {
-    marker(line).is_some() || line_directive(line).is_some() || other_pragma(line).is_some()
+    is_marker(line) || is_line_directive(line) || is_other_pragma(line)
 }
 
 /// Whether only blanks stand on the last line of what comes before.

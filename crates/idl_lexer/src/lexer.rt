@@ -1,8 +1,9 @@
 //! The tokens of a whole source, one step after another.
 
-ghost use Rattle.std.specs.Prelude.{◌≡◌, ◌<◌, ◌≤◌, length, IfOk, slice_index};
+ghost use Rattle.std.specs.Prelude.{◌≡◌, ◌<◌, ◌≤◌, ◌-◌, ◌++◌, ◌∷◌, [], length, take, drop, slice_range, IfOk};
 ghost use Rattle.idl_lexer.specs.Lexemes.{IsLexeme};
-ghost use Rattle.idl_lexer.specs.Tokens.{Lexed};
+ghost use Rattle.idl_lexer.specs.Forms.{Begins};
+ghost use Rattle.idl_lexer.specs.Tokens.{HaveLines, Lexed};
 
 use crate::comment::block_comment;
 use crate::directive::directive;
@@ -10,11 +11,10 @@ use crate::fault::LexFault;
 use crate::lexeme::Lexeme;
 use crate::literal::{char_literal, text_literal};
 use crate::number::integer;
-use crate::octets::{blank_len, is_blank_octet, line_len};
+use crate::octets::{blank_len, is_blank_octet, line_feeds, line_len};
 use crate::punct::punct_len;
 use crate::token::{Kind, Token};
 use crate::word::word;
-use memchr::memchr_iter;
 use std::alloc::Global;
 
 /// What the octets begin with, behind those before them.
@@ -39,6 +39,33 @@ fn lexeme(before: &[u8], octets: &[u8], line: usize) -> Result<Lexeme, LexFault>
     }
 }
 
+/// The token that the source has from one place to another.
+fn token(source: &str, kind: Kind, start: usize, end: usize, line: usize) -> Token<'_>
+    requires rises { start < end }
+    requires within { end ≤ length source.now }
+    requires form { Begins kind (take start source.now) (drop start source.now) (end - start) }
+    ensures kind { result.kind ≡ kind }
+    ensures text { result.text.now ≡ slice_range source.now start end }
+    ensures start { result.start ≡ start }
+    ensures stop { result.end ≡ end }
+    ensures line { result.line ≡ line }
+{
+    Token {
+        kind,
+        text: &source[start..end],
+        start,
+        end,
+        line,
+    }
+}
+
+fn add<'a>(tokens: &mut Vec<Token<'a>>, token: Token<'a>) -> Result<(), LexFault>
+    ensures { IfOk result (λ _. tokens.new.items ≡ tokens.old.items ++ token.entry ∷ []) }
+{
+    tokens.push(token)?;
+    Ok(())
+}
+
 /// The tokens of an IDL source in order, with the pragmas for repository ids among them
 /// (ISO/IEC 19500-1, lexical conventions).
 ///
@@ -49,7 +76,8 @@ fn lexeme(before: &[u8], octets: &[u8], line: usize) -> Result<Lexeme, LexFault>
 ///
 /// The first fault in the order of reading, with its line, and `NoMemory` where memory was refused.
 pub fn lex(alloc: Global, source: &str) -> Result<Vec<Token<'_>>, LexFault>
-    ensures { IfOk result (λ tokens. Lexed source.now tokens.items) }
+    ensures lexed { IfOk result (λ tokens. Lexed source.now tokens.items) }
+    ensures lines { IfOk result (λ tokens. HaveLines source.now tokens.items) }
 {
     let octets = source.as_bytes();
     let mut tokens = Vec::new(alloc);
@@ -59,17 +87,9 @@ pub fn lex(alloc: Global, source: &str) -> Result<Vec<Token<'_>>, LexFault>
         let (before, rest) = octets.split_at(at);
         let found = lexeme(before, rest, line)?;
         let end = at + found.len;
-        if let Some(kind) = found.kind {
-            let text = &source[at..end];
-            tokens.push(Token {
-                kind,
-                text,
-                start: at,
-                end,
-                line,
-            })?;
-        } else {
-            line += memchr_iter(b'\n', rest.split_at(found.len).0).count();
+        match found.kind {
+            Some(kind) => add(&mut tokens, token(source, kind, at, end, line))?,
+            None => line += line_feeds(rest.split_at(found.len).0),
         }
         at = end;
     }

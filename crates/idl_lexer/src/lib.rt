@@ -7,18 +7,21 @@
 mod comment;
 mod directive;
 pub mod fault;
+pub mod identifiers;
 mod lexeme;
 mod lexer;
 mod literal;
 mod number;
 mod octets;
+pub mod pragmas;
 mod punct;
 pub mod token;
+pub mod values;
 mod word;
 
 pub use fault::LexFault;
+pub use identifiers::Identifiers;
 pub use lexer::lex;
+pub use pragmas::{Pragma, is_rooted};
 pub use token::{Kind, Token};
-
-#[cfg(test)]
-mod tests;
+pub use values::{character_value, number_value, push_octets};

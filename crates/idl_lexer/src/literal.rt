@@ -1,12 +1,16 @@
 //! Character and text literals (ISO/IEC 19500-1, lexical conventions, literals).
 
-ghost use Rattle.std.specs.Prelude.{◌≡◌, ◌<◌, ◌≤◌, ℕ, length, slice_index, IfOk, IfSome, true};
-ghost use Rattle.std.specs.Str.Parse.{digits_value};
-ghost use Rattle.idl_lexer.specs.Literals.{escape_value, IsCharacter, IsCharLiteral, IsTextLiteral};
+ghost use Rattle.std.specs.Prelude.{◌≡◌, ◌<◌, ◌≤◌, ℕ, length, drop, slice_index, IfOk, IfSome, IsOk, IsSome, true};
+ghost use Rattle.std.specs.Char.{is_ascii_hexdigit};
+ghost use Rattle.std.specs.Str.Parse.{digits_value, IsNumeral};
+ghost use Rattle.idl_lexer.specs.Octets.{is_octal};
+ghost use Rattle.idl_lexer.specs.Literals.{is_escape_letter, letter_value, IsCharacter, IsCharLiteral};
+ghost use Rattle.idl_lexer.specs.Literals.{IsEscapeDigits, IsTextLiteral};
 
 use crate::fault::LexFault;
 use crate::number::number_of;
-use crate::octets::{hex_len, octal_len};
+use crate::octets::{are_ascii, hex_len, octal_len};
+use memchr::memchr2;
 
 /// The octet that the digits write in this radix, where it is one.
 fn octet_of(digits: &[u8], radix: u32) -> Option<u8>
@@ -15,6 +19,7 @@ fn octet_of(digits: &[u8], radix: u32) -> Option<u8>
     ensures some { IfSome result (λ v. 0 < length digits.now) }
     ensures value { IfSome result (λ v. v ≡ digits_value radix digits.now) }
     ensures octet { IfSome result (λ v. v < 256) }
+    ensures complete { IsNumeral radix digits.now → digits_value radix digits.now < 256 → IsSome result }
 {
     u8::try_from(number_of(digits, radix)?).ok()
 }
@@ -25,6 +30,7 @@ fn octal_escape(octets: &[u8], line: usize) -> Result<(u8, usize), LexFault>
     ensures form { (quote : ℕ) → IfOk result (λ c. IsCharacter quote octets.now c.1 c.0) }
     ensures within { IfOk result (λ c. c.1 ≤ length octets.now) }
     ensures long { IfOk result (λ c. 0 < c.1) }
+    ensures complete { (m v : ℕ) → IsEscapeDigits is_octal 8 3 (drop 1 octets.now) m v → v < 256 → IsOk result }
 {
     let digits = octets.split_at(1).1;
     let len = octal_len(digits).min(3);
@@ -41,6 +47,7 @@ fn hex_escape(octets: &[u8], line: usize) -> Result<(u8, usize), LexFault>
     ensures form { (quote : ℕ) → IfOk result (λ c. IsCharacter quote octets.now c.1 c.0) }
     ensures within { IfOk result (λ c. c.1 ≤ length octets.now) }
     ensures long { IfOk result (λ c. 0 < c.1) }
+    ensures complete { (m v : ℕ) → IsEscapeDigits is_ascii_hexdigit 16 2 (drop 2 octets.now) m v → IsOk result }
 {
     let digits = octets.split_at(2).1;
     let len = hex_len(digits).min(2);
@@ -51,7 +58,9 @@ fn hex_escape(octets: &[u8], line: usize) -> Result<(u8, usize), LexFault>
 }
 
 fn letter_escape(letter: u8) -> Option<u8>
-    ensures { IfSome result (λ v. escape_value letter v ≡ true) }
+    ensures form { IfSome result (λ v. is_escape_letter letter ≡ true) }
+    ensures value { IfSome result (λ v. v ≡ letter_value letter) }
+    ensures complete { is_escape_letter letter ≡ true → IsSome result }
 {
     match letter {
         b'n' => Some(b'\n'),
@@ -72,11 +81,12 @@ fn escape(octets: &[u8], line: usize) -> Result<(u8, usize), LexFault>
     ensures form { (quote : ℕ) → IfOk result (λ c. IsCharacter quote octets.now c.1 c.0) }
     ensures within { IfOk result (λ c. c.1 ≤ length octets.now) }
     ensures long { IfOk result (λ c. 0 < c.1) }
+    ensures complete { (quote n v : ℕ) → IsCharacter quote octets.now n v → IsOk result }
 {
     match octets {
         [_, b'x', ..] => hex_escape(octets, line),
         [_, b'0'..=b'7', ..] => octal_escape(octets, line),
-        [_] | [_, b'\n', ..] | [_, b'\r', b'\n', ..] => Err(LexFault::OpenLiteral { line }),
+        [_] | [_, b'\n', ..] => Err(LexFault::OpenLiteral { line }),
         [_, letter, ..] if letter.is_ascii() => match letter_escape(*letter) {
             Some(value) => Ok((value, 2)),
             None => Err(LexFault::BadEscape { line }),
@@ -86,10 +96,11 @@ fn escape(octets: &[u8], line: usize) -> Result<(u8, usize), LexFault>
 }
 
 /// The octet that the character at the front stands for, and how long it is.
-fn character(octets: &[u8], quote: u8, line: usize) -> Result<(u8, usize), LexFault>
+pub(crate) fn character(octets: &[u8], quote: u8, line: usize) -> Result<(u8, usize), LexFault>
     ensures form { IfOk result (λ c. IsCharacter quote octets.now c.1 c.0) }
     ensures within { IfOk result (λ c. c.1 ≤ length octets.now) }
     ensures long { IfOk result (λ c. 0 < c.1) }
+    ensures complete { (n v : ℕ) → IsCharacter quote octets.now n v → IsOk result }
 {
     match octets {
         [b'\\', ..] => escape(octets, line),
@@ -100,23 +111,38 @@ fn character(octets: &[u8], quote: u8, line: usize) -> Result<(u8, usize), LexFa
     }
 }
 
+/// The fault of a character literal that goes on with these octets: a character outside ASCII in it comes first.
+fn unclosed(octets: &[u8], fault: LexFault, line: usize) -> LexFault {
+    let inside = octets
+        .split_at(memchr2(b'\'', b'\n', octets).unwrap_or(octets.len()))
+        .0;
+    if are_ascii(inside) {
+        fault
+    } else {
+        LexFault::BadChar { line }
+    }
+}
+
 /// How long the character literal at the front is.
 ///
 /// # Errors
 ///
-/// `OpenLiteral` where it isn't closed behind its one character, `BadEscape`, and `BadChar` for a
-/// character outside ASCII.
+/// `OpenLiteral` where it isn't closed behind its one character, `BadEscape`, and `BadChar` where a
+/// character outside ASCII stands anywhere in it.
 pub(crate) fn char_literal(octets: &[u8], line: usize) -> Result<usize, LexFault>
     requires { slice_index octets.now 0 ≡ 39 }
     ensures form { IfOk result (λ n. IsCharLiteral octets.now n) }
     ensures within { IfOk result (λ n. n ≤ length octets.now) }
     ensures long { IfOk result (λ n. 0 < n) }
 {
-    let (_, len) = character(octets.split_at(1).1, b'\'', line)?;
-    if len + 1 < octets.len() && octets[len + 1] == b'\'' {
-        Ok(len + 2)
-    } else {
-        Err(LexFault::OpenLiteral { line })
+    let inner = octets.split_at(1).1;
+    match character(inner, b'\'', line) {
+        Ok((_, len)) if len < inner.len() && inner[len] == b'\'' => Ok(len + 2),
+        Ok((_, len)) => {
+            let open = LexFault::OpenLiteral { line };
+            Err(unclosed(inner.split_at(len).1, open, line))
+        }
+        Err(fault) => Err(unclosed(inner, fault, line)),
     }
 }
 

@@ -1,9 +1,9 @@
 //! Integer literals (ISO/IEC 19500-1, lexical conventions, literals).
 
-ghost use Rattle.std.specs.Prelude.{◌≡◌, ◌<◌, ◌≤◌, ◌≢◌, length, slice_index, IfOk, IfSome};
+ghost use Rattle.std.specs.Prelude.{◌≡◌, ◌<◌, ◌≤◌, ◌≢◌, length, slice_index, IfOk, IfSome, IsSome};
 ghost use Rattle.std.specs.Str.Parse.{digits_value};
 ghost use Rattle.idl_lexer.specs.Octets.{run};
-ghost use Rattle.idl_lexer.specs.Numbers.{is_word_or_point, IsInteger, IsNumber};
+ghost use Rattle.idl_lexer.specs.Numbers.{is_word_or_point, number_value, IsInteger, IsLiteral, IsNumber};
 
 use crate::fault::LexFault;
 use crate::octets::is_word_octet;
@@ -14,12 +14,15 @@ pub(crate) fn number_of(digits: &[u8], radix: u32) -> Option<u64>
     requires high { radix ≤ 36 }
     ensures number { IfSome result (λ v. IsNumber radix digits.now) }
     ensures value { IfSome result (λ v. v ≡ digits_value radix digits.now) }
+    ensures complete { IsNumber radix digits.now → IsSome result }
 {
     if digits.first() == Some(&b'+') {
         return None;
     }
-    let text = str::from_utf8(digits).ok()?;
-    u64::from_str_radix(text, radix).ok()
+    match str::from_utf8(digits) {
+        Ok(text) => u64::from_str_radix(text, radix).ok(),
+        Err(_) => None,
+    }
 }
 
 fn number_len(octets: &[u8]) -> usize
@@ -30,6 +33,20 @@ fn number_len(octets: &[u8]) -> usize
         .iter()
         .position(|octet| !is_word_octet(*octet) && *octet != b'.')
         .unwrap_or(octets.len())
+}
+
+/// The value of an integer literal, where it is one.
+pub(crate) fn literal_value(octets: &[u8]) -> Option<u64>
+    ensures form { IfSome result (λ v. IsLiteral octets.now) }
+    ensures value { IfSome result (λ v. v ≡ number_value octets.now) }
+    ensures complete { IsLiteral octets.now → IsSome result }
+{
+    match octets {
+        [b'0', b'x' | b'X', digits @ ..] => number_of(digits, 16),
+        [b'0', ..] => number_of(octets, 8),
+        [b'1'..=b'9', ..] => number_of(octets, 10),
+        _ => None,
+    }
 }
 
 /// How long the integer literal at the front is: everything up to the first octet that is no letter,
@@ -44,13 +61,7 @@ pub(crate) fn integer(octets: &[u8], line: usize) -> Result<usize, LexFault>
     ensures long { IfOk result (λ n. 0 < n) }
 {
     let len = number_len(octets);
-    let value = match octets.split_at(len).0 {
-        [b'0', b'x' | b'X', digits @ ..] => number_of(digits, 16),
-        digits @ [b'0', ..] => number_of(digits, 8),
-        digits @ [b'1'..=b'9', ..] => number_of(digits, 10),
-        _ => None,
-    };
-    match value {
+    match literal_value(octets.split_at(len).0) {
         Some(_) => Ok(len),
         None => Err(LexFault::BadNumber { line }),
     }

@@ -1,6 +1,6 @@
 //! Classes of octets, and how many of a class stand at the front of a text.
 
-ghost use Rattle.std.specs.Prelude.{◌≡◌, ◌≤◌, ◌==◌, ◌||◌, not, length};
+ghost use Rattle.std.specs.Prelude.{◌≡◌, ◌≤◌, ◌==◌, ◌||◌, not, drop, length, count_by};
 ghost use Rattle.std.specs.Char.{is_ascii, is_ascii_digit, is_ascii_hexdigit};
 ghost use Rattle.std.specs.List.{list_all};
 ghost use Rattle.idl_lexer.specs.Octets.{is_blank, is_line_feed, is_octal, is_word, run};
@@ -83,6 +83,24 @@ pub(crate) fn line_len(octets: &[u8]) -> usize
     ensures within { result ≤ length octets.now }
 {
     memchr(b'\n', octets).unwrap_or(octets.len())
+}
+
+/// What follows the first octet.
+pub(crate) fn behind_first(octets: &[u8]) -> &[u8]
+    ensures { result.now ≡ drop 1 octets.now }
+{
+    match octets {
+        [_, rest @ ..] => rest,
+        [] => octets,
+    }
+}
+
+/// How many line feeds there are.
+pub(crate) fn line_feeds(octets: &[u8]) -> usize
+    ensures value { result ≡ count_by is_line_feed octets.now }
+    ensures within { result ≤ length octets.now }
+{
+    octets.iter().filter(|octet| **octet == b'\n').count()
 }
 
 pub(crate) fn are_blank(octets: &[u8]) -> bool

@@ -1,5 +1,7 @@
 //! The tokens of IDL (ISO/IEC 19500-1, lexical conventions).
 
+ghost use Rattle.idl_lexer.specs.Forms.{HasForm};
+
 /// What a token is.
 #[derive(Clone, Copy, Debug, PartialEq, Eq)]
 pub enum Kind {
@@ -19,7 +21,7 @@ pub enum Kind {
 }
 
 /// A token: its text is the source from `start` to `end`, counted in octets, and `line` counts
-/// from 1.
+/// from 1. A text that isn't one token of the kind makes none.
 #[derive(Clone, Copy, Debug, PartialEq, Eq)]
 pub struct Token<'a> {
     pub kind: Kind,
@@ -27,6 +29,7 @@ pub struct Token<'a> {
     pub start: usize,
     pub end: usize,
     pub line: usize,
+    pub ghost form: { HasForm kind text.now },
 }
 
 impl<'a> Token<'a> {

@@ -1,83 +1,66 @@
 //! Identifiers and keywords (ISO/IEC 19500-1, lexical conventions).
 
-ghost use Rattle.std.specs.Prelude.{◌≡◌, ◌<◌, ◌≤◌, ℕ, List, length, IfOk, IfSome, IsTrue, slice_index};
+ghost use Rattle.std.specs.Prelude.{◌≡◌, ◌<◌, ◌≤◌, ◌==◌, ℕ, List, map, filter, length, IfOk, IfSome, IsTrue, slice_index};
 ghost use Rattle.std.specs.Char.{is_ascii_alphabetic};
 ghost use Rattle.std.specs.List.{list_any};
 ghost use Rattle.std.specs.Str.{bytes_eq};
 ghost use Rattle.idl_lexer.specs.Words.{is_keyword as listed, is_keyword_in_some_case as listed_in_some_case};
-ghost use Rattle.idl_lexer.specs.Words.{same_but_for_case, IsIdentifier};
-ghost use Rattle.idl_lexer.specs.Tokens.{Begins};
+ghost use Rattle.idl_lexer.specs.Words.{keywords, same_but_for_case, IsIdentifier};
+ghost use Rattle.idl_lexer.specs.Forms.{Begins};
 
 use crate::fault::LexFault;
 use crate::octets::word_len;
 use crate::token::Kind;
 
-const KEYWORDS: [&str; 64] = [
-    "abstract",
-    "any",
-    "attribute",
-    "boolean",
-    "case",
-    "char",
-    "component",
-    "const",
-    "consumes",
-    "context",
-    "custom",
-    "default",
-    "double",
-    "emits",
-    "enum",
-    "eventtype",
-    "exception",
-    "factory",
-    "FALSE",
-    "finder",
-    "fixed",
-    "float",
-    "getraises",
-    "home",
-    "import",
-    "in",
-    "inout",
-    "interface",
-    "local",
-    "long",
-    "module",
-    "multiple",
-    "native",
-    "Object",
-    "octet",
-    "oneway",
-    "out",
-    "primarykey",
-    "private",
-    "provides",
-    "public",
-    "publishes",
-    "raises",
-    "readonly",
-    "sequence",
-    "setraises",
-    "short",
-    "string",
-    "struct",
-    "supports",
-    "switch",
-    "TRUE",
-    "truncatable",
-    "typedef",
-    "typeid",
-    "typeprefix",
-    "union",
-    "unsigned",
-    "uses",
-    "ValueBase",
-    "valuetype",
-    "void",
-    "wchar",
-    "wstring",
+/// The keywords, by how many letters they have.
+const KEYWORDS: [&[&str]; 12] = [
+    &[],
+    &[],
+    &["in"],
+    &["any", "out"],
+    &[
+        "case", "char", "enum", "home", "long", "TRUE", "uses", "void",
+    ],
+    &[
+        "const", "emits", "FALSE", "fixed", "float", "inout", "local", "octet", "short", "union",
+        "wchar",
+    ],
+    &[
+        "custom", "double", "finder", "import", "module", "native", "Object", "oneway", "public",
+        "raises", "string", "struct", "switch", "typeid",
+    ],
+    &[
+        "boolean", "context", "default", "factory", "private", "typedef", "wstring",
+    ],
+    &[
+        "abstract", "consumes", "multiple", "provides", "readonly", "sequence", "supports",
+        "unsigned",
+    ],
+    &[
+        "attribute",
+        "component",
+        "eventtype",
+        "exception",
+        "getraises",
+        "interface",
+        "publishes",
+        "setraises",
+        "ValueBase",
+        "valuetype",
+    ],
+    &["primarykey", "typeprefix"],
+    &["truncatable"],
 ];
+
+fn keywords_of_len(len: usize) -> &'static [&'static str]
+    ensures { map (λ k. k.now) result.now ≡ filter (λ k. length k == len) keywords }
+{
+    if len < KEYWORDS.len() {
+        KEYWORDS[len]
+    } else {
+        &[]
+    }
+}
 
 fn begins_with_letter(octets: &[u8]) -> bool
     ensures { result ≡ is_ascii_alphabetic (slice_index octets.now 0) }
@@ -137,13 +120,13 @@ pub(crate) fn identifier_len(octets: &[u8]) -> Option<usize>
 fn is_keyword(word: &[u8]) -> bool
     ensures { result ≡ listed word.now }
 {
-    is_among(&KEYWORDS, word)
+    is_among(keywords_of_len(word.len()), word)
 }
 
 fn is_keyword_in_some_case(word: &[u8]) -> bool
     ensures { result ≡ listed_in_some_case word.now }
 {
-    is_among_but_for_case(&KEYWORDS, word)
+    is_among_but_for_case(keywords_of_len(word.len()), word)
 }
 
 fn is_among(texts: &[&str], word: &[u8]) -> bool

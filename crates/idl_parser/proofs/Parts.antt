@@ -1,27 +1,23 @@
 -- How parts that are read one behind another are one part.
-use Rattle.std.proofs.Common.{ℕ, List, ◌++◌, ap, ◌∙◌, arith}
-use Rattle.idl_lexer.specs.declared.token.Token.{Token}
-use Rattle.idl_tree.specs.Pieces.{Piece}
+use Rattle.std.proofs.Common.{List, ◌++◌, Some, ap, ◌∙◌, arith}
+use Rattle.idl_tree.specs.Pieces.{Seen, Piece, past}
 use Rattle.idl_parser.specs.Reading.{Parsed, Continued}
-use Rattle.idl_parser.proofs.Reading.{append_left}
+use Rattle.idl_parser.proofs.Reading.{past_append}
 
-pub part_then : (tokens : List Token) (a b c : ℕ) (x y : List Piece) → Parsed tokens a x b → Parsed tokens b y c → Parsed tokens a (x ++ y) c
-part_then tokens a b c x y p q = record {
-  spells = append_left _ x y ∙ ap (λ l. l ++ y) p.spells ∙ q.spells;
+pub part_then : {a b c : List Seen} {x y : List Piece} → Parsed a x b → Parsed b y c → Parsed a (x ++ y) c
+part_then {a = a} {x = x} {y = y} p q = record {
+  spells = past_append x y (Some a) ∙ ap (past y) p.spells ∙ q.spells;
   on = omega (arith, p.on, q.on);
-  within = q.within;
 }
 
-pub part_then_more : (tokens : List Token) (a b c : ℕ) (x y : List Piece) → Parsed tokens a x b → Continued tokens b y c → Parsed tokens a (x ++ y) c
-part_then_more tokens a b c x y p q = record {
-  spells = append_left _ x y ∙ ap (λ l. l ++ y) p.spells ∙ q.spells;
+pub part_then_more : {a b c : List Seen} {x y : List Piece} → Parsed a x b → Continued b y c → Parsed a (x ++ y) c
+part_then_more {a = a} {x = x} {y = y} p q = record {
+  spells = past_append x y (Some a) ∙ ap (past y) p.spells ∙ q.spells;
   on = omega (arith, p.on, q.on);
-  within = q.within p.within;
 }
 
-pub more_then_part : (tokens : List Token) (a b c : ℕ) (x y : List Piece) → Continued tokens a x b → Parsed tokens b y c → Parsed tokens a (x ++ y) c
-more_then_part tokens a b c x y p q = record {
-  spells = append_left _ x y ∙ ap (λ l. l ++ y) p.spells ∙ q.spells;
+pub more_then_part : {a b c : List Seen} {x y : List Piece} → Continued a x b → Parsed b y c → Parsed a (x ++ y) c
+more_then_part {a = a} {x = x} {y = y} p q = record {
+  spells = past_append x y (Some a) ∙ ap (past y) p.spells ∙ q.spells;
   on = omega (arith, p.on, q.on);
-  within = q.within;
 }

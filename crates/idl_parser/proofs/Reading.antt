@@ -1,60 +1,156 @@
 -- How the pieces of tokens are read one after another.
-use Rattle.std.proofs.Common.{◌≡◌, ℕ, zero, suc, ◌+◌, ◌<◌, ◌≤◌, List, [], ◌∷◌, ◌++◌, length, take, get_or, refl, sym, ap, ◌∙◌, arith, add-one}
-use Rattle.std.proofs.lemmas.List.{append_assoc, append-nil}
+use Rattle.std.proofs.Common.{◌≡◌, ℕ, ◌+◌, ◌-◌, ◌<◌, ◌≤◌, max, Bool, true, false, ◌&&◌, arith, List, [], ◌∷◌, ◌++◌, Option, Some, None, length, take, drop, get_or, refl, sym, ap, subst, ◌∙◌}
+use Rattle.std.specs.Prelude.{nat_eq, is_some, codes}
+use Rattle.idl_tree.specs.Yields.{identifier, optional, root_yield}
 use Rattle.std.proofs.Math.Seq.{take-length}
+use Rattle.std.specs.Str.{bytes_eq}
+use Rattle.std.specs.List.{flat_map}
+use Rattle.std.proofs.lemmas.List.{append_assoc, append-nil}
+use Rattle.std.proofs.lemmas.Slice.Eq.{bytes_eq-Decides}
+use Rattle.std.proofs.lemmas.Bool.Decides.{Decides-eqb}
 use Rattle.idl_lexer.specs.declared.token.Kind.{Kind}
-use Rattle.idl_lexer.specs.declared.token.Kind.TheVariants.{Keyword, Punct}
+use Rattle.idl_lexer.specs.declared.token.Kind.TheVariants.{Punct}
 use Rattle.idl_lexer.specs.declared.token.Token.{Token}
+use Rattle.idl_tree.specs.declared.names.Leaf.{Leaf}
+use Rattle.idl_tree.specs.Levels.{highest}
+use Rattle.idl_tree.specs.Pieces.{Seen, Piece, past, behind, is_piece, kind_code, seen_from, touches_next, piece, kept, touching, mark}
 use Rattle.idl_parser.specs.Reading.{Parsed, Continued}
-use Rattle.idl_tree.specs.Pieces.{Piece, piece, pieces, pieces_from}
 
-pub append_left : {A : Type 0} (a b c : List A) → a ++ (b ++ c) ≡ a ++ b ++ c
-append_left a b c = sym (append_assoc a b c)
+both : {a b : Bool} → a ≡ true → b ≡ true → (a && b) ≡ true
+both {a = true} e f = f
+both {a = false} e f = absurd cc
 
-pub keyword_piece : (n : ℕ) (w : List ℕ) → piece Keyword n w ≡ piece Keyword 0 w
-unfolding piece
-keyword_piece n w = refl
+-- what stands behind pieces that are read one after another
+pub past_append : (xs ys : List Piece) (tokens : Option (List Seen)) → past (xs ++ ys) tokens ≡ past ys (past xs tokens)
+unfolding past
+past_append [] ys tokens = refl
+past_append (x ∷ xs) ys tokens = past_append xs ys (behind x tokens)
 
-pub mark_piece : (n : ℕ) (w : List ℕ) → piece Punct n w ≡ piece Punct 0 w
-unfolding piece
-mark_piece n w = refl
+pub past_none : (tokens : Option (List Seen)) → past [] tokens ≡ tokens
+unfolding past
+past_none tokens = refl
 
--- the piece of the token at a place stands behind those of the tokens before it
-take_one : (tokens : List Token) (n at m : ℕ) (t : Token) → m ≡ n + at → at < length tokens
-    → take (suc at) (pieces_from n tokens)
-    ≡ take at (pieces_from n tokens) ++ piece (get_or tokens at t).kind m (get_or tokens at t).text.now
-unfolding piece
-take_one [] n at m t e lt = absurd (omega arith)
-take_one (x ∷ xs) n zero m t e lt = let same : m ≡ n = omega arith in rw same refl
-take_one (x ∷ xs) n (suc k) m t e lt =
-    ap (λ l. piece x.kind n x.text.now ++ l) (take_one xs (n + 1) k m t (omega arith) (omega arith))
+pub highest_more : {T : Type 0} (levels : T → ℕ) (xs : List T) (x : T) → highest levels (xs ++ x ∷ []) ≡ max (highest levels xs) (levels x)
+highest_more levels [] x = omega arith
+highest_more levels (y ∷ ys) x = omega (arith, highest_more levels ys x)
 
-pub read_one : (tokens : List Token) (at : ℕ) (t : Token) (kind : Kind) (text : List ℕ)
-    → at < length tokens → t ≡ get_or tokens at t → t.kind ≡ kind → t.text.now ≡ text
-    → Parsed tokens at (piece kind at text) (at + 1)
-unfolding pieces
-read_one tokens at t kind text lt is k x = record {
-  spells =
-      let one = take_one tokens 0 at at t (omega arith) lt in
-      let e : piece (get_or tokens at t).kind at (get_or tokens at t).text.now ≡ piece kind at text = ap (λ u. piece u.kind at u.text.now) (sym is) ∙ ap (λ q. piece q at t.text.now) k ∙ ap (λ q. piece kind at q) x in
-      ap (λ l. take at (pieces_from 0 tokens) ++ l) (sym e) ∙ sym one ∙ ap (λ n. take n (pieces_from 0 tokens)) (sym (add-one at));
+-- ---- single tokens
+
+behind_this : (p : Piece) (t : Seen) (ts : List Seen) → is_piece p t ≡ true → behind p (Some (t ∷ ts)) ≡ Some ts
+behind_this p t ts e = ap (λ b. elim b as (λ _. Option (List Seen)) [ true ↦ Some ts | false ↦ None ]) e
+
+abbrev plain_piece : Kind → List ℕ → Bool → Piece
+plain_piece kind text touches = record { kind = kind; text = text; place = None; touches = touches }
+
+abbrev kept_piece : Kind → List ℕ → Leaf → Piece
+kept_piece kind text l =
+    record { kind = kind; text = text; place = Some (l.number, l.token.now.line); touches = false }
+
+abbrev see : ℕ → Token → List Token → Seen
+see n t ts = record { kind = t.kind; text = t.text.now; place = (n, t.line); touches = touches_next t ts }
+
+this_kind : (t : Token) (kind : Kind) → t.kind ≡ kind → nat_eq (kind_code kind) (kind_code t.kind) ≡ true
+this_kind t kind k = (Decides-eqb (kind_code kind) (kind_code t.kind)).1 (ap kind_code (sym k))
+
+this_text : (t : Token) (text : List ℕ) → t.text.now ≡ text → bytes_eq text t.text.now ≡ true
+this_text t text e = (bytes_eq-Decides text t.text.now).1 (sym e)
+
+-- a token that isn't kept
+first_plain : (n : ℕ) (t : Token) (ts : List Token) (kind : Kind) (text : List ℕ) → t.kind ≡ kind → t.text.now ≡ text
+    → Parsed (seen_from n (t ∷ ts)) (piece kind text) (seen_from (n + 1) ts)
+unfolding piece past
+first_plain n t ts kind text k e = record {
+  spells = behind_this (plain_piece kind text false) (see n t ts) (seen_from (n + 1) ts) (both (both (both (this_kind t kind k) (this_text t text e)) refl) refl);
   on = omega arith;
-  within = omega arith;
 }
 
-pub append_none : {A : Type 0} (a : List A) → a ++ [] ≡ a
-append_none a = append-nil a
+-- what a slice from 1 on has
+abbrev cut : List Token → List Token
+cut xs = take (length xs - 1) (drop 1 xs)
 
-length_pieces : (n : ℕ) (tokens : List Token) → length (pieces_from n tokens) ≡ length tokens
-unfolding piece
-length_pieces n [] = refl
-length_pieces n (t ∷ ts) = ap suc (length_pieces (n + 1) ts)
+cut_first : (x : Token) (ys : List Token) → cut (x ∷ ys) ≡ ys
+cut_first x ys =
+    let len : length (x ∷ ys) - 1 ≡ length ys = omega arith in
+    ap (λ n. take n ys) len ∙ take-length ys
 
--- what is read up to the last token is all
-pub all_read : (tokens : List Token) (spelled : List Piece) (next : ℕ)
-    → Continued tokens 0 spelled next → length tokens ≤ next → spelled ≡ pieces tokens
-unfolding pieces
-all_read tokens spelled next read le =
-    let all : next ≡ length (pieces_from 0 tokens) =
-    omega (arith, read.within (omega arith), length_pieces 0 tokens) in
-    read.spells ∙ ap (λ n. take n (pieces_from 0 tokens)) all ∙ take-length (pieces_from 0 tokens)
+pub plain_read : (n : ℕ) (xs : List Token) (t : Token) (kind : Kind) (text : List ℕ)
+    → 0 < length xs → t ≡ get_or xs 0 t → t.kind ≡ kind → t.text.now ≡ text
+    → Parsed (seen_from n xs) (piece kind text) (seen_from (n + 1) (take (length xs - 1) (drop 1 xs)))
+plain_read n [] t kind text lt is k e = absurd (omega arith)
+plain_read n (x ∷ ys) t kind text lt is k e =
+    subst (λ l. Parsed (seen_from n (x ∷ ys)) (piece kind text) (seen_from (n + 1) l)) (sym (cut_first x ys))
+    (first_plain n x ys kind text (sym (ap (λ u. u.kind) is) ∙ k) (sym (ap (λ u. u.text.now) is) ∙ e))
+
+-- a token that is kept
+first_kept : (n : ℕ) (t : Token) (ts : List Token) (kind : Kind) (text : List ℕ) (l : Leaf)
+    → t.kind ≡ kind → t.text.now ≡ text → l.number ≡ n → l.token.now ≡ t
+    → Parsed (seen_from n (t ∷ ts)) (kept kind text l) (seen_from (n + 1) ts)
+unfolding kept past
+first_kept n t ts kind text l k e num tok = record {
+  spells = behind_this (kept_piece kind text l) (see n t ts) (seen_from (n + 1) ts) (both (both (both (this_kind t kind k) (this_text t text e))
+      (both ((Decides-eqb l.number n).1 num) ((Decides-eqb l.token.now.line t.line).1 (ap (λ u. u.line) tok)))) refl);
+  on = omega arith;
+}
+
+pub kept_read : (n : ℕ) (xs : List Token) (kind : Kind) (text : List ℕ) (l : Leaf)
+    → 0 < length xs → l.token.now ≡ get_or xs 0 l.token.now → l.token.now.kind ≡ kind → l.token.now.text.now ≡ text → l.number ≡ n
+    → Parsed (seen_from n xs) (kept kind text l) (seen_from (n + 1) (take (length xs - 1) (drop 1 xs)))
+kept_read n [] kind text l lt is k e num = absurd (omega arith)
+kept_read n (x ∷ ys) kind text l lt is k e num =
+    subst (λ r. Parsed (seen_from n (x ∷ ys)) (kept kind text l) (seen_from (n + 1) r)) (sym (cut_first x ys))
+    (first_kept n x ys kind text l (sym (ap (λ u. u.kind) is) ∙ k) (sym (ap (λ u. u.text.now) is) ∙ e) num is)
+
+-- a mark that the next token touches
+first_touching : (n : ℕ) (t u : Token) (us : List Token) (text : List ℕ) → t.kind ≡ Punct → t.text.now ≡ text → t.«end» ≡ u.start
+    → Parsed (seen_from n (t ∷ u ∷ us)) (touching text) (seen_from (n + 1) (u ∷ us))
+unfolding touching past
+first_touching n t u us text k e touch = record {
+  spells = behind_this (plain_piece Punct text true) (see n t (u ∷ us)) (seen_from (n + 1) (u ∷ us)) (both (both (both (this_kind t Punct k) (this_text t text e)) refl) ((Decides-eqb t.«end» u.start).1 touch));
+  on = omega arith;
+}
+
+pub touching_read : (n : ℕ) (xs : List Token) (t u : Token) (text : List ℕ)
+    → t ≡ get_or xs 0 t → 1 < length xs → u ≡ get_or xs 1 u → t.kind ≡ Punct → t.text.now ≡ text → t.«end» ≡ u.start
+    → Parsed (seen_from n xs) (touching text) (seen_from (n + 1) (take (length xs - 1) (drop 1 xs)))
+touching_read n [] t u text is lt more k e touch = absurd (omega arith)
+touching_read n (x ∷ []) t u text is lt more k e touch = absurd (omega arith)
+touching_read n (x ∷ y ∷ ys) t u text is lt more k e touch =
+    subst (λ r. Parsed (seen_from n (x ∷ y ∷ ys)) (touching text) (seen_from (n + 1) r)) (sym (cut_first x (y ∷ ys)))
+    (first_touching n x y ys text (sym (ap (λ v. v.kind) is) ∙ k) (sym (ap (λ v. v.text.now) is) ∙ e)
+    (sym (ap (λ v. v.«end») is) ∙ touch ∙ ap (λ v. v.start) more))
+
+-- ---- lists
+
+yields_more : {T : Type 0} (yield : T → List Piece) (xs : List T) (x : T) → flat_map yield (xs ++ x ∷ []) ≡ flat_map yield xs ++ yield x
+yields_more yield [] x = append-nil (yield x)
+yields_more yield (y ∷ ys) x = ap (λ l. yield y ++ l) (yields_more yield ys x) ∙ sym (append_assoc (yield y) (flat_map yield ys) (yield x))
+
+pub then_read : (a b c : List Seen) (xs ys : List Piece) → Parsed a xs b → Parsed b ys c → Parsed a (xs ++ ys) c
+then_read a b c xs ys front back = record {
+  spells = past_append xs ys (Some a) ∙ ap (past ys) front.spells ∙ back.spells;
+  on = omega (arith, front.on, back.on);
+}
+
+-- one more part is read behind others
+pub one_more : {T : Type 0} (yield : T → List Piece) (a b c : List Seen) (xs ys : List T) (x : T)
+    → Continued a (flat_map yield xs) b → Parsed b (yield x) c → ys ≡ xs ++ x ∷ [] → Continued a (flat_map yield ys) c
+one_more yield a b c xs ys x front part e = record {
+  spells = ap (λ l. past (flat_map yield l) (Some a)) e ∙ ap (λ l. past l (Some a)) (yields_more yield xs x) ∙ past_append (flat_map yield xs) (yield x) (Some a) ∙ ap (past (yield x)) front.spells ∙ part.spells;
+  on = omega (arith, front.on, part.on);
+}
+
+pub one_more_level : {T : Type 0} (levels : T → ℕ) (room : ℕ) (xs ys : List T) (x : T)
+    → highest levels xs ≤ room → levels x ≤ room → ys ≡ xs ++ x ∷ [] → highest levels ys ≤ room
+one_more_level levels room xs ys x most one e = rw (e, highest_more) (omega (arith, most, one))
+
+-- a name of one identifier
+pub alone_read : (root : Option Leaf) (first : Leaf) (more : List Leaf) (a b c d : List Seen)
+    → is_some root ≡ false → length more ≡ 0
+    → Continued a (optional root_yield root) b → Parsed b (identifier first) c
+    → Continued c (flat_map (λ x. mark (codes "::") ++ identifier x) more) d → Parsed a (identifier first) d
+alone_read (Some r) first more a b c d none empty p q r' = absurd cc
+alone_read None first (x ∷ xs) a b c d none empty p q r = absurd (omega arith)
+alone_read None first [] a b c d none empty p q r = record {
+  spells = ap (past (identifier first)) (sym (past_none (Some a)) ∙ p.spells) ∙ q.spells ∙ sym (past_none (Some c)) ∙ r.spells;
+  on = omega (arith, p.on, q.on, r.on);
+}

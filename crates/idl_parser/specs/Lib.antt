@@ -1,3 +1,2 @@
 -- From where to where a part of a tree is read.
 pub mod Reading
-pub mod Raises

@@ -1,9 +1,12 @@
 //! Reads the tree of an IDL specification from its tokens (ISO/IEC 19500-1, IDL grammar).
 #![tactic(auto)]
 
+mod cursor;
 pub mod fault;
+mod left_out;
 mod parser;
 mod read;
+mod stop;
 
 pub use fault::ParseFault;
 pub use idl_tree as tree;

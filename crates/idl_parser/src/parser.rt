@@ -1,36 +1,56 @@
 //! The tree of a whole specification.
-#![tactic(auto, using(crate::proofs::Reading::append_left, crate::proofs::Reading::all_read, std::proofs::lemmas::List::flat_map_more))]
+#![tactic(auto, using(crate::proofs::Reading::past_append, crate::proofs::Reading::past_none))]
 
-ghost use Rattle.std.specs.Prelude.{◌≡◌, IfOk};
-ghost use Rattle.idl_tree.specs.Pieces.{pieces};
-ghost use Rattle.idl_tree.specs.DefinitionYields.{spec_yield};
+ghost use Rattle.std.specs.Prelude.{◌≡◌, ◌++◌, ◌≤◌, IfOk};
+ghost use Rattle.idl_tree.specs.Pieces.{Spell};
+ghost use Rattle.idl_tree.specs.DefinitionYields.{definitions_spelled};
+ghost use Rattle.idl_tree.specs.DefinitionLevels.{levels_of};
 
+use crate::cursor::Cursor;
 use crate::fault::ParseFault;
 use crate::read::definitions::read_definition;
+use crate::stop::Stop;
 use idl_lexer::Token;
-use idl_tree::definitions::Spec;
+use idl_tree::spec::Spec;
 use std::alloc::Global;
 
 /// How many modules, types and parentheses may stand one inside another.
-const MAX_DEPTH: usize = 64;
+const MAX_LEVELS: usize = 64;
+
+/// What a reader's stop means at the place where it stopped.
+fn told(cursor: &Cursor<'_>, stop: Stop) -> ParseFault {
+    match stop {
+        Stop::Unexpected => cursor.fault(),
+        Stop::TooDeep { line } => ParseFault::TooDeep { line },
+        Stop::NoMemory => ParseFault::NoMemory,
+    }
+}
 
 /// The tree of an IDL specification, given as its tokens (ISO/IEC 19500-1, IDL grammar).
 ///
-/// The tree spells the tokens again, each by its kind and its text; a pragma, an identifier and a
-/// literal by its number too. So the number in a scoped name is the place of its first token.
+/// The tree spells the tokens again, from the first to the last; what it keeps of a token is that token, with its
+/// number and its line. At most 64 levels stand one inside another.
 ///
 /// # Errors
 ///
 /// The first fault in the order of reading, with its line, and `NoMemory` where memory was refused.
-pub fn parse<'a>(alloc: Global, tokens: &[Token<'a>]) -> Result<Spec<'a>, ParseFault>
-    ensures { IfOk result (λ spec. spec_yield spec ≡ pieces tokens.now) }
+pub fn parse<'a>(alloc: Global, tokens: &'a [Token<'a>]) -> Result<Spec<'a>, ParseFault>
+    ensures tokens { IfOk result (λ spec. spec.tokens.now ≡ tokens.now) }
+    ensures spells { IfOk result (λ spec. Spell (definitions_spelled spec.definitions.items) tokens.now) }
+    ensures levels { IfOk result (λ spec. levels_of spec.definitions.items ≤ 64) }
 {
+    let mut cursor = Cursor::new(alloc, tokens);
     let mut definitions = Vec::new(alloc);
-    let mut next = 0;
-    'parts: while next < tokens.len() {
-        let (definition, end) = read_definition(alloc, tokens, next, MAX_DEPTH)?;
+    'parts: while !cursor.is_at_end() {
+        let definition = match read_definition(&mut cursor, MAX_LEVELS) {
+            Ok(definition) => definition,
+            Err(stop) => return Err(told(&cursor, stop)),
+        };
         definitions.push(definition)?;
-        next = end;
     }
-    Ok(Spec { definitions })
+    definitions.shrink_to_fit();
+    Ok(Spec {
+        tokens,
+        definitions,
+    })
 }

@@ -1,3 +1,6 @@
+pub mod Rows
 pub mod Chains
 pub mod Members
 pub mod Modules
+pub mod YieldLengths
+pub mod SpelledForms

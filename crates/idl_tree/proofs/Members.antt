@@ -1,54 +1,61 @@
--- What members and cases spell, by the list of their `Vec`.
-use Rattle.std.proofs.Common.{◌≡◌, ◌++◌, Vec, Global, refl, ap, ◌∙◌}
-use Rattle.std.specs.Prelude.{codes}
+-- What structures and unions spell and their levels, by the lists of their `Vec`s.
+use Rattle.std.proofs.Common.{◌≡◌, ◌++◌, suc, max, List, [], Vec, Global, refl, ap, ◌∙◌}
+use Rattle.std.specs.Prelude.{Box, codes}
 use Rattle.std.specs.List.{flat_map}
-use mathlib.Core.Former.{Count}
 use Rattle.idl_tree.specs.declared.names.Leaf.{Leaf}
 use Rattle.idl_tree.specs.declared.types.SwitchType.{SwitchType}
-use Rattle.idl_tree.specs.declared.types.StructType.{StructType, StructType', Row_of-Member, end_of-Member, more_of-Member, items-the_row-Member, items_hidden-the_row-Member-0}
-use Rattle.idl_tree.specs.declared.types.UnionType.{UnionType, UnionType', Row_of-Case, end_of-Case, more_of-Case, items-the_row-Case, items_hidden-the_row-Case-1}
-use denote.Hole.Carrier.{roll}
-use Rattle.idl_tree.specs.declared.types.TypeSpec.TheBlock.{hidden-the_row-Member-0, hidden-the_row-Case-1}
-use Rattle.idl_tree.specs.declared.types.TypeSpec.TheViews.{roll-StructType, roll-UnionType}
+use Rattle.idl_tree.specs.declared.types.StructType.{StructType, roll-StructType, out-roll-StructType}
+use Rattle.idl_tree.specs.declared.types.UnionType.{UnionType, roll-UnionType, out-roll-UnionType}
 use Rattle.idl_tree.specs.declared.types.Member.{Member}
 use Rattle.idl_tree.specs.declared.types.Case.{Case}
-use Rattle.idl_tree.specs.Pieces.{keyword, mark}
-use Rattle.idl_tree.specs.Yields.{identifier, listed}
-use Rattle.idl_tree.specs.TypeYields.{type_yield, declarator_yield, label_yield, member_yield, members_yield, case_yield, cases_yield, struct_yield, union_yield, switch_yield}
+use Rattle.idl_tree.specs.Pieces.{Piece, keyword, mark}
+use Rattle.idl_tree.specs.Yields.{identifier}
+use Rattle.idl_tree.specs.TypeYields.{member_yield, members_yield, case_yield, cases_yield, struct_yield, union_yield, switch_yield}
+use Rattle.idl_tree.specs.Levels.{highest}
+use Rattle.idl_tree.specs.TypeLevels.{member_levels, members_levels, case_levels, cases_levels, struct_levels, union_levels, switch_levels}
+use Rattle.idl_tree.proofs.Rows.{struct_walk, union_walk}
 
-members_items : (n : _) (row : Row_of-Member n) → members_yield row ≡ flat_map member_yield (items-the_row-Member n row)
-members_items n end_of-Member = refl
-members_items n (more_of-Member t declarators rest) =
-    ap (λ l. type_yield t ++ listed declarator_yield declarators ++ mark (codes ";") ++ l) (members_items _ rest)
+abbrev struct_of : Leaf → Box Member Global → Vec Member Global → StructType
+struct_of name first rest = roll-StructType (record { identifier = name; first = first; rest = rest })
 
-cases_items : (n : _) (row : Row_of-Case n) → cases_yield row ≡ flat_map case_yield (items-the_row-Case n row)
-cases_items n end_of-Case = refl
-cases_items n (more_of-Case labels t declarator rest) =
-    ap (λ l. flat_map label_yield labels.items ++ type_yield t ++ declarator_yield declarator ++ mark (codes ";") ++ l)
-    (cases_items _ rest)
+abbrev union_of : Leaf → SwitchType → Box Case Global → Vec Case Global → UnionType
+union_of name switch first rest =
+    roll-UnionType (record { identifier = name; switch = switch; first = first; rest = rest })
 
-abbrev member_row : StructType → (n : Count) × Row_of-Member n
-member_row (StructType' name shape row) = (_, row)
+abbrev struct_pieces : Leaf → Member → List Piece → List Piece
+struct_pieces name m others =
+    keyword (codes "struct") ++ identifier name ++ mark (codes "{") ++ member_yield m ++ others ++ mark (codes "}")
 
-abbrev case_row : UnionType → (n : Count) × Row_of-Case n
-case_row (UnionType' name switch shape row) = (_, row)
+abbrev union_pieces : Leaf → SwitchType → Case → List Piece → List Piece
+union_pieces name switch c others =
+    keyword (codes "union") ++ identifier name ++ keyword (codes "switch") ++ mark (codes "(") ++ switch_yield switch
+    ++ mark (codes ")") ++ mark (codes "{") ++ case_yield c ++ others ++ mark (codes "}")
 
-pub struct_of_members : (name : Leaf) (members : Vec Member Global)
-    → struct_yield (roll-StructType (record { identifier = name; members = members }))
-    ≡ keyword (codes "struct") ++ identifier name ++ mark (codes "{") ++ flat_map member_yield members.items ++ mark (codes "}")
-unfolding hidden-the_row-Member-0 roll-StructType roll
-struct_of_members name members =
-    let row = member_row (roll-StructType (record { identifier = name; members = members })) in
-    ap (λ l. keyword (codes "struct") ++ identifier name ++ mark (codes "{") ++ l ++ mark (codes "}"))
-    (members_items row.0 row.1 ∙ ap (flat_map member_yield) (items_hidden-the_row-Member-0 members))
+pub struct_yields : (name : Leaf) (first : Box Member Global) (rest : Vec Member Global)
+    → struct_yield (struct_of name first rest) ≡ struct_pieces name first.value (flat_map member_yield rest.items)
+struct_yields name first rest =
+    struct_walk struct_yield (λ n row. members_yield row) struct_pieces [] (λ m others. member_yield m ++ others) (flat_map member_yield)
+    (λ id p m shape row. refl) refl (λ n m row. refl) refl (λ m ms. refl) (struct_of name first rest)
+    ∙ ap (λ s. struct_pieces s.identifier s.first.value (flat_map member_yield s.rest.items)) (out-roll-StructType (record { identifier = name; first = first; rest = rest }))
 
-pub union_of_cases : (name : Leaf) (switch : SwitchType) (cases : Vec Case Global)
-    → union_yield (roll-UnionType (record { identifier = name; switch = switch; cases = cases }))
-    ≡ keyword (codes "union") ++ identifier name ++ keyword (codes "switch") ++ mark (codes "(") ++ switch_yield switch
-    ++ mark (codes ")") ++ mark (codes "{") ++ flat_map case_yield cases.items ++ mark (codes "}")
-unfolding hidden-the_row-Case-1 roll-UnionType roll
-union_of_cases name switch cases =
-    let row = case_row (roll-UnionType (record { identifier = name; switch = switch; cases = cases })) in
-    ap (λ l. keyword (codes "union") ++ identifier name ++ keyword (codes "switch") ++ mark (codes "(")
-    ++ switch_yield switch ++ mark (codes ")") ++ mark (codes "{") ++ l ++ mark (codes "}"))
-    (cases_items row.0 row.1 ∙ ap (flat_map case_yield) (items_hidden-the_row-Case-1 cases))
+pub struct_nests : (name : Leaf) (first : Box Member Global) (rest : Vec Member Global)
+    → struct_levels (struct_of name first rest) ≡ suc (max (member_levels first.value) (highest member_levels rest.items))
+struct_nests name first rest =
+    struct_walk struct_levels (λ n row. members_levels row) (λ id m most. suc (max (member_levels m) most)) 0 (λ m most. max (member_levels m) most) (highest member_levels)
+    (λ id p m shape row. refl) refl (λ n m row. refl) refl (λ m ms. refl) (struct_of name first rest)
+    ∙ ap (λ s. suc (max (member_levels s.first.value) (highest member_levels s.rest.items))) (out-roll-StructType (record { identifier = name; first = first; rest = rest }))
+
+pub union_yields : (name : Leaf) (switch : SwitchType) (first : Box Case Global) (rest : Vec Case Global)
+    → union_yield (union_of name switch first rest) ≡ union_pieces name switch first.value (flat_map case_yield rest.items)
+union_yields name switch first rest =
+    union_walk union_yield (λ n row. cases_yield row) union_pieces [] (λ c others. case_yield c ++ others) (flat_map case_yield)
+    (λ id s p c shape row. refl) refl (λ n c row. refl) refl (λ c cs. refl) (union_of name switch first rest)
+    ∙ ap (λ u. union_pieces u.identifier u.switch u.first.value (flat_map case_yield u.rest.items)) (out-roll-UnionType (record { identifier = name; switch = switch; first = first; rest = rest }))
+
+pub union_nests : (name : Leaf) (switch : SwitchType) (first : Box Case Global) (rest : Vec Case Global)
+    → union_levels (union_of name switch first rest)
+    ≡ suc (max (switch_levels switch) (max (case_levels first.value) (highest case_levels rest.items)))
+union_nests name switch first rest =
+    union_walk union_levels (λ n row. cases_levels row) (λ id s c most. suc (max (switch_levels s) (max (case_levels c) most))) 0 (λ c most. max (case_levels c) most) (highest case_levels)
+    (λ id s p c shape row. refl) refl (λ n c row. refl) refl (λ c cs. refl) (union_of name switch first rest)
+    ∙ ap (λ u. suc (max (switch_levels u.switch) (max (case_levels u.first.value) (highest case_levels u.rest.items)))) (out-roll-UnionType (record { identifier = name; switch = switch; first = first; rest = rest }))

@@ -1,4 +1,4 @@
--- The pieces that a tree spells, from left to right: of definitions, and of a whole specification.
+-- The pieces that a tree spells, from left to right: of definitions.
 use Rattle.std.specs.Prelude.{ℕ, Bool, true, false, List, [], ◌++◌, Option, Some, None, codes}
 use Rattle.std.specs.List.{flat_map}
 use Rattle.idl_lexer.specs.declared.token.Kind.TheVariants.{Pragma as PragmaToken}
@@ -11,8 +11,8 @@ use Rattle.idl_tree.specs.declared.definitions.Const.{Const}
 use Rattle.idl_tree.specs.declared.definitions.Except.{Except}
 use Rattle.idl_tree.specs.declared.definitions.Declaration.{Declaration}
 use Rattle.idl_tree.specs.declared.definitions.Declaration.TheVariants as Declarations
-use Rattle.idl_tree.specs.declared.definitions.Raised.{Raised}
-use Rattle.idl_tree.specs.declared.definitions.Raised.TheVariants.{Nothing, Read, Both}
+use Rattle.idl_tree.specs.declared.definitions.Attributes.{Attributes}
+use Rattle.idl_tree.specs.declared.definitions.Attributes.TheVariants.{Silent, Readonly, Get, Set}
 use Rattle.idl_tree.specs.declared.definitions.Attribute.{Attribute}
 use Rattle.idl_tree.specs.declared.definitions.Direction.{Direction}
 use Rattle.idl_tree.specs.declared.definitions.Direction.TheVariants.{In, Out, InOut}
@@ -23,7 +23,6 @@ use Rattle.idl_tree.specs.declared.definitions.Export.TheVariants as Exports
 use Rattle.idl_tree.specs.declared.definitions.Interface.{Interface}
 use Rattle.idl_tree.specs.declared.definitions.Interface.TheVariants.{Ahead, Defined}
 use Rattle.idl_tree.specs.declared.definitions.Definition.{Definition, Pragma, Declaration as Declared, Interface as InterfaceDcl, Module', Row_of-Definition, end_of-Definition, more_of-Definition}
-use Rattle.idl_tree.specs.declared.definitions.Spec.{Spec}
 use Rattle.idl_tree.specs.Pieces.{Piece, keyword, mark, leaf}
 use Rattle.idl_tree.specs.Yields.{identifier, listed, optional, names_yield, const_expr_yield}
 use Rattle.idl_tree.specs.TypeYields.{const_type_yield, param_type_yield, type_yield, struct_yield, union_yield, enum_yield, declarator_yield, member_yield}
@@ -60,16 +59,24 @@ abbrev pub readonly_yield : Bool → List Piece
 readonly_yield true = keyword (codes "readonly")
 readonly_yield false = []
 
-abbrev pub raised_yield : Raised → List Piece
-raised_yield Nothing = []
-raised_yield (Read names) = raises_yield (codes "raises") names
-raised_yield (Both get set) =
-    optional (raises_yield (codes "getraises")) get ++ optional (raises_yield (codes "setraises")) set
+-- whether attributes are readonly
+abbrev pub is_readonly : Attributes → Bool
+is_readonly (Silent only identifiers) = only
+is_readonly (Readonly identifier names) = true
+is_readonly (Get identifier get set) = false
+is_readonly (Set identifier set) = false
+
+abbrev pub attributes_yield : Attributes → List Piece
+attributes_yield (Silent only identifiers) = listed identifier identifiers
+attributes_yield (Readonly id names) = identifier id ++ raises_yield (codes "raises") names
+attributes_yield (Get id get set) =
+    identifier id ++ raises_yield (codes "getraises") get ++ optional (raises_yield (codes "setraises")) set
+attributes_yield (Set id set) = identifier id ++ raises_yield (codes "setraises") set
 
 abbrev pub attribute_yield : Attribute → List Piece
 attribute_yield a =
-    readonly_yield a.is_readonly ++ keyword (codes "attribute") ++ param_type_yield a.attribute_type
-    ++ listed identifier a.identifiers ++ raised_yield a.raised
+    readonly_yield (is_readonly a.declared) ++ keyword (codes "attribute") ++ param_type_yield a.attribute_type
+    ++ attributes_yield a.declared
 
 abbrev pub direction_yield : Direction → List Piece
 direction_yield In = keyword (codes "in")
@@ -121,5 +128,6 @@ abbrev mutual
   definitions_yield end_of-Definition = []
   definitions_yield (more_of-Definition d rest) = definition_yield d ++ definitions_yield rest
 
-abbrev pub spec_yield : Spec → List Piece
-spec_yield s = flat_map definition_yield s.definitions.items
+-- what a whole specification spells
+abbrev pub definitions_spelled : List Definition → List Piece
+definitions_spelled definitions = flat_map definition_yield definitions

@@ -1,39 +1,103 @@
--- What a tree keeps of tokens.
-use Rattle.std.specs.Prelude.{ℕ, ◌+◌, List, [], ◌∷◌, ◌++◌, Option, Some, None}
+-- What a tree says of tokens, and when tokens are what a tree says.
+use Rattle.std.specs.Prelude.{◌≡◌, ℕ, ◌+◌, Bool, true, false, not, ◌||◌, ◌&&◌, nat_eq, List, [], ◌∷◌, Option, Some, None}
+use Rattle.std.specs.Str.{bytes_eq}
 use Rattle.idl_lexer.specs.declared.token.Kind.{Kind}
-use Rattle.idl_lexer.specs.declared.token.Kind.TheVariants.{Keyword, Punct}
+use Rattle.idl_lexer.specs.declared.token.Kind.TheVariants.{Ident, Keyword, Punct, Number, CharLit, TextLit, Pragma}
 use Rattle.idl_lexer.specs.declared.token.Token.{Token}
 use Rattle.idl_tree.specs.declared.names.Leaf.{Leaf}
 
--- a token's kind, its number, and its text; keywords and marks are told by their text alone
+-- what a tree says of a token: its kind and its text; its number and line, where the tree keeps the token; and
+-- that the next token has to touch it
 pub record Piece : Type 0 where
   pub kind : Kind
-  pub number : Option ℕ
   pub text : List ℕ
+  pub place : Option (ℕ × ℕ)
+  pub touches : Bool
 
-abbrev pub kept_number : Kind → ℕ → Option ℕ
-kept_number Keyword n = None
-kept_number Punct n = None
-kept_number _ n = Some n
+-- a token among others: its number and its line, and whether the next token touches it
+pub record Seen : Type 0 where
+  pub kind : Kind
+  pub text : List ℕ
+  pub place : ℕ × ℕ
+  pub touches : Bool
 
--- the piece of a token, as a list
-unfoldable pub piece : Kind → ℕ → List ℕ → List Piece
-piece kind n text = record { kind = kind; number = kept_number kind n; text = text } ∷ []
+-- the next token begins where this one ends
+abbrev pub touches_next : Token → List Token → Bool
+touches_next t [] = false
+touches_next t (u ∷ us) = nat_eq t.«end» u.start
 
--- the pieces of tokens, of which the first has the number n
-abbrev pub pieces_from : ℕ → List Token → List Piece
-pieces_from n [] = []
-pieces_from n (t ∷ ts) = piece t.kind n t.text.now ++ pieces_from (n + 1) ts
+-- tokens, of which the first has the number n
+abbrev pub seen_from : ℕ → List Token → List Seen
+seen_from n [] = []
+seen_from n (t ∷ ts) =
+    record { kind = t.kind; text = t.text.now; place = (n, t.line); touches = touches_next t ts }
+    ∷ seen_from (n + 1) ts
 
--- the pieces of all tokens, which are numbered from 0
-unfoldable pub pieces : List Token → List Piece
-pieces tokens = pieces_from 0 tokens
+abbrev pub kind_code : Kind → ℕ
+kind_code Ident = 0
+kind_code Keyword = 1
+kind_code Punct = 2
+kind_code Number = 3
+kind_code CharLit = 4
+kind_code TextLit = 5
+kind_code Pragma = 6
+
+-- the place is the one that is kept, if one is
+abbrev pub is_place : Option (ℕ × ℕ) → ℕ × ℕ → Bool
+is_place None p = true
+is_place (Some k) p = nat_eq k.0 p.0 && nat_eq k.1 p.1
+
+-- the token is what the piece says
+abbrev pub is_piece : Piece → Seen → Bool
+is_piece p t =
+    nat_eq (kind_code p.kind) (kind_code t.kind) && bytes_eq p.text t.text && is_place p.place t.place
+    && (not p.touches || t.touches)
+
+-- the tokens behind the first, which has to be what the piece says
+abbrev pub behind : Piece → Option (List Seen) → Option (List Seen)
+behind p None = None
+behind p (Some []) = None
+behind p (Some (t ∷ ts)) = elim (is_piece p t) [ true ↦ Some ts | false ↦ None ]
+
+-- the tokens behind those that are these pieces, one after another
+unfoldable pub past : List Piece → Option (List Seen) → Option (List Seen)
+past [] tokens = tokens
+past (p ∷ ps) tokens = past ps (behind p tokens)
+
+abbrev pub is_end : Option (List Seen) → Bool
+is_end (Some []) = true
+is_end (Some (t ∷ ts)) = false
+is_end None = false
+
+-- the pieces are these tokens, numbered from 0, from the first to the last
+abbrev pub Spell : List Piece → List Token → Type 0
+Spell spelled tokens = is_end (past spelled (Some (seen_from 0 tokens))) ≡ true
+
+-- the piece of a token that isn't kept, as a list
+unfoldable pub piece : Kind → List ℕ → List Piece
+piece kind text = record { kind = kind; text = text; place = None; touches = false } ∷ []
+
+-- the piece of a token that the tree keeps
+unfoldable pub kept : Kind → List ℕ → Leaf → List Piece
+kept kind text l =
+    record { kind = kind; text = text; place = Some (l.number, l.token.now.line); touches = false } ∷ []
 
 abbrev pub keyword : List ℕ → List Piece
-keyword word = piece Keyword 0 word
+keyword word = piece Keyword word
 
 abbrev pub mark : List ℕ → List Piece
-mark text = piece Punct 0 text
+mark text = piece Punct text
 
+-- a mark that the next token touches
+unfoldable pub touching : List ℕ → List Piece
+touching text = record { kind = Punct; text = text; place = None; touches = true } ∷ []
+
+abbrev pub kept_keyword : List ℕ → Leaf → List Piece
+kept_keyword word l = kept Keyword word l
+
+abbrev pub kept_mark : List ℕ → Leaf → List Piece
+kept_mark text l = kept Punct text l
+
+-- a token whose text the tree keeps too
 abbrev pub leaf : Kind → Leaf → List Piece
-leaf kind l = piece kind l.number l.text.now
+leaf kind l = kept kind l.token.now.text.now l

@@ -2,6 +2,7 @@
 use Rattle.std.specs.Prelude.{List, [], ◌++◌, codes}
 use Rattle.std.specs.List.{flat_map}
 use Rattle.idl_tree.specs.declared.const_expr.ConstExpr.{ConstExpr}
+use Rattle.idl_tree.specs.declared.const_expr.Bound.{Bound}
 use Rattle.idl_tree.specs.declared.types.Integer.{Integer}
 use Rattle.idl_tree.specs.declared.types.Integer.TheVariants.{Signed, Unsigned}
 use Rattle.idl_tree.specs.declared.types.IntegerSize.{IntegerSize}
@@ -22,8 +23,8 @@ use Rattle.idl_tree.specs.declared.types.StructType.{StructType, StructType', Ro
 use Rattle.idl_tree.specs.declared.types.UnionType.{UnionType, UnionType', Row_of-Case, end_of-Case, more_of-Case}
 use Rattle.idl_tree.specs.declared.types.Member.{Member}
 use Rattle.idl_tree.specs.declared.types.Case.{Case}
-use Rattle.idl_tree.specs.Pieces.{Piece, keyword, mark}
-use Rattle.idl_tree.specs.Yields.{identifier, listed, optional, name_yield, const_expr_yield}
+use Rattle.idl_tree.specs.Pieces.{Piece, keyword, mark, kept_keyword}
+use Rattle.idl_tree.specs.Yields.{identifier, listed, in_order, optional, name_yield, const_expr_yield, bound_yield}
 
 abbrev pub integer_size_yield : IntegerSize → List Piece
 integer_size_yield Short = keyword (codes "short")
@@ -34,8 +35,8 @@ abbrev pub integer_yield : Integer → List Piece
 integer_yield (Signed size) = integer_size_yield size
 integer_yield (Unsigned size) = keyword (codes "unsigned") ++ integer_size_yield size
 
-abbrev pub string_bound_yield : ConstExpr → List Piece
-string_bound_yield bound = mark (codes "<") ++ const_expr_yield bound ++ mark (codes ">")
+abbrev pub string_bound_yield : Bound → List Piece
+string_bound_yield bound = mark (codes "<") ++ bound_yield bound ++ mark (codes ">")
 
 abbrev pub const_type_yield : ConstType → List Piece
 const_type_yield (ConstTypes.Integer i) = integer_yield i
@@ -49,8 +50,8 @@ abbrev pub param_type_yield : ParamType → List Piece
 param_type_yield (ParamTypes.Plain t) = const_type_yield t
 param_type_yield ParamTypes.Object = keyword (codes "Object")
 
-abbrev pub sequence_bound_yield : ConstExpr → List Piece
-sequence_bound_yield bound = mark (codes ",") ++ const_expr_yield bound
+abbrev pub sequence_bound_yield : Bound → List Piece
+sequence_bound_yield bound = mark (codes ",") ++ bound_yield bound
 
 abbrev pub simple_type_yield : SimpleType → List Piece
 simple_type_yield (Plain t) = param_type_yield t
@@ -78,7 +79,7 @@ switch_yield (SwitchTypes.Name n) = name_yield n
 
 abbrev pub label_yield : Label → List Piece
 label_yield (Labels.Case e) = keyword (codes "case") ++ const_expr_yield e ++ mark (codes ":")
-label_yield (Labels.Default line) = keyword (codes "default") ++ mark (codes ":")
+label_yield (Labels.Default word) = kept_keyword (codes "default") word ++ mark (codes ":")
 
 abbrev mutual
   pub type_yield : TypeSpec → List Piece
@@ -88,23 +89,27 @@ abbrev mutual
   type_yield (Enum e) = enum_yield e
 
   pub struct_yield : StructType → List Piece
-  struct_yield (StructType' id shape members) =
-      keyword (codes "struct") ++ identifier id ++ mark (codes "{") ++ members_yield members ++ mark (codes "}")
+  struct_yield (StructType' id p t declarators shape rest) =
+      keyword (codes "struct") ++ identifier id ++ mark (codes "{")
+      ++ (type_yield t ++ listed declarator_yield declarators ++ mark (codes ";"))
+      ++ members_yield rest ++ mark (codes "}")
 
   pub union_yield : UnionType → List Piece
-  union_yield (UnionType' id switch shape cases) =
+  union_yield (UnionType' id switch p labels t declarator shape rest) =
       keyword (codes "union") ++ identifier id ++ keyword (codes "switch") ++ mark (codes "(")
-      ++ switch_yield switch ++ mark (codes ")") ++ mark (codes "{") ++ cases_yield cases ++ mark (codes "}")
+      ++ switch_yield switch ++ mark (codes ")") ++ mark (codes "{")
+      ++ (in_order label_yield labels ++ type_yield t ++ declarator_yield declarator ++ mark (codes ";"))
+      ++ cases_yield rest ++ mark (codes "}")
 
   pub members_yield : {n : _} → Row_of-Member n → List Piece
   members_yield end_of-Member = []
   members_yield (more_of-Member t declarators rest) =
-      type_yield t ++ listed declarator_yield declarators ++ mark (codes ";") ++ members_yield rest
+      (type_yield t ++ listed declarator_yield declarators ++ mark (codes ";")) ++ members_yield rest
 
   pub cases_yield : {n : _} → Row_of-Case n → List Piece
   cases_yield end_of-Case = []
   cases_yield (more_of-Case labels t declarator rest) =
-      flat_map label_yield labels.items ++ type_yield t ++ declarator_yield declarator ++ mark (codes ";")
+      (in_order label_yield labels ++ type_yield t ++ declarator_yield declarator ++ mark (codes ";"))
       ++ cases_yield rest
 
 abbrev pub member_yield : Member → List Piece
@@ -112,5 +117,4 @@ member_yield m = type_yield m.member_type ++ listed declarator_yield m.declarato
 
 abbrev pub case_yield : Case → List Piece
 case_yield c =
-    flat_map label_yield c.labels.items ++ type_yield c.member_type ++ declarator_yield c.declarator
-    ++ mark (codes ";")
+    in_order label_yield c.labels ++ type_yield c.member_type ++ declarator_yield c.declarator ++ mark (codes ";")

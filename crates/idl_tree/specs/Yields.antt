@@ -1,9 +1,11 @@
 -- The pieces that a tree spells, from left to right: of names and expressions.
-use Rattle.std.specs.Prelude.{ℕ, ◌+◌, Bool, true, false, List, [], ◌++◌, Option, Some, None, codes}
+use Rattle.std.specs.Prelude.{ℕ, Bool, true, false, List, [], ◌++◌, Option, Some, None, codes}
 use Rattle.std.specs.List.{flat_map}
 use Rattle.idl_lexer.specs.declared.token.Kind.TheVariants.{Ident, CharLit, TextLit, Number as Integer}
 use Rattle.idl_tree.specs.declared.names.Leaf.{Leaf}
+use Rattle.idl_tree.specs.declared.names.Path.{Path}
 use Rattle.idl_tree.specs.declared.names.ScopedName.{ScopedName}
+use Rattle.idl_tree.specs.declared.names.ScopedName.TheVariants.{Plain, Scoped}
 use Rattle.idl_tree.specs.declared.names.Listed.{Listed}
 use Rattle.idl_tree.specs.declared.expression.Operator.{Operator}
 use Rattle.idl_tree.specs.declared.expression.Operator.TheVariants.{Or, Xor, And, ShiftLeft, ShiftRight, Add, Subtract, Multiply, Divide, Remainder}
@@ -12,7 +14,8 @@ use Rattle.idl_tree.specs.declared.expression.Sign.TheVariants.{Plus, Minus}
 use Rattle.idl_tree.specs.declared.expression.Expr.{Expr, Name, Number, Character, Text, Boolean, Parenthesized', Signed', Chain', Row_of-Operand, end_of-Operand, more_of-Operand}
 use Rattle.idl_tree.specs.declared.expression.Operand.{Operand}
 use Rattle.idl_tree.specs.declared.const_expr.ConstExpr.{ConstExpr}
-use Rattle.idl_tree.specs.Pieces.{Piece, piece, keyword, mark, leaf}
+use Rattle.idl_tree.specs.declared.const_expr.Bound.{Bound}
+use Rattle.idl_tree.specs.Pieces.{Piece, mark, touching, leaf, kept_keyword, kept_mark}
 
 abbrev pub identifier : Leaf → List Piece
 identifier l = leaf Ident l
@@ -26,20 +29,18 @@ abbrev pub optional : {T : Type 0} → (T → List Piece) → Option T → List 
 optional part None = []
 optional part (Some x) = part x
 
--- :: before the first identifier, and how many tokens it is
-abbrev pub root : Bool → List Piece
-root true = mark (codes "::")
-root false = []
+-- :: before the first identifier
+abbrev pub root_yield : Leaf → List Piece
+root_yield l = kept_mark (codes "::") l
 
-abbrev pub root_len : Bool → ℕ
-root_len true = 1
-root_len false = 0
+abbrev pub path_yield : Path → List Piece
+path_yield p =
+    optional root_yield p.root ++ identifier p.first
+    ++ flat_map (λ l. mark (codes "::") ++ identifier l) p.rest.items
 
--- a name's number is that of its first token: the identifier stands there, or behind the ::
 abbrev pub name_yield : ScopedName → List Piece
-name_yield s =
-    root s.is_rooted ++ piece Ident (s.number + root_len s.is_rooted) s.first.now
-    ++ flat_map (λ l. mark (codes "::") ++ identifier l) s.rest.items
+name_yield (Plain l) = identifier l
+name_yield (Scoped p) = path_yield p.value
 
 abbrev pub names_yield : Listed ScopedName → List Piece
 names_yield names = listed name_yield names
@@ -56,31 +57,36 @@ operator_text Multiply = codes "*"
 operator_text Divide = codes "/"
 operator_text Remainder = codes "%"
 
--- the right shift is two marks
+-- the right shift is two marks that touch
 abbrev pub operator_yield : Operator → List Piece
-operator_yield ShiftRight = mark (codes ">") ++ mark (codes ">")
+operator_yield ShiftRight = touching (codes ">") ++ mark (codes ">")
 operator_yield o = mark (operator_text o)
 
-abbrev pub sign_yield : Sign → List Piece
-sign_yield Plus = mark (codes "+")
-sign_yield Minus = mark (codes "-")
+abbrev pub sign_text : Sign → List ℕ
+sign_text Plus = codes "+"
+sign_text Minus = codes "-"
 
-abbrev pub boolean_yield : Bool → List Piece
-boolean_yield true = keyword (codes "TRUE")
-boolean_yield false = keyword (codes "FALSE")
+abbrev pub boolean_text : Bool → List ℕ
+boolean_text true = codes "TRUE"
+boolean_text false = codes "FALSE"
 
-abbrev pub texts_yield : List Leaf → List Piece
-texts_yield texts = flat_map (λ l. leaf TextLit l) texts
+abbrev pub text_yield : Leaf → List Piece
+text_yield l = leaf TextLit l
+
+-- one part or more, one behind another
+abbrev pub in_order : {T : Type 0} → (T → List Piece) → Listed T → List Piece
+in_order part l = part l.first ++ flat_map part l.rest.items
 
 abbrev mutual
   pub expr_yield : Expr → List Piece
   expr_yield (Name n) = name_yield n
   expr_yield (Number l) = leaf Integer l
   expr_yield (Character l) = leaf CharLit l
-  expr_yield (Text ls) = texts_yield ls.items
-  expr_yield (Boolean b line) = boolean_yield b
-  expr_yield (Parenthesized' line p inner) = mark (codes "(") ++ expr_yield inner ++ mark (codes ")")
-  expr_yield (Signed' line s p inner) = sign_yield s ++ expr_yield inner
+  expr_yield (Text ls) = in_order text_yield ls.value
+  expr_yield (Boolean b word) = kept_keyword (boolean_text b) word
+  expr_yield (Parenthesized' l p inner) =
+      kept_mark (codes "(") l ++ expr_yield inner ++ mark (codes ")")
+  expr_yield (Signed' m s p inner) = kept_mark (sign_text s) m ++ expr_yield inner
   expr_yield (Chain' p first shape rest) = expr_yield first ++ operands_yield rest
 
   pub operands_yield : {n : _} → Row_of-Operand n → List Piece
@@ -92,3 +98,6 @@ operand_yield x = operator_yield x.operator ++ expr_yield x.operand
 
 abbrev pub const_expr_yield : ConstExpr → List Piece
 const_expr_yield c = expr_yield c.expr
+
+abbrev pub bound_yield : Bound → List Piece
+bound_yield b = expr_yield b.expr

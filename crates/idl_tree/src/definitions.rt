@@ -1,10 +1,12 @@
-//! What a specification, a module and an interface define.
+//! What modules and interfaces define.
 
-ghost use Rattle.std.specs.Prelude.{◌≡◌, ◌++◌, codes};
+ghost use Rattle.std.specs.Prelude.{◌≡◌, ◌++◌, suc, codes};
 ghost use Rattle.std.specs.List.{flat_map};
 ghost use Rattle.idl_tree.specs.Pieces.{keyword, mark};
 ghost use Rattle.idl_tree.specs.Yields.{identifier as identifier_yield};
 ghost use Rattle.idl_tree.specs.DefinitionYields.{definition_yield};
+ghost use Rattle.idl_tree.specs.Levels.{highest};
+ghost use Rattle.idl_tree.specs.DefinitionLevels.{definition_levels};
 
 use crate::const_expr::ConstExpr;
 use crate::names::{Leaf, Listed, ScopedName};
@@ -13,7 +15,7 @@ use crate::types::{
 };
 
 /// A type that is declared.
-#[derive(Drop)]
+#[derive(Debug, Drop)]
 pub enum TypeDcl<'a> {
     Typedef {
         original: TypeSpec<'a>,
@@ -28,46 +30,58 @@ pub enum TypeDcl<'a> {
     UnionAhead(Leaf<'a>),
 }
 
-#[derive(Drop)]
+#[derive(Debug, Drop)]
 pub struct Const<'a> {
     pub const_type: ConstType<'a>,
     pub identifier: Leaf<'a>,
     pub value: ConstExpr<'a>,
 }
 
-#[derive(Drop)]
+#[derive(Debug, Drop)]
 pub struct Except<'a> {
     pub identifier: Leaf<'a>,
     pub members: Vec<Member<'a>>,
 }
 
 /// What modules and interfaces both declare.
-#[derive(Drop)]
+#[derive(Debug, Drop)]
 pub enum Declaration<'a> {
     TypeDcl(TypeDcl<'a>),
     Const(Const<'a>),
     Except(Except<'a>),
 }
 
-/// What an attribute raises, where it is declared alone.
-#[derive(Drop)]
-pub enum Raised<'a> {
-    Nothing,
-    /// What a readonly attribute raises.
-    Read(Listed<ScopedName<'a>>),
-    Both {
-        get: Option<Listed<ScopedName<'a>>>,
+/// Attributes, and what they raise: only one that is declared alone raises something.
+#[derive(Debug, Drop)]
+pub enum Attributes<'a> {
+    /// One or more that raise nothing.
+    Silent {
+        is_readonly: bool,
+        identifiers: Listed<Leaf<'a>>,
+    },
+    /// A readonly one and what it raises.
+    Readonly {
+        identifier: Leaf<'a>,
+        raises: Listed<ScopedName<'a>>,
+    },
+    /// One and what it raises where it is got, and where it is set if that raises something.
+    Get {
+        identifier: Leaf<'a>,
+        get: Listed<ScopedName<'a>>,
         set: Option<Listed<ScopedName<'a>>>,
+    },
+    /// One and what it raises where it is set, and only there.
+    Set {
+        identifier: Leaf<'a>,
+        set: Listed<ScopedName<'a>>,
     },
 }
 
 /// Attributes of one type.
-#[derive(Drop)]
+#[derive(Debug, Drop)]
 pub struct Attribute<'a> {
-    pub is_readonly: bool,
     pub attribute_type: ParamType<'a>,
-    pub identifiers: Listed<Leaf<'a>>,
-    pub raised: Raised<'a>,
+    pub declared: Attributes<'a>,
 }
 
 #[derive(Clone, Copy, Debug, PartialEq, Eq)]
@@ -77,14 +91,14 @@ pub enum Direction {
     InOut,
 }
 
-#[derive(Drop)]
+#[derive(Debug, Drop)]
 pub struct Param<'a> {
     pub direction: Direction,
     pub param_type: ParamType<'a>,
     pub identifier: Leaf<'a>,
 }
 
-#[derive(Drop)]
+#[derive(Debug, Drop)]
 pub struct Operation<'a> {
     pub is_oneway: bool,
     /// None is `void`.
@@ -95,7 +109,7 @@ pub struct Operation<'a> {
 }
 
 /// What stands in an interface.
-#[derive(Drop)]
+#[derive(Debug, Drop)]
 pub enum Export<'a> {
     Pragma(Leaf<'a>),
     Declaration(Declaration<'a>),
@@ -103,7 +117,7 @@ pub enum Export<'a> {
     Operation(Operation<'a>),
 }
 
-#[derive(Drop)]
+#[derive(Debug, Drop)]
 pub enum Interface<'a> {
     /// An interface that is declared ahead.
     Ahead(Leaf<'a>),
@@ -131,18 +145,14 @@ pub struct Module<'a> {
     pub definitions: Vec<Definition<'a>>,
 }
 
-/// A whole specification.
-#[derive(Drop)]
-pub struct Spec<'a> {
-    pub definitions: Vec<Definition<'a>>,
-}
-
 impl<'a> Definition<'a> {
     /// A module of these definitions.
     pub fn new_module(identifier: Leaf<'a>, definitions: Vec<Definition<'a>>) -> Definition<'a>
-        ensures { definition_yield result ≡
+        ensures spells { definition_yield result ≡
             keyword (codes "module") ++ identifier_yield identifier.entry ++ mark (codes "{")
             ++ flat_map definition_yield definitions.entry.items ++ mark (codes "}") ++ mark (codes ";") }
+        ensures levels { definition_levels result ≡
+            suc (highest definition_levels definitions.entry.items) }
     {
         Definition::Module(Module {
             identifier,

@@ -1,13 +1,13 @@
 //! Constant expressions.
 
-ghost use Rattle.std.specs.Prelude.{◌≡◌, ◌++◌, ◌≤◌, ℕ, suc, Some, IfOk, codes};
+ghost use Rattle.std.specs.Prelude.{◌≡◌, ◌++◌, ◌≤◌, ℕ, suc, Bool, true, max, IfOk, codes};
 ghost use Rattle.std.specs.List.{AllByRecursion, flat_map};
 ghost use Rattle.idl_tree.specs.Grouping.{IsOfLevel, IsOperandOf};
-ghost use Rattle.idl_tree.specs.Pieces.{mark};
-ghost use Rattle.idl_tree.specs.Yields.{operator_text, sign_yield, expr_yield, operand_yield};
-ghost use Rattle.idl_tree.specs.Lines.{mark_line};
+ghost use Rattle.idl_tree.specs.Pieces.{mark, kept_mark};
+ghost use Rattle.idl_tree.specs.Yields.{operator_text, sign_text, expr_yield, operand_yield};
+ghost use Rattle.idl_tree.specs.Levels.{highest, expr_levels, operand_levels};
 
-use crate::names::{Leaf, ScopedName};
+use crate::names::{Leaf, Listed, ScopedName};
 use std::alloc::{AllocError, Global};
 
 /// The operators between two operands.
@@ -35,23 +35,25 @@ pub enum Sign {
 
 /// A constant expression.
 #[cycle(expression)]
-#[derive(Drop)]
+#[derive(Debug, Drop)]
 pub enum Expr<'a> {
     Name(ScopedName<'a>),
     Number(Leaf<'a>),
     Character(Leaf<'a>),
     /// Text literals, one or more, which are one text together.
-    Text(Vec<Leaf<'a>>),
+    Text(Box<Listed<Leaf<'a>>>),
     Boolean {
         value: bool,
-        line: usize,
+        /// The keyword.
+        word: Leaf<'a>,
     },
     Parenthesized {
-        line: usize,
+        /// The opening parenthesis.
+        paren: Leaf<'a>,
         inner: Box<Expr<'a>>,
     },
     Signed {
-        line: usize,
+        mark: Leaf<'a>,
         sign: Sign,
         operand: Box<Expr<'a>>,
     },
@@ -64,7 +66,7 @@ pub enum Expr<'a> {
 
 /// An operator and the operand behind it.
 #[cycle(expression)]
-#[derive(Drop)]
+#[derive(Debug, Drop)]
 pub struct Operand<'a> {
     pub operator: Operator,
     pub operand: Expr<'a>,
@@ -99,7 +101,11 @@ impl<'a> Expr<'a> {
     ) -> Result<Expr<'a>, AllocError>
         ensures spells { IfOk result (λ e. expr_yield e ≡
             expr_yield first.entry ++ flat_map operand_yield rest.entry.items) }
-        ensures groups { IfOk result (λ e. (level : ℕ) → level ≤ 5 → IsOfLevel (suc level) first.entry → AllByRecursion (IsOperandOf level) rest.entry.items → IsOfLevel level e) }
+        ensures groups { IfOk result (λ e. (shifts : Bool) (level : ℕ) → level ≤ 5 →
+            IsOfLevel shifts (suc level) first.entry →
+            AllByRecursion (IsOperandOf shifts level) rest.entry.items → IsOfLevel shifts level e) }
+        ensures levels { IfOk result (λ e. expr_levels e ≡
+            max (expr_levels first.entry) (highest operand_levels rest.entry.items)) }
     {
         if rest.is_empty() {
             return Ok(first);
@@ -113,16 +119,18 @@ impl<'a> Expr<'a> {
     /// An operand with a sign before it.
     pub fn new_signed(
         alloc: Global,
-        line: usize,
+        mark: Leaf<'a>,
         sign: Sign,
         operand: Expr<'a>,
     ) -> Result<Expr<'a>, AllocError>
-        ensures spells { IfOk result (λ e. expr_yield e ≡ sign_yield sign ++ expr_yield operand.entry) }
-        ensures groups { IfOk result (λ e. IsOfLevel 7 operand.entry → IsOfLevel 6 e) }
-        ensures line { IfOk result (λ e. mark_line e ≡ Some line) }
+        ensures spells { IfOk result (λ e. expr_yield e ≡
+            kept_mark (sign_text sign) mark.entry ++ expr_yield operand.entry) }
+        ensures groups { IfOk result (λ e. (shifts : Bool) →
+            IsOfLevel shifts 7 operand.entry → IsOfLevel shifts 6 e) }
+        ensures levels { IfOk result (λ e. expr_levels e ≡ expr_levels operand.entry) }
     {
         Ok(Expr::Signed {
-            line,
+            mark,
             sign,
             operand: Box::new(alloc, operand)?,
         })
@@ -131,16 +139,17 @@ impl<'a> Expr<'a> {
     /// An expression in parentheses.
     pub fn new_parenthesized(
         alloc: Global,
-        line: usize,
+        paren: Leaf<'a>,
         inner: Expr<'a>,
     ) -> Result<Expr<'a>, AllocError>
         ensures spells { IfOk result (λ e. expr_yield e ≡
-            mark (codes "(") ++ expr_yield inner.entry ++ mark (codes ")")) }
-        ensures groups { IfOk result (λ e. IsOfLevel 0 inner.entry → IsOfLevel 7 e) }
-        ensures line { IfOk result (λ e. mark_line e ≡ Some line) }
+            kept_mark (codes "(") paren.entry ++ expr_yield inner.entry ++ mark (codes ")")) }
+        ensures groups { IfOk result (λ e. IsOfLevel true 0 inner.entry →
+            (shifts : Bool) → IsOfLevel shifts 7 e) }
+        ensures levels { IfOk result (λ e. expr_levels e ≡ suc (expr_levels inner.entry)) }
     {
         Ok(Expr::Parenthesized {
-            line,
+            paren,
             inner: Box::new(alloc, inner)?,
         })
     }

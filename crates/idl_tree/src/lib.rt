@@ -4,7 +4,13 @@
 #![tactic(auto)]
 
 pub mod const_expr;
+mod counts;
+mod debug;
 pub mod definitions;
 pub mod expression;
+pub mod lists;
 pub mod names;
+mod readers;
+mod readings;
+pub mod spec;
 pub mod types;

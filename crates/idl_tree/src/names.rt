@@ -1,61 +1,60 @@
-//! Names, and lists with commas.
+//! Tokens that a tree keeps, names, and lists with commas.
 
-ghost use Rattle.std.specs.Prelude.{◌≡◌};
+ghost use Rattle.std.specs.Prelude.{◌≡◌, ◌||◌, true, is_some, nat_lt, vec_len};
 ghost use Rattle.idl_lexer.specs.Words.{unescaped as unescaped_text};
 
-/// A token whose kind its place in the tree tells: an identifier, a literal or a pragma.
-#[derive(Clone, Copy, Debug, PartialEq, Eq)]
+use idl_lexer::Token;
+use std::fmt;
+
+/// A token that the tree keeps. Its place in the tree tells its kind.
+#[derive(Clone, Copy)]
 pub struct Leaf<'a> {
-    pub text: &'a str,
+    pub token: &'a Token<'a>,
     /// The number of the token, counted from 0.
     pub number: usize,
-    pub line: usize,
 }
 
-/// A scoped name: identifiers with `::` between them.
+/// A name with a `::` in it.
 #[derive(Debug, Drop)]
-pub struct ScopedName<'a> {
-    /// The number of its first token, counted from 0.
-    pub number: usize,
-    /// The line of its first token.
-    pub line: usize,
-    /// Whether it begins with `::`.
-    pub is_rooted: bool,
-    /// The text of the first identifier.
-    pub first: &'a str,
+pub struct Path<'a> {
+    /// The `::` that it begins with, if it does.
+    pub root: Option<Leaf<'a>>,
+    /// The first identifier.
+    pub first: Leaf<'a>,
     /// The identifiers after the first.
     pub rest: Vec<Leaf<'a>>,
+    ghost is_scoped: { (is_some root || nat_lt 0 (vec_len rest)) ≡ true },
 }
 
-/// One part or more, with commas between them.
-#[derive(Drop)]
+/// A scoped name: identifiers with `::` between them, and maybe one before the first.
+#[derive(Debug, Drop)]
+pub enum ScopedName<'a> {
+    /// An identifier alone.
+    Plain(Leaf<'a>),
+    Scoped(Box<Path<'a>>),
+}
+
+/// One part or more, with commas or nothing between them.
+#[derive(Debug, Drop)]
 pub struct Listed<T> {
     pub first: T,
     pub rest: Vec<T>,
 }
 
-/// The name that an identifier's text stands for: without one leading underscore, which only keeps
-/// it from being a keyword.
-fn unescaped(text: &str) -> &str
-    ensures { result.now ≡ unescaped_text text.now }
-{
-    text.strip_prefix('_').unwrap_or(text)
-}
-
-impl<'a> Leaf<'a> {
-    /// The name of an identifier. Takes no memory.
-    pub fn name(&self) -> &'a str
-        ensures { result.now ≡ unescaped_text self.now.text.now }
-    {
-        unescaped(self.text)
+/// The text of the token.
+impl fmt::Debug for Leaf<'_> {
+    fn fmt<W: fmt::Write>(&self, f: &mut fmt::Formatter<W>) -> fmt::Result {
+        f.write_str(self.token.text)
     }
 }
 
-impl<'a> ScopedName<'a> {
-    /// The name of the first identifier. Takes no memory.
-    pub fn first_name(&self) -> &'a str
-        ensures { result.now ≡ unescaped_text self.now.first.now }
+impl<'a> Leaf<'a> {
+    /// The name of an identifier: its text without one leading underscore, which only keeps it from
+    /// being a keyword (escaped identifiers). Takes no memory.
+    pub fn name(&self) -> &'a str
+        ensures { result.now ≡ unescaped_text self.now.token.now.text.now }
     {
-        unescaped(self.first)
+        let text = self.token.text;
+        text.strip_prefix('_').unwrap_or(text)
     }
 }

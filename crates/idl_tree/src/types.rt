@@ -1,12 +1,14 @@
 //! Types and their declarators.
 
-ghost use Rattle.std.specs.Prelude.{◌≡◌, ◌++◌, IfOk, codes};
+ghost use Rattle.std.specs.Prelude.{◌≡◌, ◌++◌, suc, max, IfOk, codes};
 ghost use Rattle.std.specs.List.{flat_map};
 ghost use Rattle.idl_tree.specs.Pieces.{keyword, mark};
 ghost use Rattle.idl_tree.specs.Yields.{identifier as identifier_yield, optional};
 ghost use Rattle.idl_tree.specs.TypeYields.{simple_type_yield, sequence_bound_yield, switch_yield, struct_yield, union_yield, member_yield, case_yield};
+ghost use Rattle.idl_tree.specs.Levels.{highest, optional_levels, bound_levels};
+ghost use Rattle.idl_tree.specs.TypeLevels.{simple_type_levels, switch_levels, struct_levels, union_levels, member_levels, case_levels};
 
-use crate::const_expr::ConstExpr;
+use crate::const_expr::{Bound, ConstExpr};
 use crate::names::{Leaf, Listed, ScopedName};
 use std::alloc::{AllocError, Global};
 
@@ -25,49 +27,49 @@ pub enum Integer {
 }
 
 /// The types that a constant may have.
-#[derive(Drop)]
+#[derive(Debug, Drop)]
 pub enum ConstType<'a> {
     Integer(Integer),
     Char,
     Boolean,
     Octet,
     /// A string, with its bound if it has one.
-    String(Option<ConstExpr<'a>>),
+    String(Option<Bound<'a>>),
     Name(ScopedName<'a>),
 }
 
 /// The types that parameters, results and attributes may have.
-#[derive(Drop)]
+#[derive(Debug, Drop)]
 pub enum ParamType<'a> {
     Plain(ConstType<'a>),
     Object,
 }
 
 /// A type that declares nothing.
-#[derive(Drop)]
+#[derive(Debug, Drop)]
 pub enum SimpleType<'a> {
     Plain(ParamType<'a>),
     Sequence {
         element: Box<SimpleType<'a>>,
-        bound: Option<ConstExpr<'a>>,
+        bound: Option<Bound<'a>>,
     },
 }
 
 /// An identifier, and the sizes of an array of it.
-#[derive(Drop)]
+#[derive(Debug, Drop)]
 pub struct Declarator<'a> {
     pub identifier: Leaf<'a>,
     pub sizes: Vec<ConstExpr<'a>>,
 }
 
-#[derive(Drop)]
+#[derive(Debug, Drop)]
 pub struct EnumType<'a> {
     pub identifier: Leaf<'a>,
     pub enumerators: Listed<Leaf<'a>>,
 }
 
 /// The type of a union's discriminator.
-#[derive(Drop)]
+#[derive(Debug, Drop)]
 pub enum SwitchType<'a> {
     Integer(Integer),
     Char,
@@ -77,14 +79,15 @@ pub enum SwitchType<'a> {
 }
 
 /// A label of a union's case.
-#[derive(Drop)]
+#[derive(Debug, Drop)]
 pub enum Label<'a> {
     Case(ConstExpr<'a>),
-    Default { line: usize },
+    /// The keyword `default`.
+    Default(Leaf<'a>),
 }
 
 #[cycle(types)]
-#[derive(Drop)]
+#[derive(Debug, Drop)]
 pub enum TypeSpec<'a> {
     Simple(SimpleType<'a>),
     Struct(StructType<'a>),
@@ -92,37 +95,38 @@ pub enum TypeSpec<'a> {
     Enum(EnumType<'a>),
 }
 
+/// A structure, which has one member or more.
 #[cycle(types)]
-#[derive(Drop)]
+#[derive(Debug, Drop)]
 pub struct StructType<'a> {
     pub identifier: Leaf<'a>,
-    /// One or more.
-    pub members: Vec<Member<'a>>,
+    pub first: Box<Member<'a>>,
+    pub rest: Vec<Member<'a>>,
 }
 
 /// Members of one type: of a structure or an exception.
 #[cycle(types)]
-#[derive(Drop)]
+#[derive(Debug, Drop)]
 pub struct Member<'a> {
     pub member_type: TypeSpec<'a>,
     pub declarators: Listed<Declarator<'a>>,
 }
 
+/// A union, which has one case or more.
 #[cycle(types)]
-#[derive(Drop)]
+#[derive(Debug, Drop)]
 pub struct UnionType<'a> {
     pub identifier: Leaf<'a>,
     pub switch: SwitchType<'a>,
-    /// One or more.
-    pub cases: Vec<Case<'a>>,
+    pub first: Box<Case<'a>>,
+    pub rest: Vec<Case<'a>>,
 }
 
-/// A member of a union.
+/// A member of a union, with one label or more.
 #[cycle(types)]
-#[derive(Drop)]
+#[derive(Debug, Drop)]
 pub struct Case<'a> {
-    /// One or more.
-    pub labels: Vec<Label<'a>>,
+    pub labels: Listed<Label<'a>>,
     pub member_type: TypeSpec<'a>,
     pub declarator: Declarator<'a>,
 }
@@ -131,11 +135,13 @@ impl<'a> SimpleType<'a> {
     pub fn new_sequence(
         alloc: Global,
         element: SimpleType<'a>,
-        bound: Option<ConstExpr<'a>>,
+        bound: Option<Bound<'a>>,
     ) -> Result<SimpleType<'a>, AllocError>
-        ensures { IfOk result (λ t. simple_type_yield t ≡
+        ensures spells { IfOk result (λ t. simple_type_yield t ≡
             keyword (codes "sequence") ++ mark (codes "<") ++ simple_type_yield element.entry
             ++ optional sequence_bound_yield bound.entry ++ mark (codes ">")) }
+        ensures levels { IfOk result (λ t. simple_type_levels t ≡
+            suc (max (simple_type_levels element.entry) (optional_levels bound_levels bound.entry))) }
     {
         Ok(SimpleType::Sequence {
             element: Box::new(alloc, element)?,
@@ -145,29 +151,47 @@ impl<'a> SimpleType<'a> {
 }
 
 impl<'a> StructType<'a> {
-    pub fn new(identifier: Leaf<'a>, members: Vec<Member<'a>>) -> StructType<'a>
-        ensures { struct_yield result ≡
+    pub fn new(
+        alloc: Global,
+        identifier: Leaf<'a>,
+        first: Member<'a>,
+        rest: Vec<Member<'a>>,
+    ) -> Result<StructType<'a>, AllocError>
+        ensures spells { IfOk result (λ s. struct_yield s ≡
             keyword (codes "struct") ++ identifier_yield identifier.entry ++ mark (codes "{")
-            ++ flat_map member_yield members.entry.items ++ mark (codes "}") }
+            ++ member_yield first.entry ++ flat_map member_yield rest.entry.items ++ mark (codes "}")) }
+        ensures levels { IfOk result (λ s. struct_levels s ≡
+            suc (max (member_levels first.entry) (highest member_levels rest.entry.items))) }
     {
-        StructType {
+        Ok(StructType {
             identifier,
-            members,
-        }
+            first: Box::new(alloc, first)?,
+            rest,
+        })
     }
 }
 
 impl<'a> UnionType<'a> {
-    pub fn new(identifier: Leaf<'a>, switch: SwitchType<'a>, cases: Vec<Case<'a>>) -> UnionType<'a>
-        ensures { union_yield result ≡
+    pub fn new(
+        alloc: Global,
+        identifier: Leaf<'a>,
+        switch: SwitchType<'a>,
+        first: Case<'a>,
+        rest: Vec<Case<'a>>,
+    ) -> Result<UnionType<'a>, AllocError>
+        ensures spells { IfOk result (λ u. union_yield u ≡
             keyword (codes "union") ++ identifier_yield identifier.entry ++ keyword (codes "switch")
             ++ mark (codes "(") ++ switch_yield switch.entry ++ mark (codes ")") ++ mark (codes "{")
-            ++ flat_map case_yield cases.entry.items ++ mark (codes "}") }
+            ++ case_yield first.entry ++ flat_map case_yield rest.entry.items ++ mark (codes "}")) }
+        ensures levels { IfOk result (λ u. union_levels u ≡
+            suc (max (switch_levels switch.entry)
+            (max (case_levels first.entry) (highest case_levels rest.entry.items)))) }
     {
-        UnionType {
+        Ok(UnionType {
             identifier,
             switch,
-            cases,
-        }
+            first: Box::new(alloc, first)?,
+            rest,
+        })
     }
 }

@@ -1,201 +1,218 @@
 //! Structures and unions, whose members may declare further types.
-#![tactic(auto, using(crate::proofs::Reading::append_left, crate::proofs::Reading::append_none, std::proofs::lemmas::List::flat_map_more))]
+#![tactic(auto, using(crate::proofs::Reading::past_append, crate::proofs::Reading::past_none))]
 
-ghost use Rattle.std.specs.Prelude.{◌≡◌, ◌+◌, ◌++◌, ◌≤◌, ◌<◌, IfOk, List, length, codes};
+ghost use Rattle.std.specs.Prelude.{◌≡◌, ◌++◌, ◌≤◌, ◌<◌, max, IfOk, List, codes};
 ghost use Rattle.std.specs.List.{flat_map};
 ghost use Rattle.idl_parser.specs.Reading.{Parsed, Continued};
-ghost use Rattle.idl_tree.specs.Pieces.{keyword, mark};
-ghost use Rattle.idl_tree.specs.Yields.{identifier};
-ghost use Rattle.idl_tree.specs.TypeYields.{label_yield, member_yield, case_yield, type_yield, struct_yield, union_yield, switch_yield};
+ghost use Rattle.idl_tree.specs.Pieces.{mark};
+ghost use Rattle.idl_tree.specs.Yields.{in_order, listed};
+ghost use Rattle.idl_tree.specs.TypeYields.{declarator_yield, label_yield, member_yield, case_yield, type_yield, struct_yield, union_yield};
+ghost use Rattle.idl_tree.specs.Levels.{highest, highest_listed};
+ghost use Rattle.idl_tree.specs.TypeLevels.{declarator_levels, label_levels, member_levels, case_levels, type_levels, struct_levels, union_levels};
 
-use crate::fault::ParseFault;
+use crate::cursor::Cursor;
 use crate::read::expressions::read_expr;
-use crate::read::names::read_identifier;
-use crate::read::tokens::{
-    Read, fault_at, inside, is_keyword, is_mark, line_at, read_keyword, read_mark,
-};
-use crate::read::types::{
-    read_declarator, read_declarators, read_enum, read_simple_type, read_switch,
-};
-use idl_lexer::Token;
-use idl_tree::names::Leaf;
-use idl_tree::types::{Case, Label, Member, StructType, SwitchType, TypeSpec, UnionType};
-use std::alloc::Global;
+use crate::read::lists::{both, read_listed};
+use crate::read::types::{read_declarator, read_enum, read_simple_type, read_switch};
+use crate::stop::Stop;
+use idl_lexer::Kind;
+use idl_tree::names::Listed;
+use idl_tree::types::{Case, Declarator, Label, Member, StructType, TypeSpec, UnionType};
 
-fn read_label<'a>(alloc: Global, tokens: &[Token<'a>], at: usize, depth: usize) -> Read<Label<'a>>
-    ensures { IfOk result (λ r. Parsed tokens.now at (label_yield r.0) r.1) }
+fn read_label<'a>(cursor: &mut Cursor<'a>, room: usize) -> Result<Label<'a>, Stop>
+    ensures spells { IfOk result (λ l. Parsed cursor.old (label_yield l) cursor.new) }
+    ensures levels { IfOk result (λ l. label_levels l ≤ room) }
 {
-    if is_keyword(tokens, at, "case") {
-        let start = read_keyword(tokens, at, "case")?;
-        let (value, end) = read_expr(alloc, tokens, start, depth)?;
-        return Ok((Label::Case(value), read_mark(tokens, end, ":")?));
+    if cursor.take_keyword("case") {
+        let value = read_expr(cursor, room)?;
+        return Ok(Label::Case(cursor.closed(value, ":")?));
     }
-    let line = line_at(tokens, at);
-    let end = read_keyword(tokens, at, "default")?;
-    Ok((Label::Default { line }, read_mark(tokens, end, ":")?))
+    let Some(word) = cursor.take(Kind::Keyword, "default") else {
+        return Err(Stop::Unexpected);
+    };
+    cursor.mark(":")?;
+    Ok(Label::Default(word))
+}
+
+/// Whether a label is next.
+fn is_label(cursor: &Cursor<'_>) -> bool {
+    matches!(cursor.text(Kind::Keyword), Some("case" | "default"))
+}
+
+/// Reads further labels.
+fn read_more_labels<'a>(cursor: &mut Cursor<'a>, room: usize) -> Result<Vec<Label<'a>>, Stop>
+    ensures spells { IfOk result (λ l. Continued cursor.old (flat_map label_yield l.items) cursor.new) }
+    ensures levels { IfOk result (λ l. highest label_levels l.items ≤ room) }
+{
+    let mut labels = Vec::new(cursor.alloc());
+    'parts: while is_label(cursor) {
+        let label = read_label(cursor, room)?;
+        labels.push(label)?;
+    }
+    labels.shrink_to_fit();
+    Ok(labels)
 }
 
 /// Reads labels, one or more.
-fn read_labels<'a>(
-    alloc: Global,
-    tokens: &[Token<'a>],
-    at: usize,
-    depth: usize,
-) -> Read<Vec<Label<'a>>>
-    ensures { IfOk result (λ r. Parsed tokens.now at (flat_map label_yield r.0.items) r.1) }
+fn read_labels<'a>(cursor: &mut Cursor<'a>, room: usize) -> Result<Listed<Label<'a>>, Stop>
+    ensures spells { IfOk result (λ l. Parsed cursor.old (in_order label_yield l) cursor.new) }
+    ensures levels { IfOk result (λ l. highest_listed label_levels l ≤ room) }
 {
-    let (first, mut next) = read_label(alloc, tokens, at, depth)?;
-    let mut labels = vec![in alloc; first]?;
-    'parts: while is_keyword(tokens, next, "case") || is_keyword(tokens, next, "default") {
-        let (label, end) = read_label(alloc, tokens, next, depth)?;
-        labels.push(label)?;
-        next = end;
-    }
-    Ok((labels, next))
+    let first = read_label(cursor, room)?;
+    let rest = read_more_labels(cursor, room)?;
+    Ok(Listed { first, rest })
 }
 
-/// Refuses an end of what must not be empty.
-fn refuse_end(tokens: &[Token<'_>], at: usize) -> Result<(), ParseFault> {
-    if is_mark(tokens, at, "}") {
-        Err(fault_at(tokens, at))
-    } else {
-        Ok(())
+/// Reads the declarators of members, and the semicolon behind them.
+fn read_declarators<'a>(
+    cursor: &mut Cursor<'a>,
+    room: usize,
+) -> Result<Listed<Declarator<'a>>, Stop>
+    ensures spells { IfOk result (λ d. Parsed cursor.old (listed declarator_yield d ++ mark (codes ";")) cursor.new) }
+    ensures levels { IfOk result (λ d. highest_listed declarator_levels d ≤ room) }
+{
+    let declarators = read_listed(cursor, room)?;
+    cursor.closed(declarators, ";")
+}
+
+/// Reads the declarator of a case, and the semicolon behind it.
+fn read_case_declarator<'a>(cursor: &mut Cursor<'a>, room: usize) -> Result<Declarator<'a>, Stop>
+    ensures spells { IfOk result (λ d. Parsed cursor.old (declarator_yield d ++ mark (codes ";")) cursor.new) }
+    ensures levels { IfOk result (λ d. declarator_levels d ≤ room) }
+{
+    let declarator = read_declarator(cursor, room)?;
+    cursor.closed(declarator, ";")
+}
+
+#[cycle(constructed)]
+pub(crate) fn read_type<'a>(cursor: &mut Cursor<'a>, room: usize) -> Result<TypeSpec<'a>, Stop>
+    ensures spells { IfOk result (λ t. Parsed cursor.old (type_yield t) cursor.new) }
+    ensures levels { IfOk result (λ t. type_levels t ≤ room) }
+{
+    match cursor.text(Kind::Keyword) {
+        Some("struct") => Ok(TypeSpec::Struct(read_struct(cursor, room)?)),
+        Some("union") => Ok(TypeSpec::Union(read_union(cursor, room)?)),
+        Some("enum") => Ok(TypeSpec::Enum(read_enum(cursor, room)?)),
+        _ => Ok(TypeSpec::Simple(read_simple_type(cursor, room)?)),
     }
 }
 
 #[cycle(constructed)]
-pub(crate) fn read_type<'a>(
-    alloc: Global,
-    tokens: &[Token<'a>],
-    at: usize,
-    depth: usize,
-) -> Read<TypeSpec<'a>>
-    ensures { IfOk result (λ r. Parsed tokens.now at (type_yield r.0) r.1) }
+fn read_member<'a>(cursor: &mut Cursor<'a>, room: usize) -> Result<Member<'a>, Stop>
+    ensures spells { IfOk result (λ m. Parsed cursor.old (member_yield m) cursor.new) }
+    ensures levels { IfOk result (λ m. member_levels m ≤ room) }
 {
-    if is_keyword(tokens, at, "struct") {
-        let (declared, next) = read_struct(alloc, tokens, at, depth)?;
-        Ok((TypeSpec::Struct(declared), next))
-    } else if is_keyword(tokens, at, "union") {
-        let (declared, next) = read_union(alloc, tokens, at, depth)?;
-        Ok((TypeSpec::Union(declared), next))
-    } else if is_keyword(tokens, at, "enum") {
-        let (declared, next) = read_enum(alloc, tokens, at, depth)?;
-        Ok((TypeSpec::Enum(declared), next))
-    } else {
-        let (simple, next) = read_simple_type(alloc, tokens, at, depth)?;
-        Ok((TypeSpec::Simple(simple), next))
-    }
-}
-
-#[cycle(constructed)]
-fn read_member<'a>(alloc: Global, tokens: &[Token<'a>], at: usize, depth: usize) -> Read<Member<'a>>
-    ensures { IfOk result (λ r. Parsed tokens.now at (member_yield r.0) r.1) }
-{
-    let (member_type, behind) = read_type(alloc, tokens, at, depth)?;
-    let (declarators, end) = read_declarators(alloc, tokens, behind, depth)?;
-    let next = read_mark(tokens, end, ";")?;
-    let member = Member {
+    let front = read_type(cursor, room)?;
+    let (member_type, declarators) = both(front, read_declarators(cursor, room))?;
+    Ok(Member {
         member_type,
         declarators,
-    };
-    Ok((member, next))
+    })
 }
 
-/// Reads members up to a closing brace.
+/// Reads members and the closing brace behind them.
 #[cycle(constructed)]
 pub(crate) fn read_members<'a>(
-    alloc: Global,
-    tokens: &[Token<'a>],
-    at: usize,
-    depth: usize,
-) -> Read<Vec<Member<'a>>>
-    ensures { IfOk result (λ r. Continued tokens.now at (flat_map member_yield r.0.items) r.1) }
+    cursor: &mut Cursor<'a>,
+    room: usize,
+) -> Result<Vec<Member<'a>>, Stop>
+    ensures spells { IfOk result (λ m. Parsed cursor.old
+        (flat_map member_yield m.items ++ mark (codes "}")) cursor.new) }
+    ensures levels { IfOk result (λ m. highest member_levels m.items ≤ room) }
 {
-    let mut members = Vec::new(alloc);
-    let mut next = at;
-    'parts: while !is_mark(tokens, next, "}") {
-        let (member, end) = read_member(alloc, tokens, next, depth)?;
+    let mut members = Vec::new(cursor.alloc());
+    'parts: while !cursor.is_mark("}") {
+        let member = read_member(cursor, room)?;
         members.push(member)?;
-        next = end;
     }
-    Ok((members, next))
+    members.shrink_to_fit();
+    cursor.closed(members, "}")
 }
 
 #[cycle(constructed)]
-pub(crate) fn read_struct<'a>(
-    alloc: Global,
-    tokens: &[Token<'a>],
-    at: usize,
-    depth: usize,
-) -> Read<StructType<'a>>
-    ensures { IfOk result (λ r. Parsed tokens.now at (struct_yield r.0) r.1) }
+pub(crate) fn read_struct<'a>(cursor: &mut Cursor<'a>, room: usize) -> Result<StructType<'a>, Stop>
+    ensures spells { IfOk result (λ s. Parsed cursor.old (struct_yield s) cursor.new) }
+    ensures levels { IfOk result (λ s. struct_levels s ≤ room) }
 {
-    let behind = read_keyword(tokens, at, "struct")?;
-    let (name, open) = read_identifier(tokens, behind)?;
-    let start = read_mark(tokens, open, "{")?;
-    let left = inside(tokens, open, depth)?;
-    refuse_end(tokens, start)?;
-    let (members, end) = read_members(alloc, tokens, start, left)?;
-    let next = read_mark(tokens, end, "}")?;
-    Ok((StructType::new(name, members), next))
+    cursor.keyword("struct")?;
+    let name = cursor.identifier()?;
+    let left = cursor.open("{", room)?;
+    let front = read_member(cursor, left)?;
+    let (first, rest) = both(front, read_members(cursor, left))?;
+    Ok(StructType::new(cursor.alloc(), name, first, rest)?)
+}
+
+/// Reads what stands behind the labels of a case.
+#[cycle(constructed)]
+fn read_element<'a>(
+    cursor: &mut Cursor<'a>,
+    room: usize,
+) -> Result<(TypeSpec<'a>, Declarator<'a>), Stop>
+    ensures spells { IfOk result (λ e. Parsed cursor.old
+        (type_yield e.0 ++ (declarator_yield e.1 ++ mark (codes ";"))) cursor.new) }
+    ensures levels { IfOk result (λ e. max (type_levels e.0) (declarator_levels e.1) ≤ room) }
+{
+    let front = read_type(cursor, room)?;
+    both(front, read_case_declarator(cursor, room))
 }
 
 #[cycle(constructed)]
-fn read_case<'a>(alloc: Global, tokens: &[Token<'a>], at: usize, depth: usize) -> Read<Case<'a>>
-    ensures { IfOk result (λ r. Parsed tokens.now at (case_yield r.0) r.1) }
+fn read_case<'a>(cursor: &mut Cursor<'a>, room: usize) -> Result<Case<'a>, Stop>
+    ensures spells { IfOk result (λ c. Parsed cursor.old (case_yield c) cursor.new) }
+    ensures levels { IfOk result (λ c. case_levels c ≤ room) }
 {
-    let (labels, behind) = read_labels(alloc, tokens, at, depth)?;
-    let (member_type, start) = read_type(alloc, tokens, behind, depth)?;
-    let (declarator, end) = read_declarator(alloc, tokens, start, depth)?;
-    let next = read_mark(tokens, end, ";")?;
-    let case = Case {
+    let front = read_labels(cursor, room)?;
+    let (labels, (member_type, declarator)) = both(front, read_element(cursor, room))?;
+    Ok(Case {
         labels,
         member_type,
         declarator,
-    };
-    Ok((case, next))
+    })
 }
 
-/// Reads cases up to a closing brace.
+/// Reads cases and the closing brace behind them.
 #[cycle(constructed)]
-fn read_cases<'a>(
-    alloc: Global,
-    tokens: &[Token<'a>],
-    at: usize,
-    depth: usize,
-) -> Read<Vec<Case<'a>>>
-    ensures { IfOk result (λ r. Continued tokens.now at (flat_map case_yield r.0.items) r.1) }
+fn read_cases<'a>(cursor: &mut Cursor<'a>, room: usize) -> Result<Vec<Case<'a>>, Stop>
+    ensures spells { IfOk result (λ c. Parsed cursor.old
+        (flat_map case_yield c.items ++ mark (codes "}")) cursor.new) }
+    ensures levels { IfOk result (λ c. highest case_levels c.items ≤ room) }
 {
-    let mut cases = Vec::new(alloc);
-    let mut next = at;
-    'parts: while !is_mark(tokens, next, "}") {
-        let (case, end) = read_case(alloc, tokens, next, depth)?;
+    let mut cases = Vec::new(cursor.alloc());
+    'parts: while !cursor.is_mark("}") {
+        let case = read_case(cursor, room)?;
         cases.push(case)?;
-        next = end;
     }
-    Ok((cases, next))
+    cases.shrink_to_fit();
+    cursor.closed(cases, "}")
+}
+
+/// Reads what stands behind the type of a union's discriminator.
+#[cycle(constructed)]
+fn read_union_body<'a>(
+    cursor: &mut Cursor<'a>,
+    room: usize,
+) -> Result<(Case<'a>, Vec<Case<'a>>), Stop>
+    ensures spells { IfOk result (λ b. Parsed cursor.old (mark (codes ")") ++ mark (codes "{")
+        ++ case_yield b.0 ++ (flat_map case_yield b.1.items ++ mark (codes "}"))) cursor.new) }
+    ensures levels { IfOk result (λ b. max (case_levels b.0) (highest case_levels b.1.items) < room) }
+{
+    cursor.mark(")")?;
+    let left = cursor.open("{", room)?;
+    let first = read_case(cursor, left)?;
+    both(first, read_cases(cursor, left))
 }
 
 #[cycle(constructed)]
-pub(crate) fn read_union<'a>(
-    alloc: Global,
-    tokens: &[Token<'a>],
-    at: usize,
-    depth: usize,
-) -> Read<UnionType<'a>>
-    ensures { IfOk result (λ r. Parsed tokens.now at (union_yield r.0) r.1) }
+pub(crate) fn read_union<'a>(cursor: &mut Cursor<'a>, room: usize) -> Result<UnionType<'a>, Stop>
+    ensures spells { IfOk result (λ u. Parsed cursor.old (union_yield u) cursor.new) }
+    ensures levels { IfOk result (λ u. union_levels u ≤ room) }
 {
-    let behind = read_keyword(tokens, at, "union")?;
-    let (name, word) = read_identifier(tokens, behind)?;
-    let paren = read_keyword(tokens, word, "switch")?;
-    let first = read_mark(tokens, paren, "(")?;
+    cursor.keyword("union")?;
+    let name = cursor.identifier()?;
+    cursor.keyword("switch")?;
+    cursor.mark("(")?;
     // an enumeration here is declared inside the union
-    let (switch, last) = read_switch(alloc, tokens, first, depth.saturating_sub(1))?;
-    let open = read_mark(tokens, last, ")")?;
-    let start = read_mark(tokens, open, "{")?;
-    let left = inside(tokens, open, depth)?;
-    refuse_end(tokens, start)?;
-    let (cases, end) = read_cases(alloc, tokens, start, left)?;
-    let next = read_mark(tokens, end, "}")?;
-    Ok((UnionType::new(name, switch, cases), next))
+    let front = read_switch(cursor, room.saturating_sub(1))?;
+    let (switch, (first, rest)) = both(front, read_union_body(cursor, room))?;
+    Ok(UnionType::new(cursor.alloc(), name, switch, first, rest)?)
 }

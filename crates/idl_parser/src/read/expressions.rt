@@ -1,223 +1,219 @@
 //! Constant expressions.
-#![tactic(auto, using(crate::proofs::Reading::append_left, std::proofs::lemmas::List::flat_map_more))]
+#![tactic(auto, using(crate::proofs::Reading::past_append, crate::proofs::Reading::past_none))]
 
-ghost use Rattle.std.specs.Prelude.{◌≡◌, ◌+◌, ◌++◌, ◌≤◌, IfOk, IfSome, List, take, length, codes};
+ghost use Rattle.std.specs.Prelude.{◌≡◌, ◌++◌, ◌≤◌, Bool, true, IfOk, IfSome, IfNone, List, codes};
+ghost use Rattle.std.specs.Bool.{OnTrue};
 ghost use Rattle.std.specs.List.{AllByRecursion, flat_map};
-ghost use Rattle.idl_lexer.specs.declared.token.Kind.TheVariants.{TextLit};
-ghost use Rattle.idl_parser.specs.Reading.{Parsed};
-ghost use Rattle.idl_tree.specs.Pieces.{Piece, pieces, mark, leaf};
-ghost use Rattle.idl_tree.specs.Grouping.{level_of, IsOfLevel};
-ghost use Rattle.idl_tree.specs.Yields.{operator_yield, sign_yield, expr_yield, const_expr_yield, operand_yield, texts_yield};
+ghost use Rattle.idl_parser.specs.Reading.{Parsed, Continued};
+ghost use Rattle.idl_tree.specs.Pieces.{kept_mark};
+ghost use Rattle.idl_tree.specs.Grouping.{level_of, is_operator_of, IsOfLevel};
+ghost use Rattle.idl_tree.specs.Levels.{expr_levels, const_expr_levels, bound_levels};
+ghost use Rattle.idl_tree.specs.Yields.{operator_yield, sign_text, expr_yield, const_expr_yield, bound_yield, operand_yield, text_yield, in_order};
 
-use crate::fault::ParseFault;
+use crate::cursor::{Cursor, inside};
 use crate::read::names::read_scoped_name;
-use crate::read::tokens::{
-    Read, inside, is_keyword, is_kind, is_mark, line_at, read_keyword, read_leaf, read_mark,
-};
-use idl_lexer::{Kind, Token};
-use idl_tree::const_expr::ConstExpr;
+use crate::stop::Stop;
+use idl_lexer::Kind;
+use idl_tree::const_expr::{Bound, ConstExpr};
 use idl_tree::expression::{Expr, Operand, Operator, Sign};
-use idl_tree::names::Leaf;
-use std::alloc::Global;
+use idl_tree::names::{Leaf, Listed};
 
 /// How many levels of operators there are, the loosest of which is 0.
 const LEVELS: usize = 6;
 
-/// The operators of a level. In a bound, which stands between `<` and `>`, a right shift is taken in
-/// parentheses only.
-fn operators(level: usize, is_bound: bool) -> &'static [Operator]
-    ensures { AllByRecursion (λ operator. level_of operator ≡ level) result.now }
-{
-    match level {
-        0 => &[Operator::Or],
-        1 => &[Operator::Xor],
-        2 => &[Operator::And],
-        3 if is_bound => &[Operator::ShiftLeft],
-        3 => &[Operator::ShiftLeft, Operator::ShiftRight],
-        4 => &[Operator::Add, Operator::Subtract],
-        5 => &[Operator::Multiply, Operator::Divide, Operator::Remainder],
-        _ => &[],
+/// The operator that is next.
+fn next_operator(cursor: &Cursor<'_>) -> Option<Operator> {
+    match cursor.text(Kind::Punct)?.as_bytes() {
+        [b'|'] => Some(Operator::Or),
+        [b'^'] => Some(Operator::Xor),
+        [b'&'] => Some(Operator::And),
+        [b'<', b'<'] => Some(Operator::ShiftLeft),
+        [b'>'] if cursor.is_right_shift() => Some(Operator::ShiftRight),
+        [b'+'] => Some(Operator::Add),
+        [b'-'] => Some(Operator::Subtract),
+        [b'*'] => Some(Operator::Multiply),
+        [b'/'] => Some(Operator::Divide),
+        [b'%'] => Some(Operator::Remainder),
+        _ => None,
     }
 }
 
-/// Whether two `>` that touch stand at a place.
-fn is_right_shift(tokens: &[Token<'_>], at: usize) -> bool {
-    let second = at.saturating_add(1);
-    let end = tokens.get(at).map(|token| token.end);
-    let start = tokens.get(second).map(|token| token.start);
-    is_mark(tokens, at, ">") && is_mark(tokens, second, ">") && end == start
-}
-
-fn is_operator(tokens: &[Token<'_>], at: usize, wanted: Operator) -> bool {
-    match wanted {
-        Operator::ShiftRight => is_right_shift(tokens, at),
-        _ => is_mark(tokens, at, wanted.text()),
+fn level(operator: Operator) -> usize
+    ensures { result ≡ level_of operator }
+{
+    match operator {
+        Operator::Or => 0,
+        Operator::Xor => 1,
+        Operator::And => 2,
+        Operator::ShiftLeft | Operator::ShiftRight => 3,
+        Operator::Add | Operator::Subtract => 4,
+        Operator::Multiply | Operator::Divide | Operator::Remainder => 5,
     }
 }
 
-/// The operator at a place, if it is one of the level.
-fn operator_at(tokens: &[Token<'_>], at: usize, level: usize, is_bound: bool) -> Option<Operator>
-    ensures { IfSome result (λ operator. level_of operator ≡ level) }
+/// Whether an operator is one of the level. Where no right shift may stand, it isn't.
+fn is_of(operator: Operator, wanted: usize, shifts: bool) -> bool
+    ensures { OnTrue result (is_operator_of shifts wanted operator ≡ true) }
 {
-    for wanted in operators(level, is_bound) {
-        if is_operator(tokens, at, *wanted) {
-            return Some(*wanted);
-        }
-    }
-    None
+    level(operator) == wanted && (shifts || operator != Operator::ShiftRight)
 }
 
-fn read_operator(tokens: &[Token<'_>], at: usize, wanted: Operator) -> Result<usize, ParseFault>
-    ensures { IfOk result (λ next. Parsed tokens.now at (operator_yield wanted) next) }
+/// The operator of the level that is next, if one is.
+fn operator_of(cursor: &Cursor<'_>, wanted: usize, shifts: bool) -> Option<Operator>
+    ensures { IfSome result (λ o. is_operator_of shifts wanted o ≡ true) }
 {
-    match wanted {
-        Operator::ShiftRight => {
-            let second = read_mark(tokens, at, ">")?;
-            read_mark(tokens, second, ">")
-        }
-        _ => read_mark(tokens, at, wanted.text()),
-    }
-}
-
-/// Text literals, one or more.
-fn read_texts<'a>(alloc: Global, tokens: &[Token<'a>], at: usize) -> Read<Vec<Leaf<'a>>>
-    ensures { IfOk result (λ r. Parsed tokens.now at (texts_yield r.0.items) r.1) }
-{
-    let (first, mut next) = read_leaf(tokens, at, Kind::TextLit)?;
-    let mut texts = vec![in alloc; first]?;
-    'parts: while is_kind(tokens, next, Kind::TextLit) {
-        let (text, end) = read_leaf(tokens, next, Kind::TextLit)?;
-        texts.push(text)?;
-        next = end;
-    }
-    Ok((texts, next))
-}
-
-fn read_boolean<'a>(tokens: &[Token<'a>], at: usize) -> Read<Expr<'a>>
-    ensures spells { IfOk result (λ r. Parsed tokens.now at (expr_yield r.0) r.1) }
-    ensures groups { IfOk result (λ r. IsOfLevel 7 r.0) }
-{
-    let value = is_keyword(tokens, at, "TRUE");
-    let line = line_at(tokens, at);
-    let next = if value {
-        read_keyword(tokens, at, "TRUE")?
+    let operator = next_operator(cursor)?;
+    if is_of(operator, wanted, shifts) {
+        Some(operator)
     } else {
-        read_keyword(tokens, at, "FALSE")?
-    };
-    Ok((Expr::Boolean { value, line }, next))
+        None
+    }
+}
+
+fn read_operator(cursor: &mut Cursor<'_>, operator: Operator) -> Result<(), Stop>
+    ensures { IfOk result (λ _. Parsed cursor.old (operator_yield operator) cursor.new) }
+{
+    match operator {
+        Operator::ShiftRight => cursor.right_shift(),
+        _ => cursor.mark(operator.text()),
+    }
+}
+
+/// Reads further text literals.
+fn read_texts<'a>(cursor: &mut Cursor<'a>) -> Result<Vec<Leaf<'a>>, Stop>
+    ensures { IfOk result (λ rest. Continued cursor.old (flat_map text_yield rest.items) cursor.new) }
+{
+    let mut rest = Vec::new(cursor.alloc());
+    'parts: while let Some(text) = cursor.take_leaf(Kind::TextLit) {
+        rest.push(text)?;
+    }
+    rest.shrink_to_fit();
+    Ok(rest)
+}
+
+fn read_text<'a>(cursor: &mut Cursor<'a>) -> Result<Listed<Leaf<'a>>, Stop>
+    ensures { IfOk result (λ texts. Parsed cursor.old (in_order text_yield texts) cursor.new) }
+{
+    let first = cursor.leaf(Kind::TextLit)?;
+    let rest = read_texts(cursor)?;
+    Ok(Listed { first, rest })
+}
+
+fn read_boolean<'a>(cursor: &mut Cursor<'a>) -> Result<Expr<'a>, Stop>
+    ensures spells { IfOk result (λ e. Parsed cursor.old (expr_yield e) cursor.new) }
+    ensures groups { IfOk result (λ e. (shifts : Bool) → IsOfLevel shifts 7 e) }
+    ensures levels { IfOk result (λ e. expr_levels e ≡ 0) }
+{
+    if let Some(word) = cursor.take(Kind::Keyword, "TRUE") {
+        return Ok(Expr::Boolean { value: true, word });
+    }
+    match cursor.take(Kind::Keyword, "FALSE") {
+        Some(word) => Ok(Expr::Boolean { value: false, word }),
+        None => Err(Stop::Unexpected),
+    }
 }
 
 /// A name or a literal.
-fn read_atom<'a>(alloc: Global, tokens: &[Token<'a>], at: usize) -> Read<Expr<'a>>
-    ensures spells { IfOk result (λ r. Parsed tokens.now at (expr_yield r.0) r.1) }
-    ensures groups { IfOk result (λ r. IsOfLevel 7 r.0) }
+fn read_atom<'a>(cursor: &mut Cursor<'a>) -> Result<Expr<'a>, Stop>
+    ensures spells { IfOk result (λ e. Parsed cursor.old (expr_yield e) cursor.new) }
+    ensures groups { IfOk result (λ e. (shifts : Bool) → IsOfLevel shifts 7 e) }
+    ensures levels { IfOk result (λ e. expr_levels e ≡ 0) }
 {
-    if is_kind(tokens, at, Kind::Number) {
-        let (number, next) = read_leaf(tokens, at, Kind::Number)?;
-        Ok((Expr::Number(number), next))
-    } else if is_kind(tokens, at, Kind::CharLit) {
-        let (character, next) = read_leaf(tokens, at, Kind::CharLit)?;
-        Ok((Expr::Character(character), next))
-    } else if is_kind(tokens, at, Kind::TextLit) {
-        let (texts, next) = read_texts(alloc, tokens, at)?;
-        Ok((Expr::Text(texts), next))
-    } else if is_kind(tokens, at, Kind::Keyword) {
-        read_boolean(tokens, at)
-    } else {
-        let (name, next) = read_scoped_name(alloc, tokens, at)?;
-        Ok((Expr::Name(name), next))
+    match cursor.kind() {
+        Some(Kind::Number) => Ok(Expr::Number(cursor.leaf(Kind::Number)?)),
+        Some(Kind::CharLit) => Ok(Expr::Character(cursor.leaf(Kind::CharLit)?)),
+        Some(Kind::TextLit) => {
+            let texts = read_text(cursor)?;
+            Ok(Expr::Text(Box::new(cursor.alloc(), texts)?))
+        }
+        Some(Kind::Keyword) => read_boolean(cursor),
+        _ => Ok(Expr::Name(read_scoped_name(cursor)?)),
     }
 }
 
-fn read_sign(tokens: &[Token<'_>], at: usize) -> Read<Sign>
-    ensures { IfOk result (λ r. Parsed tokens.now at (sign_yield r.0) r.1) }
+/// Takes a sign, if one is next.
+fn take_sign<'a>(cursor: &mut Cursor<'a>) -> Option<(Sign, Leaf<'a>)>
+    ensures missing { IfNone result (cursor.new ≡ cursor.old) }
+    ensures read { IfSome result (λ r. Parsed cursor.old (kept_mark (sign_text r.0) r.1) cursor.new) }
 {
-    if is_mark(tokens, at, "-") {
-        Ok((Sign::Minus, read_mark(tokens, at, "-")?))
-    } else {
-        Ok((Sign::Plus, read_mark(tokens, at, "+")?))
+    if let Some(mark) = cursor.take(Kind::Punct, "-") {
+        return Some((Sign::Minus, mark));
     }
-}
-
-#[cycle(expressions)]
-fn read_primary<'a>(alloc: Global, tokens: &[Token<'a>], at: usize, depth: usize) -> Read<Expr<'a>>
-    ensures spells { IfOk result (λ r. Parsed tokens.now at (expr_yield r.0) r.1) }
-    ensures groups { IfOk result (λ r. IsOfLevel 7 r.0) }
-{
-    if !is_mark(tokens, at, "(") {
-        return read_atom(alloc, tokens, at);
+    match cursor.take(Kind::Punct, "+") {
+        Some(mark) => Some((Sign::Plus, mark)),
+        None => None,
     }
-    let line = line_at(tokens, at);
-    let left = inside(tokens, at, depth)?;
-    let start = read_mark(tokens, at, "(")?;
-    let (inner, end) = read_level(alloc, tokens, start, 0, false, left)?;
-    let next = read_mark(tokens, end, ")")?;
-    Ok((Expr::new_parenthesized(alloc, line, inner)?, next))
 }
 
 #[cycle(expressions)]
-fn read_unary<'a>(alloc: Global, tokens: &[Token<'a>], at: usize, depth: usize) -> Read<Expr<'a>>
-    ensures spells { IfOk result (λ r. Parsed tokens.now at (expr_yield r.0) r.1) }
-    ensures groups { IfOk result (λ r. IsOfLevel 6 r.0) }
+fn read_primary<'a>(cursor: &mut Cursor<'a>, room: usize) -> Result<Expr<'a>, Stop>
+    ensures spells { IfOk result (λ e. Parsed cursor.old (expr_yield e) cursor.new) }
+    ensures groups { IfOk result (λ e. (shifts : Bool) → IsOfLevel shifts 7 e) }
+    ensures levels { IfOk result (λ e. expr_levels e ≤ room) }
 {
-    if !is_mark(tokens, at, "-") && !is_mark(tokens, at, "+") {
-        return read_primary(alloc, tokens, at, depth);
-    }
-    let line = line_at(tokens, at);
-    let (sign, start) = read_sign(tokens, at)?;
-    let (operand, next) = read_primary(alloc, tokens, start, depth)?;
-    Ok((Expr::new_signed(alloc, line, sign, operand)?, next))
+    let line = cursor.line();
+    let Some(paren) = cursor.take(Kind::Punct, "(") else {
+        return read_atom(cursor);
+    };
+    let left = inside(room, line)?;
+    let inner = read_level(cursor, 0, true, left)?;
+    cursor.mark(")")?;
+    Ok(Expr::new_parenthesized(cursor.alloc(), paren, inner)?)
+}
+
+#[cycle(expressions)]
+fn read_unary<'a>(cursor: &mut Cursor<'a>, room: usize) -> Result<Expr<'a>, Stop>
+    ensures spells { IfOk result (λ e. Parsed cursor.old (expr_yield e) cursor.new) }
+    ensures groups { IfOk result (λ e. (shifts : Bool) → IsOfLevel shifts 6 e) }
+    ensures levels { IfOk result (λ e. expr_levels e ≤ room) }
+{
+    let Some((sign, mark)) = take_sign(cursor) else {
+        return read_primary(cursor, room);
+    };
+    let operand = read_primary(cursor, room)?;
+    Ok(Expr::new_signed(cursor.alloc(), mark, sign, operand)?)
 }
 
 /// Reads operands of the tighter levels, with operators of the level between them.
 #[cycle(expressions)]
 fn read_level<'a>(
-    alloc: Global,
-    tokens: &[Token<'a>],
-    at: usize,
+    cursor: &mut Cursor<'a>,
     level: usize,
-    is_bound: bool,
-    depth: usize,
-) -> Read<Expr<'a>>
-    ensures spells { IfOk result (λ r. Parsed tokens.now at (expr_yield r.0) r.1) }
-    ensures groups { IfOk result (λ r. level ≤ 6 → IsOfLevel level r.0) }
+    shifts: bool,
+    room: usize,
+) -> Result<Expr<'a>, Stop>
+    ensures spells { IfOk result (λ e. Parsed cursor.old (expr_yield e) cursor.new) }
+    ensures groups { IfOk result (λ e. level ≤ 6 → IsOfLevel shifts level e) }
+    ensures levels { IfOk result (λ e. expr_levels e ≤ room) }
 {
     if level >= LEVELS {
-        return read_unary(alloc, tokens, at, depth);
+        return read_unary(cursor, room);
     }
-    let (first, mut next) = read_level(alloc, tokens, at, level + 1, is_bound, depth)?;
-    let mut rest = Vec::new(alloc);
-    'parts: while let Some(operator) = operator_at(tokens, next, level, is_bound) {
-        let start = read_operator(tokens, next, operator)?;
-        let (operand, end) = read_level(alloc, tokens, start, level + 1, is_bound, depth)?;
+    let first = read_level(cursor, level + 1, shifts, room)?;
+    let mut rest = Vec::new(cursor.alloc());
+    'parts: while let Some(operator) = operator_of(cursor, level, shifts) {
+        read_operator(cursor, operator)?;
+        let operand = read_level(cursor, level + 1, shifts, room)?;
         rest.push(Operand { operator, operand })?;
-        next = end;
     }
-    Ok((Expr::new_chain(alloc, first, rest)?, next))
+    rest.shrink_to_fit();
+    Ok(Expr::new_chain(cursor.alloc(), first, rest)?)
 }
 
-/// Reads a constant expression, with room for as many levels of parentheses as are left.
-pub(crate) fn read_expr<'a>(
-    alloc: Global,
-    tokens: &[Token<'a>],
-    at: usize,
-    depth: usize,
-) -> Read<ConstExpr<'a>>
-    ensures { IfOk result (λ r. Parsed tokens.now at (const_expr_yield r.0) r.1) }
+/// Reads a constant expression.
+pub(crate) fn read_expr<'a>(cursor: &mut Cursor<'a>, room: usize) -> Result<ConstExpr<'a>, Stop>
+    ensures spells { IfOk result (λ e. Parsed cursor.old (const_expr_yield e) cursor.new) }
+    ensures levels { IfOk result (λ e. const_expr_levels e ≤ room) }
 {
-    let (expr, next) = read_level(alloc, tokens, at, 0, false, depth)?;
-    Ok((ConstExpr { expr }, next))
+    let expr = read_level(cursor, 0, true, room)?;
+    Ok(ConstExpr { expr })
 }
 
 /// Reads a constant expression between `<` and `>`.
-pub(crate) fn read_bound<'a>(
-    alloc: Global,
-    tokens: &[Token<'a>],
-    at: usize,
-    depth: usize,
-) -> Read<ConstExpr<'a>>
-    ensures { IfOk result (λ r. Parsed tokens.now at (const_expr_yield r.0) r.1) }
+pub(crate) fn read_bound<'a>(cursor: &mut Cursor<'a>, room: usize) -> Result<Bound<'a>, Stop>
+    ensures spells { IfOk result (λ b. Parsed cursor.old (bound_yield b) cursor.new) }
+    ensures levels { IfOk result (λ b. bound_levels b ≤ room) }
 {
-    let (expr, next) = read_level(alloc, tokens, at, 0, true, depth)?;
-    Ok((ConstExpr { expr }, next))
+    let expr = read_level(cursor, 0, false, room)?;
+    Ok(Bound { expr })
 }

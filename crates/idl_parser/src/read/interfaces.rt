@@ -1,296 +1,289 @@
 //! Interfaces, their operations and attributes.
-#![tactic(auto, using(crate::proofs::Reading::append_left, crate::proofs::Reading::append_none, std::proofs::lemmas::List::flat_map_more))]
+#![tactic(auto, using(crate::proofs::Reading::past_append, crate::proofs::Reading::past_none))]
 
-ghost use Rattle.std.specs.Prelude.{◌≡◌, ◌+◌, ◌++◌, ◌≤◌, ◌<◌, true, IfOk, List, length, codes};
+ghost use Rattle.std.specs.Prelude.{◌≡◌, ◌++◌, ◌≤◌, ℕ, Bool, max, IfOk, List, codes};
 ghost use Rattle.std.specs.List.{flat_map};
 ghost use Rattle.idl_parser.specs.Reading.{Parsed, Continued};
-ghost use Rattle.idl_parser.specs.Raises.{may_raise, raises_fit};
+ghost use Rattle.idl_tree.specs.Pieces.{mark};
 ghost use Rattle.idl_tree.specs.Yields.{optional, listed};
-ghost use Rattle.idl_tree.specs.DefinitionYields.{raises_yield, readonly_yield, raised_yield, attribute_yield, direction_yield, param_yield, oneway_yield, result_yield, operation_yield, export_yield, bases_yield, interface_yield};
+ghost use Rattle.idl_tree.specs.Levels.{highest, highest_listed, optional_levels};
+ghost use Rattle.idl_tree.specs.TypeLevels.{param_type_levels};
+ghost use Rattle.idl_tree.specs.DefinitionYields.{raises_yield, readonly_yield, is_readonly as attributes_are_readonly, attributes_yield, attribute_yield, direction_yield, param_yield, oneway_yield, result_yield, operation_yield, export_yield, bases_yield, interface_yield};
+ghost use Rattle.idl_tree.specs.declared.definitions.Attributes.TheVariants.{Silent};
+ghost use Rattle.idl_tree.specs.DefinitionLevels.{attribute_levels, param_levels, operation_levels, export_levels, interface_levels};
 
-use crate::fault::ParseFault;
-use crate::read::declarations::{is_declaration, read_declaration};
-use crate::read::names::{read_identifier, read_identifiers, read_scoped_names};
-use crate::read::tokens::{Read, is_keyword, is_kind, is_mark, read_keyword, read_leaf, read_mark};
+use crate::cursor::Cursor;
+use crate::read::declarations::{is_declaration, read_ended_declaration};
+use crate::read::lists::{Part, both, read_listed, read_rest};
 use crate::read::types::read_param_type;
-use idl_lexer::{Kind, Token};
-use idl_tree::definitions::{Attribute, Direction, Export, Interface, Operation, Param, Raised};
-use idl_tree::names::{Listed, ScopedName};
+use crate::stop::Stop;
+use idl_lexer::Kind;
+use idl_tree::definitions::{
+    Attribute, Attributes, Direction, Export, Interface, Operation, Param,
+};
+use idl_tree::names::{Leaf, Listed, ScopedName};
 use idl_tree::types::ParamType;
-use std::alloc::Global;
+
+/// The parameters of an operation, and what it raises.
+type Signature<'a> = (Option<Listed<Param<'a>>>, Option<Listed<ScopedName<'a>>>);
 
 /// Reads a word and the exceptions behind it, if the word is there.
 fn read_raises<'a>(
-    alloc: Global,
-    tokens: &[Token<'a>],
-    at: usize,
+    cursor: &mut Cursor<'a>,
     word: &str,
-) -> Read<Option<Listed<ScopedName<'a>>>>
-    ensures { IfOk result (λ r. Continued tokens.now at (optional (raises_yield word.now) r.0) r.1) }
+) -> Result<Option<Listed<ScopedName<'a>>>, Stop>
+    ensures { IfOk result (λ r. Continued cursor.old (optional (raises_yield word.now) r) cursor.new) }
 {
-    if !is_keyword(tokens, at, word) {
-        return Ok((None, at));
+    if !cursor.take_keyword(word) {
+        return Ok(None);
     }
-    let open = read_keyword(tokens, at, word)?;
-    let start = read_mark(tokens, open, "(")?;
-    let (names, end) = read_scoped_names(alloc, tokens, start)?;
-    Ok((Some(names), read_mark(tokens, end, ")")?))
+    cursor.mark("(")?;
+    let names = read_listed(cursor, 0)?;
+    Ok(Some(cursor.closed(names, ")")?))
 }
 
-/// Reads what an attribute raises, which only one that stands alone may do.
-fn read_raised<'a>(
-    alloc: Global,
-    tokens: &[Token<'a>],
-    at: usize,
-    is_readonly: bool,
-    is_alone: bool,
-) -> Read<Raised<'a>>
-    ensures read { IfOk result (λ r. Continued tokens.now at (raised_yield r.0) r.1) }
-    ensures fits { IfOk result (λ r. may_raise is_readonly is_alone r.0 ≡ true) }
+/// Takes `readonly`, if it is next.
+fn take_readonly(cursor: &mut Cursor<'_>) -> bool
+    ensures { Continued cursor.old (readonly_yield result) cursor.new }
 {
-    if !is_alone {
-        return Ok((Raised::Nothing, at));
+    cursor.take_keyword("readonly")
+}
+
+/// Attributes that raise nothing.
+fn silent<'a>(is_readonly: bool, first: Leaf<'a>, rest: Vec<Leaf<'a>>) -> Attributes<'a>
+    ensures { result ≡ Silent is_readonly (record { first = first.entry; rest = rest.entry }) }
+{
+    Attributes::Silent {
+        is_readonly,
+        identifiers: Listed { first, rest },
+    }
+}
+
+/// Reads the identifiers of attributes, and what one that stands alone raises.
+fn read_attributes<'a>(cursor: &mut Cursor<'a>, is_readonly: bool) -> Result<Attributes<'a>, Stop>
+    ensures spells { IfOk result (λ a. Parsed cursor.old (attributes_yield a) cursor.new) }
+    ensures kind { IfOk result (λ a. attributes_are_readonly a ≡ is_readonly) }
+{
+    let identifier = cursor.identifier()?;
+    let rest = read_rest(cursor, 0)?;
+    if !rest.is_empty() {
+        return Ok(silent(is_readonly, identifier, rest));
     }
     if is_readonly {
-        let (raises, next) = read_raises(alloc, tokens, at, "raises")?;
-        let raised = match raises {
-            Some(names) => Raised::Read(names),
-            None => Raised::Nothing,
-        };
-        return Ok((raised, next));
+        let raised = read_raises(cursor, "raises")?;
+        if let Some(raises) = raised {
+            return Ok(Attributes::Readonly { identifier, raises });
+        }
+        return Ok(silent(is_readonly, identifier, rest));
     }
-    let (get, behind) = read_raises(alloc, tokens, at, "getraises")?;
-    let (set, next) = read_raises(alloc, tokens, behind, "setraises")?;
-    Ok((Raised::Both { get, set }, next))
+    let got = read_raises(cursor, "getraises")?;
+    let set = read_raises(cursor, "setraises")?;
+    if let Some(get) = got {
+        return Ok(Attributes::Get {
+            identifier,
+            get,
+            set,
+        });
+    }
+    if let Some(set) = set {
+        return Ok(Attributes::Set { identifier, set });
+    }
+    Ok(silent(is_readonly, identifier, rest))
 }
 
-/// Whether `readonly` stands at a place, and the place behind it.
-fn read_readonly(tokens: &[Token<'_>], at: usize) -> Read<bool>
-    ensures { IfOk result (λ r. Continued tokens.now at (readonly_yield r.0) r.1) }
+fn read_attribute<'a>(cursor: &mut Cursor<'a>, room: usize) -> Result<Attribute<'a>, Stop>
+    ensures spells { IfOk result (λ a. Parsed cursor.old (attribute_yield a) cursor.new) }
+    ensures levels { IfOk result (λ a. attribute_levels a ≤ room) }
 {
-    if is_keyword(tokens, at, "readonly") {
-        Ok((true, read_keyword(tokens, at, "readonly")?))
-    } else {
-        Ok((false, at))
-    }
-}
-
-fn read_attribute<'a>(
-    alloc: Global,
-    tokens: &[Token<'a>],
-    at: usize,
-    depth: usize,
-) -> Read<Attribute<'a>>
-    ensures read { IfOk result (λ r. Parsed tokens.now at (attribute_yield r.0) r.1) }
-    ensures fits { IfOk result (λ r. raises_fit r.0 ≡ true) }
-{
-    let (is_readonly, word) = read_readonly(tokens, at)?;
-    let start = read_keyword(tokens, word, "attribute")?;
-    let (attribute_type, behind) = read_param_type(alloc, tokens, start, depth)?;
-    let (identifiers, end) = read_identifiers(alloc, tokens, behind)?;
-    let is_alone = identifiers.rest.is_empty();
-    let (raised, next) = read_raised(alloc, tokens, end, is_readonly, is_alone)?;
-    let attribute = Attribute {
-        is_readonly,
+    let is_readonly = take_readonly(cursor);
+    cursor.keyword("attribute")?;
+    let front = read_param_type(cursor, room)?;
+    let (attribute_type, declared) = both(front, read_attributes(cursor, is_readonly))?;
+    Ok(Attribute {
         attribute_type,
-        identifiers,
-        raised,
-    };
-    Ok((attribute, next))
+        declared,
+    })
 }
 
-fn read_direction(tokens: &[Token<'_>], at: usize) -> Read<Direction>
-    ensures { IfOk result (λ r. Parsed tokens.now at (direction_yield r.0) r.1) }
+fn read_direction(cursor: &mut Cursor<'_>) -> Result<Direction, Stop>
+    ensures { IfOk result (λ d. Parsed cursor.old (direction_yield d) cursor.new) }
 {
-    if is_keyword(tokens, at, "inout") {
-        Ok((Direction::InOut, read_keyword(tokens, at, "inout")?))
-    } else if is_keyword(tokens, at, "out") {
-        Ok((Direction::Out, read_keyword(tokens, at, "out")?))
-    } else {
-        Ok((Direction::In, read_keyword(tokens, at, "in")?))
+    if cursor.take_keyword("inout") {
+        return Ok(Direction::InOut);
     }
-}
-
-fn read_param<'a>(alloc: Global, tokens: &[Token<'a>], at: usize, depth: usize) -> Read<Param<'a>>
-    ensures { IfOk result (λ r. Parsed tokens.now at (param_yield r.0) r.1) }
-{
-    let (direction, start) = read_direction(tokens, at)?;
-    let (param_type, behind) = read_param_type(alloc, tokens, start, depth)?;
-    let (identifier, next) = read_identifier(tokens, behind)?;
-    let param = Param {
-        direction,
-        param_type,
-        identifier,
-    };
-    Ok((param, next))
-}
-
-/// Reads parameters, one or more.
-fn read_params<'a>(
-    alloc: Global,
-    tokens: &[Token<'a>],
-    at: usize,
-    depth: usize,
-) -> Read<Listed<Param<'a>>>
-    ensures { IfOk result (λ r. Parsed tokens.now at (listed param_yield r.0) r.1) }
-{
-    let (first, mut next) = read_param(alloc, tokens, at, depth)?;
-    let mut rest = Vec::new(alloc);
-    'parts: while is_mark(tokens, next, ",") {
-        let behind = read_mark(tokens, next, ",")?;
-        let (part, end) = read_param(alloc, tokens, behind, depth)?;
-        rest.push(part)?;
-        next = end;
+    if cursor.take_keyword("out") {
+        return Ok(Direction::Out);
     }
-    Ok((Listed { first, rest }, next))
+    cursor.keyword("in")?;
+    Ok(Direction::In)
+}
+
+impl<'a> Part<'a> for Param<'a> {
+    ghost use Rattle.idl_tree.specs.DefinitionYields.{param_yield};
+    ghost use Rattle.idl_tree.specs.DefinitionLevels.{param_levels};
+
+    ghost yield_of = { param_yield };
+
+    ghost levels_of = { param_levels };
+
+    fn read(cursor: &mut Cursor<'a>, room: usize) -> Result<Self, Stop> {
+        let direction = read_direction(cursor)?;
+        let front = read_param_type(cursor, room)?;
+        let (param_type, identifier) = both(front, cursor.identifier())?;
+        Ok(Param {
+            direction,
+            param_type,
+            identifier,
+        })
+    }
 }
 
 /// Reads the parameters up to a closing parenthesis, if there are any.
-fn read_optional_params<'a>(
-    alloc: Global,
-    tokens: &[Token<'a>],
-    at: usize,
-    depth: usize,
-) -> Read<Option<Listed<Param<'a>>>>
-    ensures { IfOk result (λ r. Continued tokens.now at (optional (listed param_yield) r.0) r.1) }
+fn read_params<'a>(cursor: &mut Cursor<'a>, room: usize) -> Result<Option<Listed<Param<'a>>>, Stop>
+    ensures spells { IfOk result (λ p. Continued cursor.old (optional (listed param_yield) p) cursor.new) }
+    ensures levels { IfOk result (λ p. optional_levels (highest_listed param_levels) p ≤ room) }
 {
-    if is_mark(tokens, at, ")") {
-        return Ok((None, at));
+    if cursor.is_mark(")") {
+        return Ok(None);
     }
-    let (params, next) = read_params(alloc, tokens, at, depth)?;
-    Ok((Some(params), next))
+    Ok(Some(read_listed(cursor, room)?))
 }
 
-/// Whether `oneway` stands at a place, and the place behind it.
-fn read_oneway(tokens: &[Token<'_>], at: usize) -> Read<bool>
-    ensures { IfOk result (λ r. Continued tokens.now at (oneway_yield r.0) r.1) }
+/// Takes `oneway`, if it is next.
+fn take_oneway(cursor: &mut Cursor<'_>) -> bool
+    ensures { Continued cursor.old (oneway_yield result) cursor.new }
 {
-    if is_keyword(tokens, at, "oneway") {
-        Ok((true, read_keyword(tokens, at, "oneway")?))
-    } else {
-        Ok((false, at))
-    }
+    cursor.take_keyword("oneway")
 }
 
 /// Reads the type of a result, or `void`.
-fn read_result<'a>(
-    alloc: Global,
-    tokens: &[Token<'a>],
-    at: usize,
-    depth: usize,
-) -> Read<Option<ParamType<'a>>>
-    ensures { IfOk result (λ r. Parsed tokens.now at (result_yield r.0) r.1) }
+fn read_result<'a>(cursor: &mut Cursor<'a>, room: usize) -> Result<Option<ParamType<'a>>, Stop>
+    ensures spells { IfOk result (λ t. Parsed cursor.old (result_yield t) cursor.new) }
+    ensures levels { IfOk result (λ t. optional_levels param_type_levels t ≤ room) }
 {
-    if is_keyword(tokens, at, "void") {
-        return Ok((None, read_keyword(tokens, at, "void")?));
+    if cursor.take_keyword("void") {
+        return Ok(None);
     }
-    let (result_type, next) = read_param_type(alloc, tokens, at, depth)?;
-    Ok((Some(result_type), next))
+    Ok(Some(read_param_type(cursor, room)?))
 }
 
-fn read_operation<'a>(
-    alloc: Global,
-    tokens: &[Token<'a>],
-    at: usize,
-    depth: usize,
-) -> Read<Operation<'a>>
-    ensures { IfOk result (λ r. Parsed tokens.now at (operation_yield r.0) r.1) }
+/// Reads the parameters of an operation and what it raises.
+fn read_signature<'a>(cursor: &mut Cursor<'a>, room: usize) -> Result<Signature<'a>, Stop>
+    ensures spells { IfOk result (λ s. Parsed cursor.old (mark (codes "(") ++ optional (listed param_yield) s.0
+        ++ mark (codes ")") ++ optional (raises_yield (codes "raises")) s.1) cursor.new) }
+    ensures levels { IfOk result (λ s. optional_levels (highest_listed param_levels) s.0 ≤ room) }
 {
-    let (is_oneway, start) = read_oneway(tokens, at)?;
-    let (answer, behind) = read_result(alloc, tokens, start, depth)?;
-    let (identifier, open) = read_identifier(tokens, behind)?;
-    let first = read_mark(tokens, open, "(")?;
-    let (params, end) = read_optional_params(alloc, tokens, first, depth)?;
-    let close = read_mark(tokens, end, ")")?;
-    let (raises, next) = read_raises(alloc, tokens, close, "raises")?;
-    let operation = Operation {
+    cursor.mark("(")?;
+    let front = read_params(cursor, room)?;
+    let params = cursor.closed(front, ")")?;
+    both(params, read_raises(cursor, "raises"))
+}
+
+fn read_operation<'a>(cursor: &mut Cursor<'a>, room: usize) -> Result<Operation<'a>, Stop>
+    ensures spells { IfOk result (λ o. Parsed cursor.old (operation_yield o) cursor.new) }
+    ensures levels { IfOk result (λ o. operation_levels o ≤ room) }
+{
+    let is_oneway = take_oneway(cursor);
+    let returned = read_result(cursor, room)?;
+    let (front, identifier) = both(returned, cursor.identifier())?;
+    let (result_type, (params, raises)) = both(front, read_signature(cursor, room))?;
+    Ok(Operation {
         is_oneway,
-        result_type: answer,
+        result_type,
         identifier,
         params,
         raises,
-    };
-    Ok((operation, next))
+    })
 }
 
-fn read_export<'a>(alloc: Global, tokens: &[Token<'a>], at: usize, depth: usize) -> Read<Export<'a>>
-    ensures { IfOk result (λ r. Parsed tokens.now at (export_yield r.0) r.1) }
+/// Reads attributes and the semicolon behind them.
+fn read_ended_attribute<'a>(cursor: &mut Cursor<'a>, room: usize) -> Result<Attribute<'a>, Stop>
+    ensures spells { IfOk result (λ a. Parsed cursor.old (attribute_yield a ++ mark (codes ";")) cursor.new) }
+    ensures levels { IfOk result (λ a. attribute_levels a ≤ room) }
 {
-    if is_kind(tokens, at, Kind::Pragma) {
-        let (pragma, next) = read_leaf(tokens, at, Kind::Pragma)?;
-        Ok((Export::Pragma(pragma), next))
-    } else if is_declaration(tokens, at) {
-        let (declaration, end) = read_declaration(alloc, tokens, at, depth)?;
-        let next = read_mark(tokens, end, ";")?;
-        Ok((Export::Declaration(declaration), next))
-    } else if is_keyword(tokens, at, "readonly") || is_keyword(tokens, at, "attribute") {
-        let (attribute, end) = read_attribute(alloc, tokens, at, depth)?;
-        let next = read_mark(tokens, end, ";")?;
-        Ok((Export::Attribute(attribute), next))
-    } else {
-        let (operation, end) = read_operation(alloc, tokens, at, depth)?;
-        let next = read_mark(tokens, end, ";")?;
-        Ok((Export::Operation(operation), next))
+    let attribute = read_attribute(cursor, room)?;
+    cursor.closed(attribute, ";")
+}
+
+/// Reads an operation and the semicolon behind it.
+fn read_ended_operation<'a>(cursor: &mut Cursor<'a>, room: usize) -> Result<Operation<'a>, Stop>
+    ensures spells { IfOk result (λ o. Parsed cursor.old (operation_yield o ++ mark (codes ";")) cursor.new) }
+    ensures levels { IfOk result (λ o. operation_levels o ≤ room) }
+{
+    let operation = read_operation(cursor, room)?;
+    cursor.closed(operation, ";")
+}
+
+fn read_export<'a>(cursor: &mut Cursor<'a>, room: usize) -> Result<Export<'a>, Stop>
+    ensures spells { IfOk result (λ e. Parsed cursor.old (export_yield e) cursor.new) }
+    ensures levels { IfOk result (λ e. export_levels e ≤ room) }
+{
+    if let Some(pragma) = cursor.take_leaf(Kind::Pragma) {
+        return Ok(Export::Pragma(pragma));
     }
+    let word = cursor.text(Kind::Keyword);
+    if is_declaration(word) {
+        return Ok(Export::Declaration(read_ended_declaration(cursor, room)?));
+    }
+    if let Some("readonly" | "attribute") = word {
+        return Ok(Export::Attribute(read_ended_attribute(cursor, room)?));
+    }
+    Ok(Export::Operation(read_ended_operation(cursor, room)?))
 }
 
-/// Reads exports up to a closing brace.
-fn read_exports<'a>(
-    alloc: Global,
-    tokens: &[Token<'a>],
-    at: usize,
-    depth: usize,
-) -> Read<Vec<Export<'a>>>
-    ensures { IfOk result (λ r. Continued tokens.now at (flat_map export_yield r.0.items) r.1) }
+/// Reads exports between braces.
+fn read_exports<'a>(cursor: &mut Cursor<'a>, room: usize) -> Result<Vec<Export<'a>>, Stop>
+    ensures spells { IfOk result (λ e. Parsed cursor.old
+        (mark (codes "{") ++ flat_map export_yield e.items ++ mark (codes "}")) cursor.new) }
+    ensures levels { IfOk result (λ e. highest export_levels e.items ≤ room) }
 {
-    let mut exports = Vec::new(alloc);
-    let mut next = at;
-    'parts: while !is_mark(tokens, next, "}") {
-        let (export, end) = read_export(alloc, tokens, next, depth)?;
+    cursor.mark("{")?;
+    let mut exports = Vec::new(cursor.alloc());
+    'parts: while !cursor.is_mark("}") {
+        let export = read_export(cursor, room)?;
         exports.push(export)?;
-        next = end;
     }
-    Ok((exports, next))
+    exports.shrink_to_fit();
+    cursor.closed(exports, "}")
 }
 
 /// Reads the bases of an interface, if it has any.
-fn read_bases<'a>(
-    alloc: Global,
-    tokens: &[Token<'a>],
-    at: usize,
-) -> Read<Option<Listed<ScopedName<'a>>>>
-    ensures { IfOk result (λ r. Continued tokens.now at (optional bases_yield r.0) r.1) }
+fn read_bases<'a>(cursor: &mut Cursor<'a>) -> Result<Option<Listed<ScopedName<'a>>>, Stop>
+    ensures { IfOk result (λ b. Continued cursor.old (optional bases_yield b) cursor.new) }
 {
-    if !is_mark(tokens, at, ":") {
-        return Ok((None, at));
+    if !cursor.take_mark(":") {
+        return Ok(None);
     }
-    let start = read_mark(tokens, at, ":")?;
-    let (bases, next) = read_scoped_names(alloc, tokens, start)?;
-    Ok((Some(bases), next))
+    Ok(Some(read_listed(cursor, 0)?))
 }
 
 /// Reads an interface, or one that is declared ahead, which a semicolon tells.
-pub(crate) fn read_interface<'a>(
-    alloc: Global,
-    tokens: &[Token<'a>],
-    at: usize,
-    depth: usize,
-) -> Read<Interface<'a>>
-    ensures { IfOk result (λ r. Parsed tokens.now at (interface_yield r.0) r.1) }
+fn read_interface<'a>(cursor: &mut Cursor<'a>, room: usize) -> Result<Interface<'a>, Stop>
+    ensures spells { IfOk result (λ i. Parsed cursor.old (interface_yield i) cursor.new) }
+    ensures levels { IfOk result (λ i. interface_levels i ≤ room) }
 {
-    let behind = read_keyword(tokens, at, "interface")?;
-    let (identifier, colon) = read_identifier(tokens, behind)?;
-    if is_mark(tokens, colon, ";") {
-        return Ok((Interface::Ahead(identifier), colon));
+    cursor.keyword("interface")?;
+    let identifier = cursor.identifier()?;
+    if cursor.is_mark(";") {
+        return Ok(Interface::Ahead(identifier));
     }
-    let (bases, open) = read_bases(alloc, tokens, colon)?;
-    let start = read_mark(tokens, open, "{")?;
-    let (exports, end) = read_exports(alloc, tokens, start, depth)?;
-    let next = read_mark(tokens, end, "}")?;
-    let interface = Interface::Defined {
+    let front = read_bases(cursor)?;
+    let (bases, exports) = both(front, read_exports(cursor, room))?;
+    Ok(Interface::Defined {
         identifier,
         bases,
         exports,
-    };
-    Ok((interface, next))
+    })
+}
+
+/// Reads an interface and the semicolon behind it.
+pub(crate) fn read_ended_interface<'a>(
+    cursor: &mut Cursor<'a>,
+    room: usize,
+) -> Result<Interface<'a>, Stop>
+    ensures spells { IfOk result (λ i. Parsed cursor.old (interface_yield i ++ mark (codes ";")) cursor.new) }
+    ensures levels { IfOk result (λ i. interface_levels i ≤ room) }
+{
+    let interface = read_interface(cursor, room)?;
+    cursor.closed(interface, ";")
 }

@@ -1,94 +1,62 @@
-//! Identifiers, scoped names, and lists with commas.
-#![tactic(auto, using(crate::proofs::Reading::append_left, std::proofs::lemmas::List::flat_map_more))]
+//! Identifiers and scoped names.
+#![tactic(auto, using(crate::proofs::Reading::past_append, crate::proofs::Reading::past_none))]
 
-ghost use Rattle.std.specs.Prelude.{◌≡◌, ◌+◌, ◌++◌, ◌≤◌, IfOk, List, take, length};
-ghost use Rattle.idl_parser.specs.Reading.{Parsed};
-ghost use Rattle.idl_tree.specs.Pieces.{Piece, pieces};
-ghost use Rattle.idl_tree.specs.Yields.{identifier, name_yield, names_yield, listed, root, root_len};
+ghost use Rattle.std.specs.Prelude.{◌≡◌, ◌++◌, ℕ, IfOk, List, codes};
+ghost use Rattle.idl_parser.specs.Reading.{Parsed, Continued};
+ghost use Rattle.idl_tree.specs.Yields.{optional, root_yield, name_yield};
 
-use crate::fault::ParseFault;
-use crate::read::tokens::{Read, is_mark, line_at, read_leaf, read_mark};
-use idl_lexer::{Kind, Token};
-use idl_tree::names::{Leaf, Listed, ScopedName};
-use std::alloc::Global;
+use crate::cursor::Cursor;
+use crate::read::lists::Part;
+use crate::stop::Stop;
+use idl_lexer::Kind;
+use idl_tree::names::{Leaf, Path, ScopedName};
 
-pub(crate) fn read_identifier<'a>(tokens: &[Token<'a>], at: usize) -> Read<Leaf<'a>>
-    ensures read { IfOk result (λ r. Parsed tokens.now at (identifier r.0) r.1) }
-    ensures number { IfOk result (λ r. r.0.number ≡ at) }
-{
-    read_leaf(tokens, at, Kind::Ident)
-}
+impl<'a> Part<'a> for Leaf<'a> {
+    ghost use Rattle.idl_tree.specs.Yields.{identifier};
 
-/// Whether `::` stands at a place, and the place behind it.
-fn read_root(tokens: &[Token<'_>], at: usize) -> Read<bool>
-    ensures read { IfOk result (λ r. take at (pieces tokens.now) ++ root r.0 ≡ take r.1 (pieces tokens.now)) }
-    ensures on { IfOk result (λ r. r.1 ≡ at + root_len r.0) }
-{
-    if is_mark(tokens, at, "::") {
-        Ok((true, read_mark(tokens, at, "::")?))
-    } else {
-        Ok((false, at))
+    ghost yield_of = { identifier };
+
+    ghost levels_of = { λ _. 0 };
+
+    fn read(cursor: &mut Cursor<'a>, _room: usize) -> Result<Self, Stop> {
+        cursor.identifier()
     }
 }
 
-pub(crate) fn read_scoped_name<'a>(
-    alloc: Global,
-    tokens: &[Token<'a>],
-    at: usize,
-) -> Read<ScopedName<'a>>
-    ensures { IfOk result (λ r. Parsed tokens.now at (name_yield r.0) r.1) }
+impl<'a> Part<'a> for ScopedName<'a> {
+    ghost use Rattle.idl_tree.specs.Yields.{name_yield};
+
+    ghost yield_of = { name_yield };
+
+    ghost levels_of = { λ _. 0 };
+
+    fn read(cursor: &mut Cursor<'a>, _room: usize) -> Result<Self, Stop> {
+        read_scoped_name(cursor)
+    }
+}
+
+/// Takes the `::` that a name begins with, if it does.
+fn take_root<'a>(cursor: &mut Cursor<'a>) -> Option<Leaf<'a>>
+    ensures { Continued cursor.old (optional root_yield result) cursor.new }
 {
-    let (is_rooted, start) = read_root(tokens, at)?;
-    let (first, mut next) = read_identifier(tokens, start)?;
-    let mut rest = Vec::new(alloc);
-    'parts: while is_mark(tokens, next, "::") {
-        let behind = read_mark(tokens, next, "::")?;
-        let (part, end) = read_identifier(tokens, behind)?;
+    cursor.take(Kind::Punct, "::")
+}
+
+pub(crate) fn read_scoped_name<'a>(cursor: &mut Cursor<'a>) -> Result<ScopedName<'a>, Stop>
+    ensures { IfOk result (λ n. Parsed cursor.old (name_yield n) cursor.new) }
+{
+    let root = take_root(cursor);
+    let first = cursor.identifier()?;
+    let mut rest = Vec::new(cursor.alloc());
+    'parts: while cursor.is_mark("::") {
+        cursor.mark("::")?;
+        let part = cursor.identifier()?;
         rest.push(part)?;
-        next = end;
     }
-    let name = ScopedName {
-        number: at,
-        line: line_at(tokens, at),
-        is_rooted,
-        first: first.text,
-        rest,
-    };
-    Ok((name, next))
-}
-
-pub(crate) fn read_identifiers<'a>(
-    alloc: Global,
-    tokens: &[Token<'a>],
-    at: usize,
-) -> Read<Listed<Leaf<'a>>>
-    ensures { IfOk result (λ r. Parsed tokens.now at (listed identifier r.0) r.1) }
-{
-    let (first, mut next) = read_identifier(tokens, at)?;
-    let mut rest = Vec::new(alloc);
-    'parts: while is_mark(tokens, next, ",") {
-        let behind = read_mark(tokens, next, ",")?;
-        let (part, end) = read_identifier(tokens, behind)?;
-        rest.push(part)?;
-        next = end;
+    if root.is_none() && rest.is_empty() {
+        return Ok(ScopedName::Plain(first));
     }
-    Ok((Listed { first, rest }, next))
-}
-
-pub(crate) fn read_scoped_names<'a>(
-    alloc: Global,
-    tokens: &[Token<'a>],
-    at: usize,
-) -> Read<Listed<ScopedName<'a>>>
-    ensures { IfOk result (λ r. Parsed tokens.now at (names_yield r.0) r.1) }
-{
-    let (first, mut next) = read_scoped_name(alloc, tokens, at)?;
-    let mut rest = Vec::new(alloc);
-    'parts: while is_mark(tokens, next, ",") {
-        let behind = read_mark(tokens, next, ",")?;
-        let (part, end) = read_scoped_name(alloc, tokens, behind)?;
-        rest.push(part)?;
-        next = end;
-    }
-    Ok((Listed { first, rest }, next))
+    rest.shrink_to_fit();
+    let path = Path { root, first, rest };
+    Ok(ScopedName::Scoped(Box::new(cursor.alloc(), path)?))
 }

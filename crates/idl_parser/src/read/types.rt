@@ -1,236 +1,212 @@
 //! Types that declare nothing but enumerations, and declarators.
-#![tactic(auto, using(crate::proofs::Reading::append_left, crate::proofs::Reading::append_none, std::proofs::lemmas::List::flat_map_more))]
+#![tactic(auto, using(crate::proofs::Reading::past_append, crate::proofs::Reading::past_none))]
 
-ghost use Rattle.std.specs.Prelude.{◌≡◌, ◌+◌, ◌++◌, ◌≤◌, ◌<◌, IfOk, List, take, length, codes};
+ghost use Rattle.std.specs.Prelude.{◌≡◌, ◌++◌, ◌≤◌, suc, ℕ, IfOk, List, codes};
 ghost use Rattle.std.specs.List.{flat_map};
 ghost use Rattle.idl_parser.specs.Reading.{Parsed, Continued};
 ghost use Rattle.idl_tree.specs.Pieces.{keyword, mark};
-ghost use Rattle.idl_tree.specs.Yields.{optional, listed};
-ghost use Rattle.idl_tree.specs.TypeYields.{integer_size_yield, integer_yield, string_bound_yield, const_type_yield, param_type_yield, sequence_bound_yield, simple_type_yield, declarator_yield, enum_yield, switch_yield};
+ghost use Rattle.idl_tree.specs.Yields.{optional};
+ghost use Rattle.idl_tree.specs.TypeYields.{integer_size_yield, integer_yield, string_bound_yield, const_type_yield, param_type_yield, sequence_bound_yield, simple_type_yield, declarator_yield, size_yield, enum_yield, switch_yield};
+ghost use Rattle.idl_tree.specs.Levels.{highest, optional_levels, const_expr_levels, bound_levels};
+ghost use Rattle.idl_tree.specs.TypeLevels.{const_type_levels, param_type_levels, simple_type_levels, declarator_levels, switch_levels};
 
-use crate::fault::ParseFault;
+use crate::cursor::Cursor;
 use crate::read::expressions::{read_bound, read_expr};
-use crate::read::names::{read_identifier, read_identifiers, read_scoped_name};
-use crate::read::tokens::{Read, inside, is_keyword, is_mark, read_keyword, read_mark};
-use idl_lexer::Token;
-use idl_tree::const_expr::ConstExpr;
-use idl_tree::names::Listed;
+use crate::read::lists::{Part, read_listed};
+use crate::read::names::read_scoped_name;
+use crate::stop::Stop;
+use idl_lexer::Kind;
+use idl_tree::const_expr::{Bound, ConstExpr};
 use idl_tree::types::{
     ConstType, Declarator, EnumType, Integer, IntegerSize, ParamType, SimpleType, SwitchType,
 };
-use std::alloc::Global;
 
-/// Whether an integer type stands at a place.
-fn is_integer(tokens: &[Token<'_>], at: usize) -> bool {
-    ["short", "long", "unsigned"]
-        .iter()
-        .any(|word| is_keyword(tokens, at, *word))
-}
-
-fn read_integer_size(tokens: &[Token<'_>], at: usize) -> Read<IntegerSize>
-    ensures { IfOk result (λ r. Parsed tokens.now at (integer_size_yield r.0) r.1) }
+fn read_integer_size(cursor: &mut Cursor<'_>) -> Result<IntegerSize, Stop>
+    ensures { IfOk result (λ i. Parsed cursor.old (integer_size_yield i) cursor.new) }
 {
-    if is_keyword(tokens, at, "short") {
-        return Ok((IntegerSize::Short, read_keyword(tokens, at, "short")?));
+    if cursor.take_keyword("short") {
+        return Ok(IntegerSize::Short);
     }
-    let next = read_keyword(tokens, at, "long")?;
-    if is_keyword(tokens, next, "long") {
-        Ok((IntegerSize::LongLong, read_keyword(tokens, next, "long")?))
+    cursor.keyword("long")?;
+    if cursor.take_keyword("long") {
+        Ok(IntegerSize::LongLong)
     } else {
-        Ok((IntegerSize::Long, next))
+        Ok(IntegerSize::Long)
     }
 }
 
-fn read_integer(tokens: &[Token<'_>], at: usize) -> Read<Integer>
-    ensures { IfOk result (λ r. Parsed tokens.now at (integer_yield r.0) r.1) }
+fn read_integer(cursor: &mut Cursor<'_>) -> Result<Integer, Stop>
+    ensures { IfOk result (λ i. Parsed cursor.old (integer_yield i) cursor.new) }
 {
-    if !is_keyword(tokens, at, "unsigned") {
-        let (size, next) = read_integer_size(tokens, at)?;
-        return Ok((Integer::Signed(size), next));
+    if cursor.take_keyword("unsigned") {
+        return Ok(Integer::Unsigned(read_integer_size(cursor)?));
     }
-    let start = read_keyword(tokens, at, "unsigned")?;
-    let (size, next) = read_integer_size(tokens, start)?;
-    Ok((Integer::Unsigned(size), next))
+    Ok(Integer::Signed(read_integer_size(cursor)?))
 }
 
 /// Reads the bound of a string, if it has one.
-fn read_string_bound<'a>(
-    alloc: Global,
-    tokens: &[Token<'a>],
-    at: usize,
-    depth: usize,
-) -> Read<Option<ConstExpr<'a>>>
-    ensures { IfOk result (λ r. Continued tokens.now at (optional string_bound_yield r.0) r.1) }
+fn read_string_bound<'a>(cursor: &mut Cursor<'a>, room: usize) -> Result<Option<Bound<'a>>, Stop>
+    ensures spells { IfOk result (λ b. Continued cursor.old (optional string_bound_yield b) cursor.new) }
+    ensures levels { IfOk result (λ b. optional_levels bound_levels b ≤ room) }
 {
-    if !is_mark(tokens, at, "<") {
-        return Ok((None, at));
+    if !cursor.take_mark("<") {
+        return Ok(None);
     }
-    let start = read_mark(tokens, at, "<")?;
-    let (bound, end) = read_bound(alloc, tokens, start, depth)?;
-    Ok((Some(bound), read_mark(tokens, end, ">")?))
+    let bound = read_bound(cursor, room)?;
+    Ok(Some(cursor.closed(bound, ">")?))
 }
 
 /// Reads a string, a name, or a type that is a word alone.
 pub(crate) fn read_const_type<'a>(
-    alloc: Global,
-    tokens: &[Token<'a>],
-    at: usize,
-    depth: usize,
-) -> Read<ConstType<'a>>
-    ensures { IfOk result (λ r. Parsed tokens.now at (const_type_yield r.0) r.1) }
+    cursor: &mut Cursor<'a>,
+    room: usize,
+) -> Result<ConstType<'a>, Stop>
+    ensures spells { IfOk result (λ t. Parsed cursor.old (const_type_yield t) cursor.new) }
+    ensures levels { IfOk result (λ t. const_type_levels t ≤ room) }
 {
-    if is_integer(tokens, at) {
-        let (integer, next) = read_integer(tokens, at)?;
-        Ok((ConstType::Integer(integer), next))
-    } else if is_keyword(tokens, at, "char") {
-        Ok((ConstType::Char, read_keyword(tokens, at, "char")?))
-    } else if is_keyword(tokens, at, "boolean") {
-        Ok((ConstType::Boolean, read_keyword(tokens, at, "boolean")?))
-    } else if is_keyword(tokens, at, "octet") {
-        Ok((ConstType::Octet, read_keyword(tokens, at, "octet")?))
-    } else if is_keyword(tokens, at, "string") {
-        let start = read_keyword(tokens, at, "string")?;
-        let (bound, next) = read_string_bound(alloc, tokens, start, depth)?;
-        Ok((ConstType::String(bound), next))
-    } else {
-        let (name, next) = read_scoped_name(alloc, tokens, at)?;
-        Ok((ConstType::Name(name), next))
+    match cursor.text(Kind::Keyword) {
+        Some("short" | "long" | "unsigned") => Ok(ConstType::Integer(read_integer(cursor)?)),
+        Some("char") => {
+            cursor.keyword("char")?;
+            Ok(ConstType::Char)
+        }
+        Some("boolean") => {
+            cursor.keyword("boolean")?;
+            Ok(ConstType::Boolean)
+        }
+        Some("octet") => {
+            cursor.keyword("octet")?;
+            Ok(ConstType::Octet)
+        }
+        Some("string") => {
+            cursor.keyword("string")?;
+            Ok(ConstType::String(read_string_bound(cursor, room)?))
+        }
+        _ => Ok(ConstType::Name(read_scoped_name(cursor)?)),
     }
 }
 
 pub(crate) fn read_param_type<'a>(
-    alloc: Global,
-    tokens: &[Token<'a>],
-    at: usize,
-    depth: usize,
-) -> Read<ParamType<'a>>
-    ensures { IfOk result (λ r. Parsed tokens.now at (param_type_yield r.0) r.1) }
+    cursor: &mut Cursor<'a>,
+    room: usize,
+) -> Result<ParamType<'a>, Stop>
+    ensures spells { IfOk result (λ t. Parsed cursor.old (param_type_yield t) cursor.new) }
+    ensures levels { IfOk result (λ t. param_type_levels t ≤ room) }
 {
-    if is_keyword(tokens, at, "Object") {
-        return Ok((ParamType::Object, read_keyword(tokens, at, "Object")?));
+    if cursor.take_keyword("Object") {
+        return Ok(ParamType::Object);
     }
-    let (plain, next) = read_const_type(alloc, tokens, at, depth)?;
-    Ok((ParamType::Plain(plain), next))
+    Ok(ParamType::Plain(read_const_type(cursor, room)?))
 }
 
 /// Reads the bound of a sequence, if it has one.
-fn read_sequence_bound<'a>(
-    alloc: Global,
-    tokens: &[Token<'a>],
-    at: usize,
-    depth: usize,
-) -> Read<Option<ConstExpr<'a>>>
-    ensures { IfOk result (λ r. Continued tokens.now at (optional sequence_bound_yield r.0) r.1) }
+fn read_sequence_bound<'a>(cursor: &mut Cursor<'a>, room: usize) -> Result<Option<Bound<'a>>, Stop>
+    ensures spells { IfOk result (λ b. Continued cursor.old (optional sequence_bound_yield b) cursor.new) }
+    ensures levels { IfOk result (λ b. optional_levels bound_levels b ≤ room) }
 {
-    if !is_mark(tokens, at, ",") {
-        return Ok((None, at));
+    if !cursor.take_mark(",") {
+        return Ok(None);
     }
-    let start = read_mark(tokens, at, ",")?;
-    let (bound, next) = read_bound(alloc, tokens, start, depth)?;
-    Ok((Some(bound), next))
+    Ok(Some(read_bound(cursor, room)?))
 }
 
 pub(crate) fn read_simple_type<'a>(
-    alloc: Global,
-    tokens: &[Token<'a>],
-    at: usize,
-    depth: usize,
-) -> Read<SimpleType<'a>>
-    ensures { IfOk result (λ r. Parsed tokens.now at (simple_type_yield r.0) r.1) }
+    cursor: &mut Cursor<'a>,
+    room: usize,
+) -> Result<SimpleType<'a>, Stop>
+    ensures spells { IfOk result (λ t. Parsed cursor.old (simple_type_yield t) cursor.new) }
+    ensures levels { IfOk result (λ t. simple_type_levels t ≤ room) }
 {
-    if !is_keyword(tokens, at, "sequence") {
-        let (plain, next) = read_param_type(alloc, tokens, at, depth)?;
-        return Ok((SimpleType::Plain(plain), next));
+    if !cursor.take_keyword("sequence") {
+        return Ok(SimpleType::Plain(read_param_type(cursor, room)?));
     }
-    let open = read_keyword(tokens, at, "sequence")?;
-    let start = read_mark(tokens, open, "<")?;
-    let left = inside(tokens, open, depth)?;
-    let (element, behind) = read_simple_type(alloc, tokens, start, left)?;
-    let (bound, end) = read_sequence_bound(alloc, tokens, behind, left)?;
-    let next = read_mark(tokens, end, ">")?;
-    Ok((SimpleType::new_sequence(alloc, element, bound)?, next))
+    let left = cursor.open("<", room)?;
+    let element = read_simple_type(cursor, left)?;
+    let bound = read_sequence_bound(cursor, left)?;
+    cursor.mark(">")?;
+    Ok(SimpleType::new_sequence(cursor.alloc(), element, bound)?)
+}
+
+fn read_size<'a>(cursor: &mut Cursor<'a>, room: usize) -> Result<ConstExpr<'a>, Stop>
+    ensures spells { IfOk result (λ size. Parsed cursor.old (size_yield size) cursor.new) }
+    ensures levels { IfOk result (λ size. const_expr_levels size ≤ room) }
+{
+    cursor.mark("[")?;
+    let size = read_expr(cursor, room)?;
+    cursor.closed(size, "]")
+}
+
+/// Reads the sizes of an array, if there are any.
+fn read_sizes<'a>(cursor: &mut Cursor<'a>, room: usize) -> Result<Vec<ConstExpr<'a>>, Stop>
+    ensures spells { IfOk result (λ sizes. Continued cursor.old (flat_map size_yield sizes.items) cursor.new) }
+    ensures levels { IfOk result (λ sizes. highest const_expr_levels sizes.items ≤ room) }
+{
+    let mut sizes = Vec::new(cursor.alloc());
+    'parts: while cursor.is_mark("[") {
+        let size = read_size(cursor, room)?;
+        sizes.push(size)?;
+    }
+    sizes.shrink_to_fit();
+    Ok(sizes)
+}
+
+impl<'a> Part<'a> for Declarator<'a> {
+    ghost use Rattle.idl_tree.specs.TypeYields.{declarator_yield};
+    ghost use Rattle.idl_tree.specs.TypeLevels.{declarator_levels};
+
+    ghost yield_of = { declarator_yield };
+
+    ghost levels_of = { declarator_levels };
+
+    fn read(cursor: &mut Cursor<'a>, room: usize) -> Result<Self, Stop> {
+        read_declarator(cursor, room)
+    }
 }
 
 pub(crate) fn read_declarator<'a>(
-    alloc: Global,
-    tokens: &[Token<'a>],
-    at: usize,
-    depth: usize,
-) -> Read<Declarator<'a>>
-    ensures { IfOk result (λ r. Parsed tokens.now at (declarator_yield r.0) r.1) }
+    cursor: &mut Cursor<'a>,
+    room: usize,
+) -> Result<Declarator<'a>, Stop>
+    ensures spells { IfOk result (λ d. Parsed cursor.old (declarator_yield d) cursor.new) }
+    ensures levels { IfOk result (λ d. declarator_levels d ≤ room) }
 {
-    let (identifier, mut next) = read_identifier(tokens, at)?;
-    let mut sizes = Vec::new(alloc);
-    'parts: while is_mark(tokens, next, "[") {
-        let start = read_mark(tokens, next, "[")?;
-        let (size, end) = read_expr(alloc, tokens, start, depth)?;
-        next = read_mark(tokens, end, "]")?;
-        sizes.push(size)?;
-    }
-    Ok((Declarator { identifier, sizes }, next))
+    let identifier = cursor.identifier()?;
+    let sizes = read_sizes(cursor, room)?;
+    Ok(Declarator { identifier, sizes })
 }
 
-pub(crate) fn read_declarators<'a>(
-    alloc: Global,
-    tokens: &[Token<'a>],
-    at: usize,
-    depth: usize,
-) -> Read<Listed<Declarator<'a>>>
-    ensures { IfOk result (λ r. Parsed tokens.now at (listed declarator_yield r.0) r.1) }
+/// Reads an enumeration, which is a level.
+pub(crate) fn read_enum<'a>(cursor: &mut Cursor<'a>, room: usize) -> Result<EnumType<'a>, Stop>
+    ensures spells { IfOk result (λ e. Parsed cursor.old (enum_yield e) cursor.new) }
+    ensures levels { IfOk result (λ e. 1 ≤ room) }
 {
-    let (first, mut next) = read_declarator(alloc, tokens, at, depth)?;
-    let mut rest = Vec::new(alloc);
-    'parts: while is_mark(tokens, next, ",") {
-        let behind = read_mark(tokens, next, ",")?;
-        let (part, end) = read_declarator(alloc, tokens, behind, depth)?;
-        rest.push(part)?;
-        next = end;
-    }
-    Ok((Listed { first, rest }, next))
-}
-
-pub(crate) fn read_enum<'a>(
-    alloc: Global,
-    tokens: &[Token<'a>],
-    at: usize,
-    depth: usize,
-) -> Read<EnumType<'a>>
-    ensures { IfOk result (λ r. Parsed tokens.now at (enum_yield r.0) r.1) }
-{
-    let behind = read_keyword(tokens, at, "enum")?;
-    let (identifier, open) = read_identifier(tokens, behind)?;
-    let start = read_mark(tokens, open, "{")?;
-    inside(tokens, open, depth)?;
-    let (enumerators, end) = read_identifiers(alloc, tokens, start)?;
-    let next = read_mark(tokens, end, "}")?;
-    let declared = EnumType {
+    cursor.keyword("enum")?;
+    let identifier = cursor.identifier()?;
+    let left = cursor.open("{", room)?;
+    let enumerators = read_listed(cursor, left)?;
+    cursor.mark("}")?;
+    Ok(EnumType {
         identifier,
         enumerators,
-    };
-    Ok((declared, next))
+    })
 }
 
 /// Reads the type of a union's discriminator.
-pub(crate) fn read_switch<'a>(
-    alloc: Global,
-    tokens: &[Token<'a>],
-    at: usize,
-    depth: usize,
-) -> Read<SwitchType<'a>>
-    ensures { IfOk result (λ r. Parsed tokens.now at (switch_yield r.0) r.1) }
+pub(crate) fn read_switch<'a>(cursor: &mut Cursor<'a>, room: usize) -> Result<SwitchType<'a>, Stop>
+    ensures spells { IfOk result (λ s. Parsed cursor.old (switch_yield s) cursor.new) }
+    ensures levels { IfOk result (λ s. switch_levels s ≤ room) }
 {
-    if is_integer(tokens, at) {
-        let (integer, next) = read_integer(tokens, at)?;
-        Ok((SwitchType::Integer(integer), next))
-    } else if is_keyword(tokens, at, "char") {
-        Ok((SwitchType::Char, read_keyword(tokens, at, "char")?))
-    } else if is_keyword(tokens, at, "boolean") {
-        Ok((SwitchType::Boolean, read_keyword(tokens, at, "boolean")?))
-    } else if is_keyword(tokens, at, "enum") {
-        let (declared, next) = read_enum(alloc, tokens, at, depth)?;
-        Ok((SwitchType::Enum(declared), next))
-    } else {
-        let (name, next) = read_scoped_name(alloc, tokens, at)?;
-        Ok((SwitchType::Name(name), next))
+    match cursor.text(Kind::Keyword) {
+        Some("short" | "long" | "unsigned") => Ok(SwitchType::Integer(read_integer(cursor)?)),
+        Some("char") => {
+            cursor.keyword("char")?;
+            Ok(SwitchType::Char)
+        }
+        Some("boolean") => {
+            cursor.keyword("boolean")?;
+            Ok(SwitchType::Boolean)
+        }
+        Some("enum") => Ok(SwitchType::Enum(read_enum(cursor, room)?)),
+        _ => Ok(SwitchType::Name(read_scoped_name(cursor)?)),
     }
 }

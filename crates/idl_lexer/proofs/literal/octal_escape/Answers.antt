@@ -3,6 +3,7 @@ use Rattle.std.specs.Str.Parse.{digits_value}
 use Rattle.idl_lexer.specs.Octets.{is_octal}
 use Rattle.idl_lexer.specs.Octets.{run}
 use Rattle.idl_lexer.specs.Literals.{IsCharacter, octal}
+use Rattle.idl_lexer.proofs.Digits.{IsEscapeDigits-cut, octal_digit}
 use Rattle.idl_lexer.proofs.literal.octal_escape.Goals as goal
 
 -- from what the steps give, rest and front being the digits and what follows them, and the digits alone
@@ -17,3 +18,9 @@ made quote s rest front longest n v opens behind counted least digits long some 
 pub returns-in-Some-clause-form : goal.returns-in-Some-clause-form
 returns-in-Some-clause-form c quote =
     made quote _ _ _ _ _ _ c.requires.opens c.split_at.ensures.back c.octal_len.ensures.value c.min-len.ensures c.split_at-2.ensures.front c.split_at-2.ensures.front_len c.in-Some.ensures.some c.in-Some.ensures.value (omega (arith, c.in-Some.ensures.octet))
+
+pub returns-in-None-clause-complete : goal.returns-in-None-clause-complete
+returns-in-None-clause-complete c m v digits small =
+    let cut = IsEscapeDigits-cut is_octal 8 3 (drop 1 c.args.octets.now) c.split_at-2.result.0.now c.octal_len.result c.min-len.result m v octal_digit
+    (rw (← c.split_at.ensures.back) c.octal_len.ensures.value) c.min-len.ensures (rw (← c.split_at.ensures.back) c.split_at-2.ensures.front) c.split_at-2.ensures.front_len digits in
+    c.in-None.ensures.complete cut.0 (omega (arith, cut.1))

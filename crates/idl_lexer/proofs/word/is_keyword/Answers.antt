@@ -1,7 +1,7 @@
--- The list of the code is that of the definition, word for word.
-use Rattle.idl_lexer.specs.Words.{keywords}
+use Rattle.std.proofs.Common.{◌∙◌}
+use Rattle.std.specs.Str.{bytes_eq}
+use Rattle.idl_lexer.proofs.Keywords.{among, same_text_len}
 use Rattle.idl_lexer.proofs.word.is_keyword.Goals as goal
 
 pub returns : goal.returns
-unfolding keywords
-returns c = c.is_among.ensures
+returns c = c.is_among.ensures ∙ among (λ k. bytes_eq k c.args.word.now) c.args.word.now _ (same_text_len c.args.word.now) c.keywords_of_len.ensures

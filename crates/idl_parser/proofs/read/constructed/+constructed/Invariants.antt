@@ -1,38 +1,52 @@
-use Rattle.std.proofs.Common.{◌+◌, ◌-◌, ◌*◌, length}
+use Rattle.std.proofs.Common.{suc, ◌+◌, ◌-◌, ◌*◌, ◌++◌, ◌≤◌, length}
 use Rattle.std.specs.List.{flat_map}
-use Rattle.idl_parser.specs.Reading.{Continued}
+use Rattle.idl_parser.specs.Reading.{Parsed, Continued}
+use Rattle.idl_tree.specs.Levels.{highest}
 use Rattle.idl_tree.specs.TypeYields.{member_yield, case_yield}
+use Rattle.idl_tree.specs.TypeLevels.{member_levels, case_levels}
 use Rattle.idl_parser.proofs.read.constructed.+constructed.Given as goal
 
 abbrev pub decreases-read_members : goal.decreases-read_members
-decreases-read_members l = 10 * (length l.tokens.now - l.at) + 5
+decreases-read_members l = 10 * length l.cursor.now + 5
 
 abbrev pub decreases-read_cases : goal.decreases-read_cases
-decreases-read_cases l = 10 * (length l.tokens.now - l.at) + 5
+decreases-read_cases l = 10 * length l.cursor.now + 5
 
 abbrev pub decreases-read_member : goal.decreases-read_member
-decreases-read_member l = 10 * (length l.tokens.now - l.at) + 4
+decreases-read_member l = 10 * length l.cursor.now + 4
 
 abbrev pub decreases-read_case : goal.decreases-read_case
-decreases-read_case l = 10 * (length l.tokens.now - l.at) + 4
+decreases-read_case l = 10 * length l.cursor.now + 4
+
+abbrev pub decreases-read_element : goal.decreases-read_element
+decreases-read_element l = 10 * length l.cursor.now + 4
+
+abbrev pub decreases-read_union_body : goal.decreases-read_union_body
+decreases-read_union_body l = 10 * length l.cursor.now + 2
 
 abbrev pub decreases-read_type : goal.decreases-read_type
-decreases-read_type l = 10 * (length l.tokens.now - l.at) + 3
+decreases-read_type l = 10 * length l.cursor.now + 3
 
 abbrev pub decreases-read_struct : goal.decreases-read_struct
-decreases-read_struct l = 10 * (length l.tokens.now - l.at) + 2
+decreases-read_struct l = 10 * length l.cursor.now + 2
 
 abbrev pub decreases-read_union : goal.decreases-read_union
-decreases-read_union l = 10 * (length l.tokens.now - l.at) + 2
+decreases-read_union l = 10 * length l.cursor.now + 2
 
 abbrev pub invariant-read_members-parts : goal.invariant-read_members-parts
-invariant-read_members-parts l = Continued l.tokens l.at (flat_map member_yield l.members.items) l.next
+invariant-read_members-parts l = record {
+  spells : Continued l.initial.cursor (flat_map member_yield l.members.items) l.cursor;
+  levels : highest member_levels l.members.items ≤ l.room;
+}
 
 abbrev pub decreases-read_members-parts : goal.decreases-read_members-parts
-decreases-read_members-parts l = length l.tokens - l.next
+decreases-read_members-parts l = length l.cursor
 
 abbrev pub invariant-read_cases-parts : goal.invariant-read_cases-parts
-invariant-read_cases-parts l = Continued l.tokens l.at (flat_map case_yield l.cases.items) l.next
+invariant-read_cases-parts l = record {
+  spells : Continued l.initial.cursor (flat_map case_yield l.cases.items) l.cursor;
+  levels : highest case_levels l.cases.items ≤ l.room;
+}
 
 abbrev pub decreases-read_cases-parts : goal.decreases-read_cases-parts
-decreases-read_cases-parts l = length l.tokens - l.next
+decreases-read_cases-parts l = length l.cursor

@@ -1,17 +1,25 @@
-use Rattle.std.proofs.Common.{◌+◌, ◌-◌, ◌*◌, length}
+use Rattle.std.proofs.Common.{suc, ◌+◌, ◌-◌, ◌*◌, ◌++◌, ◌≤◌, length}
 use Rattle.std.specs.List.{flat_map}
-use Rattle.idl_parser.specs.Reading.{Continued}
+use Rattle.idl_parser.specs.Reading.{Parsed, Continued}
+use Rattle.idl_tree.specs.Levels.{highest}
 use Rattle.idl_tree.specs.DefinitionYields.{definition_yield}
+use Rattle.idl_tree.specs.DefinitionLevels.{definition_levels}
 use Rattle.idl_parser.proofs.read.definitions.+definitions.Given as goal
 
 abbrev pub decreases-read_definitions : goal.decreases-read_definitions
-decreases-read_definitions l = 2 * (length l.tokens.now - l.at) + 1
+decreases-read_definitions l = 3 * length l.cursor.now + 2
 
 abbrev pub decreases-read_definition : goal.decreases-read_definition
-decreases-read_definition l = 2 * (length l.tokens.now - l.at)
+decreases-read_definition l = 3 * length l.cursor.now + 1
+
+abbrev pub decreases-read_module : goal.decreases-read_module
+decreases-read_module l = 3 * length l.cursor.now
 
 abbrev pub invariant-read_definitions-parts : goal.invariant-read_definitions-parts
-invariant-read_definitions-parts l = Continued l.tokens l.at (flat_map definition_yield l.definitions.items) l.next
+invariant-read_definitions-parts l = record {
+  spells : Continued l.initial.cursor (flat_map definition_yield l.definitions.items) l.cursor;
+  levels : highest definition_levels l.definitions.items ≤ l.room;
+}
 
 abbrev pub decreases-read_definitions-parts : goal.decreases-read_definitions-parts
-decreases-read_definitions-parts l = length l.tokens - l.next
+decreases-read_definitions-parts l = length l.cursor

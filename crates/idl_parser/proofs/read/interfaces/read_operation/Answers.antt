@@ -1,16 +1,34 @@
-use Rattle.idl_parser.proofs.Parts.{part_then, part_then_more, more_then_part}
+use Rattle.std.proofs.Common.{◌++◌}
+use Rattle.std.specs.Prelude.{codes}
+use Rattle.idl_tree.specs.Pieces.{mark}
+use Rattle.idl_tree.specs.Yields.{identifier, optional, listed}
+use Rattle.idl_tree.specs.Levels.{optional_levels, highest_listed}
+use Rattle.idl_tree.specs.TypeLevels.{param_type_levels}
+use Rattle.idl_tree.specs.DefinitionYields.{oneway_yield, result_yield, param_yield, raises_yield}
+use Rattle.idl_tree.specs.DefinitionLevels.{param_levels}
+use Rattle.idl_parser.proofs.Parts.{more_then_part}
+use Rattle.idl_parser.proofs.Pairs.{spelled_as, group_four, both_read, both_levels, first_level}
 use Rattle.idl_parser.proofs.read.interfaces.read_operation.Goals as goal
 
-pub returns : goal.returns
-returns c =
-    part_then_more _ _ _ _ _ _
-    (part_then _ _ _ _ _ _
-    (part_then_more _ _ _ _ _ _
-    (part_then _ _ _ _ _ _
-    (part_then _ _ _ _ _ _
-    (more_then_part _ _ _ _ _ _ c.in_ok-is_oneway.ensures c.in_ok-answer.ensures)
-    c.in_ok-identifier.ensures.read)
-    c.in_ok-first.ensures.read)
-    c.in_ok-params.ensures)
-    c.in_ok-close.ensures.read)
-    c.in_ok-raises.ensures
+pub returns-clause-spells : goal.returns-clause-spells
+returns-clause-spells c =
+    let oneway = oneway_yield c.take_oneway-is_oneway.result in
+    let named = c.in_ok-front in
+    let p = c.in_ok-result_type in
+    spelled_as (group_four (oneway ++ result_yield p.result_type ++ identifier named.identifier)
+    (mark (codes "(")) (optional (listed param_yield) p.params) (mark (codes ")")) (optional (raises_yield (codes "raises")) p.raises))
+    (both_read (λ t. oneway ++ result_yield t ++ identifier named.identifier)
+    (λ s. mark (codes "(") ++ optional (listed param_yield) s.0 ++ mark (codes ")") ++ optional (raises_yield (codes "raises")) s.1)
+    named.front c.read_signature.result (p.result_type, (p.params, p.raises))
+    (both_read (λ t. oneway ++ result_yield t) identifier c.in_ok-returned.returned c.identifier.result (named.front, named.identifier)
+    (more_then_part c.take_oneway-is_oneway.ensures c.in_ok-returned.ensures.spells) c.identifier.ensures named.ensures.first named.ensures.second)
+    c.read_signature.ensures.spells p.ensures.first p.ensures.second)
+
+pub returns-clause-levels : goal.returns-clause-levels
+returns-clause-levels c =
+    let named = c.in_ok-front in
+    let p = c.in_ok-result_type in
+    both_levels (optional_levels param_type_levels) (λ s. optional_levels (highest_listed param_levels) s.0) c.args.room named.front c.read_signature.result
+    (p.result_type, (p.params, p.raises))
+    (first_level (optional_levels param_type_levels) c.args.room c.in_ok-returned.returned named.front c.in_ok-returned.ensures.levels named.ensures.first)
+    c.read_signature.ensures.levels p.ensures.first p.ensures.second

@@ -1,10 +1,13 @@
-use Rattle.std.proofs.Common.{◌-◌, length}
-use Rattle.idl_parser.specs.Reading.{Parsed}
-use Rattle.idl_tree.specs.Yields.{name_yield}
+use Rattle.std.proofs.Common.{suc, ◌+◌, ◌-◌, ◌*◌, ◌++◌, ◌≤◌, length}
+use Rattle.std.specs.List.{flat_map}
+use Rattle.std.specs.Prelude.{codes}
+use Rattle.idl_parser.specs.Reading.{Parsed, Continued}
+use Rattle.idl_tree.specs.Pieces.{mark}
+use Rattle.idl_tree.specs.Yields.{identifier, optional, root_yield}
 use Rattle.idl_parser.proofs.read.names.read_scoped_name.Given as goal
 
 abbrev pub invariant-parts : goal.invariant-parts
-invariant-parts l = Parsed l.tokens l.at (name_yield (record { number = l.at; line = 0; is_rooted = l.is_rooted; first = l.first.text; rest = l.rest })) l.next
+invariant-parts l = Continued l.initial.cursor (flat_map (λ x. mark (codes "::") ++ identifier x) l.rest.items) l.cursor
 
 abbrev pub decreases-parts : goal.decreases-parts
-decreases-parts l = length l.tokens - l.next
+decreases-parts l = length l.cursor

@@ -1,0 +1,76 @@
+//! Readers of trees: the texts that are printed, and large literals.
+
+use idl_lexer::{Identifiers, Kind, Token, lex};
+use idl_parser::parse;
+use idl_tree::names::{Leaf, Listed};
+use std::alloc::Global;
+use std::test::Fail;
+
+const MODULES: &str =
+    "module M { interface I; module N { interface J; interface K; }; };\n#pragma prefix \"p\"";
+
+const PRINTED: &str =
+    "Spec { definitions: [Module(Module { identifier: M, definitions: [Interface(Ahead(I)), \
+                       Module(Module { identifier: N, definitions: [Interface(Ahead(J)), Interface(Ahead(K))] \
+                       })] }), Pragma(#pragma prefix \"p\")] }";
+
+#[test]
+fn specifications_are_printed(rt: HostRuntime) -> Result<(), Fail> {
+    let alloc = rt.alloc();
+    let tokens = lex(alloc, MODULES)?;
+    let spec = parse(alloc, &tokens)?;
+    assert_eq!(rt; format!(in alloc; "{spec:?}")?.as_str(), PRINTED);
+    Ok(())
+}
+
+/// How many octets two text literals are together.
+fn joined_len<'a>(alloc: Global, one: &'a Token<'a>, two: &'a Token<'a>) -> Result<usize, Fail> {
+    let (Kind::TextLit, Kind::TextLit) = (one.kind, two.kind) else {
+        return Err("no texts")?;
+    };
+    let first = Leaf {
+        token: one,
+        number: 0,
+    };
+    let second = Leaf {
+        token: two,
+        number: 1,
+    };
+    let texts = Listed {
+        first,
+        rest: vec![in alloc; second]?,
+    };
+    let mut octets = Vec::new(alloc);
+    texts.push_octets(&mut octets)?;
+    second.push_octets(&mut octets)?;
+    Ok(octets.len())
+}
+
+#[test]
+fn large_texts_are_read(rt: HostRuntime) -> Result<(), Fail> {
+    let alloc = rt.alloc();
+    let mut source = String::new(alloc);
+    for _ in 0..2 {
+        source.push_str("\"")?;
+        for _ in 0..100_000 {
+            source.push_str("ab\\n0123456")?;
+        }
+        source.push_str("\" ")?;
+    }
+    let tokens = lex(alloc, source.as_str())?;
+    let [one, two] = tokens.as_slice() else {
+        return Err("other tokens")?;
+    };
+    assert_eq!(rt; joined_len(alloc, one, two)?, 3_000_000);
+    Ok(())
+}
+
+#[test]
+fn blanks_may_stand_in_a_name(rt: HostRuntime) -> Result<(), Fail> {
+    let mut words = Identifiers::new(":: A ::_b\t::C9 ");
+    assert_eq!(rt; words.next(), Some("A"));
+    assert_eq!(rt; words.next(), Some("_b"));
+    assert_eq!(rt; words.next(), Some("C9"));
+    assert_eq!(rt; words.next(), None);
+    Ok(())
+}

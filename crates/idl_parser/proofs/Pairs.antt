@@ -1,0 +1,107 @@
+-- A part and what is read behind it, which one function holds together.
+use Rattle.std.proofs.Common.{◌≡◌, ◌++◌, ◌∙◌, ◌≤◌, ◌<◌, ℕ, suc, max, List, sym, ap, subst, append_assoc, arith}
+use Rattle.std.specs.Prelude.{Result, Ok, Err, IfOk}
+use Rattle.idl_tree.specs.Pieces.{Seen, Piece}
+use Rattle.idl_parser.specs.Reading.{Parsed, Continued}
+use Rattle.idl_parser.proofs.Parts.{part_then, part_then_more, more_then_part}
+
+-- pieces that are grouped otherwise
+pub spelled_as : {a c : List Seen} {x y : List Piece} → x ≡ y → Parsed a x c → Parsed a y c
+spelled_as {a = a} {c = c} e p = subst (λ l. Parsed a l c) e p
+
+pub group_two : (p x y : List Piece) → p ++ (x ++ y) ≡ p ++ x ++ y
+group_two p x y = sym (append_assoc p x y)
+
+pub group_three : (p x y z : List Piece) → p ++ (x ++ y ++ z) ≡ p ++ x ++ y ++ z
+group_three p x y z = group_two p (x ++ y) z ∙ ap (λ l. l ++ z) (group_two p x y)
+
+pub group_within : (p x y z : List Piece) → p ++ (x ++ (y ++ z)) ≡ p ++ x ++ y ++ z
+group_within p x y z = group_two p x (y ++ z) ∙ group_two (p ++ x) y z
+
+pub group_four : (p w x y z : List Piece) → p ++ (w ++ x ++ y ++ z) ≡ p ++ w ++ x ++ y ++ z
+group_four p w x y z = group_two p (w ++ x ++ y) z ∙ ap (λ l. l ++ z) (group_three p w x y)
+
+pub group_five : (p v w x y z : List Piece) → p ++ (v ++ w ++ x ++ (y ++ z)) ≡ p ++ v ++ w ++ x ++ y ++ z
+group_five p v w x y z =
+    group_two p (v ++ w ++ x) (y ++ z) ∙ group_two (p ++ (v ++ w ++ x)) y z ∙ ap (λ l. l ++ y ++ z) (group_three p v w x)
+
+-- ---- both parts
+
+pub both_read : {T U E : Type 0} {a b c : List Seen} (f : T → List Piece) (g : U → List Piece) (first : T) (second : Result U E) (p : T × U)
+    → Parsed a (f first) b → IfOk second (λ u. Parsed b (g u) c) → p.0 ≡ first → second ≡ Ok p.1
+    → Parsed a (f p.0 ++ g p.1) c
+both_read {a = a} {b = b} {c = c} f g first second p front back same is =
+    let behind : Parsed b (g p.1) c = subst (λ r. IfOk r (λ u. Parsed b (g u) c)) is back in
+    subst (λ t. Parsed a (f t ++ g p.1) c) (sym same) (part_then front behind)
+
+pub first_level : {T : Type 0} (f : T → ℕ) (room : ℕ) (first : T) (p : T) → f first ≤ room → p ≡ first → f p ≤ room
+first_level f room first p front same = subst (λ t. f t ≤ room) (sym same) front
+
+pub second_level : {U E : Type 0} (g : U → ℕ) (room : ℕ) (second : Result U E) (p : U) → IfOk second (λ u. g u ≤ room) → second ≡ Ok p → g p ≤ room
+second_level g room second p back is = subst (λ r. IfOk r (λ u. g u ≤ room)) is back
+
+pub both_levels : {T U E : Type 0} (f : T → ℕ) (g : U → ℕ) (room : ℕ) (first : T) (second : Result U E) (p : T × U)
+    → f first ≤ room → IfOk second (λ u. g u ≤ room) → p.0 ≡ first → second ≡ Ok p.1
+    → max (f p.0) (g p.1) ≤ room
+both_levels f g room first second p front back same is =
+    let one : f p.0 ≤ room = first_level f room first p.0 front same in
+    let two : g p.1 ≤ room = second_level g room second p.1 back is in
+    omega (arith, one, two)
+
+-- the same of an answer that is handed on
+pub both_handed : {T U E : Type 0} {a b : List Seen} (c : List Seen) (f : T → List Piece) (g : U → List Piece) (first : T) (second : Result U E) (r : Result (T × U) E)
+    → Parsed a (f first) b → IfOk second (λ u. Parsed b (g u) c)
+    → IfOk r (λ p. p.0 ≡ first) → IfOk r (λ p. second ≡ Ok p.1) → IfOk r (λ p. Parsed a (f p.0 ++ g p.1) c)
+both_handed c f g first second (Ok p) front back same is = both_read f g first second p front back same is
+both_handed c f g first second (Err e) front back same is = tt
+
+-- where nothing may stand behind
+pub both_handed_more : {T U E : Type 0} {a b : List Seen} (c : List Seen) (f : T → List Piece) (g : U → List Piece) (first : T) (second : Result U E) (r : Result (T × U) E)
+    → Parsed a (f first) b → IfOk second (λ u. Continued b (g u) c)
+    → IfOk r (λ p. p.0 ≡ first) → IfOk r (λ p. second ≡ Ok p.1) → IfOk r (λ p. Parsed a (f p.0 ++ g p.1) c)
+both_handed_more {a = a} {b = b} c f g first second (Ok p) front back same is =
+    let behind : Continued b (g p.1) c = subst (λ r. IfOk r (λ u. Continued b (g u) c)) is back in
+    subst (λ t. Parsed a (f t ++ g p.1) c) (sym same) (part_then_more front behind)
+both_handed_more c f g first second (Err e) front back same is = tt
+
+pub first_handed_level : {T U E : Type 0} (f : T → ℕ) (room : ℕ) (first : T) (r : Result (T × U) E)
+    → f first ≤ room → IfOk r (λ p. p.0 ≡ first) → IfOk r (λ p. f p.0 ≤ room)
+first_handed_level f room first (Ok p) front same = first_level f room first p.0 front same
+first_handed_level f room first (Err e) front same = tt
+
+pub both_handed_levels : {T U E : Type 0} (f : T → ℕ) (g : U → ℕ) (room : ℕ) (first : T) (second : Result U E) (r : Result (T × U) E)
+    → f first ≤ room → IfOk second (λ u. g u ≤ room)
+    → IfOk r (λ p. p.0 ≡ first) → IfOk r (λ p. second ≡ Ok p.1) → IfOk r (λ p. max (f p.0) (g p.1) ≤ room)
+both_handed_levels f g room first second (Ok p) front back same is = both_levels f g room first second p front back same is
+both_handed_levels f g room first second (Err e) front back same is = tt
+
+-- below a number
+pub second_under : {U E : Type 0} (g : U → ℕ) (room : ℕ) (second : Result U E) (p : U) → IfOk second (λ u. g u < room) → second ≡ Ok p → g p < room
+second_under g room second p back is = subst (λ r. IfOk r (λ u. g u < room)) is back
+
+pub both_handed_under : {T U E : Type 0} (f : T → ℕ) (g : U → ℕ) (left : ℕ) (first : T) (second : Result U E) (r : Result (T × U) E)
+    → f first ≤ left → IfOk second (λ u. g u ≤ left)
+    → IfOk r (λ p. p.0 ≡ first) → IfOk r (λ p. second ≡ Ok p.1) → IfOk r (λ p. max (f p.0) (g p.1) < suc left)
+both_handed_under f g left first second (Ok p) front back same is =
+    let most = both_levels f g left first second p front back same is in
+    omega (arith, most)
+both_handed_under f g left first second (Err e) front back same is = tt
+
+-- ---- a mark behind a part
+
+pub closed_part : {T E : Type 0} {a b : List Seen} (c : List Seen) (mark : List Piece) (f : T → List Piece) (part : T) (r : Result T E)
+    → Parsed a (f part) b → IfOk r (λ p. p ≡ part) → IfOk r (λ p. Parsed b mark c) → IfOk r (λ p. Parsed a (f p ++ mark) c)
+closed_part {a = a} c mark f part (Ok p) front same back =
+    subst (λ t. Parsed a (f t ++ mark) c) (sym same) (part_then front back)
+closed_part c mark f part (Err e) front same back = tt
+
+pub closed_list : {T E : Type 0} {a b : List Seen} (c : List Seen) (mark : List Piece) (f : T → List Piece) (part : T) (r : Result T E)
+    → Continued a (f part) b → IfOk r (λ p. p ≡ part) → IfOk r (λ p. Parsed b mark c) → IfOk r (λ p. Parsed a (f p ++ mark) c)
+closed_list {a = a} c mark f part (Ok p) front same back =
+    subst (λ t. Parsed a (f t ++ mark) c) (sym same) (more_then_part front back)
+closed_list c mark f part (Err e) front same back = tt
+
+pub closed_levels : {T E : Type 0} (f : T → ℕ) (room : ℕ) (part : T) (r : Result T E)
+    → f part ≤ room → IfOk r (λ p. p ≡ part) → IfOk r (λ p. f p ≤ room)
+closed_levels f room part (Ok p) front same = subst (λ t. f t ≤ room) (sym same) front
+closed_levels f room part (Err e) front same = tt

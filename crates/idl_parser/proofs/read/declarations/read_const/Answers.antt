@@ -1,0 +1,24 @@
+use Rattle.std.proofs.Common.{◌++◌}
+use Rattle.std.specs.Prelude.{codes}
+use Rattle.idl_tree.specs.Pieces.{keyword, mark}
+use Rattle.idl_tree.specs.Yields.{identifier, const_expr_yield}
+use Rattle.idl_tree.specs.TypeYields.{const_type_yield}
+use Rattle.idl_tree.specs.Levels.{const_expr_levels}
+use Rattle.idl_tree.specs.TypeLevels.{const_type_levels}
+use Rattle.idl_parser.proofs.Parts.{part_then}
+use Rattle.idl_parser.proofs.Pairs.{spelled_as, group_three, both_read, both_levels}
+use Rattle.idl_parser.proofs.read.declarations.read_const.Goals as goal
+
+pub returns-clause-spells : goal.returns-clause-spells
+returns-clause-spells c =
+    let p = c.in_ok-const_type in
+    spelled_as (group_three (keyword (codes "const") ++ const_type_yield p.const_type) (identifier p.identifier) (mark (codes "=")) (const_expr_yield p.value))
+    (both_read (λ t. keyword (codes "const") ++ const_type_yield t) (λ v. identifier v.0 ++ mark (codes "=") ++ const_expr_yield v.1)
+    c.in_ok-front.front c.read_value.result (p.const_type, (p.identifier, p.value))
+    (part_then c.in_ok-keyword.ensures c.in_ok-front.ensures.spells) c.read_value.ensures.spells p.ensures.first p.ensures.second)
+
+pub returns-clause-levels : goal.returns-clause-levels
+returns-clause-levels c =
+    let p = c.in_ok-const_type in
+    both_levels const_type_levels (λ v. const_expr_levels v.1) c.args.room c.in_ok-front.front c.read_value.result
+    (p.const_type, (p.identifier, p.value)) c.in_ok-front.ensures.levels c.read_value.ensures.levels p.ensures.first p.ensures.second

@@ -1,0 +1,15 @@
+use Rattle.std.proofs.Common.{◌++◌}
+use Rattle.std.specs.Prelude.{codes}
+use Rattle.std.specs.List.{flat_map}
+use Rattle.idl_tree.specs.Pieces.{keyword, mark}
+use Rattle.idl_tree.specs.Yields.{identifier}
+use Rattle.idl_tree.specs.TypeYields.{member_yield}
+use Rattle.idl_parser.proofs.Parts.{part_then}
+use Rattle.idl_parser.proofs.Pairs.{spelled_as, group_two}
+use Rattle.idl_parser.proofs.read.declarations.read_except.Goals as goal
+
+pub returns-clause-spells : goal.returns-clause-spells
+returns-clause-spells c =
+    spelled_as (group_two (keyword (codes "exception") ++ identifier c.in_ok-identifier.identifier ++ mark (codes "{"))
+    (flat_map member_yield c.in_ok-members.members.items) (mark (codes "}")))
+    (part_then (part_then (part_then c.in_ok-keyword.ensures c.in_ok-identifier.ensures) c.in_ok-mark.ensures) c.in_ok-members.ensures.spells)

@@ -1,0 +1,22 @@
+use Rattle.std.proofs.Common.{◌++◌}
+use Rattle.std.specs.Prelude.{codes}
+use Rattle.idl_tree.specs.Pieces.{keyword}
+use Rattle.idl_tree.specs.Yields.{listed}
+use Rattle.idl_tree.specs.TypeYields.{type_yield, declarator_yield}
+use Rattle.idl_tree.specs.Levels.{highest_listed}
+use Rattle.idl_tree.specs.TypeLevels.{type_levels, declarator_levels}
+use Rattle.idl_parser.proofs.Parts.{part_then}
+use Rattle.idl_parser.proofs.Pairs.{both_read, both_levels}
+use Rattle.idl_parser.proofs.read.declarations.read_typedef.Goals as goal
+
+pub returns-clause-spells : goal.returns-clause-spells
+returns-clause-spells c =
+    let p = c.in_ok-original in
+    both_read (λ t. keyword (codes "typedef") ++ type_yield t) (listed declarator_yield) c.in_ok-front.front c.read_listed.result
+    (p.original, p.declarators) (part_then c.in_ok-keyword.ensures c.in_ok-front.ensures.spells) c.read_listed.ensures.spells p.ensures.first p.ensures.second
+
+pub returns-clause-levels : goal.returns-clause-levels
+returns-clause-levels c =
+    let p = c.in_ok-original in
+    both_levels type_levels (highest_listed declarator_levels) c.args.room c.in_ok-front.front c.read_listed.result
+    (p.original, p.declarators) c.in_ok-front.ensures.levels c.read_listed.ensures.levels p.ensures.first p.ensures.second

@@ -1,0 +1,12 @@
+use Rattle.idl_tree.specs.DefinitionYields.{interface_yield}
+use Rattle.idl_tree.specs.DefinitionLevels.{interface_levels}
+use Rattle.idl_parser.proofs.Pairs.{closed_part, closed_levels}
+use Rattle.idl_parser.proofs.read.interfaces.read_ended_interface.Goals as goal
+
+pub returns-clause-spells : goal.returns-clause-spells
+returns-clause-spells c =
+    closed_part _ _ interface_yield c.in_ok-interface.interface c.closed.result c.in_ok-interface.ensures.spells c.closed.ensures.same c.closed.ensures.read
+
+pub returns-clause-levels : goal.returns-clause-levels
+returns-clause-levels c =
+    closed_levels interface_levels c.args.room c.in_ok-interface.interface c.closed.result c.in_ok-interface.ensures.levels c.closed.ensures.same

@@ -1,0 +1,26 @@
+use Rattle.std.proofs.Common.{◌++◌}
+use Rattle.std.specs.Prelude.{codes}
+use Rattle.std.specs.List.{flat_map}
+use Rattle.idl_tree.specs.Pieces.{keyword, mark}
+use Rattle.idl_tree.specs.Yields.{identifier, optional}
+use Rattle.idl_tree.specs.Levels.{highest}
+use Rattle.idl_tree.specs.DefinitionYields.{bases_yield, export_yield}
+use Rattle.idl_tree.specs.DefinitionLevels.{export_levels}
+use Rattle.idl_parser.proofs.Parts.{part_then, part_then_more}
+use Rattle.idl_parser.proofs.Pairs.{spelled_as, group_three, both_read, second_level}
+use Rattle.idl_parser.proofs.read.interfaces.read_interface.Goals as goal
+
+pub returns-clause-spells : goal.returns-clause-spells
+returns-clause-spells c =
+    let p = c.in_ok-bases in
+    let pre = keyword (codes "interface") ++ identifier c.in_ok-identifier.identifier in
+    spelled_as (group_three (pre ++ optional bases_yield p.bases) (mark (codes "{")) (flat_map export_yield p.exports.items) (mark (codes "}")))
+    (both_read (λ b. pre ++ optional bases_yield b) (λ e. mark (codes "{") ++ flat_map export_yield e.items ++ mark (codes "}"))
+    c.in_ok-front.front c.read_exports.result (p.bases, p.exports)
+    (part_then_more (part_then c.in_ok-keyword.ensures c.in_ok-identifier.ensures) c.in_ok-front.ensures)
+    c.read_exports.ensures.spells p.ensures.first p.ensures.second)
+
+pub returns-clause-levels : goal.returns-clause-levels
+returns-clause-levels c =
+    let p = c.in_ok-bases in
+    second_level (λ e. highest export_levels e.items) c.args.room c.read_exports.result p.exports c.read_exports.ensures.levels p.ensures.second

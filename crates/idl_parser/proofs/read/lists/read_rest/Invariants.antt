@@ -1,0 +1,16 @@
+use Rattle.std.proofs.Common.{suc, ◌+◌, ◌-◌, ◌*◌, ◌++◌, ◌≤◌, length}
+use Rattle.std.specs.List.{flat_map}
+use Rattle.std.specs.Prelude.{codes}
+use Rattle.idl_parser.specs.Reading.{Parsed, Continued}
+use Rattle.idl_tree.specs.Levels.{highest}
+use Rattle.idl_tree.specs.Pieces.{mark}
+use Rattle.idl_parser.proofs.read.lists.read_rest.Given as goal
+
+abbrev pub invariant-parts : goal.invariant-parts
+invariant-parts g l = record {
+  spells : Continued l.initial.cursor (flat_map (λ x. mark (codes ",") ++ g.T.Part.yield_of x) l.rest.items) l.cursor;
+  levels : highest g.T.Part.levels_of l.rest.items ≤ l.room;
+}
+
+abbrev pub decreases-parts : goal.decreases-parts
+decreases-parts g l = length l.cursor

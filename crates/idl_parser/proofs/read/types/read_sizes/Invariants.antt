@@ -1,0 +1,15 @@
+use Rattle.std.proofs.Common.{suc, ◌+◌, ◌-◌, ◌*◌, ◌++◌, ◌≤◌, length}
+use Rattle.std.specs.List.{flat_map}
+use Rattle.idl_parser.specs.Reading.{Parsed, Continued}
+use Rattle.idl_tree.specs.Levels.{highest, const_expr_levels}
+use Rattle.idl_tree.specs.TypeYields.{size_yield}
+use Rattle.idl_parser.proofs.read.types.read_sizes.Given as goal
+
+abbrev pub invariant-parts : goal.invariant-parts
+invariant-parts l = record {
+  spells : Continued l.initial.cursor (flat_map size_yield l.sizes.items) l.cursor;
+  levels : highest const_expr_levels l.sizes.items ≤ l.room;
+}
+
+abbrev pub decreases-parts : goal.decreases-parts
+decreases-parts l = length l.cursor
