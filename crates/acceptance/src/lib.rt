@@ -8,6 +8,8 @@ mod faults;
 #[cfg(test)]
 mod graphs;
 #[cfg(test)]
+mod joined;
+#[cfg(test)]
 mod kinds;
 #[cfg(test)]
 mod large;

@@ -1,6 +1,6 @@
-//! Plain programs of hand-made graphs, and what a run of a program gives.
+//! Programs of hand-made graphs, and what a run of a program gives.
 
-use generator::plain;
+use generator::{joined, plain};
 use marshal_program::Program;
 use position_checker::Accepted;
 use program_runner::{RunFault, read, write};
@@ -9,8 +9,7 @@ use std::test::Fail;
 use type_graph::{Graph, Items, Node, Order};
 use type_model::Model;
 
-/// The plain program of a graph of these nodes, none of which has a name.
-pub fn program_of(alloc: Global, nodes: Vec<Node>) -> Result<Program, Fail> {
+fn model_of(alloc: Global, nodes: Vec<Node>) -> Result<Model, Fail> {
     let model = Model::new(
         alloc,
         Graph::from_nodes(alloc, nodes)?,
@@ -19,7 +18,19 @@ pub fn program_of(alloc: Global, nodes: Vec<Node>) -> Result<Program, Fail> {
         Items::new(Vec::new(alloc)),
         Items::new(Vec::new(alloc)),
     )?;
+    Ok(model)
+}
+
+/// The plain program of a graph of these nodes, none of which has a name.
+pub fn program_of(alloc: Global, nodes: Vec<Node>) -> Result<Program, Fail> {
+    let model = model_of(alloc, nodes)?;
     Ok(plain(alloc, &model)?)
+}
+
+/// The joined program of such a graph.
+pub fn joined_of(alloc: Global, nodes: Vec<Node>) -> Result<Program, Fail> {
+    let model = model_of(alloc, nodes)?;
+    Ok(joined(alloc, &model)?)
 }
 
 /// The number of the fault.

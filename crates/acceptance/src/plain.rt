@@ -13,7 +13,7 @@ fn whole(width: Width, signed: bool) -> Node {
 }
 
 /// The nodes that stand in front of the types of every file.
-fn basic(alloc: Global) -> Result<Vec<Node>, AllocError> {
+pub fn basic(alloc: Global) -> Result<Vec<Node>, AllocError> {
     let nodes = vec![in alloc;
         Node::Octet,
         Node::Char,
@@ -69,7 +69,7 @@ fn each_node_has_its_routine(rt: HostRuntime) -> Result<(), Fail> {
 }
 
 /// The code of a routine, none where there is no such routine.
-fn code_of(program: &Program, number: usize) -> &[Instr] {
+pub fn code_of(program: &Program, number: usize) -> &[Instr] {
     match program.routines().get(number) {
         None => &[],
         Some(routine) => routine.code.as_slice(),

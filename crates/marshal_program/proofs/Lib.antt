@@ -5,3 +5,5 @@ pub mod WorkLaws
 pub mod Chosen
 pub mod PlainPlaces
 pub mod PlainRules
+pub mod JoinedPlaces
+pub mod JoinedRules

@@ -10,6 +10,7 @@ ghost use Rattle.marshal_program.specs.declared.instr.Routine.{Routine};
 ghost use Rattle.marshal_program.specs.Does.{Does, Runs, code_at};
 ghost use Rattle.marshal_program.specs.ProgramRules.{IsProgram};
 ghost use Rattle.marshal_program.specs.Plain.{HasPlainProgram, plain_program};
+ghost use Rattle.marshal_program.specs.Joined.{joined_program};
 ghost use Rattle.marshal_program.specs.Served.{served_by};
 
 /// What a routine relates at a position, it relates at every position that is the same modulo 8.
@@ -41,4 +42,14 @@ pub fn plain_program_keeps_the_rules()
 /// In the plain program of a graph the routine with a node's number serves that node.
 pub fn plain_program_serves_every_node()
     ensures { (graph : List Node) (number : ℕ) → number < length graph → served_by (plain_program graph) number ≡ Some number }
+{}
+
+/// The joined program of a graph that keeps its rules keeps those of a program, its limits included.
+pub fn joined_program_keeps_the_rules()
+    ensures { (graph : List Node) → IsGraph graph → IsProgram (joined_program graph) }
+{}
+
+/// In the joined program of a graph the routine with a node's number serves that node.
+pub fn joined_program_serves_every_node()
+    ensures { (graph : List Node) (number : ℕ) → number < length graph → served_by (joined_program graph) number ≡ Some number }
 {}
