@@ -1,5 +1,5 @@
 -- As many wanted nodes as a node is made of can be taken from it.
-use Rattle.std.proofs.Common.{◌≡◌, ℕ, zero, suc, ◌+◌, ◌-◌, ◌*◌, ◌<◌, ◌≤◌, Bool, true, false, ◌||◌, eqb, List, [], ◌∷◌, ◌++◌, length, replicate, Option, Some, None, if◌then◌else◌, sum_by, refl, sym, ap, ap₂, subst, ◌∙◌, suc-mul, length-append, ◌/◌, min, le_trans, mul-le-mul_right, div-mul-le_self, le-div_iff_mul-le, mul-pos, arith}
+use Rattle.std.proofs.Common.{◌≡◌, ℕ, zero, suc, ◌+◌, ◌-◌, ◌*◌, ◌<◌, ◌≤◌, Bool, true, false, ◌||◌, eqb, List, [], ◌∷◌, ◌++◌, length, replicate, Option, Some, None, IfSome, if◌then◌else◌, sum_by, refl, sym, ap, ap₂, subst, ◌∙◌, suc-mul, length-append, ◌/◌, min, le_trans, mul-le-mul_right, div-mul-le_self, le-div_iff_mul-le, mul-pos, arith}
 use Rattle.std.specs.List.{AllByRecursion, list_any}
 use Rattle.std.proofs.lemmas.Bool.{true≢false, eqb-true}
 use Rattle.std.proofs.lemmas.Option.{none-some, same_Some}
@@ -10,6 +10,8 @@ use Rattle.type_graph.specs.declared.node.Node.TheVariants.{Array}
 use Rattle.type_graph.specs.Value.{node_at}
 use Rattle.routine_checker.specs.Taking.{parts_of, opened, taken_within, and_then, taken}
 use Rattle.routine_checker.specs.Counts.{parts_in, pieces_by, pieces_in, count_in, AreNumbersOf, AreCounts, Yields}
+use Rattle.routine_checker.specs.declared.work.Item.{Item}
+use Rattle.routine_checker.specs.Work.{held, held_of}
 use Rattle.routine_checker.proofs.TakeLaws.{within_here, within_below, taken_next, taken_none, took_first}
 
 -- ---- how many copies go into so many pieces
@@ -289,3 +291,32 @@ counted_yields levels kind graph numbers wanted number k few right same e some m
     let is = right number here in
     ap (λ (w : ℕ → Bool). taken k w graph (number ∷ more)) same ∙ ap (λ n. taken n (λ n. kind (node_at graph n)) graph (number ∷ more)) (e ∙ sym is)
     ∙ took_counted kind graph levels few number more (subst (λ n. 0 < n) (sym is) here)
+
+-- ---- a node that has pieces is opened
+
+found_first : (k : ℕ) (wanted : ℕ → Bool) (graph : List Node) (first : Option (List ℕ)) (rest : List ℕ) → and_then (taken k wanted graph) first ≡ Some rest → (behind : List ℕ) × (first ≡ Some behind)
+found_first k wanted graph None rest e = absurd (none-some rest e)
+found_first k wanted graph (Some behind) rest e = (behind, refl)
+
+-- where pieces can be taken from a node that isn't one itself, its parts may stand in its place
+pub opened_alike : (n k : ℕ) (wanted : ℕ → Bool) (graph : List Node) (number : ℕ) (parts more : List ℕ) → 0 < n → Yields n wanted graph number → 0 < k
+    → wanted number ≡ false → Some parts ≡ parts_of (node_at graph number) → taken k wanted graph (number ∷ more) ≡ taken k wanted graph (parts ++ more)
+opened_alike n k wanted graph number parts more some yields here is e =
+    let first = taken_within 64 wanted graph (number ∷ more) in
+    let found = found_first (n - 1) wanted graph first more (sym (taken_next n wanted graph (number ∷ more) some) ∙ yields more) in
+    let levels : 0 < 64 = omega arith in
+    let less : 64 - 1 ≡ 63 = omega arith in
+    let below = within_below 64 wanted graph (number ∷ more) more number (Some parts) levels refl is e ∙ ap (λ l. taken_within l wanted graph (parts ++ more)) less in
+    let behind = within_deeper wanted graph 63 (parts ++ more) found.0 (sym below ∙ found.1) in
+    let more_levels : suc 63 ≡ 64 = omega arith in
+    taken_alike wanted graph k (number ∷ more) (parts ++ more) here
+    (found.1 ∙ sym (subst (λ l. taken_within l wanted graph (parts ++ more) ≡ Some found.0) more_levels behind))
+
+-- the same as the code opens it
+pub more_opened : (n k : ℕ) (wanted : ℕ → Bool) (graph : List Node) (number : ℕ) (item : Option Item) → 0 < k → k < n → (0 < n → Yields n wanted graph number)
+    → wanted number ≡ false → held_of item ≡ parts_of (node_at graph number)
+    → IfSome item (λ parts. (more : List ℕ) → taken k wanted graph (number ∷ more) ≡ taken k wanted graph (held parts ++ more))
+more_opened n k wanted graph number None here over yields is e = tt
+more_opened n k wanted graph number (Some item) here over yields is e = λ more.
+    let some : 0 < n = omega (arith, over) in
+    opened_alike n k wanted graph number (held item) more some (yields some) here is e

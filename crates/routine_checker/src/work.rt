@@ -1,6 +1,6 @@
 //! The work that is left of a node.
 
-ghost use Rattle.std.specs.Prelude.{◌≡◌, ◌<◌, ◌≤◌, ◌-◌, [], ◌∷◌, ◌++◌, IfOk, IfSome, IfNone, IsTrue, IsFalse, Some, None, replicate};
+ghost use Rattle.std.specs.Prelude.{ℕ, List, ◌≡◌, ◌<◌, ◌≤◌, ◌-◌, [], ◌∷◌, ◌++◌, IfOk, IfSome, IfNone, IsTrue, IsFalse, Some, None, replicate};
 ghost use Rattle.type_graph.specs.Value.{node_at};
 ghost use Rattle.routine_checker.specs.Taking.{parts_of, taken_within, taken, is_done_within};
 ghost use Rattle.routine_checker.specs.Counts.{AreRunCounts, Yields};
@@ -90,6 +90,20 @@ fn parts_at(nodes: &[Node], number: u32) -> Option<Item<'_>>
     }
 }
 
+impl<'g> Wanted<'g> {
+    /// What a node is opened into that is made of more than so many pieces.
+    fn parts_of_more(self, counts: &RunCounts, pieces: u32, number: u32) -> Option<Item<'g>>
+        requires some { 0 < pieces }
+        requires counts { AreRunCounts self.nodes.now counts.now }
+        ensures { IfSome result (λ parts. (more : List ℕ) → taken pieces (wants self.entry) self.entry.nodes.now (number ∷ more) ≡ taken pieces (wants self.entry) self.entry.nodes.now (held parts ++ more)) }
+    {
+        if self.is(number) || counts.pieces(self.instr, number) <= pieces {
+            return None;
+        }
+        parts_at(self.nodes, number)
+    }
+}
+
 /// The nodes whose values are still to be related: what comes first stands last in the list.
 #[derive(Debug, Drop)]
 pub struct Work<'g> {
@@ -120,6 +134,7 @@ impl<'g> Work<'g> {
         ensures some { IfOk result (λ first. IfSome first (λ copies. work_of self.old.items.items ≡ replicate copies.1 copies.0 ++ work_of self.new.items.items)) }
         ensures many { IfOk result (λ first. IfSome first (λ copies. 0 < copies.1)) }
         ensures none { IfOk result (λ first. IfNone first (work_of self.old.items.items ≡ [])) }
+        ensures empty { IfOk result (λ first. IfNone first (work_of self.new.items.items ≡ [])) }
     {
         while let Some(item) = self.items.pop() {
             if let Some((number, n, rest)) = item.split() {
@@ -167,6 +182,38 @@ impl<'g> Work<'g> {
         Ok(false)
     }
 
+    /// Opens the first node as long as it is made of more pieces than are wanted.
+    fn open(
+        &mut self,
+        wanted: Wanted<'g>,
+        counts: &RunCounts,
+        pieces: u32,
+    ) -> Result<(), AllocError>
+        requires some { 0 < pieces }
+        requires counts { AreRunCounts wanted.nodes.now counts.now }
+        ensures { IfOk result (λ done. taken pieces (wants wanted.entry) wanted.entry.nodes.now (work_of self.old.items.items) ≡ taken pieces (wants wanted.entry) wanted.entry.nodes.now (work_of self.new.items.items)) }
+    {
+        for level in 0..64u32 {
+            let (number, copies) = match self.next_copies()? {
+                Some(first) => first,
+                None => return Ok(()),
+            };
+            let parts = match wanted.parts_of_more(counts, pieces, number) {
+                Some(parts) => parts,
+                None => {
+                    self.put(Item::Copies { number, n: copies })?;
+                    return Ok(());
+                }
+            };
+            self.put(Item::Copies {
+                number,
+                n: copies.saturating_sub(1),
+            })?;
+            self.put(parts)?;
+        }
+        Ok(())
+    }
+
     /// Takes some of the wanted pieces, as many as are in copies of one node, and tells how many;
     /// none where the first can't be taken.
     fn take_some(
@@ -211,6 +258,7 @@ impl<'g> Work<'g> {
     {
         let mut left = pieces;
         while left > 0 {
+            self.open(wanted, counts, left)?;
             let n = self.take_some(wanted, counts, left)?;
             if n == 0 {
                 return Ok(false);
