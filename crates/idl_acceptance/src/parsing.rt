@@ -2,10 +2,10 @@
 
 use idl_lexer::lex;
 use idl_parser::{ParseFault, parse};
-use idl_tree::definitions::{Const, Declaration, Definition, TypeDcl};
+use idl_tree::definitions::{Const, Declaration, Definition};
 use idl_tree::expression::Expr;
 use idl_tree::spec::Spec;
-use idl_tree::types::{ConstType, Label};
+use idl_tree::types::ConstType;
 use std::alloc::Global;
 use std::test::Fail;
 
@@ -433,34 +433,6 @@ fn a_bound_has_the_same_levels(rt: HostRuntime) -> Result<(), Fail> {
     Ok(())
 }
 
-#[test]
-fn names_keep_their_first_token(rt: HostRuntime) -> Result<(), Fail> {
-    let alloc = rt.alloc();
-    let tokens = lex(alloc, "const A::B _module =\n::_C::in_1;")?;
-    let spec = parse(alloc, &tokens)?;
-    let constant = first_const(&spec).ok_or("no constant")?;
-    let identifier = constant.identifier;
-    assert_eq!(rt; identifier.name(), "module");
-    assert_eq!(rt; [identifier.number, identifier.token.line], [4, 1]);
-    if let ConstType::Name(name) = &constant.const_type {
-        let start = name.start();
-        assert_eq!(rt; start.token.text, "A");
-        assert_eq!(rt; [start.number, start.token.line], [1, 1]);
-    }
-    if let Expr::Name(name) = &constant.value.expr {
-        let start = name.start();
-        assert_eq!(rt; start.token.text, "::");
-        assert_eq!(rt; [start.number, start.token.line], [6, 2]);
-        assert_eq!(rt;
-            name.rest()
-                .first()
-                .map(|part| [part.number, part.token.line]),
-            Some([9, 2])
-        );
-    }
-    Ok(())
-}
-
 /// The lines of a sign, of the parenthesis behind it and of the truth value inside.
 fn marks(value: &Expr<'_>) -> Option<[usize; 3]> {
     let Expr::Signed { mark, operand, .. } = value else {
@@ -482,30 +454,6 @@ fn marks_keep_their_line(rt: HostRuntime) -> Result<(), Fail> {
     let spec = parse(alloc, &tokens)?;
     let constant = first_const(&spec).ok_or("no constant")?;
     assert_eq!(rt; marks(&constant.value.expr), Some([2, 3, 4]));
-    Ok(())
-}
-
-/// The line of the default label of a union's second case, with which a specification begins.
-fn default_line(spec: &Spec<'_>) -> Option<usize> {
-    let Definition::Declaration(Declaration::TypeDcl(TypeDcl::Union(union))) = spec
-        .definitions
-        .first()?
-    else {
-        return None;
-    };
-    match union.rest.first()?.labels.rest.last()? {
-        Label::Default(word) => Some(word.token.line),
-        Label::Case(_) => None,
-    }
-}
-
-#[test]
-fn a_default_keeps_its_line(rt: HostRuntime) -> Result<(), Fail> {
-    let alloc = rt.alloc();
-    let source = "union U switch (long) {\ncase 1: long a;\ncase 2:\ndefault: long b; };";
-    let tokens = lex(alloc, source)?;
-    let spec = parse(alloc, &tokens)?;
-    assert_eq!(rt; default_line(&spec), Some(4));
     Ok(())
 }
 
