@@ -143,9 +143,8 @@ fn names_and_missing_work(rt: HostRuntime) -> Result<(), Fail> {
     Ok(())
 }
 
-/// One node and the nodes that it needs before it, with one routine of this code.
-fn last_by(alloc: Global, nodes: Vec<Node>, code: Vec<Instr>) -> Result<[u32; 3], Fail> {
-    let node = (nodes.len() as u32).wrapping_sub(1);
+/// A node and the nodes that it needs before it, with one routine of this code.
+fn node_by(alloc: Global, nodes: Vec<Node>, node: u32, code: Vec<Instr>) -> Result<[u32; 3], Fail> {
     let routines = vec![in alloc; sample::routine(node, 0, code)]?;
     answer(alloc, nodes, routines, &[node])
 }
@@ -171,10 +170,10 @@ fn gaps_of_a_sequence(rt: HostRuntime) -> Result<(), Fail> {
     let eight = vec![in alloc; align(Width::Eight), seq_words(Width::Eight, Width::Eight)]?;
     let long = vec![in alloc; words(Width::Four, 1)]?;
     let answers = [
-        last_by(alloc, long_longs(alloc)?, right)?,
-        last_by(alloc, long_longs(alloc)?, none)?,
-        last_by(alloc, long_longs(alloc)?, eight)?,
-        last_by(alloc, vec![in alloc; whole(Width::Four)]?, long)?,
+        node_by(alloc, long_longs(alloc)?, 1, right)?,
+        node_by(alloc, long_longs(alloc)?, 1, none)?,
+        node_by(alloc, long_longs(alloc)?, 1, eight)?,
+        node_by(alloc, vec![in alloc; whole(Width::Four)]?, 0, long)?,
     ];
     assert_eq!(rt; answers, [[0; 3], [81, 0, 1], [81, 0, 1], [81, 0, 0]]);
     Ok(())
@@ -267,16 +266,18 @@ fn deceiving_programs(rt: HostRuntime) -> Result<(), Fail> {
     let both = vec![in alloc; align(Width::Four), words(Width::Four, 2)]?;
     let members = vec![in alloc; 0, 1]?;
     let answers = [
-        last_by(alloc, vec![in alloc; Node::Enum { n: 3 }]?, enumerator)?,
-        last_by(alloc, vec![in alloc; Node::Boolean]?, boolean)?,
-        last_by(
+        node_by(alloc, vec![in alloc; Node::Enum { n: 3 }]?, 0, enumerator)?,
+        node_by(alloc, vec![in alloc; Node::Boolean]?, 0, boolean)?,
+        node_by(
             alloc,
             vec![in alloc; Node::Octet, Node::Seq { elem: 0, bound: 4 }]?,
+            1,
             bound,
         )?,
-        last_by(
+        node_by(
             alloc,
             vec![in alloc; whole(Width::Four), Node::Enum { n: 3 }, structure(members)]?,
+            2,
             both,
         )?,
     ];
