@@ -19,7 +19,7 @@ use Rattle.routine_checker.specs.Progress.{OnlyIf as CheckOnlyIf}
 use Rattle.marshal_program.specs.Plain.{plain_program}
 use Rattle.marshal_program.specs.Joined.{joined_program}
 use Rattle.marshal_program.proofs.PlainPlaces.{plain_serves}
-use Rattle.routine_checker.proofs.JoinedPasses.{joined_serves}
+use Rattle.marshal_program.proofs.JoinedPlaces.{joined_serves}
 use Rattle.routine_checker.proofs.SetLaws.{among_all}
 use Rattle.program_runner.specs.declared.fault.RunFault.{RunFault}
 use Rattle.program_runner.specs.declared.fault.RunFault.TheVariants.{Short, BadBool, BadEnum, BadLength, NoTerminator, ZeroInside, OverBound, TooDeep, TapeLeft, NoMemory}

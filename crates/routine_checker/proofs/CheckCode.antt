@@ -1,13 +1,10 @@
 -- The faults of a routine and of a program, as the code meets them.
-use Rattle.std.proofs.Common.{◌≡◌, ◌≢◌, ℕ, zero, suc, ◌+◌, ◌-◌, ◌<◌, ◌≤◌, Bool, true, false, List, [], ◌∷◌, length, drop, drop-cons, get_or, Option, Some, None, slice_get, if◌then◌else◌, refl, sym, ap, subst, ◌∙◌, inl, inr, arith}
-use Rattle.std.proofs.lemmas.Bool.{lt-ltb, le-ltb, cases_lt}
+use Rattle.std.proofs.Common.{◌≡◌, ◌≢◌, ℕ, zero, suc, ◌+◌, ◌-◌, ◌<◌, ◌≤◌, true, false, List, length, drop, drop-cons, get_or, Option, Some, None, if◌then◌else◌, refl, sym, ap, ◌∙◌, arith}
+use Rattle.std.proofs.lemmas.Bool.{lt-ltb, le-ltb}
 use Rattle.std.proofs.lemmas.List.{drop_all}
 use Rattle.std.proofs.lemmas.Option.{none-some}
-use Rattle.std.specs.Prelude.{ltb}
 use Rattle.type_graph.specs.declared.node.Node.{Node}
-use Rattle.type_graph.specs.GraphRules.{IsGraph}
 use Rattle.marshal_program.specs.declared.instr.Routine.{Routine}
-use Rattle.marshal_program.specs.ProgramRules.{IsProgram}
 use Rattle.routine_checker.specs.declared.fault.CheckFault.{CheckFault}
 use Rattle.routine_checker.specs.declared.fault.CheckFault.TheVariants.{WrongWork, WrongPadding, EntryOutside, ExitsTooSmall, NoRoutine, NamedEntryNotFull, NoMemory}
 use Rattle.routine_checker.specs.Sets.{has}

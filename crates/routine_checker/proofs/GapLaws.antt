@@ -2,11 +2,12 @@
 use Rattle.std.proofs.Common.{◌≡◌, ℕ, ◌+◌, true, List, [], length, refl, sym, ap, subst, ◌∙◌, inl, inr, arith}
 use Rattle.std.proofs.lemmas.List.{nil_from_length}
 use Rattle.type_graph.specs.declared.width.Width.{Width}
-use Rattle.type_graph.specs.Words.{Format, Padding, Zeros, AnyOctets, IsPadding, octets_in, pad}
+use Rattle.type_graph.specs.Words.{Format, octets_in, pad}
 use Rattle.type_graph.specs.Relation.{Relation, Then}
 use Rattle.type_graph.specs.Comparison.{Anywhere, Same, Ends}
 use Rattle.type_graph.specs.Atoms.{Gap}
 use Rattle.type_graph.proofs.RelationLaws.{then_ends, nothing_then}
+use Rattle.type_graph.proofs.WordLaws.{padding_none}
 use Rattle.type_graph.proofs.LeadLaws.{Leads}
 use Rattle.routine_checker.specs.Sets.{Among, moved, gaps_agree, gaps_serve}
 use Rattle.routine_checker.proofs.SetLaws.{agreed, served, among_moved}
@@ -71,10 +72,6 @@ no_gap_then {R = R} w p t x none r =
       first = record { no_tape = r.first.no_tape; no_octets = empty };
       second = r.second;
     })
-
-padding_none : (padding : Padding) → IsPadding padding []
-padding_none Zeros = tt
-padding_none AnyOctets = tt
 
 pub with_no_gap : {format : Format} {R : Relation} (w : Width) (p : ℕ) (tape octets : List ℕ) → pad p (octets_in w) ≡ 0 → R p tape octets → Then (Gap format w) R p tape octets
 with_no_gap {format} {R} w p t x none r = record {

@@ -1,5 +1,5 @@
 -- The checker refuses no joined program: runs of one width go through, a gap only where what is before is narrower.
-use Rattle.std.proofs.Common.{◌≡◌, ℕ, zero, suc, ◌+◌, ◌*◌, ◌<◌, Bool, true, false, eqb, List, [], ◌∷◌, length, Option, Some, None, slice_get, slice_index_or, if◌then◌else◌, refl, sym, ap, subst, ◌∙◌, arith, add-zero, zero-add}
+use Rattle.std.proofs.Common.{◌≡◌, ℕ, zero, suc, ◌*◌, ◌<◌, Bool, true, false, eqb, List, [], ◌∷◌, length, Option, Some, None, if◌then◌else◌, refl, sym, ap, subst, ◌∙◌, arith}
 use Rattle.std.specs.Prelude.{ltb}
 use Rattle.std.specs.List.{AllByRecursion}
 use Rattle.std.proofs.lemmas.Bool.{eqb-true, ltb-false}
@@ -17,7 +17,8 @@ use Rattle.marshal_program.specs.declared.instr.Instr.TheVariants.{Align}
 use Rattle.marshal_program.specs.declared.instr.Routine.{Routine}
 use Rattle.marshal_program.specs.ProgramRules.{is_work}
 use Rattle.marshal_program.specs.Plain.{plain_code}
-use Rattle.marshal_program.specs.Joined.{width_of, width_before, widths_of, run_before, runs_of, run_instr, joined_runs, joined_or, joined_code, joined_routine, joined_from, joined_program}
+use Rattle.marshal_program.proofs.JoinedPlaces.{length-joined_program, joined_program_at}
+use Rattle.marshal_program.specs.Joined.{width_of, width_before, widths_of, run_before, runs_of, run_instr, joined_runs, joined_or, joined_code, joined_routine, joined_program}
 use Rattle.routine_checker.specs.Sets.{gaps_agree, moved}
 use Rattle.routine_checker.specs.Taking.{parts_of, taken, and_then, is_octet, is_whole, is_piece, pieces}
 use Rattle.routine_checker.specs.Steps.{enters, pads, ends, program_fault, routine_fault, name_fault}
@@ -27,8 +28,7 @@ use Rattle.routine_checker.proofs.RunGaps.{gaps_behind, gaps_narrower}
 use Rattle.routine_checker.proofs.Through.{takes_first, takes_opened, Through, nothing_through, align_through, work_through, routine_none, routines_none}
 use Rattle.routine_checker.proofs.OwnRoutines.{Own}
 use Rattle.routine_checker.proofs.PlainPasses.{FromNode, empty_through, node_through, all_within, all_low}
-use Rattle.marshal_program.specs.Served.{served_by}
-use Rattle.routine_checker.proofs.NameLaws.{own_serves, own_named}
+use Rattle.routine_checker.proofs.NameLaws.{own_named}
 
 -- ---- one run as an instruction
 
@@ -230,23 +230,6 @@ module _ (graph : List Node) (program : List Routine) (own : (number : ℕ) → 
 
 -- ---- the joined program
 
-length-joined_from : (graph : List Node) (from : ℕ) (list : List Node) → length (joined_from graph from list) ≡ length list
-length-joined_from graph from [] = refl
-length-joined_from graph from (node ∷ more) = ap suc (length-joined_from graph (suc from) more)
-
-pub length-joined_program : (graph : List Node) → length (joined_program graph) ≡ length graph
-length-joined_program graph = length-joined_from graph 0 graph
-
-joined_from_at : (graph : List Node) (from : ℕ) (list : List Node) (k : ℕ) → k < length list → slice_get (joined_from graph from list) k ≡ Some (joined_routine graph (from + k) (slice_index_or list k nodes.Octet))
-joined_from_at graph from [] k lt = absurd (omega arith)
-joined_from_at graph from (node ∷ more) zero lt = rw add-zero refl
-joined_from_at graph from (node ∷ more) (suc k) lt =
-    joined_from_at graph (suc from) more k (omega arith) ∙ ap (λ (n : ℕ). Some (joined_routine graph n (slice_index_or more k nodes.Octet))) (omega arith)
-
--- the routine of a node stands at the node's place
-pub joined_program_at : (graph : List Node) (k : ℕ) → k < length graph → slice_get (joined_program graph) k ≡ Some (joined_routine graph k (node_at graph k))
-joined_program_at graph k lt = joined_from_at graph 0 graph k lt ∙ ap (λ (n : ℕ). Some (joined_routine graph n (node_at graph k))) (zero-add k)
-
 pub joined_own : (graph : List Node) (number : ℕ) → number < length graph → Own (joined_program graph) number
 joined_own graph number lt = record {
   routine = joined_routine graph number (node_at graph number);
@@ -269,10 +252,6 @@ joined_passes graph rules =
 
 joined_own_within : (graph : List Node) (number : ℕ) → number < length (joined_program graph) → Own (joined_program graph) number
 joined_own_within graph number lt = let long = length-joined_program graph in joined_own graph number (omega (arith, lt, long))
-
--- the routine of a node's number serves it
-pub joined_serves : (graph : List Node) (number : ℕ) → number < length graph → served_by (joined_program graph) number ≡ Some number
-joined_serves graph number lt = let long = length-joined_program graph in own_serves (joined_program graph) (joined_own_within graph) number (omega (arith, lt, long))
 
 -- no name of a node is refused
 pub joined_named : (graph : List Node) (number : ℕ) → number < length graph → name_fault (joined_program graph) number ≡ None

@@ -1,5 +1,5 @@
 -- Entries and ends of the routines of a switch, as the code goes over them.
-use Rattle.std.proofs.Common.{◌≡◌, ℕ, zero, suc, ◌+◌, ◌-◌, ◌<◌, ◌≤◌, max, Bool, true, false, ◌&&◌, ℤ, List, [], ◌∷◌, ◌++◌, length, map, Option, Some, None, option_to_list, slice_get, slice_index_or, bit_or, refl, sym, ap, subst, ◌∙◌, arith}
+use Rattle.std.proofs.Common.{◌≡◌, ℕ, suc, ◌+◌, ◌<◌, ◌≤◌, max, Bool, ◌&&◌, ℤ, List, [], ◌∷◌, ◌++◌, length, map, Option, option_to_list, bit_or, sym, ap, ◌∙◌, arith}
 use Rattle.std.specs.List.{list_all}
 use Rattle.std.specs.Int.{bit_at}
 use Rattle.std.specs.Int.Bits.{or_zero_l, or_zero_r}
@@ -13,8 +13,8 @@ use Rattle.type_graph.specs.declared.node.Node.TheVariants.{Octet}
 use Rattle.type_graph.specs.Walks.{lead_by, lead_within, lead_of}
 use Rattle.marshal_program.specs.declared.instr.Routine.{Routine}
 use Rattle.marshal_program.specs.ProgramRules.{arms_of}
-use Rattle.routine_checker.specs.Sets.{is_within, left}
-use Rattle.routine_checker.specs.Steps.{entry_at, exits_at, left_by}
+use Rattle.routine_checker.specs.Sets.{left}
+use Rattle.routine_checker.specs.Steps.{exits_at, left_by}
 
 -- past the end of a graph stands an octet
 pub lead_past : (graph : List Node) (number : ℕ) → length graph ≤ number → lead_of graph number ≡ One

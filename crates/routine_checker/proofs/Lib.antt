@@ -16,6 +16,7 @@ pub mod OneLaws
 pub mod WorkLaws
 pub mod TimesLaws
 pub mod TakeLaws
+pub mod CountLaws
 pub mod FullSets
 pub mod Through
 pub mod OwnRoutines

@@ -1,5 +1,5 @@
 -- Taking, level by level and piece by piece.
-use Rattle.std.proofs.Common.{◌≡◌, ℕ, zero, suc, ◌+◌, ◌-◌, ◌<◌, ◌≤◌, Bool, true, false, List, [], ◌∷◌, ◌++◌, replicate, Option, Some, None, if◌then◌else◌, refl, sym, ap, subst, ◌∙◌, arith}
+use Rattle.std.proofs.Common.{◌≡◌, ℕ, zero, suc, ◌-◌, ◌<◌, ◌≤◌, Bool, true, false, List, [], ◌∷◌, ◌++◌, replicate, Option, Some, None, if◌then◌else◌, refl, sym, ap, ◌∙◌, arith}
 use Rattle.type_graph.specs.declared.node.Node.{Node}
 use Rattle.type_graph.specs.Value.{node_at}
 use Rattle.routine_checker.specs.Taking.{parts_of, opened, taken_by, taken_within, and_then, taken, is_done_by, is_done_within}
@@ -69,7 +69,7 @@ took_copies (suc k) n (suc copies) wanted graph number rest le lf is =
     let b : copies - k ≡ suc copies - suc k = omega arith in
     let here : 0 < 64 = omega arith in
     took_first n wanted graph (number ∷ replicate copies number ++ rest) (replicate copies number ++ rest) some
-      (within_here 64 wanted graph (number ∷ replicate copies number ++ rest) (replicate copies number ++ rest) number here refl is)
+    (within_here 64 wanted graph (number ∷ replicate copies number ++ rest) (replicate copies number ++ rest) number here refl is)
     ∙ took_copies k (n - 1) copies wanted graph number rest fits few is
     ∙ ap (λ m. taken m wanted graph (replicate (copies - k) number ++ rest)) a ∙ ap (λ m. taken (n - suc k) wanted graph (replicate m number ++ rest)) b
 

@@ -1,6 +1,5 @@
 -- A routine that is done many times: how its starts and ends recur.
-use Rattle.std.proofs.Common.{◌≡◌, ℕ, zero, suc, ◌+◌, ◌-◌, ◌*◌, ◌/◌, ◌%◌, ◌<◌, ◌≤◌, Bool, true, false, ◌&&◌, List, refl, sym, ap, subst, ◌∙◌, arith}
-use Rattle.std.proofs.lemmas.Bool.{true≢false}
+use Rattle.std.proofs.Common.{◌≡◌, ℕ, zero, suc, ◌+◌, ◌-◌, ◌*◌, ◌/◌, ◌%◌, ◌<◌, ◌≤◌, Bool, true, false, ◌&&◌, List, refl, sym, ap, ◌∙◌, arith}
 use Rattle.std.proofs.Math.Nat.{div-add-mod, mul-suc, mod-lt}
 use Rattle.routine_checker.specs.Sets.{is_within, left}
 use Rattle.routine_checker.specs.Steps.{enters_times, times_left}
@@ -40,7 +39,7 @@ enters_add zero n entry exits places = let e : 0 + n ≡ n = omega arith in rw e
 enters_add (suc m) n entry exits places =
     let e : suc m + n ≡ suc (m + n) = omega arith in
     rw e (ap (λ more. is_within places entry && more) (enters_add m n entry exits (left places exits))
-      ∙ and_assoc (is_within places entry) (enters_times m entry exits (left places exits)) (enters_times n entry exits (times_left m exits (left places exits))))
+    ∙ and_assoc (is_within places entry) (enters_times m entry exits (left places exits)) (enters_times n entry exits (times_left m exits (left places exits))))
 
 -- whole periods change nothing
 one_period : (r q n : ℕ) → r * suc q + n ≡ r + (r * q + n)
@@ -77,7 +76,7 @@ starts_of_periods r zero b entry exits places lt e starts =
 starts_of_periods r (suc q) b entry exits places lt e starts =
     ap (λ k. enters_times k entry exits places) (one_period r q b) ∙ enters_add r (r * q + b) entry exits places
     ∙ both_true (enters_times r entry exits places) (enters_times (r * q + b) entry exits (times_left r exits places)) starts
-        (ap (enters_times (r * q + b) entry exits) e ∙ starts_of_periods r q b entry exits places lt e starts)
+    (ap (enters_times (r * q + b) entry exits) e ∙ starts_of_periods r q b entry exits places lt e starts)
 
 every_start : (r k entry : ℕ) (exits : List ℕ) (places : ℕ) → 0 < r → times_left r exits places ≡ places → enters_times r entry exits places ≡ true → enters_times k entry exits places ≡ true
 every_start r k entry exits places some e starts =
@@ -93,7 +92,7 @@ starts_of_period r n entry exits places some le e =
     let cut : n ≡ r + (n - r) = omega (arith, le) in
     ap (λ k. enters_times k entry exits places) cut ∙ enters_add r (n - r) entry exits places
     ∙ cut_short (enters_times r entry exits places) (enters_times (n - r) entry exits (times_left r exits places))
-        (λ starts. ap (enters_times (n - r) entry exits) e ∙ every_start r (n - r) entry exits places some e starts)
+    (λ starts. ap (enters_times (n - r) entry exits) e ∙ every_start r (n - r) entry exits places some e starts)
 
 -- once more at the end
 pub left_last : (n : ℕ) (exits : List ℕ) (places : ℕ) → times_left (n + 1) exits places ≡ left (times_left n exits places) exits

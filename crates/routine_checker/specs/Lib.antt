@@ -4,5 +4,6 @@ pub mod Taking
 pub mod Steps
 pub mod Right
 pub mod Kinds
+pub mod Counts
 pub mod Work
 pub mod Progress

@@ -1,5 +1,4 @@
 -- How far the code has followed a routine.
-use Rattle.std.specs.Prelude.{ℕ}
 use Rattle.routine_checker.specs.declared.fault.StepFault.{StepFault}
 use Rattle.routine_checker.specs.declared.fault.StepFault.TheVariants as stops
 use Rattle.routine_checker.specs.declared.fault.CheckFault.{CheckFault}

@@ -7,9 +7,11 @@ ghost use Rattle.marshal_program.specs.Plain.{plain_program};
 ghost use Rattle.marshal_program.specs.Joined.{joined_program};
 ghost use Rattle.marshal_program.specs.Served.{served_by};
 ghost use Rattle.routine_checker.specs.Steps.{State, followed, ended, entry_fault, entries_fault, routine_fault, routines_fault, program_fault, name_fault, has_routine};
+ghost use Rattle.routine_checker.specs.Counts.{AreRunCounts};
 ghost use Rattle.routine_checker.specs.Progress.{state_of, OnlyIf};
 ghost use Rattle.routine_checker.specs.Right.{AreRight};
 
+use crate::counts::RunCounts;
 use crate::fault::CheckFault;
 use crate::sets::{gaps_agree, has, is_within, only};
 use crate::step::Progress;
@@ -21,17 +23,19 @@ use type_graph::{Graph, Width};
 fn follow<'g>(
     progress: &mut Progress<'g>,
     graph: &'g Graph,
+    counts: &RunCounts,
     program: &'g [Routine],
     number: u32,
     routine: &'g Routine,
 ) -> Result<(), CheckFault>
-    requires { length routine.now.code ≤ 65536 }
+    requires code { length routine.now.code ≤ 65536 }
+    requires counts { AreRunCounts graph.now counts.now }
     ensures ok { OnOk result (followed graph.now program.now number 0 routine.now.code (state_of progress.old) ≡ Ok (state_of progress.new)) }
     ensures refused { IfErr result (λ fault. OnlyIf fault (followed graph.now program.now number 0 routine.now.code (state_of progress.old) ≡ Err fault)) }
 {
     let code = routine.code.as_slice();
     for at in 0..code.len() {
-        match progress.step(graph, program, &code[at]) {
+        match progress.step(graph, counts, program, &code[at]) {
             Ok(()) => (),
             Err(fault) => return Err(fault.at(number, at as u32)),
         }
@@ -79,18 +83,20 @@ fn end<'g>(
 fn check_entry<'g>(
     alloc: Global,
     graph: &'g Graph,
+    counts: &RunCounts,
     program: &'g [Routine],
     number: u32,
     routine: &'g Routine,
     entry: u32,
 ) -> Result<(), CheckFault>
     requires code { length routine.now.code ≤ 65536 }
+    requires counts { AreRunCounts graph.now counts.now }
     requires entry { entry < 8 }
     ensures ok { OnOk result (entry_fault graph.now program.now number routine.now entry ≡ None) }
     ensures refused { IfErr result (λ fault. OnlyIf fault (entry_fault graph.now program.now number routine.now entry ≡ Some fault)) }
 {
     let mut progress = Progress::new(alloc, routine.node, only(entry))?;
-    match follow(&mut progress, graph, program, number, routine) {
+    match follow(&mut progress, graph, counts, program, number, routine) {
         Ok(()) => end(&mut progress, graph, number, routine, entry),
         Err(fault) => Err(fault),
     }
@@ -100,12 +106,14 @@ fn check_entry<'g>(
 fn check_routine<'g>(
     alloc: Global,
     graph: &'g Graph,
+    counts: &RunCounts,
     nodes: usize,
     program: &'g [Routine],
     number: u32,
     routine: &'g Routine,
 ) -> Result<(), CheckFault>
     requires nodes { nodes ≡ length graph.now }
+    requires counts { AreRunCounts graph.now counts.now }
     requires code { length routine.now.code ≤ 65536 }
     ensures ok { OnOk result (routine_fault graph.now program.now number routine.now ≡ None) }
     ensures refused { IfErr result (λ fault. OnlyIf fault (routine_fault graph.now program.now number routine.now ≡ Some fault)) }
@@ -118,7 +126,7 @@ fn check_routine<'g>(
     }
     for entry in 0..8u32 {
         if has(routine.entry, entry) {
-            match check_entry(alloc, graph, program, number, routine, entry) {
+            match check_entry(alloc, graph, counts, program, number, routine, entry) {
                 Ok(()) => (),
                 Err(fault) => return Err(fault),
             }
@@ -141,10 +149,12 @@ pub fn check_routines(alloc: Global, graph: &Graph, program: &Program) -> Result
 {
     let nodes = graph.nodes().len();
     let routines = program.routines();
+    let counts = RunCounts::new(alloc, graph.nodes())?;
     for number in 0..routines.len() {
         match check_routine(
             alloc,
             graph,
+            &counts,
             nodes,
             routines,
             number as u32,

@@ -103,7 +103,8 @@ fn enters_elements(entry: u8, exits: &[u8], from: u8) -> bool
 fn enters_arms(program: &[Routine], from: u8, arms: &[(i128, u32)]) -> bool
     ensures { result ≡ list_all (λ arm. is_within from (entry_at program.now arm.1)) arms.now }
 {
-    arms.iter().all(|arm| is_within(from, entry_at(program, arm.1)))
+    arms.iter()
+        .all(|arm| is_within(from, entry_at(program, arm.1)))
 }
 
 fn enters_otherwise(program: &[Routine], from: u8, otherwise: Option<u32>) -> bool
@@ -116,12 +117,7 @@ fn enters_otherwise(program: &[Routine], from: u8, otherwise: Option<u32>) -> bo
 }
 
 /// Each routine of a switch may start at each of the places.
-fn enters_all(
-    program: &[Routine],
-    from: u8,
-    arms: &[(i128, u32)],
-    otherwise: Option<u32>,
-) -> bool
+fn enters_all(program: &[Routine], from: u8, arms: &[(i128, u32)], otherwise: Option<u32>) -> bool
     ensures { result ≡ list_all (λ routine. is_within from (entry_at program.now routine)) (arms_of arms.now otherwise) }
 {
     let arms_enter = enters_arms(program, from, arms);
@@ -180,11 +176,8 @@ pub fn pads(graph: &Graph, program: &[Routine], instr: &Instr, places: u8, gap: 
         Instr::SeqWords { width, first, .. } => {
             gaps_agree(places, gap, Width::Four) && gaps_agree(counted(places), *first, *width)
         }
-        Instr::SeqOf { first, routine, .. } => gaps_agree(places, gap, Width::Four) && gaps_serve(
-            counted(places),
-            *first,
-            lead_at(graph, program, *routine),
-        ),
+        Instr::SeqOf { first, routine, .. } => gaps_agree(places, gap, Width::Four)
+            && gaps_serve(counted(places), *first, lead_at(graph, program, *routine)),
         Instr::Times { routine, .. } | Instr::Call { routine } => {
             gaps_serve(places, gap, lead_at(graph, program, *routine))
         }
@@ -226,12 +219,7 @@ fn left_otherwise(program: &[Routine], places: u8, otherwise: Option<u32>) -> u8
 }
 
 /// Where one of the routines of a switch ends.
-fn left_by(
-    program: &[Routine],
-    places: u8,
-    arms: &[(i128, u32)],
-    otherwise: Option<u32>,
-) -> u8
+fn left_by(program: &[Routine], places: u8, arms: &[(i128, u32)], otherwise: Option<u32>) -> u8
     ensures { result ≡ left_by program.now places (arms_of arms.now otherwise) }
 {
     let mut ends = left_otherwise(program, places, otherwise);
@@ -248,11 +236,7 @@ pub fn ends(program: &[Routine], instr: &Instr, places: u8, gap: Width) -> u8
     match instr {
         Instr::Align { .. } => places,
         Instr::Octets { n } | Instr::Bools { n } => moved(places, Width::One, u64::from(*n)),
-        Instr::Words { width, n } => moved(
-            places,
-            *width,
-            u64::from(*n) * width.octets() as u64,
-        ),
+        Instr::Words { width, n } => moved(places, *width, u64::from(*n) * width.octets() as u64),
         Instr::EnumWord { .. } => counted(places),
         Instr::Text { .. } | Instr::SeqOctets { .. } | Instr::SeqBools { .. } => EVERYWHERE,
         Instr::SeqWords { width, .. } => counted(places) | multiples(*width),
@@ -271,12 +255,8 @@ pub fn ends(program: &[Routine], instr: &Instr, places: u8, gap: Width) -> u8
             otherwise,
         } => {
             let from = chosen_from(*disc, places);
-            left_by(program, from, arms.as_slice(), *otherwise) | memberless(
-                *disc,
-                arms.as_slice(),
-                *otherwise,
-                from,
-            )
+            left_by(program, from, arms.as_slice(), *otherwise)
+                | memberless(*disc, arms.as_slice(), *otherwise, from)
         }
     }
 }

@@ -2,9 +2,10 @@
 #![tactic(auto)]
 
 mod check;
+mod counts;
 mod fault;
-pub mod laws;
 mod judge;
+pub mod laws;
 mod names;
 mod pieces;
 mod sets;
@@ -13,5 +14,5 @@ mod times;
 mod work;
 
 pub use check::check_routines;
-pub use names::{check_name, check_names};
 pub use fault::{CheckFault, StepFault};
+pub use names::{check_name, check_names};

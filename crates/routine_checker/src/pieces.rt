@@ -69,7 +69,7 @@ pub enum Kind {
     Word(Width),
 }
 
-fn is_of(kind: Kind, node: &Node) -> bool
+pub fn is_of(kind: Kind, node: &Node) -> bool
     ensures { result ≡ is_of kind node.now }
 {
     match kind {
@@ -158,7 +158,10 @@ fn is_disc_of(disc: Disc, node: &Node) -> bool
     match (disc, node) {
         (Disc::Char, Node::Char) | (Disc::Boolean, Node::Boolean) => true,
         (
-            Disc::Word { width, signed: true },
+            Disc::Word {
+                width,
+                signed: true,
+            },
             Node::Whole {
                 width: wide,
                 signed: true,
@@ -233,11 +236,9 @@ fn is_switch_of(
             switch,
             arms: members,
             default,
-        } => is_disc_at(nodes, disc, *switch) && are_arms_of(
-            program,
-            arms.as_slice(),
-            members.as_slice(),
-        ) && is_default_of(program, otherwise, *default),
+        } => is_disc_at(nodes, disc, *switch)
+            && are_arms_of(program, arms.as_slice(), members.as_slice())
+            && is_default_of(program, otherwise, *default),
         _ => false,
     }
 }

@@ -5,8 +5,10 @@ ghost use Rattle.type_graph.specs.declared.width.Width.TheVariants.{One};
 ghost use Rattle.type_graph.specs.Words.{wider};
 ghost use Rattle.routine_checker.specs.Steps.{State, step};
 ghost use Rattle.routine_checker.specs.Work.{work_of};
+ghost use Rattle.routine_checker.specs.Counts.{AreRunCounts};
 ghost use Rattle.routine_checker.specs.Progress.{state_of, OnlyIfStep};
 
+use crate::counts::RunCounts;
 use crate::fault::StepFault;
 use crate::judge::{ends, enters, pads};
 use crate::pieces::pieces;
@@ -52,9 +54,11 @@ impl<'g> Progress<'g> {
     pub fn step(
         &mut self,
         graph: &'g Graph,
+        counts: &RunCounts,
         program: &'g [Routine],
         instr: &'g Instr,
     ) -> Result<(), StepFault>
+        requires { AreRunCounts graph.now counts.now }
         ensures ok { OnOk result (step graph.now program.now instr.now (state_of self.old) ≡ Ok (state_of self.new)) }
         ensures refused { IfErr result (λ fault. OnlyIfStep fault (step graph.now program.now instr.now (state_of self.old) ≡ Err fault)) }
     {
@@ -67,7 +71,7 @@ impl<'g> Progress<'g> {
             program,
             instr,
         };
-        if !self.work.take(wanted, pieces(instr))? {
+        if !self.work.take(wanted, counts, pieces(instr))? {
             return Err(StepFault::Work);
         }
         if !enters(program, instr, self.places, self.gap) {

@@ -76,9 +76,7 @@ fn enters_behind(n: u32, entry: u8, exits: &[u8], places: u8) -> bool
     ensures { result ≡ enters_times n entry exits.now places }
 {
     match period(exits, places) {
-        Some(period) if period <= n => {
-            enters_one_by_one(period, entry, exits, places)
-        }
+        Some(period) if period <= n => { enters_one_by_one(period, entry, exits, places) }
         _ => enters_one_by_one(n, entry, exits, places),
     }
 }
@@ -91,10 +89,6 @@ pub fn enters_times(n: u32, entry: u8, exits: &[u8], places: u8) -> bool
         return enters_one_by_one(n, entry, exits, places);
     }
     let behind = left_one_by_one(FOLLOWED, exits, places);
-    enters_one_by_one(FOLLOWED, entry, exits, places) && enters_behind(
-        n - FOLLOWED,
-        entry,
-        exits,
-        behind,
-    )
+    enters_one_by_one(FOLLOWED, entry, exits, places)
+        && enters_behind(n - FOLLOWED, entry, exits, behind)
 }

@@ -1,10 +1,12 @@
 //! The work that is left of a node.
 
-ghost use Rattle.std.specs.Prelude.{◌≡◌, ◌<◌, ◌≤◌, ◌-◌, [], ◌∷◌, ◌++◌, IfOk, IfSome, IfNone, IsTrue, IsFalse, Some, None, replicate};
+ghost use Rattle.std.specs.Prelude.{ℕ, List, ◌≡◌, ◌<◌, ◌≤◌, ◌-◌, [], ◌∷◌, ◌++◌, IfOk, IfSome, IfNone, IsTrue, IsFalse, Some, None, replicate};
 ghost use Rattle.type_graph.specs.Value.{node_at};
 ghost use Rattle.routine_checker.specs.Taking.{parts_of, taken_within, taken, is_done_within};
+ghost use Rattle.routine_checker.specs.Counts.{AreRunCounts, Yields};
 ghost use Rattle.routine_checker.specs.Work.{wants, held, held_of, work_of};
 
+use crate::counts::RunCounts;
 use crate::pieces::is_piece;
 use marshal_program::{Instr, Routine};
 use std::alloc::{AllocError, Global};
@@ -24,18 +26,25 @@ impl<'g> Wanted<'g> {
     {
         is_piece(self.nodes, self.program, self.instr, number)
     }
+
+    /// How many of them the node is made of, 0 where that isn't known.
+    #[tactic(auto, using(crate::proofs::CountLaws::took_wanted))]
+    fn count(self, counts: &RunCounts, number: u32) -> u32
+        requires { AreRunCounts self.nodes.now counts.now }
+        ensures { 0 < result → Yields result (wants self.entry) self.entry.nodes.now number }
+    {
+        if self.is(number) {
+            return 1;
+        }
+        counts.pieces(self.instr, number)
+    }
 }
 
 /// Nodes that follow one another.
 #[derive(Clone, Copy, Debug)]
 pub enum Item<'g> {
-    Copies {
-        number: u32,
-        n: u32,
-    },
-    Numbers {
-        numbers: &'g [u32],
-    },
+    Copies { number: u32, n: u32 },
+    Numbers { numbers: &'g [u32] },
 }
 
 impl<'g> Item<'g> {
@@ -81,6 +90,20 @@ fn parts_at(nodes: &[Node], number: u32) -> Option<Item<'_>>
     }
 }
 
+impl<'g> Wanted<'g> {
+    /// What a node is opened into that is made of more than so many pieces.
+    fn parts_of_more(self, counts: &RunCounts, pieces: u32, number: u32) -> Option<Item<'g>>
+        requires some { 0 < pieces }
+        requires counts { AreRunCounts self.nodes.now counts.now }
+        ensures { IfSome result (λ parts. (more : List ℕ) → taken pieces (wants self.entry) self.entry.nodes.now (number ∷ more) ≡ taken pieces (wants self.entry) self.entry.nodes.now (held parts ++ more)) }
+    {
+        if self.is(number) || counts.pieces(self.instr, number) <= pieces {
+            return None;
+        }
+        parts_at(self.nodes, number)
+    }
+}
+
 /// The nodes whose values are still to be related: what comes first stands last in the list.
 #[derive(Debug, Drop)]
 pub struct Work<'g> {
@@ -111,6 +134,7 @@ impl<'g> Work<'g> {
         ensures some { IfOk result (λ first. IfSome first (λ copies. work_of self.old.items.items ≡ replicate copies.1 copies.0 ++ work_of self.new.items.items)) }
         ensures many { IfOk result (λ first. IfSome first (λ copies. 0 < copies.1)) }
         ensures none { IfOk result (λ first. IfNone first (work_of self.old.items.items ≡ [])) }
+        ensures empty { IfOk result (λ first. IfNone first (work_of self.new.items.items ≡ [])) }
     {
         while let Some(item) = self.items.pop() {
             if let Some((number, n, rest)) = item.split() {
@@ -129,10 +153,7 @@ impl<'g> Work<'g> {
     {
         match self.next_copies()? {
             Some((number, n)) => {
-                self.put(Item::Copies {
-                    number,
-                    n: n - 1,
-                })?;
+                self.put(Item::Copies { number, n: n - 1 })?;
                 Ok(Some(number))
             }
             None => Ok(None),
@@ -161,10 +182,48 @@ impl<'g> Work<'g> {
         Ok(false)
     }
 
-    /// Takes some of the wanted pieces, as many as are copies of one node, and tells how many; none
-    /// where the first can't be taken.
-    fn take_some(&mut self, wanted: Wanted<'g>, pieces: u32) -> Result<u32, AllocError>
-        requires { 0 < pieces }
+    /// Opens the first node as long as it is made of more pieces than are wanted.
+    fn open(
+        &mut self,
+        wanted: Wanted<'g>,
+        counts: &RunCounts,
+        pieces: u32,
+    ) -> Result<(), AllocError>
+        requires some { 0 < pieces }
+        requires counts { AreRunCounts wanted.nodes.now counts.now }
+        ensures { IfOk result (λ done. taken pieces (wants wanted.entry) wanted.entry.nodes.now (work_of self.old.items.items) ≡ taken pieces (wants wanted.entry) wanted.entry.nodes.now (work_of self.new.items.items)) }
+    {
+        for level in 0..64u32 {
+            let (number, copies) = match self.next_copies()? {
+                Some(first) => first,
+                None => return Ok(()),
+            };
+            let parts = match wanted.parts_of_more(counts, pieces, number) {
+                Some(parts) => parts,
+                None => {
+                    self.put(Item::Copies { number, n: copies })?;
+                    return Ok(());
+                }
+            };
+            self.put(Item::Copies {
+                number,
+                n: copies.saturating_sub(1),
+            })?;
+            self.put(parts)?;
+        }
+        Ok(())
+    }
+
+    /// Takes some of the wanted pieces, as many as are in copies of one node, and tells how many;
+    /// none where the first can't be taken.
+    fn take_some(
+        &mut self,
+        wanted: Wanted<'g>,
+        counts: &RunCounts,
+        pieces: u32,
+    ) -> Result<u32, AllocError>
+        requires some { 0 < pieces }
+        requires counts { AreRunCounts wanted.nodes.now counts.now }
         ensures within { IfOk result (λ n. n ≤ pieces) }
         ensures taken { IfOk result (λ n. 0 < n → taken pieces (wants wanted.entry) wanted.entry.nodes.now (work_of self.old.items.items) ≡ taken (pieces - n) (wants wanted.entry) wanted.entry.nodes.now (work_of self.new.items.items)) }
         ensures refused { IfOk result (λ n. n ≡ 0 → taken pieces (wants wanted.entry) wanted.entry.nodes.now (work_of self.old.items.items) ≡ None) }
@@ -173,26 +232,34 @@ impl<'g> Work<'g> {
             Some(first) => first,
             None => return Ok(0),
         };
-        if wanted.is(number) {
-            let n = copies.min(pieces);
+        let count = wanted.count(counts, number);
+        if 0 < count && count <= pieces {
+            let n = copies.min(pieces / count);
             self.put(Item::Copies {
                 number,
                 n: copies - n,
             })?;
-            return Ok(n);
+            return Ok(n * count);
         }
         self.put(Item::Copies { number, n: copies })?;
         Ok(if self.take_one(wanted)? { 1 } else { 0 })
     }
 
     /// Takes so many pieces of an instruction, and tells whether they were there.
-    pub fn take(&mut self, wanted: Wanted<'g>, pieces: u32) -> Result<bool, AllocError>
+    pub fn take(
+        &mut self,
+        wanted: Wanted<'g>,
+        counts: &RunCounts,
+        pieces: u32,
+    ) -> Result<bool, AllocError>
+        requires { AreRunCounts wanted.nodes.now counts.now }
         ensures taken { IfOk result (λ took. IsTrue took → taken pieces (wants wanted.entry) wanted.entry.nodes.now (work_of self.old.items.items) ≡ Some (work_of self.new.items.items)) }
         ensures refused { IfOk result (λ took. IsFalse took → taken pieces (wants wanted.entry) wanted.entry.nodes.now (work_of self.old.items.items) ≡ None) }
     {
         let mut left = pieces;
         while left > 0 {
-            let n = self.take_some(wanted, left)?;
+            self.open(wanted, counts, left)?;
+            let n = self.take_some(wanted, counts, left)?;
             if n == 0 {
                 return Ok(false);
             }

@@ -1,5 +1,4 @@
-use Rattle.std.proofs.Common.{◌≡◌, ◌<◌, ◌≤◌, ℕ, List, length, Some, None, sym, ap, subst, ◌∙◌, arith}
-use Rattle.type_graph.specs.declared.node.Node.{Node}
+use Rattle.std.proofs.Common.{◌≡◌, ◌<◌, ◌≤◌, length, Some, sym, ap, subst, ◌∙◌, arith}
 use Rattle.routine_checker.specs.Steps.{entry_fault, entries_fault, routine_fault}
 use Rattle.routine_checker.proofs.CheckCode.{only_if, routine_outside, routine_inside, first_entry}
 use Rattle.routine_checker.proofs.check.check_routine.Goals as goal
@@ -17,8 +16,8 @@ returns-in-Err-clause-refused c =
     let fault = c.in-Err.fault in
     let inside : routine.node < length graph = subst (λ nodes. routine.node < nodes) c.requires.nodes c.if-routine-nodes.false in
     only_if fault (entry_fault graph program number routine c.loop-entry.entry ≡ Some fault) (routine_fault graph program number routine ≡ Some fault)
-      (λ e. routine_inside graph program number routine inside ∙ first_entry graph program number routine c.loop-entry.entry fault c.loop-entry-test.true c.loop-entry.invariant (sym c.has.ensures ∙ c.if-has.true) e)
-      c.in-Err.ensures.refused
+    (λ e. routine_inside graph program number routine inside ∙ first_entry graph program number routine c.loop-entry.entry fault c.loop-entry-test.true c.loop-entry.invariant (sym c.has.ensures ∙ c.if-has.true) e)
+    c.in-Err.ensures.refused
 
 pub returns-clause-ok : goal.returns-clause-ok
 returns-clause-ok c =

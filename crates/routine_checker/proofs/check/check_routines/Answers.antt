@@ -1,4 +1,4 @@
-use Rattle.std.proofs.Common.{◌≡◌, ◌≢◌, ◌<◌, ◌≤◌, ℕ, List, length, drop, get_or, Some, None, sym, ap, subst, ◌∙◌, arith}
+use Rattle.std.proofs.Common.{◌≡◌, ◌≢◌, ◌≤◌, List, length, drop, Some, subst, ◌∙◌}
 use Rattle.marshal_program.specs.declared.instr.Routine.{Routine}
 use Rattle.marshal_program.specs.Plain.{plain_program}
 use Rattle.marshal_program.specs.Joined.{joined_program}
@@ -10,7 +10,7 @@ use Rattle.routine_checker.proofs.CheckCode.{only_if, routines_first, routines_a
 use Rattle.routine_checker.proofs.check.check_routines.Goals as goal
 
 -- the fault of the routine is that of the program
-refused : (c : goal.In-Err) → routine_fault c.args.graph.now c.routines-routines.result.now c.loop-number.number c.index-routines-number.result ≡ Some c.in-Err.fault → program_fault c.args.graph.now c.args.program.now ≡ Some c.in-Err.fault
+refused : (c : goal.After-drop-counts-in-Err-4) → routine_fault c.args.graph.now c.routines-routines.result.now c.loop-number.number c.index-routines-number.result ≡ Some c.in-Err.fault → program_fault c.args.graph.now c.args.program.now ≡ Some c.in-Err.fault
 refused c e =
     let routines = c.routines-routines.result.now in
     let number = c.loop-number.number in
@@ -24,14 +24,14 @@ returns-in-Err-clause-plain c =
     let graph = c.args.graph.now in
     let program = c.args.program.now in
     only_if c.in-Err.fault (routine_fault graph c.routines-routines.result.now c.loop-number.number c.index-routines-number.result ≡ Some c.in-Err.fault) (program ≢ plain_program graph)
-      (λ e. not_refused graph program (plain_program graph) c.in-Err.fault (plain_passes graph c.nodes-nodes.ensures.rules) (refused c e)) c.in-Err.ensures.refused
+    (λ e. not_refused graph program (plain_program graph) c.in-Err.fault (plain_passes graph c.nodes-nodes.ensures.rules) (refused c e)) c.in-Err.ensures.refused
 
 pub returns-in-Err-clause-joined : goal.returns-in-Err-clause-joined
 returns-in-Err-clause-joined c =
     let graph = c.args.graph.now in
     let program = c.args.program.now in
     only_if c.in-Err.fault (routine_fault graph c.routines-routines.result.now c.loop-number.number c.index-routines-number.result ≡ Some c.in-Err.fault) (program ≢ joined_program graph)
-      (λ e. not_refused graph program (joined_program graph) c.in-Err.fault (joined_passes graph c.nodes-nodes.ensures.rules) (refused c e)) c.in-Err.ensures.refused
+    (λ e. not_refused graph program (joined_program graph) c.in-Err.fault (joined_passes graph c.nodes-nodes.ensures.rules) (refused c e)) c.in-Err.ensures.refused
 
 pub returns-clause-right : goal.returns-clause-right
 returns-clause-right c =

@@ -1,4 +1,4 @@
-use Rattle.std.proofs.Common.{◌≡◌, ◌&&◌, ℕ, ℤ, true, false, option_to_list, sym, ap, ◌∙◌}
+use Rattle.std.proofs.Common.{◌&&◌, ℕ, option_to_list, sym, ap, ◌∙◌}
 use Rattle.std.specs.List.{list_all}
 use Rattle.routine_checker.specs.Sets.{is_within}
 use Rattle.routine_checker.specs.Steps.{entry_at}

@@ -1,8 +1,8 @@
-use Rattle.std.proofs.Common.{◌≡◌, ◌+◌, ◌<◌, ◌≤◌, ◌∷◌, ℕ, ℤ, List, [], map, drop, get_or, length, bit_or, option_to_list, pos, sym, ap, ◌∙◌, arith}
+use Rattle.std.proofs.Common.{◌+◌, ◌≤◌, ℕ, ℤ, List, map, drop, length, bit_or, pos, sym, ap, ◌∙◌, arith}
 use Rattle.std.proofs.lemmas.List.{drop_all}
 use Rattle.std.specs.Int.Bits.{or_zero_r}
 use Rattle.routine_checker.specs.Sets.{left}
-use Rattle.routine_checker.specs.Steps.{left_by, exits_at}
+use Rattle.routine_checker.specs.Steps.{left_by}
 use Rattle.routine_checker.proofs.JudgeLaws.{left_from, left_arm}
 use Rattle.routine_checker.proofs.judge.left_by.Goals as goal
 

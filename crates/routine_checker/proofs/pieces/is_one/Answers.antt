@@ -1,6 +1,5 @@
-use Rattle.std.proofs.Common.{◌≡◌, ◌+◌, ◌-◌, ◌<◌, true, false, None, Some, sym, ap, subst, ◌∙◌, arith}
-use Rattle.type_graph.specs.declared.node.Node.{Node}
-use Rattle.std.proofs.Common.{List, Option, ℕ, Bool}
+use Rattle.std.proofs.Common.{◌≡◌, ◌+◌, ◌-◌, ◌<◌, None, Some, sym, ap, subst, ◌∙◌, arith}
+use Rattle.std.proofs.Common.{Option, ℕ, Bool}
 use Rattle.type_graph.specs.Value.{node_at}
 use Rattle.routine_checker.specs.Kinds.{is_of, part_holds}
 use Rattle.routine_checker.specs.Taking.{only_part, is_one}

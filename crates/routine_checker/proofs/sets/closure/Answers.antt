@@ -1,5 +1,5 @@
 use Rattle.std.proofs.Common.{◌≡◌, ◌+◌, ◌-◌, ◌<◌, ◌∙◌, sym, ap, bit_or, arith}
-use Rattle.routine_checker.specs.Sets.{left, closure}
+use Rattle.routine_checker.specs.Sets.{closure}
 use Rattle.routine_checker.proofs.PlaceLaws.{closure_next}
 use Rattle.routine_checker.proofs.sets.closure.Goals as goal
 

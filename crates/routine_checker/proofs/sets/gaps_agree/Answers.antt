@@ -1,4 +1,4 @@
-use Rattle.std.proofs.Common.{◌∙◌, ap, ◌≡◌}
+use Rattle.std.proofs.Common.{◌∙◌, ap}
 use Rattle.routine_checker.specs.Sets.{is_within}
 use Rattle.routine_checker.proofs.PlaceLaws.{agree_within}
 use Rattle.routine_checker.proofs.sets.gaps_agree.Goals as goal

@@ -1,4 +1,4 @@
-use Rattle.std.proofs.Common.{◌≡◌, ◌∙◌, ap, bit_or}
+use Rattle.std.proofs.Common.{◌∙◌, ap, bit_or}
 use Rattle.type_graph.specs.declared.width.Width.TheVariants.{One}
 use Rattle.routine_checker.specs.Sets.{is_within}
 use Rattle.routine_checker.specs.Places.{agreeing}

@@ -1,5 +1,5 @@
-use Rattle.std.proofs.Common.{◌≡◌, ◌+◌, ◌-◌, ◌<◌, ◌&&◌, false, true, sym, ap, ◌∙◌, arith}
-use Rattle.routine_checker.specs.Sets.{is_within, left}
+use Rattle.std.proofs.Common.{◌≡◌, ◌+◌, ◌-◌, ◌<◌, ◌&&◌, sym, ap, ◌∙◌, arith}
+use Rattle.routine_checker.specs.Sets.{left}
 use Rattle.routine_checker.specs.Steps.{enters_times}
 use Rattle.routine_checker.proofs.TimesLaws.{enters_next, enters_none}
 use Rattle.routine_checker.proofs.times.enters_one_by_one.Goals as goal

@@ -1,11 +1,9 @@
-use Rattle.std.proofs.Common.{◌≡◌, ℕ, List, Option, Some, None, Ok, Err, true, false, sym, ap, subst, ◌∙◌}
+use Rattle.std.proofs.Common.{◌≡◌, ℕ, List, Some, None, Ok, sym, ap, subst, ◌∙◌}
 use Rattle.type_graph.specs.declared.node.Node.{Node}
 use Rattle.type_graph.specs.declared.width.Width.{Width}
 use Rattle.type_graph.specs.declared.width.Width.TheVariants.{One}
-use Rattle.marshal_program.specs.declared.instr.Instr.TheVariants.{Align}
 use Rattle.routine_checker.specs.Taking.{taken, is_piece, pieces}
 use Rattle.routine_checker.specs.Work.{work_of}
-use Rattle.routine_checker.specs.Steps.{State, step}
 use Rattle.routine_checker.specs.Progress.{state_of}
 use Rattle.routine_checker.proofs.StepCode.{step_align, step_no_work, step_outside, step_wrong_gap, step_passes}
 use Rattle.routine_checker.proofs.step.Progress.step.Goals as goal
@@ -55,6 +53,6 @@ returns c =
     let took = subst (λ (graph : List Node). taken (pieces instr) (is_piece graph program instr) graph work ≡ Some rest) c.nodes.ensures.value took in
     record {
       ok = step_passes c.args.graph.now program instr (state_of c.args.self.now) c.in_default.not-Align rest took (sym c.enters.ensures ∙ c.if-not-enters.false) (sym c.pads.ensures ∙ c.if-not-pads.false)
-        ∙ ap (λ (places : ℕ). Ok (record { work = rest; places = places; gap = One })) (sym c.ends-self.ensures);
+          ∙ ap (λ (places : ℕ). Ok (record { work = rest; places = places; gap = One })) (sym c.ends-self.ensures);
       refused = tt;
     }

@@ -1,6 +1,5 @@
-use Rattle.std.proofs.Common.{◌≡◌, ℕ, ◌+◌, ◌-◌, ◌<◌, ◌∷◌, List, [], Option, Some, None, IfSome, IfNone, true, false, sym, ap, subst, ◌∙◌, arith}
-use Rattle.routine_checker.specs.Taking.{taken_within, opened, parts_of}
-use Rattle.routine_checker.specs.declared.work.Item.{Item}
+use Rattle.std.proofs.Common.{◌≡◌, ℕ, ◌+◌, ◌-◌, ◌<◌, ◌∷◌, [], Option, Some, None, IfSome, IfNone, sym, ap, subst, ◌∙◌, arith}
+use Rattle.routine_checker.specs.Taking.{taken_within}
 use Rattle.routine_checker.specs.Work.{wants, held_of, work_of}
 use Rattle.routine_checker.proofs.TakeLaws.{within_nothing, within_here, within_below, within_none}
 use Rattle.routine_checker.proofs.work.Work.take_one.Goals as goal

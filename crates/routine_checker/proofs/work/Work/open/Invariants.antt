@@ -1,0 +1,9 @@
+use Rattle.std.proofs.Common.{◌≡◌}
+use Rattle.routine_checker.specs.Taking.{taken}
+use Rattle.routine_checker.specs.Work.{wants, work_of}
+use Rattle.routine_checker.proofs.work.Work.open.Given as goal
+
+abbrev pub invariant-loop-level : goal.invariant-loop-level
+invariant-loop-level l =
+    taken l.pieces (wants l.wanted) l.wanted.nodes.now (work_of l.initial.self.items.items)
+    ≡ taken l.pieces (wants l.wanted) l.wanted.nodes.now (work_of l.self.items.items)
