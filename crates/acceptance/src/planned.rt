@@ -4,6 +4,7 @@ use crate::graphs::record;
 use crate::listing::listing;
 use crate::marshal::{At, accepted_both_ways, big, program_of};
 use crate::plain::basic;
+use crate::sample;
 use marshal_program::{GenFault, Program};
 use optimiser::planned;
 use position_checker::{Accepted, check};
@@ -278,21 +279,43 @@ fn recursion_through_a_union(rt: HostRuntime) -> Result<(), Fail> {
     Ok(())
 }
 
-/// An empty frame.
+/// Two empty frames.
 fn frames(alloc: Global) -> Result<Vec<Node>, AllocError> {
     let none = Members::new(Vec::new(alloc));
-    let more = vec![in alloc; Node::Frame { members: none }]?;
+    let other = Members::new(Vec::new(alloc));
+    let more = vec![in alloc;
+        Node::Frame { members: none },
+        Node::Frame { members: other },
+    ]?;
     behind_basic(alloc, more)
 }
 
+/// With the object reference, as for an interface with one operation that carries nothing.
 #[test]
-fn an_empty_frame(rt: HostRuntime) -> Result<(), Fail> {
+fn object_references_and_empty_frames(rt: HostRuntime) -> Result<(), Fail> {
     let alloc = rt.alloc();
-    let accepted = accepted_of(alloc, frames(alloc)?, frames(alloc)?, &[14])?;
-    assert_eq!(rt; listing(alloc, accepted.program())?.as_str(), "14 ff 0:\n");
+    let accepted = accepted_of(alloc, frames(alloc)?, frames(alloc)?, &[13, 14, 15])?;
     assert_eq!(rt;
-        exits_of(accepted.program(), 0),
+        listing(alloc, accepted.program())?.as_str(),
+        "11 ff 0: Align 4; Words 4 1; SeqOctets 0;\n\
+         13 ff 0: Align 4; Text 0; Align 4; SeqOf 0 4 0;\n\
+         14 ff 0:\n\
+         15 ff 0:\n"
+    );
+    assert_eq!(rt;
+        exits_of(accepted.program(), 2),
         [1, 2, 4, 8, 16, 32, 64, 128]
+    );
+    Ok(())
+}
+
+/// What isn't needed isn't made.
+#[test]
+fn the_sample_and_no_names(rt: HostRuntime) -> Result<(), Fail> {
+    let alloc = rt.alloc();
+    assert_eq!(rt;
+        shown(alloc, sample::nodes(alloc)?, sample::nodes(alloc)?, &[3])?.as_str(),
+        "3 ff 0: Octets 1; Align 4; Words 4 1; Text 0;\n"
     );
     assert_eq!(rt;
         shown(alloc, frames(alloc)?, frames(alloc)?, &[])?.as_str(),
