@@ -14,6 +14,8 @@ mod kinds;
 #[cfg(test)]
 mod large;
 #[cfg(test)]
+mod listing;
+#[cfg(test)]
 mod marshal;
 #[cfg(test)]
 mod models;
@@ -21,6 +23,8 @@ mod models;
 mod places;
 #[cfg(test)]
 mod plain;
+#[cfg(test)]
+mod planned;
 #[cfg(test)]
 mod programs;
 #[cfg(test)]
