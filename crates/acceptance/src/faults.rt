@@ -84,19 +84,22 @@ fn faults_of_runs_and_tables(rt: HostRuntime) -> Result<(), Fail> {
     let want = "60 Short|61 BadBool|62 BadEnum|63 BadLength|64 NoTerminator|65 ZeroInside|\
         66 OverBound|67 TooDeep|68 TapeLeft|no memory|";
     assert_eq!(rt; texts(rt.alloc(), &runs)?.as_str(), want);
+    let program = 1;
     let routine = 4;
     let instr = 2;
     let tables = [
-        CheckFault::WrongWork { routine, instr },
-        CheckFault::WrongPadding { routine, instr },
-        CheckFault::EntryOutside { routine, instr },
-        CheckFault::ExitsTooSmall { routine, entry: 7 },
+        CheckFault::WrongWork { program, routine, instr },
+        CheckFault::WrongPadding { program, routine, instr },
+        CheckFault::EntryOutside { program, routine, instr },
+        CheckFault::ExitsTooSmall { program, routine, entry: 7 },
         CheckFault::NoRoutine { node: 3 },
         CheckFault::NamedEntryNotFull { node: 3 },
         CheckFault::NoMemory,
     ];
-    let want = "80 WrongWork routine 4 instruction 2|81 WrongPadding routine 4 instruction 2|\
-        82 EntryOutside routine 4 instruction 2|83 ExitsTooSmall routine 4 entry 7|\
+    let want = "80 WrongWork program 1 routine 4 instruction 2|\
+        81 WrongPadding program 1 routine 4 instruction 2|\
+        82 EntryOutside program 1 routine 4 instruction 2|\
+        83 ExitsTooSmall program 1 routine 4 entry 7|\
         84 NoRoutine node 3|85 NamedEntryNotFull node 3|no memory|";
     assert_eq!(rt; texts(rt.alloc(), &tables)?.as_str(), want);
     Ok(())

@@ -2,6 +2,8 @@
 #![tactic(auto)]
 
 #[cfg(test)]
+mod accept;
+#[cfg(test)]
 mod depth;
 #[cfg(test)]
 mod faults;

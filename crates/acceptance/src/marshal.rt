@@ -112,7 +112,7 @@ pub fn accepted_both_ways(
     tape: &[u8],
     octets: &[u8],
 ) -> [u32; 2] {
-    if !accepted.is_served(at.routine) {
+    if !accepted.is_named(at.routine) {
         return [99, 99];
     }
     let written = accepted.write(alloc, at.routine, at.order, at.pos, tape);

@@ -3,7 +3,7 @@
 use crate::graphs::record;
 use crate::marshal::{accepted_both_ways, big, little, program_of};
 use marshal_program::{Instr, Program, Routine};
-use position_checker::check;
+use crate::accept::accepted;
 use std::alloc::{AllocError, Global};
 use std::test::Fail;
 use type_graph::{Arms, Graph, Members, Node, Width};
@@ -176,7 +176,7 @@ fn every_kind_is_accepted(rt: HostRuntime) -> Result<(), Fail> {
     let alloc = rt.alloc();
     let program = program_of(alloc, every_kind(alloc)?)?;
     let graph = Graph::from_nodes(alloc, every_kind(alloc)?)?;
-    let accepted = check(alloc, graph, program, &[18, 19, 21])?;
+    let accepted = accepted(alloc, graph, program, &[18, 19, 21])?;
     let chosen_tape = b"\xFF\xFF\xFF\xFF\xFF\xFF\xFF\xFF\x09\0\0\0\0\0\0\0\x01\0\0\0\x02hi";
     let chosen =
         b"\0\0\0\0\0\0\0\xFF\xFF\xFF\xFF\xFF\xFF\xFF\xFF\x09\0\0\0\0\0\0\0\x01\0\0\0\0\0\0\0\x03\0\0\0hi\0";

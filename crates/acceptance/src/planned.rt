@@ -1,5 +1,6 @@
 //! Planned programs: what they are, that the checker accepts them, and octets by them.
 
+use crate::accept::{accepted, model_of};
 use crate::graphs::record;
 use crate::listing::listing;
 use crate::marshal::{At, accepted_both_ways, big, program_of};
@@ -7,29 +8,12 @@ use crate::plain::basic;
 use crate::sample;
 use marshal_program::{GenFault, Program};
 use optimiser::planned;
-use position_checker::{Accepted, check};
+use position_checker::Accepted;
 use program_runner::write;
 use std::alloc::{AllocError, Global};
 use std::test::Fail;
-use type_graph::{Arms, Graph, Items, Members, Node, Order};
-use type_model::{Model, Name};
-
-/// A model in which these nodes have a name.
-fn model_of(alloc: Global, nodes: Vec<Node>, named: &[u32]) -> Result<Model, Fail> {
-    let mut names = Vec::new(alloc);
-    for node in named {
-        names.push((Name::new(format!(in alloc; "T{node}")?), *node))?;
-    }
-    let model = Model::new(
-        alloc,
-        Graph::from_nodes(alloc, nodes)?,
-        Items::new(names),
-        Items::new(Vec::new(alloc)),
-        Items::new(Vec::new(alloc)),
-        Items::new(Vec::new(alloc)),
-    )?;
-    Ok(model)
-}
+use table_file::Use;
+use type_graph::{Arms, Graph, Members, Node, Order};
 
 /// The planned program of the types, as the checker accepts it.
 fn accepted_of(
@@ -38,15 +22,15 @@ fn accepted_of(
     again: Vec<Node>,
     named: &[u32],
 ) -> Result<Accepted, Fail> {
-    let program = planned(alloc, &model_of(alloc, nodes, named)?)?;
+    let program = planned(alloc, &model_of(alloc, Graph::from_nodes(alloc, nodes)?, named)?)?;
     let graph = Graph::from_nodes(alloc, again)?;
-    Ok(check(alloc, graph, program, named)?)
+    accepted(alloc, graph, program, named)
 }
 
 /// The listing of that program.
 fn shown(alloc: Global, nodes: Vec<Node>, again: Vec<Node>, named: &[u32]) -> Result<String, Fail> {
     let accepted = accepted_of(alloc, nodes, again, named)?;
-    Ok(listing(alloc, accepted.program())?)
+    Ok(listing(alloc, accepted.table().program(Use::First))?)
 }
 
 /// The basic nodes, and behind them these.
@@ -111,10 +95,10 @@ fn a_tree_with_a_long_behind_its_kids(rt: HostRuntime) -> Result<(), Fail> {
     let alloc = rt.alloc();
     let accepted = accepted_of(alloc, tree(alloc)?, tree(alloc)?, &[14])?;
     assert_eq!(rt;
-        listing(alloc, accepted.program())?.as_str(),
+        listing(alloc, accepted.table().program(Use::First))?.as_str(),
         "14 ff 0: Octets 1; Align 4; SeqOf 0 1 0; Words 4 1;\n"
     );
-    assert_eq!(rt; exits_of(accepted.program(), 0), [0x11; 8]);
+    assert_eq!(rt; exits_of(accepted.table().program(Use::First), 0), [0x11; 8]);
     Ok(())
 }
 
@@ -137,16 +121,16 @@ fn elements_that_start_at_multiples_of_eight(rt: HostRuntime) -> Result<(), Fail
     let alloc = rt.alloc();
     let accepted = accepted_of(alloc, records(alloc)?, records(alloc)?, &[14, 15])?;
     assert_eq!(rt;
-        listing(alloc, accepted.program())?.as_str(),
+        listing(alloc, accepted.table().program(Use::First))?.as_str(),
         "14 ff 0: Align 8; Words 8 1; Words 4 2;\n\
          15 ff 0: Align 4; SeqOf 0 8 2;\n\
          14 01 0: Words 8 1; Words 4 2;\n"
     );
     assert_eq!(rt;
         [
-            exits_of(accepted.program(), 0),
-            exits_of(accepted.program(), 1),
-            exits_of(accepted.program(), 2)
+            exits_of(accepted.table().program(Use::First), 0),
+            exits_of(accepted.table().program(Use::First), 1),
+            exits_of(accepted.table().program(Use::First), 2)
         ],
         [
             [1; 8],
@@ -267,13 +251,13 @@ fn recursion_through_a_union(rt: HostRuntime) -> Result<(), Fail> {
         &[14],
     )?;
     assert_eq!(rt;
-        listing(alloc, accepted.program())?.as_str(),
+        listing(alloc, accepted.table().program(Use::First))?.as_str(),
         "5 ff 0: Align 4; Words 4 1;\n\
          14 ff 1: Octets 1; Switch boolean 0: 0 1: 2;\n\
          16 ff 0: Align 4; SeqOf 0 1 1;\n"
     );
     assert_eq!(rt;
-        exits_of(accepted.program(), 1),
+        exits_of(accepted.table().program(Use::First), 1),
         [1, 1, 1, 0x10, 0x10, 0x10, 0x10, 1]
     );
     Ok(())
@@ -296,14 +280,14 @@ fn object_references_and_empty_frames(rt: HostRuntime) -> Result<(), Fail> {
     let alloc = rt.alloc();
     let accepted = accepted_of(alloc, frames(alloc)?, frames(alloc)?, &[13, 14, 15])?;
     assert_eq!(rt;
-        listing(alloc, accepted.program())?.as_str(),
+        listing(alloc, accepted.table().program(Use::First))?.as_str(),
         "11 ff 0: Align 4; Words 4 1; SeqOctets 0;\n\
          13 ff 0: Align 4; Text 0; Align 4; SeqOf 0 4 0;\n\
          14 ff 0:\n\
          15 ff 0:\n"
     );
     assert_eq!(rt;
-        exits_of(accepted.program(), 2),
+        exits_of(accepted.table().program(Use::First), 2),
         [1, 2, 4, 8, 16, 32, 64, 128]
     );
     Ok(())
@@ -406,11 +390,11 @@ fn fault_of(program: Result<Program, GenFault>) -> u32 {
 #[test]
 fn large_models(rt: HostRuntime) -> Result<(), Fail> {
     let alloc = rt.alloc();
-    let model = model_of(alloc, too_long(alloc)?, &[15, 16, 17, 18, 19])?;
+    let model = model_of(alloc, Graph::from_nodes(alloc, too_long(alloc)?)?, &[15, 16, 17, 18, 19])?;
     let all: Vec<u32> = (0..4096).collect(alloc)?;
     let accepted = accepted_of(alloc, shared(alloc)?, shared(alloc)?, &all)?;
     assert_eq!(rt; fault_of(planned(alloc, &model)), 70);
-    assert!(rt; accepted.program().routines().len() >= 4096);
+    assert!(rt; accepted.table().program(Use::First).routines().len() >= 4096);
     Ok(())
 }
 

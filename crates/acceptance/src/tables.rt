@@ -1,9 +1,10 @@
 //! What the checker answers of tables: those that are right in other ways than the plain program,
 //! and those that deceive.
 
+use crate::accept::judged;
 use crate::sample;
 use marshal_program::{Disc, Instr, Program, Routine};
-use position_checker::{CheckFault, check};
+use position_checker::CheckFault;
 use std::alloc::Global;
 use std::test::Fail;
 use type_graph::{Arms, Graph, Members, Node, Width};
@@ -16,12 +17,12 @@ fn answer(
     names: &[u32],
 ) -> Result<[u32; 3], Fail> {
     let graph = Graph::from_nodes(alloc, nodes)?;
-    Ok(match check(alloc, graph, Program::new(routines)?, names) {
+    Ok(match judged(alloc, graph, Program::new(routines)?, names)? {
         Ok(_) => [0; 3],
-        Err(CheckFault::WrongWork { routine, instr }) => [80, routine, instr],
-        Err(CheckFault::WrongPadding { routine, instr }) => [81, routine, instr],
-        Err(CheckFault::EntryOutside { routine, instr }) => [82, routine, instr],
-        Err(CheckFault::ExitsTooSmall { routine, entry }) => [83, routine, entry],
+        Err(CheckFault::WrongWork { routine, instr, .. }) => [80, routine, instr],
+        Err(CheckFault::WrongPadding { routine, instr, .. }) => [81, routine, instr],
+        Err(CheckFault::EntryOutside { routine, instr, .. }) => [82, routine, instr],
+        Err(CheckFault::ExitsTooSmall { routine, entry, .. }) => [83, routine, entry],
         Err(CheckFault::NoRoutine { node }) => [84, node, 0],
         Err(CheckFault::NamedEntryNotFull { node }) => [85, node, 0],
         Err(CheckFault::NoMemory) => [99; 3],

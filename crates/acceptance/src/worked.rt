@@ -5,9 +5,10 @@ use crate::marshal::{accepted_both_ways, big, both_ways, faults, little, program
 use crate::sample;
 use crate::values::chain_tape;
 use marshal_program::Program;
-use position_checker::check;
+use crate::accept::accepted;
 use std::alloc::{AllocError, Global};
 use std::test::Fail;
+use table_file::Use;
 use type_graph::{Arms, Node, Width};
 
 /// The structure of 7, 1 and "hi".
@@ -38,13 +39,13 @@ fn a_structure(rt: HostRuntime) -> Result<(), Fail> {
 fn a_structure_by_an_accepted_table(rt: HostRuntime) -> Result<(), Fail> {
     let alloc = rt.alloc();
     let program = program_of(alloc, sample::nodes(alloc)?)?;
-    let accepted = check(alloc, sample::graph(alloc)?, program, &[3])?;
+    let accepted = accepted(alloc, sample::graph(alloc)?, program, &[3])?;
     let runs = [
         accepted_both_ways(alloc, &accepted, big(3, 3), &TAPE, &BIG_AT_3),
         accepted_both_ways(alloc, &accepted, little(3, 0), &TAPE, &LITTLE),
     ];
     assert_eq!(rt; runs, [[0; 2]; 2]);
-    assert_eq!(rt; accepted.program().routines().len(), 4);
+    assert_eq!(rt; accepted.table().program(Use::First).routines().len(), 4);
     Ok(())
 }
 

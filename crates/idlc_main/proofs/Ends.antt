@@ -1,10 +1,22 @@
 -- How a run ends on a fault.
 use Rattle.std.proofs.Common.{◌≡◌, refl, ℕ, ◌≤◌, List, Option, arith}
 use Rattle.idlc_main.specs.declared.fault.Fault.{Fault}
-use Rattle.idlc_main.specs.declared.fault.Fault.TheVariants.{Usage, BadOrder, NotText, NoWord, Unread, NoType, BadHex, Refused, Unwritten, NoMemory}
+use Rattle.idlc_main.specs.declared.fault.Fault.TheVariants.{Usage, BadOrder, NotText, NoWord, Unread, Refused, Unmade, Unwritten, NoMemory}
 use Rattle.idlc_main.specs.Fault.{status_of}
 use Rattle.idlc_main.specs.Words.{Ask}
 use Rattle.idlc_main.specs.Answer.{IsEndOf, IsFaultOf, IsToldOf}
+
+-- a fault that answers may be told
+pub told_of : (ask : Ask) (fault : Fault) → IsFaultOf ask fault → IsToldOf ask fault
+told_of ask (Usage error) is = is
+told_of ask (BadOrder error) is = is
+told_of ask NotText is = is
+told_of ask NoWord is = is
+told_of ask (Refused refusal) is = is
+told_of ask (Unmade file) is = is
+told_of ask (Unread file) is = is
+told_of ask Unwritten is = absurd is
+told_of ask NoMemory is = is
 
 module _ (ask : Ask) (old new : Option (List ℕ)) where
   -- the input was refused
@@ -28,9 +40,8 @@ module _ (ask : Ask) (old new : Option (List ℕ)) where
   ends (BadOrder error) status is told = absurd told
   ends NotText status is told = absurd told
   ends NoWord status is told = absurd told
-  ends (NoType name) status is told = ends_refused (NoType name) status is refl told
-  ends BadHex status is told = ends_refused BadHex status is refl told
-  ends (Refused fault) status is told = ends_refused (Refused fault) status is refl told
-  ends (Unread table) status is told = ends_else status (omega arith)
+  ends (Refused refusal) status is told = ends_refused (Refused refusal) status is refl told
+  ends (Unmade file) status is told = absurd told
+  ends (Unread file) status is told = ends_else status (omega arith)
   ends Unwritten status is told = ends_else status (omega arith)
   ends NoMemory status is told = ends_else status (omega arith)

@@ -1,5 +1,5 @@
-pub mod SampleRules
 pub mod Requests
 pub mod Mistakes
 pub mod Ends
 pub mod Worked
+pub mod Globals

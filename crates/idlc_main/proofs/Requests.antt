@@ -6,12 +6,11 @@ use Rattle.clap.specs.declared.parser.matches.Found.{Found}
 use Rattle.clap.proofs.WalkLemmas.{first_value-rows, one_text-rows}
 use Rattle.type_graph.specs.declared.width.Order.{Order}
 use Rattle.type_graph.specs.declared.width.Order.TheVariants.{Big, Little}
-use Rattle.idlc_main.specs.declared.marshal.Way.{Way}
-use Rattle.idlc_main.specs.declared.marshal.Way.TheVariants.{Encode, Decode}
+use Rattle.table_commands.specs.declared.values.Way.{Way}
+use Rattle.table_commands.specs.declared.values.Way.TheVariants.{Encode, Decode}
 use Rattle.idlc_main.specs.Way.{name_of}
-use Rattle.idlc_main.specs.declared.marshal.Request.{Request}
-use Rattle.idlc_main.specs.Words.{Ask, Tells, word_of}
-use Rattle.idlc_main.specs.Answer.{ask_of}
+use Rattle.idlc_main.specs.declared.words.Asked.{Asked}
+use Rattle.idlc_main.specs.Words.{Ask, Tells, word_of, ask_of}
 
 pub same_some : (found : Option Text) (a b : Text) → found ≡ Some a → found ≡ Some b → a ≡ b
 same_some found a b first second = let both : Some a ≡ Some b = sym first ∙ second in cc
@@ -30,16 +29,16 @@ order_of found Little Big is little =
 
 module _ (found : Found) (way : Way) where
   -- the request has what was found for each word
-  pub record IsRequest (request : Request) : Type 0 where
-    pub way_is : request.way ≡ way
-    pub table : first_value found (codes "T") ≡ Some request.table.now
-    pub name : first_value found (codes "NAME") ≡ Some request.name.now
-    pub order : (request.order ≡ Little) ↔ (first_value found (codes "ORDER") ≡ Some (codes "little"))
-    pub pos : (text : Text) → one_text found (codes "POS") ≡ Some text → digits_value 10 (without_leading_plus text) ≡ request.pos
-    pub hex : first_value found (codes "HEX") ≡ Some request.hex.now
+  pub record IsRequest (asked : Asked) : Type 0 where
+    pub way_is : asked.request.way ≡ way
+    pub table : first_value found (codes "T") ≡ Some asked.table.now
+    pub name : first_value found (codes "NAME") ≡ Some asked.request.name.now
+    pub order : (asked.request.order ≡ Little) ↔ (first_value found (codes "ORDER") ≡ Some (codes "little"))
+    pub pos : (text : Text) → one_text found (codes "POS") ≡ Some text → digits_value 10 (without_leading_plus text) ≡ asked.request.pos
+    pub hex : first_value found (codes "HEX") ≡ Some asked.request.hex.now
 
   -- nothing is missing where each word was found
-  abbrev pub IsWhole : Option Request → Type 0
+  abbrev pub IsWhole : Option Asked → Type 0
   IsWhole result = IsSome (first_value found (codes "T"))
       → IsSome (first_value found (codes "NAME"))
       → IsSome (first_value found (codes "ORDER"))
@@ -55,31 +54,31 @@ module _ (found : Found) (way : Way) where
     digits_are : one_text found (codes "POS") ≡ Some tells.digits
     digits_are = one_text-rows found (codes "POS") ∙ tells.pos
 
-    pub is_asked : (request : Request) → way ≡ ask.way → IsRequest request → ask_of request ≡ ask
-    is_asked request way_is is =
-        let table : request.table.now ≡ ask.table = same_some _ _ _ is.table (found_first _ _ tells.table) in
-        let name : request.name.now ≡ ask.name = same_some _ _ _ is.name (found_first _ _ tells.name) in
-        let order : request.order ≡ ask.order = order_of _ _ _ (found_first _ _ tells.order) is.order in
-        let pos : request.pos ≡ ask.pos = sym (is.pos tells.digits digits_are) ∙ tells.number in
-        let hex : request.hex.now ≡ ask.hex = same_some _ _ _ is.hex (found_first _ _ tells.hex) in
+    pub is_asked : (asked : Asked) → way ≡ ask.value.way → IsRequest asked → ask_of asked ≡ ask
+    is_asked asked way_is is =
+        let table : asked.table.now ≡ ask.table = same_some _ _ _ is.table (found_first _ _ tells.table) in
+        let name : asked.request.name.now ≡ ask.value.name = same_some _ _ _ is.name (found_first _ _ tells.name) in
+        let order : asked.request.order ≡ ask.value.order = order_of _ _ _ (found_first _ _ tells.order) is.order in
+        let pos : asked.request.pos ≡ ask.value.pos = sym (is.pos tells.digits digits_are) ∙ tells.number in
+        let hex : asked.request.hex.now ≡ ask.value.hex = same_some _ _ _ is.hex (found_first _ _ tells.hex) in
         rw (is.way_is ∙ way_is, table, name, order, pos, hex) refl
 
-    pub some_asked : (result : Option Request) → IsWhole result → IsSome result
+    pub some_asked : (result : Option Asked) → IsWhole result → IsSome result
     some_asked result whole = whole (some_since _ _ (found_first _ _ tells.table)) (some_since _ _ (found_first _ _ tells.name))
         (some_since _ _ (found_first _ _ tells.order)) (some_since _ _ (found_first _ _ tells.hex))
         tells.digits digits_are tells.numeral (rw tells.number tells.in_64_bits)
 
-    pub asked : (result : Option Request) → way ≡ ask.way → IsWhole result
-        → IfSome result (λ request. request.way ≡ way)
-        → IfSome result (λ request. first_value found (codes "T") ≡ Some request.table.now)
-        → IfSome result (λ request. first_value found (codes "NAME") ≡ Some request.name.now)
-        → IfSome result (λ request. (request.order ≡ Little) ↔ (first_value found (codes "ORDER") ≡ Some (codes "little")))
-        → IfSome result (λ request. (text : Text) → one_text found (codes "POS") ≡ Some text → digits_value 10 (without_leading_plus text) ≡ request.pos)
-        → IfSome result (λ request. first_value found (codes "HEX") ≡ Some request.hex.now)
-        → IsSomeAnd result (λ request. ask_of request ≡ ask)
+    pub asked : (result : Option Asked) → way ≡ ask.value.way → IsWhole result
+        → IfSome result (λ asked. asked.request.way ≡ way)
+        → IfSome result (λ asked. first_value found (codes "T") ≡ Some asked.table.now)
+        → IfSome result (λ asked. first_value found (codes "NAME") ≡ Some asked.request.name.now)
+        → IfSome result (λ asked. (asked.request.order ≡ Little) ↔ (first_value found (codes "ORDER") ≡ Some (codes "little")))
+        → IfSome result (λ asked. (text : Text) → one_text found (codes "POS") ≡ Some text → digits_value 10 (without_leading_plus text) ≡ asked.request.pos)
+        → IfSome result (λ asked. first_value found (codes "HEX") ≡ Some asked.request.hex.now)
+        → IsSomeAnd result (λ asked. ask_of asked ≡ ask)
     asked None way_is whole way table name order pos hex =
         let bad : false ≡ true = some_asked None whole in absurd cc
-    asked (Some request) way_is whole way table name order pos hex = is_asked request way_is (record {
+    asked (Some it) way_is whole way table name order pos hex = is_asked it way_is (record {
       way_is = way;
       table = table;
       name = name;

@@ -7,7 +7,7 @@ use Rattle.clap.specs.declared.builder.value_parser.ValueParser.TheVariants.{Nam
 use Rattle.clap.specs.declared.parser.matches.ValueSource.TheVariants.{CommandLine}
 use Rattle.clap.proofs.OnLiterals.{clap_on_literals}
 use Rattle.type_graph.specs.declared.width.Order.TheVariants.{Big}
-use Rattle.idlc_main.specs.declared.marshal.Way.TheVariants.{Encode}
+use Rattle.table_commands.specs.declared.values.Way.TheVariants.{Encode}
 use Rattle.idlc_main.specs.Words.{Ask, AsksFor, IsReadAs, Tells, program_app, texts}
 
 abbrev words : List Text
@@ -15,12 +15,8 @@ words = codes "idlc" ∷ codes "encode" ∷ codes "builtin" ∷ codes "S" ∷ co
 
 abbrev ask : Ask
 ask = record {
-  way = Encode;
   table = codes "builtin";
-  name = codes "S";
-  order = Big;
-  pos = 12;
-  hex = codes "07";
+  value = record { way = Encode; name = codes "S"; order = Big; pos = 12; hex = codes "07" };
 }
 
 -- what clap keeps of a word

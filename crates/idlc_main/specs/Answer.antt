@@ -1,48 +1,53 @@
--- What a run answers, by what it is asked for.
-use Rattle.std.specs.Prelude.{◌≡◌, ◌≢◌, ℕ, List, Option, Result, String, codes, IfOk, IfErr, IsErr, Ok}
+-- What a run answers that marshals a value, by what it is asked for.
+use Rattle.std.specs.Prelude.{◌≡◌, ◌≢◌, ◌⊎◌, ℕ, List, Option, Result, String, codes, IfOk, IfErr}
 use Rattle.std.specs.String.{string_bytes}
 use Rattle.std.specs.Io.KnownBytes.{Appends}
-use Rattle.hex.specs.Hex.{decode_of}
-use Rattle.idlc_main.specs.declared.marshal.Request.{Request}
+use Rattle.table_file.specs.Table.{TableParts}
+use Rattle.position_checker.specs.Acceptance.{IsRight}
+use Rattle.table_commands.specs.Sample.{sample_table}
+use Rattle.table_commands.specs.Answer.{IsLine as IsLineOf, IsRefusalOf}
+use Rattle.table_commands.specs.declared.refusal.Refusal.{Refusal}
+use Rattle.table_commands.specs.declared.refusal.Refusal.TheVariants.{NoTable, NotRight, TooLong}
 use Rattle.idlc_main.specs.declared.fault.Fault.{Fault}
-use Rattle.idlc_main.specs.declared.fault.Fault.TheVariants.{Unread, NoType, BadHex, Refused, Unwritten, NoMemory}
+use Rattle.idlc_main.specs.declared.fault.Fault.TheVariants.{Unread, Refused, Unwritten, NoMemory}
 use Rattle.idlc_main.specs.Fault.{status_of}
 use Rattle.idlc_main.specs.Words.{Ask}
-use Rattle.idlc_main.specs.Lines.{Answers, HasNoAnswer}
 
-abbrev pub ask_of : Request → Ask
-ask_of request = record {
-  way = request.way;
-  table = request.table.now;
-  name = request.name.now;
-  order = request.order;
-  pos = request.pos;
-  hex = request.hex.now;
-}
-
--- the only table, and its only type
-pub record IsOfSample (ask : Ask) : Type 0 where
-  pub table : ask.table ≡ codes "builtin"
-  pub name : ask.name ≡ codes "S"
+-- a table that is right, and the sample where that was asked for
+pub record IsTableOf (ask : Ask) (table : TableParts) : Type 0 where
+  pub sample : ask.table ≡ codes "builtin" → table ≡ sample_table
+  pub right : IsRight table
 
 -- the line that answers
 pub record IsLine (ask : Ask) (line : List ℕ) : Type 0 where
-  pub sample : IsOfSample ask
-  pub answers : Answers ask.way ask.order ask.pos ask.hex line
+  pub table : TableParts
+  pub is : IsTableOf ask table
+  pub answers : IsLineOf table ask.value line
 
--- the value that is asked for isn't there
-pub record IsEmptyAsk (ask : Ask) : Type 0 where
-  pub sample : IsOfSample ask
-  pub input : List ℕ
-  pub digits_are : decode_of ask.hex ≡ Ok input
-  pub none : HasNoAnswer ask.way ask.order ask.pos input
+-- the file is no table's, or its table isn't right
+abbrev pub IsOfFile : Refusal → Type 0
+IsOfFile (NoTable fault) = Unit {0}
+IsOfFile (NotRight fault) = Unit {0}
+IsOfFile TooLong = Unit {0}
+IsOfFile refusal = ⊥
+
+-- a fault of a file that is read as a table
+abbrev pub IsFileFault : List ℕ → Fault → Type 0
+IsFileFault name (Unread file) = file.now ≡ name
+IsFileFault name (Refused refusal) = IsOfFile refusal
+IsFileFault name NoMemory = Unit {0}
+IsFileFault name fault = ⊥
+
+-- the table has no answer
+pub record IsRefused (ask : Ask) (refusal : Refusal) : Type 0 where
+  pub table : TableParts
+  pub is : IsTableOf ask table
+  pub refused : IsRefusalOf table ask.value refusal
 
 -- the fault that answers
 abbrev pub IsFaultOf : Ask → Fault → Type 0
-IsFaultOf ask (Unread table) = (ask.table ≢ codes "builtin") × (table.now ≡ ask.table)
-IsFaultOf ask (NoType name) = (ask.table ≡ codes "builtin") × (ask.name ≢ codes "S") × (name.now ≡ ask.name)
-IsFaultOf ask BadHex = IsOfSample ask × IsErr (decode_of ask.hex)
-IsFaultOf ask (Refused fault) = IsEmptyAsk ask
+IsFaultOf ask (Unread file) = (ask.table ≢ codes "builtin") × (file.now ≡ ask.table)
+IsFaultOf ask (Refused refusal) = (IsOfFile refusal × (ask.table ≢ codes "builtin")) ⊎ IsRefused ask refusal
 IsFaultOf ask NoMemory = Unit {0}
 IsFaultOf ask fault = ⊥
 
@@ -61,7 +66,7 @@ abbrev pub IsToldOf : Ask → Fault → Type 0
 IsToldOf ask Unwritten = Unit {0}
 IsToldOf ask fault = IsFaultOf ask fault
 
--- the sample has no such type, the digits are none, or no value is there
+-- the file is no right table, or the table has no such type, the digits are none, or no value is there
 abbrev pub IsRefusedAsk : Ask → Type 0
 IsRefusedAsk ask = (fault : Fault) × (status_of fault ≡ 1) × IsFaultOf ask fault
 

@@ -1,6 +1,4 @@
-pub mod Fault
-pub mod Sample
-pub mod Way
-pub mod Lines
-pub mod Words
 pub mod Answer
+pub mod Fault
+pub mod Way
+pub mod Words

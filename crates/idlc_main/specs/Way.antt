@@ -1,7 +1,7 @@
--- The two commands.
+-- The commands that marshal a value.
 use Rattle.std.specs.Prelude.{ℕ, List, codes}
-use Rattle.idlc_main.specs.declared.marshal.Way.{Way}
-use Rattle.idlc_main.specs.declared.marshal.Way.TheVariants.{Encode, Decode}
+use Rattle.table_commands.specs.declared.values.Way.{Way}
+use Rattle.table_commands.specs.declared.values.Way.TheVariants.{Encode, Decode}
 
 -- the word that asks for one
 abbrev pub name_of : Way → List ℕ

@@ -1,4 +1,4 @@
--- What the words of a run ask for, as clap reads them by the rules of the two commands.
+-- What the words of a run ask for, as clap reads them by the rules of the commands.
 use Rattle.std.specs.Prelude.{◌≡◌, ◌≢◌, ◌<◌, ◌^◌, ℕ, true, List, [], ◌∷◌, map, Option, Some, None, codes}
 use Rattle.std.specs.Borrow.{Bor}
 use Rattle.std.specs.List.{All}
@@ -10,22 +10,23 @@ use Rattle.clap.specs.declared.error.kind.ErrorKind.{ErrorKind}
 use Rattle.clap.specs.declared.error.kind.ErrorKind.TheVariants.{DisplayHelp, DisplayVersion}
 use Rattle.type_graph.specs.declared.width.Order.{Order}
 use Rattle.type_graph.specs.declared.width.Order.TheVariants.{Big, Little}
-use Rattle.idlc_main.specs.declared.marshal.Way.{Way}
-use Rattle.idlc_main.specs.declared.marshal.Way.TheVariants.{Encode, Decode}
+use Rattle.table_commands.specs.declared.values.Way.{Way}
+use Rattle.table_commands.specs.declared.values.Way.TheVariants.{Encode, Decode}
+use Rattle.table_commands.specs.Answer.{Ask as Value, ask_of as value_of}
+use Rattle.idlc_main.specs.declared.words.Asked.{Asked}
 use Rattle.idlc_main.specs.Way.{name_of}
 
 -- the texts behind references
 abbrev pub texts : List (Bor Text) → List Text
 texts = map (λ word. word.now)
 
--- one value to marshal
+-- a value of a table
 pub record Ask : Type 0 where
-  pub way : Way
   pub table : Text
-  pub name : Text
-  pub order : Order
-  pub pos : ℕ
-  pub hex : Text
+  pub value : Value
+
+abbrev pub ask_of : Asked → Ask
+ask_of asked = record { table = asked.table.now; value = value_of asked.request }
 
 -- the word for a byte order
 abbrev pub word_of : Order → Text
@@ -54,28 +55,44 @@ command_app orders name = with_rule
 abbrev pub with_command : ValueParser → App → Way → App
 with_command orders app way = with_subcommand app (command_app orders (name_of way)).top
 
--- the two commands, of which a run has to name one
-abbrev pub program_app : ValueParser → App
-program_app orders =
+-- the words of a command that asks of a table alone
+abbrev pub table_app : Text → App
+table_app name = with_rule (new_app name) (wanted (codes "T") None)
+
+-- the option `-o`, which has to be there
+abbrev pub output : Rule
+output = record (new_rule (codes "o")) { short = Some 111; value_names = 1; required = true }
+
+abbrev pub upgrade_app : App
+upgrade_app = with_rule (table_app (codes "upgrade")) output
+
+-- the commands that marshal a value
+abbrev pub value_app : ValueParser → App
+value_app orders =
     let none = new_app (codes "idlc") in
     with_command orders (with_command orders (record none { top = record none.top { subcommand_required = true } }) Encode) Decode
+
+-- the commands, of which a run has to name one
+abbrev pub program_app : ValueParser → App
+program_app orders =
+    with_subcommand (with_subcommand (with_subcommand (value_app orders) (table_app (codes "check")).top) (table_app (codes "show")).top) upgrade_app.top
 
 -- what clap found for the words of a command tells what is asked for
 pub record Tells (rows : List Row) (ask : Ask) : Type 0 where
   pub table : first_of (codes "T") rows ≡ Some ask.table
-  pub name : first_of (codes "NAME") rows ≡ Some ask.name
-  pub order : first_of (codes "ORDER") rows ≡ Some (word_of ask.order)
+  pub name : first_of (codes "NAME") rows ≡ Some ask.value.name
+  pub order : first_of (codes "ORDER") rows ≡ Some (word_of ask.value.order)
   pub digits : Text
   pub pos : one_of (codes "POS") rows ≡ Some digits
   pub numeral : IsNumeral 10 (without_leading_plus digits)
-  pub number : digits_value 10 (without_leading_plus digits) ≡ ask.pos
-  pub in_64_bits : ask.pos < 2 ^ 64
-  pub hex : first_of (codes "HEX") rows ≡ Some ask.hex
+  pub number : digits_value 10 (without_leading_plus digits) ≡ ask.value.pos
+  pub in_64_bits : ask.value.pos < 2 ^ 64
+  pub hex : first_of (codes "HEX") rows ≡ Some ask.value.hex
 
 pub record IsReadAs (app : App) (words : List Text) (ask : Ask) : Type 0 where
   pub taken : takes app words ≡ true
   pub rows : List Row
-  pub command : subcommand_of app words ≡ Some (name_of ask.way, rows)
+  pub command : subcommand_of app words ≡ Some (name_of ask.value.way, rows)
   pub tells : Tells rows ask
 
 -- clap takes the words, and they ask for this

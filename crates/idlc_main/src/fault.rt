@@ -4,8 +4,8 @@ ghost use Rattle.std.specs.Prelude.{◌≡◌, ◌≤◌};
 ghost use Rattle.idlc_main.specs.Fault.{fault_of};
 ghost use Rattle.idlc_main.specs.declared.fault.Fault.TheVariants.{NoMemory};
 
-use program_runner::RunFault;
 use std::alloc::AllocError;
+use table_commands::Refusal;
 use thiserror::Error;
 
 /// A fault has as its text the line that stands behind `idlc: ` on standard error.
@@ -22,18 +22,13 @@ pub enum Fault<'a> {
     /// `clap` passed words that ask for nothing, which its contract doesn't rule out.
     #[error("a word is missing")]
     NoWord,
-    /// There is no such table.
-    #[error("cannot read {table}")]
-    Unread { table: &'a str },
-    /// The table has no type of that name.
-    #[error("no type {name}")]
-    NoType { name: &'a str },
-    /// An odd number of digits, or a character that is none.
-    #[error("bad hex")]
-    BadHex,
-    /// The run was refused.
+    #[error("cannot read {file}")]
+    Unread { file: &'a str },
+    /// A table or its input was refused.
     #[error(transparent)]
-    Refused(RunFault),
+    Refused(Refusal<'a>),
+    #[error("cannot write {file}")]
+    Unmade { file: &'a str },
     /// Standard output can't be written, of which no line tells.
     #[error("cannot write")]
     Unwritten,
@@ -51,9 +46,9 @@ impl<'a> Fault<'a> {
         ensures range { (1 ≤ result) × (result ≤ 4) }
     {
         match self {
-            Fault::NoType { .. } | Fault::BadHex | Fault::Refused(_) => 1,
+            Fault::Refused(_) => 1,
             Fault::Usage(_) | Fault::BadOrder(_) | Fault::NotText | Fault::NoWord => 2,
-            Fault::Unread { .. } | Fault::Unwritten => 3,
+            Fault::Unread { .. } | Fault::Unmade { .. } | Fault::Unwritten => 3,
             Fault::NoMemory => 4,
         }
     }
@@ -67,12 +62,12 @@ impl<'a> From<AllocError> for Fault<'a> {
     }
 }
 
-impl<'a> From<RunFault> for Fault<'a> {
+impl<'a> From<Refusal<'a>> for Fault<'a> {
     ghost from_gives = { λ refusal fault. fault ≡ fault_of refusal };
 
-    fn from(refusal: RunFault) -> Fault<'a> {
+    fn from(refusal: Refusal<'a>) -> Fault<'a> {
         match refusal {
-            RunFault::NoMemory => Fault::NoMemory,
+            Refusal::NoMemory => Fault::NoMemory,
             refusal => Fault::Refused(refusal),
         }
     }

@@ -1,21 +1,22 @@
-//! The program `idlc`: marshals values by the tables of an IDL specification.
+//! The program `idlc`: checks the tables of IDL specifications and marshals values by them.
 #![tactic(auto)]
 
 ghost use Rattle.std.specs.Prelude.{◌≡◌, ◌≢◌, ◌≤◌, ◌⊎◌, IfErr, IsErrAnd, MatchResult};
 ghost use Rattle.idlc_main.specs.Fault.{IsOfWords, IsTold};
 ghost use Rattle.idlc_main.specs.Words.{Ask, AsksFor, IsMistaken, texts};
-ghost use Rattle.idlc_main.specs.Answer.{IsEndOf, IsPrinted, IsToldOf};
+ghost use Rattle.idlc_main.specs.Answer.{IsAnswer, IsEndOf, IsPrinted, IsToldOf};
 
 mod fault;
-mod marshal;
-mod sample;
+mod tables;
+mod tasks;
 #[cfg(test)]
 mod tests;
 mod words;
 
 use crate::fault::Fault;
-use crate::words::answer;
-use std::alloc::Global;
+use crate::tasks::done;
+use crate::words::{Said, parse};
+use std::fs::Files;
 use std::process::ExitCode;
 use std::rt::Env;
 use std::{env, io};
@@ -23,8 +24,21 @@ use std::{env, io};
 /// The status of a run that did what was asked for, help included.
 const DONE: u8 = 0;
 
-fn print<'a, O: io::Write>(
-    alloc: Global,
+/// The text that a run on these words puts on standard output.
+fn answer<'a, R: Files + AllocGlobal>(rt: &R, words: &'a [&'a str]) -> Result<String, Fault<'a>>
+    ensures asked { (ask : Ask) → AsksFor (texts words.now) ask → IsAnswer ask result }
+    ensures mistaken { IsMistaken (texts words.now) → IsErrAnd result IsOfWords }
+    ensures told { IfErr result IsTold }
+{
+    match parse(rt.alloc(), words) {
+        Ok(Said::Help(text)) => Ok(text),
+        Ok(Said::Do(task)) => done(rt, &task),
+        Err(fault) => Err(fault),
+    }
+}
+
+fn print<'a, R: Files + AllocGlobal, O: io::Write>(
+    rt: &R,
     words: &'a [&'a str],
     out: &mut O,
 ) -> Result<(), Fault<'a>>
@@ -33,7 +47,10 @@ fn print<'a, O: io::Write>(
     ensures mistaken { IsMistaken (texts words.now) → IsErrAnd result IsOfWords }
     ensures silent { IfErr result (λ fault. IsTold fault → out.new ≡ out.old) }
 {
-    let text = answer(alloc, words)?;
+    let text = match answer(rt, words) {
+        Ok(text) => text,
+        Err(fault) => return Err(fault),
+    };
     if out.write_all(text.as_bytes()).is_err() || out.flush().is_err() {
         return Err(Fault::Unwritten);
     }
@@ -53,7 +70,7 @@ fn report<E: io::Write>(err: &mut E, fault: &Fault<'_>) {
 /// Runs the program on words, of which the first is its name, and gives its status: 0 where it did
 /// what was asked for, 1 for refused input, 2 for usage, 3 for files and standard output, 4 for
 /// want of memory. Standard output has the answer or nothing; a fault is told on standard error.
-pub fn run<R: AllocGlobal, O: io::Write, E: io::Write>(
+pub fn run<R: Files + AllocGlobal, O: io::Write, E: io::Write>(
     rt: &R,
     words: &[&str],
     out: &mut O,
@@ -65,7 +82,7 @@ pub fn run<R: AllocGlobal, O: io::Write, E: io::Write>(
     ensures mistaken { IsMistaken (texts words.now) → (result ≡ 2) ⊎ (result ≡ 4) }
     ensures silent { result ≢ 0 → result ≢ 3 → out.new ≡ out.old }
 {
-    match print(rt.alloc(), words, out) {
+    match print(rt, words, out) {
         Ok(()) => DONE,
         Err(fault) => {
             report(err, &fault);
@@ -82,7 +99,7 @@ fn own_words<R: Env + AllocGlobal>(rt: &R) -> Result<Vec<String>, Fault<'static>
     }
 }
 
-fn run_on_own_words<R: Env + AllocGlobal, O: io::Write, E: io::Write>(
+fn run_on_own_words<R: Env + Files + AllocGlobal, O: io::Write, E: io::Write>(
     rt: &R,
     out: &mut O,
     err: &mut E,

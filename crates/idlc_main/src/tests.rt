@@ -1,9 +1,10 @@
 use crate::run;
+use std::fs::Files;
 use std::io;
 use std::process::Abort;
 
 /// Runs the program over memory with the words of a line, which blanks part.
-fn run_line<R: AllocGlobal, O: io::Write, E: io::Write>(
+fn run_line<R: Files + AllocGlobal, O: io::Write, E: io::Write>(
     rt: &R,
     line: &str,
     out: &mut O,
@@ -19,7 +20,7 @@ fn run_line<R: AllocGlobal, O: io::Write, E: io::Write>(
 }
 
 /// Holds the status and the streams of a run to what is wanted.
-fn expect<R: AllocGlobal + Abort>(rt: &R, line: &str, status: u8, out: &str, err: &str) {
+fn expect<R: Files + AllocGlobal + Abort>(rt: &R, line: &str, status: u8, out: &str, err: &str) {
     let mut wrote = Vec::new(rt.alloc());
     let mut told = Vec::new(rt.alloc());
     let ended = run_line(rt, line, &mut wrote, &mut told);
@@ -58,6 +59,39 @@ fn marshals_the_sample_structure(rt: HostRuntime) {
     }
 }
 
+/// The listing has a line for each name, program, routine and instruction.
+#[test]
+fn checks_and_lists_the_sample(rt: HostRuntime) {
+    expect(&rt, "idlc check builtin", 0, "accepted 4\n", "");
+    let listing = "name S node 3 program 0 routine 3\n\
+        program 0\n\
+        routine 0 node 0 entry ff rank 0\n\
+        \x20 0 Octets 1\n\
+        routine 1 node 1 entry ff rank 0\n\
+        \x20 0 Align 4\n\
+        \x20 1 Words 4 1\n\
+        routine 2 node 2 entry ff rank 0\n\
+        \x20 0 Align 4\n\
+        \x20 1 Text 0\n\
+        routine 3 node 3 entry ff rank 1\n\
+        \x20 0 Call 0\n\
+        \x20 1 Call 1\n\
+        \x20 2 Call 2\n\
+        program 1\n";
+    expect(&rt, "idlc show builtin", 0, listing, "");
+}
+
+/// Devices are written where they are.
+#[test]
+fn upgrades_to_devices(rt: HostRuntime) {
+    expect(&rt, "idlc upgrade builtin -o /dev/null", 0, "accepted 4\n", "");
+    refuse(&rt, "upgrade builtin -o /dev/full", 3, "cannot write /dev/full");
+    refuse(&rt, "check /dev/null", 1, "50 NotATable");
+    refuse(&rt, "check /dev", 3, "cannot read /dev");
+    refuse(&rt, "upgrade none.table -o /dev/null", 3, "cannot read none.table");
+    refuse(&rt, "show /dev/zero", 1, "too long");
+}
+
 #[test]
 fn tells_the_first_fault(rt: HostRuntime) {
     let rows = [
@@ -84,7 +118,7 @@ fn tells_the_first_fault(rt: HostRuntime) {
 }
 
 /// The words behind the first, and the fault behind the name of the program.
-fn refuse<R: AllocGlobal + Abort>(rt: &R, words: &str, status: u8, fault: &str) {
+fn refuse<R: Files + AllocGlobal + Abort>(rt: &R, words: &str, status: u8, fault: &str) {
     let line = format!(in rt.alloc(); "idlc {words}");
     let told = format!(in rt.alloc(); "idlc: {fault}\n");
     match (line, told) {
@@ -106,6 +140,11 @@ fn refuses_other_words(rt: HostRuntime) {
         ("idlc encode a.table T middle 0 0", true),
         ("idlc decode builtin S BIG 0 00", true),
         ("idlc encode builtin builtin S big 0 00", true),
+        ("idlc check", false),
+        ("idlc show builtin builtin", false),
+        ("idlc upgrade builtin", false),
+        ("idlc upgrade builtin -o", false),
+        ("idlc upgrade builtin -o a -o b", false),
     ];
     for (line, is_order) in rows {
         let mut wrote = Vec::new(rt.alloc());

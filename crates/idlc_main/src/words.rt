@@ -1,23 +1,48 @@
 //! The words of a command line, as `clap` reads them.
 
-ghost use Rattle.std.specs.Prelude.{◌≡◌, ◌≢◌, ◌<◌, ◌^◌, ◌↔◌, IsSome, IsSomeAnd, ℕ, List, codes, IsErr, IsErrAnd, IfErr, IfOk, IfSome, Err, Some, None, false};
+ghost use Rattle.std.specs.Prelude.{◌≡◌, ◌≢◌, ◌<◌, ◌^◌, ◌↔◌, IsSome, IsSomeAnd, ℕ, List, codes, IsErr, IsErrAnd, IfErr, IfOk, IfSome, MatchResult, Err, Some, None, true, false};
 ghost use Rattle.std.specs.Str.Parse.{IsNumeral, digits_value, without_leading_plus};
-ghost use Rattle.clap.specs.Words.{app_of, kind_of, rule_of, Row, subcommand_rows_of};
+ghost use Rattle.clap.specs.Words.{app_of, kind_of, rule_of, rows_of, Row, subcommand_rows_of};
 ghost use Rattle.clap.specs.declared.builder.value_parser.ValueParser.TheVariants.{Names};
-ghost use Rattle.idlc_main.specs.Words.{Ask, AsksFor, IsMistaken, Tells, texts, command_app, program_app, wanted};
-ghost use Rattle.idlc_main.specs.Answer.{IsAnswer, ask_of};
-ghost use Rattle.clap.specs.Matches.{found_of, first_value, one_text, subcommand_name_of};
+ghost use Rattle.idlc_main.specs.Words.{Ask, AsksFor, IsMistaken, Tells, texts, ask_of, command_app, output, program_app, value_app, table_app, upgrade_app, wanted};
+ghost use Rattle.idlc_main.specs.declared.words.Asked.{Asked};
+ghost use Rattle.clap.specs.Matches.{found_of, first_value, one_text};
 ghost use Rattle.idlc_main.specs.Fault.{IsOfWords, IsTold};
 ghost use Rattle.idlc_main.specs.Way.{name_of};
 
 use crate::fault::Fault;
-use crate::marshal::{Request, Way, marshal};
 use clap::error::ErrorKind;
 use clap::{Arg, ArgMatches, Command, value_parser};
 use std::alloc::{AllocError, Global};
+use table_commands::{Request, Way};
 use type_graph::Order;
 
 const ORDERS: [&str; 2] = ["big", "little"];
+
+/// A value of a table.
+#[derive(Clone, Copy, Debug)]
+pub struct Asked<'a> {
+    /// The name of the table.
+    pub table: &'a str,
+    pub request: Request<'a>,
+}
+
+/// What a run is asked to do.
+#[derive(Clone, Copy, Debug)]
+pub enum Task<'a> {
+    Value(Asked<'a>),
+    Check { table: &'a str },
+    Show { table: &'a str },
+    Upgrade { table: &'a str, output: &'a str },
+}
+
+/// What the words say.
+#[derive(Debug, Drop)]
+pub enum Said<'a> {
+    /// The text of asked-for help.
+    Help(String),
+    Do(Task<'a>),
+}
 
 /// A word that has to be there.
 fn wanted<'a>(alloc: Global, id: &'a str, help: &'a str) -> Arg<'a>
@@ -27,7 +52,9 @@ fn wanted<'a>(alloc: Global, id: &'a str, help: &'a str) -> Arg<'a>
     Arg::new(alloc, id).help(help).required(true)
 }
 
-/// The two commands take the same words.
+const TABLE: &str = "A table file, or builtin, the sample table";
+
+/// The commands that marshal a value take the same words.
 fn command<'a>(
     alloc: Global,
     orders: &'a [&'a str],
@@ -41,15 +68,37 @@ fn command<'a>(
         u64
     ));
     Command::new(alloc, name)
-        .arg(wanted(alloc, "T", "builtin, the sample table"))?
+        .arg(wanted(alloc, "T", TABLE))?
         .arg(wanted(alloc, "NAME", "The name of a type of the table"))?
         .arg(order)?
         .arg(pos)?
         .arg(wanted(alloc, "HEX", hex))
 }
 
-fn program<'a>(alloc: Global, orders: &'a [&'a str]) -> Result<Command<'a>, AllocError>
-    ensures { IfOk result (λ program. app_of program ≡ program_app (Names orders.entry)) }
+/// A command that asks of a table alone.
+fn table_command<'a>(alloc: Global, name: &'a str) -> Result<Command<'a>, AllocError>
+    ensures { IfOk result (λ command. app_of command ≡ table_app name.entry.now) }
+{
+    Command::new(alloc, name).arg(wanted(alloc, "T", TABLE))
+}
+
+fn upgrade_command<'a>(alloc: Global) -> Result<Command<'a>, AllocError>
+    ensures { IfOk result (λ command. app_of command ≡ upgrade_app) }
+{
+    let file = Arg::new(alloc, "o")
+        .short('o')
+        .value_name("U")
+        .help("The file for the table")
+        .required(true);
+    table_command(alloc, "upgrade")?.arg(file)
+}
+
+/// The commands that marshal a value.
+fn value_commands<'a>(
+    alloc: Global,
+    orders: &'a [&'a str],
+) -> Result<Command<'a>, AllocError>
+    ensures { IfOk result (λ program. app_of program ≡ value_app (Names orders.entry)) }
 {
     let encode = command(alloc, orders, "encode", "The value's tape")?;
     let decode = command(alloc, orders, "decode", "The octets")?;
@@ -60,19 +109,31 @@ fn program<'a>(alloc: Global, orders: &'a [&'a str]) -> Result<Command<'a>, Allo
         .subcommand(decode.about("Reads a value from octets"))
 }
 
-fn request_in<'a>(way: Way, matches: &ArgMatches<'a>) -> Option<Request<'a>>
-    ensures way { IfSome result (λ request. request.way ≡ way) }
-    ensures table { IfSome result (λ request.
-        first_value (found_of matches.now) (codes "T") ≡ Some request.table.now) }
-    ensures name { IfSome result (λ request.
-        first_value (found_of matches.now) (codes "NAME") ≡ Some request.name.now) }
-    ensures order { IfSome result (λ request. (request.order ≡ Order.Little)
+fn program<'a>(alloc: Global, orders: &'a [&'a str]) -> Result<Command<'a>, AllocError>
+    ensures { IfOk result (λ program. app_of program ≡ program_app (Names orders.entry)) }
+{
+    let check = table_command(alloc, "check")?;
+    let show = table_command(alloc, "show")?;
+    let upgrade = upgrade_command(alloc)?;
+    value_commands(alloc, orders)?
+        .subcommand(check.about("Checks a table"))?
+        .subcommand(show.about("Lists the routines of a table"))?
+        .subcommand(upgrade.about("Writes a table in the newest version"))
+}
+
+fn asked_in<'a>(way: Way, matches: &ArgMatches<'a>) -> Option<Asked<'a>>
+    ensures way { IfSome result (λ asked. asked.request.way ≡ way) }
+    ensures table { IfSome result (λ asked.
+        first_value (found_of matches.now) (codes "T") ≡ Some asked.table.now) }
+    ensures name { IfSome result (λ asked.
+        first_value (found_of matches.now) (codes "NAME") ≡ Some asked.request.name.now) }
+    ensures order { IfSome result (λ asked. (asked.request.order ≡ Order.Little)
         ↔ (first_value (found_of matches.now) (codes "ORDER") ≡ Some (codes "little"))) }
-    ensures pos { IfSome result (λ request. (text : List ℕ)
+    ensures pos { IfSome result (λ asked. (text : List ℕ)
         → one_text (found_of matches.now) (codes "POS") ≡ Some text
-        → digits_value 10 (without_leading_plus text) ≡ request.pos) }
-    ensures hex { IfSome result (λ request.
-        first_value (found_of matches.now) (codes "HEX") ≡ Some request.hex.now) }
+        → digits_value 10 (without_leading_plus text) ≡ asked.request.pos) }
+    ensures hex { IfSome result (λ asked.
+        first_value (found_of matches.now) (codes "HEX") ≡ Some asked.request.hex.now) }
     ensures whole { IsSome (first_value (found_of matches.now) (codes "T"))
         → IsSome (first_value (found_of matches.now) (codes "NAME"))
         → IsSome (first_value (found_of matches.now) (codes "ORDER"))
@@ -85,35 +146,68 @@ fn request_in<'a>(way: Way, matches: &ArgMatches<'a>) -> Option<Request<'a>>
         "little" => Order::Little,
         _ => Order::Big,
     };
-    Some(Request {
-        way,
+    Some(Asked {
         table: matches.get_str("T")?,
-        name: matches.get_str("NAME")?,
-        order,
-        pos: matches.get_one::<u64>("POS")?,
-        hex: matches.get_str("HEX")?,
+        request: Request {
+            way,
+            name: matches.get_str("NAME")?,
+            order,
+            pos: matches.get_one::<u64>("POS")?,
+            hex: matches.get_str("HEX")?,
+        },
     })
 }
 
+fn value<'a>(way: Way, words: &ArgMatches<'a>) -> Option<Task<'a>>
+    ensures { (ask : Ask) → way ≡ ask.value.way → Tells (rows_of (found_of words.now)) ask
+        → IsSomeAnd result (λ task. (asked : Asked) × (task ≡ Task.Value asked) × (ask_of asked ≡ ask)) }
+{
+    match asked_in(way, words) {
+        Some(asked) => Some(Task::Value(asked)),
+        None => None,
+    }
+}
+
 /// What the words ask for. `clap` has seen to it that none is missing.
-fn request<'a>(matches: &ArgMatches<'a>) -> Option<Request<'a>>
-    ensures command { IfSome result (λ request.
-        subcommand_name_of matches.now ≡ Some (name_of request.way)) }
-    ensures asked { (ask : Ask) (rows : List Row) → subcommand_rows_of matches.now ≡ Some (name_of ask.way, rows)
-        → Tells rows ask → IsSomeAnd result (λ request. ask_of request ≡ ask) }
+fn task_in<'a>(matches: &ArgMatches<'a>) -> Option<Task<'a>>
+    ensures { (ask : Ask) (rows : List Row) → subcommand_rows_of matches.now ≡ Some (name_of ask.value.way, rows)
+        → Tells rows ask → IsSomeAnd result (λ task. (asked : Asked) × (task ≡ Task.Value asked) × (ask_of asked ≡ ask)) }
 {
     let (name, words) = matches.subcommand()?;
     match name {
-        "encode" => request_in(Way::Encode, words),
-        "decode" => request_in(Way::Decode, words),
+        "encode" => value(Way::Encode, words),
+        "decode" => value(Way::Decode, words),
+        "check" => Some(Task::Check {
+            table: words.get_str("T")?,
+        }),
+        "show" => Some(Task::Show {
+            table: words.get_str("T")?,
+        }),
+        "upgrade" => Some(Task::Upgrade {
+            table: words.get_str("T")?,
+            output: words.get_str("o")?,
+        }),
         _ => None,
     }
 }
 
-/// The text of asked-for help, or the fault: only the order has to be one of a few words.
-fn help_or_fault<'a>(alloc: Global, error: clap::Error) -> Result<String, Fault<'a>>
+/// Whether the words name a command that takes a byte order, the only word of it that has to be one
+/// of a few.
+fn has_order(words: &[&str]) -> bool {
+    match words.get(1) {
+        Some(name) => *name == "encode" || *name == "decode",
+        None => false,
+    }
+}
+
+/// The text of asked-for help, or the fault.
+fn help_or_fault<'a>(
+    alloc: Global,
+    has_order: bool,
+    error: clap::Error,
+) -> Result<Said<'a>, Fault<'a>>
     ensures memory { kind_of error ≡ ErrorKind.OutOfMemory → result ≡ Err Fault.NoMemory }
-    ensures order { kind_of error ≡ ErrorKind.InvalidValue → result ≡ Err (Fault.BadOrder error) }
+    ensures order { has_order ≡ true → kind_of error ≡ ErrorKind.InvalidValue → result ≡ Err (Fault.BadOrder error) }
     ensures help { kind_of error ≡ ErrorKind.DisplayHelp
         → IfErr result (λ fault. fault ≡ Fault.NoMemory) }
     ensures usage { kind_of error ≢ ErrorKind.DisplayHelp
@@ -122,22 +216,24 @@ fn help_or_fault<'a>(alloc: Global, error: clap::Error) -> Result<String, Fault<
 {
     match error.kind() {
         ErrorKind::OutOfMemory => Err(Fault::NoMemory),
-        ErrorKind::InvalidValue => Err(Fault::BadOrder(error)),
+        ErrorKind::InvalidValue if has_order => Err(Fault::BadOrder(error)),
         _ if error.use_stderr() => Err(Fault::Usage(error)),
-        _ => Ok(format!(in alloc; "{error}")?),
+        _ => Ok(Said::Help(format!(in alloc; "{error}")?)),
     }
 }
 
-/// The text that a run on these words puts on standard output.
-pub fn answer<'a>(alloc: Global, words: &'a [&'a str]) -> Result<String, Fault<'a>>
-    ensures asked { (ask : Ask) → AsksFor (texts words.now) ask → IsAnswer ask result }
+/// What the words of a run say.
+pub fn parse<'a>(alloc: Global, words: &'a [&'a str]) -> Result<Said<'a>, Fault<'a>>
+    ensures asked { (ask : Ask) → AsksFor (texts words.now) ask → MatchResult result
+        (λ said. (asked : Asked) × (said ≡ Said.Do (Task.Value asked)) × (ask_of asked ≡ ask))
+        (λ fault. fault ≡ Fault.NoMemory) }
     ensures mistaken { IsMistaken (texts words.now) → IsErrAnd result IsOfWords }
     ensures told { IfErr result IsTold }
 {
     match program(alloc, ORDERS.as_slice())?.try_get_matches_from(words) {
-        Err(error) => help_or_fault(alloc, error),
-        Ok(matches) => match request(&matches) {
-            Some(request) => marshal(alloc, &request),
+        Err(error) => help_or_fault(alloc, has_order(words), error),
+        Ok(matches) => match task_in(&matches) {
+            Some(task) => Ok(Said::Do(task)),
             None => Err(Fault::NoWord),
         },
     }

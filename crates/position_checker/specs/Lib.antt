@@ -1,1 +1,3 @@
-pub mod Table
+pub mod Acceptance
+pub mod Refusal
+pub mod Routes

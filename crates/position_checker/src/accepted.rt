@@ -1,106 +1,96 @@
 //! A table that was accepted, and its calls.
 
-ghost use Rattle.std.specs.Prelude.{◌≡◌, ◌≢◌, ◌<◌, ◌≤◌, ◌++◌, ◌↔◌, ℕ, List, length, take, All, IsSome, IsTrue, OnOk, OnErr, IfOk, IfErr};
+ghost use Rattle.std.specs.Prelude.{◌≡◌, ◌≢◌, ◌≤◌, ◌++◌, ◌↔◌, ℕ, List, length, take, All, Contains, IsTrue, IfOk, IfErr, IfSome, IfNone, Some};
 ghost use Rattle.type_graph.specs.Words.{reading, writing};
 ghost use Rattle.type_graph.specs.Encoding.{Means};
-ghost use Rattle.marshal_program.specs.Plain.{plain_program};
-ghost use Rattle.marshal_program.specs.Served.{served_by};
+ghost use Rattle.type_model.specs.Names.{IsNamed};
 ghost use Rattle.program_runner.specs.Refusal.{OnlyIf as OnlyIfRun};
-ghost use Rattle.marshal_program.specs.Joined.{joined_program};
-ghost use Rattle.routine_checker.specs.Progress.{OnlyIf};
-ghost use Rattle.position_checker.specs.Table.{IsRight};
+ghost use Rattle.table_file.specs.declared.table.Use.{Use};
+ghost use Rattle.position_checker.specs.Acceptance.{IsRight, Serves, Uses};
+ghost use Rattle.position_checker.specs.Routes.{IsRoute};
 
-use marshal_program::Program;
+use crate::routes::Route;
 use program_runner::RunFault;
-use routine_checker::{CheckFault, check_name, check_routines};
 use std::alloc::Global;
 use std::marker::Model;
-use type_graph::{Graph, Order};
+use table_file::{Table, Use};
+use type_graph::Order;
 
-/// Types and routines that are right for them. A contract sees the two lists.
+/// A table whose routines are right. A contract sees the table's parts.
 #[derive(Debug, Drop)]
 pub struct Accepted {
-    graph: Graph,
-    program: Program,
+    pub(crate) table: Table,
+    /// By the number of its node, the routine that serves a name.
+    pub(crate) routes: Vec<Option<Route>>,
 }
 
 impl Model for Accepted {
-    ghost use Rattle.position_checker.specs.Table.{Table, IsRight};
+    ghost use Rattle.table_file.specs.Table.{TableParts};
+    ghost use Rattle.position_checker.specs.Acceptance.{IsRight};
+    ghost use Rattle.position_checker.specs.Routes.{AreRoutes};
 
-    ghost Value = { Table };
+    ghost Value = { TableParts };
 
-    ghost view = { λ a. record { graph = a.graph; program = a.program } };
+    ghost view = { λ a. a.table };
 
-    ghost invariant = { λ a. IsRight (record { graph = a.graph; program = a.program }) };
-}
-
-/// Each name is one of a node with a routine that may start at every position.
-fn check_each_name(program: &Program, names: &[u32]) -> Result<(), CheckFault>
-    ensures served { OnOk result (All (λ name. IsSome (served_by program.now name)) names.now) }
-    ensures refused { OnErr result (All (λ name. IsSome (served_by program.now name)) names.now → ⊥) }
-{
-    for name in names {
-        match check_name(program, *name) {
-            Ok(()) => (),
-            Err(fault) => return Err(fault),
-        }
-    }
-    Ok(())
-}
-
-/// Accepts a table, whoever made it, whose routines do just what their nodes mean, each from its
-/// entries, and in which each node of `names` is served. Where the nodes are in the graph, its
-/// plain and its joined program are refused for want of memory alone.
-///
-/// # Errors
-/// The first fault of the routines in order: `WrongWork`, `EntryOutside`, `WrongPadding`,
-/// `ExitsTooSmall`; then of the names in order: `NoRoutine`, `NamedEntryNotFull`. Want of memory.
-pub fn check(
-    alloc: Global,
-    graph: Graph,
-    program: Program,
-    names: &[u32],
-) -> Result<Accepted, CheckFault>
-    ensures kept { IfOk result (λ accepted. (accepted.graph ≡ graph) × (accepted.program ≡ program)) }
-    ensures right { IfOk result IsRight }
-    ensures served { OnOk result (All (λ name. IsSome (served_by program name)) names.now) }
-    ensures plain { IfErr result (λ fault. OnlyIf fault (All (λ name. name < length graph) names.now → program ≢ plain_program graph)) }
-    ensures joined { IfErr result (λ fault. OnlyIf fault (All (λ name. name < length graph) names.now → program ≢ joined_program graph)) }
-{
-    match check_routines(alloc, &graph, &program) {
-        Ok(()) => (),
-        Err(fault) => return Err(fault),
-    }
-    match check_each_name(&program, names) {
-        Ok(()) => (),
-        Err(fault) => return Err(fault),
-    }
-    Ok(Accepted { graph, program })
+    ghost invariant = { λ a. IsRight a.table × AreRoutes a.table a.routes.items };
 }
 
 impl Accepted {
-    /// The types of the table.
-    pub fn graph(&self) -> &Graph
-        ensures value { result.now ≡ self.now.graph }
+    /// The table that was accepted. Takes no memory.
+    pub fn table(&self) -> &Table
+        ensures value { result.now ≡ self.now }
         ensures right { IsRight self.now }
     {
-        &self.graph
+        &self.table
     }
 
-    /// The routines of the table.
-    pub fn program(&self) -> &Program
-        ensures value { result.now ≡ self.now.program }
-        ensures right { IsRight self.now }
+    /// The node of a name. Takes no memory.
+    pub fn node_of(&self, name: &str) -> Option<u32>
+        ensures found { (node : ℕ) → (result ≡ Some node) ↔ Contains self.now.model.names (name.now, node) }
+        ensures missing { IfNone result (All (λ pair. pair.0 ≢ name.now) self.now.model.names) }
+        ensures named { IfSome result (IsNamed self.now.model.names) }
     {
-        &self.program
+        self.table.model().node_of(name)
     }
 
-    /// Whether a routine of the table serves the node: the first with that node that may start at
-    /// every position. Takes no memory.
-    pub fn is_served(&self, node: u32) -> bool
-        ensures { IsTrue result ↔ IsSome (served_by self.now.program node) }
+    /// Whether some name has this node. Takes no memory.
+    pub fn is_named(&self, node: u32) -> bool
+        ensures { IsTrue result ↔ IsNamed self.now.model.names node }
     {
-        self.program.serving(node).is_some()
+        self.table.model().is_named(node)
+    }
+
+    /// Where the routine stands that serves a node with a name.
+    fn serving(&self, node: u32) -> Route
+        requires { IsNamed self.now.model.names node }
+        ensures { IsRoute self.now node result }
+    {
+        match self.routes[node as usize] {
+            Some(route) => route,
+            None => unreachable!(),
+        }
+    }
+
+    /// Which of the two programs a name uses. Takes no memory.
+    pub fn program_of(&self, name: &str) -> Option<Use>
+        ensures found { IfSome result (λ program. (node : ℕ) → Contains self.now.model.names (name.now, node) → Uses self.now node program) }
+        ensures missing { IfNone result (All (λ pair. pair.0 ≢ name.now) self.now.model.names) }
+        ensures there { IfSome result (λ _. All (λ pair. pair.0 ≢ name.now) self.now.model.names → ⊥) }
+    {
+        let node = self.node_of(name)?;
+        Some(self.serving(node).program)
+    }
+
+    /// The number of the routine that serves a name, in the program that the name uses. Takes no
+    /// memory.
+    pub fn routine_of(&self, name: &str) -> Option<u32>
+        ensures found { IfSome result (λ routine. (node : ℕ) (program : Use) → Contains self.now.model.names (name.now, node) → Uses self.now node program → Serves self.now node program routine) }
+        ensures missing { IfNone result (All (λ pair. pair.0 ≢ name.now) self.now.model.names) }
+        ensures there { IfSome result (λ _. All (λ pair. pair.0 ≢ name.now) self.now.model.names → ⊥) }
+    {
+        let node = self.node_of(name)?;
+        Some(self.serving(node).routine)
     }
 
     /// Writes the CDR octets of the value that the whole tape is, with zeros in the gaps.
@@ -115,16 +105,12 @@ impl Accepted {
         pos: u64,
         tape: &[u8],
     ) -> Result<Vec<u8>, RunFault>
-        requires { IsSome (served_by self.now.program node) }
-        ensures found { IfOk result (λ octets. Means self.now.graph (writing order) 64 node pos tape.now octets.items) }
-        ensures refused { IfErr result (λ fault. OnlyIfRun fault ((octets : List ℕ) → Means self.now.graph (writing order) 64 node pos tape.now octets → ⊥)) }
+        requires { IsNamed self.now.model.names node }
+        ensures found { IfOk result (λ octets. Means self.now.model.graph (writing order) 64 node pos tape.now octets.items) }
+        ensures refused { IfErr result (λ fault. OnlyIfRun fault ((octets : List ℕ) → Means self.now.model.graph (writing order) 64 node pos tape.now octets → ⊥)) }
     {
-        match self.program.serving(node) {
-            Some(routine) => {
-                program_runner::write(alloc, &self.program, routine, order, pos, tape)
-            }
-            None => unreachable!(),
-        }
+        let Route { program, routine } = self.serving(node);
+        program_runner::write(alloc, self.table.program(program), routine, order, pos, tape)
     }
 
     /// Reads the tape of the value that a front of the octets encodes, whatever stands in the
@@ -140,16 +126,12 @@ impl Accepted {
         pos: u64,
         octets: &[u8],
     ) -> Result<(Vec<u8>, usize), RunFault>
-        requires { IsSome (served_by self.now.program node) }
-        ensures found { IfOk result (λ r. Means self.now.graph (reading order) 64 node pos r.0.items (take r.1 octets.now)) }
+        requires { IsNamed self.now.model.names node }
+        ensures found { IfOk result (λ r. Means self.now.model.graph (reading order) 64 node pos r.0.items (take r.1 octets.now)) }
         ensures within { IfOk result (λ r. r.1 ≤ length octets.now) }
-        ensures refused { IfErr result (λ fault. OnlyIfRun fault ((tape front rest : List ℕ) → octets.now ≡ front ++ rest → Means self.now.graph (reading order) 64 node pos tape front → ⊥)) }
+        ensures refused { IfErr result (λ fault. OnlyIfRun fault ((tape front rest : List ℕ) → octets.now ≡ front ++ rest → Means self.now.model.graph (reading order) 64 node pos tape front → ⊥)) }
     {
-        match self.program.serving(node) {
-            Some(routine) => {
-                program_runner::read(alloc, &self.program, routine, order, pos, octets)
-            }
-            None => unreachable!(),
-        }
+        let Route { program, routine } = self.serving(node);
+        program_runner::read(alloc, self.table.program(program), routine, order, pos, octets)
     }
 }

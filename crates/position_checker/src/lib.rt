@@ -2,6 +2,11 @@
 #![tactic(auto)]
 
 mod accepted;
+mod fault;
+pub mod laws;
+mod routes;
+mod verdict;
 
-pub use accepted::{Accepted, check};
-pub use routine_checker::CheckFault;
+pub use accepted::Accepted;
+pub use fault::CheckFault;
+pub use verdict::{Refused, check};

@@ -22,8 +22,8 @@ use Rattle.marshal_program.specs.Does.{Does, Runs, code_of}
 use Rattle.marshal_program.specs.ProgramRules.{IsRoutine, IsProgram}
 use Rattle.marshal_program.proofs.RunLaws.{runs_opened}
 use Rattle.routine_checker.specs.declared.fault.StepFault.{StepFault}
-use Rattle.routine_checker.specs.declared.fault.CheckFault.{CheckFault}
-use Rattle.routine_checker.specs.declared.fault.CheckFault.TheVariants.{WrongWork, WrongPadding, ExitsTooSmall}
+use Rattle.routine_checker.specs.declared.fault.RoutineFault.{RoutineFault}
+use Rattle.routine_checker.specs.declared.fault.RoutineFault.TheVariants.{WrongWork, WrongPadding, ExitsTooSmall}
 use Rattle.routine_checker.specs.Sets.{has, Among, is_within, gaps_agree}
 use Rattle.routine_checker.specs.Taking.{is_done_within}
 use Rattle.routine_checker.specs.Steps.{State, step, followed_by, followed, end_fault, ended, entry_fault, or_else, entries_fault, routine_fault, routines_fault, program_fault}
@@ -70,7 +70,7 @@ module _ (graph : List Node) (program : List Routine) (format : Format) (depth :
           (λ last ih claim. step_claim graph program format depth X this code state next (All-head (IsRightStep graph program format depth) this code right) e (ih claim)) (ih next)
 
   -- where a routine ends well, what is claimed at its start holds
-  ended_claim : (X : Type 0) (number : ℕ) (routine : Routine) (entry : ℕ) (result : Result State CheckFault) → ended graph number routine entry result ≡ None
+  ended_claim : (X : Type 0) (number : ℕ) (routine : Routine) (entry : ℕ) (result : Result State RoutineFault) → ended graph number routine entry result ≡ None
       → IfOk result (λ last. Claim graph program format depth (Among (slice_index_or routine.exits entry 0)) [] last → X) → X
   ended_claim X number routine entry (Err fault) e claim = absurd (none-some fault (sym e))
   ended_claim X number routine entry (Ok last) e claim =
@@ -100,7 +100,7 @@ module _ (graph : List Node) (program : List Routine) (format : Format) (depth :
       }
 
 -- neither is a fault
-both_none : (first other : Option CheckFault) → or_else first other ≡ None → (first ≡ None) × (other ≡ None)
+both_none : (first other : Option RoutineFault) → or_else first other ≡ None → (first ≡ None) × (other ≡ None)
 both_none None other e = (refl, e)
 both_none (Some fault) other e = absurd (none-some fault (sym e))
 

@@ -11,8 +11,8 @@ use Rattle.marshal_program.specs.declared.instr.Instr.{Instr}
 use Rattle.marshal_program.specs.declared.instr.Instr.TheVariants.{Align}
 use Rattle.marshal_program.specs.declared.instr.Routine.{Routine}
 use Rattle.marshal_program.specs.ProgramRules.{is_work}
-use Rattle.routine_checker.specs.declared.fault.CheckFault.{CheckFault}
-use Rattle.routine_checker.specs.declared.fault.CheckFault.TheVariants.{WrongWork}
+use Rattle.routine_checker.specs.declared.fault.RoutineFault.{RoutineFault}
+use Rattle.routine_checker.specs.declared.fault.RoutineFault.TheVariants.{WrongWork}
 use Rattle.routine_checker.specs.Sets.{has, gaps_agree, is_within}
 use Rattle.routine_checker.specs.Taking.{parts_of, opened, taken_within, and_then, taken, is_done_within, is_piece, pieces}
 use Rattle.routine_checker.specs.Steps.{State, enters, pads, ends, judged, worked, step, followed_by, followed, end_fault, ended, entry_fault, or_else, entries_fault, routine_fault, routines_fault}
@@ -122,7 +122,7 @@ module _ (graph : List Node) (program : List Routine) where
       → entry_fault graph program number routine entry ≡ None
   entry_none number routine entry exits through =
       let last = through.last in
-      let here : Result State CheckFault → Option CheckFault = ended graph number routine entry in
+      let here : Result State RoutineFault → Option RoutineFault = ended graph number routine entry in
       ap here (through.followed_is number 0)
       ∙ ap (λ b. end_fault b (gaps_agree last.places last.gap One) (is_within last.places (slice_index_or routine.exits entry 0)) number (length routine.code) entry) through.done
       ∙ ap (λ b. end_fault true b (is_within last.places (slice_index_or routine.exits entry 0)) number (length routine.code) entry) through.unpadded

@@ -11,7 +11,7 @@ use Rattle.marshal_program.specs.declared.instr.Instr.TheVariants.{SeqOctets, Se
 use Rattle.marshal_program.specs.declared.instr.Routine.{Routine}
 use Rattle.marshal_program.specs.Plain.{plain_program}
 use Rattle.marshal_program.specs.Joined.{joined_code, joined_program}
-use Rattle.routine_checker.specs.declared.fault.CheckFault.TheVariants.{WrongWork, WrongPadding, EntryOutside, ExitsTooSmall, NoRoutine, NamedEntryNotFull}
+use Rattle.routine_checker.specs.declared.fault.RoutineFault.TheVariants.{WrongWork, WrongPadding, EntryOutside, ExitsTooSmall, NoRoutine, NamedEntryNotFull}
 use Rattle.routine_checker.specs.Sets.{each_place, gathered, closure}
 use Rattle.routine_checker.specs.Taking.{taken, taken_within, is_done_within, is_one}
 use Rattle.routine_checker.specs.Steps.{enters_times, times_left, step, routine_fault, program_fault, name_fault}

@@ -2,6 +2,7 @@ pub mod Sets
 pub mod Places
 pub mod Taking
 pub mod Steps
+pub mod Refusal
 pub mod Right
 pub mod Kinds
 pub mod Counts

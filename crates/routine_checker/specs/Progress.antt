@@ -1,8 +1,6 @@
 -- How far the code has followed a routine.
 use Rattle.routine_checker.specs.declared.fault.StepFault.{StepFault}
 use Rattle.routine_checker.specs.declared.fault.StepFault.TheVariants as stops
-use Rattle.routine_checker.specs.declared.fault.CheckFault.{CheckFault}
-use Rattle.routine_checker.specs.declared.fault.CheckFault.TheVariants as faults
 use Rattle.routine_checker.specs.declared.step.Progress.{Progress}
 use Rattle.routine_checker.specs.Work.{work_of}
 use Rattle.routine_checker.specs.Steps.{State}
@@ -14,7 +12,3 @@ state_of progress = record { work = work_of progress.work.items.items; places = 
 abbrev pub OnlyIfStep : StepFault → Type 0 → Type 0
 OnlyIfStep stops.NoMemory fact = Unit {0}
 OnlyIfStep fault fact = fact
-
-abbrev pub OnlyIf : CheckFault → Type 0 → Type 0
-OnlyIf faults.NoMemory fact = Unit {0}
-OnlyIf fault fact = fact

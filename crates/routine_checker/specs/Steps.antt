@@ -21,8 +21,8 @@ use Rattle.marshal_program.specs.ProgramRules.{arms_of}
 use Rattle.marshal_program.specs.Served.{served_by}
 use Rattle.routine_checker.specs.declared.fault.StepFault.{StepFault}
 use Rattle.routine_checker.specs.declared.fault.StepFault.TheVariants as stops
-use Rattle.routine_checker.specs.declared.fault.CheckFault.{CheckFault}
-use Rattle.routine_checker.specs.declared.fault.CheckFault.TheVariants.{NoMemory, WrongWork, WrongPadding, EntryOutside, ExitsTooSmall, NoRoutine, NamedEntryNotFull}
+use Rattle.routine_checker.specs.declared.fault.RoutineFault.{RoutineFault}
+use Rattle.routine_checker.specs.declared.fault.RoutineFault.TheVariants.{NoMemory, WrongWork, WrongPadding, EntryOutside, ExitsTooSmall, NoRoutine, NamedEntryNotFull}
 use Rattle.routine_checker.specs.Sets.{has, is_within, moved, left, closure, gaps_agree, gaps_serve, multiples}
 use Rattle.routine_checker.specs.Taking.{taken, is_done_within, is_piece, pieces}
 
@@ -175,65 +175,65 @@ step graph program instr state =
 
 -- ---- a routine, a program
 
-abbrev pub fault_at : ℕ → ℕ → StepFault → CheckFault
+abbrev pub fault_at : ℕ → ℕ → StepFault → RoutineFault
 fault_at routine instr stops.Work = WrongWork routine instr
 fault_at routine instr stops.Entry = EntryOutside routine instr
 fault_at routine instr stops.Padding = WrongPadding routine instr
 fault_at routine instr stops.NoMemory = NoMemory
 
-abbrev pub followed_by : (State → Result State CheckFault) → ℕ → ℕ → Result State StepFault → Result State CheckFault
+abbrev pub followed_by : (State → Result State RoutineFault) → ℕ → ℕ → Result State StepFault → Result State RoutineFault
 followed_by further routine instr (Err stop) = Err (fault_at routine instr stop)
 followed_by further routine instr (Ok state) = further state
 
 -- the instructions from a number on
-abbrev pub followed : List Node → List Routine → ℕ → ℕ → List Instr → State → Result State CheckFault
+abbrev pub followed : List Node → List Routine → ℕ → ℕ → List Instr → State → Result State RoutineFault
 followed graph program routine instr [] state = Ok state
 followed graph program routine instr (this ∷ code) state =
     followed_by (followed graph program routine (suc instr) code) routine instr (step graph program this state)
 
 -- The end of the code: nothing is left, the gap that is made is none, the positions are among the exits.
-abbrev pub end_fault : Bool → Bool → Bool → ℕ → ℕ → ℕ → Option CheckFault
+abbrev pub end_fault : Bool → Bool → Bool → ℕ → ℕ → ℕ → Option RoutineFault
 end_fault false padded within routine instr entry = Some (WrongWork routine instr)
 end_fault true false within routine instr entry = Some (WrongPadding routine instr)
 end_fault true true false routine instr entry = Some (ExitsTooSmall routine entry)
 end_fault true true true routine instr entry = None
 
-abbrev pub ended : List Node → ℕ → Routine → ℕ → Result State CheckFault → Option CheckFault
+abbrev pub ended : List Node → ℕ → Routine → ℕ → Result State RoutineFault → Option RoutineFault
 ended graph number routine entry (Err fault) = Some fault
 ended graph number routine entry (Ok state) =
     end_fault (is_done_within 64 graph state.work) (gaps_agree state.places state.gap One)
     (is_within state.places (slice_index_or routine.exits entry 0)) number (length routine.code) entry
 
 -- a routine from one of its entries
-abbrev pub entry_fault : List Node → List Routine → ℕ → Routine → ℕ → Option CheckFault
+abbrev pub entry_fault : List Node → List Routine → ℕ → Routine → ℕ → Option RoutineFault
 entry_fault graph program number routine entry =
     ended graph number routine entry
     (followed graph program number 0 routine.code (record { work = routine.node ∷ []; places = 2 ^ entry; gap = One }))
 
-abbrev pub or_else : Option CheckFault → Option CheckFault → Option CheckFault
+abbrev pub or_else : Option RoutineFault → Option RoutineFault → Option RoutineFault
 or_else None other = other
 or_else (Some fault) other = Some fault
 
 -- from the entries below n, which rise
-abbrev pub entries_fault : List Node → List Routine → ℕ → Routine → ℕ → Option CheckFault
+abbrev pub entries_fault : List Node → List Routine → ℕ → Routine → ℕ → Option RoutineFault
 entries_fault graph program number routine zero = None
 entries_fault graph program number routine (suc n) =
     or_else (entries_fault graph program number routine n)
     (if has routine.entry n then entry_fault graph program number routine n else None)
 
 -- the node has to be there
-unfoldable pub routine_fault : List Node → List Routine → ℕ → Routine → Option CheckFault
+unfoldable pub routine_fault : List Node → List Routine → ℕ → Routine → Option RoutineFault
 routine_fault graph program number routine =
     if ltb routine.node (length graph) then entries_fault graph program number routine 8 else Some (WrongWork number 0)
 
 -- the routines from a number on
-abbrev pub routines_fault : List Node → List Routine → ℕ → List Routine → Option CheckFault
+abbrev pub routines_fault : List Node → List Routine → ℕ → List Routine → Option RoutineFault
 routines_fault graph program number [] = None
 routines_fault graph program number (routine ∷ routines) =
     or_else (routine_fault graph program number routine) (routines_fault graph program (suc number) routines)
 
 -- the first fault of a program
-abbrev pub program_fault : List Node → List Routine → Option CheckFault
+abbrev pub program_fault : List Node → List Routine → Option RoutineFault
 program_fault graph program = routines_fault graph program 0 program
 
 -- ---- names
@@ -242,11 +242,11 @@ program_fault graph program = routines_fault graph program 0 program
 abbrev pub has_routine : List Routine → ℕ → Bool
 has_routine program node = list_any (λ routine. eqb routine.node node) program
 
-abbrev pub name_fault_by : Bool → Bool → ℕ → Option CheckFault
+abbrev pub name_fault_by : Bool → Bool → ℕ → Option RoutineFault
 name_fault_by true some node = None
 name_fault_by false true node = Some (NamedEntryNotFull node)
 name_fault_by false false node = Some (NoRoutine node)
 
 -- a node that is asked for by name has a routine that may start everywhere
-abbrev pub name_fault : List Routine → ℕ → Option CheckFault
+abbrev pub name_fault : List Routine → ℕ → Option RoutineFault
 name_fault program node = name_fault_by (is_some (served_by program node)) (has_routine program node) node

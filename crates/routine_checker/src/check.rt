@@ -1,18 +1,16 @@
 //! The routines of a program, judged one after the other, and the nodes that have names.
 
-ghost use Rattle.std.specs.Prelude.{◌≡◌, ◌≢◌, ◌≤◌, ◌<◌, ◌∷◌, [], length, IfErr, IfOk, OnOk, IsSome, Some, None, Ok, Err, slice_get};
-ghost use Rattle.type_graph.specs.GraphRules.{IsGraph};
-ghost use Rattle.marshal_program.specs.ProgramRules.{IsProgram};
+ghost use Rattle.std.specs.Prelude.{◌≡◌, ◌≢◌, ◌≤◌, ◌<◌, length, IfErr, OnOk, Some, None, Ok, Err};
 ghost use Rattle.marshal_program.specs.Plain.{plain_program};
 ghost use Rattle.marshal_program.specs.Joined.{joined_program};
-ghost use Rattle.marshal_program.specs.Served.{served_by};
-ghost use Rattle.routine_checker.specs.Steps.{State, followed, ended, entry_fault, entries_fault, routine_fault, routines_fault, program_fault, name_fault, has_routine};
+ghost use Rattle.routine_checker.specs.Steps.{followed, ended, entry_fault, routine_fault};
 ghost use Rattle.routine_checker.specs.Counts.{AreRunCounts};
-ghost use Rattle.routine_checker.specs.Progress.{state_of, OnlyIf};
+ghost use Rattle.routine_checker.specs.Progress.{state_of};
+ghost use Rattle.routine_checker.specs.Refusal.{OnlyIf};
 ghost use Rattle.routine_checker.specs.Right.{AreRight};
 
 use crate::counts::RunCounts;
-use crate::fault::CheckFault;
+use crate::fault::RoutineFault;
 use crate::sets::{gaps_agree, has, is_within, only};
 use crate::step::Progress;
 use marshal_program::{Program, Routine};
@@ -27,7 +25,7 @@ fn follow<'g>(
     program: &'g [Routine],
     number: u32,
     routine: &'g Routine,
-) -> Result<(), CheckFault>
+) -> Result<(), RoutineFault>
     requires code { length routine.now.code ≤ 65536 }
     requires counts { AreRunCounts graph.now counts.now }
     ensures ok { OnOk result (followed graph.now program.now number 0 routine.now.code (state_of progress.old) ≡ Ok (state_of progress.new)) }
@@ -51,7 +49,7 @@ fn end<'g>(
     number: u32,
     routine: &'g Routine,
     entry: u32,
-) -> Result<(), CheckFault>
+) -> Result<(), RoutineFault>
     requires code { length routine.now.code ≤ 65536 }
     requires entry { entry < 8 }
     ensures ok { OnOk result (ended graph.now number routine.now entry (Ok (state_of progress.old)) ≡ None) }
@@ -59,19 +57,19 @@ fn end<'g>(
 {
     let instr = routine.code.as_slice().len() as u32;
     if !progress.work.is_done(graph.nodes())? {
-        return Err(CheckFault::WrongWork {
+        return Err(RoutineFault::WrongWork {
             routine: number,
             instr,
         });
     }
     if !gaps_agree(progress.places, progress.gap, Width::One) {
-        return Err(CheckFault::WrongPadding {
+        return Err(RoutineFault::WrongPadding {
             routine: number,
             instr,
         });
     }
     if !is_within(progress.places, routine.exits[entry as usize]) {
-        return Err(CheckFault::ExitsTooSmall {
+        return Err(RoutineFault::ExitsTooSmall {
             routine: number,
             entry,
         });
@@ -88,7 +86,7 @@ fn check_entry<'g>(
     number: u32,
     routine: &'g Routine,
     entry: u32,
-) -> Result<(), CheckFault>
+) -> Result<(), RoutineFault>
     requires code { length routine.now.code ≤ 65536 }
     requires counts { AreRunCounts graph.now counts.now }
     requires entry { entry < 8 }
@@ -111,7 +109,7 @@ fn check_routine<'g>(
     program: &'g [Routine],
     number: u32,
     routine: &'g Routine,
-) -> Result<(), CheckFault>
+) -> Result<(), RoutineFault>
     requires nodes { nodes ≡ length graph.now }
     requires counts { AreRunCounts graph.now counts.now }
     requires code { length routine.now.code ≤ 65536 }
@@ -119,7 +117,7 @@ fn check_routine<'g>(
     ensures refused { IfErr result (λ fault. OnlyIf fault (routine_fault graph.now program.now number routine.now ≡ Some fault)) }
 {
     if routine.node as usize >= nodes {
-        return Err(CheckFault::WrongWork {
+        return Err(RoutineFault::WrongWork {
             routine: number,
             instr: 0,
         });
@@ -142,7 +140,7 @@ fn check_routine<'g>(
 /// The first fault of the first routine that is wrong, from the first of its entries from which it
 /// is: `WrongWork`, `EntryOutside`, `WrongPadding` at an instruction, `ExitsTooSmall` behind the
 /// last. Want of memory.
-pub fn check_routines(alloc: Global, graph: &Graph, program: &Program) -> Result<(), CheckFault>
+pub fn check_routines(alloc: Global, graph: &Graph, program: &Program) -> Result<(), RoutineFault>
     ensures right { OnOk result (AreRight graph.now program.now) }
     ensures plain { IfErr result (λ fault. OnlyIf fault (program.now ≢ plain_program graph.now)) }
     ensures joined { IfErr result (λ fault. OnlyIf fault (program.now ≢ joined_program graph.now)) }

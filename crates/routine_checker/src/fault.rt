@@ -1,7 +1,7 @@
 //! Why a program is refused.
 
 ghost use Rattle.std.specs.Prelude.{◌≡◌};
-ghost use Rattle.routine_checker.specs.declared.fault.CheckFault.TheVariants.{NoMemory};
+ghost use Rattle.routine_checker.specs.declared.fault.RoutineFault.TheVariants.{NoMemory};
 ghost use Rattle.routine_checker.specs.declared.fault.StepFault.TheVariants.{NoMemory as StepNoMemory};
 
 use std::alloc::{AllocError, AllocFailed};
@@ -32,21 +32,21 @@ impl StepFault {
     ghost use Rattle.routine_checker.specs.Steps.{fault_at};
 
     /// The fault of a program that has it at an instruction of a routine.
-    pub fn at(self, routine: u32, instr: u32) -> CheckFault
+    pub fn at(self, routine: u32, instr: u32) -> RoutineFault
         ensures { result ≡ fault_at routine instr self }
     {
         match self {
-            StepFault::Work => CheckFault::WrongWork { routine, instr },
-            StepFault::Entry => CheckFault::EntryOutside { routine, instr },
-            StepFault::Padding => CheckFault::WrongPadding { routine, instr },
-            StepFault::NoMemory => CheckFault::NoMemory,
+            StepFault::Work => RoutineFault::WrongWork { routine, instr },
+            StepFault::Entry => RoutineFault::EntryOutside { routine, instr },
+            StepFault::Padding => RoutineFault::WrongPadding { routine, instr },
+            StepFault::NoMemory => RoutineFault::NoMemory,
         }
     }
 }
 
 /// A fault has its number and name as its text, with the place.
 #[derive(Clone, Copy, Debug, PartialEq, Eq, Error)]
-pub enum CheckFault {
+pub enum RoutineFault {
     /// The routine doesn't do the work of its node from this instruction on.
     #[error("80 WrongWork routine {routine} instruction {instr}")]
     WrongWork { routine: u32, instr: u32 },
@@ -69,10 +69,10 @@ pub enum CheckFault {
     NoMemory,
 }
 
-impl From<AllocError> for CheckFault {
+impl From<AllocError> for RoutineFault {
     ghost from_gives = { λ _ fault. fault ≡ NoMemory };
 
-    fn from(_error: AllocError) -> CheckFault {
-        CheckFault::NoMemory
+    fn from(_error: AllocError) -> RoutineFault {
+        RoutineFault::NoMemory
     }
 }

@@ -14,5 +14,5 @@ mod times;
 mod work;
 
 pub use check::check_routines;
-pub use fault::{CheckFault, StepFault};
+pub use fault::{RoutineFault, StepFault};
 pub use names::{check_name, check_names};

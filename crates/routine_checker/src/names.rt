@@ -1,10 +1,10 @@
 //! The nodes that are asked for by name.
 
-ghost use Rattle.std.specs.Prelude.{◌≡◌, ◌≢◌, ◌==◌, All, IfErr, OnOk, OnErr, IsSome, IsTrue, Some, None};
+ghost use Rattle.std.specs.Prelude.{◌≡◌, All, IfErr, OnOk, OnErr, IsSome, Some};
 ghost use Rattle.marshal_program.specs.Served.{served_by};
 ghost use Rattle.routine_checker.specs.Steps.{name_fault, has_routine};
 
-use crate::fault::CheckFault;
+use crate::fault::RoutineFault;
 use marshal_program::{Program, Routine};
 
 fn has_routine(program: &[Routine], node: u32) -> bool
@@ -17,7 +17,7 @@ fn has_routine(program: &[Routine], node: u32) -> bool
 ///
 /// # Errors
 /// `NamedEntryNotFull` where some routine is one of the node, else `NoRoutine`.
-pub fn check_name(program: &Program, node: u32) -> Result<(), CheckFault>
+pub fn check_name(program: &Program, node: u32) -> Result<(), RoutineFault>
     ensures ok { OnOk result (IsSome (served_by program.now node)) }
     ensures refused { OnErr result (IsSome (served_by program.now node) → ⊥) }
     ensures fault { IfErr result (λ fault. name_fault program.now node ≡ Some fault) }
@@ -25,9 +25,9 @@ pub fn check_name(program: &Program, node: u32) -> Result<(), CheckFault>
     if program.serving(node).is_some() {
         Ok(())
     } else if has_routine(program.routines(), node) {
-        Err(CheckFault::NamedEntryNotFull { node })
+        Err(RoutineFault::NamedEntryNotFull { node })
     } else {
-        Err(CheckFault::NoRoutine { node })
+        Err(RoutineFault::NoRoutine { node })
     }
 }
 
@@ -37,7 +37,7 @@ pub fn check_name(program: &Program, node: u32) -> Result<(), CheckFault>
 /// # Errors
 /// Of the first that has none: `NamedEntryNotFull` where some routine is one of the node, else
 /// `NoRoutine`.
-pub fn check_names(names: &[(&Program, u32)]) -> Result<(), CheckFault>
+pub fn check_names(names: &[(&Program, u32)]) -> Result<(), RoutineFault>
     ensures served { OnOk result (All (λ name. IsSome (served_by name.0.now name.1)) names.now) }
     ensures refused { OnErr result (All (λ name. IsSome (served_by name.0.now name.1)) names.now → ⊥) }
 {

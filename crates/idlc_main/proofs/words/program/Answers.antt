@@ -1,28 +1,18 @@
-use Rattle.std.proofs.Common.{codes, ap, ap₂, Bool, true, false, not, ◌&&◌, ◌≡◌, ◌∙◌}
-use Rattle.std.proofs.lemmas.Bool.{and_parts, not-true}
+use Rattle.std.proofs.Common.{codes, ap, ap₂, ◌≡◌, ◌∙◌}
 use Rattle.std.proofs.lemmas.Result.{IfOk-weaker}
-use Rattle.clap.specs.Words.{App, app_of, new_app, with_subcommand}
+use Rattle.clap.specs.Words.{App, app_of, with_subcommand}
 use Rattle.clap.specs.Simple.{app_of_fields}
-use Rattle.clap.specs.declared.builder.value_parser.ValueParser.TheVariants.{Names}
-use Rattle.idlc_main.specs.Words.{command_app}
+use Rattle.idlc_main.specs.Words.{table_app, upgrade_app}
+use Rattle.idlc_main.proofs.Globals.{no_globals}
 use Rattle.idlc_main.proofs.words.program.Goals as goal
-
--- a plain command has no global argument
-no_globals : (groups external globals rest : Bool) → (groups && (not external && (not globals && rest))) ≡ true → globals ≡ false
-no_globals groups external globals rest plain =
-    not-true globals (and_parts _ _ (and_parts _ _ (and_parts groups _ plain).1).1).0
-
-abbrev required : App → App
-required app = record app { top = record app.top { subcommand_required = true } }
 
 pub returns : goal.returns
 returns c =
-    let encode_is : app_of c.about-2.result ≡ command_app (Names c.args.orders) (codes "encode") =
-    ap app_of_fields c.about-2.ensures ∙ c.in_ok-encode.ensures in
-    let decode_is : app_of c.about-3.result ≡ command_app (Names c.args.orders) (codes "decode") =
-    ap app_of_fields c.about-3.ensures ∙ c.in_ok-decode.ensures in
-    let none_is : app_of c.subcommand_required.result ≡ required (new_app (codes "idlc")) =
-    ap app_of_fields c.subcommand_required.ensures ∙ ap required (ap app_of_fields c.about.ensures ∙ c.new.ensures.app) in
-    IfOk-weaker c.subcommand-2.result _ _ (λ program h. h.shape (no_globals _ _ _ _ (ap (λ (a : App). a.top.is_plain) decode_is))
-    ∙ ap₂ with_subcommand (c.in_ok-subcommand.ensures.shape (no_globals _ _ _ _ (ap (λ (a : App). a.top.is_plain) encode_is))
-    ∙ ap₂ with_subcommand none_is (ap (λ (a : App). a.top) encode_is)) (ap (λ (a : App). a.top) decode_is)) c.subcommand-2.ensures
+    let check_is : app_of c.about.result ≡ table_app (codes "check") = ap app_of_fields c.about.ensures ∙ c.in_ok-check.ensures in
+    let show_is : app_of c.about-2.result ≡ table_app (codes "show") = ap app_of_fields c.about-2.ensures ∙ c.in_ok-show.ensures in
+    let upgrade_is : app_of c.about-3.result ≡ upgrade_app = ap app_of_fields c.about-3.ensures ∙ c.in_ok-upgrade.ensures in
+    IfOk-weaker c.subcommand-3.result _ _ (λ program h. h.shape (no_globals _ _ _ _ (ap (λ (a : App). a.top.is_plain) upgrade_is))
+    ∙ ap₂ with_subcommand (c.in_ok-subcommand-2.ensures.shape (no_globals _ _ _ _ (ap (λ (a : App). a.top.is_plain) show_is))
+    ∙ ap₂ with_subcommand (c.in_ok-subcommand.ensures.shape (no_globals _ _ _ _ (ap (λ (a : App). a.top.is_plain) check_is))
+    ∙ ap₂ with_subcommand c.in_ok-value_commands.ensures (ap (λ (a : App). a.top) check_is)) (ap (λ (a : App). a.top) show_is))
+    (ap (λ (a : App). a.top) upgrade_is)) c.subcommand-3.ensures

@@ -1,7 +1,15 @@
-use Rattle.std.proofs.Common.{sym}
-use Rattle.position_checker.proofs.Acceptance.{write_refused}
+use Rattle.std.proofs.Common.{◌∙◌, ap, subst}
+use Rattle.table_file.specs.Table.{TableParts, program_at}
+use Rattle.position_checker.specs.Acceptance.{IsRight}
+use Rattle.position_checker.proofs.Acceptance.{write_found, write_refused}
 use Rattle.position_checker.proofs.accepted.Accepted.write.Goals as goal
+
+pub returns-clause-found : goal.returns-clause-found
+returns-clause-found c =
+    let right : IsRight c.args.self.now = subst IsRight c.self.view_is c.self.invariant.0 in
+    write_found c.args.self.now right c.args.order c.args.node _ _ c.args.pos c.serving-program.ensures.serves c.program.result.now (c.program.ensures.value ∙ ap (λ (t : TableParts). program_at t c.serving-program.result.program) c.self.view_is) (λ octets. octets.items) c.args.tape.now c.write.result c.write.ensures.found
 
 pub returns-clause-refused : goal.returns-clause-refused
 returns-clause-refused c =
-    rw (← c.self.view_is) (write_refused (record { graph = c.self.inside.graph; program = c.self.inside.program }) c.self.invariant c.args.order c.args.node c.in-Some.routine c.args.pos c.args.tape.now (sym c.in-Some.ensures.value) c.write.result c.write.ensures.refused)
+    let right : IsRight c.args.self.now = subst IsRight c.self.view_is c.self.invariant.0 in
+    write_refused c.args.self.now right c.args.order c.args.node _ _ c.args.pos c.serving-program.ensures.serves c.program.result.now (c.program.ensures.value ∙ ap (λ (t : TableParts). program_at t c.serving-program.result.program) c.self.view_is) c.args.tape.now c.write.result c.write.ensures.refused

@@ -1,0 +1,75 @@
+//! Tables by their names: the sample, or files.
+
+ghost use Rattle.std.specs.Prelude.{◌≡◌, ◌≢◌, ◌⊎◌, codes, IfOk, IfErr};
+ghost use Rattle.position_checker.specs.Acceptance.{IsRight};
+ghost use Rattle.table_commands.specs.Sample.{sample_table};
+ghost use Rattle.idlc_main.specs.Answer.{IsFileFault};
+ghost use Rattle.idlc_main.specs.Fault.{IsTold};
+
+use crate::fault::Fault;
+use position_checker::Accepted;
+use std::fs::Files;
+use table_commands::{MAX_LEN, Refusal, accepted, sample};
+use whole_files::{ReadFault, WriteFault, read_whole, write_whole};
+
+/// The name by which the commands know the sample table.
+pub const SAMPLE: &str = "builtin";
+
+fn octets_in<'a, R: Files + AllocGlobal>(rt: &R, file: &'a str) -> Result<Vec<u8>, Fault<'a>>
+    ensures fault { IfErr result (IsFileFault file.now) }
+    ensures told { IfErr result IsTold }
+{
+    match read_whole(rt, file, MAX_LEN) {
+        Ok(octets) => Ok(octets),
+        Err(ReadFault::Unread) => Err(Fault::Unread { file }),
+        Err(ReadFault::TooLong) => Err(Fault::Refused(Refusal::TooLong)),
+        Err(ReadFault::NoMemory) => Err(Fault::NoMemory),
+    }
+}
+
+fn table_in<'a, R: Files + AllocGlobal>(rt: &R, file: &'a str) -> Result<Accepted, Fault<'a>>
+    ensures right { IfOk result IsRight }
+    ensures fault { IfErr result (IsFileFault file.now) }
+    ensures told { IfErr result IsTold }
+{
+    let octets = match octets_in(rt, file) {
+        Ok(octets) => octets,
+        Err(fault) => return Err(fault),
+    };
+    match accepted(rt.alloc(), octets.as_slice()) {
+        Ok(table) => Ok(table),
+        Err(refusal) => Err(Fault::from(refusal)),
+    }
+}
+
+/// The table of a name: the sample, or that of a file, which is checked before it is used.
+pub fn table_of<'a, R: Files + AllocGlobal>(rt: &R, name: &'a str) -> Result<Accepted, Fault<'a>>
+    ensures sample { name.now ≡ codes "builtin" → IfOk result (λ table. table ≡ sample_table) }
+    ensures right { IfOk result IsRight }
+    ensures memory { name.now ≡ codes "builtin" → IfErr result (λ fault. fault ≡ Fault.NoMemory) }
+    ensures fault { IfErr result (IsFileFault name.now) }
+    ensures told { IfErr result IsTold }
+{
+    if name == SAMPLE {
+        return match sample(rt.alloc()) {
+            Ok(table) => Ok(table),
+            Err(_) => Err(Fault::NoMemory),
+        };
+    }
+    table_in(rt, name)
+}
+
+/// Writes a table's octets to a file.
+pub fn put<'a, R: Files + AllocGlobal>(
+    rt: &R,
+    file: &'a str,
+    octets: &[u8],
+) -> Result<(), Fault<'a>>
+    ensures told { IfErr result IsTold }
+{
+    match write_whole(rt, file, octets) {
+        Ok(()) => Ok(()),
+        Err(WriteFault::Unwritten) => Err(Fault::Unmade { file }),
+        Err(WriteFault::NoMemory) => Err(Fault::NoMemory),
+    }
+}

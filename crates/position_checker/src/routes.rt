@@ -1,0 +1,68 @@
+//! The routines that serve the nodes of names.
+
+ghost use Rattle.std.specs.Prelude.{◌≡◌, ◌<◌, ℕ, length, slice_get, IfOk, IfErr, OnOk, IsSome, Some};
+ghost use Rattle.marshal_program.specs.Served.{served_by};
+ghost use Rattle.table_file.specs.declared.table.Use.{Use};
+ghost use Rattle.table_file.specs.Table.{program_at};
+ghost use Rattle.position_checker.specs.Acceptance.{IsLone, Uses};
+ghost use Rattle.position_checker.specs.Refusal.{OnlyIf};
+ghost use Rattle.position_checker.specs.Routes.{AreRoutes};
+
+use crate::fault::CheckFault;
+use routine_checker::check_name;
+use std::alloc::Global;
+use table_file::{Table, Use};
+
+/// Where the routine of a node stands: which of the two programs, and its number there.
+#[derive(Clone, Copy, Debug)]
+pub(crate) struct Route {
+    pub program: Use,
+    pub routine: u32,
+}
+
+/// The routine of a program that serves the node.
+fn found(table: &Table, program: Use, node: u32) -> Result<Route, CheckFault>
+    ensures program { IfOk result (λ route. route.program ≡ program) }
+    ensures served { IfOk result (λ route. served_by (program_at table.now program) node ≡ Some route.routine) }
+    ensures refused { IfErr result (λ fault. OnlyIf fault (IsSome (served_by (program_at table.now program) node) → ⊥)) }
+{
+    let routines = table.program(program);
+    match check_name(routines, node) {
+        Ok(()) => (),
+        Err(fault) => return Err(CheckFault::of(program, fault)),
+    }
+    match routines.serving(node) {
+        Some(routine) => Ok(Route { program, routine }),
+        None => unreachable!(),
+    }
+}
+
+/// The routine that serves the node of the name at a place.
+fn named(table: &Table, place: usize, node: u32) -> Result<Route, CheckFault>
+    requires place { place < length table.now.uses }
+    ensures used { IfOk result (λ route. slice_get table.now.uses place ≡ Some route.program) }
+    ensures served { IfOk result (λ route. served_by (program_at table.now route.program) node ≡ Some route.routine) }
+    ensures refused { IfErr result (λ fault. OnlyIf fault ((program : Use) → slice_get table.now.uses place ≡ Some program → IsSome (served_by (program_at table.now program) node) → ⊥)) }
+{
+    match table.uses().get(place) {
+        Some(program) => found(table, *program, node),
+        None => unreachable!(),
+    }
+}
+
+/// For each node of a name the routine that serves it.
+pub(crate) fn routes_of(alloc: Global, table: &Table) -> Result<Vec<Option<Route>>, CheckFault>
+    ensures routes { IfOk result (λ routes. AreRoutes table.now routes.items) }
+    ensures served { OnOk result ((node : ℕ) (program : Use) → Uses table.now node program → IsSome (served_by (program_at table.now program) node)) }
+    ensures refused { IfErr result (λ fault. OnlyIf fault (IsLone table.now → ⊥)) }
+{
+    let mut routes = vec![in alloc; None; table.model().graph().nodes().len()]?;
+    for place in 0..table.uses().len() {
+        let node = table.model().names().pair(place).1;
+        match named(table, place, node) {
+            Ok(route) => routes[node as usize] = Some(route),
+            Err(fault) => return Err(fault),
+        }
+    }
+    Ok(routes)
+}

@@ -1,0 +1,13 @@
+pub mod Worked
+pub mod WorkedIds
+pub mod Lookups
+pub mod Inheriting
+pub mod Stability
+pub mod Tied
+pub mod Walks
+pub mod FirstBase
+pub mod Paths
+pub mod PrefixesKept
+pub mod IdsGiven
+pub mod IdFormats
+pub mod PragmasSaid

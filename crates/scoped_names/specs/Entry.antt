@@ -1,0 +1,40 @@
+-- A declared name as contracts see it, and scopes. Entries have numbers from 0, in order of declaration. A scope is 0
+-- for the whole file, else one more than the number of the entry whose scope it is.
+use Rattle.std.specs.Prelude.{ℕ, zero, suc, Bool, ◌&&◌, nat_eq, List, [], position, slice_get, Option, Some, None}
+use Rattle.idl_lexer.specs.Words.{same_but_for_case}
+use Rattle.scoped_names.specs.declared.entry.EntryKind.{EntryKind}
+use Rattle.scoped_names.specs.declared.entry.Base.{Base}
+
+-- a name that is declared in a scope, and found by names behind the token; the bases of an interface in order
+pub record Entry : Type 0 where
+  pub scope : ℕ
+  pub name : List ℕ
+  pub token : ℕ
+  pub kind : EntryKind
+  pub bases : List Base
+
+-- the entry is the scope's of that name, whatever the case of its letters
+abbrev pub is_named : ℕ → List ℕ → Entry → Bool
+is_named scope name e = nat_eq scope e.scope && same_but_for_case name e.name
+
+-- the number of the scope's entry of that name
+abbrev pub named : List Entry → ℕ → List ℕ → Option ℕ
+named entries scope name = position (is_named scope name) entries
+
+abbrev pub bases_in : Option Entry → List Base
+bases_in None = []
+bases_in (Some e) = e.bases
+
+-- the bases of the interface whose scope it is
+abbrev pub bases_of : List Entry → ℕ → List Base
+bases_of entries zero = []
+bases_of entries (suc e) = bases_in (slice_get entries e)
+
+abbrev pub scope_in : Option Entry → ℕ
+scope_in None = 0
+scope_in (Some e) = e.scope
+
+-- the scope around a scope
+abbrev pub around : List Entry → ℕ → ℕ
+around entries zero = 0
+around entries (suc e) = scope_in (slice_get entries e)

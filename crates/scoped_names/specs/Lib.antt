@@ -1,0 +1,9 @@
+-- What a specification declares, and what a name finds.
+pub mod Entry
+pub mod Search
+pub mod Entries
+pub mod RepositoryIds
+pub mod IdPragmas
+pub mod Keys
+pub mod Records
+pub mod IdsKept

@@ -1,0 +1,18 @@
+//! What the names of an IDL specification mean (ISO/IEC 19500-1, names and scoping).
+#![tactic(auto)]
+
+mod declarations;
+pub mod entry;
+pub mod fault;
+mod key;
+pub mod names;
+mod record;
+mod repository_ids;
+mod search;
+mod specification;
+mod types;
+
+pub use entry::{Base, EntryKind};
+pub use fault::NameFault;
+pub use names::Names;
+pub use specification::bind;

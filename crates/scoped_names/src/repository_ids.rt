@@ -1,0 +1,213 @@
+//! Repository ids (ISO/IEC 19500-1, repository identifiers, and pragma directives for repository ids).
+
+ghost use Rattle.std.specs.Prelude.{◌≡◌, ◌++◌, ◌<◌, ◌≤◌, ◌↔◌, ◌⊎◌, ℕ, [], ◌∷◌, length, map, slice_get, Some, IfOk, OnOk, IfErr, OnErr, IsTrue};
+ghost use Rattle.std.specs.List.Sorted.{IsNonDecreasingBy};
+ghost use Rattle.std.specs.String.{string_bytes};
+ghost use Rattle.scoped_names.specs.Records.{AreNested, entries_in};
+ghost use Rattle.scoped_names.specs.RepositoryIds.{path, with_slashes, idl_format, prefix_from, repository_id, AreWith, IsAlike, IsTwice, PrefixSet};
+ghost use Rattle.scoped_names.specs.IdsKept.{given_of, prefix_of, pragma_of};
+ghost use Rattle.scoped_names.specs.declared.fault.NameFault.TheVariants.{NoMemory, IdTwice};
+
+use crate::fault::NameFault;
+use crate::record::Record;
+use indexmap::IndexMap;
+use std::alloc::{AllocError, Global};
+use std::marker::Model;
+
+const SEPARATOR: &str = "/";
+
+/// What a pragma gives to a name.
+#[derive(Clone, Copy, Debug)]
+pub(crate) enum PragmaId<'a> {
+    /// The whole id.
+    Whole(&'a str),
+    /// The version, behind the last colon.
+    Version(&'a str),
+}
+
+/// A prefix that is set, and the token of its pragma.
+#[derive(Clone, Copy, Debug)]
+pub(crate) struct Prefix<'a> {
+    pub token: usize,
+    pub text: &'a str,
+}
+
+/// What the pragmas of a specification say of repository ids.
+#[derive(Debug, Drop)]
+pub(crate) struct IdPragmas<'a> {
+    prefixes: Vec<Prefix<'a>>,
+    given: IndexMap<usize, PragmaId<'a>>,
+}
+
+impl<'a> Model for IdPragmas<'a> {
+    ghost use Rattle.std.specs.Prelude.{map};
+    ghost use Rattle.std.specs.List.Sorted.{IsNonDecreasingBy};
+    ghost use Rattle.scoped_names.specs.RepositoryIds.{IdRules};
+    ghost use Rattle.scoped_names.specs.IdsKept.{prefix_of, pragma_of};
+
+    ghost Value = { IdRules };
+
+    ghost view = { λ p. record { prefixes = map prefix_of p.prefixes.items; pragmas = map pragma_of p.given.entries } };
+
+    ghost invariant = { λ p. IsNonDecreasingBy (λ x. x.token) p.prefixes.items };
+}
+
+/// The names from the outermost scope to an entry's, its own the last.
+fn path_to<'a>(
+    alloc: Global,
+    records: &[Record<'a>],
+    entry: usize,
+) -> Result<Vec<&'a str>, AllocError>
+    requires nested { AreNested records.now }
+    requires there { entry < length records.now }
+    ensures { IfOk result (λ v. map (λ n. n.now) v.items ≡ path (entries_in records.now) entry) }
+{
+    let mut names = Vec::new(alloc);
+    let mut scope = entry + 1;
+    while scope > 0 {
+        let key = records[scope - 1].key;
+        names.push(key.word.text)?;
+        scope = key.scope;
+    }
+    names.reverse();
+    Ok(names)
+}
+
+/// Adds names with slashes between them.
+fn push_path(out: &mut String, names: &[&str]) -> Result<(), AllocError>
+    ensures { OnOk result (string_bytes out.new ≡
+        string_bytes out.old ++ with_slashes (map (λ n. n.now) names.now)) }
+{
+    let Some((first, rest)) = names.split_first() else {
+        return Ok(());
+    };
+    out.push_str(first)?;
+    for name in rest {
+        out.push_str(SEPARATOR)?;
+        out.push_str(name)?;
+    }
+    Ok(())
+}
+
+/// An id of the OMG IDL format.
+fn id_text(alloc: Global, prefix: &str, names: &[&str], version: &str) -> Result<String, AllocError>
+    ensures { IfOk result (λ t. string_bytes t ≡
+        idl_format prefix.now (map (λ n. n.now) names.now) version.now) }
+{
+    let mut out = String::from_str(alloc, "IDL:")?;
+    if !prefix.is_empty() {
+        out.push_str(prefix)?;
+        out.push_str(SEPARATOR)?;
+    }
+    push_path(&mut out, names)?;
+    out.push_str(":")?;
+    out.push_str(version)?;
+    Ok(out)
+}
+
+/// Whether two pragmas give the same.
+fn is_same(one: PragmaId<'_>, other: PragmaId<'_>) -> bool
+    ensures { IsTrue result ↔ (given_of one.entry ≡ given_of other.entry) }
+{
+    match (one, other) {
+        (PragmaId::Whole(one), PragmaId::Whole(other)) => one.as_bytes() == other.as_bytes(),
+        (PragmaId::Version(one), PragmaId::Version(other)) => one.as_bytes() == other.as_bytes(),
+        _ => false,
+    }
+}
+
+/// The prefix before a token.
+fn prefix_before<'a>(prefixes: &[Prefix<'a>], token: usize) -> &'a str
+    requires { IsNonDecreasingBy (λ x. x.token) prefixes.now }
+    ensures { result.now ≡ prefix_from [] (map prefix_of prefixes.now) token }
+{
+    let behind = prefixes.partition_point(|prefix| prefix.token < token);
+    if behind == 0 {
+        ""
+    } else {
+        prefixes[behind - 1].text
+    }
+}
+
+impl<'a> IdPragmas<'a> {
+    /// No pragmas. Takes no memory.
+    pub fn new(alloc: Global) -> Self
+        ensures { result ≡ record { prefixes = []; pragmas = [] } }
+    {
+        IdPragmas {
+            prefixes: Vec::new(alloc),
+            given: IndexMap::new(alloc),
+        }
+    }
+
+    /// Sets a prefix from a token on, which no other that is set stands behind.
+    ///
+    /// # Errors
+    ///
+    /// `AllocError` where memory was refused; then nothing changed.
+    pub fn set_prefix(&mut self, token: usize, text: &'a str) -> Result<(), AllocError>
+        requires { (k : ℕ) (p : PrefixSet) → slice_get self.old.prefixes k ≡ Some p → p.token ≤ token }
+        ensures ok { OnOk result (self.new ≡
+            record self.old { prefixes = self.old.prefixes ++ record { token = token; text = text.entry.now } ∷ [] }) }
+        ensures err { OnErr result (self.new ≡ self.old) }
+    {
+        self.prefixes.push(Prefix { token, text })?;
+        Ok(())
+    }
+
+    /// Whether the same prefix holds at two tokens, as at the declarations of one type it has to.
+    pub fn is_same_prefix(&self, one: usize, other: usize) -> bool
+        ensures { IsTrue result ↔ (prefix_from [] self.now.prefixes one ≡ prefix_from [] self.now.prefixes other) }
+    {
+        let prefixes = self.prefixes.as_slice();
+        prefix_before(prefixes, one).as_bytes() == prefix_before(prefixes, other).as_bytes()
+    }
+
+    /// Gives an id or a version to an entry. What it has already may be given again.
+    ///
+    /// # Errors
+    ///
+    /// `IdTwice` with the line where the entry has another, `NoMemory`; then nothing changed.
+    pub fn give(&mut self, entry: usize, given: PragmaId<'a>, line: usize) -> Result<(), NameFault>
+        ensures given { OnOk result (AreWith (pragma_of (entry, given.entry)) self.old.pragmas self.new.pragmas) }
+        ensures alike { OnOk result (IsAlike (pragma_of (entry, given.entry)) self.old.pragmas) }
+        ensures prefixes { self.new.prefixes ≡ self.old.prefixes }
+        ensures err { OnErr result (self.new ≡ self.old) }
+        ensures refused { IfErr result (λ fault. (fault ≡ NoMemory)
+            ⊎ ((fault ≡ IdTwice line) × IsTwice (pragma_of (entry, given.entry)) self.old.pragmas)) }
+    {
+        match self.given.get(&entry) {
+            Some(other) if is_same(*other, given) => Ok(()),
+            Some(_) => Err(NameFault::IdTwice { line }),
+            None => {
+                self.given.insert(entry, given)?;
+                Ok(())
+            }
+        }
+    }
+
+    /// The repository id of an entry.
+    ///
+    /// # Errors
+    ///
+    /// `AllocError` where memory was refused.
+    pub fn repository_id(
+        &self,
+        alloc: Global,
+        records: &[Record<'_>],
+        entry: usize,
+    ) -> Result<String, AllocError>
+        requires nested { AreNested records.now }
+        requires there { entry < length records.now }
+        ensures { IfOk result (λ id. string_bytes id ≡ repository_id (entries_in records.now) self.now entry) }
+    {
+        let version = match self.given.get(&entry) {
+            Some(PragmaId::Whole(text)) => return String::from_str(alloc, text),
+            Some(PragmaId::Version(number)) => *number,
+            None => "1.0",
+        };
+        let prefix = prefix_before(self.prefixes.as_slice(), records[entry].token);
+        let path = path_to(alloc, records, entry)?;
+        id_text(alloc, prefix, path.as_slice(), version)
+    }
+}

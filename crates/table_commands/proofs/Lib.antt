@@ -1,0 +1,2 @@
+pub mod SampleRules
+pub mod AnswerLaws

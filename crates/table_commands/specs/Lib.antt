@@ -1,0 +1,4 @@
+pub mod Sample
+pub mod Lines
+pub mod Answer
+pub mod Refusal

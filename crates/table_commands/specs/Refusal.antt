@@ -1,0 +1,39 @@
+-- What the faults of other calls are to a command.
+use Rattle.program_runner.specs.declared.fault.RunFault.{RunFault}
+use Rattle.program_runner.specs.declared.fault.RunFault.TheVariants as runs
+use Rattle.marshal_program.specs.declared.fault.TableFault.{TableFault}
+use Rattle.marshal_program.specs.declared.fault.TableFault.TheVariants as files
+use Rattle.position_checker.specs.declared.fault.CheckFault.{CheckFault}
+use Rattle.position_checker.specs.declared.fault.CheckFault.TheVariants as checks
+use Rattle.table_commands.specs.declared.refusal.Refusal.{Refusal}
+use Rattle.table_commands.specs.declared.refusal.Refusal.TheVariants.{NoTable, NotRight, Refused, NoMemory}
+
+abbrev pub refusal_of_run : RunFault → Refusal
+refusal_of_run runs.NoMemory = NoMemory
+refusal_of_run fault = Refused fault
+
+abbrev pub refusal_of_file : TableFault → Refusal
+refusal_of_file files.NoMemory = NoMemory
+refusal_of_file fault = NoTable fault
+
+abbrev pub refusal_of_check : CheckFault → Refusal
+refusal_of_check checks.NoMemory = NoMemory
+refusal_of_check fault = NotRight fault
+
+-- want of memory is the cause, or the fact holds
+abbrev pub OnlyIf : Refusal → Type 0 → Type 0
+OnlyIf NoMemory fact = Unit {0}
+OnlyIf refusal fact = fact
+
+-- a refusal that a run may have
+abbrev pub IsOfRun : Refusal → Type 0
+IsOfRun (Refused fault) = Unit {0}
+IsOfRun NoMemory = Unit {0}
+IsOfRun refusal = ⊥
+
+-- a refusal of octets that are to be a right table
+abbrev pub IsOfTable : Refusal → Type 0
+IsOfTable (NoTable fault) = Unit {0}
+IsOfTable (NotRight fault) = Unit {0}
+IsOfTable NoMemory = Unit {0}
+IsOfTable refusal = ⊥

@@ -1,0 +1,77 @@
+//! Why a command isn't answered.
+
+ghost use Rattle.std.specs.Prelude.{◌≡◌};
+ghost use Rattle.table_commands.specs.declared.refusal.Refusal.TheVariants.{NoMemory};
+ghost use Rattle.table_commands.specs.Refusal.{refusal_of_check, refusal_of_file, refusal_of_run};
+
+use marshal_program::TableFault;
+use position_checker::CheckFault;
+use program_runner::RunFault;
+use std::alloc::AllocError;
+use thiserror::Error;
+
+/// A refusal has as its text the line that the program puts behind its name.
+#[derive(Debug, Drop, Error)]
+pub enum Refusal<'a> {
+    /// The octets are no table's.
+    #[error(transparent)]
+    NoTable(TableFault),
+    /// The table isn't right.
+    #[error(transparent)]
+    NotRight(CheckFault),
+    /// The table has more octets than a file may have.
+    #[error("too long")]
+    TooLong,
+    /// The table has no type of that name.
+    #[error("no type {name}")]
+    NoType { name: &'a str },
+    /// An odd number of digits, or a character that is none.
+    #[error("bad hex")]
+    BadHex,
+    /// The tape or the octets are no value's.
+    #[error(transparent)]
+    Refused(RunFault),
+    #[error("no memory")]
+    NoMemory,
+}
+
+impl<'a> From<AllocError> for Refusal<'a> {
+    ghost from_gives = { λ _ refusal. refusal ≡ NoMemory };
+
+    fn from(_error: AllocError) -> Refusal<'a> {
+        Refusal::NoMemory
+    }
+}
+
+impl<'a> From<RunFault> for Refusal<'a> {
+    ghost from_gives = { λ fault refusal. refusal ≡ refusal_of_run fault };
+
+    fn from(fault: RunFault) -> Refusal<'a> {
+        match fault {
+            RunFault::NoMemory => Refusal::NoMemory,
+            fault => Refusal::Refused(fault),
+        }
+    }
+}
+
+impl<'a> From<TableFault> for Refusal<'a> {
+    ghost from_gives = { λ fault refusal. refusal ≡ refusal_of_file fault };
+
+    fn from(fault: TableFault) -> Refusal<'a> {
+        match fault {
+            TableFault::NoMemory => Refusal::NoMemory,
+            fault => Refusal::NoTable(fault),
+        }
+    }
+}
+
+impl<'a> From<CheckFault> for Refusal<'a> {
+    ghost from_gives = { λ fault refusal. refusal ≡ refusal_of_check fault };
+
+    fn from(fault: CheckFault) -> Refusal<'a> {
+        match fault {
+            CheckFault::NoMemory => Refusal::NoMemory,
+            fault => Refusal::NotRight(fault),
+        }
+    }
+}

@@ -1,0 +1,54 @@
+//! Tables from octets, octets from tables.
+
+ghost use Rattle.std.specs.Prelude.{◌≤◌, ◌⊎◌, length, IfOk, IfErr};
+ghost use Rattle.table_file.specs.TableSpelling.{Spells, SpellsOld};
+ghost use Rattle.position_checker.specs.Acceptance.{IsRight};
+ghost use Rattle.table_commands.specs.Refusal.{IsOfTable};
+
+use crate::refusal::Refusal;
+use position_checker::{Accepted, check};
+use std::alloc::{AllocError, Global};
+use table_file::{decode_table, encode_table};
+use table_listing::Listing;
+
+/// So many octets a table file has at most.
+pub const MAX_LEN: u32 = 16_777_216;
+
+/// The table of these octets, of version 1 or 2, which was found right.
+///
+/// # Errors
+/// `NoTable` where they are none's, `NotRight` where its routines aren't.
+pub fn accepted<'a>(alloc: Global, octets: &[u8]) -> Result<Accepted, Refusal<'a>>
+    ensures spelled { IfOk result (λ table. Spells table octets.now ⊎ SpellsOld table octets.now) }
+    ensures right { IfOk result IsRight }
+    ensures refused { IfErr result IsOfTable }
+{
+    let table = match decode_table(alloc, octets) {
+        Ok(table) => table,
+        Err(fault) => return Err(Refusal::from(fault)),
+    };
+    match check(alloc, table) {
+        Ok(accepted) => Ok(accepted),
+        Err(refused) => Err(Refusal::from(refused.fault)),
+    }
+}
+
+/// The octets of a table, in the newest version.
+///
+/// # Errors
+/// `NoTable` where it can't be spelled, `TooLong` where it has more octets than a file may have.
+pub fn upgraded<'a>(alloc: Global, table: &Accepted) -> Result<Vec<u8>, Refusal<'a>>
+    ensures spelled { IfOk result (λ octets. Spells table.now octets.items) }
+    ensures within { IfOk result (λ octets. length octets.items ≤ 16777216) }
+{
+    match encode_table(alloc, table.table()) {
+        Ok(octets) if octets.len() > MAX_LEN as usize => Err(Refusal::TooLong),
+        Ok(octets) => Ok(octets),
+        Err(fault) => Err(Refusal::from(fault)),
+    }
+}
+
+/// The listing of a table.
+pub fn listing(alloc: Global, table: &Accepted) -> Result<String, AllocError> {
+    format!(in alloc; "{}", Listing(table))
+}

@@ -1,0 +1,10 @@
+pub mod ReadLaws
+pub mod VariantReads
+pub mod ListReads
+pub mod LabelOctets
+pub mod TextReads
+pub mod Sets
+pub mod SeenUses
+pub mod NamesWritten
+pub mod Decoded
+pub mod WorkedFiles

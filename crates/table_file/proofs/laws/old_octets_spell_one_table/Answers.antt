@@ -1,0 +1,5 @@
+use Rattle.table_file.specs.TableCodes.{one_old_table}
+use Rattle.table_file.proofs.laws.old_octets_spell_one_table.Goals as goal
+
+pub returns : goal.returns
+returns c = λ table other octets t u one two. one_old_table table other octets t.uses.each u.uses.each one two

@@ -1,0 +1,219 @@
+//! Instructions of a routine.
+
+ghost use Rattle.std.specs.Fmt.{◌++?◌};
+ghost use Rattle.table_file.specs.Octets.{spelled_list, spelled_maybe};
+ghost use Rattle.table_file.specs.Spelling.{spelled_arm, spelled_disc};
+ghost use Rattle.table_file.specs.Reading.{Writes};
+
+use crate::cursor::Cursor;
+use crate::part::Part;
+use marshal_program::{Disc, Instr, TableFault};
+use type_graph::{Arms, Width};
+
+impl Part for Disc {
+    ghost use Rattle.table_file.specs.DiscCode.{disc_code};
+
+    ghost spelled = { spelled_disc };
+
+    fn read(cursor: &mut Cursor<'_>) -> Result<Self, TableFault> {
+        match cursor.octet()? {
+            0 => Ok(Disc::Char),
+            1 => Ok(Disc::Boolean),
+            2 => {
+                let (width, signed) = <(Width, bool)>::read(cursor)?;
+                Ok(Disc::Word { width, signed })
+            }
+            3 => {
+                let n = u32::read(cursor)?;
+                Ok(Disc::Enum { n })
+            }
+            _ => Err(TableFault::NotATable),
+        }
+    }
+
+    fn write(&self, out: &mut Vec<u8>) -> Result<(), TableFault> {
+        match self {
+            Disc::Char => 0u8.write(out),
+            Disc::Boolean => 1u8.write(out),
+            Disc::Word { width, signed } => {
+                2u8.write(out)?;
+                width.write(out)?;
+                signed.write(out)
+            }
+            Disc::Enum { n } => {
+                3u8.write(out)?;
+                n.write(out)
+            }
+        }
+    }
+
+    ghost is_code = { disc_code };
+}
+
+/// Puts what a switch says behind what was written before.
+fn write_switch(
+    disc: &Disc,
+    arms: &Arms,
+    otherwise: &Option<u32>,
+    out: &mut Vec<u8>,
+) -> Result<(), TableFault>
+    ensures { Writes (spelled_disc disc.now ++? spelled_list spelled_arm arms.now ++? spelled_maybe otherwise.now) result out.old.items out.new.items }
+{
+    disc.write(out)?;
+    arms.write(out)?;
+    otherwise.write(out)
+}
+
+impl Part for Instr {
+    ghost use Rattle.table_file.specs.Spelling.{spelled_instr};
+    ghost use Rattle.table_file.specs.InstrCode.{instr_code};
+
+    ghost spelled = { spelled_instr };
+
+    fn read(cursor: &mut Cursor<'_>) -> Result<Self, TableFault> {
+        match cursor.octet()? {
+            0 => {
+                let to = Width::read(cursor)?;
+                Ok(Instr::Align { to })
+            }
+            1 => {
+                let n = u32::read(cursor)?;
+                Ok(Instr::Octets { n })
+            }
+            2 => {
+                let (width, n) = <(Width, u32)>::read(cursor)?;
+                Ok(Instr::Words { width, n })
+            }
+            3 => {
+                let n = u32::read(cursor)?;
+                Ok(Instr::Bools { n })
+            }
+            4 => {
+                let limit = u32::read(cursor)?;
+                Ok(Instr::EnumWord { limit })
+            }
+            5 => {
+                let bound = u32::read(cursor)?;
+                Ok(Instr::Text { bound })
+            }
+            6 => {
+                let bound = u32::read(cursor)?;
+                Ok(Instr::SeqOctets { bound })
+            }
+            7 => {
+                let bound = u32::read(cursor)?;
+                Ok(Instr::SeqBools { bound })
+            }
+            8 => {
+                let (width, (first, bound)) = <(Width, (Width, u32))>::read(cursor)?;
+                Ok(Instr::SeqWords {
+                    width,
+                    first,
+                    bound,
+                })
+            }
+            9 => {
+                let (bound, (first, routine)) = <(u32, (Width, u32))>::read(cursor)?;
+                Ok(Instr::SeqOf {
+                    bound,
+                    first,
+                    routine,
+                })
+            }
+            10 => {
+                let (n, routine) = <(u32, u32)>::read(cursor)?;
+                Ok(Instr::Times { n, routine })
+            }
+            11 => {
+                let routine = u32::read(cursor)?;
+                Ok(Instr::Call { routine })
+            }
+            12 => {
+                let (disc, (arms, otherwise)) = <(Disc, (Arms, Option<u32>))>::read(cursor)?;
+                Ok(Instr::Switch {
+                    disc,
+                    arms,
+                    otherwise,
+                })
+            }
+            _ => Err(TableFault::NotATable),
+        }
+    }
+
+    fn write(&self, out: &mut Vec<u8>) -> Result<(), TableFault> {
+        match self {
+            Instr::Align { to } => {
+                0u8.write(out)?;
+                to.write(out)
+            }
+            Instr::Octets { n } => {
+                1u8.write(out)?;
+                n.write(out)
+            }
+            Instr::Words { width, n } => {
+                2u8.write(out)?;
+                width.write(out)?;
+                n.write(out)
+            }
+            Instr::Bools { n } => {
+                3u8.write(out)?;
+                n.write(out)
+            }
+            Instr::EnumWord { limit } => {
+                4u8.write(out)?;
+                limit.write(out)
+            }
+            Instr::Text { bound } => {
+                5u8.write(out)?;
+                bound.write(out)
+            }
+            Instr::SeqOctets { bound } => {
+                6u8.write(out)?;
+                bound.write(out)
+            }
+            Instr::SeqBools { bound } => {
+                7u8.write(out)?;
+                bound.write(out)
+            }
+            Instr::SeqWords {
+                width,
+                first,
+                bound,
+            } => {
+                8u8.write(out)?;
+                width.write(out)?;
+                first.write(out)?;
+                bound.write(out)
+            }
+            Instr::SeqOf {
+                bound,
+                first,
+                routine,
+            } => {
+                9u8.write(out)?;
+                bound.write(out)?;
+                first.write(out)?;
+                routine.write(out)
+            }
+            Instr::Times { n, routine } => {
+                10u8.write(out)?;
+                n.write(out)?;
+                routine.write(out)
+            }
+            Instr::Call { routine } => {
+                11u8.write(out)?;
+                routine.write(out)
+            }
+            Instr::Switch {
+                disc,
+                arms,
+                otherwise,
+            } => {
+                12u8.write(out)?;
+                write_switch(disc, arms, otherwise, out)
+            }
+        }
+    }
+
+    ghost is_code = { instr_code };
+}

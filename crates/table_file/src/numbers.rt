@@ -1,0 +1,133 @@
+//! Octets, words, flags, widths and labels.
+
+ghost use Rattle.std.specs.Prelude.{◌≡◌, ◌<◌, ◌^◌, ◌+◌, ◌*◌, length};
+ghost use Rattle.type_graph.specs.declared.width.Order.TheVariants.{Big};
+ghost use Rattle.type_graph.specs.Words.{plain_octets};
+
+use crate::cursor::Cursor;
+use crate::part::Part;
+use marshal_program::TableFault;
+use type_graph::Width;
+
+impl Part for u8 {
+    ghost use Rattle.table_file.specs.Octets.{spelled_octet};
+    ghost use Rattle.table_file.specs.Codes.{octet_code};
+
+    ghost spelled = { spelled_octet };
+
+    fn read(cursor: &mut Cursor<'_>) -> Result<Self, TableFault> {
+        cursor.octet()
+    }
+
+    fn write(&self, out: &mut Vec<u8>) -> Result<(), TableFault> {
+        out.push(*self)?;
+        Ok(())
+    }
+
+    ghost is_code = { octet_code };
+}
+
+/// The number of which these are the octets, the highest first.
+fn number_of_word(word: &[u8]) -> u32
+    requires { length word.now ≡ 4 }
+    ensures value { plain_octets Big 4 result ≡ word.now }
+    ensures small { result < 2 ^ 32 }
+{
+    u32::from_be_bytes([word[0], word[1], word[2], word[3]])
+}
+
+impl Part for u32 {
+    ghost use Rattle.table_file.specs.Octets.{spelled_word};
+    ghost use Rattle.table_file.specs.Codes.{word_code};
+
+    ghost spelled = { spelled_word };
+
+    fn read(cursor: &mut Cursor<'_>) -> Result<Self, TableFault> {
+        let word = cursor.take(4)?;
+        Ok(number_of_word(word))
+    }
+
+    fn write(&self, out: &mut Vec<u8>) -> Result<(), TableFault> {
+        out.extend_from_slice(&self.to_be_bytes())?;
+        Ok(())
+    }
+
+    ghost is_code = { word_code };
+}
+
+impl Part for bool {
+    ghost use Rattle.table_file.specs.Octets.{spelled_flag};
+    ghost use Rattle.table_file.specs.FlagCode.{flag_code};
+
+    ghost spelled = { spelled_flag };
+
+    fn read(cursor: &mut Cursor<'_>) -> Result<Self, TableFault> {
+        match cursor.octet()? {
+            0 => Ok(false),
+            1 => Ok(true),
+            _ => Err(TableFault::NotATable),
+        }
+    }
+
+    fn write(&self, out: &mut Vec<u8>) -> Result<(), TableFault> {
+        out.push(u8::from(*self))?;
+        Ok(())
+    }
+
+    ghost is_code = { flag_code };
+}
+
+impl Part for Width {
+    ghost use Rattle.table_file.specs.Spelling.{spelled_width};
+    ghost use Rattle.table_file.specs.Codes.{width_code};
+
+    ghost spelled = { spelled_width };
+
+    fn read(cursor: &mut Cursor<'_>) -> Result<Self, TableFault> {
+        match cursor.octet()? {
+            1 => Ok(Width::One),
+            2 => Ok(Width::Two),
+            4 => Ok(Width::Four),
+            8 => Ok(Width::Eight),
+            _ => {
+                cursor.spoil();
+                Ok(Width::One)
+            }
+        }
+    }
+
+    fn write(&self, out: &mut Vec<u8>) -> Result<(), TableFault> {
+        out.push(self.octets() as u8)?;
+        Ok(())
+    }
+
+    ghost is_code = { width_code };
+}
+
+impl Part for Option<u32> {
+    ghost use Rattle.table_file.specs.Octets.{spelled_maybe};
+    ghost use Rattle.table_file.specs.MaybeCode.{maybe_code};
+
+    ghost spelled = { spelled_maybe };
+
+    fn read(cursor: &mut Cursor<'_>) -> Result<Self, TableFault> {
+        match cursor.octet()? {
+            0 => Ok(None),
+            1 => {
+                let number = u32::read(cursor)?;
+                Ok(Some(number))
+            }
+            _ => Err(TableFault::NotATable),
+        }
+    }
+
+    fn write(&self, out: &mut Vec<u8>) -> Result<(), TableFault> {
+        self.is_some().write(out)?;
+        match self {
+            Some(number) => number.write(out),
+            None => Ok(()),
+        }
+    }
+
+    ghost is_code = { maybe_code };
+}

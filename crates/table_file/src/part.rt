@@ -1,0 +1,42 @@
+//! A part of a table file.
+
+ghost use Rattle.std.specs.Prelude.{List, ℕ, Option};
+ghost use Rattle.table_file.specs.Octets.{spelled_pair};
+ghost use Rattle.table_file.specs.Reading.{Reads, Writes};
+ghost use Rattle.table_file.specs.Codes.{IsCode};
+
+use crate::cursor::Cursor;
+use marshal_program::TableFault;
+
+/// How a part is read and written.
+pub(crate) trait Part: Sized + Drop {
+    ghost spelled: { Self → Option (List ℕ) };
+
+    fn read(cursor: &mut Cursor<'_>) -> Result<Self, TableFault>
+        ensures { Reads spelled result cursor.old cursor.new };
+
+    /// Puts the part behind what was written before.
+    fn write(&self, out: &mut Vec<u8>) -> Result<(), TableFault>
+        ensures { Writes (spelled self.now) result out.old.items out.new.items };
+
+    ghost is_code: { IsCode spelled };
+}
+
+impl<A: Part, B: Part> Part for (A, B) {
+    ghost use Rattle.table_file.specs.Codes.{pair_code};
+
+    ghost spelled = { spelled_pair A.spelled B.spelled };
+
+    fn read(cursor: &mut Cursor<'_>) -> Result<Self, TableFault> {
+        let first = A::read(cursor)?;
+        let second = B::read(cursor)?;
+        Ok((first, second))
+    }
+
+    fn write(&self, out: &mut Vec<u8>) -> Result<(), TableFault> {
+        self.0.write(out)?;
+        self.1.write(out)
+    }
+
+    ghost is_code = { pair_code A.spelled B.spelled A.is_code B.is_code };
+}

@@ -1,0 +1,79 @@
+//! Texts: names and repository ids.
+
+ghost use Rattle.std.specs.Prelude.{◌≡◌, length, true, false, nat_lt, IfOk, IfErr, OnOk};
+ghost use Rattle.std.specs.List.{list_all};
+ghost use Rattle.table_file.specs.Octets.{spelled_ascii, spelled_each, spelled_run, spelled_text};
+ghost use Rattle.table_file.specs.Reading.{OnlyIf, Reads, Writes};
+
+use crate::cursor::Cursor;
+use crate::lists::write_count;
+use crate::part::Part;
+use marshal_program::TableFault;
+use std::alloc::Global;
+use std::str;
+use type_model::Name;
+
+fn is_ascii(octets: &[u8]) -> bool
+    ensures { result ≡ list_all (λ n. nat_lt n 128) octets.now }
+{
+    octets.iter().all(|octet| *octet < 128)
+}
+
+/// The name of these octets, which have to be ASCII.
+fn name_of(alloc: Global, octets: &[u8]) -> Result<Name, TableFault>
+    ensures kept { IfOk result (λ name. name ≡ octets.now) }
+    ensures ascii { OnOk result (list_all (λ n. nat_lt n 128) octets.now ≡ true) }
+    ensures refused { IfErr result (λ fault. OnlyIf fault (list_all (λ n. nat_lt n 128) octets.now ≡ false)) }
+{
+    if !is_ascii(octets) {
+        return Err(TableFault::NotATable);
+    }
+    match str::from_utf8(octets) {
+        Ok(text) => Ok(Name::new(String::from_str(alloc, text)?)),
+        Err(_) => Err(TableFault::NotATable),
+    }
+}
+
+/// Reads a name of so many octets.
+fn read_name(cursor: &mut Cursor<'_>, count: usize) -> Result<Name, TableFault>
+    ensures { Reads (spelled_run count spelled_ascii) result cursor.old cursor.new }
+{
+    let octets = cursor.take(count)?;
+    name_of(cursor.alloc(), octets)
+}
+
+/// Puts octets, which have to be ASCII, behind what was written before.
+fn write_ascii(octets: &[u8], out: &mut Vec<u8>) -> Result<(), TableFault>
+    ensures { Writes (spelled_each spelled_ascii octets.now) result out.old.items out.new.items }
+{
+    if !is_ascii(octets) {
+        return Err(TableFault::BadNumber);
+    }
+    out.extend_from_slice(octets)?;
+    Ok(())
+}
+
+/// Puts a text behind what was written before.
+pub(crate) fn write_text(text: &str, out: &mut Vec<u8>) -> Result<(), TableFault>
+    ensures { Writes (spelled_text text.now) result out.old.items out.new.items }
+{
+    write_count(text.len(), out)?;
+    write_ascii(text.as_bytes(), out)
+}
+
+impl Part for Name {
+    ghost use Rattle.table_file.specs.ListCodes.{text_code};
+
+    ghost spelled = { spelled_text };
+
+    fn read(cursor: &mut Cursor<'_>) -> Result<Self, TableFault> {
+        let count = u32::read(cursor)? as usize;
+        read_name(cursor, count)
+    }
+
+    fn write(&self, out: &mut Vec<u8>) -> Result<(), TableFault> {
+        write_text(self.as_str(), out)
+    }
+
+    ghost is_code = { text_code };
+}

@@ -1,0 +1,56 @@
+//! Tables as text.
+
+use crate::program::ShownProgram;
+use position_checker::Accepted;
+use std::fmt;
+use table_file::Use;
+
+/// An accepted table as the listing shows it: a line for each name, with its node and the routine
+/// that serves it; then the two programs, each with its routines.
+#[derive(Clone, Copy)]
+pub struct Listing<'t>(pub &'t Accepted);
+
+/// The line of a name.
+#[derive(Clone, Copy)]
+struct ShownName<'t> {
+    table: &'t Accepted,
+    name: &'t str,
+    node: u32,
+}
+
+/// 0 for the first program, 1 for the second.
+fn number_of(program: Use) -> u8 {
+    match program {
+        Use::First => 0,
+        Use::Second => 1,
+    }
+}
+
+impl fmt::Display for ShownName<'_> {
+    fn fmt<W: fmt::Write>(&self, f: &mut fmt::Formatter<W>) -> fmt::Result {
+        write!(f, "name {} node {}", self.name, self.node)?;
+        if let Some(program) = self.table.program_of(self.name) {
+            write!(f, " program {}", number_of(program))?;
+        }
+        if let Some(routine) = self.table.routine_of(self.name) {
+            write!(f, " routine {routine}")?;
+        }
+        writeln!(f)
+    }
+}
+
+impl fmt::Display for Listing<'_> {
+    fn fmt<W: fmt::Write>(&self, f: &mut fmt::Formatter<W>) -> fmt::Result {
+        let table = self.0;
+        let names = table.table().model().names();
+        for place in 0..names.len() {
+            let (name, node) = names.pair(place);
+            write!(f, "{}", ShownName { table, name, node })?;
+        }
+        for program in [Use::First, Use::Second] {
+            writeln!(f, "program {}", number_of(program))?;
+            write!(f, "{}", ShownProgram(table.table().program(program)))?;
+        }
+        Ok(())
+    }
+}
