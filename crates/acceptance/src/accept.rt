@@ -35,12 +35,7 @@ pub fn table_of(
     named: &[u32],
 ) -> Result<Table, Fail> {
     let uses = Items::new(vec![in alloc; used; named.len()]?);
-    Ok(Table::new(
-        model_of(alloc, graph, named)?,
-        programs.0,
-        programs.1,
-        uses,
-    )?)
+    Ok(Table::new(model_of(alloc, graph, named)?, programs.0, programs.1, uses)?)
 }
 
 /// Why the table is refused, if it is.
@@ -51,10 +46,12 @@ pub fn judged(
     named: &[u32],
 ) -> Result<Result<Accepted, CheckFault>, Fail> {
     let programs = (program, Program::new(Vec::new(alloc))?);
-    Ok(match check(alloc, table_of(alloc, graph, programs, Use::First, named)?) {
-        Ok(accepted) => Ok(accepted),
-        Err(refused) => Err(refused.fault),
-    })
+    Ok(
+        match check(alloc, table_of(alloc, graph, programs, Use::First, named)?) {
+            Ok(accepted) => Ok(accepted),
+            Err(refused) => Err(refused.fault),
+        },
+    )
 }
 
 /// The accepted table of a graph and one program.

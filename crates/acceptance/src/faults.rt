@@ -88,10 +88,26 @@ fn faults_of_runs_and_tables(rt: HostRuntime) -> Result<(), Fail> {
     let routine = 4;
     let instr = 2;
     let tables = [
-        CheckFault::WrongWork { program, routine, instr },
-        CheckFault::WrongPadding { program, routine, instr },
-        CheckFault::EntryOutside { program, routine, instr },
-        CheckFault::ExitsTooSmall { program, routine, entry: 7 },
+        CheckFault::WrongWork {
+            program,
+            routine,
+            instr,
+        },
+        CheckFault::WrongPadding {
+            program,
+            routine,
+            instr,
+        },
+        CheckFault::EntryOutside {
+            program,
+            routine,
+            instr,
+        },
+        CheckFault::ExitsTooSmall {
+            program,
+            routine,
+            entry: 7,
+        },
         CheckFault::NoRoutine { node: 3 },
         CheckFault::NamedEntryNotFull { node: 3 },
         CheckFault::NoMemory,

@@ -1,9 +1,9 @@
 //! The plain programs of whole graphs.
 
+use crate::accept::accepted;
 use crate::graphs::record;
 use crate::marshal::{accepted_both_ways, big, little, program_of};
 use marshal_program::{Instr, Program, Routine};
-use crate::accept::accepted;
 use std::alloc::{AllocError, Global};
 use std::test::Fail;
 use type_graph::{Arms, Graph, Members, Node, Width};

@@ -22,7 +22,10 @@ fn accepted_of(
     again: Vec<Node>,
     named: &[u32],
 ) -> Result<Accepted, Fail> {
-    let program = planned(alloc, &model_of(alloc, Graph::from_nodes(alloc, nodes)?, named)?)?;
+    let program = planned(
+        alloc,
+        &model_of(alloc, Graph::from_nodes(alloc, nodes)?, named)?,
+    )?;
     let graph = Graph::from_nodes(alloc, again)?;
     accepted(alloc, graph, program, named)
 }
@@ -98,7 +101,10 @@ fn a_tree_with_a_long_behind_its_kids(rt: HostRuntime) -> Result<(), Fail> {
         listing(alloc, accepted.table().program(Use::First))?.as_str(),
         "14 ff 0: Octets 1; Align 4; SeqOf 0 1 0; Words 4 1;\n"
     );
-    assert_eq!(rt; exits_of(accepted.table().program(Use::First), 0), [0x11; 8]);
+    assert_eq!(rt;
+        exits_of(accepted.table().program(Use::First), 0),
+        [0x11; 8]
+    );
     Ok(())
 }
 
@@ -390,7 +396,11 @@ fn fault_of(program: Result<Program, GenFault>) -> u32 {
 #[test]
 fn large_models(rt: HostRuntime) -> Result<(), Fail> {
     let alloc = rt.alloc();
-    let model = model_of(alloc, Graph::from_nodes(alloc, too_long(alloc)?)?, &[15, 16, 17, 18, 19])?;
+    let model = model_of(
+        alloc,
+        Graph::from_nodes(alloc, too_long(alloc)?)?,
+        &[15, 16, 17, 18, 19],
+    )?;
     let all: Vec<u32> = (0..4096).collect(alloc)?;
     let accepted = accepted_of(alloc, shared(alloc)?, shared(alloc)?, &all)?;
     assert_eq!(rt; fault_of(planned(alloc, &model)), 70);

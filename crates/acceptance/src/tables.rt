@@ -17,16 +17,18 @@ fn answer(
     names: &[u32],
 ) -> Result<[u32; 3], Fail> {
     let graph = Graph::from_nodes(alloc, nodes)?;
-    Ok(match judged(alloc, graph, Program::new(routines)?, names)? {
-        Ok(_) => [0; 3],
-        Err(CheckFault::WrongWork { routine, instr, .. }) => [80, routine, instr],
-        Err(CheckFault::WrongPadding { routine, instr, .. }) => [81, routine, instr],
-        Err(CheckFault::EntryOutside { routine, instr, .. }) => [82, routine, instr],
-        Err(CheckFault::ExitsTooSmall { routine, entry, .. }) => [83, routine, entry],
-        Err(CheckFault::NoRoutine { node }) => [84, node, 0],
-        Err(CheckFault::NamedEntryNotFull { node }) => [85, node, 0],
-        Err(CheckFault::NoMemory) => [99; 3],
-    })
+    Ok(
+        match judged(alloc, graph, Program::new(routines)?, names)? {
+            Ok(_) => [0; 3],
+            Err(CheckFault::WrongWork { routine, instr, .. }) => [80, routine, instr],
+            Err(CheckFault::WrongPadding { routine, instr, .. }) => [81, routine, instr],
+            Err(CheckFault::EntryOutside { routine, instr, .. }) => [82, routine, instr],
+            Err(CheckFault::ExitsTooSmall { routine, entry, .. }) => [83, routine, entry],
+            Err(CheckFault::NoRoutine { node }) => [84, node, 0],
+            Err(CheckFault::NamedEntryNotFull { node }) => [85, node, 0],
+            Err(CheckFault::NoMemory) => [99; 3],
+        },
+    )
 }
 
 fn align(to: Width) -> Instr {

@@ -1,11 +1,11 @@
 //! Values worked out by hand from the rules of CDR, run by the plain programs of their types.
 
+use crate::accept::accepted;
 use crate::graphs::record;
 use crate::marshal::{accepted_both_ways, big, both_ways, faults, little, program_of, read_fault};
 use crate::sample;
 use crate::values::chain_tape;
 use marshal_program::Program;
-use crate::accept::accepted;
 use std::alloc::{AllocError, Global};
 use std::test::Fail;
 use table_file::Use;

@@ -84,11 +84,27 @@ fn checks_and_lists_the_sample(rt: HostRuntime) {
 /// Devices are written where they are.
 #[test]
 fn upgrades_to_devices(rt: HostRuntime) {
-    expect(&rt, "idlc upgrade builtin -o /dev/null", 0, "accepted 4\n", "");
-    refuse(&rt, "upgrade builtin -o /dev/full", 3, "cannot write /dev/full");
+    expect(
+        &rt,
+        "idlc upgrade builtin -o /dev/null",
+        0,
+        "accepted 4\n",
+        "",
+    );
+    refuse(
+        &rt,
+        "upgrade builtin -o /dev/full",
+        3,
+        "cannot write /dev/full",
+    );
     refuse(&rt, "check /dev/null", 1, "50 NotATable");
     refuse(&rt, "check /dev", 3, "cannot read /dev");
-    refuse(&rt, "upgrade none.table -o /dev/null", 3, "cannot read none.table");
+    refuse(
+        &rt,
+        "upgrade none.table -o /dev/null",
+        3,
+        "cannot read none.table",
+    );
     refuse(&rt, "show /dev/zero", 1, "too long");
 }
 

@@ -94,10 +94,7 @@ fn upgrade_command<'a>(alloc: Global) -> Result<Command<'a>, AllocError>
 }
 
 /// The commands that marshal a value.
-fn value_commands<'a>(
-    alloc: Global,
-    orders: &'a [&'a str],
-) -> Result<Command<'a>, AllocError>
+fn value_commands<'a>(alloc: Global, orders: &'a [&'a str]) -> Result<Command<'a>, AllocError>
     ensures { IfOk result (λ program. app_of program ≡ value_app (Names orders.entry)) }
 {
     let encode = command(alloc, orders, "encode", "The value's tape")?;

@@ -63,7 +63,7 @@ routes_more table place node routes route here is within good m =
 pub routes_done : (table : TableParts) (place : ℕ) (routes : List (Option Route)) → place ≡ length (nodes_of table) → RoutesUpTo table place routes → AreRoutes table routes
 routes_done table place routes end m =
     let all : All (HasRoute routes) (nodes_of table) =
-        subst (All (HasRoute routes)) (ap (λ n. take n (nodes_of table)) end ∙ take_all _ (nodes_of table) (omega arith)) m.complete in
+    subst (All (HasRoute routes)) (ap (λ n. take n (nodes_of table)) end ∙ take_all _ (nodes_of table) (omega arith)) m.complete in
     record {
       there = λ node named. All-contains (HasRoute routes) (nodes_of table) node all named;
       right = m.right;
@@ -143,7 +143,7 @@ module _ (table : TableParts) (rules : IsTable table) where
   lone_refused place name node fault named refused =
       let within : place < length table.uses = omega (arith, slice_get_within table.model.names place (name, node) named, rules.uses.each) in
       let is : (lone : IsLone table) → slice_get table.uses place ≡ Some First = λ lone.
-          slice_get-get_or table.uses place First within ∙ ap (λ (u : Use). Some u) (lone.uses place First within) in
+      slice_get-get_or table.uses place First within ∙ ap (λ (u : Use). Some u) (lone.uses place First within) in
       only_if_weaker fault _ _ (λ unserved lone. unserved First (is lone) (lone_serves table lone First node refl (node_within place name node named))) refused
 
   -- each node of a name is served

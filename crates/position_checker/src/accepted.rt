@@ -110,7 +110,14 @@ impl Accepted {
         ensures refused { IfErr result (λ fault. OnlyIfRun fault ((octets : List ℕ) → Means self.now.model.graph (writing order) 64 node pos tape.now octets → ⊥)) }
     {
         let Route { program, routine } = self.serving(node);
-        program_runner::write(alloc, self.table.program(program), routine, order, pos, tape)
+        program_runner::write(
+            alloc,
+            self.table.program(program),
+            routine,
+            order,
+            pos,
+            tape,
+        )
     }
 
     /// Reads the tape of the value that a front of the octets encodes, whatever stands in the
@@ -132,6 +139,13 @@ impl Accepted {
         ensures refused { IfErr result (λ fault. OnlyIfRun fault ((tape front rest : List ℕ) → octets.now ≡ front ++ rest → Means self.now.model.graph (reading order) 64 node pos tape front → ⊥)) }
     {
         let Route { program, routine } = self.serving(node);
-        program_runner::read(alloc, self.table.program(program), routine, order, pos, octets)
+        program_runner::read(
+            alloc,
+            self.table.program(program),
+            routine,
+            order,
+            pos,
+            octets,
+        )
     }
 }

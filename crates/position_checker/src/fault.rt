@@ -46,10 +46,14 @@ pub enum CheckFault {
     },
     /// A node with a name has no routine in the program that the name uses.
     #[error("84 NoRoutine node {node}")]
-    NoRoutine { node: u32 },
+    NoRoutine {
+        node: u32,
+    },
     /// A node with a name has no routine there that may start at every position.
     #[error("85 NamedEntryNotFull node {node}")]
-    NamedEntryNotFull { node: u32 },
+    NamedEntryNotFull {
+        node: u32,
+    },
     #[error("no memory")]
     NoMemory,
 }

@@ -62,7 +62,14 @@ fn model(alloc: Global) -> Result<Model, AllocError>
     let interfaces = Items::new(Vec::new(alloc));
     let operations = Items::new(Vec::new(alloc));
     let exceptions = Items::new(Vec::new(alloc));
-    match Model::new(alloc, graph(alloc)?, names, interfaces, operations, exceptions) {
+    match Model::new(
+        alloc,
+        graph(alloc)?,
+        names,
+        interfaces,
+        operations,
+        exceptions,
+    ) {
         Ok(model) => Ok(model),
         Err(fault) => Err(model_memory(fault)),
     }

@@ -31,7 +31,11 @@ fn new_beside<R: Files + AllocGlobal>(
 ) -> Result<Option<(String, R::File)>, AllocError> {
     for number in 0..TRIES {
         let name = format!(in rt.alloc(); "{path}.{number}.new")?;
-        match OpenOptions::new().write(true).create_new(true).open(rt, name.as_str()) {
+        match OpenOptions::new()
+            .write(true)
+            .create_new(true)
+            .open(rt, name.as_str())
+        {
             Ok(file) => return Ok(Some((name, file))),
             Err(error) if error.kind() == io::ErrorKind::AlreadyExists => (),
             Err(_) => return Ok(None),

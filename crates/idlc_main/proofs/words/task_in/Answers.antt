@@ -28,4 +28,3 @@ returns-in-decode c ask rows command tells =
     let rows_are : rows_of (found_of c.in_ok-name.words.now) ≡ rows =
     let both : Some (rows_of (found_of c.in_ok-name.words.now)) ≡ Some rows = c.in_ok-name.ensures.rows ∙ ap second command in cc in
     c.value-in-decode.ensures ask way_is (rw rows_are tells)
-

@@ -9,14 +9,14 @@ pub returns-in-Err-clause-refused : goal.returns-in-Err-clause-refused
 returns-in-Err-clause-refused c =
     let names : c.names.result.now ≡ c.args.table.now.model.names = c.names.ensures.value ∙ ap (λ (m : Model). m.names) c.model-in-loop-place.ensures.value in
     let named : slice_get c.args.table.now.model.names c.loop-place.place ≡ Some (c.pair-node.result.0.now, c.pair-node.result.1) =
-        subst (λ (ns : List (List ℕ × ℕ)). slice_get ns c.loop-place.place ≡ Some (c.pair-node.result.0.now, c.pair-node.result.1)) names c.pair-node.ensures.value in
+    subst (λ (ns : List (List ℕ × ℕ)). slice_get ns c.loop-place.place ≡ Some (c.pair-node.result.0.now, c.pair-node.result.1)) names c.pair-node.ensures.value in
     lone_refused c.args.table.now c.uses-place-end.ensures.rules c.loop-place.place c.pair-node.result.0.now c.pair-node.result.1 c.in-Err.fault named c.in-Err.ensures.refused
 
 pub loop-place-preserved : goal.loop-place-preserved
 loop-place-preserved c =
     let names : c.names.result.now ≡ c.args.table.now.model.names = c.names.ensures.value ∙ ap (λ (m : Model). m.names) c.model-in-loop-place.ensures.value in
     let named : slice_get c.args.table.now.model.names c.loop-place.place ≡ Some (c.pair-node.result.0.now, c.pair-node.result.1) =
-        subst (λ (ns : List (List ℕ × ℕ)). slice_get ns c.loop-place.place ≡ Some (c.pair-node.result.0.now, c.pair-node.result.1)) names c.pair-node.ensures.value in
+    subst (λ (ns : List (List ℕ × ℕ)). slice_get ns c.loop-place.place ≡ Some (c.pair-node.result.0.now, c.pair-node.result.1)) names c.pair-node.ensures.value in
     routes_next c.args.table.now c.uses-place-end.ensures.rules c.loop-place.place c.pair-node.result.0.now c.pair-node.result.1 c.loop-place.routes.items c.in-Ok.route named c.in-Ok.ensures.used c.in-Ok.ensures.served c.loop-place.invariant
 
 pub returns-clause-routes : goal.returns-clause-routes
