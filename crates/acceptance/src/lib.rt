@@ -40,7 +40,11 @@ mod sample;
 #[cfg(test)]
 mod shapes;
 #[cfg(test)]
+mod table_files;
+#[cfg(test)]
 mod tables;
+#[cfg(test)]
+mod two_programs;
 #[cfg(test)]
 mod values;
 #[cfg(test)]
