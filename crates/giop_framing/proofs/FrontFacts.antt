@@ -1,0 +1,77 @@
+-- The front of a stream, step by step.
+use Rattle.std.proofs.Common.{◌≡◌, ℕ, ◌+◌, ◌-◌, ◌%◌, ◌≤◌, Bool, true, false, not, ◌&&◌, ◌||◌, List, length, take, drop, refl, sym, ap, ◌∙◌, arith}
+use Rattle.std.proofs.Common.{Option, Some, Ok, Err, nat_eq, nat_lt, if◌then◌else◌}
+use Rattle.std.proofs.lemmas.Bool.{le-ltb, ltb-false, or_parts}
+use Rattle.giop_framing.specs.declared.fault.FramingFault.{FramingFault}
+use Rattle.giop_framing.specs.declared.fault.FramingFault.TheVariants.{BadFragment}
+use Rattle.giop_framing.specs.declared.head.Head.{Head}
+use Rattle.giop_framing.specs.Heads.{head_in, max_size}
+use Rattle.giop_framing.specs.Framing.{More, Broken, front, front_behind, placed, breaks, is_other, is_fragment, is_cut, breaks_run, same_order, id_in, order_in}
+use Rattle.giop_framing.specs.Runs.{IsMessage, IsFrame}
+use Rattle.giop_framing.proofs.HeadFacts.{message_at}
+
+-- which branch of a test is taken
+taken : {A : Type 0} (b : Bool) (x y : A) → b ≡ true → (if b then x else y) ≡ x
+taken true x y e = refl
+taken false x y e = absurd (cc)
+
+left_out : {A : Type 0} (b : Bool) (x y : A) → b ≡ false → (if b then x else y) ≡ y
+left_out true x y e = absurd (cc)
+left_out false x y e = refl
+
+-- 12 octets are there
+pub front_of : (run : Option (List ℕ)) (octets : List ℕ) → 12 ≤ length octets → front run octets ≡ front_behind run octets (head_in octets)
+front_of run octets le = left_out (nat_lt (length octets) 12) More (front_behind run octets (head_in octets)) (le-ltb (length octets) 12 le)
+
+pub broken_head : (run : Option (List ℕ)) (octets : List ℕ) (fault : FramingFault) → 12 ≤ length octets → head_in octets ≡ Err fault → front run octets ≡ Broken fault
+broken_head run octets fault le e = front_of run octets le ∙ ap (front_behind run octets) e
+
+pub broken_rule : (run : Option (List ℕ)) (octets : List ℕ) (head : Head) → 12 ≤ length octets → head_in octets ≡ Ok head → breaks run head ≡ true → front run octets ≡ Broken BadFragment
+broken_rule run octets head le e rule = front_of run octets le ∙ ap (front_behind run octets) e
+    ∙ taken (breaks run head) (Broken BadFragment) (if nat_lt (length octets) (12 + head.size) then More
+    else if is_other run head (take (12 + head.size) octets) then Broken BadFragment
+    else placed run head (take (12 + head.size) octets) (drop (12 + head.size) octets)) rule
+
+-- a fragment of the run that is there
+pub other_is : (run : Option (List ℕ)) (there : List ℕ) (head : Head) (message : List ℕ) → run ≡ Some there → is_fragment head.kind ≡ true
+    → is_other run head message ≡ not (nat_eq (id_in message) (id_in there))
+other_is run there head message e fragment =
+    ap (λ r. is_other r head message) e ∙ ap (λ b. b && not (nat_eq (id_in message) (id_in there))) fragment
+
+-- what a fragment keeps where it breaks no rule of the run
+pub run_kept : (run : List ℕ) (head : Head) → breaks_run run head ≡ false → (4 ≤ head.size) × (length run - 12 + (head.size - 4) ≤ max_size)
+run_kept run head kept =
+    let order = not (same_order (order_in run) head.order) in
+    let size = nat_lt max_size (length run - 12 + (head.size - 4)) in
+    let p = or_parts (order || is_cut head) size kept in
+    let q = or_parts order (is_cut head) p.0 in
+    let r = or_parts (nat_lt head.size 4) (head.goes_on && not (nat_eq ((12 + head.size) % 8) 0)) q.1 in
+    (ltb-false head.size 4 r.0, ltb-false max_size (length run - 12 + (head.size - 4)) p.1)
+
+pub fragment_kept : (run : Option (List ℕ)) (there : List ℕ) (head : Head) → run ≡ Some there → is_fragment head.kind ≡ true → breaks run head ≡ false → breaks_run there head ≡ false
+fragment_kept run there head e fragment kept =
+    sym (taken (is_fragment head.kind) (breaks_run there head) head.goes_on fragment) ∙ sym (ap (λ r. breaks r head) e) ∙ kept
+
+-- it holds the number of its request
+pub numbered : (run : Option (List ℕ)) (there : List ℕ) (head : Head) (message : List ℕ) → run ≡ Some there → is_fragment head.kind ≡ true → breaks run head ≡ false
+    → IsMessage head message → 16 ≤ length message
+numbered run there head message e fragment kept is =
+    omega (arith, (run_kept there head (fragment_kept run there head e fragment kept)).0, is.whole)
+
+-- a whole message that breaks no rule
+pub whole_front : (run : Option (List ℕ)) (octets : List ℕ) (head : Head) → 12 ≤ length octets → head_in octets ≡ Ok head → breaks run head ≡ false
+    → 12 + head.size ≤ length octets → is_other run head (take (12 + head.size) octets) ≡ false → IsFrame run octets record { head = head; len = 12 + head.size }
+whole_front run octets head le e kept within same =
+    let message = take (12 + head.size) octets in
+    let here = placed run head message (drop (12 + head.size) octets) in
+    let told = if is_other run head message then Broken BadFragment else here in
+    record {
+      within = within;
+      is = message_at head octets e within;
+      kept = kept;
+      same = same;
+      front_is = front_of run octets le ∙ ap (front_behind run octets) e
+          ∙ left_out (breaks run head) (Broken BadFragment) (if nat_lt (length octets) (12 + head.size) then More else told) kept
+          ∙ left_out (nat_lt (length octets) (12 + head.size)) More told (le-ltb (length octets) (12 + head.size) within)
+          ∙ left_out (is_other run head message) (Broken BadFragment) here same;
+    }

@@ -1,0 +1,3 @@
+pub mod HeadFacts
+pub mod FrontFacts
+pub mod RunFacts
