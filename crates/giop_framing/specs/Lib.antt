@@ -1,3 +1,4 @@
 pub mod Heads
 pub mod Framing
 pub mod Runs
+pub mod Streams

@@ -4,6 +4,7 @@
 mod fault;
 mod frame;
 mod head;
+pub mod laws;
 mod run;
 
 pub use fault::FramingFault;
