@@ -1,13 +1,13 @@
 -- The front of a stream, step by step.
 use Rattle.std.proofs.Common.{◌≡◌, ℕ, ◌+◌, ◌-◌, ◌%◌, ◌≤◌, Bool, true, false, not, ◌&&◌, ◌||◌, List, length, take, drop, refl, sym, ap, ◌∙◌, arith}
-use Rattle.std.proofs.Common.{Option, Some, Ok, Err, nat_eq, nat_lt, if◌then◌else◌}
-use Rattle.std.proofs.lemmas.Bool.{le-ltb, ltb-false, or_parts}
+use Rattle.std.proofs.Common.{Option, Some, None, IfSome, Ok, Err, nat_eq, nat_lt, if◌then◌else◌}
+use Rattle.std.proofs.lemmas.Bool.{eqb-true, le-ltb, ltb-false, not-false, or_parts}
 use Rattle.giop_framing.specs.declared.fault.FramingFault.{FramingFault}
 use Rattle.giop_framing.specs.declared.fault.FramingFault.TheVariants.{BadFragment}
 use Rattle.giop_framing.specs.declared.head.Head.{Head}
 use Rattle.giop_framing.specs.Heads.{head_in, max_size}
 use Rattle.giop_framing.specs.Framing.{More, Broken, front, front_behind, placed, breaks, is_other, is_fragment, is_cut, breaks_run, same_order, id_in, order_in}
-use Rattle.giop_framing.specs.Runs.{IsMessage, IsFrame}
+use Rattle.giop_framing.specs.Runs.{IsMessage, IsFirst, IsNext, IsFrame}
 use Rattle.giop_framing.proofs.HeadFacts.{message_at}
 
 -- which branch of a test is taken
@@ -18,6 +18,12 @@ taken false x y e = absurd (cc)
 left_out : {A : Type 0} (b : Bool) (x y : A) → b ≡ false → (if b then x else y) ≡ y
 left_out true x y e = absurd (cc)
 left_out false x y e = refl
+
+true_is_false : true ≡ false → ⊥
+true_is_false e = absurd (cc)
+
+not_false : (m n : ℕ) → not (nat_eq m n) ≡ false → m ≡ n
+not_false m n e = eqb-true m n (not-false (nat_eq m n) e)
 
 -- 12 octets are there
 pub front_of : (run : Option (List ℕ)) (octets : List ℕ) → 12 ≤ length octets → front run octets ≡ front_behind run octets (head_in octets)
@@ -58,18 +64,41 @@ pub numbered : (run : Option (List ℕ)) (there : List ℕ) (head : Head) (messa
 numbered run there head message e fragment kept is =
     omega (arith, (run_kept there head (fragment_kept run there head e fragment kept)).0, is.whole)
 
+-- a request that fragments follow begins a run
+first_piece : (run : Option (List ℕ)) (head : Head) (message : List ℕ) → breaks run head ≡ false → IsMessage head message
+    → is_fragment head.kind ≡ false → head.goes_on ≡ true → IsFirst message
+first_piece None head message kept is request on =
+    let p = or_parts (is_fragment head.kind) (head.goes_on && is_cut head) kept in
+    record { head = head; is = is; request = request; goes_on = on; uncut = sym (ap (λ b. b && is_cut head) on) ∙ p.1 }
+first_piece (Some there) head message kept is request on =
+    absurd (true_is_false (sym on ∙ sym (left_out (is_fragment head.kind) (breaks_run there head) head.goes_on request) ∙ kept))
+
+-- a fragment is the next piece of the run
+next_piece : (run : Option (List ℕ)) (head : Head) (message : List ℕ) → breaks run head ≡ false → IsMessage head message
+    → is_other run head message ≡ false → is_fragment head.kind ≡ true → IfSome run (λ there. IsNext there message)
+next_piece None head message kept is same fragment = tt
+next_piece (Some there) head message kept is same fragment =
+    record {
+      head = head;
+      is = is;
+      fragment = fragment;
+      kept = fragment_kept (Some there) there head refl fragment kept;
+      same = not_false (id_in message) (id_in there) (sym (ap (λ b. b && not (nat_eq (id_in message) (id_in there))) fragment) ∙ same);
+    }
+
 -- a whole message that breaks no rule
 pub whole_front : (run : Option (List ℕ)) (octets : List ℕ) (head : Head) → 12 ≤ length octets → head_in octets ≡ Ok head → breaks run head ≡ false
     → 12 + head.size ≤ length octets → is_other run head (take (12 + head.size) octets) ≡ false → IsFrame run octets record { head = head; len = 12 + head.size }
 whole_front run octets head le e kept within same =
     let message = take (12 + head.size) octets in
+    let is = message_at head octets e within in
     let here = placed run head message (drop (12 + head.size) octets) in
     let told = if is_other run head message then Broken BadFragment else here in
     record {
       within = within;
-      is = message_at head octets e within;
-      kept = kept;
-      same = same;
+      is = is;
+      first = first_piece run head message kept is;
+      next = next_piece run head message kept is same;
       front_is = front_of run octets le ∙ ap (front_behind run octets) e
           ∙ left_out (breaks run head) (Broken BadFragment) (if nat_lt (length octets) (12 + head.size) then More else told) kept
           ∙ left_out (nat_lt (length octets) (12 + head.size)) More told (le-ltb (length octets) (12 + head.size) within)

@@ -1,10 +1,10 @@
 -- What pieces of a run are, and what a run keeps.
-use Rattle.std.specs.Prelude.{◌≡◌, ℕ, ◌+◌, ◌≤◌, true, false, List, length, take, drop, Option, Some, None, Result, Ok, Err}
+use Rattle.std.specs.Prelude.{◌≡◌, ℕ, ◌+◌, ◌≤◌, true, false, List, length, take, drop, Option, Some, None, IfSome, Result, Ok, Err}
 use Rattle.giop_framing.specs.declared.fault.FramingFault.{FramingFault}
 use Rattle.giop_framing.specs.declared.head.Head.{Head}
 use Rattle.giop_framing.specs.declared.frame.Frame.{Frame}
 use Rattle.giop_framing.specs.Heads.{head_in, max_size}
-use Rattle.giop_framing.specs.Framing.{More, Broken, front, placed, is_fragment, is_cut, breaks_run, breaks, is_other, id_in}
+use Rattle.giop_framing.specs.Framing.{More, Broken, front, placed, is_fragment, is_cut, breaks_run, id_in}
 
 -- a whole message, and what its head says
 pub record IsMessage (head : Head) (message : List ℕ) : Type 0 where
@@ -27,12 +27,12 @@ pub record IsNext (run message : List ℕ) : Type 0 where
   pub kept : breaks_run run head ≡ false
   pub same : id_in message ≡ id_in run
 
--- The message at the front. It keeps the rules of runs; where it is a fragment, it is one of the run that is open.
+-- The message at the front. One that others follow begins a run; a fragment is the next piece of the run that is open.
 pub record IsFrame (run : Option (List ℕ)) (octets : List ℕ) (frame : Frame) : Type 0 where
   pub within : frame.len ≤ length octets
   pub is : IsMessage frame.head (take frame.len octets)
-  pub kept : breaks run frame.head ≡ false
-  pub same : is_other run frame.head (take frame.len octets) ≡ false
+  pub first : is_fragment frame.head.kind ≡ false → frame.head.goes_on ≡ true → IsFirst (take frame.len octets)
+  pub next : is_fragment frame.head.kind ≡ true → IfSome run (λ there. IsNext there (take frame.len octets))
   pub front_is : front run octets ≡ placed run frame.head (take frame.len octets) (drop frame.len octets)
 
 -- what is told of the front of a stream

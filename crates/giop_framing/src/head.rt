@@ -118,7 +118,8 @@ fn typed_head(octets: &[u8], size: u32) -> Result<Head, FramingFault>
 }
 
 impl Head {
-    pub(crate) fn is_fragment(&self) -> bool
+    /// Whether it is that of a later piece of a request.
+    pub fn is_fragment(&self) -> bool
         ensures { result ≡ is_fragment self.now.kind }
     {
         matches!(self.kind, Kind::Fragment)

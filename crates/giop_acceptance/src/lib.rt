@@ -1,0 +1,7 @@
+//! Tests of the crates of GIOP: the library itself is empty.
+#![tactic(auto)]
+
+#[cfg(test)]
+mod faults;
+#[cfg(test)]
+mod pieces;
