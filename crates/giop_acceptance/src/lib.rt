@@ -5,3 +5,5 @@
 mod faults;
 #[cfg(test)]
 mod pieces;
+#[cfg(test)]
+mod types;

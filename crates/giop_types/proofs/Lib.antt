@@ -1,0 +1,3 @@
+pub mod GraphFacts
+pub mod ModelFacts
+pub mod Lists

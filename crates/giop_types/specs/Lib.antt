@@ -1,0 +1,2 @@
+pub mod GiopNodes
+pub mod GiopModel
