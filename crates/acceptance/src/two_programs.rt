@@ -3,6 +3,7 @@
 use crate::table_files::{CODE, ROUTINE, SAMPLE, table_of, verdict};
 use marshal_program::{Disc, Instr};
 use position_checker::Accepted;
+use routine_checker::check_names;
 use std::alloc::Global;
 use std::test::Fail;
 use table_commands::{Request, Way, listing, marshal};
@@ -92,6 +93,27 @@ fn names_are_asked_for(rt: HostRuntime) -> Result<(), Fail> {
     assert_eq!(rt; answers(&table, "S"), Some((3, true, 0)));
     assert_eq!(rt; answers(&table, "SS"), None);
     assert_eq!(rt; [table.is_named(3), table.is_named(2)], [true, false]);
+    Ok(())
+}
+
+/// What is told of nodes of the first program, and then of one of the second.
+fn served(alloc: Global, table: &Accepted, node: u32) -> Result<String, Fail> {
+    let first = table.table().program(Use::First);
+    let second = table.table().program(Use::Second);
+    match check_names(&[(first, 2), (first, 3), (second, node)]) {
+        Ok(()) => Ok(String::new(alloc)),
+        Err(fault) => Ok(fault.to_string(alloc)?),
+    }
+}
+
+#[test]
+fn nodes_of_two_programs(rt: HostRuntime) -> Result<(), Fail> {
+    let alloc = rt.alloc();
+    let table = both(alloc)?;
+    let there = served(alloc, &table, 3)?;
+    let missing = served(alloc, &table, 2)?;
+    assert_eq!(rt; there.as_str(), "");
+    assert_eq!(rt; missing.as_str(), "84 NoRoutine node 2");
     Ok(())
 }
 

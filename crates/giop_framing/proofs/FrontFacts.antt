@@ -26,26 +26,33 @@ not_false : (m n : ℕ) → not (nat_eq m n) ≡ false → m ≡ n
 not_false m n e = eqb-true m n (not-false (nat_eq m n) e)
 
 -- 12 octets are there
-pub front_of : (run : Option (List ℕ)) (octets : List ℕ) → 12 ≤ length octets → front run octets ≡ front_behind run octets (head_in octets)
-front_of run octets le = left_out (nat_lt (length octets) 12) More (front_behind run octets (head_in octets)) (le-ltb (length octets) 12 le)
+pub front_of : (run : Option (List ℕ)) (octets : List ℕ) → 12 ≤ length octets
+    → front run octets ≡ front_behind run octets (head_in octets)
+front_of run octets le =
+    left_out (nat_lt (length octets) 12) More (front_behind run octets (head_in octets))
+    (le-ltb (length octets) 12 le)
 
-pub broken_head : (run : Option (List ℕ)) (octets : List ℕ) (fault : FramingFault) → 12 ≤ length octets → head_in octets ≡ Err fault → front run octets ≡ Broken fault
+pub broken_head : (run : Option (List ℕ)) (octets : List ℕ) (fault : FramingFault) → 12 ≤ length octets
+    → head_in octets ≡ Err fault → front run octets ≡ Broken fault
 broken_head run octets fault le e = front_of run octets le ∙ ap (front_behind run octets) e
 
-pub broken_rule : (run : Option (List ℕ)) (octets : List ℕ) (head : Head) → 12 ≤ length octets → head_in octets ≡ Ok head → breaks run head ≡ true → front run octets ≡ Broken BadFragment
+pub broken_rule : (run : Option (List ℕ)) (octets : List ℕ) (head : Head) → 12 ≤ length octets
+    → head_in octets ≡ Ok head → breaks run head ≡ true → front run octets ≡ Broken BadFragment
 broken_rule run octets head le e rule = front_of run octets le ∙ ap (front_behind run octets) e
     ∙ taken (breaks run head) (Broken BadFragment) (if nat_lt (length octets) (12 + head.size) then More
     else if is_other run head (take (12 + head.size) octets) then Broken BadFragment
     else placed run head (take (12 + head.size) octets) (drop (12 + head.size) octets)) rule
 
 -- a fragment of the run that is there
-pub other_is : (run : Option (List ℕ)) (there : List ℕ) (head : Head) (message : List ℕ) → run ≡ Some there → is_fragment head.kind ≡ true
+pub other_is : (run : Option (List ℕ)) (there : List ℕ) (head : Head) (message : List ℕ) → run ≡ Some there
+    → is_fragment head.kind ≡ true
     → is_other run head message ≡ not (nat_eq (id_in message) (id_in there))
 other_is run there head message e fragment =
     ap (λ r. is_other r head message) e ∙ ap (λ b. b && not (nat_eq (id_in message) (id_in there))) fragment
 
 -- what a fragment keeps where it breaks no rule of the run
-pub run_kept : (run : List ℕ) (head : Head) → breaks_run run head ≡ false → (4 ≤ head.size) × (length run - 12 + (head.size - 4) ≤ max_size)
+pub run_kept : (run : List ℕ) (head : Head) → breaks_run run head ≡ false
+    → (4 ≤ head.size) × (length run - 12 + (head.size - 4) ≤ max_size)
 run_kept run head kept =
     let order = not (same_order (order_in run) head.order) in
     let size = nat_lt max_size (length run - 12 + (head.size - 4)) in
@@ -54,24 +61,29 @@ run_kept run head kept =
     let r = or_parts (nat_lt head.size 4) (head.goes_on && not (nat_eq ((12 + head.size) % 8) 0)) q.1 in
     (ltb-false head.size 4 r.0, ltb-false max_size (length run - 12 + (head.size - 4)) p.1)
 
-pub fragment_kept : (run : Option (List ℕ)) (there : List ℕ) (head : Head) → run ≡ Some there → is_fragment head.kind ≡ true → breaks run head ≡ false → breaks_run there head ≡ false
+pub fragment_kept : (run : Option (List ℕ)) (there : List ℕ) (head : Head) → run ≡ Some there
+    → is_fragment head.kind ≡ true → breaks run head ≡ false → breaks_run there head ≡ false
 fragment_kept run there head e fragment kept =
-    sym (taken (is_fragment head.kind) (breaks_run there head) head.goes_on fragment) ∙ sym (ap (λ r. breaks r head) e) ∙ kept
+    sym (taken (is_fragment head.kind) (breaks_run there head) head.goes_on fragment)
+    ∙ sym (ap (λ r. breaks r head) e) ∙ kept
 
 -- it holds the number of its request
-pub numbered : (run : Option (List ℕ)) (there : List ℕ) (head : Head) (message : List ℕ) → run ≡ Some there → is_fragment head.kind ≡ true → breaks run head ≡ false
+pub numbered : (run : Option (List ℕ)) (there : List ℕ) (head : Head) (message : List ℕ) → run ≡ Some there
+    → is_fragment head.kind ≡ true → breaks run head ≡ false
     → IsMessage head message → 16 ≤ length message
 numbered run there head message e fragment kept is =
     omega (arith, (run_kept there head (fragment_kept run there head e fragment kept)).0, is.whole)
 
 -- a request that fragments follow begins a run
-first_piece : (run : Option (List ℕ)) (head : Head) (message : List ℕ) → breaks run head ≡ false → IsMessage head message
+first_piece : (run : Option (List ℕ)) (head : Head) (message : List ℕ) → breaks run head ≡ false
+    → IsMessage head message
     → is_fragment head.kind ≡ false → head.goes_on ≡ true → IsFirst message
 first_piece None head message kept is request on =
     let p = or_parts (is_fragment head.kind) (head.goes_on && is_cut head) kept in
     record { head = head; is = is; request = request; goes_on = on; uncut = sym (ap (λ b. b && is_cut head) on) ∙ p.1 }
 first_piece (Some there) head message kept is request on =
-    absurd (true_is_false (sym on ∙ sym (left_out (is_fragment head.kind) (breaks_run there head) head.goes_on request) ∙ kept))
+    absurd (true_is_false
+    (sym on ∙ sym (left_out (is_fragment head.kind) (breaks_run there head) head.goes_on request) ∙ kept))
 
 -- a fragment is the next piece of the run
 next_piece : (run : Option (List ℕ)) (head : Head) (message : List ℕ) → breaks run head ≡ false → IsMessage head message
@@ -83,12 +95,15 @@ next_piece (Some there) head message kept is same fragment =
       is = is;
       fragment = fragment;
       kept = fragment_kept (Some there) there head refl fragment kept;
-      same = not_false (id_in message) (id_in there) (sym (ap (λ b. b && not (nat_eq (id_in message) (id_in there))) fragment) ∙ same);
+      same = not_false (id_in message) (id_in there)
+          (sym (ap (λ b. b && not (nat_eq (id_in message) (id_in there))) fragment) ∙ same);
     }
 
 -- a whole message that breaks no rule
-pub whole_front : (run : Option (List ℕ)) (octets : List ℕ) (head : Head) → 12 ≤ length octets → head_in octets ≡ Ok head → breaks run head ≡ false
-    → 12 + head.size ≤ length octets → is_other run head (take (12 + head.size) octets) ≡ false → IsFrame run octets record { head = head; len = 12 + head.size }
+pub whole_front : (run : Option (List ℕ)) (octets : List ℕ) (head : Head) → 12 ≤ length octets
+    → head_in octets ≡ Ok head → breaks run head ≡ false
+    → 12 + head.size ≤ length octets → is_other run head (take (12 + head.size) octets) ≡ false
+    → IsFrame run octets record { head = head; len = 12 + head.size }
 whole_front run octets head le e kept within same =
     let message = take (12 + head.size) octets in
     let is = message_at head octets e within in
@@ -100,7 +115,9 @@ whole_front run octets head le e kept within same =
       first = first_piece run head message kept is;
       next = next_piece run head message kept is same;
       front_is = front_of run octets le ∙ ap (front_behind run octets) e
-          ∙ left_out (breaks run head) (Broken BadFragment) (if nat_lt (length octets) (12 + head.size) then More else told) kept
-          ∙ left_out (nat_lt (length octets) (12 + head.size)) More told (le-ltb (length octets) (12 + head.size) within)
+          ∙ left_out (breaks run head) (Broken BadFragment)
+          (if nat_lt (length octets) (12 + head.size) then More else told) kept
+          ∙ left_out (nat_lt (length octets) (12 + head.size)) More told
+          (le-ltb (length octets) (12 + head.size) within)
           ∙ left_out (is_other run head message) (Broken BadFragment) here same;
     }

@@ -15,11 +15,13 @@ use Rattle.giop_framing.specs.Framing.{order_in}
 use Rattle.giop_framing.specs.Runs.{IsMessage}
 
 -- a fault that isn't told doesn't hold
-past : (b : Bool) (fault : FramingFault) (r : Result Head FramingFault) (head : Head) → (if b then Err fault else r) ≡ Ok head → (b ≡ false) × (r ≡ Ok head)
+past : (b : Bool) (fault : FramingFault) (r : Result Head FramingFault) (head : Head)
+    → (if b then Err fault else r) ≡ Ok head → (b ≡ false) × (r ≡ Ok head)
 past true fault r head e = absurd (cc)
 past false fault r head e = (refl, e)
 
-typed_ok : (flags size : ℕ) (kind : Option Kind) (head : Head) → typed flags size kind ≡ Ok head → head ≡ head_of flags size head.kind
+typed_ok : (flags size : ℕ) (kind : Option Kind) (head : Head) → typed flags size kind ≡ Ok head
+    → head ≡ head_of flags size head.kind
 typed_ok flags size None head e = absurd (cc)
 typed_ok flags size (Some kind) head e =
     let p = past (goes_on flags && not (may_go_on kind)) BadHead (Ok (head_of flags size kind)) head e in
@@ -33,52 +35,69 @@ judge giop version flags size number =
     if not giop then Err NotGiop else if not version then Err Version
     else if nat_lt max_size size then Err TooLong else typed flags size (slice_get kinds number)
 
-judged : (giop version : Bool) (flags size number : ℕ) (head : Head) → judge giop version flags size number ≡ Ok head → (head ≡ head_of flags size head.kind) × (head.size ≤ max_size)
+judged : (giop version : Bool) (flags size number : ℕ) (head : Head)
+    → judge giop version flags size number ≡ Ok head → (head ≡ head_of flags size head.kind)
+    × (head.size ≤ max_size)
 unfolding judge
 judged giop version flags size number head e =
-    let p = past (not giop) NotGiop (if not version then Err Version else if nat_lt max_size size then Err TooLong else typed flags size (slice_get kinds number)) head e in
-    let q = past (not version) Version (if nat_lt max_size size then Err TooLong else typed flags size (slice_get kinds number)) head p.1 in
+    let p = past (not giop) NotGiop
+    (if not version then Err Version else if nat_lt max_size size then Err TooLong else typed flags size
+    (slice_get kinds number)) head e in
+    let q = past (not version) Version
+    (if nat_lt max_size size then Err TooLong else typed flags size (slice_get kinds number)) head p.1 in
     let r = past (nat_lt max_size size) TooLong (typed flags size (slice_get kinds number)) head q.1 in
     let same = typed_ok flags size (slice_get kinds number) head r.1 in
     let within : size ≤ max_size = ltb-false max_size size r.0 in
     let equal : head.size ≡ size = ap (λ (h : Head). h.size) same in
     (same, omega (arith, within, equal))
 
-is_judged : (octets : List ℕ) → head_in octets ≡ judge (is_giop octets) (is_1_2 octets) (flags_in octets) (size_in octets) (slice_index octets 7)
+is_judged : (octets : List ℕ)
+    → head_in octets ≡ judge (is_giop octets) (is_1_2 octets) (flags_in octets) (size_in octets)
+    (slice_index octets 7)
 unfolding judge
 is_judged octets = refl
 
 -- what a head says is what its octets say, and its message isn't too long
-pub head_ok : (octets : List ℕ) (head : Head) → head_in octets ≡ Ok head → (head ≡ head_of (flags_in octets) (size_in octets) head.kind) × (head.size ≤ max_size)
-head_ok octets head e = judged (is_giop octets) (is_1_2 octets) (flags_in octets) (size_in octets) (slice_index octets 7) head (sym (is_judged octets) ∙ e)
+pub head_ok : (octets : List ℕ) (head : Head) → head_in octets ≡ Ok head
+    → (head ≡ head_of (flags_in octets) (size_in octets) head.kind) × (head.size ≤ max_size)
+head_ok octets head e =
+    judged (is_giop octets) (is_1_2 octets) (flags_in octets) (size_in octets) (slice_index octets 7) head
+    (sym (is_judged octets) ∙ e)
 
 -- a number at the front stays what it is
-number_longer : (order : Order) (n : ℕ) (xs ys : List ℕ) → n ≤ length xs → number_in order n (xs ++ ys) ≡ number_in order n xs
+number_longer : (order : Order) (n : ℕ) (xs ys : List ℕ) → n ≤ length xs
+    → number_in order n (xs ++ ys) ≡ number_in order n xs
 number_longer Big n xs ys le = big_from-append n xs ys le
 number_longer Little n xs ys le = little_from-append n xs ys le
 
 giop_same : (a b c d p q r s : ℕ) → a ≡ p → b ≡ q → c ≡ r → d ≡ s
-    → (nat_eq a 71 && nat_eq b 73 && nat_eq c 79 && nat_eq d 80) ≡ (nat_eq p 71 && nat_eq q 73 && nat_eq r 79 && nat_eq s 80)
+    → (nat_eq a 71 && nat_eq b 73 && nat_eq c 79 && nat_eq d 80) ≡
+    (nat_eq p 71 && nat_eq q 73 && nat_eq r 79 && nat_eq s 80)
 giop_same a b c d p q r s ea eb ec ed = cc
 
 version_same : (a b p q : ℕ) → a ≡ p → b ≡ q → (nat_eq a 1 && nat_eq b 2) ≡ (nat_eq p 1 && nat_eq q 2)
 version_same a b p q ea eb = cc
 
-size_same : (a b : ℕ) (xs ys : List ℕ) → a ≡ b → number_in (order_of b) 4 xs ≡ number_in (order_of b) 4 ys → number_in (order_of a) 4 xs ≡ number_in (order_of b) 4 ys
+size_same : (a b : ℕ) (xs ys : List ℕ) → a ≡ b → number_in (order_of b) 4 xs ≡ number_in (order_of b) 4 ys
+    → number_in (order_of a) 4 xs ≡ number_in (order_of b) 4 ys
 size_same a b xs ys same e = ap (λ flags. number_in (order_of flags) 4 xs) same ∙ e
 
-judge_same : (a b p q : Bool) (c d e r s t : ℕ) → a ≡ p → b ≡ q → c ≡ r → d ≡ s → e ≡ t → judge a b c d e ≡ judge p q r s t
+judge_same : (a b p q : Bool) (c d e r s t : ℕ) → a ≡ p → b ≡ q → c ≡ r → d ≡ s → e ≡ t
+    → judge a b c d e ≡ judge p q r s t
 judge_same a b p q c d e r s t ea eb ec ed ee = cc
 
 -- what stands behind the 12 octets doesn't change what they say
 pub head_longer : (xs ys : List ℕ) → 12 ≤ length xs → head_in (xs ++ ys) ≡ head_in xs
 head_longer xs ys le =
-    let at : (i : ℕ) → i < length xs → slice_index (xs ++ ys) i ≡ slice_index xs i = λ i within. get_or_append_left xs ys 0 i within in
+    let at : (i : ℕ) → i < length xs
+    → slice_index (xs ++ ys) i ≡ slice_index xs i = λ i within. get_or_append_left xs ys 0 i within in
     let a6 = at 6 (omega (arith, le)) in
-    let giop = giop_same (slice_index (xs ++ ys) 0) (slice_index (xs ++ ys) 1) (slice_index (xs ++ ys) 2) (slice_index (xs ++ ys) 3)
+    let giop = giop_same (slice_index (xs ++ ys) 0) (slice_index (xs ++ ys) 1) (slice_index (xs ++ ys) 2)
+    (slice_index (xs ++ ys) 3)
     (slice_index xs 0) (slice_index xs 1) (slice_index xs 2) (slice_index xs 3)
     (at 0 (omega (arith, le))) (at 1 (omega (arith, le))) (at 2 (omega (arith, le))) (at 3 (omega (arith, le))) in
-    let version = version_same (slice_index (xs ++ ys) 4) (slice_index (xs ++ ys) 5) (slice_index xs 4) (slice_index xs 5)
+    let version =
+    version_same (slice_index (xs ++ ys) 4) (slice_index (xs ++ ys) 5) (slice_index xs 4) (slice_index xs 5)
     (at 4 (omega (arith, le))) (at 5 (omega (arith, le))) in
     let behind : drop 8 (xs ++ ys) ≡ drop 8 xs ++ ys = drop-append-le 8 xs ys (omega (arith, le)) in
     let long : 4 ≤ length (drop 8 xs) = omega (arith, le, length-drop 8 xs) in
@@ -98,7 +117,8 @@ head_of_front n octets le within =
     sym (head_longer (take n octets) (drop n octets) long) ∙ ap head_in (take-append-drop n octets)
 
 -- the octets in front of the end of a message that is whole
-pub message_at : (head : Head) (octets : List ℕ) → head_in octets ≡ Ok head → 12 + head.size ≤ length octets → IsMessage head (take (12 + head.size) octets)
+pub message_at : (head : Head) (octets : List ℕ) → head_in octets ≡ Ok head → 12 + head.size ≤ length octets
+    → IsMessage head (take (12 + head.size) octets)
 message_at head octets e within = record {
   head_is = head_of_front (12 + head.size) octets (omega arith) within ∙ e;
   whole = length-take-le (12 + head.size) octets within;

@@ -79,7 +79,8 @@ reply_in_fragments : front None (71 ∷ 73 ∷ 79 ∷ 80 ∷ 1 ∷ 2 ∷ 2 ∷ 1
 reply_in_fragments = refl
 
 -- the other bits of the flags say nothing
-all_other_flags : front None (71 ∷ 73 ∷ 79 ∷ 80 ∷ 1 ∷ 2 ∷ 252 ∷ 5 ∷ 0 ∷ 0 ∷ 0 ∷ 0 ∷ []) ≡ Whole (71 ∷ 73 ∷ 79 ∷ 80 ∷ 1 ∷ 2 ∷ 252 ∷ 5 ∷ 0 ∷ 0 ∷ 0 ∷ 0 ∷ []) None []
+all_other_flags : front None (71 ∷ 73 ∷ 79 ∷ 80 ∷ 1 ∷ 2 ∷ 252 ∷ 5 ∷ 0 ∷ 0 ∷ 0 ∷ 0 ∷ []) ≡ Whole
+    (71 ∷ 73 ∷ 79 ∷ 80 ∷ 1 ∷ 2 ∷ 252 ∷ 5 ∷ 0 ∷ 0 ∷ 0 ∷ 0 ∷ []) None []
 all_other_flags = refl
 
 -- two pieces are the whole request
@@ -124,12 +125,14 @@ no_multiple_of_8 = refl
 without_a_number : front None (71 ∷ 73 ∷ 79 ∷ 80 ∷ 1 ∷ 2 ∷ 2 ∷ 0 ∷ 0 ∷ 0 ∷ 0 ∷ 0 ∷ []) ≡ Broken BadFragment
 without_a_number = refl
 
-of_another_order : front (Some (begun first)) (71 ∷ 73 ∷ 79 ∷ 80 ∷ 1 ∷ 2 ∷ 1 ∷ 7 ∷ 4 ∷ 0 ∷ 0 ∷ 0 ∷ []) ≡ Broken BadFragment
+of_another_order : front (Some (begun first)) (71 ∷ 73 ∷ 79 ∷ 80 ∷ 1 ∷ 2 ∷ 1 ∷ 7 ∷ 4 ∷ 0 ∷ 0 ∷ 0 ∷ []) ≡ Broken
+    BadFragment
 unfolding first
 of_another_order = refl
 
 -- all pieces together are at most as long as one message: 12 octets came, and of the next 4 are its number
-together_too_long : front (Some (begun first)) (71 ∷ 73 ∷ 79 ∷ 80 ∷ 1 ∷ 2 ∷ 0 ∷ 7 ∷ 0 ∷ 15 ∷ 255 ∷ 249 ∷ []) ≡ Broken BadFragment
+together_too_long : front (Some (begun first)) (71 ∷ 73 ∷ 79 ∷ 80 ∷ 1 ∷ 2 ∷ 0 ∷ 7 ∷ 0 ∷ 15 ∷ 255 ∷ 249 ∷ []) ≡
+    Broken BadFragment
 unfolding first
 together_too_long = refl
 

@@ -15,7 +15,8 @@ abbrev falls : ℕ → List Node → Bool
 falls k [] = true
 falls k (node ∷ more) = list_all (λ number. nat_lt number k) (held_by node) && falls (suc k) more
 
-falls_at : (k : ℕ) (nodes : List Node) → falls k nodes ≡ true → (i : ℕ) → list_all (λ number. nat_lt number (i + k)) (held_by (node_at nodes i)) ≡ true
+falls_at : (k : ℕ) (nodes : List Node) → falls k nodes ≡ true → (i : ℕ)
+    → list_all (λ number. nat_lt number (i + k)) (held_by (node_at nodes i)) ≡ true
 falls_at k [] e i = refl
 falls_at k (node ∷ more) e zero =
     let same : k ≡ 0 + k = omega arith in
@@ -24,15 +25,18 @@ falls_at k (node ∷ more) e zero =
 falls_at k (node ∷ more) e (suc i) =
     let p = and_parts (list_all (λ number. nat_lt number k) (held_by node)) (falls (suc k) more) e in
     let same : i + suc k ≡ suc i + k = omega arith in
-    subst (λ (n : ℕ). list_all (λ number. nat_lt number n) (held_by (node_at more i)) ≡ true) same (falls_at (suc k) more p.1 i)
+    subst (λ (n : ℕ). list_all (λ number. nat_lt number n) (held_by (node_at more i)) ≡ true) same
+    (falls_at (suc k) more p.1 i)
 
-held_below : (P : ℕ → Type 0) (k : ℕ) (numbers : List ℕ) → list_all (λ number. nat_lt number k) numbers ≡ true → ((number : ℕ) → number < k → P number) → AllByRecursion P numbers
+held_below : (P : ℕ → Type 0) (k : ℕ) (numbers : List ℕ) → list_all (λ number. nat_lt number k) numbers ≡ true
+    → ((number : ℕ) → number < k → P number) → AllByRecursion P numbers
 held_below P k [] e each = tt
 held_below P k (number ∷ more) e each =
     let p = and_parts (nat_lt number k) (list_all (λ n. nat_lt n k) more) e in
     (each number (ltb-true number k p.0), held_below P k more p.1 each)
 
-falling_shallow : (graph : List Node) → falls 0 graph ≡ true → (levels number : ℕ) → number < levels → IsShallow levels graph number
+falling_shallow : (graph : List Node) → falls 0 graph ≡ true → (levels number : ℕ) → number < levels
+    → IsShallow levels graph number
 unfolding IsShallow
 falling_shallow graph e zero number within = absurd (omega (arith, within))
 falling_shallow graph e (suc levels) number within =
@@ -42,8 +46,10 @@ falling_shallow graph e (suc levels) number within =
 each_shallow : EachIndex giop_nodes (IsShallow 64 giop_nodes)
 each_shallow number within = falling_shallow giop_nodes refl 64 number (omega (arith, within))
 
-members : (numbers : List ℕ) → length numbers ≤ 1024 → AllByRecursion (IsPart giop_nodes) numbers → AreMembers giop_nodes numbers
-members numbers limited parts = record { limited = limited; parts = All-from_recursion (IsPart giop_nodes) numbers parts }
+members : (numbers : List ℕ) → length numbers ≤ 1024 → AllByRecursion (IsPart giop_nodes) numbers
+    → AreMembers giop_nodes numbers
+members numbers limited parts =
+    record { limited = limited; parts = All-from_recursion (IsPart giop_nodes) numbers parts }
 
 -- a union without a default over three ways
 targets : IsUnion giop_nodes 3 ((pos 0, 10) ∷ (pos 1, 11) ∷ (pos 2, 15) ∷ []) None
@@ -51,17 +57,22 @@ targets = record {
   switches = tt;
   limited = omega arith;
   rising = rises;
-  labels = All-from_recursion (λ arm. IsNumber (node_at giop_nodes 3) arm.0) ((pos 0, 10) ∷ (pos 1, 11) ∷ (pos 2, 15) ∷ []) (omega arith, (omega arith, (omega arith, tt)));
-  parts = All-from_recursion (λ arm. IsPart giop_nodes arm.1) ((pos 0, 10) ∷ (pos 1, 11) ∷ (pos 2, 15) ∷ []) (tt, (tt, (tt, tt)));
+  labels = All-from_recursion (λ arm. IsNumber (node_at giop_nodes 3) arm.0)
+      ((pos 0, 10) ∷ (pos 1, 11) ∷ (pos 2, 15) ∷ []) (omega arith, (omega arith, (omega arith, tt)));
+  parts = All-from_recursion (λ arm. IsPart giop_nodes arm.1) ((pos 0, 10) ∷ (pos 1, 11) ∷ (pos 2, 15) ∷ [])
+      (tt, (tt, (tt, tt)));
   default_part = tt;
   needed = tt;
 } where
-  rises : (place : ℕ) → suc place < 3 → label_at ((pos 0, 10) ∷ (pos 1, 11) ∷ (pos 2, 15) ∷ []) place <ℤ label_at ((pos 0, 10) ∷ (pos 1, 11) ∷ (pos 2, 15) ∷ []) (suc place)
+  rises : (place : ℕ) → suc place < 3
+      → label_at ((pos 0, 10) ∷ (pos 1, 11) ∷ (pos 2, 15) ∷ []) place <ℤ label_at
+      ((pos 0, 10) ∷ (pos 1, 11) ∷ (pos 2, 15) ∷ []) (suc place)
   rises zero within = omega arith
   rises (suc zero) within = omega arith
   rises (suc (suc place)) within = absurd (omega (arith, within))
 
-some : (numbers : List ℕ) → 0 < length numbers → length numbers ≤ 1024 → AllByRecursion (IsPart giop_nodes) numbers → IsNode giop_nodes (Struct numbers)
+some : (numbers : List ℕ) → 0 < length numbers → length numbers ≤ 1024 → AllByRecursion (IsPart giop_nodes) numbers
+    → IsNode giop_nodes (Struct numbers)
 some numbers there limited parts = (there, members numbers limited parts)
 
 each_node : AllByRecursion (IsNode giop_nodes) giop_nodes
@@ -100,7 +111,8 @@ each_node = (
                                 (
                                   targets,
                                   (
-                                    some (6 ∷ 0 ∷ 14 ∷ 16 ∷ 9 ∷ 12 ∷ []) (omega arith) (omega arith) (tt, (tt, (tt, (tt, (tt, (tt, tt)))))),
+                                    some (6 ∷ 0 ∷ 14 ∷ 16 ∷ 9 ∷ 12 ∷ []) (omega arith) (omega arith)
+                                        (tt, (tt, (tt, (tt, (tt, (tt, tt)))))),
                                     (
                                       (omega arith, omega arith),
                                       (
@@ -114,9 +126,11 @@ each_node = (
                                               (
                                                 members (9 ∷ 6 ∷ 6 ∷ []) (omega arith) (tt, (tt, (tt, tt))),
                                                 (
-                                                  some (0 ∷ 0 ∷ 9 ∷ 4 ∷ 10 ∷ []) (omega arith) (omega arith) (tt, (tt, (tt, (tt, (tt, tt))))),
+                                                  some (0 ∷ 0 ∷ 9 ∷ 4 ∷ 10 ∷ []) (omega arith) (omega arith)
+                                                      (tt, (tt, (tt, (tt, (tt, tt))))),
                                                   (
-                                                    some (0 ∷ 0 ∷ 9 ∷ 4 ∷ 10 ∷ 12 ∷ []) (omega arith) (omega arith) (tt, (tt, (tt, (tt, (tt, (tt, tt)))))),
+                                                    some (0 ∷ 0 ∷ 9 ∷ 4 ∷ 10 ∷ 12 ∷ []) (omega arith) (omega arith)
+                                                        (tt, (tt, (tt, (tt, (tt, (tt, tt)))))),
                                                     (
                                                       members (9 ∷ []) (omega arith) (tt, tt),
                                                       (

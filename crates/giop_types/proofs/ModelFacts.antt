@@ -31,7 +31,8 @@ abbrev are_new : List (List ℕ × ℕ) → Bool
 are_new [] = true
 are_new (name ∷ more) = is_new name.0 more && are_new more
 
-differ : (name : List ℕ) (names : List (List ℕ × ℕ)) → is_new name names ≡ true → (d : List ℕ × ℕ) (i : ℕ) → i < length names → name ≢ (slice_index_or names i d).0
+differ : (name : List ℕ) (names : List (List ℕ × ℕ)) → is_new name names ≡ true → (d : List ℕ × ℕ) (i : ℕ)
+    → i < length names → name ≢ (slice_index_or names i d).0
 differ name [] e d i within same = absurd (omega (arith, within))
 differ name (other ∷ more) e d zero within same =
     let p = and_parts (not (bytes_eq name other.0)) (is_new name more) e in
@@ -47,10 +48,12 @@ distinct (name ∷ more) e zero (suc j) d before within same =
     differ name.0 more (and_parts (is_new name.0 more) (are_new more) e).0 d j (omega (arith, within)) same
 distinct (name ∷ more) e (suc i) zero d before within same = absurd (omega (arith, before))
 distinct (name ∷ more) e (suc i) (suc j) d before within same =
-    distinct more (and_parts (is_new name.0 more) (are_new more) e).1 i j d (omega (arith, before)) (omega (arith, within)) same
+    distinct more (and_parts (is_new name.0 more) (are_new more) e).1 i j d (omega (arith, before))
+    (omega (arith, within)) same
 
 -- a use is the first program's
-firsts : (uses : List Use) → AllByRecursion (λ program. program ≡ First) uses → (i : ℕ) → i < length uses → slice_get uses i ≡ Some First
+firsts : (uses : List Use) → AllByRecursion (λ program. program ≡ First) uses → (i : ℕ) → i < length uses
+    → slice_get uses i ≡ Some First
 firsts [] all i within = absurd (omega (arith, within))
 firsts (program ∷ more) all zero within = ap Some all.0
 firsts (program ∷ more) all (suc i) within = firsts more all.1 i (omega (arith, within))
@@ -83,7 +86,10 @@ giop_is_model = record {
               omega arith,
               (
                 omega arith,
-                (omega arith, (omega arith, (omega arith, (omega arith, (omega arith, (omega arith, (omega arith, tt))))))),
+                (
+                  omega arith,
+                  (omega arith, (omega arith, (omega arith, (omega arith, (omega arith, (omega arith, tt)))))),
+                ),
               ),
             ),
           ),

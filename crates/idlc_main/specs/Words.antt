@@ -70,12 +70,15 @@ upgrade_app = with_rule (table_app (codes "upgrade")) output
 abbrev pub value_app : ValueParser → App
 value_app orders =
     let none = new_app (codes "idlc") in
-    with_command orders (with_command orders (record none { top = record none.top { subcommand_required = true } }) Encode) Decode
+    with_command orders
+    (with_command orders (record none { top = record none.top { subcommand_required = true } }) Encode) Decode
 
 -- the commands, of which a run has to name one
 abbrev pub program_app : ValueParser → App
 program_app orders =
-    with_subcommand (with_subcommand (with_subcommand (value_app orders) (table_app (codes "check")).top) (table_app (codes "show")).top) upgrade_app.top
+    with_subcommand
+    (with_subcommand (with_subcommand (value_app orders) (table_app (codes "check")).top)
+    (table_app (codes "show")).top) upgrade_app.top
 
 -- what clap found for the words of a command tells what is asked for
 pub record Tells (rows : List Row) (ask : Ask) : Type 0 where

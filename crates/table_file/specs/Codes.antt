@@ -13,7 +13,8 @@ use Rattle.table_file.specs.Joins.{split, parted, passed, same_fronts}
 
 -- A code: what stands at the front of octets is the spelling of one thing at most, and none is empty.
 pub record IsCode {A : Type 0} (spelled : A → Option (List ℕ)) : Type 0 where
-  pub one : (a b : A) (x y octets : List ℕ) → spelled a ++? Some x ≡ Some octets → spelled b ++? Some y ≡ Some octets → (a ≡ b) × (x ≡ y)
+  pub one : (a b : A) (x y octets : List ℕ) → spelled a ++? Some x ≡ Some octets
+      → spelled b ++? Some y ≡ Some octets → (a ≡ b) × (x ≡ y)
   pub some : (a : A) (octets : List ℕ) → spelled a ≡ Some octets → 0 < length octets
 
 -- what is spelled as something else, from which it is read off
@@ -42,7 +43,8 @@ fixed_code spelled k some long same = record {
 }
 
 -- a code and then a code
-pub pair_code : {A B : Type 0} (f : A → Option (List ℕ)) (g : B → Option (List ℕ)) → IsCode f → IsCode g → IsCode (spelled_pair f g)
+pub pair_code : {A B : Type 0} (f : A → Option (List ℕ)) (g : B → Option (List ℕ)) → IsCode f → IsCode g
+    → IsCode (spelled_pair f g)
 pair_code {A} {B} f g fs gs = record {
   one = λ a b x y octets ea eb.
       let pa = parted (f a.0) (g a.1) (Some x) octets ea in

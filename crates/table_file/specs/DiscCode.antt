@@ -19,14 +19,16 @@ disc_tag (Word width signed) = 2
 disc_tag (Enum n) = 3
 
 -- stands at the front
-disc_tagged : (a : Disc) (rest octets : List ℕ) → spelled_disc a ++? Some rest ≡ Some octets → (t : List ℕ) × (octets ≡ disc_tag a ∷ t)
+disc_tagged : (a : Disc) (rest octets : List ℕ) → spelled_disc a ++? Some rest ≡ Some octets
+    → (t : List ℕ) × (octets ≡ disc_tag a ∷ t)
 unfolding disc_tag
 disc_tagged Char rest octets e = (rest, cc)
 disc_tagged Boolean rest octets e = (rest, cc)
 disc_tagged (Word width signed) rest octets e = tag_first 2 (spelled_width width ++? spelled_flag signed) rest octets e
 disc_tagged (Enum n) rest octets e = tag_first 3 (spelled_word n) rest octets e
 
-disc_is : (a : Disc) (tag : ℕ) (rest octets : List ℕ) → spelled_disc a ++? Some rest ≡ Some (tag ∷ octets) → disc_tag a ≡ tag
+disc_is : (a : Disc) (tag : ℕ) (rest octets : List ℕ) → spelled_disc a ++? Some rest ≡ Some (tag ∷ octets)
+    → disc_tag a ≡ tag
 disc_is a tag rest octets e = let p = disc_tagged a rest (tag ∷ octets) e in cc
 
 char_only : (a : Disc) → disc_tag a ≡ 0 → (x : Unit {0}) × (a ≡ Char)
@@ -50,7 +52,8 @@ unfolding disc_tag
 word_only (Word width signed) e = ((width, signed), refl)
 word_only a e = absurd (omega arith)
 
-pub word_variant : IsVariant spelled_disc 2 (spelled_pair spelled_width spelled_flag) (λ (x : Width × Bool). Word x.0 x.1)
+pub word_variant : IsVariant spelled_disc 2 (spelled_pair spelled_width spelled_flag)
+    (λ (x : Width × Bool). Word x.0 x.1)
 word_variant = record { says = λ x. refl; only = λ a rest octets e. word_only a (disc_is a 2 rest octets e) }
 
 enum_only : (a : Disc) → disc_tag a ≡ 3 → (x : ℕ) × (a ≡ Enum x)
@@ -69,7 +72,8 @@ disc_few Boolean = omega arith
 disc_few (Word width signed) = omega arith
 disc_few (Enum n) = omega arith
 
-pub disc_other : (tag : ℕ) → 4 ≤ tag → (a : Disc) (rest octets : List ℕ) → spelled_disc a ++? Some rest ≡ Some (tag ∷ octets) → ⊥
+pub disc_other : (tag : ℕ) → 4 ≤ tag → (a : Disc) (rest octets : List ℕ)
+    → spelled_disc a ++? Some rest ≡ Some (tag ∷ octets) → ⊥
 disc_other tag many a rest octets e =
     let few = disc_few a in
     let same = disc_is a tag rest octets e in
@@ -81,7 +85,10 @@ disc_code = record {
   one = elim [
     | Char ↦ one_variant spelled_disc 0 nothing (λ (x : Unit {0}). Char) char_variant one_nothing tt
     | Boolean ↦ one_variant spelled_disc 1 nothing (λ (x : Unit {0}). Boolean) boolean_variant one_nothing tt
-    | Word width signed ↦ one_variant spelled_disc 2 (spelled_pair spelled_width spelled_flag) (λ (x : Width × Bool). Word x.0 x.1) word_variant (pair_code spelled_width spelled_flag width_code flag_code).one (width, signed)
+    | Word width signed ↦
+        one_variant spelled_disc 2 (spelled_pair spelled_width spelled_flag)
+        (λ (x : Width × Bool). Word x.0 x.1) word_variant
+        (pair_code spelled_width spelled_flag width_code flag_code).one (width, signed)
     | Enum n ↦ one_variant spelled_disc 3 spelled_word (λ (x : ℕ). Enum x) enum_variant word_code.one n
   ];
   some = λ a octets e.

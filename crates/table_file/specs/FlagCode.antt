@@ -12,12 +12,14 @@ flag_tag false = 0
 flag_tag true = 1
 
 -- stands at the front
-flag_tagged : (a : Bool) (rest octets : List ℕ) → spelled_flag a ++? Some rest ≡ Some octets → (t : List ℕ) × (octets ≡ flag_tag a ∷ t)
+flag_tagged : (a : Bool) (rest octets : List ℕ) → spelled_flag a ++? Some rest ≡ Some octets
+    → (t : List ℕ) × (octets ≡ flag_tag a ∷ t)
 unfolding flag_tag
 flag_tagged false rest octets e = (rest, cc)
 flag_tagged true rest octets e = (rest, cc)
 
-flag_is : (a : Bool) (tag : ℕ) (rest octets : List ℕ) → spelled_flag a ++? Some rest ≡ Some (tag ∷ octets) → flag_tag a ≡ tag
+flag_is : (a : Bool) (tag : ℕ) (rest octets : List ℕ) → spelled_flag a ++? Some rest ≡ Some (tag ∷ octets)
+    → flag_tag a ≡ tag
 flag_is a tag rest octets e = let p = flag_tagged a rest (tag ∷ octets) e in cc
 
 false_only : (a : Bool) → flag_tag a ≡ 0 → (x : Unit {0}) × (a ≡ false)
@@ -42,7 +44,8 @@ unfolding flag_tag
 flag_few false = omega arith
 flag_few true = omega arith
 
-pub flag_other : (tag : ℕ) → 2 ≤ tag → (a : Bool) (rest octets : List ℕ) → spelled_flag a ++? Some rest ≡ Some (tag ∷ octets) → ⊥
+pub flag_other : (tag : ℕ) → 2 ≤ tag → (a : Bool) (rest octets : List ℕ)
+    → spelled_flag a ++? Some rest ≡ Some (tag ∷ octets) → ⊥
 flag_other tag many a rest octets e =
     let few = flag_few a in
     let same = flag_is a tag rest octets e in

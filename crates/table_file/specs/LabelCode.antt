@@ -31,23 +31,28 @@ low_same (suc k) m n e =
     let low = low_same k m n (cc) in
     let more : 8 * suc k ≡ 8 + 8 * k = omega arith in
     let tops : m / 2 ^ (8 * k) % 2 ^ 8 ≡ n / 2 ^ (8 * k) % 2 ^ 8 = sym (byte_high k m) ∙ top ∙ byte_high k n in
-    ap (λ j. m % 2 ^ j) more ∙ mod-pow-add m 8 (8 * k) ∙ ap₂ (λ a b. a * 2 ^ (8 * k) + b) tops low ∙ sym (mod-pow-add n 8 (8 * k)) ∙ ap (λ j. n % 2 ^ j) (sym more)
+    ap (λ j. m % 2 ^ j) more ∙ mod-pow-add m 8 (8 * k) ∙ ap₂ (λ a b. a * 2 ^ (8 * k) + b) tops low
+    ∙ sym (mod-pow-add n 8 (8 * k)) ∙ ap (λ j. n % 2 ^ j) (sym more)
 
 -- the octets of two halves
-pub halves : (high low : ℕ) → high < 2 ^ 64 → low < 2 ^ 64 → bytes_high_first 16 (high * 2 ^ 64 + low) ≡ bytes_high_first 8 high ++ bytes_high_first 8 low
+pub halves : (high low : ℕ) → high < 2 ^ 64 → low < 2 ^ 64
+    → bytes_high_first 16 (high * 2 ^ 64 + low) ≡ bytes_high_first 8 high ++ bytes_high_first 8 low
 halves high low h l =
     let begin = λ (a b : ℕ) (xs ys : List ℕ) (e : a ≡ b) (es : xs ≡ ys). ap₂ (λ x l. x ∷ l) e es in
     begin _ _ _ _ (omega arith) (begin _ _ _ _ (omega arith) (begin _ _ _ _ (omega arith) (begin _ _ _ _ (omega arith)
     (begin _ _ _ _ (omega arith) (begin _ _ _ _ (omega arith) (begin _ _ _ _ (omega arith) (begin _ _ _ _ (omega arith)
     (begin _ _ _ _ (omega arith) (begin _ _ _ _ (omega arith) (begin _ _ _ _ (omega arith) (begin _ _ _ _ (omega arith)
-    (begin _ _ _ _ (omega arith) (begin _ _ _ _ (omega arith) (begin _ _ _ _ (omega arith) (begin _ _ _ _ (omega arith) refl)))))))))))))))
+    (begin _ _ _ _ (omega arith)
+    (begin _ _ _ _ (omega arith) (begin _ _ _ _ (omega arith) (begin _ _ _ _ (omega arith) refl)))))))))))))))
 
 small : (a : ℤ) (s : List ℕ) → spelled_label a ≡ Some s → (twos_complement 16 a < 2 ^ 128) × (octets_of Big 16 a ≡ s)
-small (pos n) s e = let p = passed (nat_lt n (2 ^ 127)) (octets_of Big 16 (pos n)) s e in let h = ltb-true n (2 ^ 127) p.0 in (omega arith, p.1)
+small (pos n) s e = let p = passed (nat_lt n (2 ^ 127)) (octets_of Big 16 (pos n)) s e in let h =
+    ltb-true n (2 ^ 127) p.0 in (omega arith, p.1)
 small (negsuc n) s e = let p = passed (nat_lt n (2 ^ 127)) (octets_of Big 16 (negsuc n)) s e in (omega arith, p.1)
 
 -- two's complement tells numbers apart
-apart : (a b : ℤ) (s : List ℕ) → spelled_label a ≡ Some s → spelled_label b ≡ Some s → twos_complement 16 a ≡ twos_complement 16 b → a ≡ b
+apart : (a b : ℤ) (s : List ℕ) → spelled_label a ≡ Some s → spelled_label b ≡ Some s
+    → twos_complement 16 a ≡ twos_complement 16 b → a ≡ b
 apart (pos m) (pos n) s ea eb e = ap pos e
 apart (pos m) (negsuc n) s ea eb e =
     let p = ltb-true m (2 ^ 127) (passed (nat_lt m (2 ^ 127)) (octets_of Big 16 (pos m)) s ea).0 in
@@ -72,7 +77,8 @@ label_code = fixed_code spelled_label 16 (omega arith)
     (λ a b s ea eb.
     let p = small a s ea in
     let q = small b s eb in
-    let same : twos_complement 16 a % 2 ^ 128 ≡ twos_complement 16 b % 2 ^ 128 = low_same 16 (twos_complement 16 a) (twos_complement 16 b) (p.1 ∙ sym q.1) in
+    let same : twos_complement 16 a % 2 ^ 128 ≡ twos_complement 16 b % 2 ^ 128 =
+    low_same 16 (twos_complement 16 a) (twos_complement 16 b) (p.1 ∙ sym q.1) in
     apart a b s ea eb (sym (mod-eq_of_lt p.0) ∙ same ∙ mod-eq_of_lt q.0))
 
 pub arm_code : IsCode spelled_arm

@@ -8,7 +8,8 @@ use Rattle.table_file.specs.Joins.{split, parted}
 use Rattle.table_file.specs.Codes.{IsCode, word_code, ascii_code}
 
 -- two lists of one length
-pub one_each : {A : Type 0} (f : A → Option (List ℕ)) → IsCode f → (xs ys : List A) (x y octets : List ℕ) → length xs ≡ length ys
+pub one_each : {A : Type 0} (f : A → Option (List ℕ)) → IsCode f → (xs ys : List A) (x y octets : List ℕ)
+    → length xs ≡ length ys
     → spelled_each f xs ++? Some x ≡ Some octets → spelled_each f ys ++? Some y ≡ Some octets → (xs ≡ ys) × (x ≡ y)
 one_each f code [] [] x y octets l ea eb = (refl, cc)
 one_each f code [] (b ∷ ys) x y octets l ea eb = absurd (omega arith)
@@ -21,7 +22,8 @@ one_each f code (a ∷ xs) (b ∷ ys) x y octets l ea eb =
     (ap₂ (λ i is. i ∷ is) first.0 rest.0, rest.1)
 
 -- each takes an octet at least
-pub each_long : {A : Type 0} (f : A → Option (List ℕ)) → IsCode f → (xs : List A) (octets : List ℕ) → spelled_each f xs ≡ Some octets → length xs ≤ length octets
+pub each_long : {A : Type 0} (f : A → Option (List ℕ)) → IsCode f → (xs : List A) (octets : List ℕ)
+    → spelled_each f xs ≡ Some octets → length xs ≤ length octets
 each_long f code [] octets e = omega arith
 each_long f code (a ∷ xs) octets e =
     let p = split (f a) (spelled_each f xs) octets e in
@@ -32,17 +34,20 @@ each_long f code (a ∷ xs) octets e =
     omega (arith, one, more, l, long)
 
 -- of one number
-ran : (b : Bool) (p : Option (List ℕ)) (q : Option (List ℕ)) (octets : List ℕ) → cond b p None ++? q ≡ Some octets → (b ≡ true) × (p ++? q ≡ Some octets)
+ran : (b : Bool) (p : Option (List ℕ)) (q : Option (List ℕ)) (octets : List ℕ) → cond b p None ++? q ≡ Some octets
+    → (b ≡ true) × (p ++? q ≡ Some octets)
 ran true p q octets e = (refl, e)
 ran false p q octets e = absurd (cc)
 
-pub run_at : {A : Type 0} (n : ℕ) (f : A → Option (List ℕ)) (xs : List A) (rest octets : List ℕ) → spelled_run n f xs ++? Some rest ≡ Some octets
+pub run_at : {A : Type 0} (n : ℕ) (f : A → Option (List ℕ)) (xs : List A) (rest octets : List ℕ)
+    → spelled_run n f xs ++? Some rest ≡ Some octets
     → (length xs ≡ n) × (spelled_each f xs ++? Some rest ≡ Some octets)
 run_at n f xs rest octets e =
     let p = ran (nat_eq (length xs) n) (spelled_each f xs) (Some rest) octets e in
     (eqb-true (length xs) n p.0, p.1)
 
-pub run_of : {A : Type 0} (n : ℕ) (f : A → Option (List ℕ)) (xs : List A) → length xs ≡ n → spelled_run n f xs ≡ spelled_each f xs
+pub run_of : {A : Type 0} (n : ℕ) (f : A → Option (List ℕ)) (xs : List A) → length xs ≡ n
+    → spelled_run n f xs ≡ spelled_each f xs
 run_of n f xs e = ap (λ b. cond b (spelled_each f xs) None) (eq-eqb (length xs) n e)
 
 pub run_code : {A : Type 0} (n : ℕ) (f : A → Option (List ℕ)) → 0 < n → IsCode f → IsCode (spelled_run n f)

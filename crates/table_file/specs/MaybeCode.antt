@@ -12,12 +12,14 @@ maybe_tag None = 0
 maybe_tag (Some n) = 1
 
 -- stands at the front
-maybe_tagged : (a : Option ℕ) (rest octets : List ℕ) → spelled_maybe a ++? Some rest ≡ Some octets → (t : List ℕ) × (octets ≡ maybe_tag a ∷ t)
+maybe_tagged : (a : Option ℕ) (rest octets : List ℕ) → spelled_maybe a ++? Some rest ≡ Some octets
+    → (t : List ℕ) × (octets ≡ maybe_tag a ∷ t)
 unfolding maybe_tag
 maybe_tagged None rest octets e = (rest, cc)
 maybe_tagged (Some n) rest octets e = tag_first 1 (spelled_word n) rest octets e
 
-maybe_is : (a : Option ℕ) (tag : ℕ) (rest octets : List ℕ) → spelled_maybe a ++? Some rest ≡ Some (tag ∷ octets) → maybe_tag a ≡ tag
+maybe_is : (a : Option ℕ) (tag : ℕ) (rest octets : List ℕ) → spelled_maybe a ++? Some rest ≡ Some (tag ∷ octets)
+    → maybe_tag a ≡ tag
 maybe_is a tag rest octets e = let p = maybe_tagged a rest (tag ∷ octets) e in cc
 
 none_only : (a : Option ℕ) → maybe_tag a ≡ 0 → (x : Unit {0}) × (a ≡ None)
@@ -42,7 +44,8 @@ unfolding maybe_tag
 maybe_few None = omega arith
 maybe_few (Some n) = omega arith
 
-pub maybe_other : (tag : ℕ) → 2 ≤ tag → (a : Option ℕ) (rest octets : List ℕ) → spelled_maybe a ++? Some rest ≡ Some (tag ∷ octets) → ⊥
+pub maybe_other : (tag : ℕ) → 2 ≤ tag → (a : Option ℕ) (rest octets : List ℕ)
+    → spelled_maybe a ++? Some rest ≡ Some (tag ∷ octets) → ⊥
 maybe_other tag many a rest octets e =
     let few = maybe_few a in
     let same = maybe_is a tag rest octets e in

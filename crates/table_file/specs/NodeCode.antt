@@ -29,7 +29,8 @@ node_tag (Union switch arms default) = 9
 node_tag (Frame members) = 10
 
 -- stands at the front
-node_tagged : (a : Node) (rest octets : List ℕ) → spelled_node a ++? Some rest ≡ Some octets → (t : List ℕ) × (octets ≡ node_tag a ∷ t)
+node_tagged : (a : Node) (rest octets : List ℕ) → spelled_node a ++? Some rest ≡ Some octets
+    → (t : List ℕ) × (octets ≡ node_tag a ∷ t)
 unfolding node_tag
 node_tagged (Whole width signed) rest octets e = tag_first 0 (spelled_width width ++? spelled_flag signed) rest octets e
 node_tagged Octet rest octets e = (rest, cc)
@@ -40,10 +41,12 @@ node_tagged (Text bound) rest octets e = tag_first 5 (spelled_word bound) rest o
 node_tagged (Seq elem bound) rest octets e = tag_first 6 (spelled_word elem ++? spelled_word bound) rest octets e
 node_tagged (Array elem n) rest octets e = tag_first 7 (spelled_word elem ++? spelled_word n) rest octets e
 node_tagged (Struct members) rest octets e = tag_first 8 (spelled_list spelled_word members) rest octets e
-node_tagged (Union switch arms default) rest octets e = tag_first 9 (spelled_word switch ++? spelled_list spelled_arm arms ++? spelled_maybe default) rest octets e
+node_tagged (Union switch arms default) rest octets e =
+    tag_first 9 (spelled_word switch ++? spelled_list spelled_arm arms ++? spelled_maybe default) rest octets e
 node_tagged (Frame members) rest octets e = tag_first 10 (spelled_list spelled_word members) rest octets e
 
-node_is : (a : Node) (tag : ℕ) (rest octets : List ℕ) → spelled_node a ++? Some rest ≡ Some (tag ∷ octets) → node_tag a ≡ tag
+node_is : (a : Node) (tag : ℕ) (rest octets : List ℕ) → spelled_node a ++? Some rest ≡ Some (tag ∷ octets)
+    → node_tag a ≡ tag
 node_is a tag rest octets e = let p = node_tagged a rest (tag ∷ octets) e in cc
 
 whole_only : (a : Node) → node_tag a ≡ 0 → (x : Width × Bool) × (a ≡ Whole x.0 x.1)
@@ -51,7 +54,8 @@ unfolding node_tag
 whole_only (Whole width signed) e = ((width, signed), refl)
 whole_only a e = absurd (omega arith)
 
-pub whole_variant : IsVariant spelled_node 0 (spelled_pair spelled_width spelled_flag) (λ (x : Width × Bool). Whole x.0 x.1)
+pub whole_variant : IsVariant spelled_node 0 (spelled_pair spelled_width spelled_flag)
+    (λ (x : Width × Bool). Whole x.0 x.1)
 whole_variant = record { says = λ x. refl; only = λ a rest octets e. whole_only a (node_is a 0 rest octets e) }
 
 octet_only : (a : Node) → node_tag a ≡ 1 → (x : Unit {0}) × (a ≡ Octet)
@@ -123,7 +127,9 @@ unfolding node_tag
 union_only (Union switch arms default) e = ((switch, (arms, default)), refl)
 union_only a e = absurd (omega arith)
 
-pub union_variant : IsVariant spelled_node 9 (spelled_pair spelled_word (spelled_pair (spelled_list spelled_arm) spelled_maybe)) (λ (x : ℕ × (List (ℤ × ℕ) × Option ℕ)). Union x.0 x.1.0 x.1.1)
+pub union_variant : IsVariant spelled_node 9
+    (spelled_pair spelled_word (spelled_pair (spelled_list spelled_arm) spelled_maybe))
+    (λ (x : ℕ × (List (ℤ × ℕ) × Option ℕ)). Union x.0 x.1.0 x.1.1)
 union_variant = record { says = λ x. refl; only = λ a rest octets e. union_only a (node_is a 9 rest octets e) }
 
 frame_only : (a : Node) → node_tag a ≡ 10 → (x : List ℕ) × (a ≡ Frame x)
@@ -149,7 +155,8 @@ node_few (Struct members) = omega arith
 node_few (Union switch arms default) = omega arith
 node_few (Frame members) = omega arith
 
-pub node_other : (tag : ℕ) → 11 ≤ tag → (a : Node) (rest octets : List ℕ) → spelled_node a ++? Some rest ≡ Some (tag ∷ octets) → ⊥
+pub node_other : (tag : ℕ) → 11 ≤ tag → (a : Node) (rest octets : List ℕ)
+    → spelled_node a ++? Some rest ≡ Some (tag ∷ octets) → ⊥
 node_other tag many a rest octets e =
     let few = node_few a in
     let same = node_is a tag rest octets e in
@@ -159,17 +166,35 @@ pub node_code : IsCode spelled_node
 unfolding node_tag
 node_code = record {
   one = elim [
-    | Whole width signed ↦ one_variant spelled_node 0 (spelled_pair spelled_width spelled_flag) (λ (x : Width × Bool). Whole x.0 x.1) whole_variant (pair_code spelled_width spelled_flag width_code flag_code).one (width, signed)
+    | Whole width signed ↦
+        one_variant spelled_node 0 (spelled_pair spelled_width spelled_flag)
+        (λ (x : Width × Bool). Whole x.0 x.1) whole_variant
+        (pair_code spelled_width spelled_flag width_code flag_code).one (width, signed)
     | Octet ↦ one_variant spelled_node 1 nothing (λ (x : Unit {0}). Octet) octet_variant one_nothing tt
     | Char ↦ one_variant spelled_node 2 nothing (λ (x : Unit {0}). Char) char_variant one_nothing tt
     | Boolean ↦ one_variant spelled_node 3 nothing (λ (x : Unit {0}). Boolean) boolean_variant one_nothing tt
     | Enum n ↦ one_variant spelled_node 4 spelled_word (λ (x : ℕ). Enum x) enum_variant word_code.one n
     | Text bound ↦ one_variant spelled_node 5 spelled_word (λ (x : ℕ). Text x) text_variant word_code.one bound
-    | Seq elem bound ↦ one_variant spelled_node 6 (spelled_pair spelled_word spelled_word) (λ (x : ℕ × ℕ). Seq x.0 x.1) seq_variant (pair_code spelled_word spelled_word word_code word_code).one (elem, bound)
-    | Array elem n ↦ one_variant spelled_node 7 (spelled_pair spelled_word spelled_word) (λ (x : ℕ × ℕ). Array x.0 x.1) array_variant (pair_code spelled_word spelled_word word_code word_code).one (elem, n)
-    | Struct members ↦ one_variant spelled_node 8 (spelled_list spelled_word) (λ (x : List ℕ). Struct x) struct_variant (list_code spelled_word word_code).one members
-    | Union switch arms default ↦ one_variant spelled_node 9 (spelled_pair spelled_word (spelled_pair (spelled_list spelled_arm) spelled_maybe)) (λ (x : ℕ × (List (ℤ × ℕ) × Option ℕ)). Union x.0 x.1.0 x.1.1) union_variant (pair_code spelled_word (spelled_pair (spelled_list spelled_arm) spelled_maybe) word_code (pair_code (spelled_list spelled_arm) spelled_maybe (list_code spelled_arm arm_code) maybe_code)).one (switch, (arms, default))
-    | Frame members ↦ one_variant spelled_node 10 (spelled_list spelled_word) (λ (x : List ℕ). Frame x) frame_variant (list_code spelled_word word_code).one members
+    | Seq elem bound ↦
+        one_variant spelled_node 6 (spelled_pair spelled_word spelled_word) (λ (x : ℕ × ℕ). Seq x.0 x.1) seq_variant
+        (pair_code spelled_word spelled_word word_code word_code).one (elem, bound)
+    | Array elem n ↦
+        one_variant spelled_node 7 (spelled_pair spelled_word spelled_word)
+        (λ (x : ℕ × ℕ). Array x.0 x.1) array_variant (pair_code spelled_word spelled_word word_code word_code).one
+        (elem, n)
+    | Struct members ↦
+        one_variant spelled_node 8 (spelled_list spelled_word) (λ (x : List ℕ). Struct x) struct_variant
+        (list_code spelled_word word_code).one members
+    | Union switch arms default ↦
+        one_variant spelled_node 9
+        (spelled_pair spelled_word (spelled_pair (spelled_list spelled_arm) spelled_maybe))
+        (λ (x : ℕ × (List (ℤ × ℕ) × Option ℕ)). Union x.0 x.1.0 x.1.1) union_variant
+        (pair_code spelled_word (spelled_pair (spelled_list spelled_arm) spelled_maybe) word_code
+        (pair_code (spelled_list spelled_arm) spelled_maybe (list_code spelled_arm arm_code) maybe_code)).one
+        (switch, (arms, default))
+    | Frame members ↦
+        one_variant spelled_node 10 (spelled_list spelled_word) (λ (x : List ℕ). Frame x) frame_variant
+        (list_code spelled_word word_code).one members
   ];
   some = λ a octets e.
       let p = node_tagged a [] octets (ap (λ o. o ++? Some []) e ∙ ap Some (append-nil octets)) in

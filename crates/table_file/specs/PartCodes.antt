@@ -26,14 +26,18 @@ abbrev pub interface_fields : Interface → InterfaceFields
 interface_fields x = (x.name, (x.id, (x.bases, x.operations)))
 
 abbrev pub spelled_interface_fields : InterfaceFields → Option (List ℕ)
-spelled_interface_fields = spelled_pair spelled_text (spelled_pair spelled_text (spelled_pair (spelled_list spelled_text) (spelled_list spelled_word)))
+spelled_interface_fields =
+    spelled_pair spelled_text
+    (spelled_pair spelled_text (spelled_pair (spelled_list spelled_text) (spelled_list spelled_word)))
 
 pub interface_code : IsCode spelled_interface
 interface_code = via_code spelled_interface_fields interface_fields
     (λ x. record { name = x.0; id = x.1.0; bases = x.1.1.0; operations = x.1.1.1 }) (λ x. refl)
-    (pair_code spelled_text (spelled_pair spelled_text (spelled_pair (spelled_list spelled_text) (spelled_list spelled_word))) text_code
+    (pair_code spelled_text
+    (spelled_pair spelled_text (spelled_pair (spelled_list spelled_text) (spelled_list spelled_word))) text_code
     (pair_code spelled_text (spelled_pair (spelled_list spelled_text) (spelled_list spelled_word)) text_code
-    (pair_code (spelled_list spelled_text) (spelled_list spelled_word) (list_code spelled_text text_code) (list_code spelled_word word_code))))
+    (pair_code (spelled_list spelled_text) (spelled_list spelled_word) (list_code spelled_text text_code)
+    (list_code spelled_word word_code))))
 
 -- an operation as pairs
 abbrev pub OperationFields : Type 0
@@ -43,13 +47,19 @@ abbrev pub operation_fields : Operation → OperationFields
 operation_fields x = (x.name, (x.oneway, (x.request, (x.reply, x.exceptions))))
 
 abbrev pub spelled_operation_fields : OperationFields → Option (List ℕ)
-spelled_operation_fields = spelled_pair spelled_text (spelled_pair spelled_flag (spelled_pair spelled_word (spelled_pair spelled_word (spelled_list spelled_word))))
+spelled_operation_fields =
+    spelled_pair spelled_text
+    (spelled_pair spelled_flag (spelled_pair spelled_word (spelled_pair spelled_word (spelled_list spelled_word))))
 
 pub operation_code : IsCode spelled_operation
 operation_code = via_code spelled_operation_fields operation_fields
-    (λ x. record { name = x.0; oneway = x.1.0; request = x.1.1.0; reply = x.1.1.1.0; exceptions = x.1.1.1.1 }) (λ x. refl)
-    (pair_code spelled_text (spelled_pair spelled_flag (spelled_pair spelled_word (spelled_pair spelled_word (spelled_list spelled_word)))) text_code
-    (pair_code spelled_flag (spelled_pair spelled_word (spelled_pair spelled_word (spelled_list spelled_word))) flag_code
+    (λ x. record { name = x.0; oneway = x.1.0; request = x.1.1.0; reply = x.1.1.1.0; exceptions = x.1.1.1.1 })
+    (λ x. refl)
+    (pair_code spelled_text
+    (spelled_pair spelled_flag
+    (spelled_pair spelled_word (spelled_pair spelled_word (spelled_list spelled_word)))) text_code
+    (pair_code spelled_flag
+    (spelled_pair spelled_word (spelled_pair spelled_word (spelled_list spelled_word))) flag_code
     (pair_code spelled_word (spelled_pair spelled_word (spelled_list spelled_word)) word_code
     (pair_code spelled_word (spelled_list spelled_word) word_code (list_code spelled_word word_code)))))
 
@@ -66,7 +76,8 @@ spelled_exception_fields = spelled_pair spelled_text (spelled_pair spelled_text 
 pub exception_code : IsCode spelled_exception
 exception_code = via_code spelled_exception_fields exception_fields
     (λ x. record { name = x.0; id = x.1.0; frame = x.1.1 }) (λ x. refl)
-    (pair_code spelled_text (spelled_pair spelled_text spelled_word) text_code (pair_code spelled_text spelled_word text_code word_code))
+    (pair_code spelled_text (spelled_pair spelled_text spelled_word) text_code
+    (pair_code spelled_text spelled_word text_code word_code))
 
 -- a model as pairs
 abbrev pub ModelFields : Type 0
@@ -77,7 +88,8 @@ model_fields x = (x.graph, (x.names, (x.interfaces, (x.operations, x.exceptions)
 
 abbrev pub spelled_model_fields : ModelFields → Option (List ℕ)
 spelled_model_fields = spelled_pair (spelled_list spelled_node) (spelled_pair (spelled_list spelled_name)
-    (spelled_pair (spelled_list spelled_interface) (spelled_pair (spelled_list spelled_operation) (spelled_list spelled_exception))))
+    (spelled_pair (spelled_list spelled_interface)
+    (spelled_pair (spelled_list spelled_operation) (spelled_list spelled_exception))))
 
 pub model_fields_code : IsCode spelled_model_fields
 model_fields_code =
@@ -87,11 +99,19 @@ model_fields_code =
     pair_code (spelled_list spelled_node) names (list_code spelled_node node_code)
     (pair_code (spelled_list spelled_name) interfaces (list_code spelled_name name_code)
     (pair_code (spelled_list spelled_interface) operations (list_code spelled_interface interface_code)
-    (pair_code (spelled_list spelled_operation) (spelled_list spelled_exception) (list_code spelled_operation operation_code) (list_code spelled_exception exception_code))))
+    (pair_code (spelled_list spelled_operation) (spelled_list spelled_exception)
+    (list_code spelled_operation operation_code) (list_code spelled_exception exception_code))))
 
 pub model_code : IsCode spelled_model
 model_code = via_code spelled_model_fields model_fields
-    (λ x. record { graph = x.0; names = x.1.0; interfaces = x.1.1.0; operations = x.1.1.1.0; exceptions = x.1.1.1.1 }) (λ x. refl) model_fields_code
+    (λ x. record {
+      graph = x.0;
+      names = x.1.0;
+      interfaces = x.1.1.0;
+      operations = x.1.1.1.0;
+      exceptions =
+          x.1.1.1.1;
+    }) (λ x. refl) model_fields_code
 
 -- a routine as pairs
 abbrev pub RoutineFields : Type 0
@@ -101,7 +121,10 @@ abbrev pub routine_fields : Routine → RoutineFields
 routine_fields x = (x.node, (x.entry, (x.exits, (x.rank, x.code))))
 
 abbrev pub spelled_routine_fields : RoutineFields → Option (List ℕ)
-spelled_routine_fields = spelled_pair spelled_word (spelled_pair spelled_octet (spelled_pair (spelled_run 8 spelled_octet) (spelled_pair spelled_word (spelled_list spelled_instr))))
+spelled_routine_fields =
+    spelled_pair spelled_word
+    (spelled_pair spelled_octet
+    (spelled_pair (spelled_run 8 spelled_octet) (spelled_pair spelled_word (spelled_list spelled_instr))))
 
 pub exits_code : IsCode (spelled_run 8 spelled_octet)
 exits_code = run_code 8 spelled_octet (omega arith) octet_code

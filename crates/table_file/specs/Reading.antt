@@ -15,7 +15,8 @@ BeginsWithNone {A} spelled octets = (x : A) (rest : List ℕ) → spelled x ++? 
 
 -- The octets that are left before and after a part is read: None where a number that no table has was read before. The
 -- spelling of the part stands at the front, or none does.
-abbrev pub ReadsBy : {A : Type 0} → (A → Option (List ℕ)) → Result A TableFault → Option (List ℕ) → Option (List ℕ) → Type 0
+abbrev pub ReadsBy : {A : Type 0} → (A → Option (List ℕ)) → Result A TableFault → Option (List ℕ) → Option (List ℕ)
+    → Type 0
 ReadsBy spelled (Ok x) (Some octets) (Some rest) = spelled x ++? Some rest ≡ Some octets
 ReadsBy spelled (Ok x) (Some octets) None = BeginsWithNone spelled octets
 ReadsBy spelled (Ok x) None (Some rest) = ⊥
@@ -23,7 +24,8 @@ ReadsBy spelled (Ok x) None None = Unit {0}
 ReadsBy spelled (Err fault) (Some octets) new = OnlyIf fault (BeginsWithNone spelled octets)
 ReadsBy spelled (Err fault) None new = Unit {0}
 
-pub record Reads {A : Type 0} (spelled : A → Option (List ℕ)) (result : Result A TableFault) (old new : Option (List ℕ)) : Type 0 where
+pub record Reads {A : Type 0} (spelled : A → Option (List ℕ)) (result : Result A TableFault)
+    (old new : Option (List ℕ)) : Type 0 where
   pub reads : ReadsBy spelled result old new
 
 -- Behind what was written before, a spelling is put, or there is none.

@@ -38,7 +38,8 @@ spelled_node (nodes.Text bound) = tag 5 ++? spelled_word bound
 spelled_node (nodes.Seq elem bound) = tag 6 ++? spelled_word elem ++? spelled_word bound
 spelled_node (nodes.Array elem n) = tag 7 ++? spelled_word elem ++? spelled_word n
 spelled_node (nodes.Struct members) = tag 8 ++? spelled_list spelled_word members
-spelled_node (nodes.Union switch arms default) = tag 9 ++? spelled_word switch ++? spelled_list spelled_arm arms ++? spelled_maybe default
+spelled_node (nodes.Union switch arms default) =
+    tag 9 ++? spelled_word switch ++? spelled_list spelled_arm arms ++? spelled_maybe default
 spelled_node (nodes.Frame members) = tag 10 ++? spelled_list spelled_word members
 
 -- a name and its node
@@ -47,10 +48,14 @@ spelled_name = spelled_pair spelled_text spelled_word
 
 -- the repository ids of all bases, and the places of all operations
 abbrev pub spelled_interface : Interface → Option (List ℕ)
-spelled_interface x = spelled_text x.name ++? spelled_text x.id ++? spelled_list spelled_text x.bases ++? spelled_list spelled_word x.operations
+spelled_interface x =
+    spelled_text x.name ++? spelled_text x.id ++? spelled_list spelled_text x.bases
+    ++? spelled_list spelled_word x.operations
 
 abbrev pub spelled_operation : Operation → Option (List ℕ)
-spelled_operation x = spelled_text x.name ++? spelled_flag x.oneway ++? spelled_word x.request ++? spelled_word x.reply ++? spelled_list spelled_word x.exceptions
+spelled_operation x =
+    spelled_text x.name ++? spelled_flag x.oneway ++? spelled_word x.request ++? spelled_word x.reply
+    ++? spelled_list spelled_word x.exceptions
 
 abbrev pub spelled_exception : Exception → Option (List ℕ)
 spelled_exception x = spelled_text x.name ++? spelled_text x.id ++? spelled_word x.frame
@@ -76,15 +81,20 @@ spelled_instr (instrs.EnumWord limit) = tag 4 ++? spelled_word limit
 spelled_instr (instrs.Text bound) = tag 5 ++? spelled_word bound
 spelled_instr (instrs.SeqOctets bound) = tag 6 ++? spelled_word bound
 spelled_instr (instrs.SeqBools bound) = tag 7 ++? spelled_word bound
-spelled_instr (instrs.SeqWords width first bound) = tag 8 ++? spelled_width width ++? spelled_width first ++? spelled_word bound
-spelled_instr (instrs.SeqOf bound first routine) = tag 9 ++? spelled_word bound ++? spelled_width first ++? spelled_word routine
+spelled_instr (instrs.SeqWords width first bound) =
+    tag 8 ++? spelled_width width ++? spelled_width first ++? spelled_word bound
+spelled_instr (instrs.SeqOf bound first routine) =
+    tag 9 ++? spelled_word bound ++? spelled_width first ++? spelled_word routine
 spelled_instr (instrs.Times n routine) = tag 10 ++? spelled_word n ++? spelled_word routine
 spelled_instr (instrs.Call routine) = tag 11 ++? spelled_word routine
-spelled_instr (instrs.Switch disc arms otherwise) = tag 12 ++? spelled_disc disc ++? spelled_list spelled_arm arms ++? spelled_maybe otherwise
+spelled_instr (instrs.Switch disc arms otherwise) =
+    tag 12 ++? spelled_disc disc ++? spelled_list spelled_arm arms ++? spelled_maybe otherwise
 
 -- the set of entries, and the set of exits for each of eight positions
 abbrev pub spelled_routine : Routine → Option (List ℕ)
-spelled_routine x = spelled_word x.node ++? spelled_octet x.entry ++? spelled_run 8 spelled_octet x.exits ++? spelled_word x.rank ++? spelled_list spelled_instr x.code
+spelled_routine x =
+    spelled_word x.node ++? spelled_octet x.entry ++? spelled_run 8 spelled_octet x.exits ++? spelled_word x.rank
+    ++? spelled_list spelled_instr x.code
 
 abbrev pub spelled_program : List Routine → Option (List ℕ)
 spelled_program = spelled_list spelled_routine

@@ -28,7 +28,8 @@ abbrev pub table_fields : TableParts → TableFields
 table_fields x = ((model_fields x.model, (x.first, x.second)), x.uses)
 
 abbrev pub model_from : ModelFields → Parts
-model_from x = record { graph = x.0; names = x.1.0; interfaces = x.1.1.0; operations = x.1.1.1.0; exceptions = x.1.1.1.1 }
+model_from x =
+    record { graph = x.0; names = x.1.0; interfaces = x.1.1.0; operations = x.1.1.1.0; exceptions = x.1.1.1.1 }
 
 abbrev pub table_from : TableFields → TableParts
 table_from x = table_of (model_from x.0.0) x.0.1.0 x.0.1.1 x.1
@@ -55,7 +56,8 @@ pub old_code : IsCode spelled_old_fields
 old_code = pair_code spelled_model_fields spelled_program model_fields_code program_code
 
 -- the fields at the front
-pub one_fields : (a b : TableFields) (x y octets : List ℕ) → spelled_fields a ++? Some x ≡ Some octets → spelled_fields b ++? Some y ≡ Some octets → (a ≡ b) × (x ≡ y)
+pub one_fields : (a b : TableFields) (x y octets : List ℕ) → spelled_fields a ++? Some x ≡ Some octets
+    → spelled_fields b ++? Some y ≡ Some octets → (a ≡ b) × (x ≡ y)
 one_fields a b x y octets ea eb =
     let pa = parted (spelled_most a.0) (spelled_run (length a.0.0.1.0) spelled_use a.1) (Some x) octets ea in
     let pb = parted (spelled_most b.0) (spelled_run (length b.0.0.1.0) spelled_use b.1) (Some y) octets eb in
@@ -69,22 +71,28 @@ one_fields a b x y octets ea eb =
 
 -- what stands behind the start
 abbrev pub spelled_body : TableParts → Option (List ℕ)
-spelled_body table = spelled_model table.model ++? spelled_program table.first ++? spelled_program table.second ++? spelled_each spelled_use table.uses
+spelled_body table =
+    spelled_model table.model ++? spelled_program table.first ++? spelled_program table.second
+    ++? spelled_each spelled_use table.uses
 
 abbrev pub spelled_old_body : TableParts → Option (List ℕ)
 spelled_old_body table = spelled_model table.model ++? spelled_program table.first
 
 -- a table with a use for each name is spelled as its fields are
-pub body_fields : (table : TableParts) → length table.uses ≡ length table.model.names → spelled_body table ≡ spelled_fields (table_fields table)
+pub body_fields : (table : TableParts) → length table.uses ≡ length table.model.names
+    → spelled_body table ≡ spelled_fields (table_fields table)
 body_fields table each =
     let first = spelled_program table.first in
     let second = spelled_program table.second in
     let uses = spelled_each spelled_use table.uses in
-    ap (λ o. spelled_model table.model ++? o) (sym (joins_assoc first second uses)) ∙ sym (joins_assoc (spelled_model table.model) (first ++? second) uses)
-    ∙ ap (λ o. (spelled_model table.model ++? first ++? second) ++? o) (sym (run_of (length table.model.names) spelled_use table.uses each))
+    ap (λ o. spelled_model table.model ++? o) (sym (joins_assoc first second uses))
+    ∙ sym (joins_assoc (spelled_model table.model) (first ++? second) uses)
+    ∙ ap (λ o. (spelled_model table.model ++? first ++? second) ++? o)
+    (sym (run_of (length table.model.names) spelled_use table.uses each))
 
 -- behind the start
-pub behind_start : (version : ℕ) (body : Option (List ℕ)) (octets : List ℕ) → spelled_start version ++? body ≡ Some octets
+pub behind_start : (version : ℕ) (body : Option (List ℕ)) (octets : List ℕ)
+    → spelled_start version ++? body ≡ Some octets
     → (rest : List ℕ) × (octets ≡ 73 ∷ 68 ∷ 76 ∷ 84 ∷ version ∷ rest) × (body ≡ Some rest)
 behind_start version None octets e = absurd (cc)
 behind_start version (Some rest) octets e = (rest, cc, refl)
@@ -94,7 +102,8 @@ pub whole : (p : Option (List ℕ)) (octets : List ℕ) → p ≡ Some octets �
 whole p octets e = ap (λ o. o ++? Some []) e ∙ ap Some (append-nil octets)
 
 -- no list spells two tables
-pub one_table : (t u : TableParts) (octets : List ℕ) → length t.uses ≡ length t.model.names → length u.uses ≡ length u.model.names
+pub one_table : (t u : TableParts) (octets : List ℕ) → length t.uses ≡ length t.model.names
+    → length u.uses ≡ length u.model.names
     → Spells t octets → Spells u octets → t ≡ u
 one_table t u octets lt lu st su =
     let a = behind_start 2 (spelled_body t) octets st in
@@ -106,19 +115,22 @@ one_table t u octets lt lu st su =
     ap table_from same.0
 
 -- uses of the first program alone
-pub all_first : (xs ys : List Use) → AllByRecursion (λ use_. use_ ≡ First) xs → AllByRecursion (λ use_. use_ ≡ First) ys → length xs ≡ length ys → xs ≡ ys
+pub all_first : (xs ys : List Use) → AllByRecursion (λ use_. use_ ≡ First) xs
+    → AllByRecursion (λ use_. use_ ≡ First) ys → length xs ≡ length ys → xs ≡ ys
 all_first [] [] hx hy l = refl
 all_first [] (y ∷ ys) hx hy l = absurd (omega arith)
 all_first (x ∷ xs) [] hx hy l = absurd (omega arith)
 all_first (x ∷ xs) (y ∷ ys) hx hy l = ap₂ (λ i is. i ∷ is) (hx.0 ∙ sym hy.0) (all_first xs ys hx.1 hy.1 (omega arith))
 
 -- tables of the same parts
-pub of_parts : (t u : TableParts) → t.model ≡ u.model → t.first ≡ u.first → t.second ≡ u.second → t.uses ≡ u.uses → t ≡ u
+pub of_parts : (t u : TableParts) → t.model ≡ u.model → t.first ≡ u.first → t.second ≡ u.second → t.uses ≡ u.uses
+    → t ≡ u
 of_parts t u models firsts seconds uses =
     ap₂ (λ m f. table_of m f t.second t.uses) models firsts ∙ ap₂ (λ s x. table_of u.model u.first s x) seconds uses
 
 -- nor two old ones
-pub one_old_table : (t u : TableParts) (octets : List ℕ) → length t.uses ≡ length t.model.names → length u.uses ≡ length u.model.names
+pub one_old_table : (t u : TableParts) (octets : List ℕ) → length t.uses ≡ length t.model.names
+    → length u.uses ≡ length u.model.names
     → SpellsOld t octets → SpellsOld u octets → t ≡ u
 one_old_table t u octets lt lu st su =
     let a = behind_start 1 (spelled_old_body t) octets st.spelled in

@@ -19,7 +19,8 @@ spelled_start version = Some (73 ∷ 68 ∷ 76 ∷ 84 ∷ version ∷ [])
 
 -- Version 2: the model, both programs, and a flag for each name, in order.
 abbrev pub spelled_table : TableParts → Option (List ℕ)
-spelled_table table = spelled_start 2 ++? spelled_model table.model ++? spelled_program table.first ++? spelled_program table.second
+spelled_table table =
+    spelled_start 2 ++? spelled_model table.model ++? spelled_program table.first ++? spelled_program table.second
     ++? spelled_each spelled_use table.uses
 
 -- Version 1: the model and one program.

@@ -14,12 +14,14 @@ use_tag First = 0
 use_tag Second = 1
 
 -- stands at the front
-use_tagged : (a : Use) (rest octets : List ℕ) → spelled_use a ++? Some rest ≡ Some octets → (t : List ℕ) × (octets ≡ use_tag a ∷ t)
+use_tagged : (a : Use) (rest octets : List ℕ) → spelled_use a ++? Some rest ≡ Some octets
+    → (t : List ℕ) × (octets ≡ use_tag a ∷ t)
 unfolding use_tag
 use_tagged First rest octets e = (rest, cc)
 use_tagged Second rest octets e = (rest, cc)
 
-use_is : (a : Use) (tag : ℕ) (rest octets : List ℕ) → spelled_use a ++? Some rest ≡ Some (tag ∷ octets) → use_tag a ≡ tag
+use_is : (a : Use) (tag : ℕ) (rest octets : List ℕ) → spelled_use a ++? Some rest ≡ Some (tag ∷ octets)
+    → use_tag a ≡ tag
 use_is a tag rest octets e = let p = use_tagged a rest (tag ∷ octets) e in cc
 
 first_only : (a : Use) → use_tag a ≡ 0 → (x : Unit {0}) × (a ≡ First)
