@@ -1,65 +1,75 @@
-//! Tables with one program, and what the checker says of them.
+//! Models and tables of tables of constants, and what the checker says of them.
 
+use crate::sketch::{Sketch, add, graph};
 use marshal_program::Program;
 use position_checker::{Accepted, CheckFault, check};
-use std::alloc::Global;
+use std::alloc::{AllocError, Global};
 use std::test::Fail;
 use table_file::{Table, Use};
-use type_graph::{Graph, Items};
+use type_graph::{GraphFault, Items};
 use type_model::{Model, Name};
 
-/// A model in which these nodes have a name.
-pub fn model_of(alloc: Global, graph: Graph, named: &[u32]) -> Result<Model, Fail> {
+pub fn none<T>(alloc: Global) -> Items<T> {
+    Items::new(Vec::new(alloc))
+}
+
+/// The name of a node is a letter and its number.
+fn named(alloc: Global, node: u32) -> Result<(Name, u32), AllocError> {
+    Ok((Name::new(format!(in alloc; "T{node}")?), node))
+}
+
+fn names_of(alloc: Global, nodes: &[u32]) -> Result<Items<(Name, u32)>, AllocError> {
     let mut names = Vec::new(alloc);
-    for node in named {
-        names.push((Name::new(format!(in alloc; "T{node}")?), *node))?;
+    for node in nodes {
+        add(&mut names, named(alloc, *node))?;
     }
-    let none = Items::new(Vec::new(alloc));
-    let model = Model::new(
-        alloc,
-        graph,
-        Items::new(names),
-        Items::new(Vec::new(alloc)),
-        Items::new(Vec::new(alloc)),
-        none,
-    )?;
-    Ok(model)
+    Ok(Items::new(names))
 }
 
-/// The table of a graph and two programs, all of whose names use one of them.
-pub fn table_of(
-    alloc: Global,
-    graph: Graph,
-    programs: (Program, Program),
-    used: Use,
-    named: &[u32],
-) -> Result<Table, Fail> {
-    let uses = Items::new(vec![in alloc; used; named.len()]?);
-    Ok(Table::new(model_of(alloc, graph, named)?, programs.0, programs.1, uses)?)
+/// A model of these nodes, some of which have a name.
+pub fn model_of(alloc: Global, nodes: &[Sketch<'_>], named: &[u32]) -> Result<Model, GraphFault> {
+    let graph = graph(alloc, nodes)?;
+    match names_of(alloc, named) {
+        Ok(names) => Model::new(alloc, graph, names, none(alloc), none(alloc), none(alloc)),
+        Err(_) => Err(GraphFault::NoMemory),
+    }
 }
 
-/// Why the table is refused, if it is.
-pub fn judged(
-    alloc: Global,
-    graph: Graph,
-    program: Program,
-    named: &[u32],
-) -> Result<Result<Accepted, CheckFault>, Fail> {
-    let programs = (program, Program::new(Vec::new(alloc))?);
-    Ok(
-        match check(alloc, table_of(alloc, graph, programs, Use::First, named)?) {
+fn uses_of(alloc: Global, count: usize) -> Result<Items<Use>, AllocError> {
+    Ok(Items::new(vec![in alloc; Use::First; count]?))
+}
+
+/// The table of a model and one program, which all of its names use.
+fn table_of(alloc: Global, model: Model, program: Program) -> Option<Table> {
+    match (
+        uses_of(alloc, model.names().len()),
+        Program::new(Vec::new(alloc)),
+    ) {
+        (Ok(uses), Ok(nothing)) => Table::new(model, program, nothing, uses).ok(),
+        _ => None,
+    }
+}
+
+/// What the checker says of that table; want of memory where there is none.
+fn judged(alloc: Global, model: Model, program: Program) -> Result<Accepted, CheckFault> {
+    match table_of(alloc, model, program) {
+        None => Err(CheckFault::NoMemory),
+        Some(table) => match check(alloc, table) {
             Ok(accepted) => Ok(accepted),
             Err(refused) => Err(refused.fault),
         },
-    )
+    }
 }
 
-/// The accepted table of a graph and one program.
+/// The accepted table of these nodes and one program.
 pub fn accepted(
     alloc: Global,
-    graph: Graph,
+    nodes: &[Sketch<'_>],
     program: Program,
     named: &[u32],
-) -> Result<Accepted, Fail> {
-    Ok(judged(alloc, graph, program, named)??)
+) -> Result<Accepted, CheckFault> {
+    match model_of(alloc, nodes, named) {
+        Ok(model) => judged(alloc, model, program),
+        Err(_) => Err(CheckFault::NoMemory),
+    }
 }

@@ -1,33 +1,10 @@
 //! The deepest values: 64 sequences, with 63 structures or unions around each.
 
-use crate::graphs::record;
-use crate::marshal::{big, both_ways, program_of};
+use crate::marshal::{At, both_ways, program_of};
+use crate::sketch::{Sketch, graph};
 use crate::values::unpacks;
 use std::alloc::{AllocError, Global};
 use std::test::Fail;
-use type_graph::{Arms, Graph, Node};
-
-/// Node 1 is a sequence of node 64, from which 63 structures lead down to it.
-fn structures(alloc: Global) -> Result<Vec<Node>, AllocError> {
-    let mut nodes = vec![in alloc; Node::Char, Node::Seq { elem: 64, bound: 0 }]?;
-    for below in 1..64 {
-        nodes.push(record(alloc, &[below])?)?;
-    }
-    Ok(nodes)
-}
-
-/// The same of unions over a character, which have a member for 1.
-fn unions(alloc: Global) -> Result<Vec<Node>, AllocError> {
-    let mut nodes = vec![in alloc; Node::Char, Node::Seq { elem: 64, bound: 0 }]?;
-    for below in 1..64 {
-        nodes.push(Node::Union {
-            switch: 0,
-            arms: Arms::new(vec![in alloc; (1, below)]?),
-            default: None,
-        })?;
-    }
-    Ok(nodes)
-}
 
 /// So many sequences of one element, the last of them empty; these octets stand before each count.
 fn levels(alloc: Global, count: u32, before: &[u8]) -> Result<Vec<u8>, AllocError> {
@@ -41,40 +18,73 @@ fn levels(alloc: Global, count: u32, before: &[u8]) -> Result<Vec<u8>, AllocErro
     Ok(list)
 }
 
+/// The fault of the tape as one of node 64, and those of its runs.
+fn faults(alloc: Global, nodes: &[Sketch<'_>], tape: &[u8], octets: &[u8]) -> [u32; 3] {
+    match (graph(alloc, nodes), program_of(alloc, nodes)) {
+        (Ok(graph), Ok(program)) => {
+            let [written, read] = both_ways(alloc, &program, At::Big(64, 0), tape, octets);
+            [unpacks(alloc, &graph, 64, tape), written, read]
+        }
+        _ => [98; 3],
+    }
+}
+
+/// Node 1 is a sequence of node 64, from which structures of these members lead down to it.
+fn structures(alloc: Global, members: &[[u32; 1]]) -> Result<Vec<Sketch<'_>>, AllocError> {
+    let mut nodes = vec![in alloc; Sketch::Char, Sketch::Seq(64, 0)]?;
+    for member in members {
+        nodes.push(Sketch::Struct(member))?;
+    }
+    Ok(nodes)
+}
+
+fn by_structures(alloc: Global, count: u32) -> Result<[u32; 3], AllocError> {
+    let mut members = [[0]; 63];
+    let mut below: u32 = 1;
+    for member in &mut members {
+        *member = [below];
+        below = below.saturating_add(1);
+    }
+    let nodes = structures(alloc, &members)?;
+    let tape = levels(alloc, count, &[])?;
+    Ok(faults(alloc, &nodes, &tape, &tape))
+}
+
 #[test]
 fn deepest_structures(rt: HostRuntime) -> Result<(), Fail> {
-    let alloc = rt.alloc();
-    let graph = Graph::from_nodes(alloc, structures(alloc)?)?;
-    let program = program_of(alloc, structures(alloc)?)?;
-    let tape = levels(alloc, 64, &[])?;
-    assert_eq!(rt; unpacks(alloc, &graph, 64, &tape), 0);
-    assert_eq!(rt;
-        both_ways(alloc, &program, big(64, 0), &tape, &tape),
-        [0; 2]
-    );
-    let deeper = levels(alloc, 65, &[])?;
-    assert_eq!(rt; unpacks(alloc, &graph, 64, &deeper), 41);
-    assert_eq!(rt;
-        both_ways(alloc, &program, big(64, 0), &deeper, &deeper),
-        [67; 2]
-    );
+    assert_eq!(rt; by_structures(rt.alloc(), 64)?, [0; 3]);
+    assert_eq!(rt; by_structures(rt.alloc(), 65)?, [41, 67, 67]);
     Ok(())
 }
 
-/// 63 discriminators stand before each count, and in the octets a gap of one.
-#[test]
-fn deepest_unions(rt: HostRuntime) -> Result<(), Fail> {
-    let alloc = rt.alloc();
-    let graph = Graph::from_nodes(alloc, unions(alloc)?)?;
-    let program = program_of(alloc, unions(alloc)?)?;
-    let tape = levels(alloc, 64, &[1; 63])?;
+/// The same of unions over a character.
+fn unions(alloc: Global, arms: &[[(i128, u32); 1]]) -> Result<Vec<Sketch<'_>>, AllocError> {
+    let mut nodes = vec![in alloc; Sketch::Char, Sketch::Seq(64, 0)]?;
+    for arm in arms {
+        nodes.push(Sketch::Union(0, arm, None))?;
+    }
+    Ok(nodes)
+}
+
+/// Unions with a member for 1. 63 discriminators stand before each count, and in the octets a gap
+/// of one.
+fn by_unions(alloc: Global) -> Result<[u32; 3], AllocError> {
+    let mut arms = [[(1, 0)]; 63];
+    let mut below: u32 = 1;
+    for arm in &mut arms {
+        *arm = [(1, below)];
+        below = below.saturating_add(1);
+    }
+    let nodes = unions(alloc, &arms)?;
     let mut before = [1; 64];
     before[63] = 0;
+    let tape = levels(alloc, 64, &[1; 63])?;
     let octets = levels(alloc, 64, &before)?;
-    assert_eq!(rt; unpacks(alloc, &graph, 64, &tape), 0);
-    assert_eq!(rt;
-        both_ways(alloc, &program, big(64, 0), &tape, &octets),
-        [0; 2]
-    );
+    Ok(faults(alloc, &nodes, &tape, &octets))
+}
+
+#[test]
+fn deepest_unions(rt: HostRuntime) -> Result<(), Fail> {
+    assert_eq!(rt; by_unions(rt.alloc())?, [0; 3]);
     Ok(())
 }

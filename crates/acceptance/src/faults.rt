@@ -4,23 +4,27 @@ use idl_value::ValueFault;
 use marshal_program::{GenFault, TableFault};
 use position_checker::CheckFault;
 use program_runner::RunFault;
-use std::alloc::Global;
+use std::alloc::{AllocError, Global};
 use std::fmt::Display;
-use std::test::Fail;
 use type_graph::{GraphFault, GraphLimit};
 
-/// The texts of the faults, each with a bar behind it.
-fn texts<F: Display>(alloc: Global, faults: &[F]) -> Result<String, Fail> {
+fn add<F: Display>(alloc: Global, out: &mut String, fault: &F) -> Result<(), AllocError> {
+    out.push_str(format!(in alloc; "{fault}|")?.as_str())
+}
+
+/// The texts of the faults, each with a bar behind it; none for want of memory.
+fn texts<F: Display>(alloc: Global, faults: &[F]) -> String {
     let mut out = String::new(alloc);
     for fault in faults {
-        out.push_str(fault.to_string(alloc)?.as_str())?;
-        out.push('|')?;
+        if add(alloc, &mut out, fault).is_err() {
+            return String::new(alloc);
+        }
     }
-    Ok(out)
+    out
 }
 
 #[test]
-fn faults_of_graphs(rt: HostRuntime) -> Result<(), Fail> {
+fn faults_of_graphs(rt: HostRuntime) {
     let line = 7;
     let which = GraphLimit::Nodes;
     let faults = [
@@ -37,20 +41,23 @@ fn faults_of_graphs(rt: HostRuntime) -> Result<(), Fail> {
     let want = "30 SelfHeld line 7|31 LabelTwice line 7|32 LabelRange line 7|\
         33 DefaultNeedless line 7|34 BadSwitch line 7|35 Limit line 7|36 BadOneway line 7|\
         37 BadNode|no memory|";
-    assert_eq!(rt; texts(rt.alloc(), &faults)?.as_str(), want);
-    Ok(())
+    assert_eq!(rt; texts(rt.alloc(), &faults).as_str(), want);
 }
 
 #[test]
-fn faults_of_values_and_programs(rt: HostRuntime) -> Result<(), Fail> {
-    let values = [
+fn faults_of_values(rt: HostRuntime) {
+    let faults = [
         ValueFault::NotOfType,
         ValueFault::NotATape,
         ValueFault::NoMemory,
     ];
     let want = "40 NotOfType|41 NotATape|no memory|";
-    assert_eq!(rt; texts(rt.alloc(), &values)?.as_str(), want);
-    let programs = [
+    assert_eq!(rt; texts(rt.alloc(), &faults).as_str(), want);
+}
+
+#[test]
+fn faults_of_programs(rt: HostRuntime) {
+    let faults = [
         TableFault::NotATable,
         TableFault::Version,
         TableFault::BadNumber,
@@ -61,15 +68,18 @@ fn faults_of_values_and_programs(rt: HostRuntime) -> Result<(), Fail> {
     ];
     let want =
         "50 NotATable|51 Version|52 BadNumber|53 RankRises|54 Trailing|55 EmptyRoutine|no memory|";
-    assert_eq!(rt; texts(rt.alloc(), &programs)?.as_str(), want);
-    let makers = [GenFault::Limit, GenFault::NoMemory];
-    assert_eq!(rt; texts(rt.alloc(), &makers)?.as_str(), "70 Limit|no memory|");
-    Ok(())
+    assert_eq!(rt; texts(rt.alloc(), &faults).as_str(), want);
 }
 
 #[test]
-fn faults_of_runs_and_tables(rt: HostRuntime) -> Result<(), Fail> {
-    let runs = [
+fn faults_of_makers(rt: HostRuntime) {
+    let faults = [GenFault::Limit, GenFault::NoMemory];
+    assert_eq!(rt; texts(rt.alloc(), &faults).as_str(), "70 Limit|no memory|");
+}
+
+#[test]
+fn faults_of_runs(rt: HostRuntime) {
+    let faults = [
         RunFault::Short,
         RunFault::BadBool,
         RunFault::BadEnum,
@@ -83,11 +93,15 @@ fn faults_of_runs_and_tables(rt: HostRuntime) -> Result<(), Fail> {
     ];
     let want = "60 Short|61 BadBool|62 BadEnum|63 BadLength|64 NoTerminator|65 ZeroInside|\
         66 OverBound|67 TooDeep|68 TapeLeft|no memory|";
-    assert_eq!(rt; texts(rt.alloc(), &runs)?.as_str(), want);
+    assert_eq!(rt; texts(rt.alloc(), &faults).as_str(), want);
+}
+
+#[test]
+fn faults_of_tables(rt: HostRuntime) {
     let program = 1;
     let routine = 4;
     let instr = 2;
-    let tables = [
+    let faults = [
         CheckFault::WrongWork {
             program,
             routine,
@@ -117,6 +131,5 @@ fn faults_of_runs_and_tables(rt: HostRuntime) -> Result<(), Fail> {
         82 EntryOutside program 1 routine 4 instruction 2|\
         83 ExitsTooSmall program 1 routine 4 entry 7|\
         84 NoRoutine node 3|85 NamedEntryNotFull node 3|no memory|";
-    assert_eq!(rt; texts(rt.alloc(), &tables)?.as_str(), want);
-    Ok(())
+    assert_eq!(rt; texts(rt.alloc(), &faults).as_str(), want);
 }

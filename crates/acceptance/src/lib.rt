@@ -10,10 +10,6 @@ mod faults;
 #[cfg(test)]
 mod graphs;
 #[cfg(test)]
-mod joined;
-#[cfg(test)]
-mod kinds;
-#[cfg(test)]
 mod large;
 #[cfg(test)]
 mod listing;
@@ -28,8 +24,6 @@ mod plain;
 #[cfg(test)]
 mod planned;
 #[cfg(test)]
-mod programs;
-#[cfg(test)]
 mod refusals;
 #[cfg(test)]
 mod rules;
@@ -39,6 +33,8 @@ mod runs;
 mod sample;
 #[cfg(test)]
 mod shapes;
+#[cfg(test)]
+mod sketch;
 #[cfg(test)]
 mod table_files;
 #[cfg(test)]

@@ -1,40 +1,32 @@
-//! Programs of hand-made graphs, and what a run of a program gives.
+//! Programs of graphs, and what runs of programs and tables give.
 
+use crate::accept::model_of;
+use crate::sketch::Sketch;
 use generator::{joined, plain};
-use marshal_program::Program;
+use marshal_program::{GenFault, Program};
 use position_checker::Accepted;
 use program_runner::{RunFault, read, write};
 use std::alloc::Global;
-use std::test::Fail;
-use type_graph::{Graph, Items, Node, Order};
-use type_model::Model;
-
-fn model_of(alloc: Global, nodes: Vec<Node>) -> Result<Model, Fail> {
-    let model = Model::new(
-        alloc,
-        Graph::from_nodes(alloc, nodes)?,
-        Items::new(Vec::new(alloc)),
-        Items::new(Vec::new(alloc)),
-        Items::new(Vec::new(alloc)),
-        Items::new(Vec::new(alloc)),
-    )?;
-    Ok(model)
-}
+use type_graph::Order;
 
 /// The plain program of a graph of these nodes, none of which has a name.
-pub fn program_of(alloc: Global, nodes: Vec<Node>) -> Result<Program, Fail> {
-    let model = model_of(alloc, nodes)?;
-    Ok(plain(alloc, &model)?)
+pub fn program_of(alloc: Global, nodes: &[Sketch<'_>]) -> Result<Program, GenFault> {
+    match model_of(alloc, nodes, &[]) {
+        Ok(model) => plain(alloc, &model),
+        Err(_) => Err(GenFault::Limit),
+    }
 }
 
 /// The joined program of such a graph.
-pub fn joined_of(alloc: Global, nodes: Vec<Node>) -> Result<Program, Fail> {
-    let model = model_of(alloc, nodes)?;
-    Ok(joined(alloc, &model)?)
+pub fn joined_of(alloc: Global, nodes: &[Sketch<'_>]) -> Result<Program, GenFault> {
+    match model_of(alloc, nodes, &[]) {
+        Ok(model) => joined(alloc, &model),
+        Err(_) => Err(GenFault::Limit),
+    }
 }
 
 /// The number of the fault.
-pub fn number_of(fault: &RunFault) -> u32 {
+fn number_of(fault: &RunFault) -> u32 {
     match fault {
         RunFault::Short => 60,
         RunFault::BadBool => 61,
@@ -49,27 +41,31 @@ pub fn number_of(fault: &RunFault) -> u32 {
     }
 }
 
-/// A routine, or the node that it is of, and where its octets begin.
+/// A routine, or the node that it is of, the order of its octets, and where they begin.
 #[derive(Clone, Copy)]
-pub struct At {
-    pub routine: u32,
-    pub order: Order,
-    pub pos: u64,
+pub enum At {
+    Big(u32, u64),
+    Little(u32, u64),
 }
 
-pub fn big(routine: u32, pos: u64) -> At {
-    At {
-        routine,
-        order: Order::Big,
-        pos,
+impl At {
+    pub fn routine(self) -> u32 {
+        match self {
+            At::Big(routine, _) | At::Little(routine, _) => routine,
+        }
     }
-}
 
-pub fn little(routine: u32, pos: u64) -> At {
-    At {
-        routine,
-        order: Order::Little,
-        pos,
+    pub fn order(self) -> Order {
+        match self {
+            At::Big(..) => Order::Big,
+            At::Little(..) => Order::Little,
+        }
+    }
+
+    pub fn pos(self) -> u64 {
+        match self {
+            At::Big(_, pos) | At::Little(_, pos) => pos,
+        }
     }
 }
 
@@ -93,11 +89,12 @@ fn told_read(read: Result<(Vec<u8>, usize), RunFault>, tape: &[u8], len: usize) 
 
 /// Writes the tape and reads the octets, each of which has to give the other: [0, 0].
 pub fn both_ways(alloc: Global, program: &Program, at: At, tape: &[u8], octets: &[u8]) -> [u32; 2] {
-    if at.routine as usize >= program.routines().len() {
+    let routine = at.routine();
+    if routine as usize >= program.routines().len() {
         return [99, 99];
     }
-    let written = write(alloc, program, at.routine, at.order, at.pos, tape);
-    let found = read(alloc, program, at.routine, at.order, at.pos, octets);
+    let written = write(alloc, program, routine, at.order(), at.pos(), tape);
+    let found = read(alloc, program, routine, at.order(), at.pos(), octets);
     [
         told_write(written, octets),
         told_read(found, tape, octets.len()),
@@ -112,11 +109,12 @@ pub fn accepted_both_ways(
     tape: &[u8],
     octets: &[u8],
 ) -> [u32; 2] {
-    if !accepted.is_named(at.routine) {
+    let node = at.routine();
+    if !accepted.is_named(node) {
         return [99, 99];
     }
-    let written = accepted.write(alloc, at.routine, at.order, at.pos, tape);
-    let found = accepted.read(alloc, at.routine, at.order, at.pos, octets);
+    let written = accepted.write(alloc, node, at.order(), at.pos(), tape);
+    let found = accepted.read(alloc, node, at.order(), at.pos(), octets);
     [
         told_write(written, octets),
         told_read(found, tape, octets.len()),
@@ -125,10 +123,11 @@ pub fn accepted_both_ways(
 
 /// The number of the fault of reading the octets, 0 where there is none.
 pub fn read_fault(alloc: Global, program: &Program, at: At, octets: &[u8]) -> u32 {
-    if at.routine as usize >= program.routines().len() {
+    let routine = at.routine();
+    if routine as usize >= program.routines().len() {
         return 99;
     }
-    match read(alloc, program, at.routine, at.order, at.pos, octets) {
+    match read(alloc, program, routine, at.order(), at.pos(), octets) {
         Ok(_) => 0,
         Err(fault) => number_of(&fault),
     }
@@ -136,10 +135,11 @@ pub fn read_fault(alloc: Global, program: &Program, at: At, octets: &[u8]) -> u3
 
 /// The number of the fault of writing the tape, 0 where there is none.
 pub fn write_fault(alloc: Global, program: &Program, at: At, tape: &[u8]) -> u32 {
-    if at.routine as usize >= program.routines().len() {
+    let routine = at.routine();
+    if routine as usize >= program.routines().len() {
         return 99;
     }
-    match write(alloc, program, at.routine, at.order, at.pos, tape) {
+    match write(alloc, program, routine, at.order(), at.pos(), tape) {
         Ok(_) => 0,
         Err(fault) => number_of(&fault),
     }

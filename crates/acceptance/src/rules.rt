@@ -1,250 +1,247 @@
-//! The rules of programs, each just kept and just broken.
+//! Which lists of routines are programs: each rule just kept and just broken.
 
-use crate::programs::fault_of;
-use crate::sample;
-use marshal_program::{Code, Disc, Instr, Program, Routine};
+use crate::sketch::{Sketched, Step, program};
+use marshal_program::{Disc, Program, TableFault};
 use std::alloc::{AllocError, Global};
 use std::test::Fail;
-use type_graph::{Arms, Width};
+use type_graph::Width;
+
+/// The number of the fault, 0 where there is none.
+fn fault_of(program: Result<Program, TableFault>) -> u8 {
+    match program {
+        Ok(_) => 0,
+        Err(TableFault::BadNumber) => 52,
+        Err(TableFault::RankRises) => 53,
+        Err(TableFault::EmptyRoutine) => 55,
+        Err(_) => 99,
+    }
+}
+
+const OCTET: &[Step<'static>] = &[Step::Octets(1)];
+
+const GAP: &[Step<'static>] = &[Step::Align(Width::Two)];
 
 /// The fault of the program of a routine of rank 1 with this instruction, an octet of rank 0, one of
 /// rank 2, and a gap.
-fn fault_with(alloc: Global, instr: Instr) -> Result<u8, AllocError> {
-    let octet = sample::one(alloc, Instr::Octets { n: 1 })?;
-    let high = sample::one(alloc, Instr::Octets { n: 1 })?;
-    let gap = sample::one(alloc, Instr::Align { to: Width::Two })?;
-    let routines = vec![in alloc;
-        sample::routine(0, 1, sample::one(alloc, instr)?),
-        sample::routine(0, 0, octet),
-        sample::routine(0, 2, high),
-        sample::routine(0, 0, gap),
-    ]?;
-    Ok(fault_of(Program::new(routines)))
+fn fault_with(alloc: Global, step: Step<'static>) -> u8 {
+    let code = [step];
+    let routines = [
+        Sketched::Everywhere(0, 1, &code),
+        Sketched::Everywhere(0, 0, &[Step::Octets(1)]),
+        Sketched::Everywhere(0, 2, &[Step::Octets(1)]),
+        Sketched::Everywhere(0, 0, &[Step::Align(Width::Two)]),
+    ];
+    fault_of(program(alloc, &routines))
 }
 
-fn switch(
-    alloc: Global,
-    disc: Disc,
-    arms: &[(i128, u32)],
-    otherwise: Option<u32>,
-) -> Result<u8, AllocError> {
-    let arms = Arms::new(arms.to_vec(alloc)?);
-    fault_with(
-        alloc,
-        Instr::Switch {
-            disc,
-            arms,
-            otherwise,
-        },
-    )
-}
+/// Outside a sequence only the octet, which has a lower rank, may be named. A routine of gaps alone
+/// may stand in a program, but none may name it, nor one past the last.
+const NAMING: [(Step<'static>, u8); 25] = [
+    (Step::Call(0), 53),
+    (Step::Call(1), 0),
+    (Step::Call(2), 53),
+    (Step::Call(3), 55),
+    (Step::Call(4), 52),
+    (Step::Times(1, 0), 53),
+    (Step::Times(1, 1), 0),
+    (Step::Times(1, 2), 53),
+    (Step::Times(1, 3), 55),
+    (Step::Times(1, 4), 52),
+    (Step::Switch(Disc::Char, &[(1, 0)], None), 53),
+    (Step::Switch(Disc::Char, &[(1, 1)], None), 0),
+    (Step::Switch(Disc::Char, &[(1, 2)], None), 53),
+    (Step::Switch(Disc::Char, &[(1, 1), (2, 3)], None), 55),
+    (Step::Switch(Disc::Char, &[(1, 1), (2, 4)], None), 52),
+    (Step::Switch(Disc::Char, &[], Some(0)), 53),
+    (Step::Switch(Disc::Char, &[], Some(1)), 0),
+    (Step::Switch(Disc::Char, &[], Some(2)), 53),
+    (Step::Switch(Disc::Char, &[(1, 1)], Some(3)), 55),
+    (Step::Switch(Disc::Char, &[(1, 1)], Some(4)), 52),
+    (Step::SeqOf(0, Width::One, 0), 0),
+    (Step::SeqOf(0, Width::One, 1), 0),
+    (Step::SeqOf(0, Width::One, 2), 0),
+    (Step::SeqOf(0, Width::One, 3), 55),
+    (Step::SeqOf(0, Width::One, 4), 52),
+];
 
-fn seq_of(alloc: Global, routine: u32) -> Result<u8, AllocError> {
-    fault_with(
-        alloc,
-        Instr::SeqOf {
-            bound: 0,
-            first: Width::One,
-            routine,
-        },
-    )
-}
-
-fn times(alloc: Global, n: u32, routine: u32) -> Result<u8, AllocError> {
-    fault_with(alloc, Instr::Times { n, routine })
-}
-
-fn call(alloc: Global, routine: u32) -> Result<u8, AllocError> {
-    fault_with(alloc, Instr::Call { routine })
-}
-
-/// Outside a sequence only the octet, which has a lower rank, may be named.
 #[test]
-fn ranks_fall_outside_sequences(rt: HostRuntime) -> Result<(), Fail> {
-    let alloc = rt.alloc();
-    let mut faults = Vec::new(alloc);
-    for routine in 0..3 {
-        faults.push([
-            call(alloc, routine)?,
-            times(alloc, 1, routine)?,
-            switch(alloc, Disc::Char, &[(1, routine)], None)?,
-            switch(alloc, Disc::Char, &[], Some(routine))?,
-            seq_of(alloc, routine)?,
-        ])?;
+fn routines_that_are_named(rt: HostRuntime) {
+    for (step, want) in NAMING {
+        assert_eq!(rt; fault_with(rt.alloc(), step), want);
     }
-    let rises = [53, 53, 53, 53, 0];
-    assert_eq!(rt; faults.as_slice(), [rises, [0; 5], rises].as_slice());
-    Ok(())
 }
 
-/// A routine of gaps alone may stand in a program, but none may name it, nor one past the last.
-#[test]
-fn named_routines_take_an_octet(rt: HostRuntime) -> Result<(), Fail> {
-    let alloc = rt.alloc();
-    let mut faults = Vec::new(alloc);
-    for routine in 3..5 {
-        faults.push([
-            call(alloc, routine)?,
-            times(alloc, 1, routine)?,
-            switch(alloc, Disc::Char, &[(1, 1), (2, routine)], None)?,
-            switch(alloc, Disc::Char, &[(1, 1)], Some(routine))?,
-            seq_of(alloc, routine)?,
-        ])?;
-    }
-    assert_eq!(rt; faults.as_slice(), [[55; 5], [52; 5]].as_slice());
-    Ok(())
-}
+const SMALL: Disc = Disc::Word {
+    width: Width::One,
+    signed: true,
+};
 
-fn counts(alloc: Global, n: u32) -> Result<[u8; 7], AllocError> {
-    let width = Width::Two;
-    Ok([
-        fault_with(alloc, Instr::Octets { n })?,
-        fault_with(alloc, Instr::Words { width, n })?,
-        fault_with(alloc, Instr::Bools { n })?,
-        fault_with(alloc, Instr::EnumWord { limit: n })?,
-        times(alloc, n, 1)?,
-        switch(alloc, Disc::Enum { n }, &[], None)?,
-        fault_with(alloc, Instr::Text { bound: n })?,
-    ])
-}
+const SHORT: Disc = Disc::Word {
+    width: Width::Two,
+    signed: true,
+};
 
 /// A bound of 0 is none; a count or a limit of 0 is refused.
-#[test]
-fn counts_and_limits(rt: HostRuntime) -> Result<(), Fail> {
-    let alloc = rt.alloc();
-    assert_eq!(rt; counts(alloc, 0)?, [52, 52, 52, 52, 52, 52, 0]);
-    assert_eq!(rt; counts(alloc, 1)?, [0; 7]);
-    let most = [times(alloc, 1_048_576, 1)?, times(alloc, 1_048_577, 1)?];
-    assert_eq!(rt; most, [0, 52]);
-    Ok(())
-}
-
-fn widths(alloc: Global, width: Width) -> Result<[u8; 5], AllocError> {
-    let signed = true;
-    let first = Width::One;
-    Ok([
-        fault_with(alloc, Instr::Align { to: width })?,
-        fault_with(alloc, Instr::Words { width, n: 1 })?,
-        fault_with(
-            alloc,
-            Instr::SeqWords {
-                width,
-                first,
-                bound: 0,
-            },
-        )?,
-        switch(alloc, Disc::Word { width, signed }, &[], None)?,
-        fault_with(
-            alloc,
-            Instr::SeqOf {
-                bound: 0,
-                first: width,
-                routine: 1,
-            },
-        )?,
-    ])
-}
+const COUNTS: [(Step<'static>, u8); 16] = [
+    (Step::Octets(0), 52),
+    (Step::Octets(1), 0),
+    (Step::Words(Width::Two, 0), 52),
+    (Step::Words(Width::Two, 1), 0),
+    (Step::Bools(0), 52),
+    (Step::Bools(1), 0),
+    (Step::EnumWord(0), 52),
+    (Step::EnumWord(1), 0),
+    (Step::Times(0, 1), 52),
+    (Step::Times(1, 1), 0),
+    (Step::Times(1_048_576, 1), 0),
+    (Step::Times(1_048_577, 1), 52),
+    (Step::Switch(Disc::Enum { n: 0 }, &[], None), 52),
+    (Step::Switch(Disc::Enum { n: 1 }, &[], None), 0),
+    (Step::Text(0), 0),
+    (Step::Text(1), 0),
+];
 
 /// One octet is no width of numbers and no gap, but may be that before an element.
-#[test]
-fn widths_of_numbers(rt: HostRuntime) -> Result<(), Fail> {
-    let alloc = rt.alloc();
-    assert_eq!(rt; widths(alloc, Width::One)?, [52, 52, 52, 52, 0]);
-    assert_eq!(rt; widths(alloc, Width::Two)?, [0; 5]);
-    assert_eq!(rt; widths(alloc, Width::Eight)?, [0; 5]);
-    Ok(())
-}
+const WIDTHS: [(Step<'static>, u8); 10] = [
+    (Step::Align(Width::One), 52),
+    (Step::Align(Width::Eight), 0),
+    (Step::Words(Width::One, 1), 52),
+    (Step::Words(Width::Eight, 1), 0),
+    (Step::SeqWords(Width::One, Width::One, 0), 52),
+    (Step::SeqWords(Width::Two, Width::One, 0), 0),
+    (Step::Switch(SMALL, &[], None), 52),
+    (Step::Switch(SHORT, &[], None), 0),
+    (Step::SeqOf(0, Width::One, 1), 0),
+    (Step::SeqOf(0, Width::Eight, 1), 0),
+];
 
 /// Labels rise; they need not be values of the discriminator.
+const LABELS: [(Step<'static>, u8); 5] = [
+    (Step::Switch(Disc::Boolean, &[], None), 0),
+    (Step::Switch(Disc::Boolean, &[(-1, 1), (7, 1)], None), 0),
+    (Step::Switch(Disc::Boolean, &[(1, 1), (1, 1)], None), 52),
+    (Step::Switch(Disc::Boolean, &[(1, 1), (0, 1)], None), 52),
+    (
+        Step::Switch(Disc::Boolean, &[(0, 1), (2, 1), (1, 1)], None),
+        52,
+    ),
+];
+
 #[test]
-fn labels_of_switches(rt: HostRuntime) -> Result<(), Fail> {
+fn numbers_of_instructions(rt: HostRuntime) {
     let alloc = rt.alloc();
-    let faults = [
-        switch(alloc, Disc::Boolean, &[], None)?,
-        switch(alloc, Disc::Boolean, &[(-1, 1), (7, 1)], None)?,
-        switch(alloc, Disc::Boolean, &[(1, 1), (1, 1)], None)?,
-        switch(alloc, Disc::Boolean, &[(1, 1), (0, 1)], None)?,
-        switch(alloc, Disc::Boolean, &[(0, 1), (2, 1), (1, 1)], None)?,
-    ];
-    assert_eq!(rt; faults, [0, 0, 52, 52, 52]);
-    Ok(())
+    for (step, want) in COUNTS {
+        assert_eq!(rt; fault_with(alloc, step), want);
+    }
+    for (step, want) in WIDTHS {
+        assert_eq!(rt; fault_with(alloc, step), want);
+    }
+    for (step, want) in LABELS {
+        assert_eq!(rt; fault_with(alloc, step), want);
+    }
 }
 
-fn fault_of_one(alloc: Global, entry: u8, exits: u8, rank: u32) -> Result<u8, AllocError> {
-    let code = Code::new(sample::one(alloc, Instr::Octets { n: 1 })?);
-    let routine = Routine {
+fn fault_of_one(alloc: Global, entry: u8, exits: u8, rank: u32) -> u8 {
+    let routine = Sketched::Only {
         node: 0,
+        rank,
         entry,
         exits: [exits; 8],
-        rank,
-        code,
+        code: OCTET,
     };
-    Ok(fault_of(Program::new(vec![in alloc; routine]?)))
+    fault_of(program(alloc, &[routine]))
 }
 
 /// An entry set isn't empty, a rank is at most 63, and exits may be any.
 #[test]
-fn entries_exits_and_ranks(rt: HostRuntime) -> Result<(), Fail> {
-    let alloc = rt.alloc();
-    let faults = [
-        fault_of_one(alloc, 0, 255, 0)?,
-        fault_of_one(alloc, 1, 255, 0)?,
-        fault_of_one(alloc, 255, 0, 0)?,
-        fault_of_one(alloc, 255, 255, 63)?,
-        fault_of_one(alloc, 255, 255, 64)?,
+fn entries_exits_and_ranks(rt: HostRuntime) {
+    let rows = [
+        (0, 255, 0, 52),
+        (1, 255, 0, 0),
+        (255, 0, 0, 0),
+        (255, 255, 63, 0),
+        (255, 255, 64, 52),
     ];
-    assert_eq!(rt; faults, [52, 0, 0, 0, 52]);
-    Ok(())
+    for (entry, exits, rank, want) in rows {
+        assert_eq!(rt; fault_of_one(rt.alloc(), entry, exits, rank), want);
+    }
 }
 
 /// Routines of so many octets each.
 fn sized(alloc: Global, routines: usize, instrs: usize) -> Result<u8, AllocError> {
-    let mut list = Vec::new(alloc);
-    for _ in 0..routines {
-        let mut code = Vec::new(alloc);
-        for _ in 0..instrs {
-            code.push(Instr::Octets { n: 1 })?;
-        }
-        list.push(sample::routine(0, 0, code))?;
-    }
-    Ok(fault_of(Program::new(list)))
+    let code = vec![in alloc; Step::Octets(1); instrs]?;
+    let list = vec![in alloc; Sketched::Everywhere(0, 0, &code); routines]?;
+    Ok(fault_of(program(alloc, &list)))
 }
 
 /// At most 8,192 routines and 65,536 instructions.
 #[test]
 fn most_routines_and_instructions(rt: HostRuntime) -> Result<(), Fail> {
-    let alloc = rt.alloc();
-    let faults = [
-        sized(alloc, 8192, 8)?,
-        sized(alloc, 8193, 1)?,
-        sized(alloc, 8, 8192)?,
-        sized(alloc, 1, 65_537)?,
-        sized(alloc, 0, 0)?,
+    let rows = [
+        (8192, 8, 0),
+        (8193, 1, 52),
+        (8, 8192, 0),
+        (1, 65_537, 52),
+        (0, 0, 0),
     ];
-    assert_eq!(rt; faults, [0, 52, 0, 52, 0]);
+    for (routines, instrs, want) in rows {
+        assert_eq!(rt; sized(rt.alloc(), routines, instrs)?, want);
+    }
     Ok(())
 }
 
-/// A routine that calls itself, one that calls a gap, the gap, and the last.
-fn with_last(alloc: Global, gap: Instr, n: u32) -> Result<u8, AllocError> {
-    let routines = vec![in alloc;
-        sample::routine(0, 1, sample::one(alloc, Instr::Call { routine: 0 })?),
-        sample::routine(0, 1, sample::one(alloc, Instr::Call { routine: 2 })?),
-        sample::routine(0, 0, sample::one(alloc, gap)?),
-        sample::routine(0, 0, sample::one(alloc, Instr::Octets { n })?),
-    ]?;
-    Ok(fault_of(Program::new(routines)))
+/// Of several faults a number is told first and a rank last, wherever they stand: two routines.
+const PAIRS: [(Sketched<'static>, Sketched<'static>, u8); 6] = [
+    (
+        Sketched::Everywhere(0, 0, &[Step::Call(0)]),
+        Sketched::Everywhere(0, 0, &[Step::Octets(0)]),
+        52,
+    ),
+    (
+        Sketched::Everywhere(0, 1, &[Step::Call(2)]),
+        Sketched::Everywhere(0, 0, OCTET),
+        52,
+    ),
+    (
+        Sketched::Everywhere(0, 0, &[Step::Call(1)]),
+        Sketched::Everywhere(0, 0, GAP),
+        55,
+    ),
+    (
+        Sketched::Everywhere(0, 0, &[Step::Call(1)]),
+        Sketched::Everywhere(0, 0, OCTET),
+        53,
+    ),
+    (
+        Sketched::Everywhere(0, 1, &[Step::Call(0)]),
+        Sketched::Everywhere(0, 0, OCTET),
+        53,
+    ),
+    (
+        Sketched::Everywhere(0, 1, &[Step::Call(1)]),
+        Sketched::Everywhere(0, 0, OCTET),
+        0,
+    ),
+];
+
+/// A routine that calls itself, one that calls this, and the last.
+fn fault_of_four(alloc: Global, called: &[Step<'_>], last: &[Step<'_>]) -> u8 {
+    let routines = [
+        Sketched::Everywhere(0, 1, &[Step::Call(0)]),
+        Sketched::Everywhere(0, 1, &[Step::Call(2)]),
+        Sketched::Everywhere(0, 0, called),
+        Sketched::Everywhere(0, 0, last),
+    ];
+    fault_of(program(alloc, &routines))
 }
 
-/// Of several faults a number is told first and a rank last, wherever they stand.
 #[test]
-fn the_first_of_several_faults(rt: HostRuntime) -> Result<(), Fail> {
+fn the_first_of_several_faults(rt: HostRuntime) {
     let alloc = rt.alloc();
-    let faults = [
-        with_last(alloc, Instr::Align { to: Width::Two }, 0)?,
-        with_last(alloc, Instr::Align { to: Width::Two }, 1)?,
-        with_last(alloc, Instr::Octets { n: 1 }, 1)?,
-    ];
-    assert_eq!(rt; faults, [52, 55, 53]);
-    Ok(())
+    for (first, second, want) in PAIRS {
+        assert_eq!(rt; fault_of(program(alloc, &[first, second])), want);
+    }
+    assert_eq!(rt; fault_of_four(alloc, GAP, &[Step::Octets(0)]), 52);
+    assert_eq!(rt; fault_of_four(alloc, GAP, OCTET), 55);
+    assert_eq!(rt; fault_of_four(alloc, OCTET, OCTET), 53);
 }

@@ -1,87 +1,118 @@
-//! The runner on the sample program, the structure of 7, 1 and "hi" and strings, and on instructions that a plain
-//! program doesn't have.
+//! The runner on the sample's program, the structure of 7, 1 and "hi" and strings, and on runs of
+//! numbers, which a plain program doesn't have.
 
-use crate::marshal::{big, both_ways, read_fault, write_fault};
+use crate::marshal::{At, both_ways, read_fault, write_fault};
 use crate::refusals::of;
 use crate::sample;
-use marshal_program::Instr;
-use program_runner::{read, write};
-use std::test::Fail;
+use crate::sketch::{Step, program};
+use program_runner::read;
+use std::alloc::Global;
 use type_graph::{Order, Width};
 
-const TAPE: [u8; 11] = [7, 0, 0, 0, 1, 0, 0, 0, 2, 0x68, 0x69];
+const TAPE: [u8; 11] = *b"\x07\0\0\0\x01\0\0\0\x02hi";
 
-const AT_3: [u8; 12] = [7, 0, 0, 0, 1, 0, 0, 0, 3, 0x68, 0x69, 0];
+/// The structure at position 3 without a gap, here one that passes 2 to the 64th on the way.
+fn the_structure_both_ways(alloc: Global) -> [u32; 2] {
+    match program(alloc, &sample::ROUTINES) {
+        Ok(program) => both_ways(
+            alloc,
+            &program,
+            At::Big(3, u64::MAX - 4),
+            &TAPE,
+            b"\x07\0\0\0\x01\0\0\0\x03hi\0",
+        ),
+        Err(_) => [98; 2],
+    }
+}
 
-const PADDED: [u8; 17] = [
-    7, 0xFF, 0xEE, 0xDD, 0, 0, 0, 1, 0, 0, 0, 3, 0x68, 0x69, 0, 0xAA, 0xBB,
+/// How many octets are taken for the structure.
+fn taken(alloc: Global, octets: &[u8]) -> usize {
+    let Ok(program) = program(alloc, &sample::ROUTINES) else {
+        return 98;
+    };
+    if program.routines().len() < 4 {
+        return 97;
+    }
+    match read(alloc, &program, 3, Order::Big, 0, octets) {
+        Ok((tape, taken)) if tape.as_slice() == TAPE.as_slice() => taken,
+        _ => 96,
+    }
+}
+
+#[test]
+fn the_structure(rt: HostRuntime) {
+    assert_eq!(rt; the_structure_both_ways(rt.alloc()), [0; 2]);
+    let padded = b"\x07\xFF\xEE\xDD\0\0\0\x01\0\0\0\x03hi\0\xAA\xBB";
+    assert_eq!(rt; taken(rt.alloc(), padded), 15);
+}
+
+fn read_string(alloc: Global, octets: &[u8]) -> u32 {
+    match program(alloc, &sample::ROUTINES) {
+        Ok(program) => read_fault(alloc, &program, At::Big(2, 0), octets),
+        Err(_) => 98,
+    }
+}
+
+fn write_string(alloc: Global, tape: &[u8]) -> u32 {
+    match program(alloc, &sample::ROUTINES) {
+        Ok(program) => write_fault(alloc, &program, At::Big(2, 0), tape),
+        Err(_) => 98,
+    }
+}
+
+const READS: [(&[u8], u32); 6] = [
+    (&[0; 3], 60),
+    (&[0; 4], 63),
+    (b"\0\0\0\x02A", 60),
+    (b"\0\0\0\x01A", 64),
+    (b"\0\0\0\x03\0\0\0", 65),
+    (b"\0\0\0\x01\0", 0),
+];
+
+const WRITES: [(&[u8], u32); 6] = [
+    (&[0; 3], 60),
+    (&[255; 4], 63),
+    (b"\0\0\0\x02A", 60),
+    (b"\0\0\0\x01\0", 65),
+    (b"\0\0\0\0\0", 68),
+    (b"\0\0\0\x01A", 0),
 ];
 
 #[test]
-fn the_structure(rt: HostRuntime) -> Result<(), Fail> {
-    let alloc = rt.alloc();
-    let program = sample::program(alloc)?;
-    assert_eq!(rt; program.routines().len(), 4);
-    // a position that passes 2 to the 64th on the way
-    let octets = write(alloc, &program, 3, Order::Big, u64::MAX - 4, &TAPE)?;
-    assert_eq!(rt; octets.as_slice(), AT_3.as_slice());
-    let (tape, taken) = read(alloc, &program, 3, Order::Big, 0, &PADDED)?;
-    assert_eq!(rt; tape.as_slice(), TAPE.as_slice());
-    assert_eq!(rt; taken, 15);
-    Ok(())
-}
-
-#[test]
-fn octets_that_are_no_string(rt: HostRuntime) -> Result<(), Fail> {
-    let alloc = rt.alloc();
-    let program = sample::program(alloc)?;
-    let at = big(2, 0);
-    let faults = [
-        read_fault(alloc, &program, at, &[0, 0, 0]),
-        read_fault(alloc, &program, at, &[0, 0, 0, 0]),
-        read_fault(alloc, &program, at, &[0, 0, 0, 2, 0x41]),
-        read_fault(alloc, &program, at, &[0, 0, 0, 1, 0x41]),
-        read_fault(alloc, &program, at, &[0, 0, 0, 3, 0, 0, 0]),
-        read_fault(alloc, &program, at, &[0, 0, 0, 1, 0]),
-    ];
-    assert_eq!(rt; faults, [60, 63, 60, 64, 65, 0]);
-    Ok(())
-}
-
-#[test]
-fn tapes_that_are_no_string(rt: HostRuntime) -> Result<(), Fail> {
-    let alloc = rt.alloc();
-    let program = sample::program(alloc)?;
-    let at = big(2, 0);
-    let faults = [
-        write_fault(alloc, &program, at, &[0, 0, 0]),
-        write_fault(alloc, &program, at, &[255, 255, 255, 255]),
-        write_fault(alloc, &program, at, &[0, 0, 0, 2, 0x41]),
-        write_fault(alloc, &program, at, &[0, 0, 0, 1, 0]),
-        write_fault(alloc, &program, at, &[0, 0, 0, 0, 0]),
-        write_fault(alloc, &program, at, &[0, 0, 0, 1, 0x41]),
-    ];
-    assert_eq!(rt; faults, [60, 63, 60, 65, 68, 0]);
-    Ok(())
+fn strings(rt: HostRuntime) {
+    for (octets, want) in READS {
+        assert_eq!(rt; read_string(rt.alloc(), octets), want);
+    }
+    for (tape, want) in WRITES {
+        assert_eq!(rt; write_string(rt.alloc(), tape), want);
+    }
 }
 
 /// A gap stands before the first number only where there is one.
+const NUMBERS: [(At, &[u8], &[u8]); 3] = [
+    (At::Big(0, 0), &[0; 4], &[0; 4]),
+    (
+        At::Big(0, 0),
+        b"\0\0\0\x01\0\0\0\0\0\0\0\x05",
+        b"\0\0\0\x01\0\0\0\0\0\0\0\0\0\0\0\x05",
+    ),
+    (
+        At::Big(0, 4),
+        b"\0\0\0\x01\0\0\0\0\0\0\0\x05",
+        b"\0\0\0\x01\0\0\0\0\0\0\0\x05",
+    ),
+];
+
+fn long_longs(alloc: Global, at: At, tape: &[u8], octets: &[u8]) -> [u32; 2] {
+    match of(alloc, Step::SeqWords(Width::Eight, Width::Eight, 0)) {
+        Ok(program) => both_ways(alloc, &program, at, tape, octets),
+        Err(_) => [98; 2],
+    }
+}
+
 #[test]
-fn runs_of_numbers(rt: HostRuntime) -> Result<(), Fail> {
-    let alloc = rt.alloc();
-    let words = Instr::SeqWords {
-        width: Width::Eight,
-        first: Width::Eight,
-        bound: 0,
-    };
-    let program = of(alloc, words)?;
-    let tape = [0, 0, 0, 1, 0, 0, 0, 0, 0, 0, 0, 5];
-    let octets = [0, 0, 0, 1, 0, 0, 0, 0, 0, 0, 0, 0, 0, 0, 0, 5];
-    let runs = [
-        both_ways(alloc, &program, big(0, 0), &[0; 4], &[0; 4]),
-        both_ways(alloc, &program, big(0, 0), &tape, &octets),
-        both_ways(alloc, &program, big(0, 4), &tape, &tape),
-    ];
-    assert_eq!(rt; runs, [[0; 2]; 3]);
-    Ok(())
+fn runs_of_numbers(rt: HostRuntime) {
+    for (at, tape, octets) in NUMBERS {
+        assert_eq!(rt; long_longs(rt.alloc(), at, tape, octets), [0; 2]);
+    }
 }

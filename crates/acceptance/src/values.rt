@@ -1,58 +1,30 @@
 //! Values and their tapes, both ways.
 
-use crate::graphs::record;
+use crate::sketch::{Sketch, add, graph};
 use idl_value::{Value, ValueFault, conforms, pack, unpack};
 use std::alloc::{AllocError, Global};
 use std::test::Fail;
-use type_graph::{Arms, Graph, GraphFault, Members, Node, Width};
-
-fn whole(width: Width, signed: bool) -> Node {
-    Node::Whole { width, signed }
-}
-
-/// A union of an octet for each label from -512 to 511.
-fn wide_union(alloc: Global) -> Result<Node, AllocError> {
-    let mut pairs = Vec::new(alloc);
-    for place in 0..1024_u32 {
-        pairs.push((i128::from(place) - 512, 0))?;
-    }
-    Ok(Node::Union {
-        switch: 2,
-        arms: Arms::new(pairs),
-        default: None,
-    })
-}
+use type_graph::{Graph, Width};
 
 /// Nodes of all kinds. Node 11 is a structure of an octet and a sequence of such structures.
-fn graph(alloc: Global) -> Result<Graph, GraphFault> {
-    let arms = Arms::new(vec![in alloc; (1, 2)]?);
-    let union = Node::Union {
-        switch: 1,
-        arms,
-        default: None,
-    };
-    let frame = Members::new([7, 2].to_vec(alloc)?);
-    let nodes = vec![in alloc;
-        Node::Octet,
-        Node::Boolean,
-        whole(Width::Two, true),
-        union,
-        Node::Seq { elem: 0, bound: 2 },
-        Node::Char,
-        Node::Enum { n: 3 },
-        Node::Text { bound: 0 },
-        whole(Width::Four, false),
-        Node::Array { elem: 2, n: 2 },
-        record(alloc, &[0, 8, 7])?,
-        record(alloc, &[0, 12])?,
-        Node::Seq { elem: 11, bound: 0 },
-        Node::Frame { members: frame },
-        whole(Width::Eight, true),
-        Node::Seq { elem: 0, bound: 0 },
-        wide_union(alloc)?,
-    ]?;
-    Graph::from_nodes(alloc, nodes)
-}
+const NODES: [Sketch<'static>; 16] = [
+    Sketch::Octet,
+    Sketch::Boolean,
+    Sketch::Signed(Width::Two),
+    Sketch::Union(1, &[(1, 2)], None),
+    Sketch::Seq(0, 2),
+    Sketch::Char,
+    Sketch::Enum(3),
+    Sketch::Text(0),
+    Sketch::Unsigned(Width::Four),
+    Sketch::Array(2, 2),
+    Sketch::Struct(&[0, 8, 7]),
+    Sketch::Struct(&[0, 12]),
+    Sketch::Seq(11, 0),
+    Sketch::Frame(&[7, 2]),
+    Sketch::Signed(Width::Eight),
+    Sketch::Seq(0, 0),
+];
 
 fn number(fault: ValueFault) -> u32 {
     match fault {
@@ -85,97 +57,143 @@ pub fn unpacks(alloc: Global, graph: &Graph, node: u32, tape: &[u8]) -> u32 {
     }
 }
 
-fn choice(alloc: Global, disc: i128, member: Option<i128>) -> Result<Value, AllocError> {
-    let member = match member {
-        None => None,
-        Some(n) => Some(Box::new(alloc, Value::Whole(n))?),
-    };
-    Ok(Value::Choice { disc, member })
+/// A tape of each kind of node; then one that is too long, left-over octets, a count past the end,
+/// a boolean 2, an enumerator past the last, a string with a zero.
+const TAPES: [(u32, &[u8], u32); 19] = [
+    (0, &[7], 0),
+    (1, &[1], 0),
+    (2, &[0x80, 0], 0),
+    (3, &[1, 0xFF, 0xFE], 0),
+    (4, &[0, 0, 0, 2, 1, 2], 0),
+    (5, &[0xFF], 0),
+    (6, &[0, 0, 0, 2], 0),
+    (7, &[0, 0, 0, 0], 0),
+    (8, &[0xFF, 0xFF, 0xFF, 0xFF], 0),
+    (9, &[0, 1, 0xFF, 0xFF], 0),
+    (10, b"\x07\0\0\0\x01\0\0\0\x02hi", 0),
+    (13, b"\0\0\0\x02hi\0\x05", 0),
+    (14, &[0x80, 0, 0, 0, 0, 0, 0, 1], 0),
+    (4, &[0, 0, 0, 3, 1, 2, 3], 41),
+    (0, &[7, 0], 41),
+    (15, &[0xFF, 0xFF, 0xFF, 0xFF, 1, 2, 3, 4, 5], 41),
+    (1, &[2], 41),
+    (6, &[0, 0, 0, 3], 41),
+    (7, &[0, 0, 0, 1, 0], 41),
+];
+
+#[test]
+fn tapes_to_values(rt: HostRuntime) -> Result<(), Fail> {
+    let graph = graph(rt.alloc(), &NODES)?;
+    for (node, tape, want) in TAPES {
+        assert_eq!(rt; unpacks(rt.alloc(), &graph, node, tape), want);
+    }
+    Ok(())
 }
+
+/// A value as a table can hold it: numbers, and a text behind them.
+#[derive(Clone, Copy)]
+enum Told<'a> {
+    Items(&'a [i128], &'a [u8]),
+    Choice(i128, Option<i128>),
+}
+
+fn whole(alloc: Global, member: i128) -> Result<Box<Value>, AllocError> {
+    Ok(Box::new(alloc, Value::Whole(member))?)
+}
+
+fn text(alloc: Global, octets: &[u8]) -> Result<Value, AllocError> {
+    Ok(Value::Text(octets.to_vec(alloc)?))
+}
+
+fn items(alloc: Global, numbers: &[i128], octets: &[u8]) -> Result<Value, AllocError> {
+    let mut list = Vec::new(alloc);
+    for number in numbers {
+        add(&mut list, Ok(Value::Whole(*number)))?;
+    }
+    if !octets.is_empty() {
+        add(&mut list, text(alloc, octets))?;
+    }
+    Ok(Value::Items(list))
+}
+
+fn value(alloc: Global, told: Told<'_>) -> Result<Value, AllocError> {
+    match told {
+        Told::Items(numbers, octets) => items(alloc, numbers, octets),
+        Told::Choice(disc, None) => Ok(Value::Choice { disc, member: None }),
+        Told::Choice(disc, Some(member)) => Ok(Value::Choice {
+            disc,
+            member: Some(whole(alloc, member)?),
+        }),
+    }
+}
+
+/// Unions without and with a member, and one that lacks it; a sequence over its bound, and as long
+/// without; a structure.
+const VALUES: [(u32, Told<'static>, &[u8], u32); 6] = [
+    (3, Told::Choice(0, None), &[0], 0),
+    (3, Told::Choice(1, Some(-2)), &[1, 0xFF, 0xFE], 0),
+    (3, Told::Choice(1, None), &[], 40),
+    (4, Told::Items(&[1, 2, 3], &[]), &[], 40),
+    (15, Told::Items(&[1, 2, 3], &[]), &[0, 0, 0, 3, 1, 2, 3], 0),
+    (
+        10,
+        Told::Items(&[7, 1], b"hi"),
+        b"\x07\0\0\0\x01\0\0\0\x02hi",
+        0,
+    ),
+];
 
 #[test]
 fn values_to_tapes(rt: HostRuntime) -> Result<(), Fail> {
-    let alloc = rt.alloc();
-    let graph = graph(alloc)?;
-    let three = Value::Items(vec![in alloc; Value::Whole(1), Value::Whole(2), Value::Whole(3)]?);
-    let text = Value::Text(b"hi".to_vec(alloc)?);
-    let record = Value::Items(vec![in alloc; Value::Whole(7), Value::Whole(1), text]?);
-    let faults = [
-        packs(alloc, &graph, 3, &choice(alloc, 0, None)?, &[0]),
-        packs(
-            alloc,
-            &graph,
-            3,
-            &choice(alloc, 1, Some(-2))?,
-            &[1, 0xFF, 0xFE],
-        ),
-        packs(alloc, &graph, 3, &choice(alloc, 1, None)?, &[]),
-        packs(alloc, &graph, 4, &three, &[]),
-        packs(alloc, &graph, 15, &three, &[0, 0, 0, 3, 1, 2, 3]),
-        packs(alloc, &graph, 10, &record, b"\x07\0\0\0\x01\0\0\0\x02hi"),
-        packs(
-            alloc,
-            &graph,
-            16,
-            &choice(alloc, -512, Some(9))?,
-            &[0xFE, 0, 9],
-        ),
-        packs(alloc, &graph, 16, &choice(alloc, 512, None)?, &[2, 0]),
-    ];
-    assert_eq!(rt; faults, [0, 0, 40, 40, 0, 0, 0, 0]);
+    let graph = graph(rt.alloc(), &NODES)?;
+    for (node, told, tape, want) in VALUES {
+        assert_eq!(rt;
+            packs(rt.alloc(), &graph, node, &value(rt.alloc(), told)?, tape),
+            want
+        );
+    }
     Ok(())
 }
 
-/// A tape of each kind of node.
+/// An octet for each label from -512 to 511.
+fn arms(alloc: Global) -> Result<Vec<(i128, u32)>, AllocError> {
+    let mut pairs = Vec::new(alloc);
+    let mut label: i128 = -512;
+    for _ in 0..1024 {
+        pairs.push((label, 0))?;
+        label = label.saturating_add(1);
+    }
+    Ok(pairs)
+}
+
+/// The first label, and a number past the last.
 #[test]
-fn tapes_to_values(rt: HostRuntime) -> Result<(), Fail> {
+fn a_union_of_many_arms(rt: HostRuntime) -> Result<(), Fail> {
     let alloc = rt.alloc();
-    let graph = graph(alloc)?;
-    let faults = [
-        unpacks(alloc, &graph, 0, &[7]),
-        unpacks(alloc, &graph, 1, &[1]),
-        unpacks(alloc, &graph, 2, &[0x80, 0]),
-        unpacks(alloc, &graph, 3, &[1, 0xFF, 0xFE]),
-        unpacks(alloc, &graph, 4, &[0, 0, 0, 2, 1, 2]),
-        unpacks(alloc, &graph, 5, &[0xFF]),
-        unpacks(alloc, &graph, 6, &[0, 0, 0, 2]),
-        unpacks(alloc, &graph, 7, &[0, 0, 0, 0]),
-        unpacks(alloc, &graph, 8, &[0xFF, 0xFF, 0xFF, 0xFF]),
-        unpacks(alloc, &graph, 9, &[0, 1, 0xFF, 0xFF]),
-        unpacks(alloc, &graph, 10, b"\x07\0\0\0\x01\0\0\0\x02hi"),
-        unpacks(alloc, &graph, 13, b"\0\0\0\x02hi\0\x05"),
-        unpacks(alloc, &graph, 14, &[0x80, 0, 0, 0, 0, 0, 0, 1]),
+    let arms = arms(alloc)?;
+    let nodes = [
+        Sketch::Octet,
+        Sketch::Signed(Width::Two),
+        Sketch::Union(1, &arms, None),
     ];
-    assert_eq!(rt; faults, [0; 13]);
+    let graph = graph(alloc, &nodes)?;
+    assert_eq!(rt; unpacks(alloc, &graph, 2, &[0xFE, 0, 9]), 0);
+    assert_eq!(rt; unpacks(alloc, &graph, 2, &[2, 0]), 0);
     Ok(())
 }
 
-/// Too long, left-over octets, a count past the end, a boolean 2, an enumerator past the last, a
-/// string with a zero.
-#[test]
-fn no_tapes(rt: HostRuntime) -> Result<(), Fail> {
-    let alloc = rt.alloc();
-    let graph = graph(alloc)?;
-    let faults = [
-        unpacks(alloc, &graph, 4, &[0, 0, 0, 3, 1, 2, 3]),
-        unpacks(alloc, &graph, 0, &[7, 0]),
-        unpacks(alloc, &graph, 15, &[0xFF, 0xFF, 0xFF, 0xFF, 1, 2, 3, 4, 5]),
-        unpacks(alloc, &graph, 1, &[2]),
-        unpacks(alloc, &graph, 6, &[0, 0, 0, 3]),
-        unpacks(alloc, &graph, 7, &[0, 0, 0, 1, 0]),
-    ];
-    assert_eq!(rt; faults, [41; 6]);
-    Ok(())
+/// A structure of 1 and a sequence of these.
+fn parent(alloc: Global, kids: Vec<Value>) -> Result<Value, AllocError> {
+    Ok(Value::Items(vec![in alloc; Value::Whole(1), Value::Items(kids)]?))
 }
 
 /// So many structures, one in the sequence of the other.
 fn chain(alloc: Global, length: u32) -> Result<Value, AllocError> {
-    let mut kids = Value::Items(Vec::new(alloc));
+    let mut node = parent(alloc, Vec::new(alloc))?;
     for _ in 1..length {
-        let node = Value::Items(vec![in alloc; Value::Whole(1), kids]?);
-        kids = Value::Items(vec![in alloc; node]?);
+        node = parent(alloc, vec![in alloc; node]?)?;
     }
-    Ok(Value::Items(vec![in alloc; Value::Whole(1), kids]?))
+    Ok(node)
 }
 
 pub fn chain_tape(alloc: Global, length: u32) -> Result<Vec<u8>, AllocError> {
@@ -187,17 +205,20 @@ pub fn chain_tape(alloc: Global, length: u32) -> Result<Vec<u8>, AllocError> {
     Ok(tape)
 }
 
+/// The faults of the value and of its tape.
+fn faults_of_chain(alloc: Global, graph: &Graph, length: u32) -> Result<[u32; 2], AllocError> {
+    let tape = chain_tape(alloc, length)?;
+    let value = chain(alloc, length)?;
+    Ok([
+        packs(alloc, graph, 11, &value, &tape),
+        unpacks(alloc, graph, 11, &tape),
+    ])
+}
+
 #[test]
 fn sixty_four_sequences(rt: HostRuntime) -> Result<(), Fail> {
-    let alloc = rt.alloc();
-    let graph = graph(alloc)?;
-    let tapes = [chain_tape(alloc, 64)?, chain_tape(alloc, 65)?];
-    let faults = [
-        packs(alloc, &graph, 11, &chain(alloc, 64)?, &tapes[0]),
-        unpacks(alloc, &graph, 11, &tapes[0]),
-        packs(alloc, &graph, 11, &chain(alloc, 65)?, &tapes[1]),
-        unpacks(alloc, &graph, 11, &tapes[1]),
-    ];
-    assert_eq!(rt; faults, [0, 0, 40, 41]);
+    let graph = graph(rt.alloc(), &NODES)?;
+    assert_eq!(rt; faults_of_chain(rt.alloc(), &graph, 64)?, [0, 0]);
+    assert_eq!(rt; faults_of_chain(rt.alloc(), &graph, 65)?, [40, 41]);
     Ok(())
 }

@@ -1,100 +1,162 @@
 //! Values worked out by hand from the rules of CDR, run by the plain programs of their types.
 
 use crate::accept::accepted;
-use crate::graphs::record;
-use crate::marshal::{accepted_both_ways, big, both_ways, faults, little, program_of, read_fault};
+use crate::marshal::{At, accepted_both_ways, both_ways, faults, program_of, read_fault};
 use crate::sample;
+use crate::sketch::Sketch;
 use crate::values::chain_tape;
-use marshal_program::Program;
 use std::alloc::{AllocError, Global};
 use std::test::Fail;
-use table_file::Use;
-use type_graph::{Arms, Node, Width};
+use type_graph::Width;
 
-/// The structure of 7, 1 and "hi".
-const TAPE: [u8; 11] = [7, 0, 0, 0, 1, 0, 0, 0, 2, 0x68, 0x69];
+/// The structure of 7, 1 and "hi", with its gap and at position 3 without.
+const STRUCTURES: [(At, &[u8], &[u8]); 3] = [
+    (
+        At::Big(3, 0),
+        b"\x07\0\0\0\x01\0\0\0\x02hi",
+        b"\x07\0\0\0\0\0\0\x01\0\0\0\x03hi\0",
+    ),
+    (
+        At::Big(3, 3),
+        b"\x07\0\0\0\x01\0\0\0\x02hi",
+        b"\x07\0\0\0\x01\0\0\0\x03hi\0",
+    ),
+    (
+        At::Little(3, 0),
+        b"\x07\0\0\0\x01\0\0\0\x02hi",
+        b"\x07\0\0\0\x01\0\0\0\x03\0\0\0hi\0",
+    ),
+];
 
-const BIG: [u8; 15] = [7, 0, 0, 0, 0, 0, 0, 1, 0, 0, 0, 3, 0x68, 0x69, 0];
-
-/// At position 3 there is no gap.
-const BIG_AT_3: [u8; 12] = [7, 0, 0, 0, 1, 0, 0, 0, 3, 0x68, 0x69, 0];
-
-const LITTLE: [u8; 15] = [7, 0, 0, 0, 1, 0, 0, 0, 3, 0, 0, 0, 0x68, 0x69, 0];
-
-#[test]
-fn a_structure(rt: HostRuntime) -> Result<(), Fail> {
-    let alloc = rt.alloc();
-    let program = program_of(alloc, sample::nodes(alloc)?)?;
-    let runs = [
-        both_ways(alloc, &program, big(3, 0), &TAPE, &BIG),
-        both_ways(alloc, &program, big(3, 3), &TAPE, &BIG_AT_3),
-        both_ways(alloc, &program, little(3, 0), &TAPE, &LITTLE),
-    ];
-    assert_eq!(rt; runs, [[0; 2]; 3]);
-    assert_eq!(rt; read_fault(alloc, &program, big(3, 0), &BIG[..12]), 60);
-    Ok(())
+fn by_accepted(alloc: Global, at: At, tape: &[u8], octets: &[u8]) -> [u32; 2] {
+    let Ok(program) = program_of(alloc, &sample::NODES) else {
+        return [98; 2];
+    };
+    match accepted(alloc, &sample::NODES, program, &[3]) {
+        Ok(accepted) => accepted_both_ways(alloc, &accepted, at, tape, octets),
+        Err(_) => [97; 2],
+    }
 }
 
 #[test]
-fn a_structure_by_an_accepted_table(rt: HostRuntime) -> Result<(), Fail> {
-    let alloc = rt.alloc();
-    let program = program_of(alloc, sample::nodes(alloc)?)?;
-    let accepted = accepted(alloc, sample::graph(alloc)?, program, &[3])?;
-    let runs = [
-        accepted_both_ways(alloc, &accepted, big(3, 3), &TAPE, &BIG_AT_3),
-        accepted_both_ways(alloc, &accepted, little(3, 0), &TAPE, &LITTLE),
-    ];
-    assert_eq!(rt; runs, [[0; 2]; 2]);
-    assert_eq!(rt; accepted.table().program(Use::First).routines().len(), 4);
-    Ok(())
+fn a_structure_by_an_accepted_table(rt: HostRuntime) {
+    for (at, tape, octets) in STRUCTURES {
+        assert_eq!(rt; by_accepted(rt.alloc(), at, tape, octets), [0; 2]);
+    }
 }
+
+/// Sequences of long longs, a union over a boolean, strings, sequences of octets, and the structure
+/// of an octet and a sequence of such structures.
+const NODES: [Sketch<'static>; 13] = [
+    Sketch::Signed(Width::Eight),
+    Sketch::Seq(0, 0),
+    Sketch::Boolean,
+    Sketch::Signed(Width::Two),
+    Sketch::Union(2, &[(1, 3)], None),
+    Sketch::Enum(3),
+    Sketch::Text(0),
+    Sketch::Text(1),
+    Sketch::Octet,
+    Sketch::Seq(8, 0),
+    Sketch::Seq(8, 4),
+    Sketch::Struct(&[8, 12]),
+    Sketch::Seq(11, 0),
+];
+
+/// A tree 1 with the kids 2 and 3.
+const TREE: [u8; 15] = [1, 0, 0, 0, 2, 2, 0, 0, 0, 0, 3, 0, 0, 0, 0];
+
+const TREE_AT_0: [u8; 24] = [
+    1, 0, 0, 0, 0, 0, 0, 2, 2, 0, 0, 0, 0, 0, 0, 0, 3, 0, 0, 0, 0, 0, 0, 0,
+];
+
+const TREE_AT_1: [u8; 23] = [
+    1, 0, 0, 0, 0, 0, 2, 2, 0, 0, 0, 0, 0, 0, 0, 3, 0, 0, 0, 0, 0, 0, 0,
+];
 
 /// A gap stands before the first element only where there is one.
-#[test]
-fn sequences_of_long_long(rt: HostRuntime) -> Result<(), Fail> {
-    let alloc = rt.alloc();
-    let element = Node::Whole {
-        width: Width::Eight,
-        signed: true,
-    };
-    let nodes = vec![in alloc; element, Node::Seq { elem: 0, bound: 0 }]?;
-    let program = program_of(alloc, nodes)?;
-    let five = [0, 0, 0, 1, 0, 0, 0, 0, 0, 0, 0, 5];
-    let five_at_0 = [0, 0, 0, 1, 0, 0, 0, 0, 0, 0, 0, 0, 0, 0, 0, 5];
-    let runs = [
-        both_ways(alloc, &program, big(1, 0), &[0; 4], &[0; 4]),
-        both_ways(alloc, &program, big(1, 4), &[0; 4], &[0; 4]),
-        both_ways(alloc, &program, big(1, 0), &five, &five_at_0),
-        both_ways(alloc, &program, big(1, 4), &five, &five),
-    ];
-    assert_eq!(rt; runs, [[0; 2]; 4]);
-    Ok(())
+const VALUES: [(At, &[u8], &[u8]); 13] = [
+    (At::Big(1, 0), &[0; 4], &[0; 4]),
+    (At::Big(1, 4), &[0; 4], &[0; 4]),
+    (
+        At::Big(1, 0),
+        &[0, 0, 0, 1, 0, 0, 0, 0, 0, 0, 0, 5],
+        b"\0\0\0\x01\0\0\0\0\0\0\0\0\0\0\0\x05",
+    ),
+    (
+        At::Big(1, 4),
+        b"\0\0\0\x01\0\0\0\0\0\0\0\x05",
+        b"\0\0\0\x01\0\0\0\0\0\0\0\x05",
+    ),
+    (At::Big(2, 0), &[1], &[1]),
+    (At::Big(4, 0), &[0], &[0]),
+    (At::Big(4, 0), &[1, 0xFF, 0xFE], &[1, 0, 0xFF, 0xFE]),
+    (At::Little(4, 1), &[1, 0xFF, 0xFE], &[1, 0xFE, 0xFF]),
+    (At::Big(5, 0), &[0, 0, 0, 2], &[0, 0, 0, 2]),
+    (At::Little(5, 0), &[0, 0, 0, 2], &[2, 0, 0, 0]),
+    (At::Big(6, 0), &[0; 4], b"\0\0\0\x01\0"),
+    (At::Big(11, 0), &TREE, &TREE_AT_0),
+    (At::Big(11, 1), &TREE, &TREE_AT_1),
+];
+
+fn by_program(alloc: Global, at: At, tape: &[u8], octets: &[u8]) -> [u32; 2] {
+    match program_of(alloc, &NODES) {
+        Ok(program) => both_ways(alloc, &program, at, tape, octets),
+        Err(_) => [98; 2],
+    }
 }
 
-/// Node 0 is a structure of an octet and a sequence of such structures.
-fn trees(alloc: Global) -> Result<Program, Fail> {
-    let node = record(alloc, &[1, 2])?;
-    let nodes = vec![in alloc; node, Node::Octet, Node::Seq { elem: 0, bound: 0 }]?;
-    program_of(alloc, nodes)
+#[test]
+fn values(rt: HostRuntime) {
+    for (at, tape, octets) in VALUES {
+        assert_eq!(rt; by_program(rt.alloc(), at, tape, octets), [0; 2]);
+    }
+}
+
+/// A boolean 2, an enumerator past the last, and a count of 4,294,967,295 over five octets.
+const NO_VALUES: [(u32, &[u8], u32); 5] = [
+    (2, &[2], 61),
+    (4, &[2], 61),
+    (5, &[0, 0, 0, 3], 62),
+    (9, b"\xFF\xFF\xFF\xFF\x01\x02\x03\x04\x05", 60),
+    (10, b"\xFF\xFF\xFF\xFF\x01\x02\x03\x04\x05", 66),
+];
+
+fn faults_by_program(alloc: Global, node: u32, numbers: &[u8]) -> [u32; 2] {
+    match program_of(alloc, &NODES) {
+        Ok(program) => faults(alloc, &program, At::Big(node, 0), numbers),
+        Err(_) => [98; 2],
+    }
 }
 
 #[test]
-fn a_tree(rt: HostRuntime) -> Result<(), Fail> {
-    let alloc = rt.alloc();
-    let program = trees(alloc)?;
-    let tape = [1, 0, 0, 0, 2, 2, 0, 0, 0, 0, 3, 0, 0, 0, 0];
-    let at_0 = [
-        1, 0, 0, 0, 0, 0, 0, 2, 2, 0, 0, 0, 0, 0, 0, 0, 3, 0, 0, 0, 0, 0, 0, 0,
-    ];
-    let at_1 = [
-        1, 0, 0, 0, 0, 0, 2, 2, 0, 0, 0, 0, 0, 0, 0, 3, 0, 0, 0, 0, 0, 0, 0,
-    ];
-    let runs = [
-        both_ways(alloc, &program, big(0, 0), &tape, &at_0),
-        both_ways(alloc, &program, big(0, 1), &tape, &at_1),
-    ];
-    assert_eq!(rt; runs, [[0; 2]; 2]);
-    Ok(())
+fn no_values(rt: HostRuntime) {
+    for (node, numbers, want) in NO_VALUES {
+        assert_eq!(rt; faults_by_program(rt.alloc(), node, numbers), [want; 2]);
+    }
+}
+
+/// No room for the zero, no zero, zeros inside, longer than the bound, as long.
+const STRINGS: [(u32, &[u8], u32); 5] = [
+    (6, &[0; 4], 63),
+    (6, b"\0\0\0\x01A", 64),
+    (6, b"\0\0\0\x03\0\0\0", 65),
+    (7, b"\0\0\0\x03hi\0", 66),
+    (7, b"\0\0\0\x02h\0", 0),
+];
+
+fn read_by_program(alloc: Global, node: u32, octets: &[u8]) -> u32 {
+    match program_of(alloc, &NODES) {
+        Ok(program) => read_fault(alloc, &program, At::Big(node, 0), octets),
+        Err(_) => 98,
+    }
+}
+
+#[test]
+fn strings(rt: HostRuntime) {
+    for (node, octets, want) in STRINGS {
+        assert_eq!(rt; read_by_program(rt.alloc(), node, octets), want);
+    }
 }
 
 /// The octets at position 0 of a tree in which each structure has one kid, but for the last.
@@ -107,112 +169,15 @@ fn chain_octets(alloc: Global, length: u32) -> Result<Vec<u8>, AllocError> {
     Ok(octets)
 }
 
+fn chain(alloc: Global, length: u32) -> Result<[u32; 2], AllocError> {
+    let tape = chain_tape(alloc, length)?;
+    let octets = chain_octets(alloc, length)?;
+    Ok(by_program(alloc, At::Big(11, 0), &tape, &octets))
+}
+
 #[test]
 fn a_tree_of_sixty_four_levels(rt: HostRuntime) -> Result<(), Fail> {
-    let alloc = rt.alloc();
-    let program = trees(alloc)?;
-    let tape = chain_tape(alloc, 64)?;
-    let octets = chain_octets(alloc, 64)?;
-    assert_eq!(rt; octets.len(), 512);
-    assert_eq!(rt;
-        both_ways(alloc, &program, big(0, 0), &tape, &octets),
-        [0; 2]
-    );
-    let tape = chain_tape(alloc, 65)?;
-    let octets = chain_octets(alloc, 65)?;
-    assert_eq!(rt;
-        both_ways(alloc, &program, big(0, 0), &tape, &octets),
-        [67; 2]
-    );
-    Ok(())
-}
-
-#[test]
-fn a_union_over_a_boolean(rt: HostRuntime) -> Result<(), Fail> {
-    let alloc = rt.alloc();
-    let short = Node::Whole {
-        width: Width::Two,
-        signed: true,
-    };
-    let union = Node::Union {
-        switch: 0,
-        arms: Arms::new(vec![in alloc; (1, 1)]?),
-        default: None,
-    };
-    let program = program_of(alloc, vec![in alloc; Node::Boolean, short, union]?)?;
-    let runs = [
-        both_ways(alloc, &program, big(2, 0), &[0], &[0]),
-        both_ways(
-            alloc,
-            &program,
-            big(2, 0),
-            &[1, 0xFF, 0xFE],
-            &[1, 0, 0xFF, 0xFE],
-        ),
-        both_ways(
-            alloc,
-            &program,
-            little(2, 1),
-            &[1, 0xFF, 0xFE],
-            &[1, 0xFE, 0xFF],
-        ),
-        faults(alloc, &program, big(2, 0), &[2]),
-    ];
-    assert_eq!(rt; runs, [[0; 2], [0; 2], [0; 2], [61; 2]]);
-    Ok(())
-}
-
-#[test]
-fn enumerators_and_booleans(rt: HostRuntime) -> Result<(), Fail> {
-    let alloc = rt.alloc();
-    let program = program_of(alloc, vec![in alloc; Node::Enum { n: 3 }, Node::Boolean]?)?;
-    let last = [0, 0, 0, 2];
-    let runs = [
-        both_ways(alloc, &program, big(0, 0), &last, &last),
-        both_ways(alloc, &program, little(0, 0), &last, &[2, 0, 0, 0]),
-        faults(alloc, &program, big(0, 0), &[0, 0, 0, 3]),
-        both_ways(alloc, &program, big(1, 0), &[1], &[1]),
-        faults(alloc, &program, big(1, 0), &[2]),
-    ];
-    assert_eq!(rt; runs, [[0; 2], [0; 2], [62; 2], [0; 2], [61; 2]]);
-    Ok(())
-}
-
-/// No room for the zero, no zero, the empty string, zeros inside, longer than the bound.
-#[test]
-fn strings(rt: HostRuntime) -> Result<(), Fail> {
-    let alloc = rt.alloc();
-    let nodes = vec![in alloc; Node::Text { bound: 0 }, Node::Text { bound: 1 }]?;
-    let program = program_of(alloc, nodes)?;
-    let at = big(0, 0);
-    let reads = [
-        read_fault(alloc, &program, at, &[0; 4]),
-        read_fault(alloc, &program, at, b"\0\0\0\x01A"),
-        read_fault(alloc, &program, at, b"\0\0\0\x03\0\0\0"),
-        read_fault(alloc, &program, big(1, 0), b"\0\0\0\x03hi\0"),
-        read_fault(alloc, &program, big(1, 0), b"\0\0\0\x02h\0"),
-    ];
-    assert_eq!(rt; reads, [63, 64, 65, 66, 0]);
-    let empty = b"\0\0\0\x01\0";
-    assert_eq!(rt; both_ways(alloc, &program, at, &[0; 4], empty), [0; 2]);
-    Ok(())
-}
-
-/// A count of 4,294,967,295 over five octets.
-#[test]
-fn a_count_over_what_is_left(rt: HostRuntime) -> Result<(), Fail> {
-    let alloc = rt.alloc();
-    let nodes = vec![in alloc;
-        Node::Octet,
-        Node::Seq { elem: 0, bound: 0 },
-        Node::Seq { elem: 0, bound: 4 },
-    ]?;
-    let program = program_of(alloc, nodes)?;
-    let numbers = [0xFF, 0xFF, 0xFF, 0xFF, 1, 2, 3, 4, 5];
-    let runs = [
-        faults(alloc, &program, big(1, 0), &numbers),
-        faults(alloc, &program, big(2, 0), &numbers),
-    ];
-    assert_eq!(rt; runs, [[60; 2], [66; 2]]);
+    assert_eq!(rt; chain(rt.alloc(), 64)?, [0; 2]);
+    assert_eq!(rt; chain(rt.alloc(), 65)?, [67; 2]);
     Ok(())
 }

@@ -1,6 +1,7 @@
 -- The rules of a routine apart, as they are tested one after the other.
-use Rattle.std.specs.Prelude.{ℕ, ◌<◌, ◌≤◌, List, All}
+use Rattle.std.specs.Prelude.{ℕ, ◌<◌, ◌≤◌, Bool, true, false, List, All}
 use Rattle.marshal_program.specs.declared.instr.Instr.{Instr}
+use Rattle.marshal_program.specs.declared.instr.Instr.TheVariants.{SeqWords, SeqOf, Switch}
 use Rattle.marshal_program.specs.declared.instr.Routine.{Routine}
 use Rattle.marshal_program.specs.ProgramRules.{IsShort, IsInstr, AreSets, named_by, called_by, TakesOctet, IsLower}
 
@@ -21,3 +22,10 @@ NamesWork program routine = All (λ instr. All (TakesOctet program) (named_by in
 
 abbrev pub CallsLower : List Routine → Routine → Type 0
 CallsLower program routine = All (λ instr. All (IsLower program routine.rank) (called_by instr)) routine.code
+
+-- an instruction of three fields
+abbrev pub has_three_fields : Instr → Bool
+has_three_fields (SeqWords width first bound) = true
+has_three_fields (SeqOf bound first routine) = true
+has_three_fields (Switch disc arms otherwise) = true
+has_three_fields instr = false

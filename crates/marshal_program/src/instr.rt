@@ -122,22 +122,13 @@ pub struct Named<'i> {
 impl Instr {
     ghost use Rattle.std.specs.Prelude.{◌≡◌, ◌↔◌, IsTrue, []};
     ghost use Rattle.marshal_program.specs.ProgramRules.{arms_of, named_by, called_by};
+    ghost use Rattle.marshal_program.specs.RuleTests.{has_three_fields};
 
-    /// Whether the two are one instruction.
-    pub fn is(&self, other: &Instr) -> bool
-        ensures { IsTrue result ↔ (self.now ≡ other.now) }
+    /// Whether the two are one instruction of three fields.
+    fn is_of_three(&self, other: &Instr) -> bool
+        ensures { IsTrue result ↔ ((self.now ≡ other.now) × IsTrue (has_three_fields self.now)) }
     {
         match (self, other) {
-            (Instr::Align { to }, Instr::Align { to: of }) => *to == *of,
-            (Instr::Octets { n }, Instr::Octets { n: of }) => *n == *of,
-            (Instr::Words { width, n }, Instr::Words { width: by, n: of }) => {
-                *width == *by && *n == *of
-            }
-            (Instr::Bools { n }, Instr::Bools { n: of }) => *n == *of,
-            (Instr::EnumWord { limit }, Instr::EnumWord { limit: of }) => *limit == *of,
-            (Instr::Text { bound }, Instr::Text { bound: of })
-            | (Instr::SeqOctets { bound }, Instr::SeqOctets { bound: of })
-            | (Instr::SeqBools { bound }, Instr::SeqBools { bound: of }) => *bound == *of,
             (
                 Instr::SeqWords {
                     width,
@@ -162,10 +153,6 @@ impl Instr {
                     routine: by,
                 },
             ) => *bound == *of && *first == *at && *routine == *by,
-            (Instr::Times { n, routine }, Instr::Times { n: of, routine: by }) => {
-                *n == *of && *routine == *by
-            }
-            (Instr::Call { routine }, Instr::Call { routine: by }) => *routine == *by,
             (
                 Instr::Switch {
                     disc,
@@ -179,6 +166,29 @@ impl Instr {
                 },
             ) => is_disc(*disc, *by) && arms.is(of) && is_other(*otherwise, *or),
             _ => false,
+        }
+    }
+
+    /// Whether the two are one instruction.
+    pub fn is(&self, other: &Instr) -> bool
+        ensures { IsTrue result ↔ (self.now ≡ other.now) }
+    {
+        match (self, other) {
+            (Instr::Align { to }, Instr::Align { to: of }) => *to == *of,
+            (Instr::Octets { n }, Instr::Octets { n: of })
+            | (Instr::Bools { n }, Instr::Bools { n: of })
+            | (Instr::EnumWord { limit: n }, Instr::EnumWord { limit: of })
+            | (Instr::Text { bound: n }, Instr::Text { bound: of })
+            | (Instr::SeqOctets { bound: n }, Instr::SeqOctets { bound: of })
+            | (Instr::SeqBools { bound: n }, Instr::SeqBools { bound: of })
+            | (Instr::Call { routine: n }, Instr::Call { routine: of }) => *n == *of,
+            (Instr::Words { width, n }, Instr::Words { width: by, n: of }) => {
+                *width == *by && *n == *of
+            }
+            (Instr::Times { n, routine }, Instr::Times { n: of, routine: by }) => {
+                *n == *of && *routine == *by
+            }
+            _ => self.is_of_three(other),
         }
     }
 
