@@ -4,10 +4,10 @@ use Rattle.std.specs.Prelude.{codes}
 use Rattle.idl_parser.specs.Reading.{Parsed, Continued}
 use Rattle.idl_tree.specs.Pieces.{mark}
 use Rattle.idl_tree.specs.Yields.{identifier, optional, root_yield}
-use Rattle.idl_parser.proofs.read.names.read_scoped_name.Given as goal
+use Rattle.idl_parser.proofs.read.names.read_parts.Given as goal
 
 abbrev pub invariant-parts : goal.invariant-parts
-invariant-parts l = Continued l.initial.cursor (flat_map (λ x. mark (codes "::") ++ identifier x) l.rest.items) l.cursor
+invariant-parts l = Continued l.fn.cursor (flat_map (λ x. mark (codes "::") ++ identifier x) l.rest.items) l.cursor
 
 abbrev pub decreases-parts : goal.decreases-parts
 decreases-parts l = length l.cursor
