@@ -6,7 +6,7 @@ use Rattle.idl_tree.specs.Yields.{identifier, listed, in_order}
 use Rattle.idl_tree.specs.TypeYields.{type_yield, switch_yield, label_yield, declarator_yield, member_yield, case_yield}
 use Rattle.idl_tree.specs.Levels.{highest, highest_listed}
 use Rattle.idl_tree.specs.TypeLevels.{type_levels, switch_levels, label_levels, declarator_levels, member_levels, case_levels}
-use Rattle.idl_parser.proofs.Parts.{part_then, part_then_more}
+use Rattle.idl_parser.proofs.Parts.{part_then}
 use Rattle.idl_parser.proofs.Pairs.{spelled_as, group_two, group_within, group_five, both_read, both_levels, both_handed, both_handed_levels, first_level, both_handed_under, second_under, closed_list, closed_levels}
 use Rattle.idl_parser.proofs.Reading.{one_more, one_more_level}
 use Rattle.idl_parser.proofs.read.constructed.+constructed.Goals as goal

@@ -1,4 +1,4 @@
-use Rattle.idl_parser.proofs.Parts.{part_then, part_then_more, more_then_part}
+use Rattle.idl_parser.proofs.Parts.{part_then_more}
 use Rattle.idl_parser.proofs.read.constructed.read_labels.Goals as goal
 
 pub returns-clause-spells : goal.returns-clause-spells

@@ -1,6 +1,6 @@
 use Rattle.idl_tree.specs.TypeYields.{label_yield}
 use Rattle.idl_tree.specs.TypeLevels.{label_levels}
-use Rattle.idl_parser.proofs.Reading.{one_more, one_more_level, then_read}
+use Rattle.idl_parser.proofs.Reading.{one_more, one_more_level}
 use Rattle.idl_parser.proofs.read.constructed.read_more_labels.Goals as goal
 
 pub parts-preserved : goal.parts-preserved
