@@ -10,4 +10,6 @@ mod parsing;
 #[cfg(test)]
 mod reading;
 #[cfg(test)]
+mod table;
+#[cfg(test)]
 mod trees;

@@ -65,12 +65,19 @@ fn large_texts_are_read(rt: HostRuntime) -> Result<(), Fail> {
     Ok(())
 }
 
+/// The identifiers of a name, with a blank behind each.
+fn identifiers(alloc: Global, name: &str) -> Result<String, Fail> {
+    let mut out = String::new(alloc);
+    for word in Identifiers::new(name) {
+        out.push_str(word)?;
+        out.push(' ')?;
+    }
+    Ok(out)
+}
+
 #[test]
 fn blanks_may_stand_in_a_name(rt: HostRuntime) -> Result<(), Fail> {
-    let mut words = Identifiers::new(":: A ::_b\t::C9 ");
-    assert_eq!(rt; words.next(), Some("A"));
-    assert_eq!(rt; words.next(), Some("_b"));
-    assert_eq!(rt; words.next(), Some("C9"));
-    assert_eq!(rt; words.next(), None);
+    let words = identifiers(rt.alloc(), ":: A ::_b\t::C9 ")?;
+    assert_eq!(rt; words.as_str(), "A _b C9 ");
     Ok(())
 }

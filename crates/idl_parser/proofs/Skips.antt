@@ -1,7 +1,7 @@
 -- What is read where nothing stands.
-use Rattle.std.proofs.Common.{◌≡◌, ℕ, List, [], ◌∷◌, Some, length, sym, ap, ◌∙◌, arith}
+use Rattle.std.proofs.Common.{◌≡◌, List, [], ◌∷◌, Some, length, sym, ◌∙◌, arith}
 use Rattle.std.specs.List.{flat_map}
-use Rattle.idl_tree.specs.Pieces.{Seen, Piece, past}
+use Rattle.idl_tree.specs.Pieces.{Seen, Piece}
 use Rattle.idl_parser.specs.Reading.{Parsed, Continued}
 use Rattle.idl_parser.proofs.Reading.{past_none}
 

@@ -84,6 +84,11 @@ impl<'a> Cursor<'a> {
         self.text(Kind::Punct) == Some(text)
     }
 
+    /// Whether a keyword is the next token.
+    pub(crate) fn is_keyword(&self, word: &str) -> bool {
+        self.text(Kind::Keyword) == Some(word)
+    }
+
     /// Whether a semicolon stands behind the next two tokens.
     pub(crate) fn is_ahead(&self) -> bool {
         match self.rest {
@@ -258,7 +263,7 @@ impl<'a> Cursor<'a> {
         ensures levels { IfOk result (λ left. suc left ≡ room) }
     {
         let line = self.line();
-        self.mark(text)?;
+        got!(self.mark(text));
         inside(room, line)
     }
 }

@@ -1,6 +1,26 @@
 //! Reads the tree of an IDL specification from its tokens (ISO/IEC 19500-1, IDL grammar).
 #![tactic(auto)]
 
+/// What was read; where reading stopped, the function stops too.
+macro_rules! got {
+    ($read:expr) => {
+        match $read {
+            Ok(part) => part,
+            Err(stop) => return Err(stop),
+        }
+    };
+}
+
+/// A node that was made.
+macro_rules! made {
+    ($node:expr) => {
+        match $node {
+            Ok(node) => Ok(node),
+            Err(_) => Err(Stop::NoMemory),
+        }
+    };
+}
+
 mod cursor;
 pub mod fault;
 mod left_out;

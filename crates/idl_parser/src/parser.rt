@@ -8,7 +8,7 @@ ghost use Rattle.idl_tree.specs.DefinitionLevels.{levels_of};
 
 use crate::cursor::Cursor;
 use crate::fault::ParseFault;
-use crate::read::definitions::read_definition;
+use crate::read::definitions::read_definitions;
 use crate::stop::Stop;
 use idl_lexer::Token;
 use idl_tree::spec::Spec;
@@ -40,15 +40,13 @@ pub fn parse<'a>(alloc: Global, tokens: &'a [Token<'a>]) -> Result<Spec<'a>, Par
     ensures levels { IfOk result (λ spec. levels_of spec.definitions.items ≤ 64) }
 {
     let mut cursor = Cursor::new(alloc, tokens);
-    let mut definitions = Vec::new(alloc);
-    'parts: while !cursor.is_at_end() {
-        let definition = match read_definition(&mut cursor, MAX_LEVELS) {
-            Ok(definition) => definition,
-            Err(stop) => return Err(told(&cursor, stop)),
-        };
-        definitions.push(definition)?;
+    let definitions = match read_definitions(&mut cursor, MAX_LEVELS) {
+        Ok(definitions) => definitions,
+        Err(stop) => return Err(told(&cursor, stop)),
+    };
+    if !cursor.is_at_end() {
+        return Err(cursor.fault());
     }
-    definitions.shrink_to_fit();
     Ok(Spec {
         tokens,
         definitions,

@@ -1,22 +1,22 @@
 //! Structures and unions, whose members may declare further types.
 #![tactic(auto, using(crate::proofs::Reading::past_append, crate::proofs::Reading::past_none))]
 
-ghost use Rattle.std.specs.Prelude.{◌≡◌, ◌++◌, ◌≤◌, ◌<◌, max, IfOk, List, codes};
+ghost use Rattle.std.specs.Prelude.{◌≡◌, ◌++◌, ◌≤◌, ◌<◌, max, suc, IfOk, List, codes};
 ghost use Rattle.std.specs.List.{flat_map};
 ghost use Rattle.idl_parser.specs.Reading.{Parsed, Continued};
-ghost use Rattle.idl_tree.specs.Pieces.{mark};
-ghost use Rattle.idl_tree.specs.Yields.{in_order, listed};
+ghost use Rattle.idl_tree.specs.Pieces.{keyword, mark};
+ghost use Rattle.idl_tree.specs.Yields.{identifier, in_order, listed};
 ghost use Rattle.idl_tree.specs.TypeYields.{declarator_yield, label_yield, member_yield, case_yield, type_yield, struct_yield, union_yield};
 ghost use Rattle.idl_tree.specs.Levels.{highest, highest_listed};
 ghost use Rattle.idl_tree.specs.TypeLevels.{declarator_levels, label_levels, member_levels, case_levels, type_levels, struct_levels, union_levels};
 
 use crate::cursor::Cursor;
 use crate::read::expressions::read_expr;
-use crate::read::lists::{both, read_listed};
+use crate::read::lists::{add, both, read_listed, read_opened};
 use crate::read::types::{read_declarator, read_enum, read_simple_type, read_switch};
 use crate::stop::Stop;
 use idl_lexer::Kind;
-use idl_tree::names::Listed;
+use idl_tree::names::{Leaf, Listed};
 use idl_tree::types::{Case, Declarator, Label, Member, StructType, TypeSpec, UnionType};
 
 fn read_label<'a>(cursor: &mut Cursor<'a>, room: usize) -> Result<Label<'a>, Stop>
@@ -24,13 +24,13 @@ fn read_label<'a>(cursor: &mut Cursor<'a>, room: usize) -> Result<Label<'a>, Sto
     ensures levels { IfOk result (λ l. label_levels l ≤ room) }
 {
     if cursor.take_keyword("case") {
-        let value = read_expr(cursor, room)?;
-        return Ok(Label::Case(cursor.closed(value, ":")?));
+        let value = got!(read_expr(cursor, room));
+        return Ok(Label::Case(got!(cursor.closed(value, ":"))));
     }
     let Some(word) = cursor.take(Kind::Keyword, "default") else {
         return Err(Stop::Unexpected);
     };
-    cursor.mark(":")?;
+    got!(cursor.mark(":"));
     Ok(Label::Default(word))
 }
 
@@ -46,8 +46,8 @@ fn read_more_labels<'a>(cursor: &mut Cursor<'a>, room: usize) -> Result<Vec<Labe
 {
     let mut labels = Vec::new(cursor.alloc());
     'parts: while is_label(cursor) {
-        let label = read_label(cursor, room)?;
-        labels.push(label)?;
+        let label = got!(read_label(cursor, room));
+        got!(add(&mut labels, label));
     }
     labels.shrink_to_fit();
     Ok(labels)
@@ -58,8 +58,8 @@ fn read_labels<'a>(cursor: &mut Cursor<'a>, room: usize) -> Result<Listed<Label<
     ensures spells { IfOk result (λ l. Parsed cursor.old (in_order label_yield l) cursor.new) }
     ensures levels { IfOk result (λ l. highest_listed label_levels l ≤ room) }
 {
-    let first = read_label(cursor, room)?;
-    let rest = read_more_labels(cursor, room)?;
+    let first = got!(read_label(cursor, room));
+    let rest = got!(read_more_labels(cursor, room));
     Ok(Listed { first, rest })
 }
 
@@ -71,7 +71,7 @@ fn read_declarators<'a>(
     ensures spells { IfOk result (λ d. Parsed cursor.old (listed declarator_yield d ++ mark (codes ";")) cursor.new) }
     ensures levels { IfOk result (λ d. highest_listed declarator_levels d ≤ room) }
 {
-    let declarators = read_listed(cursor, room)?;
+    let declarators = got!(read_listed(cursor, room));
     cursor.closed(declarators, ";")
 }
 
@@ -80,8 +80,27 @@ fn read_case_declarator<'a>(cursor: &mut Cursor<'a>, room: usize) -> Result<Decl
     ensures spells { IfOk result (λ d. Parsed cursor.old (declarator_yield d ++ mark (codes ";")) cursor.new) }
     ensures levels { IfOk result (λ d. declarator_levels d ≤ room) }
 {
-    let declarator = read_declarator(cursor, room)?;
+    let declarator = got!(read_declarator(cursor, room));
     cursor.closed(declarator, ";")
+}
+
+/// What a type is that declares something, or another one.
+#[derive(Clone, Copy)]
+pub(crate) enum Shape {
+    Struct,
+    Union,
+    Enum,
+    Other,
+}
+
+/// Which of these types is next.
+pub(crate) fn next_shape(cursor: &Cursor<'_>) -> Shape {
+    match cursor.text(Kind::Keyword) {
+        Some("struct") => Shape::Struct,
+        Some("union") => Shape::Union,
+        Some("enum") => Shape::Enum,
+        _ => Shape::Other,
+    }
 }
 
 #[cycle(constructed)]
@@ -89,11 +108,11 @@ pub(crate) fn read_type<'a>(cursor: &mut Cursor<'a>, room: usize) -> Result<Type
     ensures spells { IfOk result (λ t. Parsed cursor.old (type_yield t) cursor.new) }
     ensures levels { IfOk result (λ t. type_levels t ≤ room) }
 {
-    match cursor.text(Kind::Keyword) {
-        Some("struct") => Ok(TypeSpec::Struct(read_struct(cursor, room)?)),
-        Some("union") => Ok(TypeSpec::Union(read_union(cursor, room)?)),
-        Some("enum") => Ok(TypeSpec::Enum(read_enum(cursor, room)?)),
-        _ => Ok(TypeSpec::Simple(read_simple_type(cursor, room)?)),
+    match next_shape(cursor) {
+        Shape::Struct => Ok(TypeSpec::Struct(got!(read_struct(cursor, room)))),
+        Shape::Union => Ok(TypeSpec::Union(got!(read_union(cursor, room)))),
+        Shape::Enum => Ok(TypeSpec::Enum(got!(read_enum(cursor, room)))),
+        Shape::Other => Ok(TypeSpec::Simple(got!(read_simple_type(cursor, room)))),
     }
 }
 
@@ -102,8 +121,8 @@ fn read_member<'a>(cursor: &mut Cursor<'a>, room: usize) -> Result<Member<'a>, S
     ensures spells { IfOk result (λ m. Parsed cursor.old (member_yield m) cursor.new) }
     ensures levels { IfOk result (λ m. member_levels m ≤ room) }
 {
-    let front = read_type(cursor, room)?;
-    let (member_type, declarators) = both(front, read_declarators(cursor, room))?;
+    let front = got!(read_type(cursor, room));
+    let (member_type, declarators) = got!(both(front, read_declarators(cursor, room)));
     Ok(Member {
         member_type,
         declarators,
@@ -122,8 +141,8 @@ pub(crate) fn read_members<'a>(
 {
     let mut members = Vec::new(cursor.alloc());
     'parts: while !cursor.is_mark("}") {
-        let member = read_member(cursor, room)?;
-        members.push(member)?;
+        let member = got!(read_member(cursor, room));
+        got!(add(&mut members, member));
     }
     members.shrink_to_fit();
     cursor.closed(members, "}")
@@ -134,12 +153,10 @@ pub(crate) fn read_struct<'a>(cursor: &mut Cursor<'a>, room: usize) -> Result<St
     ensures spells { IfOk result (λ s. Parsed cursor.old (struct_yield s) cursor.new) }
     ensures levels { IfOk result (λ s. struct_levels s ≤ room) }
 {
-    cursor.keyword("struct")?;
-    let name = cursor.identifier()?;
-    let left = cursor.open("{", room)?;
-    let front = read_member(cursor, left)?;
-    let (first, rest) = both(front, read_members(cursor, left))?;
-    Ok(StructType::new(cursor.alloc(), name, first, rest)?)
+    let (name, left) = got!(read_opened(cursor, "struct", room));
+    let front = got!(read_member(cursor, left));
+    let (first, rest) = got!(both(front, read_members(cursor, left)));
+    made!(StructType::new(cursor.alloc(), name, first, rest))
 }
 
 /// Reads what stands behind the labels of a case.
@@ -152,7 +169,7 @@ fn read_element<'a>(
         (type_yield e.0 ++ (declarator_yield e.1 ++ mark (codes ";"))) cursor.new) }
     ensures levels { IfOk result (λ e. max (type_levels e.0) (declarator_levels e.1) ≤ room) }
 {
-    let front = read_type(cursor, room)?;
+    let front = got!(read_type(cursor, room));
     both(front, read_case_declarator(cursor, room))
 }
 
@@ -161,8 +178,8 @@ fn read_case<'a>(cursor: &mut Cursor<'a>, room: usize) -> Result<Case<'a>, Stop>
     ensures spells { IfOk result (λ c. Parsed cursor.old (case_yield c) cursor.new) }
     ensures levels { IfOk result (λ c. case_levels c ≤ room) }
 {
-    let front = read_labels(cursor, room)?;
-    let (labels, (member_type, declarator)) = both(front, read_element(cursor, room))?;
+    let front = got!(read_labels(cursor, room));
+    let (labels, (member_type, declarator)) = got!(both(front, read_element(cursor, room)));
     Ok(Case {
         labels,
         member_type,
@@ -179,8 +196,8 @@ fn read_cases<'a>(cursor: &mut Cursor<'a>, room: usize) -> Result<Vec<Case<'a>>,
 {
     let mut cases = Vec::new(cursor.alloc());
     'parts: while !cursor.is_mark("}") {
-        let case = read_case(cursor, room)?;
-        cases.push(case)?;
+        let case = got!(read_case(cursor, room));
+        got!(add(&mut cases, case));
     }
     cases.shrink_to_fit();
     cursor.closed(cases, "}")
@@ -196,10 +213,30 @@ fn read_union_body<'a>(
         ++ case_yield b.0 ++ (flat_map case_yield b.1.items ++ mark (codes "}"))) cursor.new) }
     ensures levels { IfOk result (λ b. max (case_levels b.0) (highest case_levels b.1.items) < room) }
 {
-    cursor.mark(")")?;
-    let left = cursor.open("{", room)?;
-    let first = read_case(cursor, left)?;
+    let left = got!(read_cases_front(cursor, room));
+    let first = got!(read_case(cursor, left));
     both(first, read_cases(cursor, left))
+}
+
+/// Reads what stands before the type of a union's discriminator.
+fn read_union_name<'a>(cursor: &mut Cursor<'a>) -> Result<Leaf<'a>, Stop>
+    ensures { IfOk result (λ u. Parsed cursor.old
+        (keyword (codes "union") ++ identifier u ++ keyword (codes "switch") ++ mark (codes "(")) cursor.new) }
+{
+    got!(cursor.keyword("union"));
+    let name = got!(cursor.identifier());
+    got!(cursor.keyword("switch"));
+    got!(cursor.mark("("));
+    Ok(name)
+}
+
+/// Reads what opens the cases of a union, and how many levels are left inside.
+fn read_cases_front(cursor: &mut Cursor<'_>, room: usize) -> Result<usize, Stop>
+    ensures spells { IfOk result (λ l. Parsed cursor.old (mark (codes ")") ++ mark (codes "{")) cursor.new) }
+    ensures levels { IfOk result (λ l. suc l ≡ room) }
+{
+    got!(cursor.mark(")"));
+    cursor.open("{", room)
 }
 
 #[cycle(constructed)]
@@ -207,12 +244,9 @@ pub(crate) fn read_union<'a>(cursor: &mut Cursor<'a>, room: usize) -> Result<Uni
     ensures spells { IfOk result (λ u. Parsed cursor.old (union_yield u) cursor.new) }
     ensures levels { IfOk result (λ u. union_levels u ≤ room) }
 {
-    cursor.keyword("union")?;
-    let name = cursor.identifier()?;
-    cursor.keyword("switch")?;
-    cursor.mark("(")?;
+    let name = got!(read_union_name(cursor));
     // an enumeration here is declared inside the union
-    let front = read_switch(cursor, room.saturating_sub(1))?;
-    let (switch, (first, rest)) = both(front, read_union_body(cursor, room))?;
-    Ok(UnionType::new(cursor.alloc(), name, switch, first, rest)?)
+    let front = got!(read_switch(cursor, room.saturating_sub(1)));
+    let (switch, (first, rest)) = got!(both(front, read_union_body(cursor, room)));
+    made!(UnionType::new(cursor.alloc(), name, switch, first, rest))
 }

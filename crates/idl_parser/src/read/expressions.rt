@@ -11,6 +11,7 @@ ghost use Rattle.idl_tree.specs.Levels.{expr_levels, const_expr_levels, bound_le
 ghost use Rattle.idl_tree.specs.Yields.{operator_yield, sign_text, expr_yield, const_expr_yield, bound_yield, operand_yield, text_yield, in_order};
 
 use crate::cursor::{Cursor, inside};
+use crate::read::lists::{add, boxed};
 use crate::read::names::read_scoped_name;
 use crate::stop::Stop;
 use idl_lexer::Kind;
@@ -23,17 +24,23 @@ const LEVELS: usize = 6;
 
 /// The operator that is next.
 fn next_operator(cursor: &Cursor<'_>) -> Option<Operator> {
-    match cursor.text(Kind::Punct)?.as_bytes() {
-        [b'|'] => Some(Operator::Or),
-        [b'^'] => Some(Operator::Xor),
-        [b'&'] => Some(Operator::And),
-        [b'<', b'<'] => Some(Operator::ShiftLeft),
-        [b'>'] if cursor.is_right_shift() => Some(Operator::ShiftRight),
-        [b'+'] => Some(Operator::Add),
-        [b'-'] => Some(Operator::Subtract),
-        [b'*'] => Some(Operator::Multiply),
-        [b'/'] => Some(Operator::Divide),
-        [b'%'] => Some(Operator::Remainder),
+    let mark = cursor.text(Kind::Punct).unwrap_or("");
+    if mark == "<<" {
+        return Some(Operator::ShiftLeft);
+    }
+    let [octet] = mark.as_bytes() else {
+        return None;
+    };
+    match *octet {
+        b'|' => Some(Operator::Or),
+        b'^' => Some(Operator::Xor),
+        b'&' => Some(Operator::And),
+        b'>' if cursor.is_right_shift() => Some(Operator::ShiftRight),
+        b'+' => Some(Operator::Add),
+        b'-' => Some(Operator::Subtract),
+        b'*' => Some(Operator::Multiply),
+        b'/' => Some(Operator::Divide),
+        b'%' => Some(Operator::Remainder),
         _ => None,
     }
 }
@@ -62,11 +69,9 @@ fn is_of(operator: Operator, wanted: usize, shifts: bool) -> bool
 fn operator_of(cursor: &Cursor<'_>, wanted: usize, shifts: bool) -> Option<Operator>
     ensures { IfSome result (λ o. is_operator_of shifts wanted o ≡ true) }
 {
-    let operator = next_operator(cursor)?;
-    if is_of(operator, wanted, shifts) {
-        Some(operator)
-    } else {
-        None
+    match next_operator(cursor) {
+        Some(operator) if is_of(operator, wanted, shifts) => Some(operator),
+        _ => None,
     }
 }
 
@@ -85,7 +90,7 @@ fn read_texts<'a>(cursor: &mut Cursor<'a>) -> Result<Vec<Leaf<'a>>, Stop>
 {
     let mut rest = Vec::new(cursor.alloc());
     'parts: while let Some(text) = cursor.take_leaf(Kind::TextLit) {
-        rest.push(text)?;
+        got!(add(&mut rest, text));
     }
     rest.shrink_to_fit();
     Ok(rest)
@@ -94,8 +99,8 @@ fn read_texts<'a>(cursor: &mut Cursor<'a>) -> Result<Vec<Leaf<'a>>, Stop>
 fn read_text<'a>(cursor: &mut Cursor<'a>) -> Result<Listed<Leaf<'a>>, Stop>
     ensures { IfOk result (λ texts. Parsed cursor.old (in_order text_yield texts) cursor.new) }
 {
-    let first = cursor.leaf(Kind::TextLit)?;
-    let rest = read_texts(cursor)?;
+    let first = got!(cursor.leaf(Kind::TextLit));
+    let rest = got!(read_texts(cursor));
     Ok(Listed { first, rest })
 }
 
@@ -120,14 +125,14 @@ fn read_atom<'a>(cursor: &mut Cursor<'a>) -> Result<Expr<'a>, Stop>
     ensures levels { IfOk result (λ e. expr_levels e ≡ 0) }
 {
     match cursor.kind() {
-        Some(Kind::Number) => Ok(Expr::Number(cursor.leaf(Kind::Number)?)),
-        Some(Kind::CharLit) => Ok(Expr::Character(cursor.leaf(Kind::CharLit)?)),
+        Some(Kind::Number) => Ok(Expr::Number(got!(cursor.leaf(Kind::Number)))),
+        Some(Kind::CharLit) => Ok(Expr::Character(got!(cursor.leaf(Kind::CharLit)))),
         Some(Kind::TextLit) => {
-            let texts = read_text(cursor)?;
-            Ok(Expr::Text(Box::new(cursor.alloc(), texts)?))
+            let texts = got!(read_text(cursor));
+            Ok(Expr::Text(got!(boxed(cursor.alloc(), texts))))
         }
         Some(Kind::Keyword) => read_boolean(cursor),
-        _ => Ok(Expr::Name(read_scoped_name(cursor)?)),
+        _ => Ok(Expr::Name(got!(read_scoped_name(cursor)))),
     }
 }
 
@@ -155,10 +160,10 @@ fn read_primary<'a>(cursor: &mut Cursor<'a>, room: usize) -> Result<Expr<'a>, St
     let Some(paren) = cursor.take(Kind::Punct, "(") else {
         return read_atom(cursor);
     };
-    let left = inside(room, line)?;
-    let inner = read_level(cursor, 0, true, left)?;
-    cursor.mark(")")?;
-    Ok(Expr::new_parenthesized(cursor.alloc(), paren, inner)?)
+    let left = got!(inside(room, line));
+    let inner = got!(read_level(cursor, 0, true, left));
+    got!(cursor.mark(")"));
+    made!(Expr::new_parenthesized(cursor.alloc(), paren, inner))
 }
 
 #[cycle(expressions)]
@@ -170,8 +175,8 @@ fn read_unary<'a>(cursor: &mut Cursor<'a>, room: usize) -> Result<Expr<'a>, Stop
     let Some((sign, mark)) = take_sign(cursor) else {
         return read_primary(cursor, room);
     };
-    let operand = read_primary(cursor, room)?;
-    Ok(Expr::new_signed(cursor.alloc(), mark, sign, operand)?)
+    let operand = got!(read_primary(cursor, room));
+    made!(Expr::new_signed(cursor.alloc(), mark, sign, operand))
 }
 
 /// Reads operands of the tighter levels, with operators of the level between them.
@@ -189,15 +194,15 @@ fn read_level<'a>(
     if level >= LEVELS {
         return read_unary(cursor, room);
     }
-    let first = read_level(cursor, level + 1, shifts, room)?;
+    let first = got!(read_level(cursor, level + 1, shifts, room));
     let mut rest = Vec::new(cursor.alloc());
     'parts: while let Some(operator) = operator_of(cursor, level, shifts) {
-        read_operator(cursor, operator)?;
-        let operand = read_level(cursor, level + 1, shifts, room)?;
-        rest.push(Operand { operator, operand })?;
+        got!(read_operator(cursor, operator));
+        let operand = got!(read_level(cursor, level + 1, shifts, room));
+        got!(add(&mut rest, Operand { operator, operand }));
     }
     rest.shrink_to_fit();
-    Ok(Expr::new_chain(cursor.alloc(), first, rest)?)
+    made!(Expr::new_chain(cursor.alloc(), first, rest))
 }
 
 /// Reads a constant expression.
@@ -205,7 +210,7 @@ pub(crate) fn read_expr<'a>(cursor: &mut Cursor<'a>, room: usize) -> Result<Cons
     ensures spells { IfOk result (λ e. Parsed cursor.old (const_expr_yield e) cursor.new) }
     ensures levels { IfOk result (λ e. const_expr_levels e ≤ room) }
 {
-    let expr = read_level(cursor, 0, true, room)?;
+    let expr = got!(read_level(cursor, 0, true, room));
     Ok(ConstExpr { expr })
 }
 
@@ -214,6 +219,6 @@ pub(crate) fn read_bound<'a>(cursor: &mut Cursor<'a>, room: usize) -> Result<Bou
     ensures spells { IfOk result (λ b. Parsed cursor.old (bound_yield b) cursor.new) }
     ensures levels { IfOk result (λ b. bound_levels b ≤ room) }
 {
-    let expr = read_level(cursor, 0, false, room)?;
+    let expr = got!(read_level(cursor, 0, false, room));
     Ok(Bound { expr })
 }

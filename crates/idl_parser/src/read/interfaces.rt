@@ -14,7 +14,7 @@ ghost use Rattle.idl_tree.specs.DefinitionLevels.{attribute_levels, param_levels
 
 use crate::cursor::Cursor;
 use crate::read::declarations::{is_declaration, read_ended_declaration};
-use crate::read::lists::{Part, both, read_listed, read_rest};
+use crate::read::lists::{Part, add, both, read_listed, read_rest};
 use crate::read::types::read_param_type;
 use crate::stop::Stop;
 use idl_lexer::Kind;
@@ -37,9 +37,9 @@ fn read_raises<'a>(
     if !cursor.take_keyword(word) {
         return Ok(None);
     }
-    cursor.mark("(")?;
-    let names = read_listed(cursor, 0)?;
-    Ok(Some(cursor.closed(names, ")")?))
+    got!(cursor.mark("("));
+    let names = got!(read_listed(cursor, 0));
+    Ok(Some(got!(cursor.closed(names, ")"))))
 }
 
 /// Takes `readonly`, if it is next.
@@ -64,20 +64,20 @@ fn read_attributes<'a>(cursor: &mut Cursor<'a>, is_readonly: bool) -> Result<Att
     ensures spells { IfOk result (λ a. Parsed cursor.old (attributes_yield a) cursor.new) }
     ensures kind { IfOk result (λ a. attributes_are_readonly a ≡ is_readonly) }
 {
-    let identifier = cursor.identifier()?;
-    let rest = read_rest(cursor, 0)?;
+    let identifier = got!(cursor.identifier());
+    let rest = got!(read_rest(cursor, 0));
     if !rest.is_empty() {
         return Ok(silent(is_readonly, identifier, rest));
     }
     if is_readonly {
-        let raised = read_raises(cursor, "raises")?;
+        let raised = got!(read_raises(cursor, "raises"));
         if let Some(raises) = raised {
             return Ok(Attributes::Readonly { identifier, raises });
         }
         return Ok(silent(is_readonly, identifier, rest));
     }
-    let got = read_raises(cursor, "getraises")?;
-    let set = read_raises(cursor, "setraises")?;
+    let got = got!(read_raises(cursor, "getraises"));
+    let set = got!(read_raises(cursor, "setraises"));
     if let Some(get) = got {
         return Ok(Attributes::Get {
             identifier,
@@ -96,9 +96,9 @@ fn read_attribute<'a>(cursor: &mut Cursor<'a>, room: usize) -> Result<Attribute<
     ensures levels { IfOk result (λ a. attribute_levels a ≤ room) }
 {
     let is_readonly = take_readonly(cursor);
-    cursor.keyword("attribute")?;
-    let front = read_param_type(cursor, room)?;
-    let (attribute_type, declared) = both(front, read_attributes(cursor, is_readonly))?;
+    got!(cursor.keyword("attribute"));
+    let front = got!(read_param_type(cursor, room));
+    let (attribute_type, declared) = got!(both(front, read_attributes(cursor, is_readonly)));
     Ok(Attribute {
         attribute_type,
         declared,
@@ -114,7 +114,7 @@ fn read_direction(cursor: &mut Cursor<'_>) -> Result<Direction, Stop>
     if cursor.take_keyword("out") {
         return Ok(Direction::Out);
     }
-    cursor.keyword("in")?;
+    got!(cursor.keyword("in"));
     Ok(Direction::In)
 }
 
@@ -127,9 +127,9 @@ impl<'a> Part<'a> for Param<'a> {
     ghost levels_of = { param_levels };
 
     fn read(cursor: &mut Cursor<'a>, room: usize) -> Result<Self, Stop> {
-        let direction = read_direction(cursor)?;
-        let front = read_param_type(cursor, room)?;
-        let (param_type, identifier) = both(front, cursor.identifier())?;
+        let direction = got!(read_direction(cursor));
+        let front = got!(read_param_type(cursor, room));
+        let (param_type, identifier) = got!(both(front, cursor.identifier()));
         Ok(Param {
             direction,
             param_type,
@@ -146,7 +146,7 @@ fn read_params<'a>(cursor: &mut Cursor<'a>, room: usize) -> Result<Option<Listed
     if cursor.is_mark(")") {
         return Ok(None);
     }
-    Ok(Some(read_listed(cursor, room)?))
+    Ok(Some(got!(read_listed(cursor, room))))
 }
 
 /// Takes `oneway`, if it is next.
@@ -164,7 +164,7 @@ fn read_result<'a>(cursor: &mut Cursor<'a>, room: usize) -> Result<Option<ParamT
     if cursor.take_keyword("void") {
         return Ok(None);
     }
-    Ok(Some(read_param_type(cursor, room)?))
+    Ok(Some(got!(read_param_type(cursor, room))))
 }
 
 /// Reads the parameters of an operation and what it raises.
@@ -173,9 +173,9 @@ fn read_signature<'a>(cursor: &mut Cursor<'a>, room: usize) -> Result<Signature<
         ++ mark (codes ")") ++ optional (raises_yield (codes "raises")) s.1) cursor.new) }
     ensures levels { IfOk result (λ s. optional_levels (highest_listed param_levels) s.0 ≤ room) }
 {
-    cursor.mark("(")?;
-    let front = read_params(cursor, room)?;
-    let params = cursor.closed(front, ")")?;
+    got!(cursor.mark("("));
+    let front = got!(read_params(cursor, room));
+    let params = got!(cursor.closed(front, ")"));
     both(params, read_raises(cursor, "raises"))
 }
 
@@ -184,9 +184,9 @@ fn read_operation<'a>(cursor: &mut Cursor<'a>, room: usize) -> Result<Operation<
     ensures levels { IfOk result (λ o. operation_levels o ≤ room) }
 {
     let is_oneway = take_oneway(cursor);
-    let returned = read_result(cursor, room)?;
-    let (front, identifier) = both(returned, cursor.identifier())?;
-    let (result_type, (params, raises)) = both(front, read_signature(cursor, room))?;
+    let returned = got!(read_result(cursor, room));
+    let (front, identifier) = got!(both(returned, cursor.identifier()));
+    let (result_type, (params, raises)) = got!(both(front, read_signature(cursor, room)));
     Ok(Operation {
         is_oneway,
         result_type,
@@ -201,7 +201,7 @@ fn read_ended_attribute<'a>(cursor: &mut Cursor<'a>, room: usize) -> Result<Attr
     ensures spells { IfOk result (λ a. Parsed cursor.old (attribute_yield a ++ mark (codes ";")) cursor.new) }
     ensures levels { IfOk result (λ a. attribute_levels a ≤ room) }
 {
-    let attribute = read_attribute(cursor, room)?;
+    let attribute = got!(read_attribute(cursor, room));
     cursor.closed(attribute, ";")
 }
 
@@ -210,7 +210,7 @@ fn read_ended_operation<'a>(cursor: &mut Cursor<'a>, room: usize) -> Result<Oper
     ensures spells { IfOk result (λ o. Parsed cursor.old (operation_yield o ++ mark (codes ";")) cursor.new) }
     ensures levels { IfOk result (λ o. operation_levels o ≤ room) }
 {
-    let operation = read_operation(cursor, room)?;
+    let operation = got!(read_operation(cursor, room));
     cursor.closed(operation, ";")
 }
 
@@ -221,14 +221,13 @@ fn read_export<'a>(cursor: &mut Cursor<'a>, room: usize) -> Result<Export<'a>, S
     if let Some(pragma) = cursor.take_leaf(Kind::Pragma) {
         return Ok(Export::Pragma(pragma));
     }
-    let word = cursor.text(Kind::Keyword);
-    if is_declaration(word) {
-        return Ok(Export::Declaration(read_ended_declaration(cursor, room)?));
+    if is_declaration(cursor) {
+        return Ok(Export::Declaration(got!(read_ended_declaration(cursor, room))));
     }
-    if let Some("readonly" | "attribute") = word {
-        return Ok(Export::Attribute(read_ended_attribute(cursor, room)?));
+    if cursor.is_keyword("readonly") || cursor.is_keyword("attribute") {
+        return Ok(Export::Attribute(got!(read_ended_attribute(cursor, room))));
     }
-    Ok(Export::Operation(read_ended_operation(cursor, room)?))
+    Ok(Export::Operation(got!(read_ended_operation(cursor, room))))
 }
 
 /// Reads exports between braces.
@@ -237,11 +236,11 @@ fn read_exports<'a>(cursor: &mut Cursor<'a>, room: usize) -> Result<Vec<Export<'
         (mark (codes "{") ++ flat_map export_yield e.items ++ mark (codes "}")) cursor.new) }
     ensures levels { IfOk result (λ e. highest export_levels e.items ≤ room) }
 {
-    cursor.mark("{")?;
+    got!(cursor.mark("{"));
     let mut exports = Vec::new(cursor.alloc());
     'parts: while !cursor.is_mark("}") {
-        let export = read_export(cursor, room)?;
-        exports.push(export)?;
+        let export = got!(read_export(cursor, room));
+        got!(add(&mut exports, export));
     }
     exports.shrink_to_fit();
     cursor.closed(exports, "}")
@@ -254,7 +253,7 @@ fn read_bases<'a>(cursor: &mut Cursor<'a>) -> Result<Option<Listed<ScopedName<'a
     if !cursor.take_mark(":") {
         return Ok(None);
     }
-    Ok(Some(read_listed(cursor, 0)?))
+    Ok(Some(got!(read_listed(cursor, 0))))
 }
 
 /// Reads an interface, or one that is declared ahead, which a semicolon tells.
@@ -262,13 +261,13 @@ fn read_interface<'a>(cursor: &mut Cursor<'a>, room: usize) -> Result<Interface<
     ensures spells { IfOk result (λ i. Parsed cursor.old (interface_yield i) cursor.new) }
     ensures levels { IfOk result (λ i. interface_levels i ≤ room) }
 {
-    cursor.keyword("interface")?;
-    let identifier = cursor.identifier()?;
+    got!(cursor.keyword("interface"));
+    let identifier = got!(cursor.identifier());
     if cursor.is_mark(";") {
         return Ok(Interface::Ahead(identifier));
     }
-    let front = read_bases(cursor)?;
-    let (bases, exports) = both(front, read_exports(cursor, room))?;
+    let front = got!(read_bases(cursor));
+    let (bases, exports) = got!(both(front, read_exports(cursor, room)));
     Ok(Interface::Defined {
         identifier,
         bases,
@@ -284,6 +283,6 @@ pub(crate) fn read_ended_interface<'a>(
     ensures spells { IfOk result (λ i. Parsed cursor.old (interface_yield i ++ mark (codes ";")) cursor.new) }
     ensures levels { IfOk result (λ i. interface_levels i ≤ room) }
 {
-    let interface = read_interface(cursor, room)?;
+    let interface = got!(read_interface(cursor, room));
     cursor.closed(interface, ";")
 }

@@ -1,16 +1,17 @@
 //! Lists with commas, and parts one behind another.
 #![tactic(auto, using(crate::proofs::Reading::past_append, crate::proofs::Reading::past_none))]
 
-ghost use Rattle.std.specs.Prelude.{◌≡◌, ◌++◌, ◌≤◌, ℕ, List, Ok, IfOk, codes};
+ghost use Rattle.std.specs.Prelude.{◌≡◌, ◌++◌, ◌≤◌, ◌∷◌, [], ℕ, suc, List, Ok, IfOk, codes};
 ghost use Rattle.std.specs.List.{flat_map};
 ghost use Rattle.idl_parser.specs.Reading.{Parsed, Continued};
-ghost use Rattle.idl_tree.specs.Pieces.{Piece, mark};
-ghost use Rattle.idl_tree.specs.Yields.{listed};
+ghost use Rattle.idl_tree.specs.Pieces.{Piece, keyword, mark};
+ghost use Rattle.idl_tree.specs.Yields.{identifier, listed};
 ghost use Rattle.idl_tree.specs.Levels.{highest, highest_listed};
 
 use crate::cursor::Cursor;
 use crate::stop::Stop;
-use idl_tree::names::Listed;
+use idl_tree::names::{Leaf, Listed};
+use std::alloc::Global;
 
 /// What stands between commas.
 pub(crate) trait Part<'a>: Sized + Drop {
@@ -21,6 +22,42 @@ pub(crate) trait Part<'a>: Sized + Drop {
     fn read(cursor: &mut Cursor<'a>, room: usize) -> Result<Self, Stop>
         ensures spells { IfOk result (λ x. Parsed cursor.old (yield_of x) cursor.new) }
         ensures levels { IfOk result (λ x. levels_of x ≤ room) };
+}
+
+/// Adds a part to a list.
+pub(crate) fn add<T: Drop>(list: &mut Vec<T>, part: T) -> Result<(), Stop>
+    ensures { IfOk result (λ _. list.new.items ≡ list.old.items ++ part ∷ []) }
+{
+    match list.push(part) {
+        Ok(()) => Ok(()),
+        Err(_) => Err(Stop::NoMemory),
+    }
+}
+
+/// A part in a box.
+pub(crate) fn boxed<T: Drop>(alloc: Global, part: T) -> Result<Box<T>, Stop>
+    ensures { IfOk result (λ b. b.value ≡ part) }
+{
+    match Box::new(alloc, part) {
+        Ok(part) => Ok(part),
+        Err(_) => Err(Stop::NoMemory),
+    }
+}
+
+/// Reads a word, an identifier and a brace that opens a level, and how many levels are left inside.
+pub(crate) fn read_opened<'a>(
+    cursor: &mut Cursor<'a>,
+    word: &str,
+    room: usize,
+) -> Result<(Leaf<'a>, usize), Stop>
+    ensures spells { IfOk result (λ o. Parsed cursor.old
+        (keyword word.now ++ identifier o.0 ++ mark (codes "{")) cursor.new) }
+    ensures levels { IfOk result (λ o. suc o.1 ≡ room) }
+{
+    got!(cursor.keyword(word));
+    let name = got!(cursor.identifier());
+    let left = got!(cursor.open("{", room));
+    Ok((name, left))
 }
 
 /// A part and what is read behind it, if that is read.
@@ -45,9 +82,9 @@ pub(crate) fn read_rest<'a, T: Part<'a>>(
 {
     let mut rest = Vec::new(cursor.alloc());
     'parts: while cursor.is_mark(",") {
-        cursor.mark(",")?;
-        let part = T::read(cursor, room)?;
-        rest.push(part)?;
+        got!(cursor.mark(","));
+        let part = got!(T::read(cursor, room));
+        got!(add(&mut rest, part));
     }
     rest.shrink_to_fit();
     Ok(rest)
@@ -61,7 +98,7 @@ pub(crate) fn read_listed<'a, T: Part<'a>>(
     ensures spells { IfOk result (λ l. Parsed cursor.old (listed T.yield_of l) cursor.new) }
     ensures levels { IfOk result (λ l. highest_listed T.levels_of l ≤ room) }
 {
-    let first = T::read(cursor, room)?;
-    let rest = read_rest(cursor, room)?;
+    let first = got!(T::read(cursor, room));
+    let rest = got!(read_rest(cursor, room));
     Ok(Listed { first, rest })
 }

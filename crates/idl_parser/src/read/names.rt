@@ -3,10 +3,12 @@
 
 ghost use Rattle.std.specs.Prelude.{◌≡◌, ◌++◌, ℕ, IfOk, List, codes};
 ghost use Rattle.idl_parser.specs.Reading.{Parsed, Continued};
-ghost use Rattle.idl_tree.specs.Yields.{optional, root_yield, name_yield};
+ghost use Rattle.std.specs.List.{flat_map};
+ghost use Rattle.idl_tree.specs.Pieces.{mark};
+ghost use Rattle.idl_tree.specs.Yields.{identifier, optional, root_yield, name_yield};
 
 use crate::cursor::Cursor;
-use crate::read::lists::Part;
+use crate::read::lists::{Part, add, boxed};
 use crate::stop::Stop;
 use idl_lexer::Kind;
 use idl_tree::names::{Leaf, Path, ScopedName};
@@ -42,21 +44,30 @@ fn take_root<'a>(cursor: &mut Cursor<'a>) -> Option<Leaf<'a>>
     cursor.take(Kind::Punct, "::")
 }
 
+/// Reads identifiers, each behind a `::`.
+fn read_parts<'a>(cursor: &mut Cursor<'a>) -> Result<Vec<Leaf<'a>>, Stop>
+    ensures { IfOk result (λ parts. Continued cursor.old
+        (flat_map (λ x. mark (codes "::") ++ identifier x) parts.items) cursor.new) }
+{
+    let mut rest = Vec::new(cursor.alloc());
+    'parts: while cursor.is_mark("::") {
+        got!(cursor.mark("::"));
+        let part = got!(cursor.identifier());
+        got!(add(&mut rest, part));
+    }
+    rest.shrink_to_fit();
+    Ok(rest)
+}
+
 pub(crate) fn read_scoped_name<'a>(cursor: &mut Cursor<'a>) -> Result<ScopedName<'a>, Stop>
     ensures { IfOk result (λ n. Parsed cursor.old (name_yield n) cursor.new) }
 {
     let root = take_root(cursor);
-    let first = cursor.identifier()?;
-    let mut rest = Vec::new(cursor.alloc());
-    'parts: while cursor.is_mark("::") {
-        cursor.mark("::")?;
-        let part = cursor.identifier()?;
-        rest.push(part)?;
-    }
+    let first = got!(cursor.identifier());
+    let rest = got!(read_parts(cursor));
     if root.is_none() && rest.is_empty() {
         return Ok(ScopedName::Plain(first));
     }
-    rest.shrink_to_fit();
     let path = Path { root, first, rest };
-    Ok(ScopedName::Scoped(Box::new(cursor.alloc(), path)?))
+    Ok(ScopedName::Scoped(got!(boxed(cursor.alloc(), path))))
 }

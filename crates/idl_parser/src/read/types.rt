@@ -12,7 +12,7 @@ ghost use Rattle.idl_tree.specs.TypeLevels.{const_type_levels, param_type_levels
 
 use crate::cursor::Cursor;
 use crate::read::expressions::{read_bound, read_expr};
-use crate::read::lists::{Part, read_listed};
+use crate::read::lists::{Part, add, read_listed, read_opened};
 use crate::read::names::read_scoped_name;
 use crate::stop::Stop;
 use idl_lexer::Kind;
@@ -27,7 +27,7 @@ fn read_integer_size(cursor: &mut Cursor<'_>) -> Result<IntegerSize, Stop>
     if cursor.take_keyword("short") {
         return Ok(IntegerSize::Short);
     }
-    cursor.keyword("long")?;
+    got!(cursor.keyword("long"));
     if cursor.take_keyword("long") {
         Ok(IntegerSize::LongLong)
     } else {
@@ -39,9 +39,9 @@ fn read_integer(cursor: &mut Cursor<'_>) -> Result<Integer, Stop>
     ensures { IfOk result (λ i. Parsed cursor.old (integer_yield i) cursor.new) }
 {
     if cursor.take_keyword("unsigned") {
-        return Ok(Integer::Unsigned(read_integer_size(cursor)?));
+        return Ok(Integer::Unsigned(got!(read_integer_size(cursor))));
     }
-    Ok(Integer::Signed(read_integer_size(cursor)?))
+    Ok(Integer::Signed(got!(read_integer_size(cursor))))
 }
 
 /// Reads the bound of a string, if it has one.
@@ -52,8 +52,31 @@ fn read_string_bound<'a>(cursor: &mut Cursor<'a>, room: usize) -> Result<Option<
     if !cursor.take_mark("<") {
         return Ok(None);
     }
-    let bound = read_bound(cursor, room)?;
-    Ok(Some(cursor.closed(bound, ">")?))
+    let bound = got!(read_bound(cursor, room));
+    Ok(Some(got!(cursor.closed(bound, ">"))))
+}
+
+/// What begins a type that is a word alone, a string or a name.
+#[derive(Clone, Copy)]
+enum Word {
+    Integer,
+    Char,
+    Boolean,
+    Octet,
+    String,
+    Other,
+}
+
+/// Which of these is next.
+fn next_word(cursor: &Cursor<'_>) -> Word {
+    match cursor.text(Kind::Keyword) {
+        Some("short" | "long" | "unsigned") => Word::Integer,
+        Some("char") => Word::Char,
+        Some("boolean") => Word::Boolean,
+        Some("octet") => Word::Octet,
+        Some("string") => Word::String,
+        _ => Word::Other,
+    }
 }
 
 /// Reads a string, a name, or a type that is a word alone.
@@ -64,25 +87,25 @@ pub(crate) fn read_const_type<'a>(
     ensures spells { IfOk result (λ t. Parsed cursor.old (const_type_yield t) cursor.new) }
     ensures levels { IfOk result (λ t. const_type_levels t ≤ room) }
 {
-    match cursor.text(Kind::Keyword) {
-        Some("short" | "long" | "unsigned") => Ok(ConstType::Integer(read_integer(cursor)?)),
-        Some("char") => {
-            cursor.keyword("char")?;
+    match next_word(cursor) {
+        Word::Integer => Ok(ConstType::Integer(got!(read_integer(cursor)))),
+        Word::Char => {
+            got!(cursor.keyword("char"));
             Ok(ConstType::Char)
         }
-        Some("boolean") => {
-            cursor.keyword("boolean")?;
+        Word::Boolean => {
+            got!(cursor.keyword("boolean"));
             Ok(ConstType::Boolean)
         }
-        Some("octet") => {
-            cursor.keyword("octet")?;
+        Word::Octet => {
+            got!(cursor.keyword("octet"));
             Ok(ConstType::Octet)
         }
-        Some("string") => {
-            cursor.keyword("string")?;
-            Ok(ConstType::String(read_string_bound(cursor, room)?))
+        Word::String => {
+            got!(cursor.keyword("string"));
+            Ok(ConstType::String(got!(read_string_bound(cursor, room))))
         }
-        _ => Ok(ConstType::Name(read_scoped_name(cursor)?)),
+        Word::Other => Ok(ConstType::Name(got!(read_scoped_name(cursor)))),
     }
 }
 
@@ -96,7 +119,7 @@ pub(crate) fn read_param_type<'a>(
     if cursor.take_keyword("Object") {
         return Ok(ParamType::Object);
     }
-    Ok(ParamType::Plain(read_const_type(cursor, room)?))
+    Ok(ParamType::Plain(got!(read_const_type(cursor, room))))
 }
 
 /// Reads the bound of a sequence, if it has one.
@@ -107,7 +130,7 @@ fn read_sequence_bound<'a>(cursor: &mut Cursor<'a>, room: usize) -> Result<Optio
     if !cursor.take_mark(",") {
         return Ok(None);
     }
-    Ok(Some(read_bound(cursor, room)?))
+    Ok(Some(got!(read_bound(cursor, room))))
 }
 
 pub(crate) fn read_simple_type<'a>(
@@ -118,21 +141,21 @@ pub(crate) fn read_simple_type<'a>(
     ensures levels { IfOk result (λ t. simple_type_levels t ≤ room) }
 {
     if !cursor.take_keyword("sequence") {
-        return Ok(SimpleType::Plain(read_param_type(cursor, room)?));
+        return Ok(SimpleType::Plain(got!(read_param_type(cursor, room))));
     }
-    let left = cursor.open("<", room)?;
-    let element = read_simple_type(cursor, left)?;
-    let bound = read_sequence_bound(cursor, left)?;
-    cursor.mark(">")?;
-    Ok(SimpleType::new_sequence(cursor.alloc(), element, bound)?)
+    let left = got!(cursor.open("<", room));
+    let element = got!(read_simple_type(cursor, left));
+    let bound = got!(read_sequence_bound(cursor, left));
+    got!(cursor.mark(">"));
+    made!(SimpleType::new_sequence(cursor.alloc(), element, bound))
 }
 
 fn read_size<'a>(cursor: &mut Cursor<'a>, room: usize) -> Result<ConstExpr<'a>, Stop>
     ensures spells { IfOk result (λ size. Parsed cursor.old (size_yield size) cursor.new) }
     ensures levels { IfOk result (λ size. const_expr_levels size ≤ room) }
 {
-    cursor.mark("[")?;
-    let size = read_expr(cursor, room)?;
+    got!(cursor.mark("["));
+    let size = got!(read_expr(cursor, room));
     cursor.closed(size, "]")
 }
 
@@ -143,8 +166,8 @@ fn read_sizes<'a>(cursor: &mut Cursor<'a>, room: usize) -> Result<Vec<ConstExpr<
 {
     let mut sizes = Vec::new(cursor.alloc());
     'parts: while cursor.is_mark("[") {
-        let size = read_size(cursor, room)?;
-        sizes.push(size)?;
+        let size = got!(read_size(cursor, room));
+        got!(add(&mut sizes, size));
     }
     sizes.shrink_to_fit();
     Ok(sizes)
@@ -170,8 +193,8 @@ pub(crate) fn read_declarator<'a>(
     ensures spells { IfOk result (λ d. Parsed cursor.old (declarator_yield d) cursor.new) }
     ensures levels { IfOk result (λ d. declarator_levels d ≤ room) }
 {
-    let identifier = cursor.identifier()?;
-    let sizes = read_sizes(cursor, room)?;
+    let identifier = got!(cursor.identifier());
+    let sizes = got!(read_sizes(cursor, room));
     Ok(Declarator { identifier, sizes })
 }
 
@@ -180,11 +203,9 @@ pub(crate) fn read_enum<'a>(cursor: &mut Cursor<'a>, room: usize) -> Result<Enum
     ensures spells { IfOk result (λ e. Parsed cursor.old (enum_yield e) cursor.new) }
     ensures levels { IfOk result (λ e. 1 ≤ room) }
 {
-    cursor.keyword("enum")?;
-    let identifier = cursor.identifier()?;
-    let left = cursor.open("{", room)?;
-    let enumerators = read_listed(cursor, left)?;
-    cursor.mark("}")?;
+    let (identifier, left) = got!(read_opened(cursor, "enum", room));
+    let enumerators = got!(read_listed(cursor, left));
+    got!(cursor.mark("}"));
     Ok(EnumType {
         identifier,
         enumerators,
@@ -196,17 +217,19 @@ pub(crate) fn read_switch<'a>(cursor: &mut Cursor<'a>, room: usize) -> Result<Sw
     ensures spells { IfOk result (λ s. Parsed cursor.old (switch_yield s) cursor.new) }
     ensures levels { IfOk result (λ s. switch_levels s ≤ room) }
 {
-    match cursor.text(Kind::Keyword) {
-        Some("short" | "long" | "unsigned") => Ok(SwitchType::Integer(read_integer(cursor)?)),
-        Some("char") => {
-            cursor.keyword("char")?;
+    if cursor.is_keyword("enum") {
+        return Ok(SwitchType::Enum(got!(read_enum(cursor, room))));
+    }
+    match next_word(cursor) {
+        Word::Integer => Ok(SwitchType::Integer(got!(read_integer(cursor)))),
+        Word::Char => {
+            got!(cursor.keyword("char"));
             Ok(SwitchType::Char)
         }
-        Some("boolean") => {
-            cursor.keyword("boolean")?;
+        Word::Boolean => {
+            got!(cursor.keyword("boolean"));
             Ok(SwitchType::Boolean)
         }
-        Some("enum") => Ok(SwitchType::Enum(read_enum(cursor, room)?)),
-        _ => Ok(SwitchType::Name(read_scoped_name(cursor)?)),
+        _ => Ok(SwitchType::Name(got!(read_scoped_name(cursor)))),
     }
 }

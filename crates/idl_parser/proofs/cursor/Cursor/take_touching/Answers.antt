@@ -1,4 +1,4 @@
-use Rattle.std.proofs.Common.{rules, refl, sym, ◌∙◌}
+use Rattle.std.proofs.Common.{rules, sym, ◌∙◌}
 use Rattle.std.specs.Prelude.{codes}
 use Rattle.std.proofs.lemmas.Slice.Eq.{bytes_eq-Decides}
 use denote.Enum.Bare.{same_true}

@@ -5,8 +5,8 @@ use Rattle.idl_parser.proofs.read.declarations.read_ended_declaration.Goals as g
 
 pub returns-clause-spells : goal.returns-clause-spells
 returns-clause-spells c =
-    closed_part _ _ declaration_yield c.in_ok-declaration.declaration c.closed.result c.in_ok-declaration.ensures.spells c.closed.ensures.same c.closed.ensures.read
+    closed_part _ _ declaration_yield c.in-Ok.part c.closed.result c.in-Ok.ensures.spells c.closed.ensures.same c.closed.ensures.read
 
 pub returns-clause-levels : goal.returns-clause-levels
 returns-clause-levels c =
-    closed_levels declaration_levels c.args.room c.in_ok-declaration.declaration c.closed.result c.in_ok-declaration.ensures.levels c.closed.ensures.same
+    closed_levels declaration_levels c.args.room c.in-Ok.part c.closed.result c.in-Ok.ensures.levels c.closed.ensures.same

@@ -10,6 +10,6 @@ use Rattle.idl_parser.proofs.read.declarations.read_except.Goals as goal
 
 pub returns-clause-spells : goal.returns-clause-spells
 returns-clause-spells c =
-    spelled_as (group_two (keyword (codes "exception") ++ identifier c.in_ok-identifier.identifier ++ mark (codes "{"))
-    (flat_map member_yield c.in_ok-members.members.items) (mark (codes "}")))
-    (part_then (part_then (part_then c.in_ok-keyword.ensures c.in_ok-identifier.ensures) c.in_ok-mark.ensures) c.in_ok-members.ensures.spells)
+    spelled_as (group_two (keyword (codes "exception") ++ identifier c.in-Ok.part ++ mark (codes "{"))
+    (flat_map member_yield c.in-Ok-read_members.part.items) (mark (codes "}")))
+    (part_then c.in-Ok.ensures c.in-Ok-read_members.ensures.spells)

@@ -11,12 +11,12 @@ use Rattle.idl_parser.proofs.read.declarations.read_typedef.Goals as goal
 
 pub returns-clause-spells : goal.returns-clause-spells
 returns-clause-spells c =
-    let p = c.in_ok-original in
-    both_read (λ t. keyword (codes "typedef") ++ type_yield t) (listed declarator_yield) c.in_ok-front.front c.read_listed.result
-    (p.original, p.declarators) (part_then c.in_ok-keyword.ensures c.in_ok-front.ensures.spells) c.read_listed.ensures.spells p.ensures.first p.ensures.second
+    let p = c.in-Ok-both in
+    both_read (λ t. keyword (codes "typedef") ++ type_yield t) (listed declarator_yield) c.in-Ok-read_type.part c.read_listed.result
+    p.part (part_then c.in-Ok.ensures c.in-Ok-read_type.ensures.spells) c.read_listed.ensures.spells p.ensures.first p.ensures.second
 
 pub returns-clause-levels : goal.returns-clause-levels
 returns-clause-levels c =
-    let p = c.in_ok-original in
-    both_levels type_levels (highest_listed declarator_levels) c.args.room c.in_ok-front.front c.read_listed.result
-    (p.original, p.declarators) c.in_ok-front.ensures.levels c.read_listed.ensures.levels p.ensures.first p.ensures.second
+    let p = c.in-Ok-both in
+    both_levels type_levels (highest_listed declarator_levels) c.args.room c.in-Ok-read_type.part c.read_listed.result
+    p.part c.in-Ok-read_type.ensures.levels c.read_listed.ensures.levels p.ensures.first p.ensures.second

@@ -1,10 +1,10 @@
-use Rattle.std.proofs.Common.{◌≡◌, suc, ◌+◌, ◌-◌, ◌*◌, ◌++◌, ◌≤◌, length, true}
+use Rattle.std.proofs.Common.{◌≡◌, ◌+◌, ◌-◌, ◌*◌, ◌≤◌, length}
 use Rattle.std.specs.List.{AllByRecursion, flat_map}
-use Rattle.idl_parser.specs.Reading.{Parsed, Continued}
+use Rattle.idl_parser.specs.Reading.{Continued}
 use Rattle.idl_tree.specs.Levels.{highest}
-use Rattle.idl_tree.specs.Levels.{expr_levels, operand_levels}
-use Rattle.idl_tree.specs.Grouping.{IsOfLevel, IsOperandOf}
-use Rattle.idl_tree.specs.Yields.{expr_yield, operand_yield}
+use Rattle.idl_tree.specs.Levels.{operand_levels}
+use Rattle.idl_tree.specs.Grouping.{IsOperandOf}
+use Rattle.idl_tree.specs.Yields.{operand_yield}
 use Rattle.idl_parser.proofs.read.expressions.+expressions.Given as goal
 
 abbrev pub decreases-read_level : goal.decreases-read_level

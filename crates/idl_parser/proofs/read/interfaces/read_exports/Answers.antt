@@ -12,14 +12,14 @@ use Rattle.idl_parser.proofs.read.interfaces.read_exports.Goals as goal
 
 pub parts-preserved : goal.parts-preserved
 parts-preserved c = record {
-  spells = one_more (export_yield) _ _ _ _ _ _ c.parts.invariant.spells (c.in_ok-export.ensures.spells) c.in_ok-push.ensures.items;
-  levels = one_more_level (export_levels) _ _ _ _ c.parts.invariant.levels c.in_ok-export.ensures.levels c.in_ok-push.ensures.items;
+  spells = one_more (export_yield) _ _ _ _ _ _ c.parts.invariant.spells (c.in-Ok-read_export.ensures.spells) c.in-Ok-add.ensures;
+  levels = one_more_level (export_levels) _ _ _ _ c.parts.invariant.levels c.in-Ok-read_export.ensures.levels c.in-Ok-add.ensures;
 }
 
 pub returns-clause-spells : goal.returns-clause-spells
 returns-clause-spells c =
     closed_part _ _ (λ e. mark (codes "{") ++ flat_map export_yield e.items) c.shrink_to_fit.new.self c.closed.result
-    (rw c.shrink_to_fit.ensures.items (part_then_more c.in_ok-mark.ensures c.parts.invariant.spells)) c.closed.ensures.same c.closed.ensures.read
+    (rw c.shrink_to_fit.ensures.items (part_then_more c.in-Ok.ensures c.parts.invariant.spells)) c.closed.ensures.same c.closed.ensures.read
 
 pub returns-clause-levels : goal.returns-clause-levels
 returns-clause-levels c =

@@ -12,15 +12,15 @@ use Rattle.idl_parser.proofs.read.interfaces.read_interface.Goals as goal
 
 pub returns-clause-spells : goal.returns-clause-spells
 returns-clause-spells c =
-    let p = c.in_ok-bases in
-    let pre = keyword (codes "interface") ++ identifier c.in_ok-identifier.identifier in
-    spelled_as (group_three (pre ++ optional bases_yield p.bases) (mark (codes "{")) (flat_map export_yield p.exports.items) (mark (codes "}")))
+    let p = c.in-Ok-both in
+    let pre = keyword (codes "interface") ++ identifier c.in-Ok-identifier.part in
+    spelled_as (group_three (pre ++ optional bases_yield p.part.0) (mark (codes "{")) (flat_map export_yield p.part.1.items) (mark (codes "}")))
     (both_read (λ b. pre ++ optional bases_yield b) (λ e. mark (codes "{") ++ flat_map export_yield e.items ++ mark (codes "}"))
-    c.in_ok-front.front c.read_exports.result (p.bases, p.exports)
-    (part_then_more (part_then c.in_ok-keyword.ensures c.in_ok-identifier.ensures) c.in_ok-front.ensures)
+    c.in-Ok-read_bases.part c.read_exports.result p.part
+    (part_then_more (part_then c.in-Ok.ensures c.in-Ok-identifier.ensures) c.in-Ok-read_bases.ensures)
     c.read_exports.ensures.spells p.ensures.first p.ensures.second)
 
 pub returns-clause-levels : goal.returns-clause-levels
 returns-clause-levels c =
-    let p = c.in_ok-bases in
-    second_level (λ e. highest export_levels e.items) c.args.room c.read_exports.result p.exports c.read_exports.ensures.levels p.ensures.second
+    let p = c.in-Ok-both in
+    second_level (λ e. highest export_levels e.items) c.args.room c.read_exports.result p.part.1 c.read_exports.ensures.levels p.ensures.second

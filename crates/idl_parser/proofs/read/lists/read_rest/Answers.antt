@@ -6,6 +6,6 @@ use Rattle.idl_parser.proofs.read.lists.read_rest.Goals as goal
 
 pub parts-preserved : goal.parts-preserved
 parts-preserved g c = record {
-  spells = one_more (λ x. mark (codes ",") ++ g.T.Part.yield_of x) _ _ _ _ _ _ c.parts.invariant.spells (then_read _ _ _ _ _ c.in_ok-mark.ensures c.in_ok-part.ensures.spells) c.in_ok-push.ensures.items;
-  levels = one_more_level (g.T.Part.levels_of) _ _ _ _ c.parts.invariant.levels c.in_ok-part.ensures.levels c.in_ok-push.ensures.items;
+  spells = one_more (λ x. mark (codes ",") ++ g.T.Part.yield_of x) _ _ _ _ _ _ c.parts.invariant.spells (then_read _ _ _ _ _ c.in-Ok.ensures c.in-Ok-read.ensures.spells) c.in-Ok-add.ensures;
+  levels = one_more_level (g.T.Part.levels_of) _ _ _ _ c.parts.invariant.levels c.in-Ok-read.ensures.levels c.in-Ok-add.ensures;
 }

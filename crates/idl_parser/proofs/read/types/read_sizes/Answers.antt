@@ -5,6 +5,6 @@ use Rattle.idl_parser.proofs.read.types.read_sizes.Goals as goal
 
 pub parts-preserved : goal.parts-preserved
 parts-preserved c = record {
-  spells = one_more (size_yield) _ _ _ _ _ _ c.parts.invariant.spells c.in_ok-size.ensures.spells c.in_ok-push.ensures.items;
-  levels = one_more_level (const_expr_levels) _ _ _ _ c.parts.invariant.levels c.in_ok-size.ensures.levels c.in_ok-push.ensures.items;
+  spells = one_more (size_yield) _ _ _ _ _ _ c.parts.invariant.spells c.in-Ok.ensures.spells c.in-Ok-add.ensures;
+  levels = one_more_level (const_expr_levels) _ _ _ _ c.parts.invariant.levels c.in-Ok.ensures.levels c.in-Ok-add.ensures;
 }

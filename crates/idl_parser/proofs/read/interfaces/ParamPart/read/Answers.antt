@@ -9,11 +9,11 @@ use Rattle.idl_parser.proofs.read.interfaces.ParamPart.read.Goals as goal
 
 pub returns-clause-spells : goal.returns-clause-spells
 returns-clause-spells c =
-    let p = c.in_ok-param_type in
-    both_read (λ t. direction_yield c.in_ok-direction.direction ++ param_type_yield t) identifier c.in_ok-front.front c.identifier.result
-    (p.param_type, p.identifier) (part_then c.in_ok-direction.ensures c.in_ok-front.ensures.spells) c.identifier.ensures p.ensures.first p.ensures.second
+    let p = c.in-Ok-both in
+    both_read (λ t. direction_yield c.in-Ok.part ++ param_type_yield t) identifier c.in-Ok-read_param_type.part c.identifier.result
+    p.part (part_then c.in-Ok.ensures c.in-Ok-read_param_type.ensures.spells) c.identifier.ensures p.ensures.first p.ensures.second
 
 pub returns-clause-levels : goal.returns-clause-levels
 returns-clause-levels c =
-    let p = c.in_ok-param_type in
-    first_level param_type_levels c.args.room c.in_ok-front.front p.param_type c.in_ok-front.ensures.levels p.ensures.first
+    let p = c.in-Ok-both in
+    first_level param_type_levels c.args.room c.in-Ok-read_param_type.part p.part.0 c.in-Ok-read_param_type.ensures.levels p.ensures.first

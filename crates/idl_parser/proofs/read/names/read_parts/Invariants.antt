@@ -1,0 +1,13 @@
+use Rattle.std.proofs.Common.{◌++◌, length}
+use Rattle.std.specs.List.{flat_map}
+use Rattle.std.specs.Prelude.{codes}
+use Rattle.idl_parser.specs.Reading.{Continued}
+use Rattle.idl_tree.specs.Pieces.{mark}
+use Rattle.idl_tree.specs.Yields.{identifier}
+use Rattle.idl_parser.proofs.read.names.read_parts.Given as goal
+
+abbrev pub invariant-parts : goal.invariant-parts
+invariant-parts l = Continued l.fn.cursor (flat_map (λ x. mark (codes "::") ++ identifier x) l.rest.items) l.cursor
+
+abbrev pub decreases-parts : goal.decreases-parts
+decreases-parts l = length l.cursor
