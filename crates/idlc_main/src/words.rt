@@ -3,7 +3,7 @@
 ghost use Rattle.std.specs.Prelude.{◌≡◌, ◌≢◌, ◌<◌, ◌^◌, ◌↔◌, IsSome, IsSomeAnd, ℕ, List, codes, IsErr, IsErrAnd, IfErr, IfOk, IfSome, MatchResult, Err, Some, None, true, false};
 ghost use Rattle.std.specs.Str.Parse.{IsNumeral, digits_value, without_leading_plus};
 ghost use Rattle.clap.specs.Words.{app_of, kind_of, rule_of, rows_of, Row, subcommand_rows_of};
-ghost use Rattle.clap.specs.declared.builder.value_parser.ValueParser.TheVariants.{Names};
+ghost use Rattle.clap.specs.declared.builder.value_parser.ValueParser.TheVariants.{Names, Unsigned};
 ghost use Rattle.idlc_main.specs.Words.{Ask, AsksFor, IsMistaken, Tells, texts, ask_of, command_app, output, program_app, value_app, table_app, upgrade_app, wanted};
 ghost use Rattle.idlc_main.specs.declared.words.Asked.{Asked};
 ghost use Rattle.clap.specs.Matches.{found_of, first_value, one_text};
@@ -54,6 +54,22 @@ fn wanted<'a>(alloc: Global, id: &'a str, help: &'a str) -> Arg<'a>
 
 const TABLE: &str = "A table file, or builtin, the sample table";
 
+/// The word for the byte order.
+fn order_word<'a>(alloc: Global, orders: &'a [&'a str]) -> Arg<'a>
+    ensures rule { rule_of result ≡ wanted (codes "ORDER") (Some (Names orders.entry)) }
+    ensures local { result.global ≡ false }
+{
+    wanted(alloc, "ORDER", "The byte order").value_parser(orders)
+}
+
+/// The word for the position.
+fn pos_word<'a>(alloc: Global) -> Arg<'a>
+    ensures rule { rule_of result ≡ wanted (codes "POS") (Some (Unsigned 0 18446744073709551615)) }
+    ensures local { result.global ≡ false }
+{
+    wanted(alloc, "POS", "The position of the first octet").value_parser(value_parser!(u64))
+}
+
 /// The commands that marshal a value take the same words.
 fn command<'a>(
     alloc: Global,
@@ -63,15 +79,11 @@ fn command<'a>(
 ) -> Result<Command<'a>, AllocError>
     ensures { IfOk result (λ command. app_of command ≡ command_app (Names orders.entry) name.entry.now) }
 {
-    let order = wanted(alloc, "ORDER", "The byte order").value_parser(orders);
-    let pos = wanted(alloc, "POS", "The position of the first octet").value_parser(value_parser!(
-        u64
-    ));
     Command::new(alloc, name)
         .arg(wanted(alloc, "T", TABLE))?
         .arg(wanted(alloc, "NAME", "The name of a type of the table"))?
-        .arg(order)?
-        .arg(pos)?
+        .arg(order_word(alloc, orders))?
+        .arg(pos_word(alloc))?
         .arg(wanted(alloc, "HEX", hex))
 }
 
@@ -109,13 +121,13 @@ fn value_commands<'a>(alloc: Global, orders: &'a [&'a str]) -> Result<Command<'a
 fn program<'a>(alloc: Global, orders: &'a [&'a str]) -> Result<Command<'a>, AllocError>
     ensures { IfOk result (λ program. app_of program ≡ program_app (Names orders.entry)) }
 {
+    let marshals = value_commands(alloc, orders)?;
     let check = table_command(alloc, "check")?;
+    let checks = marshals.subcommand(check.about("Checks a table"))?;
     let show = table_command(alloc, "show")?;
+    let lists = checks.subcommand(show.about("Lists the routines of a table"))?;
     let upgrade = upgrade_command(alloc)?;
-    value_commands(alloc, orders)?
-        .subcommand(check.about("Checks a table"))?
-        .subcommand(show.about("Lists the routines of a table"))?
-        .subcommand(upgrade.about("Writes a table in the newest version"))
+    lists.subcommand(upgrade.about("Writes a table in the newest version"))
 }
 
 fn asked_in<'a>(way: Way, matches: &ArgMatches<'a>) -> Option<Asked<'a>>
