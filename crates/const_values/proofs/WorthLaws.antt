@@ -1,26 +1,22 @@
 -- What a chain of operands is worth, by the list of its `Vec`, and what forms the tokens of an expression's parts have.
-use Rattle.std.proofs.Common.{◌≡◌, ◌∙◌, ℕ, ◌+◌, suc, ◌<◌, List, [], ◌∷◌, Option, Some, None, Vec, Global, length, drop, get_or, refl, ap, subst, sym, arith, drop-cons}
-use Rattle.std.specs.Prelude.{Box, ℤ, codes}
-use Rattle.std.specs.List.{AllByRecursion, flat_map}
-use Rattle.idl_lexer.specs.declared.token.Kind.TheVariants.{Number as NumberToken, CharLit, TextLit}
+use Rattle.std.proofs.Common.{◌≡◌, ◌∙◌, ℕ, ◌+◌, suc, ◌<◌, Bool, true, List, [], ◌∷◌, Option, Some, None, Vec, Global, length, drop, get_or, refl, ap, subst, sym, arith, drop-cons}
+use Rattle.std.specs.Prelude.{Box, ℤ}
+use Rattle.std.specs.List.{AllByRecursion}
+use Rattle.std.proofs.lemmas.Bool.{and_parts}
+use Rattle.idl_lexer.specs.Forms.{HasForm}
+use Rattle.idl_lexer.specs.declared.token.Kind.{Kind}
+use Rattle.idl_lexer.specs.declared.token.Kind.TheVariants.{Ident, Keyword, Punct, Number as NumberToken, CharLit, TextLit, Pragma}
 use Rattle.idl_tree.specs.declared.names.Leaf.{Leaf}
-use Rattle.idl_tree.specs.declared.names.Listed.{Listed}
-use Rattle.idl_tree.specs.declared.expression.Expr.{Expr, Number, Character, Text, Parenthesized, Signed, Chain}
+use Rattle.idl_tree.specs.declared.expression.Expr.{Expr, Chain}
 use Rattle.idl_tree.specs.declared.expression.Operand.{Operand}
-use Rattle.idl_tree.specs.declared.expression.Sign.{Sign}
-use Rattle.idl_tree.specs.Pieces.{kept, mark}
-use Rattle.idl_tree.specs.Forms.{HaveForms, IsLeafOf}
-use Rattle.idl_tree.specs.Lists.{parts}
-use Rattle.idl_tree.specs.Yields.{expr_yield, operand_yield, operator_yield, text_yield}
-use Rattle.idl_tree.proofs.Chains.{chain_yield}
+use Rattle.idl_tree.specs.Forms.{IsLeafOf}
 use Rattle.idl_tree.proofs.Rows.{chain_walk}
-use Rattle.idl_tree.proofs.SpelledForms.{HaveForms-append, leaf_form}
 use Rattle.idl_tree.specs.declared.expression.Operator.{Operator}
 use Rattle.const_values.specs.declared.constant.Constant.{Constant}
 use Rattle.const_values.specs.declared.fault.ConstFault.{ConstFault}
 use Rattle.const_values.specs.declared.fault.ConstFault.TheVariants.{Name, BadConstant, NoMemory}
 use Rattle.const_values.specs.Refusals.{Explains}
-use Rattle.const_values.specs.Worth.{NamesWorth, worth, chain_worth, whole_number, whole_constant, operator_applied}
+use Rattle.const_values.specs.Worth.{NamesWorth, are_texts, is_text, worth, chain_worth, whole_number, whole_constant, operator_applied}
 
 -- ---- chains
 
@@ -95,34 +91,21 @@ explained line w v NoMemory less h = tt
 
 -- ---- forms
 
-pub number_form : (l : Leaf) → HaveForms (expr_yield (Number l)) → IsLeafOf NumberToken l
-number_form l h = leaf_form NumberToken l h
+-- a token has the form of its kind
+pub form_of_kind : (k : Kind) (l : Leaf) → l.token.now.kind ≡ k → IsLeafOf k l
+form_of_kind k l is = subst (λ x. HasForm x l.token.now.text.now) is l.token.now.form
 
-pub character_form : (l : Leaf) → HaveForms (expr_yield (Character l)) → IsLeafOf CharLit l
-character_form l h = leaf_form CharLit l h
+is_text_literal : (k : Kind) → is_text k ≡ true → k ≡ TextLit
+is_text_literal TextLit h = refl
+is_text_literal NumberToken h = cc
+is_text_literal CharLit h = cc
+is_text_literal Ident h = cc
+is_text_literal Keyword h = cc
+is_text_literal Punct h = cc
+is_text_literal Pragma h = cc
 
-text_forms : (ls : List Leaf) → HaveForms (flat_map text_yield ls) → AllByRecursion (IsLeafOf TextLit) ls
+pub text_forms : (ls : List Leaf) → are_texts ls ≡ true → AllByRecursion (IsLeafOf TextLit) ls
 text_forms [] h = tt
 text_forms (l ∷ ls) h =
-    let cut = HaveForms-append (text_yield l) (flat_map text_yield ls) h in
-    (leaf_form TextLit l cut.0, text_forms ls cut.1)
-
-pub literal_forms : (ls : Box (Listed Leaf) Global) → HaveForms (expr_yield (Text ls)) → AllByRecursion (IsLeafOf TextLit) (parts ls.value)
-literal_forms ls h = text_forms (parts ls.value) h
-
-pub inner_forms : (paren : Leaf) (inner : Box Expr Global) → HaveForms (expr_yield (Parenthesized paren inner)) → HaveForms (expr_yield inner.value)
-unfolding kept
-inner_forms paren inner h = (HaveForms-append (expr_yield inner.value) (mark (codes ")")) h.1).0
-
-pub operand_forms : (m : Leaf) (sign : Sign) (operand : Box Expr Global) → HaveForms (expr_yield (Signed m sign operand)) → HaveForms (expr_yield operand.value)
-unfolding kept
-operand_forms m sign operand h = h.1
-
-pub chain_forms : (first : Box Expr Global) (rest : Vec Operand Global) → HaveForms (expr_yield (Chain first rest)) → HaveForms (expr_yield first.value) × HaveForms (flat_map operand_yield rest.items)
-chain_forms first rest h = HaveForms-append (expr_yield first.value) (flat_map operand_yield rest.items) (subst HaveForms (chain_yield first rest) h)
-
-pub forms_at : (xs : List Operand) (k : ℕ) (x : Operand) → k < length xs → get_or xs k x ≡ x → HaveForms (flat_map operand_yield (drop k xs))
-    → HaveForms (expr_yield x.operand) × HaveForms (flat_map operand_yield (drop (k + 1) xs))
-forms_at xs k x lt here h =
-    let cut = HaveForms-append (operand_yield x) (flat_map operand_yield (drop (k + 1) xs)) (subst (λ ys. HaveForms (flat_map operand_yield ys)) (split_at xs k x lt here) h) in
-    ((HaveForms-append (operator_yield x.operator) (expr_yield x.operand) cut.0).1, cut.1)
+    let two = and_parts (is_text l.token.now.kind) (are_texts ls) h in
+    (form_of_kind TextLit l (is_text_literal l.token.now.kind two.0), text_forms ls two.1)

@@ -1,10 +1,9 @@
 //! What a constant expression is worth, by names of the caller's.
 
 ghost use Rattle.std.specs.Prelude.{◌≡◌, IfOk, IfErr};
-ghost use Rattle.idl_tree.specs.Yields.{expr_yield};
-ghost use Rattle.idl_tree.specs.Forms.{HaveForms};
+ghost use Rattle.idl_tree.specs.Lists.{parts};
 ghost use Rattle.idl_tree.specs.Starts.{expr_start};
-ghost use Rattle.const_values.specs.Worth.{worth, whole_number, operator_applied, positive};
+ghost use Rattle.const_values.specs.Worth.{worth, literal_worth, are_texts as all_texts, text_worth, whole_number, operator_applied, positive};
 ghost use Rattle.const_values.specs.Kinds.{of_kind};
 ghost use Rattle.const_values.specs.Refusals.{Explains};
 
@@ -12,8 +11,9 @@ use crate::constant::{Constant, Text};
 use crate::fault::ConstFault;
 use crate::kind::ConstKind;
 use crate::operators::{applied, signed};
+use idl_lexer::Kind;
 use idl_tree::expression::{Expr, Operator, Sign};
-use idl_tree::names::ScopedName;
+use idl_tree::names::{Leaf, Listed, ScopedName};
 use std::alloc::Global;
 
 /// Names that stand for constants.
@@ -76,13 +76,53 @@ fn joined<F>(
     }
 }
 
+/// The constant of a number's or a character's literal.
+fn literal<F>(leaf: &Leaf<'_>, line: usize) -> Result<Constant, ConstFault<F>>
+    ensures ok { IfOk result (λ c. literal_worth leaf.now ≡ Some c) }
+    ensures err { IfErr result (Explains line (literal_worth leaf.now)) }
+{
+    match leaf.token.kind {
+        Kind::Number => Ok(Constant::Whole(i128::from(leaf.number()))),
+        Kind::CharLit => Ok(Constant::Character(leaf.character())),
+        _ => Err(ConstFault::BadConstant { line }),
+    }
+}
+
+/// Whether the tokens of literals are texts.
+fn are_texts(literals: &Listed<Leaf<'_>>) -> bool
+    ensures { result ≡ all_texts (parts literals.now) }
+{
+    for leaf in literals.iter() {
+        match leaf.token.kind {
+            Kind::TextLit => {}
+            _ => return false,
+        }
+    }
+    true
+}
+
+/// The constant of text literals that stand one behind another.
+fn text<F>(
+    alloc: Global,
+    literals: &Listed<Leaf<'_>>,
+    line: usize,
+) -> Result<Constant, ConstFault<F>>
+    ensures ok { IfOk result (λ c. text_worth (parts literals.now) ≡ Some c) }
+    ensures err { IfErr result (Explains line (text_worth (parts literals.now))) }
+{
+    if are_texts(literals) {
+        Ok(Constant::Text(Text::new(alloc, literals)?))
+    } else {
+        Err(ConstFault::BadConstant { line })
+    }
+}
+
 fn worth_at<N: NamedConstants>(
     alloc: Global,
     expr: &Expr<'_>,
     names: &N,
     line: usize,
 ) -> Result<Constant, ConstFault<N::Fault>>
-    requires { HaveForms (expr_yield expr.now) }
     ensures ok { IfOk result (λ c. worth (N.worth_of names.now) expr.now ≡ Some c) }
     ensures err { IfErr result (Explains line (worth (N.worth_of names.now) expr.now)) }
 {
@@ -91,9 +131,8 @@ fn worth_at<N: NamedConstants>(
             Ok(constant) => Ok(constant.shared()?),
             Err(fault) => Err(ConstFault::Name(fault)),
         },
-        Expr::Number(literal) => Ok(Constant::Whole(i128::from(literal.number()))),
-        Expr::Character(literal) => Ok(Constant::Character(literal.character())),
-        Expr::Text(literals) => Ok(Constant::Text(Text::new(alloc, literals)?)),
+        Expr::Number(leaf) | Expr::Character(leaf) => literal(leaf, line),
+        Expr::Text(literals) => text(alloc, literals, line),
         Expr::Boolean { value, .. } => Ok(Constant::Boolean(*value)),
         Expr::Parenthesized { inner, .. } => worth_at(alloc, inner, names, line),
         Expr::Signed { sign, operand, .. } => {
@@ -122,7 +161,6 @@ pub fn evaluate<N: NamedConstants>(
     expr: &Expr<'_>,
     names: &N,
 ) -> Result<Constant, ConstFault<N::Fault>>
-    requires { HaveForms (expr_yield expr.now) }
     ensures ok { IfOk result (λ c. worth (N.worth_of names.now) expr.now ≡ Some c) }
     ensures err { IfErr result (Explains (expr_start expr.now).token.now.line (worth (N.worth_of names.now) expr.now)) }
 {
@@ -140,7 +178,6 @@ pub fn evaluate_as<N: NamedConstants>(
     kind: ConstKind,
     names: &N,
 ) -> Result<Constant, ConstFault<N::Fault>>
-    requires { HaveForms (expr_yield expr.now) }
     ensures ok { IfOk result (λ c. of_kind kind (worth (N.worth_of names.now) expr.now) ≡ Some c) }
     ensures err { IfErr result (Explains (expr_start expr.now).token.now.line
         (of_kind kind (worth (N.worth_of names.now) expr.now))) }
@@ -165,7 +202,6 @@ pub fn evaluate_positive<N: NamedConstants>(
     expr: &Expr<'_>,
     names: &N,
 ) -> Result<u128, ConstFault<N::Fault>>
-    requires { HaveForms (expr_yield expr.now) }
     ensures ok { IfOk result (λ n. positive (whole_number (worth (N.worth_of names.now) expr.now)) ≡ Some n) }
     ensures err { IfErr result (Explains (expr_start expr.now).token.now.line
         (positive (whole_number (worth (N.worth_of names.now) expr.now)))) }

@@ -2,49 +2,32 @@ use Rattle.std.proofs.Common.{rules, ◌∙◌, ◌<◌, Option, Some, length, F
 use Rattle.std.specs.Int.{w128}
 use Rattle.std.specs.List.{flat_map}
 use Rattle.std.proofs.lemmas.Result.{err_from_is_err_and}
-use Rattle.idl_tree.specs.Yields.{expr_yield, operand_yield}
-use Rattle.idl_tree.specs.Forms.{HaveForms}
 use Rattle.const_values.specs.Worth.{worth, whole_number, operator_applied}
 use Rattle.const_values.specs.declared.constant.Constant.{Constant}
 use Rattle.const_values.proofs.Weights.{weight, list_weight, chain_weight, weight_at}
-use Rattle.const_values.proofs.WorthLaws.{number_form, character_form, literal_forms, inner_forms, operand_forms, chain_forms, chain_begins, chain_goes_on, forms_at, first_is_none, operand_is_none, applied_to_none, explained}
+use Rattle.const_values.proofs.WorthLaws.{chain_begins, chain_goes_on, first_is_none, operand_is_none, applied_to_none, explained}
 use Rattle.const_values.proofs.evaluation.+worth_at.Goals as goal
-
-pub number-requires : goal.number-requires
-number-requires g t c = number_form c.in-Number.literal (subst (λ e. HaveForms (expr_yield e)) c.in-Number.is c.requires)
-
-pub character-requires : goal.character-requires
-character-requires g t c = character_form c.in-Character.literal (subst (λ e. HaveForms (expr_yield e)) c.in-Character.is c.requires)
-
-pub new-requires : goal.new-requires
-new-requires g t c = rw c.deref.ensures (literal_forms c.in-Text.literals (subst (λ e. HaveForms (expr_yield e)) c.in-Text.is c.requires))
 
 pub worth_at-requires : goal.worth_at-requires
 worth_at-requires g t c =
-    let forms : HaveForms (expr_yield c.deref-in-Parenthesized.result.now) =
-    rw c.deref-in-Parenthesized.ensures (inner_forms c.in-Parenthesized.paren c.in-Parenthesized.inner (subst (λ e. HaveForms (expr_yield e)) c.in-Parenthesized.is c.requires)) in
     let d = c.decreases in
     let whole = ap weight c.in-Parenthesized.is in
     let part = ap weight c.deref-in-Parenthesized.ensures in
-    λ κs b. (omega (arith, d, whole, part), (b.0, (b.1, forms)))
+    λ κs b. (omega (arith, d, whole, part), b)
 
 pub worth_at-requires-in-Signed : goal.worth_at-requires-in-Signed
 worth_at-requires-in-Signed g t c =
-    let forms : HaveForms (expr_yield c.deref-in-Signed.result.now) =
-    rw c.deref-in-Signed.ensures (operand_forms c.in-Signed.mark c.in-Signed.sign c.in-Signed.operand (subst (λ e. HaveForms (expr_yield e)) c.in-Signed.is c.requires)) in
     let d = c.decreases in
     let whole = ap weight c.in-Signed.is in
     let part = ap weight c.deref-in-Signed.ensures in
-    λ κs b. (omega (arith, d, whole, part), (b.0, (b.1, forms)))
+    λ κs b. (omega (arith, d, whole, part), b)
 
 pub worth_at-requires-in-Chain : goal.worth_at-requires-in-Chain
 worth_at-requires-in-Chain g t c =
-    let forms : HaveForms (expr_yield c.deref-in-Chain.result.now) =
-    rw c.deref-in-Chain.ensures (chain_forms c.in-Chain.first c.in-Chain.rest (subst (λ e. HaveForms (expr_yield e)) c.in-Chain.is c.requires)).0 in
     let d = c.decreases in
     let whole = ap weight c.in-Chain.is ∙ chain_weight c.in-Chain.first c.in-Chain.rest in
     let part = ap weight c.deref-in-Chain.ensures in
-    λ κs b. (omega (arith, d, whole, part), (b.0, (b.1, forms)))
+    λ κs b. (omega (arith, d, whole, part), b)
 
 pub returns-in_err-worth_at-in-Chain-clause-err : goal.returns-in_err-worth_at-in-Chain-clause-err
 returns-in_err-worth_at-in-Chain-clause-err g t c =
@@ -69,22 +52,17 @@ loop-part-init g t c =
     let fits : FitsSigned w128 value = search rules in
     let names = g.N.NamedConstants.worth_of c.args.names.now in
     let items = c.deref-part-items.ensures.value in
-    record {
-      made = chain_begins names c.in-Chain.first c.in-Chain.rest c.args.expr.now c.deref-in-Chain.result.now c.in_ok-worth_at-in-Chain.field-0 c.deref-part-items.result.now value (to_z w128 (of_z w128 value))
-          c.in-Chain.is c.deref-in-Chain.ensures items c.in_ok-worth_at-in-Chain.ensures.ok c.in_ok-value-in-Chain.ensures.ok (to_z-of_z fits);
-      forms = subst (λ xs. HaveForms (flat_map operand_yield xs)) (sym items) (chain_forms c.in-Chain.first c.in-Chain.rest (subst (λ e. HaveForms (expr_yield e)) c.in-Chain.is c.requires)).1;
-    }
+    chain_begins names c.in-Chain.first c.in-Chain.rest c.args.expr.now c.deref-in-Chain.result.now c.in_ok-worth_at-in-Chain.field-0 c.deref-part-items.result.now value (to_z w128 (of_z w128 value))
+    c.in-Chain.is c.deref-in-Chain.ensures items c.in_ok-worth_at-in-Chain.ensures.ok c.in_ok-value-in-Chain.ensures.ok (to_z-of_z fits)
 
 pub worth_at-requires-in-loop-part : goal.worth_at-requires-in-loop-part
 worth_at-requires-in-loop-part g t c =
     let lt : c.loop-part.part-index < length c.deref-part-items.result.now = omega arith in
-    let forms : HaveForms (expr_yield c.part-item.result.operand) =
-    (forms_at c.deref-part-items.result.now c.loop-part.part-index c.part-item.result lt (sym c.part-item.is) c.loop-part.invariant.forms).0 in
     let d = c.decreases in
     let whole = ap weight c.in-Chain.is ∙ chain_weight c.in-Chain.first c.in-Chain.rest in
     let all = ap list_weight c.deref-part-items.ensures.value in
     let part = weight_at c.deref-part-items.result.now c.loop-part.part-index c.part-item.result lt (sym c.part-item.is) in
-    λ κs b. (omega (arith, d, whole, all, part), (b.0, (b.1, forms)))
+    λ κs b. (omega (arith, d, whole, all, part), b)
 
 pub returns-in_err-operand-in-Chain-clause-err : goal.returns-in_err-operand-in-Chain-clause-err
 returns-in_err-operand-in-Chain-clause-err g t c =
@@ -96,7 +74,7 @@ returns-in_err-operand-in-Chain-clause-err g t c =
     let whole : Option Constant = worth names c.args.expr.now in
     let part : Option Constant = worth names x.operand in
     rw (p.1, p.2) (explained c.args.line part whole _
-    (λ none. operand_is_none names c.deref-part-items.result.now c.loop-part.part-index x (Some before) whole lt (sym c.part-item.is) c.loop-part.invariant.made
+    (λ none. operand_is_none names c.deref-part-items.result.now c.loop-part.part-index x (Some before) whole lt (sym c.part-item.is) c.loop-part.invariant
     (applied_to_none x.operator before part none))
     c.in_err-operand-in-Chain.ensures.err)
 
@@ -110,7 +88,7 @@ returns-in_err-value-in-Chain-2-clause-err g t c =
     let whole : Option Constant = worth names c.args.expr.now in
     let given = ap (λ v. operator_applied x.operator (Some before) (whole_number v)) c.in_ok-operand-in-Chain.ensures.ok in
     rw (p.1, p.2) (explained c.args.line (operator_applied x.operator (Some before) (whole_number (Some c.in_ok-operand-in-Chain.operand))) whole _
-    (λ none. operand_is_none names c.deref-part-items.result.now c.loop-part.part-index x (Some before) whole lt (sym c.part-item.is) c.loop-part.invariant.made (given ∙ none))
+    (λ none. operand_is_none names c.deref-part-items.result.now c.loop-part.part-index x (Some before) whole lt (sym c.part-item.is) c.loop-part.invariant (given ∙ none))
     c.in_err-value-in-Chain-2.ensures.err)
 
 pub loop-part-preserved : goal.loop-part-preserved
@@ -122,8 +100,5 @@ loop-part-preserved g t c =
     let k = c.loop-part.part-index in
     let before = to_z w128 c.loop-part.value-bits in
     let lt : c.loop-part.part-index < length c.deref-part-items.result.now = omega arith in
-    record {
-      made = chain_goes_on names xs k c.part-item.result (Some before) c.in_ok-operand-in-Chain.operand value (to_z w128 (of_z w128 value)) (worth names c.args.expr.now) lt (sym c.part-item.is)
-          c.loop-part.invariant.made c.in_ok-operand-in-Chain.ensures.ok c.in_ok-value-in-Chain-2.ensures.ok (to_z-of_z fits);
-      forms = (forms_at xs k c.part-item.result lt (sym c.part-item.is) c.loop-part.invariant.forms).1;
-    }
+    chain_goes_on names xs k c.part-item.result (Some before) c.in_ok-operand-in-Chain.operand value (to_z w128 (of_z w128 value)) (worth names c.args.expr.now) lt (sym c.part-item.is)
+    c.loop-part.invariant c.in_ok-operand-in-Chain.ensures.ok c.in_ok-value-in-Chain-2.ensures.ok (to_z-of_z fits)

@@ -1,7 +1,4 @@
 use Rattle.std.proofs.Common.{◌≡◌, Some, drop}
-use Rattle.std.specs.List.{flat_map}
-use Rattle.idl_tree.specs.Yields.{operand_yield}
-use Rattle.idl_tree.specs.Forms.{HaveForms}
 use Rattle.const_values.specs.Worth.{worth, whole_constant}
 use Rattle.const_values.proofs.Weights.{weight}
 use Rattle.const_values.proofs.WorthLaws.{operands_worth}
@@ -9,11 +6,9 @@ use Rattle.const_values.proofs.evaluation.+worth_at.Given as goal
 
 -- the operands that are left make the whole of what was made so far
 abbrev pub invariant-loop-part : goal.invariant-loop-part
-invariant-loop-part g l = record {
-  made : whole_constant (operands_worth (g.N.NamedConstants.worth_of l.names) (drop l.part-index l.part-items) (Some l.value))
-      ≡ worth (g.N.NamedConstants.worth_of l.names) l.fn.expr;
-  forms : HaveForms (flat_map operand_yield (drop l.part-index l.part-items));
-}
+invariant-loop-part g l =
+    whole_constant (operands_worth (g.N.NamedConstants.worth_of l.names) (drop l.part-index l.part-items) (Some l.value))
+    ≡ worth (g.N.NamedConstants.worth_of l.names) l.fn.expr
 
 abbrev pub decreases-worth_at : goal.decreases-worth_at
 decreases-worth_at g l = weight l.expr.now
