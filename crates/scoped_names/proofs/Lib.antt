@@ -11,3 +11,5 @@ pub mod PrefixesKept
 pub mod IdsGiven
 pub mod IdFormats
 pub mod PragmasSaid
+pub mod Weights
+pub mod ChainWorth

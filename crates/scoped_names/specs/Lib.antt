@@ -1,6 +1,7 @@
 -- What a specification declares, and what a name finds.
 pub mod Entry
 pub mod Search
+pub mod Constants
 pub mod Entries
 pub mod RepositoryIds
 pub mod IdPragmas

@@ -3,16 +3,17 @@
 
 mod declarations;
 pub mod entry;
+mod evaluation;
 pub mod fault;
 mod key;
-pub mod names;
 mod record;
 mod repository_ids;
 mod search;
 mod specification;
+mod table;
 mod types;
 
 pub use entry::{Base, EntryKind};
 pub use fault::NameFault;
-pub use names::Names;
+pub use table::Table;
 pub use specification::bind;

@@ -4,7 +4,7 @@ ghost use Rattle.std.specs.Prelude.{IfOk};
 ghost use Rattle.scoped_names.specs.Entries.{AreEntries};
 
 use crate::fault::NameFault;
-use crate::names::Names;
+use crate::table::Table;
 use idl_tree::spec::Spec;
 use std::alloc::Global;
 
@@ -14,14 +14,14 @@ use std::alloc::Global;
 ///
 /// The first fault in the order of reading, with its line; a type that was declared ahead and is
 /// never defined comes last.
-pub fn bind<'a>(alloc: Global, spec: &Spec<'a>) -> Result<Names<'a>, NameFault>
+pub fn bind<'a>(alloc: Global, spec: &Spec<'a>) -> Result<Table<'a>, NameFault>
     ensures { IfOk result (λ names. AreEntries spec.now.definitions.items names) }
 {
     // no list of tokens is so long
     if spec.tokens.len() >= usize::MAX / 2 {
         return Err(NameFault::NoMemory);
     }
-    let mut names = Names::new(alloc)?;
+    let mut names = Table::new(alloc)?;
     names.bind_definitions(alloc, 0, spec.definitions.as_slice())?;
     names.all_defined()?;
     Ok(names)

@@ -1,16 +1,18 @@
-//! The names of a specification.
+//! What a specification declares, and what names find.
 
 ghost use Rattle.std.specs.Prelude.{◌≡◌, ◌<◌, ◌≤◌, ◌^◌, ◌↔◌, ℕ, length, option_copied, IfOk, IfSome, OnOk, OnErr, ◌≢◌, ◌+◌, ◌++◌, ◌∷◌, [], None, List, true, slice_get};
 ghost use Rattle.idl_tree.specs.Starts.{name_start, name_first, is_rooted};
 ghost use Rattle.scoped_names.specs.Search.{own as own_of, inherited as inherited_by, within as within_of, within_first, outwards as outwards_from, sought_in, word, in_its_case as found_in_its_case, finds, Finds};
-ghost use Rattle.scoped_names.specs.Entries.{found_behind, scope_of, with_base};
+ghost use Rattle.scoped_names.specs.Entry.{worth_in, meant_in};
+ghost use Rattle.scoped_names.specs.Entries.{declared, declared_as, scope_of, with_base};
 ghost use Rattle.scoped_names.specs.Records.{heir_of as heir_in_records, entry_of, words_at, HasWord, is_word};
 
-use crate::entry::{Base, EntryKind};
+use crate::entry::{Base, EntryKind, Meaning};
 use crate::fault::NameFault;
 use crate::key::{Key, Word};
 use crate::record::{Heir, Record};
 use crate::search::Found;
+use const_values::{ConstKind, Constant};
 use idl_lexer::Kind;
 use idl_tree::names::{Leaf, ScopedName};
 use indexmap::{IndexMap, IndexSet};
@@ -19,7 +21,7 @@ use std::marker::Model;
 
 /// The names of a specification. A contract sees the entries in order of declaration.
 #[derive(Drop)]
-pub struct Names<'a> {
+pub struct Table<'a> {
     keys: IndexSet<Key<'a>>,
     records: Vec<Record<'a>>,
     /// The words that each scope declares.
@@ -33,7 +35,7 @@ pub struct Names<'a> {
     prefix: Option<&'a str>,
 }
 
-impl<'a> Model for Names<'a> {
+impl<'a> Model for Table<'a> {
     ghost use Rattle.std.specs.Prelude.{List};
     ghost use Rattle.scoped_names.specs.Entry.{Entry};
     ghost use Rattle.scoped_names.specs.Records.{entries_in, AreTied};
@@ -71,14 +73,14 @@ fn list_word<'a>(
     Ok(())
 }
 
-impl<'a> Names<'a> {
+impl<'a> Table<'a> {
     /// No names yet.
     pub(crate) fn new(alloc: Global) -> Result<Self, NameFault>
         ensures { IfOk result (λ names. names ≡ []) }
     {
         let mut words = Vec::new(alloc);
         words.push(Vec::new(alloc))?;
-        Ok(Names {
+        Ok(Table {
             keys: IndexSet::new(alloc),
             records: Vec::new(alloc),
             words,
@@ -228,7 +230,7 @@ impl<'a> Names<'a> {
     /// # Errors
     ///
     /// `Unknown`, `CaseDiffers` or `Ambiguous`, with the line of the name's first token.
-    pub fn resolve(&self, scope: usize, name: &ScopedName<'a>) -> Result<usize, NameFault>
+    pub(crate) fn resolve(&self, scope: usize, name: &ScopedName<'a>) -> Result<usize, NameFault>
         requires { scope ≤ length self.now }
         ensures finds { (entry : ℕ) → (result ≡ Ok entry) ↔ Finds self.now scope name.now entry }
         ensures found { IfOk result (λ entry. finds self.now scope name.now ≡ Found.One entry) }
@@ -246,11 +248,27 @@ impl<'a> Names<'a> {
     }
 
     /// What an entry was declared as.
-    pub fn kind(&self, entry: usize) -> EntryKind
+    pub(crate) fn kind(&self, entry: usize) -> EntryKind
         requires { entry < length self.now }
         ensures { IfSome (slice_get self.now entry) (λ e. result ≡ e.kind) }
     {
         self.records[entry].kind
+    }
+
+    /// What a constant or an enumerator is worth.
+    pub(crate) fn constant(&self, entry: usize) -> Option<&Constant>
+        requires { entry < length self.now }
+        ensures { option_copied result ≡ worth_in (slice_get self.now entry) }
+    {
+        self.records[entry].worth.as_ref()
+    }
+
+    /// The type of constants for which the name of a type stands in the end, if it does.
+    pub(crate) fn stands_for(&self, entry: usize) -> Option<ConstKind>
+        requires { entry < length self.now }
+        ensures { result ≡ meant_in (slice_get self.now entry) }
+    {
+        self.records[entry].stands_for
     }
 
     /// Whether the scope has a member of the word, or has the word for its own name.
@@ -315,24 +333,29 @@ impl<'a> Names<'a> {
         Ok(())
     }
 
-    /// Declares an identifier in a scope as something that is found behind the token. Gives the scope
-    /// that the declaration has, and whether the name is new there.
+    /// How many entries there are.
+    pub(crate) fn len(&self) -> usize
+        ensures { result ≡ length self.now }
+    {
+        self.records.len()
+    }
+
+    /// Declares an identifier in a scope as what is meant. Gives the scope that the declaration has.
     ///
     /// # Errors
     ///
     /// `Collides` or `PrefixDiffers`, with the identifier's line, or `NoMemory`.
-    pub(crate) fn declare(
+    pub(crate) fn declare_as(
         &mut self,
         alloc: Global,
         scope: usize,
         identifier: Leaf<'a>,
-        token: usize,
-        kind: EntryKind,
-    ) -> Result<(usize, bool), NameFault>
+        meaning: Meaning,
+    ) -> Result<usize, NameFault>
         requires { scope ≤ length self.old }
-        ensures told { OnOk result (self.new ≡ found_behind token kind self.old scope identifier.entry) }
-        ensures inner { IfOk result (λ r. r.0 ≡ scope_of self.new scope identifier.entry) }
-        ensures within { IfOk result (λ r. (r.0 ≤ length self.new) × (1 ≤ r.0)) }
+        ensures told { OnOk result (self.new ≡ declared_as meaning self.old scope identifier.entry) }
+        ensures inner { IfOk result (λ r. r ≡ scope_of self.new scope identifier.entry) }
+        ensures within { IfOk result (λ r. (r ≤ length self.new) × (1 ≤ r)) }
         ensures longer { length self.old ≤ length self.new }
     {
         let line = identifier.token.line;
@@ -345,8 +368,8 @@ impl<'a> Names<'a> {
         }
         match self.keys.get_index_of(&key) {
             Some(number) => {
-                self.appears_again(number, word.text, kind, line)?;
-                Ok((number + 1, false))
+                self.appears_again(number, word.text, meaning.kind, line)?;
+                Ok(number + 1)
             }
             None => {
                 let number = self.records.len();
@@ -355,16 +378,61 @@ impl<'a> Names<'a> {
                     alloc,
                     Record {
                         key,
-                        token,
+                        token: meaning.token,
                         line,
-                        kind,
+                        kind: meaning.kind,
+                        worth: meaning.worth,
+                        stands_for: meaning.stands_for,
                         prefix,
                         heir: None,
                     },
                 )?;
-                Ok((number + 1, true))
+                Ok(number + 1)
             }
         }
+    }
+
+    /// Declares an identifier as something that is found behind it.
+    ///
+    /// # Errors
+    ///
+    /// As `declare_as`.
+    pub(crate) fn declare(
+        &mut self,
+        alloc: Global,
+        scope: usize,
+        identifier: Leaf<'a>,
+        kind: EntryKind,
+    ) -> Result<usize, NameFault>
+        requires { scope ≤ length self.old }
+        ensures told { OnOk result (self.new ≡ declared kind self.old scope identifier.entry) }
+        ensures inner { IfOk result (λ r. r ≡ scope_of self.new scope identifier.entry) }
+        ensures within { IfOk result (λ r. (r ≤ length self.new) × (1 ≤ r)) }
+        ensures longer { length self.old ≤ length self.new }
+    {
+        self.declare_as(
+            alloc,
+            scope,
+            identifier,
+            Meaning::plain(identifier.number, kind),
+        )
+    }
+
+    /// That a scope has no such name yet.
+    ///
+    /// # Errors
+    ///
+    /// `Collides`, with the identifier's line.
+    pub(crate) fn is_new(&self, scope: usize, identifier: Leaf<'a>) -> Result<(), NameFault> {
+        let word = Word {
+            text: identifier.name(),
+        };
+        let key = Key { scope, word };
+        if self.is_taken(&key) || self.keys.contains(&key) {
+            let line = identifier.token.line;
+            return Err(NameFault::Collides { line });
+        }
+        Ok(())
     }
 
     /// Notes that a scope is defined here.
@@ -390,14 +458,11 @@ impl<'a> Names<'a> {
     pub(crate) fn add_member(&mut self, scope: usize, identifier: Leaf<'a>) -> Result<(), NameFault>
         ensures { self.new ≡ self.old }
     {
+        self.is_new(scope, identifier)?;
         let word = Word {
             text: identifier.name(),
         };
         let key = Key { scope, word };
-        let line = identifier.token.line;
-        if self.is_taken(&key) || self.keys.contains(&key) {
-            return Err(NameFault::Collides { line });
-        }
         self.members.insert(key)?;
         Ok(())
     }

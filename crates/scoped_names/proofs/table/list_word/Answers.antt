@@ -3,7 +3,7 @@ use Rattle.std.specs.Prelude.{slice_set}
 use Rattle.scoped_names.specs.declared.key.Word.{Word}
 use Rattle.scoped_names.specs.Records.{HasWord, words_at}
 use Rattle.scoped_names.proofs.Tied.{HasWord_last, HasWord_push, kept_room, kept_set, listed_set, words_of_item}
-use Rattle.scoped_names.proofs.names.list_word.Goals as goal
+use Rattle.scoped_names.proofs.table.list_word.Goals as goal
 
 pub returns-in_err-push-clause-kept : goal.returns-in_err-push-clause-kept
 returns-in_err-push-clause-kept c =

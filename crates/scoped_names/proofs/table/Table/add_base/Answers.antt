@@ -7,7 +7,7 @@ use Rattle.scoped_names.specs.declared.record.Heir.{Heir}
 use Rattle.scoped_names.specs.Entries.{with_base}
 use Rattle.scoped_names.specs.Records.{AreTied, entry_of, heir_of, is_word}
 use Rattle.scoped_names.proofs.FirstBase.{given_none, tied_first, told_first}
-use Rattle.scoped_names.proofs.names.Names.add_base.Goals as goal
+use Rattle.scoped_names.proofs.table.Table.add_base.Goals as goal
 
 pub invariant_of-self : goal.invariant_of-self
 invariant_of-self c =

@@ -2,7 +2,7 @@ use Rattle.std.proofs.Common.{◌≡◌, ◌≤◌, length}
 use Rattle.idl_tree.specs.PartsLeft.{parts_left}
 use Rattle.scoped_names.specs.declared.entry.EntryKind.TheVariants.{Enumerator}
 use Rattle.scoped_names.specs.Entries.{declared, each, enum_entries}
-use Rattle.scoped_names.proofs.names.Names.bind_enum.Given as goal
+use Rattle.scoped_names.proofs.table.Table.bind_enum.Given as goal
 
 abbrev pub invariant-loop-enumerator : goal.invariant-loop-enumerator
 invariant-loop-enumerator l = record {

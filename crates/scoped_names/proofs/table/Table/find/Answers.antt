@@ -2,7 +2,7 @@ use Rattle.std.proofs.Common.{sym, ap, ◌∙◌, ◌≡◌, ◌<◌, ◌+◌, s
 use Rattle.std.proofs.Math.Seq.{drop-cons}
 use Rattle.scoped_names.specs.declared.search.Found.TheVariants.{One}
 use Rattle.scoped_names.specs.Search.{in_its_case, inside, within, word}
-use Rattle.scoped_names.proofs.names.Names.find.Goals as goal
+use Rattle.scoped_names.proofs.table.Table.find.Goals as goal
 
 pub overflow_add-entry : goal.overflow_add-entry
 overflow_add-entry c = let small = c.loop-identifier.invariant.small c.in-One.entry c.in-One.is in omega arith

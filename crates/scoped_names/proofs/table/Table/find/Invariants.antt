@@ -1,7 +1,7 @@
 use Rattle.std.proofs.Common.{◌≡◌, ◌<◌, ◌^◌, ℕ, drop, length, map}
 use Rattle.scoped_names.specs.declared.search.Found.TheVariants.{One}
 use Rattle.scoped_names.specs.Search.{finds, inside, word}
-use Rattle.scoped_names.proofs.names.Names.find.Given as goal
+use Rattle.scoped_names.proofs.table.Table.find.Given as goal
 
 abbrev pub invariant-loop-identifier : goal.invariant-loop-identifier
 invariant-loop-identifier l = record {

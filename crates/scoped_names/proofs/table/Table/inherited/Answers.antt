@@ -2,7 +2,7 @@ use Rattle.std.proofs.Common.{sym, ap, ◌∙◌, ◌≡◌, ◌<◌, ◌+◌, s
 use Rattle.scoped_names.specs.Search.{inherited, or_else, own}
 use Rattle.scoped_names.specs.Records.{heir_of}
 use Rattle.scoped_names.proofs.Inheriting.{first_placed, from_first_base}
-use Rattle.scoped_names.proofs.names.Names.inherited.Goals as goal
+use Rattle.scoped_names.proofs.table.Table.inherited.Goals as goal
 
 pub overflow_add-inner : goal.overflow_add-inner
 overflow_add-inner c =

@@ -1,7 +1,7 @@
 use Rattle.std.proofs.Common.{◌≡◌, ◌≤◌, ◌∷◌, [], ap, sym, subst, length, length-append, arith}
 use Rattle.scoped_names.specs.Records.{AreTied}
 use Rattle.scoped_names.proofs.Tied.{tied_none}
-use Rattle.scoped_names.proofs.names.Names.new.Goals as goal
+use Rattle.scoped_names.proofs.table.Table.new.Goals as goal
 
 pub invariant_of-result : goal.invariant_of-result
 invariant_of-result c =

@@ -4,7 +4,7 @@ use Rattle.std.proofs.lemmas.List.{length-map}
 use Rattle.scoped_names.specs.Records.{entry_of}
 use Rattle.scoped_names.specs.Search.{or_else, outwards, within, within_first}
 use Rattle.scoped_names.proofs.Inheriting.{next_scope, scope_behind}
-use Rattle.scoped_names.proofs.names.Names.outwards.Goals as goal
+use Rattle.scoped_names.proofs.table.Table.outwards.Goals as goal
 
 pub loop-found-preserved : goal.loop-found-preserved
 loop-found-preserved c =

@@ -1,6 +1,6 @@
 use Rattle.std.proofs.Common.{◌≡◌, ◌≤◌, length}
 use Rattle.scoped_names.specs.Search.{outwards, within_first}
-use Rattle.scoped_names.proofs.names.Names.outwards.Given as goal
+use Rattle.scoped_names.proofs.table.Table.outwards.Given as goal
 
 abbrev pub invariant-loop-found : goal.invariant-loop-found
 invariant-loop-found l = record {

@@ -2,7 +2,7 @@ use Rattle.std.proofs.Common.{refl, sym, ap, ◌∙◌, ◌≡◌, length, arith
 use Rattle.std.proofs.lemmas.List.{length-map}
 use Rattle.scoped_names.specs.Records.{key_of}
 use Rattle.scoped_names.proofs.Lookups.{own_found, own_none, own_behind}
-use Rattle.scoped_names.proofs.names.Names.own.Goals as goal
+use Rattle.scoped_names.proofs.table.Table.own.Goals as goal
 
 pub returns-in-Some : goal.returns-in-Some
 returns-in-Some c =

@@ -4,7 +4,7 @@ use Rattle.std.proofs.lemmas.List.{length-map}
 use Rattle.scoped_names.specs.declared.record.Record.{Record}
 use Rattle.scoped_names.specs.Records.{AreTied, entry_of}
 use Rattle.scoped_names.proofs.Tied.{key_is_new, key_is_old, relisted, tied_push}
-use Rattle.scoped_names.proofs.names.Names.push.Goals as goal
+use Rattle.scoped_names.proofs.table.Table.push.Goals as goal
 
 back : (old pushed new : List Record) (r : Record) (n : ℕ) → pushed ≡ old ++ r ∷ [] → n ≡ length old → new ≡ take n pushed → new ≡ old
 back old pushed new r n is count cut = cut ∙ ap (λ k. take k pushed) count ∙ ap (take (length old)) is ∙ take-append_seam old (r ∷ [])

@@ -1,24 +1,14 @@
--- What a chain of operands is worth, by the list of its `Vec`, and what forms the tokens of an expression's parts have.
-use Rattle.std.proofs.Common.{◌≡◌, ◌∙◌, ℕ, ◌+◌, suc, ◌<◌, Bool, true, List, [], ◌∷◌, Option, Some, None, Vec, Global, length, drop, get_or, refl, ap, subst, sym, arith, drop-cons}
+-- What a chain of operands is worth, by the list of its `Vec`.
+use Rattle.std.proofs.Common.{◌≡◌, ◌∙◌, ℕ, ◌+◌, suc, ◌<◌, ◌⊎◌, inl, inr, List, [], ◌∷◌, Option, Some, None, Vec, Global, length, drop, get_or, refl, ap, sym, arith, drop-cons}
 use Rattle.std.specs.Prelude.{Box, ℤ}
-use Rattle.std.specs.List.{AllByRecursion}
-use Rattle.std.proofs.lemmas.Bool.{and_parts}
-use Rattle.idl_lexer.specs.Forms.{HasForm}
-use Rattle.idl_lexer.specs.declared.token.Kind.{Kind}
-use Rattle.idl_lexer.specs.declared.token.Kind.TheVariants.{Ident, Keyword, Punct, Number as NumberToken, CharLit, TextLit, Pragma}
-use Rattle.idl_tree.specs.declared.names.Leaf.{Leaf}
 use Rattle.idl_tree.specs.declared.expression.Expr.{Expr, Chain}
 use Rattle.idl_tree.specs.declared.expression.Operand.{Operand}
-use Rattle.idl_tree.specs.Forms.{IsLeafOf}
 use Rattle.idl_tree.proofs.Rows.{chain_walk}
 use Rattle.idl_tree.specs.declared.expression.Operator.{Operator}
 use Rattle.const_values.specs.declared.constant.Constant.{Constant}
-use Rattle.const_values.specs.declared.fault.ConstFault.{ConstFault}
-use Rattle.const_values.specs.declared.fault.ConstFault.TheVariants.{Name, BadConstant, NoMemory}
-use Rattle.const_values.specs.Refusals.{Explains}
-use Rattle.const_values.specs.Worth.{NamesWorth, are_texts, is_text, worth, chain_worth, whole_number, whole_constant, operator_applied}
-
--- ---- chains
+use Rattle.const_values.specs.Worth.{NamesWorth, worth, chain_worth, whole_number, whole_constant, operator_applied}
+use Rattle.scoped_names.specs.declared.fault.NameFault.{NameFault}
+use Rattle.scoped_names.specs.Constants.{Explains}
 
 -- what operators and operands make of what stands before them, by a list
 abbrev pub operands_worth : NamesWorth → List Operand → Option ℤ → Option ℤ
@@ -84,28 +74,6 @@ pub applied_to_none : (o : Operator) (z : ℤ) (w : Option Constant) → w ≡ N
 applied_to_none o z w none = ap (λ v. operator_applied o (Some z) (whole_number v)) none
 
 -- what explains that there is no worth explains it of what has none then
-pub explained : {F T U : Type 0} (line : ℕ) (w : Option T) (v : Option U) (e : ConstFault F) → (w ≡ None → v ≡ None) → Explains line w e → Explains line v e
-explained line w v (Name f) less h = less h
-explained line w v (BadConstant l) less h = (less h.0, h.1)
-explained line w v NoMemory less h = tt
-
--- ---- forms
-
--- a token has the form of its kind
-pub form_of_kind : (k : Kind) (l : Leaf) → l.token.now.kind ≡ k → IsLeafOf k l
-form_of_kind k l is = subst (λ x. HasForm x l.token.now.text.now) is l.token.now.form
-
-is_text_literal : (k : Kind) → is_text k ≡ true → k ≡ TextLit
-is_text_literal TextLit h = refl
-is_text_literal NumberToken h = cc
-is_text_literal CharLit h = cc
-is_text_literal Ident h = cc
-is_text_literal Keyword h = cc
-is_text_literal Punct h = cc
-is_text_literal Pragma h = cc
-
-pub text_forms : (ls : List Leaf) → are_texts ls ≡ true → AllByRecursion (IsLeafOf TextLit) ls
-text_forms [] h = tt
-text_forms (l ∷ ls) h =
-    let two = and_parts (is_text l.token.now.kind) (are_texts ls) h in
-    (form_of_kind TextLit l (is_text_literal l.token.now.kind two.0), text_forms ls two.1)
+pub explained : {T U : Type 0} (w : Option T) (v : Option U) (e : NameFault) → (w ≡ None → v ≡ None) → Explains w e → Explains v e
+explained w v e less (inl memory) = inl memory
+explained w v e less (inr none) = inr (less none)
