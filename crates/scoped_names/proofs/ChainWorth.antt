@@ -8,7 +8,10 @@ use Rattle.idl_tree.specs.declared.expression.Operator.{Operator}
 use Rattle.const_values.specs.declared.constant.Constant.{Constant}
 use Rattle.const_values.specs.Worth.{NamesWorth, worth, chain_worth, whole_number, whole_constant, operator_applied}
 use Rattle.scoped_names.specs.declared.fault.NameFault.{NameFault}
-use Rattle.scoped_names.specs.Constants.{Explains}
+use Rattle.scoped_names.specs.Entry.{Entry}
+use Rattle.scoped_names.specs.declared.search.Found.{Found}
+use Rattle.scoped_names.specs.declared.search.Found.TheVariants.{Nothing, One, Several}
+use Rattle.scoped_names.specs.Constants.{Explains, worth_found}
 
 -- what operators and operands make of what stands before them, by a list
 abbrev pub operands_worth : NamesWorth → List Operand → Option ℤ → Option ℤ
@@ -77,3 +80,9 @@ applied_to_none o z w none = ap (λ v. operator_applied o (Some z) (whole_number
 pub explained : {T U : Type 0} (w : Option T) (v : Option U) (e : NameFault) → (w ≡ None → v ≡ None) → Explains w e → Explains v e
 explained w v e less (inl memory) = inl memory
 explained w v e less (inr none) = inr (less none)
+
+-- what finds no entry alone is worth nothing
+pub not_found : (es : List Entry) (found : Found) → ((e : ℕ) → found ≡ One e → ⊥) → worth_found es found ≡ None
+not_found es Nothing none = refl
+not_found es (One e) none = absurd (none e refl)
+not_found es Several none = refl

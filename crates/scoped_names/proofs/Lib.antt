@@ -6,6 +6,8 @@ pub mod Stability
 pub mod Tied
 pub mod Walks
 pub mod FirstBase
+pub mod MoreBases
+pub mod MergedBases
 pub mod Paths
 pub mod PrefixesKept
 pub mod IdsGiven
@@ -13,3 +15,4 @@ pub mod IdFormats
 pub mod PragmasSaid
 pub mod Weights
 pub mod ChainWorth
+pub mod GivenBehind

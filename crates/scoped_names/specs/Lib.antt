@@ -8,3 +8,5 @@ pub mod IdPragmas
 pub mod Keys
 pub mod Records
 pub mod IdsKept
+pub mod Whole
+pub mod SeveralBases

@@ -308,7 +308,7 @@ impl<'a> Table<'a> {
         ensures longer { length self.old ≤ length self.new }
     {
         match export {
-            Export::Pragma(pragma) => self.bind_pragma(alloc, scope, pragma),
+            Export::Pragma(_) => Ok(()),
             Export::Declaration(d) => self.bind_declaration(alloc, scope, d),
             Export::Attribute(a) => self.bind_attribute(alloc, scope, a),
             Export::Operation(o) => self.bind_operation(alloc, scope, o),
@@ -401,7 +401,10 @@ impl<'a> Table<'a> {
         ensures longer { length self.old ≤ length self.new }
     {
         match definition {
-            Definition::Pragma(pragma) => self.bind_pragma(alloc, scope, pragma),
+            Definition::Pragma(pragma) => {
+                self.bind_pragma(scope, pragma);
+                Ok(())
+            }
             Definition::Declaration(d) => self.bind_declaration(alloc, scope, d),
             Definition::Interface(interface) => self.bind_interface(alloc, scope, interface),
             Definition::Module(m) => {

@@ -44,12 +44,7 @@ fn constant_or_bad(value: Option<Constant>, line: usize) -> Result<Constant, Nam
 }
 
 /// An operator between a number and the constant behind it.
-fn joined(
-    operator: Operator,
-    left: i128,
-    right: Constant,
-    line: usize,
-) -> Result<i128, NameFault>
+fn joined(operator: Operator, left: i128, right: Constant, line: usize) -> Result<i128, NameFault>
     ensures ok { IfOk result (λ z. operator_applied operator (Some left) (whole_number (Some right)) ≡ Some z) }
     ensures err { IfErr result (Explains
         (operator_applied operator (Some left) (whole_number (Some right)))) }

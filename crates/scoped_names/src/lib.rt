@@ -6,6 +6,8 @@ pub mod entry;
 mod evaluation;
 pub mod fault;
 mod key;
+pub mod names;
+mod pragmas;
 mod record;
 mod repository_ids;
 mod search;
@@ -15,5 +17,5 @@ mod types;
 
 pub use entry::{Base, EntryKind};
 pub use fault::NameFault;
-pub use table::Table;
+pub use names::Names;
 pub use specification::bind;

@@ -43,7 +43,7 @@ pub(crate) struct Record<'a> {
     /// The type of constants for which the name of a type stands in the end.
     pub stands_for: Option<ConstKind>,
     /// The prefix of repository ids at the declaration.
-    pub prefix: Option<&'a str>,
+    pub prefix: &'a str,
     /// Of an interface that has bases.
     pub heir: Option<Box<Heir<'a>>>,
 }

@@ -3,7 +3,12 @@
 ghost use Rattle.std.specs.Prelude.{◌≡◌, ◌<◌, ◌≤◌, ◌^◌, ◌↔◌, ℕ, length, option_copied, IfOk, IfSome, OnOk, OnErr, ◌≢◌, ◌+◌, ◌++◌, ◌∷◌, [], None, List, true, slice_get};
 ghost use Rattle.idl_tree.specs.Starts.{name_start, name_first, is_rooted};
 ghost use Rattle.scoped_names.specs.Search.{own as own_of, inherited as inherited_by, within as within_of, within_first, outwards as outwards_from, sought_in, word, in_its_case as found_in_its_case, finds, Finds};
-ghost use Rattle.scoped_names.specs.Entry.{worth_in, meant_in};
+ghost use Rattle.scoped_names.specs.Entry.{bases_in, worth_in, meant_in, named};
+ghost use Rattle.std.specs.String.{string_bytes};
+ghost use Rattle.scoped_names.specs.RepositoryIds.{repository_id as id_of};
+ghost use Rattle.scoped_names.specs.IdPragmas.{begins_at_root, identifiers_find};
+ghost use Rattle.idl_lexer.specs.Identifiers.{words};
+ghost use Rattle.idl_lexer.specs.Words.{unescaped as unescaped_word};
 ghost use Rattle.scoped_names.specs.Entries.{declared, declared_as, scope_of, with_base};
 ghost use Rattle.scoped_names.specs.Records.{heir_of as heir_in_records, entry_of, words_at, HasWord, is_word};
 
@@ -11,9 +16,10 @@ use crate::entry::{Base, EntryKind, Meaning};
 use crate::fault::NameFault;
 use crate::key::{Key, Word};
 use crate::record::{Heir, Record};
+use crate::repository_ids::IdPragmas;
 use crate::search::Found;
 use const_values::{ConstKind, Constant};
-use idl_lexer::Kind;
+use idl_lexer::{Identifiers, Kind, Pragma, is_rooted};
 use idl_tree::names::{Leaf, ScopedName};
 use indexmap::{IndexMap, IndexSet};
 use std::alloc::{AllocError, Global};
@@ -21,7 +27,7 @@ use std::marker::Model;
 
 /// The names of a specification. A contract sees the entries in order of declaration.
 #[derive(Drop)]
-pub struct Table<'a> {
+pub(crate) struct Table<'a> {
     keys: IndexSet<Key<'a>>,
     records: Vec<Record<'a>>,
     /// The words that each scope declares.
@@ -32,7 +38,8 @@ pub struct Table<'a> {
     members: IndexSet<Key<'a>>,
     /// The entries of which a definition was read.
     defined: IndexSet<usize>,
-    prefix: Option<&'a str>,
+    /// The prefix of repository ids that is set.
+    prefix: &'a str,
 }
 
 impl<'a> Model for Table<'a> {
@@ -73,6 +80,13 @@ fn list_word<'a>(
     Ok(())
 }
 
+/// A word without the underscore that escapes it.
+fn unescaped(word: &str) -> &str
+    ensures { result.now ≡ unescaped_word word.now }
+{
+    word.strip_prefix('_').unwrap_or(word)
+}
+
 impl<'a> Table<'a> {
     /// No names yet.
     pub(crate) fn new(alloc: Global) -> Result<Self, NameFault>
@@ -87,7 +101,7 @@ impl<'a> Table<'a> {
             latest: 0,
             members: IndexSet::new(alloc),
             defined: IndexSet::new(alloc),
-            prefix: None,
+            prefix: "",
         })
     }
 
@@ -271,6 +285,52 @@ impl<'a> Table<'a> {
         self.records[entry].stands_for
     }
 
+    pub(crate) fn line(&self, entry: usize) -> usize
+        requires { entry < length self.now }
+    {
+        self.records[entry].line
+    }
+
+    /// How many bases an interface names.
+    pub(crate) fn base_count(&self, entry: usize) -> usize
+        requires { entry < length self.now }
+        ensures { result ≡ length (bases_in (slice_get self.now entry)) }
+    {
+        match &self.records[entry].heir {
+            Some(heir) => heir.later.len() + 1,
+            None => 0,
+        }
+    }
+
+    /// A base of an interface, by its place among them.
+    pub(crate) fn base(&self, entry: usize, place: usize) -> Option<Base>
+        requires { entry < length self.now }
+        ensures { result ≡ slice_get (bases_in (slice_get self.now entry)) place }
+    {
+        let heir = self.records[entry].heir.as_deref()?;
+        match place.checked_sub(1) {
+            None => Some(heir.first),
+            Some(behind) => heir.later.get(behind).copied(),
+        }
+    }
+
+    /// The repository id of an entry, by what pragmas say.
+    ///
+    /// # Errors
+    ///
+    /// `AllocError` where memory was refused.
+    pub(crate) fn repository_id(
+        &self,
+        alloc: Global,
+        ids: &IdPragmas<'a>,
+        entry: usize,
+    ) -> Result<String, AllocError>
+        requires { entry < length self.now }
+        ensures { IfOk result (λ id. string_bytes id ≡ id_of self.now ids.now entry) }
+    {
+        ids.repository_id(alloc, self.records.as_slice(), entry)
+    }
+
     /// Whether the scope has a member of the word, or has the word for its own name.
     fn is_taken(&self, key: &Key<'a>) -> bool {
         let own = match key.scope.checked_sub(1) {
@@ -327,7 +387,7 @@ impl<'a> Table<'a> {
         if !can_reappear || kind != record.kind || text != record.key.word.text {
             return Err(NameFault::Collides { line });
         }
-        if kind != EntryKind::Module && self.prefix != record.prefix {
+        if kind != EntryKind::Module && self.prefix.as_bytes() != record.prefix.as_bytes() {
             return Err(NameFault::PrefixDiffers { line });
         }
         Ok(())
@@ -485,23 +545,75 @@ impl<'a> Table<'a> {
         }
     }
 
-    /// A pragma for repository ids, in a scope.
-    ///
-    /// # Errors
-    ///
-    /// `PrefixInScope`, or `NoMemory`.
-    pub(crate) fn bind_pragma(
-        &mut self,
-        alloc: Global,
-        scope: usize,
-        leaf: &Leaf<'a>,
-    ) -> Result<(), NameFault>
+    /// The scope of what an identifier was declared as; the file's where it was declared as nothing.
+    pub(crate) fn scope_of(&self, scope: usize, identifier: Leaf<'a>) -> usize
+        ensures is { result ≡ scope_of self.now scope identifier.entry }
+        ensures there { result ≤ length self.now }
+    {
+        match self.declared(scope, identifier) {
+            Some(number) => number + 1,
+            None => 0,
+        }
+    }
+
+    /// The entry that an identifier was declared as in the scope.
+    pub(crate) fn declared(&self, scope: usize, identifier: Leaf<'a>) -> Option<usize>
+        ensures is { result ≡ named self.now scope (word identifier.entry) }
+        ensures there { IfSome result (λ e. e < length self.now) }
+        ensures small { IfSome result (λ e. e < 2 ^ 63) }
+    {
+        let text = identifier.name();
+        self.keys.get_index_of(&Key {
+            scope,
+            word: Word { text },
+        })
+    }
+
+    /// What the name of a pragma finds that stands in a scope, and whether it would find something
+    /// else in another case.
+    pub(crate) fn find_words(&self, token: usize, scope: usize, name: &'a str) -> (Found, bool)
+        requires { scope ≤ length self.now }
+        ensures { result.0 ≡ identifiers_find self.now token scope (begins_at_root name.now) (words name.now) }
+    {
+        let mut words = Identifiers::new(name);
+        let Some(first) = words.next() else {
+            return (Found::Nothing, false);
+        };
+        let text = unescaped(first);
+        let mut sought = if is_rooted(name) {
+            self.within(token, 0, text)
+        } else {
+            self.outwards(token, scope, text)
+        };
+        let mut found = self.in_its_case(sought, text);
+        for word in words {
+            match found {
+                Found::One(entry) => {
+                    let text = unescaped(word);
+                    sought = self.within(token, entry + 1, text);
+                    found = self.in_its_case(sought, text);
+                }
+                _ => return (found, found != sought),
+            }
+        }
+        (found, found != sought)
+    }
+
+    /// A prefix that holds from here on, if a pragma in the file's scope sets one.
+    pub(crate) fn bind_pragma(&mut self, scope: usize, leaf: &Leaf<'a>)
         ensures { self.new ≡ self.old }
     {
-        if leaf.token.kind != Kind::Pragma {
-            return Ok(());
+        if scope > 0 {
+            return;
         }
-        Ok(())
+        match leaf.token.kind {
+            Kind::Pragma => {
+                if let Pragma::Prefix { text } = leaf.pragma() {
+                    self.prefix = text;
+                }
+            }
+            _ => {}
+        }
     }
 
     /// Gives an interface one more base, which has to be an interface that was defined.

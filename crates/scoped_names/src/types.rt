@@ -9,11 +9,11 @@ ghost use Rattle.scoped_names.specs.Entries.{type_kind, enumerator_entries, enum
 use crate::entry::{EntryKind, Meaning};
 use crate::fault::NameFault;
 use crate::table::Table;
-use idl_tree::names::{Leaf, Listed, ScopedName};
 use const_values::{ConstKind, Constant};
+use idl_tree::names::{Leaf, Listed, ScopedName};
 use idl_tree::types::{
-    Case, ConstType, Declarator, EnumType, Label, Member, ParamType, SimpleType, StructType, SwitchType,
-    TypeSpec, UnionType,
+    Case, ConstType, Declarator, EnumType, Label, Member, ParamType, SimpleType, StructType,
+    SwitchType, TypeSpec, UnionType,
 };
 use std::alloc::Global;
 

@@ -8,5 +8,5 @@ abbrev pub invariant-loop-declarator : goal.invariant-loop-declarator
 invariant-loop-declarator l = record {
   inside : l.scope ≤ length l.self;
   longer : length l.fn.self ≤ length l.self;
-  told : each declarator_entries l.self l.scope (parts_left l.declarator-iterator) ≡ each declarator_entries l.fn.self l.scope (parts l.declarators);
+  told : each (declarator_entries l.kind) l.self l.scope (parts_left l.declarator-iterator) ≡ each (declarator_entries l.kind) l.fn.self l.scope (parts l.declarators);
 }

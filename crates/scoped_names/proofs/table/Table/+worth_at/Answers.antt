@@ -7,31 +7,31 @@ use Rattle.scoped_names.specs.Constants.{named_worth}
 use Rattle.const_values.specs.declared.constant.Constant.{Constant}
 use Rattle.scoped_names.proofs.Weights.{weight, list_weight, chain_weight, weight_at}
 use Rattle.scoped_names.proofs.ChainWorth.{chain_begins, chain_goes_on, first_is_none, operand_is_none, applied_to_none, explained}
-use Rattle.scoped_names.proofs.evaluation.Table.+worth_at.Goals as goal
+use Rattle.scoped_names.proofs.table.Table.+worth_at.Goals as goal
 
 pub worth_at-requires : goal.worth_at-requires
-worth_at-requires g t c =
+worth_at-requires t c =
     let d = c.decreases in
     let whole = ap weight c.in-Parenthesized.is in
     let part = ap weight c.deref-in-Parenthesized.ensures in
-    λ κs b. (omega (arith, d, whole, part), b)
+    (omega (arith, d, whole, part), c.requires)
 
 pub worth_at-requires-in-Signed : goal.worth_at-requires-in-Signed
-worth_at-requires-in-Signed g t c =
+worth_at-requires-in-Signed t c =
     let d = c.decreases in
     let whole = ap weight c.in-Signed.is in
     let part = ap weight c.deref-in-Signed.ensures in
-    λ κs b. (omega (arith, d, whole, part), b)
+    (omega (arith, d, whole, part), c.requires)
 
 pub worth_at-requires-in-Chain : goal.worth_at-requires-in-Chain
-worth_at-requires-in-Chain g t c =
+worth_at-requires-in-Chain t c =
     let d = c.decreases in
     let whole = ap weight c.in-Chain.is ∙ chain_weight c.in-Chain.first c.in-Chain.rest in
     let part = ap weight c.deref-in-Chain.ensures in
-    λ κs b. (omega (arith, d, whole, part), b)
+    (omega (arith, d, whole, part), c.requires)
 
 pub returns-in_err-worth_at-in-Chain-clause-err : goal.returns-in_err-worth_at-in-Chain-clause-err
-returns-in_err-worth_at-in-Chain-clause-err g t c =
+returns-in_err-worth_at-in-Chain-clause-err t c =
     let p = err_from_is_err_and c.from_residual-in_err-worth_at-in-Chain.result c.from_residual-in_err-worth_at-in-Chain.ensures.1 in
     let names = named_worth c.args.self.now c.args.scope in
     rw (p.1, p.2) (explained _ (worth names c.args.expr.now) _
@@ -39,7 +39,7 @@ returns-in_err-worth_at-in-Chain-clause-err g t c =
     c.in_err-worth_at-in-Chain.ensures.err)
 
 pub returns-in_err-value-in-Chain-clause-err : goal.returns-in_err-value-in-Chain-clause-err
-returns-in_err-value-in-Chain-clause-err g t c =
+returns-in_err-value-in-Chain-clause-err t c =
     let p = err_from_is_err_and c.from_residual-in_err-value-in-Chain.result c.from_residual-in_err-value-in-Chain.ensures.1 in
     let first = c.in_ok-worth_at-in-Chain.ensures.ok in
     let names = named_worth c.args.self.now c.args.scope in
@@ -48,7 +48,7 @@ returns-in_err-value-in-Chain-clause-err g t c =
     c.in_err-value-in-Chain.ensures.err)
 
 pub loop-part-init : goal.loop-part-init
-loop-part-init g t c =
+loop-part-init t c =
     let value = c.in_ok-value-in-Chain.value in
     let fits : FitsSigned w128 value = search rules in
     let names = named_worth c.args.self.now c.args.scope in
@@ -57,16 +57,16 @@ loop-part-init g t c =
     c.in-Chain.is c.deref-in-Chain.ensures items c.in_ok-worth_at-in-Chain.ensures.ok c.in_ok-value-in-Chain.ensures.ok (to_z-of_z fits)
 
 pub worth_at-requires-in-loop-part : goal.worth_at-requires-in-loop-part
-worth_at-requires-in-loop-part g t c =
+worth_at-requires-in-loop-part t c =
     let lt : c.loop-part.part-index < length c.deref-part-items.result.now = omega arith in
     let d = c.decreases in
     let whole = ap weight c.in-Chain.is ∙ chain_weight c.in-Chain.first c.in-Chain.rest in
     let all = ap list_weight c.deref-part-items.ensures.value in
     let part = weight_at c.deref-part-items.result.now c.loop-part.part-index c.part-item.result lt (sym c.part-item.is) in
-    λ κs b. (omega (arith, d, whole, all, part), b)
+    (omega (arith, d, whole, all, part), c.requires)
 
 pub returns-in_err-operand-in-Chain-clause-err : goal.returns-in_err-operand-in-Chain-clause-err
-returns-in_err-operand-in-Chain-clause-err g t c =
+returns-in_err-operand-in-Chain-clause-err t c =
     let p = err_from_is_err_and c.from_residual-in_err-operand-in-Chain.result c.from_residual-in_err-operand-in-Chain.ensures.1 in
     let names = named_worth c.args.self.now c.args.scope in
     let x = c.part-item.result in
@@ -80,7 +80,7 @@ returns-in_err-operand-in-Chain-clause-err g t c =
     c.in_err-operand-in-Chain.ensures.err)
 
 pub returns-in_err-value-in-Chain-2-clause-err : goal.returns-in_err-value-in-Chain-2-clause-err
-returns-in_err-value-in-Chain-2-clause-err g t c =
+returns-in_err-value-in-Chain-2-clause-err t c =
     let p = err_from_is_err_and c.from_residual-in_err-value-in-Chain-2.result c.from_residual-in_err-value-in-Chain-2.ensures.1 in
     let names = named_worth c.args.self.now c.args.scope in
     let x = c.part-item.result in
@@ -93,7 +93,7 @@ returns-in_err-value-in-Chain-2-clause-err g t c =
     c.in_err-value-in-Chain-2.ensures.err)
 
 pub loop-part-preserved : goal.loop-part-preserved
-loop-part-preserved g t c =
+loop-part-preserved t c =
     let value = c.in_ok-value-in-Chain-2.value in
     let fits : FitsSigned w128 value = search rules in
     let names = named_worth c.args.self.now c.args.scope in

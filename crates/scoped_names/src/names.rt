@@ -1,0 +1,150 @@
+//! The names of a whole specification.
+
+ghost use Rattle.std.specs.Prelude.{◌≡◌, ◌<◌, ◌≤◌, ◌↔◌, ℕ, length, option_copied, slice_get, Some, Ok, IfOk, IfErr, IfSome};
+ghost use Rattle.std.specs.String.{string_bytes};
+ghost use Rattle.scoped_names.specs.Constants.{Explains, size_in_scope, worth_in_scope};
+ghost use Rattle.scoped_names.specs.Entry.{bases_in, meant_in, named, worth_in};
+ghost use Rattle.scoped_names.specs.RepositoryIds.{repository_id};
+ghost use Rattle.scoped_names.specs.Search.{Finds, word};
+
+use crate::entry::{Base, EntryKind};
+use crate::fault::NameFault;
+use crate::repository_ids::IdPragmas;
+use crate::table::Table;
+use const_values::{ConstKind, Constant};
+use idl_tree::expression::Expr;
+use idl_tree::names::{Leaf, ScopedName};
+use std::alloc::{AllocError, Global};
+use std::marker::Model;
+
+/// The names of a specification. A contract sees the entries in order of declaration, and what
+/// pragmas say of repository ids. A scope is 0 for the file, else one more than the number of the
+/// entry whose scope it is.
+#[derive(Drop)]
+pub struct Names<'a> {
+    pub(crate) table: Table<'a>,
+    pub(crate) ids: IdPragmas<'a>,
+}
+
+impl<'a> Model for Names<'a> {
+    ghost use Rattle.scoped_names.specs.Whole.{Whole};
+
+    ghost Value = { Whole };
+
+    ghost view = { λ n. record { entries = n.table; rules = n.ids } };
+}
+
+impl<'a> Names<'a> {
+    /// The entry that a name finds that stands in the scope. Takes no memory.
+    ///
+    /// # Errors
+    ///
+    /// `Unknown`, `CaseDiffers` or `Ambiguous`, with the line of the name's first token.
+    pub fn resolve(&self, scope: usize, name: &ScopedName<'a>) -> Result<usize, NameFault>
+        requires { scope ≤ length self.now.entries }
+        ensures finds { (entry : ℕ) → (result ≡ Ok entry) ↔ Finds self.now.entries scope name.now entry }
+        ensures placed { IfOk result (λ entry. entry < length self.now.entries) }
+    {
+        self.table.resolve(scope, name)
+    }
+
+    /// How many entries there are.
+    pub fn len(&self) -> usize
+        ensures { result ≡ length self.now.entries }
+    {
+        self.table.len()
+    }
+
+    /// The entry that an identifier was declared as in the scope. Takes no memory.
+    pub fn declared(&self, scope: usize, identifier: Leaf<'a>) -> Option<usize>
+        ensures is { result ≡ named self.now.entries scope (word identifier.entry) }
+        ensures there { IfSome result (λ e. e < length self.now.entries) }
+    {
+        self.table.declared(scope, identifier)
+    }
+
+    /// What an entry was declared as.
+    pub fn kind(&self, entry: usize) -> EntryKind
+        requires { entry < length self.now.entries }
+        ensures { IfSome (slice_get self.now.entries entry) (λ e. result ≡ e.kind) }
+    {
+        self.table.kind(entry)
+    }
+
+    /// The line of the identifier of an entry's first declaration.
+    pub fn line(&self, entry: usize) -> usize
+        requires { entry < length self.now.entries }
+    {
+        self.table.line(entry)
+    }
+
+    /// What a constant or an enumerator is worth.
+    pub fn constant(&self, entry: usize) -> Option<&Constant>
+        requires { entry < length self.now.entries }
+        ensures { option_copied result ≡ worth_in (slice_get self.now.entries entry) }
+    {
+        self.table.constant(entry)
+    }
+
+    /// The type of constants for which the name of a type stands in the end, if it does.
+    pub fn stands_for(&self, entry: usize) -> Option<ConstKind>
+        requires { entry < length self.now.entries }
+        ensures { result ≡ meant_in (slice_get self.now.entries entry) }
+    {
+        self.table.stands_for(entry)
+    }
+
+    /// How many bases an interface names.
+    pub fn base_count(&self, entry: usize) -> usize
+        requires { entry < length self.now.entries }
+        ensures { result ≡ length (bases_in (slice_get self.now.entries entry)) }
+    {
+        self.table.base_count(entry)
+    }
+
+    /// A base of an interface, by its place among them, counted from 0.
+    pub fn base(&self, entry: usize, place: usize) -> Option<Base>
+        requires { entry < length self.now.entries }
+        ensures { result ≡ slice_get (bases_in (slice_get self.now.entries entry)) place }
+    {
+        self.table.base(entry, place)
+    }
+
+    /// What an expression is worth that stands in the scope.
+    ///
+    /// # Errors
+    ///
+    /// The fault of a name in it, `BadConstant` where it has no worth, `NoMemory`.
+    pub fn value(&self, alloc: Global, scope: usize, expr: &Expr<'a>) -> Result<Constant, NameFault>
+        requires { scope ≤ length self.now.entries }
+        ensures ok { IfOk result (λ c. worth_in_scope self.now.entries scope expr.now ≡ Some c) }
+        ensures err { IfErr result (Explains (worth_in_scope self.now.entries scope expr.now)) }
+    {
+        self.table.value(alloc, scope, expr)
+    }
+
+    /// What it is worth as a bound or a size, which is a whole number of at least 1.
+    ///
+    /// # Errors
+    ///
+    /// As `value`, and `BadConstant` where the worth is no such number.
+    pub fn size(&self, alloc: Global, scope: usize, expr: &Expr<'a>) -> Result<u128, NameFault>
+        requires { scope ≤ length self.now.entries }
+        ensures ok { IfOk result (λ n. size_in_scope self.now.entries scope expr.now ≡ Some n) }
+        ensures err { IfErr result (Explains (size_in_scope self.now.entries scope expr.now)) }
+    {
+        self.table.size(alloc, scope, expr)
+    }
+
+    /// The repository id of an entry.
+    ///
+    /// # Errors
+    ///
+    /// `AllocError` where memory was refused.
+    pub fn repository_id(&self, alloc: Global, entry: usize) -> Result<String, AllocError>
+        requires { entry < length self.now.entries }
+        ensures { IfOk result (λ id. string_bytes id ≡ repository_id self.now.entries self.now.rules entry) }
+    {
+        self.table.repository_id(alloc, &self.ids, entry)
+    }
+}
