@@ -5,7 +5,6 @@ pub mod Inheriting
 pub mod Stability
 pub mod Tied
 pub mod Walks
-pub mod FirstBase
 pub mod MoreBases
 pub mod MergedBases
 pub mod Paths

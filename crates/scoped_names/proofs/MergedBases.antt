@@ -1,6 +1,7 @@
 -- What is kept of names where an interface gets one more base, name by name.
-use Rattle.std.proofs.Common.{◌≡◌, ◌∙◌, ℕ, zero, suc, ◌<◌, ◌≤◌, ◌+◌, ◌⊎◌, inl, inr, Bool, true, false, cond, nat_eq, ◌&&◌, List, [], ◌∷◌, ◌++◌, drop, get_or, map, length, slice_get, position, Option, Some, None, refl, sym, ap, subst, arith}
+use Rattle.std.proofs.Common.{◌≡◌, ◌∙◌, ℕ, zero, suc, ◌<◌, ◌≤◌, ◌+◌, ◌⊎◌, inl, inr, Bool, true, false, cond, nat_eq, ◌&&◌, List, [], ◌∷◌, ◌++◌, drop, get_or, map, length, slice_get, position, Option, Some, None, Vec, Global, Result, Ok, Err, IfOk, IfSome, refl, sym, ap, subst, arith}
 use Rattle.std.specs.Prelude.{nat_lt}
+use Rattle.std.specs.List.{AllZip}
 use Rattle.std.specs.Map.{lookup}
 use Rattle.std.specs.Str.{bytes_eq}
 use Rattle.std.specs.Char.{to_ascii_lowercase}
@@ -14,14 +15,16 @@ use Rattle.scoped_names.specs.declared.entry.Base.{Base}
 use Rattle.scoped_names.specs.declared.key.Word.{Word}
 use Rattle.scoped_names.specs.declared.record.Given.{Given}
 use Rattle.scoped_names.specs.declared.record.Heir.{Heir}
+use Rattle.scoped_names.specs.declared.record.Record.{Record}
 use Rattle.scoped_names.specs.declared.search.Found.{Found}
 use Rattle.scoped_names.specs.declared.search.Found.TheVariants.{Nothing, One, Several}
 use Rattle.scoped_names.specs.Keys.{folded}
 use Rattle.scoped_names.specs.Entry.{Entry, bases_of, is_named, named}
 use Rattle.scoped_names.specs.Search.{base_at, both, declared_before, from_base, inherited, or_else, own, within}
-use Rattle.scoped_names.specs.Records.{HasWord, by_given, by_heir, given_before, is_before, is_word}
-use Rattle.scoped_names.specs.SeveralBases.{HasNoneFrom, IsKept, Merges, SaysNothingNew, given_then, with_more}
+use Rattle.scoped_names.specs.Records.{AreListed, HasWord, entries_in, words_at, by_given, by_heir, given_before, is_before, is_word}
+use Rattle.scoped_names.specs.SeveralBases.{HasNoneFrom, IsDone, IsKept, IsRight, Merges, SaysNothingNew, given_then, with_more}
 use Rattle.scoped_names.proofs.Lookups.{position_same}
+use Rattle.scoped_names.proofs.Tied.{HasWord_last, HasWord_push}
 use Rattle.scoped_names.proofs.Stability.{both_nothing, constant, nothing_earlier}
 
 -- ---- searches don't look at the case of letters
@@ -160,14 +163,6 @@ begins_before es scope h w m (Some g) e kept is there =
 
 -- ---- the words that are left
 
-abbrev IsRight : List Entry → ℕ → Base → List (Word × Given) → List ℕ → Type 0
-IsRight es scope base others w = (g : Given) × (lookup (is_word w) others ≡ Some g) × ((t : ℕ) → given_before t g ≡ with_more es scope base t w)
-
--- of each name what is kept is right, or it is what was, and then the base says nothing new or the name is left
-abbrev pub IsDone : List Entry → ℕ → Base → List (Word × Given) → List (Word × Given) → List Word → Type 0
-IsDone es scope base old others left = (w : List ℕ) → IsRight es scope base others w
-    ⊎ ((lookup (is_word w) others ≡ lookup (is_word w) old) × (SaysNothingNew es scope base w ⊎ HasWord left w))
-
 pub done_start : (es : List Entry) (scope : ℕ) (base : Base) (old others : List (Word × Given)) (words : List Word) → others ≡ old
     → ((w : List ℕ) → (within es base.token (suc base.entry) w ≡ Nothing) ⊎ HasWord words w) → IsDone es scope base old others words
 done_start es scope base old others words same covers w = inr (ap (lookup (is_word w)) same, by (covers w))
@@ -289,3 +284,91 @@ done_all es scope base h more left none kept last first done t w = by (done w)
     by (inr (same, inl new)) =
         ap (by_given es t w more.first) same ∙ ap (λ b. by_given es t w b (get_by (is_word w) h.others)) first ∙ sym (kept t w) ∙ still new
     by (inr (same, inr has)) = absurd (none_left left w none has)
+
+-- ---- the words of a base
+
+HasWord_behind : (ws vs : List Word) (w : List ℕ) → HasWord vs w → HasWord (ws ++ vs) w
+HasWord_behind [] vs w h = h
+HasWord_behind (x ∷ ws) vs w h = let (k, y, at, is) = HasWord_behind ws vs w h in (suc k, y, at, is)
+
+-- a scope's own entry has a word that is listed
+pub own_or_listed : (records : List Record) (words : List (Vec Word Global)) → AreListed records words → (s n : ℕ) (w : List ℕ) → (own (entries_in records) n s w ≡ Nothing) ⊎ HasWord (words_at words s) w
+own_or_listed records words listed s n w = by (named (entries_in records) s w) refl
+  where
+    by : (o : Option ℕ) → named (entries_in records) s w ≡ o → (own (entries_in records) n s w ≡ Nothing) ⊎ HasWord (words_at words s) w
+    by None is = inl (ap (declared_before (entries_in records) n) is)
+    by (Some k) is = inr (listed s k w is)
+
+pub behind_or : {P : Type 0} (ws vs new : List Word) (w : List ℕ) → new ≡ ws ++ vs → P ⊎ HasWord vs w → P ⊎ HasWord new w
+behind_or ws vs new w is (inl p) = inl p
+behind_or ws vs new w is (inr has) = inr (subst (λ xs. HasWord xs w) (sym is) (HasWord_behind ws vs w has))
+
+pub nothing_or : {P : Type 0} (w : List ℕ) (vs new : List Word) → vs ≡ [] → P ⊎ HasWord vs w → P ⊎ HasWord new w
+nothing_or w vs new none (inl p) = inl p
+nothing_or w vs new none (inr has) = absurd (none_left vs w none has)
+
+-- behind the words that a scope declares what a name finds is inherited
+pub own_listed : (es : List Entry) (n s : ℕ) (y : Found) (ws vs : List Word) (w : List ℕ) → (y ≡ within es n s w) ⊎ HasWord ws w → (HasWord ws w → HasWord vs w)
+    → (own es n s w ≡ Nothing) ⊎ HasWord vs w → (y ≡ inherited es n s w) ⊎ HasWord vs w
+own_listed es n s y ws vs w (inr has) kept own_too = inr (kept has)
+own_listed es n s y ws vs w (inl is) kept (inr has) = inr has
+own_listed es n s y ws vs w (inl is) kept (inl none) = inl (is ∙ ap (λ x. or_else x (inherited es n s w)) none)
+
+-- and behind the words of which something is kept, by the first base
+pub given_listed : (es : List Entry) (n s : ℕ) (h : Heir) (y : Found) (ws vs : List Word) (w : List ℕ) → IsKept es s h → (y ≡ inherited es n s w) ⊎ HasWord ws w → (HasWord ws w → HasWord vs w)
+    → (get_by (is_word w) h.others ≡ None) ⊎ HasWord vs w → (y ≡ cond (nat_lt h.first.token n) (within es h.first.token (suc h.first.entry) w) Nothing) ⊎ HasWord vs w
+given_listed es n s h y ws vs w kept (inr has) more given = inr (more has)
+given_listed es n s h y ws vs w kept (inl is) more (inr has) = inr has
+given_listed es n s h y ws vs w kept (inl is) more (inl none) = inl (is ∙ kept n w ∙ ap (by_given es n w h.first) none)
+
+pub or_same : {X : Type 0} (y a b : X) (P : Type 0) → a ≡ b → (y ≡ a) ⊎ P → (y ≡ b) ⊎ P
+or_same y a b P same (inl is) = inl (is ∙ same)
+or_same y a b P same (inr p) = inr p
+
+-- ---- entries of a map one by one
+
+abbrev pub is_listed : List (Word × Given) → List (Word × Given) → List Word → List ℕ → Type 0
+is_listed all left ws w = (lookup (is_word w) all ≡ lookup (is_word w) left) ⊎ HasWord ws w
+
+pub entry_listed : (all left rest : List (Word × Given)) (k : Word) (g : Given) (ws vs : List Word) (w : List ℕ) → left ≡ (k, g) ∷ rest → vs ≡ ws ++ k ∷ [] → is_listed all left ws w → is_listed all rest vs w
+entry_listed all left rest k g ws vs w is push (inr has) = inr (subst (λ xs. HasWord xs w) (sym push) (HasWord_push ws k w has))
+entry_listed all left rest k g ws vs w is push (inl same) = by (is_word w k) refl
+  where
+    by : (b : Bool) → is_word w k ≡ b → is_listed all rest vs w
+    by true here = inr (subst (λ xs. HasWord xs w) (sym push) (HasWord_last ws k w here))
+    by false un = inl (same ∙ ap (lookup (is_word w)) is ∙ ap (λ b. cond b (Some g) (lookup (is_word w) rest)) un)
+
+-- ---- what answers say
+
+pub some_both : {T : Type 0} {A B C : T → Type 0} (r : Option T) → ((x : T) → A x → B x → C x) → IfSome r A → IfSome r B → IfSome r C
+some_both None f a b = tt
+some_both (Some x) f a b = f x a b
+
+pub split_at : {T : Type 0} (xs : List T) (k : ℕ) (x : T) → k < length xs → x ≡ get_or xs k x → drop k xs ≡ x ∷ drop (k + 1) xs
+split_at xs k x lt here =
+    let next : suc k ≡ k + 1 = omega arith in
+    drop-cons xs k x lt ∙ ap (λ y. y ∷ drop (suc k) xs) (sym here) ∙ ap (λ j. x ∷ drop j xs) next
+
+pub drop_at : {T : Type 0} (xs : List T) (k : ℕ) (x : T) → slice_get xs k ≡ Some x → drop k xs ≡ x ∷ drop (suc k) xs
+drop_at [] k x h = cc
+drop_at (y ∷ ys) zero x h = let same : y ≡ x = cc in ap (λ z. z ∷ ys) same
+drop_at (y ∷ ys) (suc k) x h = drop_at ys k x h
+
+-- a copy of a map's entries
+pub cloned : {K V : Type 0} (C : K → K → Type 0) (D : V → V → Type 0) → ((x y : K) → C x y → y ≡ x) → ((x y : V) → D x y → y ≡ x) → (xs ys : List (K × V))
+    → AllZip (λ p q. C p.0 q.0 × D p.1 q.1) xs ys → ys ≡ xs
+cloned C D c d [] [] h = refl
+cloned C D c d [] (y ∷ ys) h = absurd h
+cloned C D c d (x ∷ xs) [] h = absurd h
+cloned C D c d (x ∷ xs) (y ∷ ys) h =
+    ap (λ k. (k, y.1) ∷ ys) (c x.0 y.0 h.0.0) ∙ ap (λ v. (x.0, v) ∷ ys) (d x.1 y.1 h.0.1) ∙ ap (λ zs. x ∷ zs) (cloned C D c d xs ys h.1)
+
+-- no scope of that number has words
+pub words_past : (words : List (Vec Word Global)) (scope : ℕ) → length words ≤ scope → words_at words scope ≡ []
+words_past [] scope h = refl
+words_past (v ∷ vs) zero h = absurd (omega arith)
+words_past (v ∷ vs) (suc n) h = words_past vs n (omega arith)
+
+pub ok_then : {T E : Type 0} {A B : T → Type 0} (r : Result T E) → ((x : T) → A x → B x) → IfOk r A → IfOk r B
+ok_then (Ok x) f a = f x a
+ok_then (Err e) f a = tt

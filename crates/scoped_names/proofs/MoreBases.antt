@@ -20,7 +20,7 @@ use Rattle.scoped_names.specs.Entry.{Entry, bases_of, is_named, named}
 use Rattle.scoped_names.specs.Search.{base_at, before, both, declared_before, from_base, inherited, or_else, own, within}
 use Rattle.scoped_names.specs.Entries.{entry_with_base, with_base}
 use Rattle.scoped_names.specs.Records.{AreNested, ArePlaced, AreSearched, AreTied, by_first, by_given, by_heir, entries_in, entry_of, heir_bases, heir_in, heir_of, is_word, key_of, unboxed}
-use Rattle.scoped_names.specs.SeveralBases.{Merges, with_more}
+use Rattle.scoped_names.specs.SeveralBases.{HasNoneFrom, IsKept, Merges, with_more}
 use Rattle.scoped_names.proofs.Inheriting.{bases_kept, first_base, heir_list}
 use Rattle.scoped_names.proofs.Lookups.{named_keys}
 use Rattle.scoped_names.proofs.Stability.{agree, both_nothing, constant}
@@ -280,3 +280,37 @@ module _ (keys : List Key) (records : List Record) (words : List (Vec Word Globa
       map_changed entry_of records e changed
       ∙ ap (λ bs. slice_set es e (record (entry_of r) { bases = bs })) (with_it ∙ ap (λ bs. bs ++ base ∷ []) (sym old))
       ∙ sym (ap (entry_with_base es e base) was)
+
+-- ---- what is kept before
+
+pub kept_of : (records : List Record) → AreSearched records → (s : ℕ) (h : Heir) → heir_of records s ≡ Some h → IsKept (entries_in records) s h
+kept_of records searched s h there t w = searched t s w ∙ ap (by_heir (entries_in records) t w) there
+
+pub none_from : (records : List Record) (latest token : ℕ) → ArePlaced records latest → latest < token → (s : ℕ) → HasNoneFrom (entries_in records) s token
+none_from records latest token placed late s j low = by (base_at (bases_of (entries_in records) s) j) refl
+  where
+    by : (o : Option ℕ) → base_at (bases_of (entries_in records) s) j ≡ o → o ≡ None
+    by None is = refl
+    by (Some b) is = let le = (placed s j b is).1 in absurd (omega arith)
+
+-- the first base is named before the next
+pub first_before : (records : List Record) (s token : ℕ) (h : Heir) → heir_of records s ≡ Some h → HasNoneFrom (entries_in records) s token → h.first.token ≤ token
+first_before records s token h there last = by (leb token h.first.token) refl
+  where
+    by : (b : Bool) → leb token h.first.token ≡ b → h.first.token ≤ token
+    by true is =
+        let none : Some h.first.entry ≡ None = sym (first_base records s h there) ∙ last h.first.token (leb-true token h.first.token is) in
+        cc
+    by false is = let lt = leb-false token h.first.token is in omega arith
+
+pub first_merges : (records : List Record) → AreSearched records → (s : ℕ) (base : Base) (h : Heir) → heir_of records s ≡ None → h.first ≡ base → h.others.entries ≡ [] → Merges (entries_in records) s base h
+first_merges records searched s base h none first empty t w =
+    ap (λ o. by_given es t w h.first (lookup (is_word w) o)) empty ∙ ap (by_first es t w) first
+    ∙ ap (λ x. cond (nat_lt base.token t) (both x (within es base.token (suc base.entry) w)) Nothing) (sym (nothing base.token))
+    ∙ ap (cond (nat_lt base.token t) (both (inherited es base.token s w) (within es base.token (suc base.entry) w))) (sym (nothing t))
+  where
+    es : List Entry
+    es = entries_in records
+
+    nothing : (u : ℕ) → inherited es u s w ≡ Nothing
+    nothing u = searched u s w ∙ ap (by_heir es u w) none

@@ -1,6 +1,7 @@
 //! What the names of an IDL specification mean (ISO/IEC 19500-1, names and scoping).
 #![tactic(auto)]
 
+mod bases;
 mod declarations;
 pub mod entry;
 mod evaluation;

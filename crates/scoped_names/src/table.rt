@@ -29,9 +29,9 @@ use std::marker::Model;
 #[derive(Drop)]
 pub(crate) struct Table<'a> {
     keys: IndexSet<Key<'a>>,
-    records: Vec<Record<'a>>,
+    pub(crate) records: Vec<Record<'a>>,
     /// The words that each scope declares.
-    words: Vec<Vec<Word<'a>>>,
+    pub(crate) words: Vec<Vec<Word<'a>>>,
     /// The token of the last base.
     latest: usize,
     /// The members and parameters that each scope has; no search finds them.
@@ -55,7 +55,7 @@ impl<'a> Model for Table<'a> {
 }
 
 /// What the interface has whose scope it is, if it has bases.
-fn heir_of<'r, 'a>(records: &'r [Record<'a>], scope: usize) -> Option<&'r Heir<'a>>
+pub(crate) fn heir_of<'r, 'a>(records: &'r [Record<'a>], scope: usize) -> Option<&'r Heir<'a>>
     ensures { option_copied result ≡ heir_in_records records.now scope }
 {
     let number = scope.checked_sub(1)?;
@@ -120,7 +120,7 @@ impl<'a> Table<'a> {
     }
 
     /// What the bases that are named before the token give.
-    fn inherited(&self, token: usize, scope: usize, text: &'a str) -> Found
+    pub(crate) fn inherited(&self, token: usize, scope: usize, text: &'a str) -> Found
         ensures { result ≡ inherited_by self.now token scope text.now }
     {
         let (mut limit, mut inner) = (token, scope);
@@ -142,7 +142,7 @@ impl<'a> Table<'a> {
     }
 
     /// What a name before the token finds in the scope and its bases.
-    fn within(&self, token: usize, scope: usize, text: &'a str) -> Found
+    pub(crate) fn within(&self, token: usize, scope: usize, text: &'a str) -> Found
         ensures { result ≡ within_of self.now token scope text.now }
     {
         match self.own(token, scope, text) {
@@ -536,7 +536,7 @@ impl<'a> Table<'a> {
         }
     }
 
-    fn is_feature(&self, entry: usize) -> bool {
+    pub(crate) fn is_feature(&self, entry: usize) -> bool {
         match self.records.get(entry) {
             Some(record) => {
                 record.kind == EntryKind::Operation || record.kind == EntryKind::Attribute
@@ -639,18 +639,7 @@ impl<'a> Table<'a> {
         if base.token <= self.latest || !self.may_be_base(base.entry) {
             return Err(NameFault::BadBase { line });
         }
-        match heir_of(self.records.as_slice(), inner) {
-            Some(_) => return Err(NameFault::BadBase { line }),
-            None => {}
-        }
-        let heir = Box::new(
-            alloc,
-            Heir {
-                first: base,
-                later: Vec::new(alloc),
-                others: IndexMap::new(alloc),
-            },
-        )?;
+        let heir = self.heir_for(alloc, inner, base, line)?;
         self.records[number].heir = Some(heir);
         self.latest = base.token;
         Ok(())
