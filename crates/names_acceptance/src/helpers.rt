@@ -25,14 +25,21 @@ fn number(fault: NameFault) -> u32 {
     }
 }
 
-/// The number of the fault that a source gets and its line, or zeros.
-pub fn outcome(alloc: Global, source: &str) -> Result<(u32, usize), Fail> {
-    let tokens = lex(alloc, source)?;
-    let spec = parse(alloc, &tokens)?;
-    Ok(match bind(alloc, &spec) {
+/// The number of the fault that a tree gets and its line, or zeros.
+fn spec_outcome(alloc: Global, spec: &Spec<'_>) -> (u32, usize) {
+    match bind(alloc, spec) {
         Ok(_) => (0, 0),
         Err(fault) => (number(fault), fault.line()),
-    })
+    }
+}
+
+/// The same of a source.
+pub fn outcome(alloc: Global, source: &str) -> Result<(u32, usize), Fail> {
+    let tokens = lex(alloc, source)?;
+    match parse(alloc, &tokens) {
+        Ok(spec) => Ok(spec_outcome(alloc, &spec)),
+        Err(_) => Err("no specification")?,
+    }
 }
 
 /// How many of the sources from the first on are taken.
@@ -84,14 +91,23 @@ fn push_values(alloc: Global, names: &Names<'_>, out: &mut String) -> Result<(),
     Ok(())
 }
 
-/// What the constants and enumerators of a source are worth, in order, each with a blank behind it.
+/// What the constants and enumerators of a tree are worth, in order, each with a blank behind it.
+fn spec_values(alloc: Global, spec: &Spec<'_>) -> Result<String, Fail> {
+    let mut out = String::new(alloc);
+    match bind(alloc, spec) {
+        Ok(names) => push_values(alloc, &names, &mut out)?,
+        Err(_) => Err("no names")?,
+    }
+    Ok(out)
+}
+
+/// The same of a source.
 pub fn values(alloc: Global, source: &str) -> Result<String, Fail> {
     let tokens = lex(alloc, source)?;
-    let spec = parse(alloc, &tokens)?;
-    let names = bind(alloc, &spec)?;
-    let mut out = String::new(alloc);
-    push_values(alloc, &names, &mut out)?;
-    Ok(out)
+    match parse(alloc, &tokens) {
+        Ok(spec) => spec_values(alloc, &spec),
+        Err(_) => Err("no specification")?,
+    }
 }
 
 fn push_ids(alloc: Global, names: &Names<'_>, out: &mut String) -> Result<(), Fail> {
@@ -103,12 +119,21 @@ fn push_ids(alloc: Global, names: &Names<'_>, out: &mut String) -> Result<(), Fa
     Ok(())
 }
 
-/// The repository ids of all entries of a source, in order, each with a blank behind it.
+/// The repository ids of all entries of a tree, in order, each with a blank behind it.
+fn spec_ids(alloc: Global, spec: &Spec<'_>) -> Result<String, Fail> {
+    let mut out = String::new(alloc);
+    match bind(alloc, spec) {
+        Ok(names) => push_ids(alloc, &names, &mut out)?,
+        Err(_) => Err("no names")?,
+    }
+    Ok(out)
+}
+
+/// The same of a source.
 pub fn ids(alloc: Global, source: &str) -> Result<String, Fail> {
     let tokens = lex(alloc, source)?;
-    let spec = parse(alloc, &tokens)?;
-    let names = bind(alloc, &spec)?;
-    let mut out = String::new(alloc);
-    push_ids(alloc, &names, &mut out)?;
-    Ok(out)
+    match parse(alloc, &tokens) {
+        Ok(spec) => spec_ids(alloc, &spec),
+        Err(_) => Err("no specification")?,
+    }
 }
