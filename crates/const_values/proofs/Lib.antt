@@ -1,3 +1,2 @@
 pub mod Worked
-pub mod Weights
-pub mod WorthLaws
+pub mod TextForms

@@ -3,4 +3,3 @@ pub mod Arithmetic
 pub mod Texts
 pub mod Worth
 pub mod Kinds
-pub mod Refusals

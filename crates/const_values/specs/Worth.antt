@@ -1,8 +1,12 @@
--- What a constant expression is worth (ISO/IEC 19500-1, constant declaration): an operator takes whole numbers alone,
--- operators of one level group from the left, and a name is worth what the function of names says.
-use Rattle.std.specs.Prelude.{ℕ, Option, Some, None, ℤ, pos, negsuc, nat_lt}
+-- What a constant expression is worth (ISO/IEC 19500-1, constant declaration): a literal is worth what its token says,
+-- an operator takes whole numbers alone, operators of one level group from the left, and a name is worth what the
+-- function of names says.
+use Rattle.std.specs.Prelude.{ℕ, Bool, true, false, ◌&&◌, List, [], ◌∷◌, Option, Some, None, ℤ, pos, negsuc, nat_lt}
+use Rattle.idl_lexer.specs.declared.token.Kind.{Kind}
+use Rattle.idl_lexer.specs.declared.token.Kind.TheVariants.{Ident, Keyword, Punct, Number as NumberToken, CharLit, TextLit, Pragma}
 use Rattle.idl_lexer.specs.Numbers.{number_value}
 use Rattle.idl_lexer.specs.Readings.{character_octet}
+use Rattle.idl_tree.specs.declared.names.Leaf.{Leaf}
 use Rattle.idl_tree.specs.declared.names.ScopedName.{ScopedName}
 use Rattle.idl_tree.specs.declared.expression.Operator.{Operator}
 use Rattle.idl_tree.specs.declared.expression.Sign.{Sign}
@@ -39,12 +43,42 @@ operator_applied o None b = None
 operator_applied o (Some a) None = None
 operator_applied o (Some a) (Some b) = applied o a b
 
+-- a token of a number or a character; the literals of an expression are of no other kind
+abbrev pub token_worth : Kind → List ℕ → Option Constant
+token_worth NumberToken text = Some (Whole (pos (number_value text)))
+token_worth CharLit text = Some (Character (character_octet text))
+token_worth TextLit text = None
+token_worth Ident text = None
+token_worth Keyword text = None
+token_worth Punct text = None
+token_worth Pragma text = None
+
+abbrev pub literal_worth : Leaf → Option Constant
+literal_worth l = token_worth l.token.now.kind l.token.now.text.now
+
+abbrev pub is_text : Kind → Bool
+is_text TextLit = true
+is_text NumberToken = false
+is_text CharLit = false
+is_text Ident = false
+is_text Keyword = false
+is_text Punct = false
+is_text Pragma = false
+
+abbrev pub are_texts : List Leaf → Bool
+are_texts [] = true
+are_texts (l ∷ ls) = is_text l.token.now.kind && are_texts ls
+
+-- text literals that stand one behind another are one text
+abbrev pub text_worth : List Leaf → Option Constant
+text_worth ls = where_true (are_texts ls) (Text (joined_octets ls))
+
 abbrev mutual
   pub worth : NamesWorth → Expr → Option Constant
   worth names (Name n) = names n
-  worth names (Number l) = Some (Whole (pos (number_value l.token.now.text.now)))
-  worth names (CharacterLiteral l) = Some (Character (character_octet l.token.now.text.now))
-  worth names (Texts ls) = Some (Text (joined_octets (parts ls.value)))
+  worth names (Number l) = literal_worth l
+  worth names (CharacterLiteral l) = literal_worth l
+  worth names (Texts ls) = text_worth (parts ls.value)
   worth names (BooleanLiteral b word) = Some (Boolean b)
   worth names (Parenthesized' l p inner) = worth names inner
   worth names (Signed' m s p inner) = whole_constant (sign_applied s (whole_number (worth names inner)))

@@ -1,16 +1,14 @@
-//! What constant expressions are worth (ISO/IEC 19500-1, constant declaration).
-//!
-//! Names are the caller's: a trait answers for them.
+//! Constants: what they are worth, operators on them, their types (ISO/IEC 19500-1, constant
+//! declaration). `specs/Worth.antt` says what an expression is worth, where its names' worths are
+//! known; a crate that knows names computes it from what stands here.
 #![tactic(auto)]
 
 pub mod constant;
-pub mod evaluation;
-pub mod fault;
 pub mod kind;
+pub mod literals;
 pub mod operators;
 
 pub use constant::{Constant, Text};
-pub use evaluation::{NamedConstants, evaluate, evaluate_as, evaluate_positive};
-pub use fault::ConstFault;
 pub use kind::ConstKind;
+pub use literals::{literal_constant, text_constant};
 pub use operators::{applied, signed};

@@ -5,9 +5,13 @@ pub mod Inheriting
 pub mod Stability
 pub mod Tied
 pub mod Walks
-pub mod FirstBase
+pub mod MoreBases
+pub mod MergedBases
 pub mod Paths
 pub mod PrefixesKept
 pub mod IdsGiven
 pub mod IdFormats
 pub mod PragmasSaid
+pub mod Weights
+pub mod ChainWorth
+pub mod GivenBehind

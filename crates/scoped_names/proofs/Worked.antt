@@ -1,5 +1,5 @@
 -- Names worked out by hand: what each finds. The tokens of a source count from 0.
-use Rattle.std.proofs.Common.{◌≡◌, ℕ, true, false, List, [], ◌∷◌, codes, refl}
+use Rattle.std.proofs.Common.{◌≡◌, ℕ, true, false, List, [], ◌∷◌, codes, None, refl}
 use Rattle.scoped_names.specs.declared.entry.EntryKind.{EntryKind}
 use Rattle.scoped_names.specs.declared.entry.EntryKind.TheVariants.{Module, Interface, Struct, Enum, Enumerator, Typedef, Const}
 use Rattle.scoped_names.specs.declared.entry.Base.{Base}
@@ -8,11 +8,11 @@ use Rattle.scoped_names.specs.declared.search.Found.TheVariants.{Nothing, One, S
 use Rattle.scoped_names.specs.Search.{finds_words}
 
 abbrev entry : ℕ → List ℕ → ℕ → EntryKind → Entry
-entry scope name token kind = record { scope = scope; name = name; token = token; kind = kind; bases = [] }
+entry scope name token kind = record { scope = scope; name = name; token = token; kind = kind; bases = []; worth = None; stands_for = None }
 
 abbrev interface : ℕ → List ℕ → ℕ → List Base → Entry
 interface scope name token bases =
-    record { scope = scope; name = name; token = token; kind = Interface; bases = bases }
+    record { scope = scope; name = name; token = token; kind = Interface; bases = bases; worth = None; stands_for = None }
 
 abbrev base : ℕ → ℕ → Base
 base token entry = record { token = token; entry = entry }

@@ -1,5 +1,5 @@
 -- Repository ids at worked entries.
-use Rattle.std.proofs.Common.{◌≡◌, ℕ, List, [], ◌∷◌, codes, refl}
+use Rattle.std.proofs.Common.{◌≡◌, ℕ, List, [], ◌∷◌, codes, None, refl}
 use Rattle.scoped_names.specs.declared.entry.EntryKind.{EntryKind}
 use Rattle.scoped_names.specs.declared.entry.EntryKind.TheVariants.{Module, Interface, Struct}
 use Rattle.scoped_names.specs.Entry.{Entry}
@@ -7,7 +7,7 @@ use Rattle.scoped_names.specs.RepositoryIds.{PrefixSet, IdPragma, IdRules, Whole
 use Rattle.scoped_names.specs.IdPragmas.{said, SetsPrefix, Gives}
 
 abbrev entry : ℕ → List ℕ → ℕ → EntryKind → Entry
-entry scope name token kind = record { scope = scope; name = name; token = token; kind = kind; bases = [] }
+entry scope name token kind = record { scope = scope; name = name; token = token; kind = kind; bases = []; worth = None; stands_for = None }
 
 abbrev prefix : ℕ → List ℕ → PrefixSet
 prefix token text = record { token = token; text = text }

@@ -36,21 +36,37 @@ use Rattle.scoped_names.specs.declared.entry.Base.{Base}
 use Rattle.scoped_names.specs.Entry.{Entry, named}
 use Rattle.scoped_names.specs.declared.search.Found.{Found}
 use Rattle.scoped_names.specs.declared.search.Found.TheVariants.{Nothing, One, Several}
+use Rattle.scoped_names.specs.declared.entry.Meaning.{Meaning}
 use Rattle.scoped_names.specs.Search.{finds, word}
+use Rattle.scoped_names.specs.Constants.{const_type_kind, declarator_kind, of_type, simple_type_kind, worth_in_scope}
+use Rattle.const_values.specs.declared.constant.Constant.TheVariants as Constants
+use Rattle.const_values.specs.declared.kind.ConstKind.{ConstKind}
+use Rattle.const_values.specs.declared.kind.ConstKind.TheVariants as Kinds
 
 -- the entries with this one behind them, unless its scope has its name already: it was declared ahead, or is a module
 -- that is opened again
 abbrev pub with_entry : List Entry → Entry → List Entry
 with_entry es e = cond (is_some (named es e.scope e.name)) es (es ++ e ∷ [])
 
--- with an identifier declared as something that is found behind the token
-abbrev pub found_behind : ℕ → EntryKind → List Entry → ℕ → Leaf → List Entry
-found_behind token kind es scope l =
-    with_entry es (record { scope = scope; name = word l; token = token; kind = kind; bases = [] })
+-- with an identifier declared as what is meant
+abbrev pub declared_as : Meaning → List Entry → ℕ → Leaf → List Entry
+declared_as m es scope l = with_entry es (record {
+  scope = scope;
+  name = word l;
+  token = m.token;
+  kind = m.kind;
+  bases = [];
+  worth = m.worth;
+  stands_for = m.stands_for;
+})
+
+-- what is neither a constant nor the name of a constant's type, and is found behind the token
+abbrev pub plain : ℕ → EntryKind → Meaning
+plain token kind = record { token = token; kind = kind; worth = None; stands_for = None }
 
 -- with an identifier declared as something that is found behind the identifier
 abbrev pub declared : EntryKind → List Entry → ℕ → Leaf → List Entry
-declared kind es scope l = found_behind l.number kind es scope l
+declared kind es scope l = declared_as (plain l.number kind) es scope l
 
 abbrev pub scope_number : Option ℕ → ℕ
 scope_number None = 0
@@ -67,13 +83,33 @@ each part es scope (x ∷ xs) = each part (part es scope x) scope xs
 
 -- ---- types
 
-abbrev pub declarator_entries : List Entry → ℕ → Declarator → List Entry
-declarator_entries es scope d = declared Typedef es scope d.identifier
+-- a name for a type
+abbrev pub declarator_entries : Option ConstKind → List Entry → ℕ → Declarator → List Entry
+declarator_entries kind es scope d = declared_as (record {
+  token = d.identifier.number;
+  kind = Typedef;
+  worth = None;
+  stands_for = declarator_kind kind d;
+}) es scope d.identifier
+
+-- the n-th entry is the enumeration
+abbrev pub enum_meant : ℕ → Leaf → Meaning
+enum_meant n l = record { token = l.number; kind = Enum; worth = None; stands_for = Some (Kinds.Enum n) }
+
+-- an enumerator of the enumeration that is the entry `owner`
+abbrev pub enumerator_entries : ℕ → List Entry → ℕ → Leaf → List Entry
+enumerator_entries owner es scope l = declared_as (record {
+  token = l.number;
+  kind = Enumerator;
+  worth = Some (Constants.Enumerator (length es) owner);
+  stands_for = None;
+}) es scope l
 
 -- enumerators stand in the scope around their enumeration
 abbrev pub enum_entries : List Entry → ℕ → EnumType → List Entry
 enum_entries es scope e =
-    each (declared Enumerator) (declared Enum es scope e.identifier) scope (parts e.enumerators)
+    let opened = declared_as (enum_meant (length es) e.identifier) es scope e.identifier in
+    each (enumerator_entries (length es)) opened scope (parts e.enumerators)
 
 abbrev pub switch_entries : List Entry → ℕ → SwitchType → List Entry
 switch_entries es scope (SwitchTypes.Enum e) = enum_entries es scope e
@@ -121,9 +157,16 @@ case_entries es scope c = type_entries es scope c.member_type
 
 -- ---- declarations
 
+-- the type of constants that a type is in the end, where the entries are those before it
+abbrev pub type_kind : List Entry → ℕ → TypeSpec → Option ConstKind
+type_kind es scope (Simple t) = simple_type_kind es scope t
+type_kind es scope (StructSpec s) = None
+type_kind es scope (UnionSpec u) = None
+type_kind es scope (EnumSpec e) = Some (Kinds.Enum (length es))
+
 abbrev pub type_dcl_entries : List Entry → ℕ → TypeDcl → List Entry
 type_dcl_entries es scope (TypeDcls.Typedef t declarators) =
-    each declarator_entries (type_entries es scope t) scope (parts declarators)
+    each (declarator_entries (type_kind es scope t)) (type_entries es scope t) scope (parts declarators)
 type_dcl_entries es scope (TypeDcls.Struct s) = struct_entries es scope s
 type_dcl_entries es scope (TypeDcls.Union u) = union_entries es scope u
 type_dcl_entries es scope (TypeDcls.Enum e) = enum_entries es scope e
@@ -134,9 +177,14 @@ type_dcl_entries es scope (TypeDcls.UnionAhead id) = declared Union es scope id
 abbrev pub const_end : Const → ℕ
 const_end c = c.identifier.number + 2 + length (const_expr_yield c.value)
 
--- a constant is found from its end on
+-- a constant is found from its end on, and is worth what its value is worth as one of its type
 abbrev pub const_entries : List Entry → ℕ → Const → List Entry
-const_entries es scope c = found_behind (const_end c) Const' es scope c.identifier
+const_entries es scope c = declared_as (record {
+  token = const_end c;
+  kind = Const';
+  worth = of_type (const_type_kind es scope c.const_type) (worth_in_scope es scope c.value.expr);
+  stands_for = None;
+}) es scope c.identifier
 
 abbrev pub except_entries : List Entry → ℕ → Except → List Entry
 except_entries es scope e =

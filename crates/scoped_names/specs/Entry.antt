@@ -2,16 +2,21 @@
 -- for the whole file, else one more than the number of the entry whose scope it is.
 use Rattle.std.specs.Prelude.{ℕ, zero, suc, Bool, ◌&&◌, nat_eq, List, [], position, slice_get, Option, Some, None}
 use Rattle.idl_lexer.specs.Words.{same_but_for_case}
+use Rattle.const_values.specs.declared.constant.Constant.{Constant}
+use Rattle.const_values.specs.declared.kind.ConstKind.{ConstKind}
 use Rattle.scoped_names.specs.declared.entry.EntryKind.{EntryKind}
 use Rattle.scoped_names.specs.declared.entry.Base.{Base}
 
--- a name that is declared in a scope, and found by names behind the token; the bases of an interface in order
+-- a name that is declared in a scope, and found by names behind the token; the bases of an interface in order; what a
+-- constant or an enumerator is worth; the type of constants for which the name of a type stands in the end, if it does
 pub record Entry : Type 0 where
   pub scope : ℕ
   pub name : List ℕ
   pub token : ℕ
   pub kind : EntryKind
   pub bases : List Base
+  pub worth : Option Constant
+  pub stands_for : Option ConstKind
 
 -- the entry is the scope's of that name, whatever the case of its letters
 abbrev pub is_named : ℕ → List ℕ → Entry → Bool
@@ -29,6 +34,14 @@ bases_in (Some e) = e.bases
 abbrev pub bases_of : List Entry → ℕ → List Base
 bases_of entries zero = []
 bases_of entries (suc e) = bases_in (slice_get entries e)
+
+abbrev pub worth_in : Option Entry → Option Constant
+worth_in None = None
+worth_in (Some e) = e.worth
+
+abbrev pub meant_in : Option Entry → Option ConstKind
+meant_in None = None
+meant_in (Some e) = e.stands_for
 
 abbrev pub scope_in : Option Entry → ℕ
 scope_in None = 0

@@ -1,9 +1,12 @@
 -- What a specification declares, and what a name finds.
 pub mod Entry
 pub mod Search
+pub mod Constants
 pub mod Entries
 pub mod RepositoryIds
 pub mod IdPragmas
 pub mod Keys
 pub mod Records
 pub mod IdsKept
+pub mod Whole
+pub mod SeveralBases

@@ -25,6 +25,8 @@ entry_of r = record {
   token = r.token;
   kind = r.kind;
   bases = heir_bases r.heir;
+  worth = r.worth;
+  stands_for = r.stands_for;
 }
 
 abbrev pub entries_in : List Record → List Entry

@@ -6,9 +6,10 @@ ghost use Rattle.idl_tree.specs.Lists.{parts};
 ghost use Rattle.idl_tree.specs.DefinitionYields.{const_yield, declaration_yield, export_yield, interface_yield, definition_yield};
 ghost use Rattle.scoped_names.specs.Entries.{declared, each, declarator_entries, type_dcl_entries, const_entries, except_entries, declaration_entries, export_entries, attribute_identifiers, inheriting, base_names, interface_entries, definition_entries};
 
-use crate::entry::{Base, EntryKind};
+use crate::entry::{Base, EntryKind, Meaning};
 use crate::fault::NameFault;
-use crate::names::Names;
+use crate::table::Table;
+use const_values::ConstKind;
 use idl_tree::definitions::{
     Attribute, Attributes, Const, Declaration, Definition, Except, Export, Interface, Operation,
     Param, TypeDcl,
@@ -17,26 +18,44 @@ use idl_tree::names::{Leaf, Listed, ScopedName};
 use idl_tree::types::Declarator;
 use std::alloc::Global;
 
-impl<'a> Names<'a> {
+impl<'a> Table<'a> {
+    /// A name for a type that is in the end of the kind, if it is a type of constants.
+    fn declare_typedef(
+        &mut self,
+        alloc: Global,
+        scope: usize,
+        kind: Option<ConstKind>,
+        declarator: &Declarator<'a>,
+    ) -> Result<(), NameFault>
+        requires { scope ≤ length self.old }
+        ensures told { OnOk result (self.new ≡ declarator_entries kind self.old scope declarator.now) }
+        ensures longer { length self.old ≤ length self.new }
+    {
+        let identifier = declarator.identifier;
+        let is_array = declarator.sizes.len() > 0;
+        let meaning = Meaning {
+            token: identifier.number,
+            kind: EntryKind::Typedef,
+            worth: None,
+            stands_for: if is_array { None } else { kind },
+        };
+        self.declare_as(alloc, scope, identifier, meaning)?;
+        self.bind_sizes(alloc, scope, declarator.sizes.as_slice())
+    }
+
     fn bind_declarators(
         &mut self,
         alloc: Global,
         scope: usize,
+        kind: Option<ConstKind>,
         declarators: &Listed<Declarator<'a>>,
     ) -> Result<(), NameFault>
         requires { scope ≤ length self.old }
-        ensures told { OnOk result (self.new ≡ each declarator_entries self.old scope (parts declarators.now)) }
+        ensures told { OnOk result (self.new ≡ each (declarator_entries kind) self.old scope (parts declarators.now)) }
         ensures longer { length self.old ≤ length self.new }
     {
         for declarator in declarators.iter() {
-            let identifier = declarator.identifier;
-            self.declare(
-                alloc,
-                scope,
-                identifier,
-                identifier.number,
-                EntryKind::Typedef,
-            )?;
+            self.declare_typedef(alloc, scope, kind, declarator)?;
         }
         Ok(())
     }
@@ -56,30 +75,18 @@ impl<'a> Names<'a> {
                 original,
                 declarators,
             } => {
-                self.bind_type(alloc, scope, original)?;
-                self.bind_declarators(alloc, scope, declarators)
+                let kind = self.bind_type(alloc, scope, original)?;
+                self.bind_declarators(alloc, scope, kind, declarators)
             }
             TypeDcl::Struct(s) => self.bind_struct(alloc, scope, s),
             TypeDcl::Union(u) => self.bind_union(alloc, scope, u),
             TypeDcl::Enum(e) => self.bind_enum(alloc, scope, e),
             TypeDcl::StructAhead(identifier) => {
-                self.declare(
-                    alloc,
-                    scope,
-                    *identifier,
-                    identifier.number,
-                    EntryKind::Struct,
-                )?;
+                self.declare(alloc, scope, *identifier, EntryKind::Struct)?;
                 Ok(())
             }
             TypeDcl::UnionAhead(identifier) => {
-                self.declare(
-                    alloc,
-                    scope,
-                    *identifier,
-                    identifier.number,
-                    EntryKind::Union,
-                )?;
+                self.declare(alloc, scope, *identifier, EntryKind::Union)?;
                 Ok(())
             }
         }
@@ -92,13 +99,20 @@ impl<'a> Names<'a> {
         ensures told { OnOk result (self.new ≡ const_entries self.old scope c.now) }
         ensures longer { length self.old ≤ length self.new }
     {
-        self.bind_const_type(scope, &c.const_type)?;
-        let line = c.identifier.token.line;
+        let kind = self.bind_const_type(alloc, scope, &c.const_type)?;
+        self.is_new(scope, c.identifier)?;
+        let worth = self.value_of_kind(alloc, scope, kind, &c.value.expr)?;
         let behind = c.value.expr.token_count() + 2;
         let Some(token) = c.identifier.number.checked_add(behind) else {
-            return Err(NameFault::BadConstant { line });
+            return Err(NameFault::NoMemory);
         };
-        self.declare(alloc, scope, c.identifier, token, EntryKind::Const)?;
+        let meaning = Meaning {
+            token,
+            kind: EntryKind::Const,
+            worth: Some(worth),
+            stands_for: None,
+        };
+        self.declare_as(alloc, scope, c.identifier, meaning)?;
         Ok(())
     }
 
@@ -108,13 +122,7 @@ impl<'a> Names<'a> {
         ensures longer { length self.old ≤ length self.new }
     {
         let identifier = e.identifier;
-        let (inner, _) = self.declare(
-            alloc,
-            scope,
-            identifier,
-            identifier.number,
-            EntryKind::Exception,
-        )?;
+        let inner = self.declare(alloc, scope, identifier, EntryKind::Exception)?;
         for member in &e.members {
             self.bind_member(alloc, inner, member)?;
         }
@@ -169,7 +177,7 @@ impl<'a> Names<'a> {
             let line = identifier.token.line;
             return Err(NameFault::Collides { line });
         }
-        let (inner, _) = self.declare(alloc, scope, identifier, identifier.number, kind)?;
+        let inner = self.declare(alloc, scope, identifier, kind)?;
         Ok(inner)
     }
 
@@ -235,6 +243,7 @@ impl<'a> Names<'a> {
 
     fn bind_params(
         &mut self,
+        alloc: Global,
         scope: usize,
         inner: usize,
         params: &Listed<Param<'a>>,
@@ -243,7 +252,7 @@ impl<'a> Names<'a> {
         ensures { self.new ≡ self.old }
     {
         for param in params.iter() {
-            self.bind_param_type(scope, &param.param_type)?;
+            self.bind_param_type(alloc, scope, &param.param_type)?;
             self.add_member(inner, param.identifier)?;
         }
         Ok(())
@@ -260,11 +269,11 @@ impl<'a> Names<'a> {
         ensures longer { length self.old ≤ length self.new }
     {
         if let Some(t) = &o.result_type {
-            self.bind_param_type(scope, t)?;
+            self.bind_param_type(alloc, scope, t)?;
         }
         let inner = self.bind_feature(alloc, scope, o.identifier, EntryKind::Operation)?;
         if let Some(params) = &o.params {
-            self.bind_params(scope, inner, params)?;
+            self.bind_params(alloc, scope, inner, params)?;
         }
         match &o.raises {
             Some(names) => self.bind_raises(scope, names),
@@ -282,7 +291,7 @@ impl<'a> Names<'a> {
         ensures told { OnOk result (self.new ≡ each (declared EntryKind.Attribute) self.old scope (attribute_identifiers a.now.declared)) }
         ensures longer { length self.old ≤ length self.new }
     {
-        self.bind_param_type(scope, &a.attribute_type)?;
+        self.bind_param_type(alloc, scope, &a.attribute_type)?;
         self.bind_attributes(alloc, scope, &a.declared)?;
         self.bind_attributes_raise(scope, &a.declared)
     }
@@ -299,7 +308,7 @@ impl<'a> Names<'a> {
         ensures longer { length self.old ≤ length self.new }
     {
         match export {
-            Export::Pragma(pragma) => self.bind_pragma(alloc, scope, pragma),
+            Export::Pragma(_) => Ok(()),
             Export::Declaration(d) => self.bind_declaration(alloc, scope, d),
             Export::Attribute(a) => self.bind_attribute(alloc, scope, a),
             Export::Operation(o) => self.bind_operation(alloc, scope, o),
@@ -361,13 +370,7 @@ impl<'a> Names<'a> {
     {
         match interface {
             Interface::Ahead(identifier) => {
-                self.declare(
-                    alloc,
-                    scope,
-                    *identifier,
-                    identifier.number,
-                    EntryKind::Interface,
-                )?;
+                self.declare(alloc, scope, *identifier, EntryKind::Interface)?;
                 Ok(())
             }
             Interface::Defined {
@@ -375,13 +378,7 @@ impl<'a> Names<'a> {
                 bases,
                 exports,
             } => {
-                let (inner, _) = self.declare(
-                    alloc,
-                    scope,
-                    *identifier,
-                    identifier.number,
-                    EntryKind::Interface,
-                )?;
+                let inner = self.declare(alloc, scope, *identifier, EntryKind::Interface)?;
                 if let Some(names) = bases {
                     self.bind_bases(alloc, scope, inner, names)?;
                 }
@@ -404,18 +401,15 @@ impl<'a> Names<'a> {
         ensures longer { length self.old ≤ length self.new }
     {
         match definition {
-            Definition::Pragma(pragma) => self.bind_pragma(alloc, scope, pragma),
+            Definition::Pragma(pragma) => {
+                self.bind_pragma(scope, pragma);
+                Ok(())
+            }
             Definition::Declaration(d) => self.bind_declaration(alloc, scope, d),
             Definition::Interface(interface) => self.bind_interface(alloc, scope, interface),
             Definition::Module(m) => {
                 let identifier = m.identifier;
-                let (inner, _) = self.declare(
-                    alloc,
-                    scope,
-                    identifier,
-                    identifier.number,
-                    EntryKind::Module,
-                )?;
+                let inner = self.declare(alloc, scope, identifier, EntryKind::Module)?;
                 self.bind_definitions(alloc, inner, m.definitions.as_slice())?;
                 Ok(())
             }

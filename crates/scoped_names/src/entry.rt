@@ -1,5 +1,10 @@
 //! What a specification declares.
 
+ghost use Rattle.std.specs.Prelude.{◌≡◌};
+ghost use Rattle.scoped_names.specs.Entries.{plain as plain_meaning};
+
+use const_values::{ConstKind, Constant};
+
 /// What a name was declared as.
 #[derive(Clone, Copy, Debug, PartialEq, Eq)]
 pub enum EntryKind {
@@ -17,6 +22,32 @@ pub enum EntryKind {
     Exception,
     Operation,
     Attribute,
+}
+
+/// What an identifier is declared as.
+#[derive(Debug, Drop)]
+pub(crate) struct Meaning {
+    /// The token from which it is found.
+    pub token: usize,
+    pub kind: EntryKind,
+    /// What a constant or an enumerator is worth.
+    pub worth: Option<Constant>,
+    /// The type of constants for which the name of a type stands in the end.
+    pub stands_for: Option<ConstKind>,
+}
+
+impl Meaning {
+    /// What is neither a constant nor the name of a constant's type.
+    pub fn plain(token: usize, kind: EntryKind) -> Self
+        ensures { result ≡ plain_meaning token kind }
+    {
+        Meaning {
+            token,
+            kind,
+            worth: None,
+            stands_for: None,
+        }
+    }
 }
 
 /// A base of an interface.

@@ -47,6 +47,34 @@ pub enum NameFault {
     NoMemory,
 }
 
+impl NameFault {
+    /// The line of the fault, 0 where memory was refused.
+    pub fn line(self) -> usize {
+        match self {
+            NameFault::Unknown { line }
+            | NameFault::Collides { line }
+            | NameFault::CaseDiffers { line }
+            | NameFault::Ambiguous { line }
+            | NameFault::NotAType { line }
+            | NameFault::IdTwice { line }
+            | NameFault::BadConstant { line }
+            | NameFault::BadBase { line }
+            | NameFault::PrefixInScope { line }
+            | NameFault::PrefixDiffers { line } => line,
+            NameFault::NoMemory => 0,
+        }
+    }
+
+    /// The one with the lower line. A pragma has its line to itself.
+    pub(crate) fn or_earlier(self, other: NameFault) -> NameFault {
+        if other.line() < self.line() {
+            other
+        } else {
+            self
+        }
+    }
+}
+
 impl From<AllocError> for NameFault {
     ghost from_gives = { λ _ e. e ≡ NoMemory };
 

@@ -1,15 +1,19 @@
 //! What the names of an IDL specification mean (ISO/IEC 19500-1, names and scoping).
 #![tactic(auto)]
 
+mod bases;
 mod declarations;
 pub mod entry;
+mod evaluation;
 pub mod fault;
 mod key;
 pub mod names;
+mod pragmas;
 mod record;
 mod repository_ids;
 mod search;
 mod specification;
+mod table;
 mod types;
 
 pub use entry::{Base, EntryKind};

@@ -1,506 +1,150 @@
-//! The names of a specification.
+//! The names of a whole specification.
 
-ghost use Rattle.std.specs.Prelude.{◌≡◌, ◌<◌, ◌≤◌, ◌^◌, ◌↔◌, ℕ, length, option_copied, IfOk, IfSome, OnOk, OnErr, ◌≢◌, ◌+◌, ◌++◌, ◌∷◌, [], None, List, true, slice_get};
-ghost use Rattle.idl_tree.specs.Starts.{name_start, name_first, is_rooted};
-ghost use Rattle.scoped_names.specs.Search.{own as own_of, inherited as inherited_by, within as within_of, within_first, outwards as outwards_from, sought_in, word, in_its_case as found_in_its_case, finds, Finds};
-ghost use Rattle.scoped_names.specs.Entries.{found_behind, scope_of, with_base};
-ghost use Rattle.scoped_names.specs.Records.{heir_of as heir_in_records, entry_of, words_at, HasWord, is_word};
+ghost use Rattle.std.specs.Prelude.{◌≡◌, ◌<◌, ◌≤◌, ◌↔◌, ℕ, length, option_copied, slice_get, Some, Ok, IfOk, IfErr, IfSome};
+ghost use Rattle.std.specs.String.{string_bytes};
+ghost use Rattle.scoped_names.specs.Constants.{Explains, size_in_scope, worth_in_scope};
+ghost use Rattle.scoped_names.specs.Entry.{bases_in, meant_in, named, worth_in};
+ghost use Rattle.scoped_names.specs.RepositoryIds.{repository_id};
+ghost use Rattle.scoped_names.specs.Search.{Finds, word};
 
 use crate::entry::{Base, EntryKind};
 use crate::fault::NameFault;
-use crate::key::{Key, Word};
-use crate::record::{Heir, Record};
-use crate::search::Found;
-use idl_lexer::Kind;
+use crate::repository_ids::IdPragmas;
+use crate::table::Table;
+use const_values::{ConstKind, Constant};
+use idl_tree::expression::Expr;
 use idl_tree::names::{Leaf, ScopedName};
-use indexmap::{IndexMap, IndexSet};
 use std::alloc::{AllocError, Global};
 use std::marker::Model;
 
-/// The names of a specification. A contract sees the entries in order of declaration.
+/// The names of a specification. A contract sees the entries in order of declaration, and what
+/// pragmas say of repository ids. A scope is 0 for the file, else one more than the number of the
+/// entry whose scope it is.
 #[derive(Drop)]
 pub struct Names<'a> {
-    keys: IndexSet<Key<'a>>,
-    records: Vec<Record<'a>>,
-    /// The words that each scope declares.
-    words: Vec<Vec<Word<'a>>>,
-    /// The token of the last base.
-    latest: usize,
-    /// The members and parameters that each scope has; no search finds them.
-    members: IndexSet<Key<'a>>,
-    /// The entries of which a definition was read.
-    defined: IndexSet<usize>,
-    prefix: Option<&'a str>,
+    pub(crate) table: Table<'a>,
+    pub(crate) ids: IdPragmas<'a>,
 }
 
 impl<'a> Model for Names<'a> {
-    ghost use Rattle.std.specs.Prelude.{List};
-    ghost use Rattle.scoped_names.specs.Entry.{Entry};
-    ghost use Rattle.scoped_names.specs.Records.{entries_in, AreTied};
+    ghost use Rattle.scoped_names.specs.Whole.{Whole};
 
-    ghost Value = { List Entry };
+    ghost Value = { Whole };
 
-    ghost view = { λ n. entries_in n.records.items };
-
-    ghost invariant = { λ n. AreTied n.keys.keys n.records.items n.words.items n.latest };
-}
-
-/// What the interface has whose scope it is, if it has bases.
-fn heir_of<'r, 'a>(records: &'r [Record<'a>], scope: usize) -> Option<&'r Heir<'a>>
-    ensures { option_copied result ≡ heir_in_records records.now scope }
-{
-    let number = scope.checked_sub(1)?;
-    records.get(number)?.heir.as_deref()
-}
-
-/// Lists a word of a scope, and makes room for the words of one more.
-fn list_word<'a>(
-    alloc: Global,
-    words: &mut Vec<Vec<Word<'a>>>,
-    scope: usize,
-    word: Word<'a>,
-) -> Result<(), AllocError>
-    requires { scope < length words.old.items }
-    ensures kept { (s : ℕ) (name : List ℕ) → HasWord (words_at words.old.items s) name → HasWord (words_at words.new.items s) name }
-    ensures listed { OnOk result ((name : List ℕ) → is_word name word.entry ≡ true → HasWord (words_at words.new.items scope) name) }
-    ensures longer { length words.old.items ≤ length words.new.items }
-    ensures one_more { OnOk result (length words.new.items ≡ length words.old.items + 1) }
-{
-    words[scope].push(word)?;
-    words.push(Vec::new(alloc))?;
-    Ok(())
+    ghost view = { λ n. record { entries = n.table; rules = n.ids } };
 }
 
 impl<'a> Names<'a> {
-    /// No names yet.
-    pub(crate) fn new(alloc: Global) -> Result<Self, NameFault>
-        ensures { IfOk result (λ names. names ≡ []) }
-    {
-        let mut words = Vec::new(alloc);
-        words.push(Vec::new(alloc))?;
-        Ok(Names {
-            keys: IndexSet::new(alloc),
-            records: Vec::new(alloc),
-            words,
-            latest: 0,
-            members: IndexSet::new(alloc),
-            defined: IndexSet::new(alloc),
-            prefix: None,
-        })
-    }
-
-    /// The scope's own entry of the name that is declared before the token.
-    fn own(&self, token: usize, scope: usize, text: &'a str) -> Found
-        ensures { result ≡ own_of self.now token scope text.now }
-    {
-        let key = Key {
-            scope,
-            word: Word { text },
-        };
-        match self.keys.get_index_of(&key) {
-            Some(number) if self.records[number].token < token => Found::One(number),
-            _ => Found::Nothing,
-        }
-    }
-
-    /// What the bases that are named before the token give.
-    fn inherited(&self, token: usize, scope: usize, text: &'a str) -> Found
-        ensures { result ≡ inherited_by self.now token scope text.now }
-    {
-        let (mut limit, mut inner) = (token, scope);
-        while let Some(heir) = heir_of(self.records.as_slice(), inner) {
-            if let Some(given) = heir.others.get(&Word { text }) {
-                return given.before(limit);
-            }
-            if limit <= heir.first.token {
-                return Found::Nothing;
-            }
-            limit = heir.first.token;
-            inner = heir.first.entry + 1;
-            match self.own(limit, inner, text) {
-                Found::Nothing => {}
-                found => return found,
-            }
-        }
-        Found::Nothing
-    }
-
-    /// What a name before the token finds in the scope and its bases.
-    fn within(&self, token: usize, scope: usize, text: &'a str) -> Found
-        ensures { result ≡ within_of self.now token scope text.now }
-    {
-        match self.own(token, scope, text) {
-            Found::Nothing => self.inherited(token, scope, text),
-            found => found,
-        }
-    }
-
-    /// What it finds in the scope, or else in those around.
-    fn outwards(&self, token: usize, scope: usize, text: &'a str) -> Found
-        requires { scope ≤ length self.now }
-        ensures { result ≡ within_first self.now token (outwards_from self.now scope scope) text.now }
-    {
-        let mut place = scope;
-        loop {
-            match self.within(token, place, text) {
-                Found::Nothing => {}
-                found => return found,
-            }
-            if place == 0 {
-                return Found::Nothing;
-            }
-            place = self.records[place - 1].key.scope;
-        }
-    }
-
-    /// Nothing in place of an entry that is declared in another case than the name.
-    fn in_its_case(&self, found: Found, text: &str) -> Found
-        ensures kept { result ≡ found_in_its_case self.now text.now found }
-        ensures placed { (e : ℕ) → result ≡ Found.One e → e < length self.now }
-        ensures small { (e : ℕ) → result ≡ Found.One e → e < 2 ^ 63 }
-    {
-        match found {
-            Found::One(entry) => match self.records.get(entry) {
-                Some(record) if text == record.key.word.text => found,
-                _ => Found::Nothing,
-            },
-            _ => found,
-        }
-    }
-
-    /// What the first identifier of a name finds that stands in the scope, whatever its case.
-    fn find_first(&self, scope: usize, name: &ScopedName<'a>) -> Found
-        requires { scope ≤ length self.now }
-        ensures { result ≡ within_first self.now (name_start name.now).number (sought_in self.now scope (is_rooted name.now)) (word (name_first name.now)) }
-    {
-        let token = name.start().number;
-        let first = name.first().name();
-        if name.is_rooted() {
-            self.within(token, 0, first)
-        } else {
-            self.outwards(token, scope, first)
-        }
-    }
-
-    /// What a name finds that stands in the scope.
-    fn find(&self, scope: usize, name: &ScopedName<'a>) -> Found
-        requires { scope ≤ length self.now }
-        ensures found { result ≡ finds self.now scope name.now }
-        ensures placed { (e : ℕ) → result ≡ Found.One e → e < length self.now }
-    {
-        let token = name.start().number;
-        let mut found = self.in_its_case(self.find_first(scope, name), name.first().name());
-        for identifier in name.rest() {
-            match found {
-                Found::One(entry) => {
-                    let text = identifier.name();
-                    found = self.in_its_case(self.within(token, entry + 1, text), text);
-                }
-                _ => return found,
-            }
-        }
-        found
-    }
-
-    /// Whether a name that finds nothing would find something in another case.
-    fn differs_in_case(&self, scope: usize, name: &ScopedName<'a>) -> bool
-        requires { scope ≤ length self.now }
-    {
-        let token = name.start().number;
-        let mut found = self.find_first(scope, name);
-        let mut kept = self.in_its_case(found, name.first().name());
-        for identifier in name.rest() {
-            match kept {
-                Found::One(entry) => {
-                    let text = identifier.name();
-                    found = self.within(token, entry + 1, text);
-                    kept = self.in_its_case(found, text);
-                }
-                _ => return found != kept,
-            }
-        }
-        found != kept
-    }
-
-    /// The entry that a name finds that stands in the scope: 0 for the file, else one more than the
-    /// number of the entry whose scope it is. Takes no memory.
+    /// The entry that a name finds that stands in the scope. Takes no memory.
     ///
     /// # Errors
     ///
     /// `Unknown`, `CaseDiffers` or `Ambiguous`, with the line of the name's first token.
     pub fn resolve(&self, scope: usize, name: &ScopedName<'a>) -> Result<usize, NameFault>
-        requires { scope ≤ length self.now }
-        ensures finds { (entry : ℕ) → (result ≡ Ok entry) ↔ Finds self.now scope name.now entry }
-        ensures found { IfOk result (λ entry. finds self.now scope name.now ≡ Found.One entry) }
-        ensures placed { IfOk result (λ entry. entry < length self.now) }
+        requires { scope ≤ length self.now.entries }
+        ensures finds { (entry : ℕ) → (result ≡ Ok entry) ↔ Finds self.now.entries scope name.now entry }
+        ensures placed { IfOk result (λ entry. entry < length self.now.entries) }
     {
-        let line = name.start().token.line;
-        match self.find(scope, name) {
-            Found::One(entry) => Ok(entry),
-            Found::Several => Err(NameFault::Ambiguous { line }),
-            Found::Nothing if self.differs_in_case(scope, name) => {
-                Err(NameFault::CaseDiffers { line })
-            }
-            Found::Nothing => Err(NameFault::Unknown { line }),
-        }
+        self.table.resolve(scope, name)
+    }
+
+    /// How many entries there are.
+    pub fn len(&self) -> usize
+        ensures { result ≡ length self.now.entries }
+    {
+        self.table.len()
+    }
+
+    /// The entry that an identifier was declared as in the scope. Takes no memory.
+    pub fn declared(&self, scope: usize, identifier: Leaf<'a>) -> Option<usize>
+        ensures is { result ≡ named self.now.entries scope (word identifier.entry) }
+        ensures there { IfSome result (λ e. e < length self.now.entries) }
+    {
+        self.table.declared(scope, identifier)
     }
 
     /// What an entry was declared as.
     pub fn kind(&self, entry: usize) -> EntryKind
-        requires { entry < length self.now }
-        ensures { IfSome (slice_get self.now entry) (λ e. result ≡ e.kind) }
+        requires { entry < length self.now.entries }
+        ensures { IfSome (slice_get self.now.entries entry) (λ e. result ≡ e.kind) }
     {
-        self.records[entry].kind
+        self.table.kind(entry)
     }
 
-    /// Whether the scope has a member of the word, or has the word for its own name.
-    fn is_taken(&self, key: &Key<'a>) -> bool {
-        let own = match key.scope.checked_sub(1) {
-            Some(entry) => match self.records.get(entry) {
-                Some(record) => record.key.word == key.word,
-                None => false,
-            },
-            None => false,
-        };
-        own || self.members.contains(key)
-    }
-
-    /// Puts an entry behind the others.
-    fn push(&mut self, alloc: Global, declared: Record<'a>) -> Result<(), NameFault>
-        requires scope { declared.key.scope ≤ length self.old }
-        requires plain { declared.heir ≡ None }
-        ensures pushed { OnOk result (self.new ≡ self.old ++ entry_of declared.entry ∷ []) }
-        ensures err { OnErr result (self.new ≡ self.old) }
+    /// The line of the identifier of an entry's first declaration.
+    pub fn line(&self, entry: usize) -> usize
+        requires { entry < length self.now.entries }
     {
-        let (key, line, count) = (declared.key, declared.line, self.records.len());
-        if declared.token < self.latest {
-            return Err(NameFault::Unknown { line });
-        }
-        list_word(alloc, &mut self.words, key.scope, key.word)?;
-        self.records.push(declared)?;
-        match self.keys.insert(key) {
-            Ok(true) => Ok(()),
-            Ok(false) => {
-                self.records.truncate(count);
-                Err(NameFault::Collides { line })
-            }
-            Err(_) => {
-                self.records.truncate(count);
-                Err(NameFault::NoMemory)
-            }
-        }
+        self.table.line(entry)
     }
 
-    /// Whether an entry may appear again as what it appears here.
-    fn appears_again(
-        &self,
-        number: usize,
-        text: &str,
-        kind: EntryKind,
-        line: usize,
-    ) -> Result<(), NameFault> {
-        let Some(record) = self.records.get(number) else {
-            return Ok(());
-        };
-        let can_reappear = match kind {
-            EntryKind::Module | EntryKind::Interface | EntryKind::Struct | EntryKind::Union => true,
-            _ => false,
-        };
-        if !can_reappear || kind != record.kind || text != record.key.word.text {
-            return Err(NameFault::Collides { line });
-        }
-        if kind != EntryKind::Module && self.prefix != record.prefix {
-            return Err(NameFault::PrefixDiffers { line });
-        }
-        Ok(())
+    /// What a constant or an enumerator is worth.
+    pub fn constant(&self, entry: usize) -> Option<&Constant>
+        requires { entry < length self.now.entries }
+        ensures { option_copied result ≡ worth_in (slice_get self.now.entries entry) }
+    {
+        self.table.constant(entry)
     }
 
-    /// Declares an identifier in a scope as something that is found behind the token. Gives the scope
-    /// that the declaration has, and whether the name is new there.
+    /// The type of constants for which the name of a type stands in the end, if it does.
+    pub fn stands_for(&self, entry: usize) -> Option<ConstKind>
+        requires { entry < length self.now.entries }
+        ensures { result ≡ meant_in (slice_get self.now.entries entry) }
+    {
+        self.table.stands_for(entry)
+    }
+
+    /// How many bases an interface names.
+    pub fn base_count(&self, entry: usize) -> usize
+        requires { entry < length self.now.entries }
+        ensures { result ≡ length (bases_in (slice_get self.now.entries entry)) }
+    {
+        self.table.base_count(entry)
+    }
+
+    /// A base of an interface, by its place among them, counted from 0.
+    pub fn base(&self, entry: usize, place: usize) -> Option<Base>
+        requires { entry < length self.now.entries }
+        ensures { result ≡ slice_get (bases_in (slice_get self.now.entries entry)) place }
+    {
+        self.table.base(entry, place)
+    }
+
+    /// What an expression is worth that stands in the scope.
     ///
     /// # Errors
     ///
-    /// `Collides` or `PrefixDiffers`, with the identifier's line, or `NoMemory`.
-    pub(crate) fn declare(
-        &mut self,
-        alloc: Global,
-        scope: usize,
-        identifier: Leaf<'a>,
-        token: usize,
-        kind: EntryKind,
-    ) -> Result<(usize, bool), NameFault>
-        requires { scope ≤ length self.old }
-        ensures told { OnOk result (self.new ≡ found_behind token kind self.old scope identifier.entry) }
-        ensures inner { IfOk result (λ r. r.0 ≡ scope_of self.new scope identifier.entry) }
-        ensures within { IfOk result (λ r. (r.0 ≤ length self.new) × (1 ≤ r.0)) }
-        ensures longer { length self.old ≤ length self.new }
+    /// The fault of a name in it, `BadConstant` where it has no worth, `NoMemory`.
+    pub fn value(&self, alloc: Global, scope: usize, expr: &Expr<'a>) -> Result<Constant, NameFault>
+        requires { scope ≤ length self.now.entries }
+        ensures ok { IfOk result (λ c. worth_in_scope self.now.entries scope expr.now ≡ Some c) }
+        ensures err { IfErr result (Explains (worth_in_scope self.now.entries scope expr.now)) }
     {
-        let line = identifier.token.line;
-        let word = Word {
-            text: identifier.name(),
-        };
-        let key = Key { scope, word };
-        if self.is_taken(&key) {
-            return Err(NameFault::Collides { line });
-        }
-        match self.keys.get_index_of(&key) {
-            Some(number) => {
-                self.appears_again(number, word.text, kind, line)?;
-                Ok((number + 1, false))
-            }
-            None => {
-                let number = self.records.len();
-                let prefix = self.prefix;
-                self.push(
-                    alloc,
-                    Record {
-                        key,
-                        token,
-                        line,
-                        kind,
-                        prefix,
-                        heir: None,
-                    },
-                )?;
-                Ok((number + 1, true))
-            }
-        }
+        self.table.value(alloc, scope, expr)
     }
 
-    /// Notes that a scope is defined here.
+    /// What it is worth as a bound or a size, which is a whole number of at least 1.
     ///
     /// # Errors
     ///
-    /// `Collides` where it was defined before, or `NoMemory`.
-    pub(crate) fn define(&mut self, scope: usize, line: usize) -> Result<(), NameFault>
-        ensures { self.new ≡ self.old }
+    /// As `value`, and `BadConstant` where the worth is no such number.
+    pub fn size(&self, alloc: Global, scope: usize, expr: &Expr<'a>) -> Result<u128, NameFault>
+        requires { scope ≤ length self.now.entries }
+        ensures ok { IfOk result (λ n. size_in_scope self.now.entries scope expr.now ≡ Some n) }
+        ensures err { IfErr result (Explains (size_in_scope self.now.entries scope expr.now)) }
     {
-        if self.defined.insert(scope)? {
-            Ok(())
-        } else {
-            Err(NameFault::Collides { line })
-        }
+        self.table.size(alloc, scope, expr)
     }
 
-    /// Notes a member of a scope, which no search finds.
+    /// The repository id of an entry.
     ///
     /// # Errors
     ///
-    /// `Collides` where the scope has the name already, or `NoMemory`.
-    pub(crate) fn add_member(&mut self, scope: usize, identifier: Leaf<'a>) -> Result<(), NameFault>
-        ensures { self.new ≡ self.old }
+    /// `AllocError` where memory was refused.
+    pub fn repository_id(&self, alloc: Global, entry: usize) -> Result<String, AllocError>
+        requires { entry < length self.now.entries }
+        ensures { IfOk result (λ id. string_bytes id ≡ repository_id self.now.entries self.now.rules entry) }
     {
-        let word = Word {
-            text: identifier.name(),
-        };
-        let key = Key { scope, word };
-        let line = identifier.token.line;
-        if self.is_taken(&key) || self.keys.contains(&key) {
-            return Err(NameFault::Collides { line });
-        }
-        self.members.insert(key)?;
-        Ok(())
-    }
-
-    /// Whether the bases of a scope give an operation or attribute of the name.
-    pub(crate) fn inherits_feature(&self, scope: usize, identifier: Leaf<'a>) -> bool {
-        match self.inherited(identifier.number, scope, identifier.name()) {
-            Found::One(entry) => self.is_feature(entry),
-            Found::Nothing => false,
-            Found::Several => true,
-        }
-    }
-
-    fn is_feature(&self, entry: usize) -> bool {
-        match self.records.get(entry) {
-            Some(record) => {
-                record.kind == EntryKind::Operation || record.kind == EntryKind::Attribute
-            }
-            None => false,
-        }
-    }
-
-    /// A pragma for repository ids, in a scope.
-    ///
-    /// # Errors
-    ///
-    /// `PrefixInScope`, or `NoMemory`.
-    pub(crate) fn bind_pragma(
-        &mut self,
-        alloc: Global,
-        scope: usize,
-        leaf: &Leaf<'a>,
-    ) -> Result<(), NameFault>
-        ensures { self.new ≡ self.old }
-    {
-        if leaf.token.kind != Kind::Pragma {
-            return Ok(());
-        }
-        Ok(())
-    }
-
-    /// Gives an interface one more base, which has to be an interface that was defined.
-    ///
-    /// # Errors
-    ///
-    /// `BadBase` with the line, or `NoMemory`.
-    pub(crate) fn add_base(
-        &mut self,
-        alloc: Global,
-        inner: usize,
-        base: Base,
-        line: usize,
-    ) -> Result<(), NameFault>
-        requires inner { inner ≤ length self.old }
-        requires placed { base.entry < length self.old }
-        ensures told { OnOk result (self.new ≡ with_base self.old inner base) }
-        ensures longer { length self.old ≤ length self.new }
-    {
-        let Some(number) = inner.checked_sub(1) else {
-            return Err(NameFault::BadBase { line });
-        };
-        if base.token <= self.latest || !self.may_be_base(base.entry) {
-            return Err(NameFault::BadBase { line });
-        }
-        match heir_of(self.records.as_slice(), inner) {
-            Some(_) => return Err(NameFault::BadBase { line }),
-            None => {}
-        }
-        let heir = Box::new(
-            alloc,
-            Heir {
-                first: base,
-                later: Vec::new(alloc),
-                others: IndexMap::new(alloc),
-            },
-        )?;
-        self.records[number].heir = Some(heir);
-        self.latest = base.token;
-        Ok(())
-    }
-
-    /// An interface that was defined.
-    fn may_be_base(&self, entry: usize) -> bool {
-        match self.records.get(entry) {
-            Some(record) => {
-                record.kind == EntryKind::Interface && self.defined.contains(&(entry + 1))
-            }
-            None => false,
-        }
-    }
-
-    /// That each structure and union that is declared ahead is defined.
-    ///
-    /// # Errors
-    ///
-    /// `Unknown` with the line of the first declaration.
-    pub(crate) fn all_defined(&self) -> Result<(), NameFault> {
-        for (number, record) in self.records.iter().enumerate() {
-            let has_body = record.kind == EntryKind::Struct || record.kind == EntryKind::Union;
-            if has_body && !self.defined.contains(&(number + 1)) {
-                return Err(NameFault::Unknown { line: record.line });
-            }
-        }
-        Ok(())
+        self.table.repository_id(alloc, &self.ids, entry)
     }
 }

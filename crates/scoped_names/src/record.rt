@@ -6,6 +6,7 @@ ghost use Rattle.scoped_names.specs.Records.{given_before};
 use crate::entry::{Base, EntryKind};
 use crate::key::{Key, Word};
 use crate::search::Found;
+use const_values::{ConstKind, Constant};
 use indexmap::IndexMap;
 
 /// What several bases give for a name.
@@ -37,8 +38,12 @@ pub(crate) struct Record<'a> {
     /// The line of its identifier.
     pub line: usize,
     pub kind: EntryKind,
+    /// What a constant or an enumerator is worth.
+    pub worth: Option<Constant>,
+    /// The type of constants for which the name of a type stands in the end.
+    pub stands_for: Option<ConstKind>,
     /// The prefix of repository ids at the declaration.
-    pub prefix: Option<&'a str>,
+    pub prefix: &'a str,
     /// Of an interface that has bases.
     pub heir: Option<Box<Heir<'a>>>,
 }

@@ -144,23 +144,19 @@ impl<'a> IdPragmas<'a> {
     ///
     /// # Errors
     ///
-    /// `AllocError` where memory was refused; then nothing changed.
-    pub fn set_prefix(&mut self, token: usize, text: &'a str) -> Result<(), AllocError>
-        requires { (k : ℕ) (p : PrefixSet) → slice_get self.old.prefixes k ≡ Some p → p.token ≤ token }
+    /// `PrefixInScope` with the line where one stands behind it, `NoMemory`; then nothing changed.
+    pub fn set_prefix(&mut self, token: usize, text: &'a str, line: usize) -> Result<(), NameFault>
         ensures ok { OnOk result (self.new ≡
             record self.old { prefixes = self.old.prefixes ++ record { token = token; text = text.entry.now } ∷ [] }) }
         ensures err { OnErr result (self.new ≡ self.old) }
     {
-        self.prefixes.push(Prefix { token, text })?;
-        Ok(())
-    }
-
-    /// Whether the same prefix holds at two tokens, as at the declarations of one type it has to.
-    pub fn is_same_prefix(&self, one: usize, other: usize) -> bool
-        ensures { IsTrue result ↔ (prefix_from [] self.now.prefixes one ≡ prefix_from [] self.now.prefixes other) }
-    {
-        let prefixes = self.prefixes.as_slice();
-        prefix_before(prefixes, one).as_bytes() == prefix_before(prefixes, other).as_bytes()
+        match self.prefixes.last() {
+            Some(last) if token < last.token => Err(NameFault::PrefixInScope { line }),
+            _ => {
+                self.prefixes.push(Prefix { token, text })?;
+                Ok(())
+            }
+        }
     }
 
     /// Gives an id or a version to an entry. What it has already may be given again.

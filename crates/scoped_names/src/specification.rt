@@ -1,28 +1,39 @@
 //! The names of a whole specification.
 
 ghost use Rattle.std.specs.Prelude.{IfOk};
-ghost use Rattle.scoped_names.specs.Entries.{AreEntries};
+ghost use Rattle.scoped_names.specs.Whole.{AreNames};
 
 use crate::fault::NameFault;
 use crate::names::Names;
+use crate::repository_ids::IdPragmas;
+use crate::table::Table;
 use idl_tree::spec::Spec;
 use std::alloc::Global;
 
-/// The names of a specification: what each declares, once, at its first declaration.
+/// The names of a specification: what each declares, once, at its first declaration, and what its
+/// pragmas say of repository ids.
 ///
 /// # Errors
 ///
 /// The first fault in the order of reading, with its line; a type that was declared ahead and is
 /// never defined comes last.
 pub fn bind<'a>(alloc: Global, spec: &Spec<'a>) -> Result<Names<'a>, NameFault>
-    ensures { IfOk result (λ names. AreEntries spec.now.definitions.items names) }
+    ensures { IfOk result (AreNames spec.now.definitions.items) }
 {
     // no list of tokens is so long
     if spec.tokens.len() >= usize::MAX / 2 {
         return Err(NameFault::NoMemory);
     }
-    let mut names = Names::new(alloc)?;
-    names.bind_definitions(alloc, 0, spec.definitions.as_slice())?;
-    names.all_defined()?;
-    Ok(names)
+    let definitions = spec.definitions.as_slice();
+    let mut table = Table::new(alloc)?;
+    let bound = table.bind_definitions(alloc, 0, definitions);
+    let mut ids = IdPragmas::new(alloc);
+    let read = ids.read_file(&table, definitions);
+    match (bound, read) {
+        (Ok(()), Ok(())) => {}
+        (Err(fault), Ok(())) | (Ok(()), Err(fault)) => return Err(fault),
+        (Err(fault), Err(other)) => return Err(fault.or_earlier(other)),
+    }
+    table.all_defined()?;
+    Ok(Names { table, ids })
 }

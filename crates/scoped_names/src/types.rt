@@ -1,19 +1,23 @@
 //! What types declare.
 
-ghost use Rattle.std.specs.Prelude.{◌≡◌, ◌≤◌, length, OnOk};
-ghost use Rattle.scoped_names.specs.Entries.{enum_entries, switch_entries, type_entries, struct_entries, union_entries, member_entries, case_entries};
+ghost use Rattle.std.specs.Prelude.{◌≡◌, ◌<◌, ◌≤◌, length, OnOk, IfOk};
+ghost use Rattle.scoped_names.specs.Constants.{const_type_kind, param_type_kind, simple_type_kind};
+ghost use Rattle.scoped_names.specs.Search.{finds};
+ghost use Rattle.scoped_names.specs.declared.search.Found.{Found};
+ghost use Rattle.scoped_names.specs.Entries.{type_kind, enumerator_entries, enum_entries, switch_entries, type_entries, struct_entries, union_entries, member_entries, case_entries};
 
-use crate::entry::EntryKind;
+use crate::entry::{EntryKind, Meaning};
 use crate::fault::NameFault;
-use crate::names::Names;
+use crate::table::Table;
+use const_values::{ConstKind, Constant};
 use idl_tree::names::{Leaf, Listed, ScopedName};
 use idl_tree::types::{
-    Case, ConstType, Declarator, EnumType, Member, ParamType, SimpleType, StructType, SwitchType,
-    TypeSpec, UnionType,
+    Case, ConstType, Declarator, EnumType, Label, Member, ParamType, SimpleType, StructType,
+    SwitchType, TypeSpec, UnionType,
 };
 use std::alloc::Global;
 
-impl<'a> Names<'a> {
+impl<'a> Table<'a> {
     /// An enumeration and its enumerators.
     pub(crate) fn bind_enum(
         &mut self,
@@ -25,32 +29,48 @@ impl<'a> Names<'a> {
         ensures told { OnOk result (self.new ≡ enum_entries self.old scope e.now) }
         ensures longer { length self.old ≤ length self.new }
     {
-        self.declare(
-            alloc,
-            scope,
-            e.identifier,
-            e.identifier.number,
-            EntryKind::Enum,
-        )?;
+        let owner = self.len();
+        let meaning = Meaning {
+            token: e.identifier.number,
+            kind: EntryKind::Enum,
+            worth: None,
+            stands_for: Some(ConstKind::Enum(owner)),
+        };
+        self.declare_as(alloc, scope, e.identifier, meaning)?;
         for enumerator in e.enumerators.iter() {
-            self.declare(
-                alloc,
-                scope,
-                *enumerator,
-                enumerator.number,
-                EntryKind::Enumerator,
-            )?;
+            self.declare_enumerator(alloc, scope, *enumerator, owner)?;
         }
         Ok(())
     }
 
-    /// A name that stands for a type.
-    pub(crate) fn bind_type_name(
-        &self,
+    /// An enumerator of the enumeration that is the entry `owner`.
+    fn declare_enumerator(
+        &mut self,
+        alloc: Global,
         scope: usize,
-        name: &ScopedName<'a>,
+        identifier: Leaf<'a>,
+        owner: usize,
     ) -> Result<(), NameFault>
+        requires { scope ≤ length self.old }
+        ensures told { OnOk result (self.new ≡ enumerator_entries owner self.old scope identifier.entry) }
+        ensures longer { length self.old ≤ length self.new }
+    {
+        let enumerator = self.len();
+        let meaning = Meaning {
+            token: identifier.number,
+            kind: EntryKind::Enumerator,
+            worth: Some(Constant::Enumerator { enumerator, owner }),
+            stands_for: None,
+        };
+        self.declare_as(alloc, scope, identifier, meaning)?;
+        Ok(())
+    }
+
+    /// A name that stands for a type.
+    fn bind_type_name(&self, scope: usize, name: &ScopedName<'a>) -> Result<usize, NameFault>
         requires { scope ≤ length self.now }
+        ensures found { IfOk result (λ entry. finds self.now scope name.now ≡ Found.One entry) }
+        ensures placed { IfOk result (λ entry. entry < length self.now) }
     {
         let entry = self.resolve(scope, name)?;
         match self.kind(entry) {
@@ -58,38 +78,75 @@ impl<'a> Names<'a> {
             | EntryKind::Struct
             | EntryKind::Union
             | EntryKind::Enum
-            | EntryKind::Typedef => Ok(()),
+            | EntryKind::Typedef => Ok(entry),
             _ => Err(NameFault::NotAType {
                 line: name.start().token.line,
             }),
         }
     }
 
-    /// The type of a constant, a parameter or a member.
-    pub(crate) fn bind_const_type(&self, scope: usize, t: &ConstType<'a>) -> Result<(), NameFault>
+    /// The type of a constant, a parameter or a member. Gives the type of constants that it is in
+    /// the end, if it is one.
+    pub(crate) fn bind_const_type(
+        &self,
+        alloc: Global,
+        scope: usize,
+        t: &ConstType<'a>,
+    ) -> Result<Option<ConstKind>, NameFault>
         requires { scope ≤ length self.now }
+        ensures { IfOk result (λ kind. kind ≡ const_type_kind self.now scope t.now) }
+    {
+        Ok(match t {
+            ConstType::Integer(integer) => Some(ConstKind::Integer(*integer)),
+            ConstType::Char => Some(ConstKind::Char),
+            ConstType::Boolean => Some(ConstKind::Boolean),
+            ConstType::Octet => Some(ConstKind::Octet),
+            ConstType::String(None) => Some(ConstKind::String(None)),
+            ConstType::String(Some(bound)) => {
+                let most = self.size(alloc, scope, &bound.expr)?;
+                Some(ConstKind::String(Some(most)))
+            }
+            ConstType::Name(name) => {
+                let entry = self.bind_type_name(scope, name)?;
+                self.stands_for(entry)
+            }
+        })
+    }
+
+    pub(crate) fn bind_param_type(
+        &self,
+        alloc: Global,
+        scope: usize,
+        t: &ParamType<'a>,
+    ) -> Result<Option<ConstKind>, NameFault>
+        requires { scope ≤ length self.now }
+        ensures { IfOk result (λ kind. kind ≡ param_type_kind self.now scope t.now) }
     {
         match t {
-            ConstType::Name(name) => self.bind_type_name(scope, name),
-            _ => Ok(()),
+            ParamType::Plain(plain) => self.bind_const_type(alloc, scope, plain),
+            ParamType::Object => Ok(None),
         }
     }
 
-    pub(crate) fn bind_param_type(&self, scope: usize, t: &ParamType<'a>) -> Result<(), NameFault>
+    /// A type that declares nothing.
+    fn bind_simple(
+        &self,
+        alloc: Global,
+        scope: usize,
+        t: &SimpleType<'a>,
+    ) -> Result<Option<ConstKind>, NameFault>
         requires { scope ≤ length self.now }
+        ensures { IfOk result (λ kind. kind ≡ simple_type_kind self.now scope t.now) }
     {
         match t {
-            ParamType::Plain(plain) => self.bind_const_type(scope, plain),
-            ParamType::Object => Ok(()),
-        }
-    }
-
-    pub(crate) fn bind_simple(&self, scope: usize, t: &SimpleType<'a>) -> Result<(), NameFault>
-        requires { scope ≤ length self.now }
-    {
-        match t {
-            SimpleType::Plain(plain) => self.bind_param_type(scope, plain),
-            SimpleType::Sequence { element, .. } => self.bind_simple(scope, element),
+            SimpleType::Plain(plain) => self.bind_param_type(alloc, scope, plain),
+            SimpleType::Sequence { element, bound } => {
+                self.bind_simple(alloc, scope, element)?;
+                if let Some(bound) = bound {
+                    self.size(alloc, scope, &bound.expr)?;
+                }
+                Ok(None)
+            }
         }
     }
 
@@ -105,42 +162,89 @@ impl<'a> Names<'a> {
     {
         match switch {
             SwitchType::Enum(e) => self.bind_enum(alloc, scope, e),
-            SwitchType::Name(name) => self.bind_type_name(scope, name),
+            SwitchType::Name(name) => {
+                self.bind_type_name(scope, name)?;
+                Ok(())
+            }
             SwitchType::Integer(_) | SwitchType::Char | SwitchType::Boolean => Ok(()),
         }
+    }
+
+    /// The declarator of a member.
+    fn bind_declarator(
+        &mut self,
+        alloc: Global,
+        scope: usize,
+        declarator: &Declarator<'a>,
+    ) -> Result<(), NameFault>
+        requires { scope ≤ length self.old }
+        ensures { self.new ≡ self.old }
+    {
+        self.add_member(scope, declarator.identifier)?;
+        self.bind_sizes(alloc, scope, declarator.sizes.as_slice())
+    }
+
+    /// The labels of a case.
+    fn bind_labels(
+        &self,
+        alloc: Global,
+        scope: usize,
+        labels: &Listed<Label<'a>>,
+    ) -> Result<(), NameFault>
+        requires { scope ≤ length self.now }
+    {
+        for label in labels.iter() {
+            if let Label::Case(value) = label {
+                self.value(alloc, scope, &value.expr)?;
+            }
+        }
+        Ok(())
     }
 
     /// The declarators of members.
     fn bind_members(
         &mut self,
+        alloc: Global,
         scope: usize,
         declarators: &Listed<Declarator<'a>>,
     ) -> Result<(), NameFault>
+        requires { scope ≤ length self.old }
         ensures { self.new ≡ self.old }
     {
         for declarator in declarators.iter() {
-            self.add_member(scope, declarator.identifier)?;
+            self.bind_declarator(alloc, scope, declarator)?;
         }
         Ok(())
     }
 
-    /// A type and what it declares.
+    /// A type and what it declares. Gives the type of constants that it is in the end, if it is one.
     #[cycle(types)]
     pub(crate) fn bind_type(
         &mut self,
         alloc: Global,
         scope: usize,
         t: &TypeSpec<'a>,
-    ) -> Result<(), NameFault>
+    ) -> Result<Option<ConstKind>, NameFault>
         requires { scope ≤ length self.old }
         ensures told { OnOk result (self.new ≡ type_entries self.old scope t.now) }
+        ensures kind { IfOk result (λ kind. kind ≡ type_kind self.old scope t.now) }
         ensures longer { length self.old ≤ length self.new }
     {
         match t {
-            TypeSpec::Simple(simple) => self.bind_simple(scope, simple),
-            TypeSpec::Struct(s) => self.bind_struct(alloc, scope, s),
-            TypeSpec::Union(u) => self.bind_union(alloc, scope, u),
-            TypeSpec::Enum(e) => self.bind_enum(alloc, scope, e),
+            TypeSpec::Simple(simple) => self.bind_simple(alloc, scope, simple),
+            TypeSpec::Struct(s) => {
+                self.bind_struct(alloc, scope, s)?;
+                Ok(None)
+            }
+            TypeSpec::Union(u) => {
+                self.bind_union(alloc, scope, u)?;
+                Ok(None)
+            }
+            TypeSpec::Enum(e) => {
+                let kind = ConstKind::Enum(self.len());
+                self.bind_enum(alloc, scope, e)?;
+                Ok(Some(kind))
+            }
         }
     }
 
@@ -157,7 +261,7 @@ impl<'a> Names<'a> {
         ensures longer { length self.old ≤ length self.new }
     {
         self.bind_type(alloc, scope, &member.member_type)?;
-        self.bind_members(scope, &member.declarators)
+        self.bind_members(alloc, scope, &member.declarators)
     }
 
     #[cycle(types)]
@@ -171,13 +275,7 @@ impl<'a> Names<'a> {
         ensures told { OnOk result (self.new ≡ struct_entries self.old scope s.now) }
         ensures longer { length self.old ≤ length self.new }
     {
-        let (inner, _) = self.declare(
-            alloc,
-            scope,
-            s.identifier,
-            s.identifier.number,
-            EntryKind::Struct,
-        )?;
+        let inner = self.declare(alloc, scope, s.identifier, EntryKind::Struct)?;
         self.define(inner, s.identifier.token.line)?;
         self.bind_member(alloc, inner, &s.first)?;
         for member in &s.rest {
@@ -192,8 +290,9 @@ impl<'a> Names<'a> {
         ensures told { OnOk result (self.new ≡ case_entries self.old scope case.now) }
         ensures longer { length self.old ≤ length self.new }
     {
+        self.bind_labels(alloc, scope, &case.labels)?;
         self.bind_type(alloc, scope, &case.member_type)?;
-        self.add_member(scope, case.declarator.identifier)
+        self.bind_declarator(alloc, scope, &case.declarator)
     }
 
     #[cycle(types)]
@@ -207,13 +306,7 @@ impl<'a> Names<'a> {
         ensures told { OnOk result (self.new ≡ union_entries self.old scope u.now) }
         ensures longer { length self.old ≤ length self.new }
     {
-        let (inner, _) = self.declare(
-            alloc,
-            scope,
-            u.identifier,
-            u.identifier.number,
-            EntryKind::Union,
-        )?;
+        let inner = self.declare(alloc, scope, u.identifier, EntryKind::Union)?;
         self.define(inner, u.identifier.token.line)?;
         self.bind_switch(alloc, inner, &u.switch)?;
         self.bind_case(alloc, inner, &u.first)?;

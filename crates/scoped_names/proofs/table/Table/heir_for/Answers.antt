@@ -1,0 +1,26 @@
+use Rattle.std.proofs.Common.{◌≡◌, ◌∙◌, ◌++◌, ◌∷◌, ◌≤◌, [], Some, None, refl, ap, sym, subst, arith}
+use Rattle.scoped_names.specs.Entry.{bases_of}
+use Rattle.scoped_names.specs.Records.{entries_in, heir_of}
+use Rattle.scoped_names.specs.SeveralBases.{HasNoneFrom}
+use Rattle.scoped_names.proofs.Inheriting.{bases_kept, heir_list}
+use Rattle.scoped_names.proofs.MergedBases.{ok_then}
+use Rattle.scoped_names.proofs.MoreBases.{first_before}
+use Rattle.scoped_names.proofs.table.Table.heir_for.Goals as goal
+
+pub returns-in-Some-clause-low : goal.returns-in-Some-clause-low
+returns-in-Some-clause-low c =
+    let records = c.self.inside.records.items in
+    let inner = c.args.inner in
+    let old = c.in-Some.old.now in
+    let there = sym (c.in-Some.ensures ∙ ap (λ xs. heir_of xs inner) c.as_slice.ensures.value) in
+    let last : HasNoneFrom (entries_in records) inner c.args.base.token = subst (λ xs. HasNoneFrom xs inner c.args.base.token) (sym c.self.view_is) c.requires.last in
+    let low = first_before records inner c.args.base.token old there last in
+    ok_then c.next_heir.result (λ h is. subst (λ b. b.token ≤ c.args.base.token) (sym is) low) c.next_heir.ensures.first
+
+pub returns-in_ok-first_heir-in-None-clause-with_it : goal.returns-in_ok-first_heir-in-None-clause-with_it
+returns-in_ok-first_heir-in-None-clause-with_it c =
+    let records = c.self.inside.records.items in
+    let inner = c.args.inner in
+    let none = sym (c.in-None.ensures ∙ ap (λ xs. heir_of xs inner) c.as_slice.ensures.value) in
+    let bare : bases_of c.args.self.now inner ≡ [] = sym (ap (λ xs. bases_of xs inner) c.self.view_is) ∙ bases_kept records inner ∙ ap heir_list none in
+    ap (λ b. b ∷ c.in_ok-first_heir-in-None.field-0.value.later.items) c.in_ok-first_heir-in-None.ensures.first ∙ ap (λ bs. c.args.base ∷ bs) c.in_ok-first_heir-in-None.ensures.later ∙ sym (ap (λ bs. bs ++ c.args.base ∷ []) bare)

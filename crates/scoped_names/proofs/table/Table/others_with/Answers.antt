@@ -1,0 +1,36 @@
+use Rattle.std.proofs.Common.{◌≡◌, ◌∙◌, ◌+◌, ℕ, List, [], ◌∷◌, suc, drop, get_or, length, Some, None, refl, ap, sym, subst, arith}
+use Rattle.std.proofs.Math.Seq.{drop-cons}
+use Rattle.scoped_names.specs.declared.key.Word.{Word}
+use Rattle.scoped_names.specs.SeveralBases.{IsDone, SaysNothingNew}
+use Rattle.scoped_names.proofs.GivenBehind.{drop_none}
+use Rattle.scoped_names.proofs.MergedBases.{cloned, done_given, done_nothing, done_start, split_at}
+use Rattle.scoped_names.proofs.table.Table.others_with.Goals as goal
+use Rattle.scoped_names.proofs.table.Table.others_with.Goals.{in-Some+in_ok-insert, in_default}
+
+pub loop-word-init : goal.loop-word-init
+loop-word-init c =
+    let old = c.args.heir.now.others.entries in
+    let new = c.in_ok-others.others.entries in
+    done_start c.args.self.now c.args.inner c.args.base old new c.args.words.now (cloned _ _ (λ x y h. h) (λ x y h. h) old new c.in_ok-others.ensures.cases) c.requires.covers
+
+pub loop-word-preserved : goal.loop-word-preserved
+loop-word-preserved c =
+    let es = c.args.self.now in
+    let old = c.args.heir.now.others.entries in
+    let now = c.loop-word.others.entries in
+    let k = c.loop-word.word-index in
+    let words = c.args.words.now in
+    let next : suc k ≡ k + 1 = omega arith in
+    let d : Word = record { text = record { ref_ptr = (0, 0); now = [] } } in
+    let x = get_or words k d in
+    let split = drop-cons words k d (omega arith) ∙ ap (λ j. x ∷ drop j words) next in
+    elim c.match-given_with.branch [
+      | in-Some+in_ok-insert b ↦ subst (λ m. IsDone es c.args.inner c.args.base old m.entries (drop (k + 1) words)) (sym b.others-is)
+          (done_given es c.args.inner c.args.base old now b.insert.new.self.entries x (drop (k + 1) words) (drop k words) b.in-Some.given split b.in-Some.ensures.given b.in_ok-insert.ensures.entries c.loop-word.invariant)
+      | in_default b ↦ subst (λ m. IsDone es c.args.inner c.args.base old m.entries (drop (k + 1) words)) (sym b.others-is)
+          (done_nothing es c.args.inner c.args.base old now x (drop (k + 1) words) (drop k words) split (b.in_default.ensures.same refl) c.loop-word.invariant)
+    ]
+
+pub returns : goal.returns
+returns c =
+    subst (IsDone c.args.self.now c.args.inner c.args.base c.args.heir.now.others.entries c.loop-word.others.entries) (drop_none c.args.words.now c.loop-word.word-index (omega arith)) c.loop-word.invariant

@@ -1,0 +1,266 @@
+//! Interfaces with several bases.
+
+ghost use Rattle.std.specs.Prelude.{◌≡◌, ◌<◌, ◌≤◌, ◌⊎◌, ℕ, suc, ◌++◌, ◌∷◌, [], List, None, Some, IfOk, IfSome, OnOk, length};
+ghost use Rattle.indexmap.specs.IndexMap.{get_by};
+ghost use Rattle.scoped_names.specs.declared.search.Found.{Found};
+ghost use Rattle.scoped_names.specs.Entry.{bases_of};
+ghost use Rattle.scoped_names.specs.Search.{both as what_both_give, own as own_of, inherited as inherited_by, within as within_of};
+ghost use Rattle.scoped_names.specs.Records.{given_before, heir_of as heir_in_records, is_word, HasWord};
+ghost use Rattle.scoped_names.specs.SeveralBases.{given_then, HasNoneFrom, IsKept, Merges, SaysNothingNew, with_more, IsDone};
+
+use crate::entry::Base;
+use crate::fault::NameFault;
+use crate::key::Word;
+use crate::record::{Given, Heir};
+use crate::search::Found;
+use crate::table::{Table, heir_of};
+use indexmap::IndexMap;
+use std::alloc::{AllocError, Global};
+
+/// What is kept of a name that the bases before give from the token `first` on, where a base that
+/// is named at the token gives something else; nothing where it says nothing new.
+fn merged(old: Found, new: Found, first: usize, token: usize) -> Option<Given>
+    requires { (e : ℕ) → old ≡ Found.One e → first < token }
+    ensures given { IfSome result (λ g. (t : ℕ) → given_before t g ≡ given_then first token old new t) }
+    ensures told { IfSome result (λ g. (old ≡ Found.Several) → ⊥) }
+    ensures same { result ≡ None → what_both_give old new ≡ old }
+{
+    match (old, new) {
+        (Found::Several, _) | (_, Found::Nothing) => None,
+        (Found::One(one), Found::One(same)) if one == same => None,
+        (Found::Nothing, Found::One(entry)) => Some(Given {
+            entry,
+            token,
+            clash: None,
+        }),
+        (Found::Nothing, Found::Several) => Some(Given {
+            entry: 0,
+            token,
+            clash: Some(token),
+        }),
+        (Found::One(entry), _) => Some(Given {
+            entry,
+            token: first,
+            clash: Some(token),
+        }),
+    }
+}
+
+/// Adds the words of which something is kept.
+fn list_given<'a>(words: &mut Vec<Word<'a>>, heir: &Heir<'a>) -> Result<(), AllocError>
+    ensures kept { OnOk result ((name : List ℕ) → HasWord words.old.items name → HasWord words.new.items name) }
+    ensures listed { OnOk result ((name : List ℕ) →
+        (get_by (is_word name) heir.now.others ≡ None) ⊎ HasWord words.new.items name) }
+{
+    let entries = heir.others.as_slice();
+    for place in 0..entries.len() {
+        if let Some((word, _)) = entries.get_index(place) {
+            words.push(*word)?;
+        }
+    }
+    Ok(())
+}
+
+/// Whether an entry is a base already.
+fn has_base(heir: &Heir<'_>, entry: usize) -> bool {
+    heir.first.entry == entry || heir.later.iter().any(|base| base.entry == entry)
+}
+
+/// What is kept of an interface that gets its first base.
+fn first_heir<'a>(alloc: Global, base: Base) -> Result<Box<Heir<'a>>, AllocError>
+    ensures first { IfOk result (λ h. h.value.first ≡ base) }
+    ensures later { IfOk result (λ h. h.value.later.items ≡ []) }
+    ensures others { IfOk result (λ h. h.value.others.entries ≡ []) }
+{
+    Ok(Box::new(
+        alloc,
+        Heir {
+            first: base,
+            later: Vec::new(alloc),
+            others: IndexMap::new(alloc),
+        },
+    )?)
+}
+
+impl<'a> Table<'a> {
+    /// Adds the words that a scope declares.
+    fn list_declared(&self, words: &mut Vec<Word<'a>>, scope: usize) -> Result<(), AllocError>
+        ensures kept { OnOk result ((name : List ℕ) → HasWord words.old.items name → HasWord words.new.items name) }
+        ensures listed { OnOk result ((n : ℕ) (name : List ℕ) →
+            (own_of self.now n scope name ≡ Found.Nothing) ⊎ HasWord words.new.items name) }
+    {
+        if scope < self.words.len() {
+            words.extend_from_slice(self.words[scope].as_slice())?;
+        }
+        Ok(())
+    }
+
+    /// The words that a base declares, itself or by its bases.
+    fn words_of_base(&self, alloc: Global, base: Base) -> Result<Vec<Word<'a>>, AllocError>
+        requires { base.entry < length self.now }
+        ensures { IfOk result (λ words. (name : List ℕ) →
+            (within_of self.now base.token (suc base.entry) name ≡ Found.Nothing) ⊎ HasWord words.items name) }
+    {
+        let count = self.len();
+        prove!(base.entry < count);
+        let mut words = Vec::new(alloc);
+        let (mut limit, mut scope) = (base.token, base.entry + 1);
+        loop {
+            self.list_declared(&mut words, scope)?;
+            let Some(heir) = heir_of(self.records.as_slice(), scope) else {
+                return Ok(words);
+            };
+            list_given(&mut words, heir)?;
+            if limit <= heir.first.token {
+                return Ok(words);
+            }
+            limit = heir.first.token;
+            scope = heir.first.entry + 1;
+        }
+    }
+
+    /// What is kept of a word where an interface gets one more base; nothing where it says nothing
+    /// new.
+    fn given_with(&self, inner: usize, heir: &Heir<'a>, base: Base, word: Word<'a>) -> Option<Given>
+        requires kept { IsKept self.now inner heir.now }
+        requires placed { base.entry < length self.now }
+        ensures given { IfSome result (λ g. (t : ℕ) → given_before t g ≡ with_more self.now inner base t word.entry.text.now) }
+        ensures same { result ≡ None → SaysNothingNew self.now inner base word.entry.text.now }
+    {
+        let count = self.len();
+        prove!(base.entry < count);
+        let old = self.inherited(base.token, inner, word.text);
+        let new = self.within(base.token, base.entry + 1, word.text);
+        let first = match heir.others.get(&word) {
+            Some(given) => given.token,
+            None => heir.first.token,
+        };
+        merged(old, new, first, base.token)
+    }
+
+    /// What is kept of all names where an interface gets one more base that has the words.
+    fn others_with(
+        &self,
+        inner: usize,
+        heir: &Heir<'a>,
+        base: Base,
+        words: &[Word<'a>],
+    ) -> Result<IndexMap<Word<'a>, Given>, AllocError>
+        requires kept { IsKept self.now inner heir.now }
+        requires placed { base.entry < length self.now }
+        requires covers { (name : List ℕ) → (within_of self.now base.token (suc base.entry) name ≡ Found.Nothing) ⊎ HasWord words.now name }
+        ensures { IfOk result (λ others. IsDone self.now inner base heir.now.others.entries others.entries []) }
+    {
+        let mut others = heir.others.clone()?;
+        for word in words {
+            if let Some(given) = self.given_with(inner, heir, base, *word) {
+                others.insert(*word, given)?;
+            }
+        }
+        Ok(others)
+    }
+
+    /// What is kept of an interface that gets one more base.
+    fn heir_with(
+        &self,
+        alloc: Global,
+        inner: usize,
+        heir: &Heir<'a>,
+        base: Base,
+        words: &[Word<'a>],
+    ) -> Result<Box<Heir<'a>>, AllocError>
+        requires kept { IsKept self.now inner heir.now }
+        requires last { HasNoneFrom self.now inner base.token }
+        requires placed { base.entry < length self.now }
+        requires covers { (name : List ℕ) → (within_of self.now base.token (suc base.entry) name ≡ Found.Nothing) ⊎ HasWord words.now name }
+        ensures first { IfOk result (λ h. h.value.first ≡ heir.now.first) }
+        ensures later { IfOk result (λ h. h.value.later.items ≡ heir.now.later.items ++ base ∷ []) }
+        ensures merges { IfOk result (λ h. Merges self.now inner base h.value) }
+    {
+        let others = self.others_with(inner, heir, base, words)?;
+        let mut later = Vec::new(alloc);
+        later.extend_from_slice(heir.later.as_slice())?;
+        later.push(base)?;
+        Ok(Box::new(
+            alloc,
+            Heir {
+                first: heir.first,
+                later,
+                others,
+            },
+        )?)
+    }
+
+    /// Whether the base and those before it have different operations or attributes of one name.
+    fn features_differ(&self, inner: usize, base: Base, words: &[Word<'a>]) -> bool
+        requires { base.entry < length self.now }
+    {
+        let count = self.len();
+        prove!(base.entry < count);
+        for word in words {
+            let old = self.inherited(base.token, inner, word.text);
+            let new = self.within(base.token, base.entry + 1, word.text);
+            if let (Found::One(one), Found::One(other)) = (old, new) {
+                if one != other && self.is_feature(one) && self.is_feature(other) {
+                    return true;
+                }
+            }
+        }
+        false
+    }
+
+    /// What is kept of an interface that gets one more base, which has to be new and to have no
+    /// other operation or attribute of a name of theirs.
+    ///
+    /// # Errors
+    ///
+    /// `BadBase` with the line, or `NoMemory`.
+    fn next_heir(
+        &self,
+        alloc: Global,
+        inner: usize,
+        heir: &Heir<'a>,
+        base: Base,
+        line: usize,
+    ) -> Result<Box<Heir<'a>>, NameFault>
+        requires kept { IsKept self.now inner heir.now }
+        requires last { HasNoneFrom self.now inner base.token }
+        requires placed { base.entry < length self.now }
+        ensures first { IfOk result (λ h. h.value.first ≡ heir.now.first) }
+        ensures later { IfOk result (λ h. h.value.later.items ≡ heir.now.later.items ++ base ∷ []) }
+        ensures merges { IfOk result (λ h. Merges self.now inner base h.value) }
+    {
+        if has_base(heir, base.entry) {
+            return Err(NameFault::BadBase { line });
+        }
+        let words = self.words_of_base(alloc, base)?;
+        if self.features_differ(inner, base, words.as_slice()) {
+            return Err(NameFault::BadBase { line });
+        }
+        Ok(self.heir_with(alloc, inner, heir, base, words.as_slice())?)
+    }
+
+    /// What is kept of an interface that gets one more base.
+    ///
+    /// # Errors
+    ///
+    /// `BadBase` with the line, or `NoMemory`.
+    pub(crate) fn heir_for(
+        &self,
+        alloc: Global,
+        inner: usize,
+        base: Base,
+        line: usize,
+    ) -> Result<Box<Heir<'a>>, NameFault>
+        requires last { HasNoneFrom self.now inner base.token }
+        requires placed { base.entry < length self.now }
+        ensures with_it { IfOk result (λ h. h.value.first ∷ h.value.later.items ≡ bases_of self.now inner ++ base ∷ []) }
+        ensures low { IfOk result (λ h. h.value.first.token ≤ base.token) }
+        ensures merges { IfOk result (λ h. Merges self.now inner base h.value) }
+    {
+        match heir_of(self.records.as_slice(), inner) {
+            Some(old) => self.next_heir(alloc, inner, old, base, line),
+            None => Ok(first_heir(alloc, base)?),
+        }
+    }
+}

@@ -1,0 +1,188 @@
+//! What constant expressions are worth where names are found by their scope.
+
+ghost use Rattle.std.specs.Prelude.{◌≡◌, ◌≤◌, ◌<◌, length, Some, IfOk, IfErr};
+ghost use Rattle.const_values.specs.Worth.{worth, whole_number, operator_applied};
+ghost use Rattle.scoped_names.specs.Constants.{Explains, named_worth, of_type, size_in_scope, worth_in_scope};
+
+use crate::fault::NameFault;
+use crate::table::Table;
+use const_values::{ConstKind, Constant, applied, literal_constant, signed, text_constant};
+use idl_tree::const_expr::ConstExpr;
+use idl_tree::expression::{Expr, Operator, Sign};
+use idl_tree::names::ScopedName;
+use std::alloc::Global;
+
+/// The number, if the constant is a whole one.
+fn whole(constant: Constant, line: usize) -> Result<i128, NameFault>
+    ensures ok { IfOk result (λ z. whole_number (Some constant) ≡ Some z) }
+    ensures err { IfErr result (Explains (whole_number (Some constant))) }
+{
+    match constant {
+        Constant::Whole(value) => Ok(value),
+        _ => Err(NameFault::BadConstant { line }),
+    }
+}
+
+fn some_or_bad(value: Option<i128>, line: usize) -> Result<i128, NameFault>
+    ensures ok { IfOk result (λ z. value ≡ Some z) }
+    ensures err { IfErr result (Explains value) }
+{
+    match value {
+        Some(value) => Ok(value),
+        None => Err(NameFault::BadConstant { line }),
+    }
+}
+
+fn constant_or_bad(value: Option<Constant>, line: usize) -> Result<Constant, NameFault>
+    ensures ok { IfOk result (λ c. value ≡ Some c) }
+    ensures err { IfErr result (Explains value) }
+{
+    match value {
+        Some(value) => Ok(value),
+        None => Err(NameFault::BadConstant { line }),
+    }
+}
+
+/// An operator between a number and the constant behind it.
+fn joined(operator: Operator, left: i128, right: Constant, line: usize) -> Result<i128, NameFault>
+    ensures ok { IfOk result (λ z. operator_applied operator (Some left) (whole_number (Some right)) ≡ Some z) }
+    ensures err { IfErr result (Explains
+        (operator_applied operator (Some left) (whole_number (Some right)))) }
+{
+    match right {
+        Constant::Whole(right) => some_or_bad(applied(operator, left, right), line),
+        _ => Err(NameFault::BadConstant { line }),
+    }
+}
+
+impl<'a> Table<'a> {
+    /// What a name is worth.
+    fn name_worth(&self, scope: usize, name: &ScopedName<'a>) -> Result<Constant, NameFault>
+        requires { scope ≤ length self.now }
+        ensures ok { IfOk result (λ c. named_worth self.now scope name.now ≡ Some c) }
+        ensures err { IfErr result (Explains (named_worth self.now scope name.now)) }
+    {
+        match self.resolve(scope, name) {
+            Ok(entry) => match self.constant(entry) {
+                Some(constant) => Ok(constant.shared()?),
+                None => Err(NameFault::BadConstant {
+                    line: name.start().token.line,
+                }),
+            },
+            Err(fault) => Err(fault),
+        }
+    }
+
+    fn worth_at(
+        &self,
+        alloc: Global,
+        scope: usize,
+        expr: &Expr<'a>,
+        line: usize,
+    ) -> Result<Constant, NameFault>
+        requires { scope ≤ length self.now }
+        ensures ok { IfOk result (λ c. worth (named_worth self.now scope) expr.now ≡ Some c) }
+        ensures err { IfErr result (Explains (worth (named_worth self.now scope) expr.now)) }
+    {
+        match expr {
+            Expr::Name(name) => self.name_worth(scope, name),
+            Expr::Number(leaf) | Expr::Character(leaf) => {
+                constant_or_bad(literal_constant(leaf), line)
+            }
+            Expr::Text(literals) => constant_or_bad(text_constant(alloc, literals)?, line),
+            Expr::Boolean { value, .. } => Ok(Constant::Boolean(*value)),
+            Expr::Parenthesized { inner, .. } => self.worth_at(alloc, scope, inner, line),
+            Expr::Signed { sign, operand, .. } => {
+                let value = whole(self.worth_at(alloc, scope, operand, line)?, line)?;
+                Ok(Constant::Whole(some_or_bad(signed(*sign, value), line)?))
+            }
+            Expr::Chain { first, rest } => {
+                let mut value = whole(self.worth_at(alloc, scope, first, line)?, line)?;
+                for part in rest {
+                    let operand = self.worth_at(alloc, scope, &part.operand, line)?;
+                    value = joined(part.operator, value, operand, line)?;
+                }
+                Ok(Constant::Whole(value))
+            }
+        }
+    }
+
+    /// What an expression is worth that stands in the scope.
+    ///
+    /// # Errors
+    ///
+    /// The fault of a name in it, `BadConstant` where it has no worth, `NoMemory`.
+    pub(crate) fn value(
+        &self,
+        alloc: Global,
+        scope: usize,
+        expr: &Expr<'a>,
+    ) -> Result<Constant, NameFault>
+        requires { scope ≤ length self.now }
+        ensures ok { IfOk result (λ c. worth_in_scope self.now scope expr.now ≡ Some c) }
+        ensures err { IfErr result (Explains (worth_in_scope self.now scope expr.now)) }
+    {
+        self.worth_at(alloc, scope, expr, expr.start().token.line)
+    }
+
+    /// What it is worth as a bound or a size, which is a whole number of at least 1.
+    ///
+    /// # Errors
+    ///
+    /// As `value`, and `BadConstant` where the worth is no such number.
+    pub(crate) fn size(
+        &self,
+        alloc: Global,
+        scope: usize,
+        expr: &Expr<'a>,
+    ) -> Result<u128, NameFault>
+        requires { scope ≤ length self.now }
+        ensures ok { IfOk result (λ n. size_in_scope self.now scope expr.now ≡ Some n) }
+        ensures err { IfErr result (Explains (size_in_scope self.now scope expr.now)) }
+    {
+        match self.value(alloc, scope, expr)? {
+            Constant::Whole(value) if value > 0 => Ok(value.unsigned_abs()),
+            _ => Err(NameFault::BadConstant {
+                line: expr.start().token.line,
+            }),
+        }
+    }
+
+    /// That the sizes of an array are sizes.
+    pub(crate) fn bind_sizes(
+        &self,
+        alloc: Global,
+        scope: usize,
+        sizes: &[ConstExpr<'a>],
+    ) -> Result<(), NameFault>
+        requires { scope ≤ length self.now }
+    {
+        for size in sizes {
+            self.size(alloc, scope, &size.expr)?;
+        }
+        Ok(())
+    }
+
+    /// What an expression is worth as a constant whose type is of the kind.
+    pub(crate) fn value_of_kind(
+        &self,
+        alloc: Global,
+        scope: usize,
+        kind: Option<ConstKind>,
+        expr: &Expr<'a>,
+    ) -> Result<Constant, NameFault>
+        requires { scope ≤ length self.now }
+        ensures { IfOk result (λ v. of_type kind (worth_in_scope self.now scope expr.now) ≡ Some v) }
+    {
+        let line = expr.start().token.line;
+        let Some(kind) = kind else {
+            return Err(NameFault::BadConstant { line });
+        };
+        let constant = self.value(alloc, scope, expr)?;
+        if kind.admits(&constant) {
+            Ok(constant)
+        } else {
+            Err(NameFault::BadConstant { line })
+        }
+    }
+}

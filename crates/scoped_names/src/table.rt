@@ -1,0 +1,672 @@
+//! What a specification declares, and what names find.
+
+ghost use Rattle.std.specs.Prelude.{◌≡◌, ◌<◌, ◌≤◌, ◌^◌, ◌↔◌, ℕ, length, option_copied, IfOk, IfSome, OnOk, OnErr, ◌≢◌, ◌+◌, ◌++◌, ◌∷◌, [], None, List, true, slice_get};
+ghost use Rattle.idl_tree.specs.Starts.{name_start, name_first, is_rooted};
+ghost use Rattle.scoped_names.specs.Search.{own as own_of, inherited as inherited_by, within as within_of, within_first, outwards as outwards_from, sought_in, word, in_its_case as found_in_its_case, finds, Finds};
+ghost use Rattle.scoped_names.specs.Entry.{bases_in, worth_in, meant_in, named};
+ghost use Rattle.std.specs.String.{string_bytes};
+ghost use Rattle.scoped_names.specs.RepositoryIds.{repository_id as id_of};
+ghost use Rattle.scoped_names.specs.IdPragmas.{begins_at_root, identifiers_find};
+ghost use Rattle.idl_lexer.specs.Identifiers.{words};
+ghost use Rattle.idl_lexer.specs.Words.{unescaped as unescaped_word};
+ghost use Rattle.scoped_names.specs.Entries.{declared, declared_as, scope_of, with_base};
+ghost use Rattle.scoped_names.specs.Records.{heir_of as heir_in_records, entry_of, words_at, HasWord, is_word};
+
+use crate::entry::{Base, EntryKind, Meaning};
+use crate::fault::NameFault;
+use crate::key::{Key, Word};
+use crate::record::{Heir, Record};
+use crate::repository_ids::IdPragmas;
+use crate::search::Found;
+use const_values::{ConstKind, Constant};
+use idl_lexer::{Identifiers, Kind, Pragma, is_rooted};
+use idl_tree::names::{Leaf, ScopedName};
+use indexmap::{IndexMap, IndexSet};
+use std::alloc::{AllocError, Global};
+use std::marker::Model;
+
+/// The names of a specification. A contract sees the entries in order of declaration.
+#[derive(Drop)]
+pub(crate) struct Table<'a> {
+    keys: IndexSet<Key<'a>>,
+    pub(crate) records: Vec<Record<'a>>,
+    /// The words that each scope declares.
+    pub(crate) words: Vec<Vec<Word<'a>>>,
+    /// The token of the last base.
+    latest: usize,
+    /// The members and parameters that each scope has; no search finds them.
+    members: IndexSet<Key<'a>>,
+    /// The entries of which a definition was read.
+    defined: IndexSet<usize>,
+    /// The prefix of repository ids that is set.
+    prefix: &'a str,
+}
+
+impl<'a> Model for Table<'a> {
+    ghost use Rattle.std.specs.Prelude.{List};
+    ghost use Rattle.scoped_names.specs.Entry.{Entry};
+    ghost use Rattle.scoped_names.specs.Records.{entries_in, AreTied};
+
+    ghost Value = { List Entry };
+
+    ghost view = { λ n. entries_in n.records.items };
+
+    ghost invariant = { λ n. AreTied n.keys.keys n.records.items n.words.items n.latest };
+}
+
+/// What the interface has whose scope it is, if it has bases.
+pub(crate) fn heir_of<'r, 'a>(records: &'r [Record<'a>], scope: usize) -> Option<&'r Heir<'a>>
+    ensures { option_copied result ≡ heir_in_records records.now scope }
+{
+    let number = scope.checked_sub(1)?;
+    records.get(number)?.heir.as_deref()
+}
+
+/// Lists a word of a scope, and makes room for the words of one more.
+fn list_word<'a>(
+    alloc: Global,
+    words: &mut Vec<Vec<Word<'a>>>,
+    scope: usize,
+    word: Word<'a>,
+) -> Result<(), AllocError>
+    requires { scope < length words.old.items }
+    ensures kept { (s : ℕ) (name : List ℕ) → HasWord (words_at words.old.items s) name → HasWord (words_at words.new.items s) name }
+    ensures listed { OnOk result ((name : List ℕ) → is_word name word.entry ≡ true → HasWord (words_at words.new.items scope) name) }
+    ensures longer { length words.old.items ≤ length words.new.items }
+    ensures one_more { OnOk result (length words.new.items ≡ length words.old.items + 1) }
+{
+    words[scope].push(word)?;
+    words.push(Vec::new(alloc))?;
+    Ok(())
+}
+
+/// A word without the underscore that escapes it.
+fn unescaped(word: &str) -> &str
+    ensures { result.now ≡ unescaped_word word.now }
+{
+    word.strip_prefix('_').unwrap_or(word)
+}
+
+impl<'a> Table<'a> {
+    /// No names yet.
+    pub(crate) fn new(alloc: Global) -> Result<Self, NameFault>
+        ensures { IfOk result (λ names. names ≡ []) }
+    {
+        let mut words = Vec::new(alloc);
+        words.push(Vec::new(alloc))?;
+        Ok(Table {
+            keys: IndexSet::new(alloc),
+            records: Vec::new(alloc),
+            words,
+            latest: 0,
+            members: IndexSet::new(alloc),
+            defined: IndexSet::new(alloc),
+            prefix: "",
+        })
+    }
+
+    /// The scope's own entry of the name that is declared before the token.
+    fn own(&self, token: usize, scope: usize, text: &'a str) -> Found
+        ensures { result ≡ own_of self.now token scope text.now }
+    {
+        let key = Key {
+            scope,
+            word: Word { text },
+        };
+        match self.keys.get_index_of(&key) {
+            Some(number) if self.records[number].token < token => Found::One(number),
+            _ => Found::Nothing,
+        }
+    }
+
+    /// What the bases that are named before the token give.
+    pub(crate) fn inherited(&self, token: usize, scope: usize, text: &'a str) -> Found
+        ensures { result ≡ inherited_by self.now token scope text.now }
+    {
+        let (mut limit, mut inner) = (token, scope);
+        while let Some(heir) = heir_of(self.records.as_slice(), inner) {
+            if let Some(given) = heir.others.get(&Word { text }) {
+                return given.before(limit);
+            }
+            if limit <= heir.first.token {
+                return Found::Nothing;
+            }
+            limit = heir.first.token;
+            inner = heir.first.entry + 1;
+            match self.own(limit, inner, text) {
+                Found::Nothing => {}
+                found => return found,
+            }
+        }
+        Found::Nothing
+    }
+
+    /// What a name before the token finds in the scope and its bases.
+    pub(crate) fn within(&self, token: usize, scope: usize, text: &'a str) -> Found
+        ensures { result ≡ within_of self.now token scope text.now }
+    {
+        match self.own(token, scope, text) {
+            Found::Nothing => self.inherited(token, scope, text),
+            found => found,
+        }
+    }
+
+    /// What it finds in the scope, or else in those around.
+    fn outwards(&self, token: usize, scope: usize, text: &'a str) -> Found
+        requires { scope ≤ length self.now }
+        ensures { result ≡ within_first self.now token (outwards_from self.now scope scope) text.now }
+    {
+        let mut place = scope;
+        loop {
+            match self.within(token, place, text) {
+                Found::Nothing => {}
+                found => return found,
+            }
+            if place == 0 {
+                return Found::Nothing;
+            }
+            place = self.records[place - 1].key.scope;
+        }
+    }
+
+    /// Nothing in place of an entry that is declared in another case than the name.
+    fn in_its_case(&self, found: Found, text: &str) -> Found
+        ensures kept { result ≡ found_in_its_case self.now text.now found }
+        ensures placed { (e : ℕ) → result ≡ Found.One e → e < length self.now }
+        ensures small { (e : ℕ) → result ≡ Found.One e → e < 2 ^ 63 }
+    {
+        match found {
+            Found::One(entry) => match self.records.get(entry) {
+                Some(record) if text == record.key.word.text => found,
+                _ => Found::Nothing,
+            },
+            _ => found,
+        }
+    }
+
+    /// What the first identifier of a name finds that stands in the scope, whatever its case.
+    fn find_first(&self, scope: usize, name: &ScopedName<'a>) -> Found
+        requires { scope ≤ length self.now }
+        ensures { result ≡ within_first self.now (name_start name.now).number (sought_in self.now scope (is_rooted name.now)) (word (name_first name.now)) }
+    {
+        let token = name.start().number;
+        let first = name.first().name();
+        if name.is_rooted() {
+            self.within(token, 0, first)
+        } else {
+            self.outwards(token, scope, first)
+        }
+    }
+
+    /// What a name finds that stands in the scope.
+    fn find(&self, scope: usize, name: &ScopedName<'a>) -> Found
+        requires { scope ≤ length self.now }
+        ensures found { result ≡ finds self.now scope name.now }
+        ensures placed { (e : ℕ) → result ≡ Found.One e → e < length self.now }
+    {
+        let token = name.start().number;
+        let mut found = self.in_its_case(self.find_first(scope, name), name.first().name());
+        for identifier in name.rest() {
+            match found {
+                Found::One(entry) => {
+                    let text = identifier.name();
+                    found = self.in_its_case(self.within(token, entry + 1, text), text);
+                }
+                _ => return found,
+            }
+        }
+        found
+    }
+
+    /// Whether a name that finds nothing would find something in another case.
+    fn differs_in_case(&self, scope: usize, name: &ScopedName<'a>) -> bool
+        requires { scope ≤ length self.now }
+    {
+        let token = name.start().number;
+        let mut found = self.find_first(scope, name);
+        let mut kept = self.in_its_case(found, name.first().name());
+        for identifier in name.rest() {
+            match kept {
+                Found::One(entry) => {
+                    let text = identifier.name();
+                    found = self.within(token, entry + 1, text);
+                    kept = self.in_its_case(found, text);
+                }
+                _ => return found != kept,
+            }
+        }
+        found != kept
+    }
+
+    /// The entry that a name finds that stands in the scope: 0 for the file, else one more than the
+    /// number of the entry whose scope it is. Takes no memory.
+    ///
+    /// # Errors
+    ///
+    /// `Unknown`, `CaseDiffers` or `Ambiguous`, with the line of the name's first token.
+    pub(crate) fn resolve(&self, scope: usize, name: &ScopedName<'a>) -> Result<usize, NameFault>
+        requires { scope ≤ length self.now }
+        ensures finds { (entry : ℕ) → (result ≡ Ok entry) ↔ Finds self.now scope name.now entry }
+        ensures found { IfOk result (λ entry. finds self.now scope name.now ≡ Found.One entry) }
+        ensures placed { IfOk result (λ entry. entry < length self.now) }
+    {
+        let line = name.start().token.line;
+        match self.find(scope, name) {
+            Found::One(entry) => Ok(entry),
+            Found::Several => Err(NameFault::Ambiguous { line }),
+            Found::Nothing if self.differs_in_case(scope, name) => {
+                Err(NameFault::CaseDiffers { line })
+            }
+            Found::Nothing => Err(NameFault::Unknown { line }),
+        }
+    }
+
+    /// What an entry was declared as.
+    pub(crate) fn kind(&self, entry: usize) -> EntryKind
+        requires { entry < length self.now }
+        ensures { IfSome (slice_get self.now entry) (λ e. result ≡ e.kind) }
+    {
+        self.records[entry].kind
+    }
+
+    /// What a constant or an enumerator is worth.
+    pub(crate) fn constant(&self, entry: usize) -> Option<&Constant>
+        requires { entry < length self.now }
+        ensures { option_copied result ≡ worth_in (slice_get self.now entry) }
+    {
+        self.records[entry].worth.as_ref()
+    }
+
+    /// The type of constants for which the name of a type stands in the end, if it does.
+    pub(crate) fn stands_for(&self, entry: usize) -> Option<ConstKind>
+        requires { entry < length self.now }
+        ensures { result ≡ meant_in (slice_get self.now entry) }
+    {
+        self.records[entry].stands_for
+    }
+
+    pub(crate) fn line(&self, entry: usize) -> usize
+        requires { entry < length self.now }
+    {
+        self.records[entry].line
+    }
+
+    /// How many bases an interface names.
+    pub(crate) fn base_count(&self, entry: usize) -> usize
+        requires { entry < length self.now }
+        ensures { result ≡ length (bases_in (slice_get self.now entry)) }
+    {
+        match &self.records[entry].heir {
+            Some(heir) => heir.later.len() + 1,
+            None => 0,
+        }
+    }
+
+    /// A base of an interface, by its place among them.
+    pub(crate) fn base(&self, entry: usize, place: usize) -> Option<Base>
+        requires { entry < length self.now }
+        ensures { result ≡ slice_get (bases_in (slice_get self.now entry)) place }
+    {
+        let heir = self.records[entry].heir.as_deref()?;
+        match place.checked_sub(1) {
+            None => Some(heir.first),
+            Some(behind) => heir.later.get(behind).copied(),
+        }
+    }
+
+    /// The repository id of an entry, by what pragmas say.
+    ///
+    /// # Errors
+    ///
+    /// `AllocError` where memory was refused.
+    pub(crate) fn repository_id(
+        &self,
+        alloc: Global,
+        ids: &IdPragmas<'a>,
+        entry: usize,
+    ) -> Result<String, AllocError>
+        requires { entry < length self.now }
+        ensures { IfOk result (λ id. string_bytes id ≡ id_of self.now ids.now entry) }
+    {
+        ids.repository_id(alloc, self.records.as_slice(), entry)
+    }
+
+    /// Whether the scope has a member of the word, or has the word for its own name.
+    fn is_taken(&self, key: &Key<'a>) -> bool {
+        let own = match key.scope.checked_sub(1) {
+            Some(entry) => match self.records.get(entry) {
+                Some(record) => record.key.word == key.word,
+                None => false,
+            },
+            None => false,
+        };
+        own || self.members.contains(key)
+    }
+
+    /// Puts an entry behind the others.
+    fn push(&mut self, alloc: Global, declared: Record<'a>) -> Result<(), NameFault>
+        requires scope { declared.key.scope ≤ length self.old }
+        requires plain { declared.heir ≡ None }
+        ensures pushed { OnOk result (self.new ≡ self.old ++ entry_of declared.entry ∷ []) }
+        ensures err { OnErr result (self.new ≡ self.old) }
+    {
+        let (key, line, count) = (declared.key, declared.line, self.records.len());
+        if declared.token < self.latest {
+            return Err(NameFault::Unknown { line });
+        }
+        list_word(alloc, &mut self.words, key.scope, key.word)?;
+        self.records.push(declared)?;
+        match self.keys.insert(key) {
+            Ok(true) => Ok(()),
+            Ok(false) => {
+                self.records.truncate(count);
+                Err(NameFault::Collides { line })
+            }
+            Err(_) => {
+                self.records.truncate(count);
+                Err(NameFault::NoMemory)
+            }
+        }
+    }
+
+    /// Whether an entry may appear again as what it appears here.
+    fn appears_again(
+        &self,
+        number: usize,
+        text: &str,
+        kind: EntryKind,
+        line: usize,
+    ) -> Result<(), NameFault> {
+        let Some(record) = self.records.get(number) else {
+            return Ok(());
+        };
+        let can_reappear = match kind {
+            EntryKind::Module | EntryKind::Interface | EntryKind::Struct | EntryKind::Union => true,
+            _ => false,
+        };
+        if !can_reappear || kind != record.kind || text != record.key.word.text {
+            return Err(NameFault::Collides { line });
+        }
+        if kind != EntryKind::Module && self.prefix.as_bytes() != record.prefix.as_bytes() {
+            return Err(NameFault::PrefixDiffers { line });
+        }
+        Ok(())
+    }
+
+    /// How many entries there are.
+    pub(crate) fn len(&self) -> usize
+        ensures { result ≡ length self.now }
+    {
+        self.records.len()
+    }
+
+    /// Declares an identifier in a scope as what is meant. Gives the scope that the declaration has.
+    ///
+    /// # Errors
+    ///
+    /// `Collides` or `PrefixDiffers`, with the identifier's line, or `NoMemory`.
+    pub(crate) fn declare_as(
+        &mut self,
+        alloc: Global,
+        scope: usize,
+        identifier: Leaf<'a>,
+        meaning: Meaning,
+    ) -> Result<usize, NameFault>
+        requires { scope ≤ length self.old }
+        ensures told { OnOk result (self.new ≡ declared_as meaning self.old scope identifier.entry) }
+        ensures inner { IfOk result (λ r. r ≡ scope_of self.new scope identifier.entry) }
+        ensures within { IfOk result (λ r. (r ≤ length self.new) × (1 ≤ r)) }
+        ensures longer { length self.old ≤ length self.new }
+    {
+        let line = identifier.token.line;
+        let word = Word {
+            text: identifier.name(),
+        };
+        let key = Key { scope, word };
+        if self.is_taken(&key) {
+            return Err(NameFault::Collides { line });
+        }
+        match self.keys.get_index_of(&key) {
+            Some(number) => {
+                self.appears_again(number, word.text, meaning.kind, line)?;
+                Ok(number + 1)
+            }
+            None => {
+                let number = self.records.len();
+                let prefix = self.prefix;
+                self.push(
+                    alloc,
+                    Record {
+                        key,
+                        token: meaning.token,
+                        line,
+                        kind: meaning.kind,
+                        worth: meaning.worth,
+                        stands_for: meaning.stands_for,
+                        prefix,
+                        heir: None,
+                    },
+                )?;
+                Ok(number + 1)
+            }
+        }
+    }
+
+    /// Declares an identifier as something that is found behind it.
+    ///
+    /// # Errors
+    ///
+    /// As `declare_as`.
+    pub(crate) fn declare(
+        &mut self,
+        alloc: Global,
+        scope: usize,
+        identifier: Leaf<'a>,
+        kind: EntryKind,
+    ) -> Result<usize, NameFault>
+        requires { scope ≤ length self.old }
+        ensures told { OnOk result (self.new ≡ declared kind self.old scope identifier.entry) }
+        ensures inner { IfOk result (λ r. r ≡ scope_of self.new scope identifier.entry) }
+        ensures within { IfOk result (λ r. (r ≤ length self.new) × (1 ≤ r)) }
+        ensures longer { length self.old ≤ length self.new }
+    {
+        self.declare_as(
+            alloc,
+            scope,
+            identifier,
+            Meaning::plain(identifier.number, kind),
+        )
+    }
+
+    /// That a scope has no such name yet.
+    ///
+    /// # Errors
+    ///
+    /// `Collides`, with the identifier's line.
+    pub(crate) fn is_new(&self, scope: usize, identifier: Leaf<'a>) -> Result<(), NameFault> {
+        let word = Word {
+            text: identifier.name(),
+        };
+        let key = Key { scope, word };
+        if self.is_taken(&key) || self.keys.contains(&key) {
+            let line = identifier.token.line;
+            return Err(NameFault::Collides { line });
+        }
+        Ok(())
+    }
+
+    /// Notes that a scope is defined here.
+    ///
+    /// # Errors
+    ///
+    /// `Collides` where it was defined before, or `NoMemory`.
+    pub(crate) fn define(&mut self, scope: usize, line: usize) -> Result<(), NameFault>
+        ensures { self.new ≡ self.old }
+    {
+        if self.defined.insert(scope)? {
+            Ok(())
+        } else {
+            Err(NameFault::Collides { line })
+        }
+    }
+
+    /// Notes a member of a scope, which no search finds.
+    ///
+    /// # Errors
+    ///
+    /// `Collides` where the scope has the name already, or `NoMemory`.
+    pub(crate) fn add_member(&mut self, scope: usize, identifier: Leaf<'a>) -> Result<(), NameFault>
+        ensures { self.new ≡ self.old }
+    {
+        self.is_new(scope, identifier)?;
+        let word = Word {
+            text: identifier.name(),
+        };
+        let key = Key { scope, word };
+        self.members.insert(key)?;
+        Ok(())
+    }
+
+    /// Whether the bases of a scope give an operation or attribute of the name.
+    pub(crate) fn inherits_feature(&self, scope: usize, identifier: Leaf<'a>) -> bool {
+        match self.inherited(identifier.number, scope, identifier.name()) {
+            Found::One(entry) => self.is_feature(entry),
+            Found::Nothing => false,
+            Found::Several => true,
+        }
+    }
+
+    pub(crate) fn is_feature(&self, entry: usize) -> bool {
+        match self.records.get(entry) {
+            Some(record) => {
+                record.kind == EntryKind::Operation || record.kind == EntryKind::Attribute
+            }
+            None => false,
+        }
+    }
+
+    /// The scope of what an identifier was declared as; the file's where it was declared as nothing.
+    pub(crate) fn scope_of(&self, scope: usize, identifier: Leaf<'a>) -> usize
+        ensures is { result ≡ scope_of self.now scope identifier.entry }
+        ensures there { result ≤ length self.now }
+    {
+        match self.declared(scope, identifier) {
+            Some(number) => number + 1,
+            None => 0,
+        }
+    }
+
+    /// The entry that an identifier was declared as in the scope.
+    pub(crate) fn declared(&self, scope: usize, identifier: Leaf<'a>) -> Option<usize>
+        ensures is { result ≡ named self.now scope (word identifier.entry) }
+        ensures there { IfSome result (λ e. e < length self.now) }
+        ensures small { IfSome result (λ e. e < 2 ^ 63) }
+    {
+        let text = identifier.name();
+        self.keys.get_index_of(&Key {
+            scope,
+            word: Word { text },
+        })
+    }
+
+    /// What the name of a pragma finds that stands in a scope, and whether it would find something
+    /// else in another case.
+    pub(crate) fn find_words(&self, token: usize, scope: usize, name: &'a str) -> (Found, bool)
+        requires { scope ≤ length self.now }
+        ensures { result.0 ≡ identifiers_find self.now token scope (begins_at_root name.now) (words name.now) }
+    {
+        let mut words = Identifiers::new(name);
+        let Some(first) = words.next() else {
+            return (Found::Nothing, false);
+        };
+        let text = unescaped(first);
+        let mut sought = if is_rooted(name) {
+            self.within(token, 0, text)
+        } else {
+            self.outwards(token, scope, text)
+        };
+        let mut found = self.in_its_case(sought, text);
+        for word in words {
+            match found {
+                Found::One(entry) => {
+                    let text = unescaped(word);
+                    sought = self.within(token, entry + 1, text);
+                    found = self.in_its_case(sought, text);
+                }
+                _ => return (found, found != sought),
+            }
+        }
+        (found, found != sought)
+    }
+
+    /// A prefix that holds from here on, if a pragma in the file's scope sets one.
+    pub(crate) fn bind_pragma(&mut self, scope: usize, leaf: &Leaf<'a>)
+        ensures { self.new ≡ self.old }
+    {
+        if scope > 0 {
+            return;
+        }
+        match leaf.token.kind {
+            Kind::Pragma => {
+                if let Pragma::Prefix { text } = leaf.pragma() {
+                    self.prefix = text;
+                }
+            }
+            _ => {}
+        }
+    }
+
+    /// Gives an interface one more base, which has to be an interface that was defined.
+    ///
+    /// # Errors
+    ///
+    /// `BadBase` with the line, or `NoMemory`.
+    pub(crate) fn add_base(
+        &mut self,
+        alloc: Global,
+        inner: usize,
+        base: Base,
+        line: usize,
+    ) -> Result<(), NameFault>
+        requires inner { inner ≤ length self.old }
+        requires placed { base.entry < length self.old }
+        ensures told { OnOk result (self.new ≡ with_base self.old inner base) }
+        ensures longer { length self.old ≤ length self.new }
+    {
+        let Some(number) = inner.checked_sub(1) else {
+            return Err(NameFault::BadBase { line });
+        };
+        if base.token <= self.latest || !self.may_be_base(base.entry) {
+            return Err(NameFault::BadBase { line });
+        }
+        let heir = self.heir_for(alloc, inner, base, line)?;
+        self.records[number].heir = Some(heir);
+        self.latest = base.token;
+        Ok(())
+    }
+
+    /// An interface that was defined.
+    fn may_be_base(&self, entry: usize) -> bool {
+        match self.records.get(entry) {
+            Some(record) => {
+                record.kind == EntryKind::Interface && self.defined.contains(&(entry + 1))
+            }
+            None => false,
+        }
+    }
+
+    /// That each structure and union that is declared ahead is defined.
+    ///
+    /// # Errors
+    ///
+    /// `Unknown` with the line of the first declaration.
+    pub(crate) fn all_defined(&self) -> Result<(), NameFault> {
+        for (number, record) in self.records.iter().enumerate() {
+            let has_body = record.kind == EntryKind::Struct || record.kind == EntryKind::Union;
+            if has_body && !self.defined.contains(&(number + 1)) {
+                return Err(NameFault::Unknown { line: record.line });
+            }
+        }
+        Ok(())
+    }
+}
