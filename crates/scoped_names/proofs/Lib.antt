@@ -15,3 +15,5 @@ pub mod PragmasSaid
 pub mod Weights
 pub mod ChainWorth
 pub mod GivenBehind
+pub mod Ways
+pub mod WaysKept

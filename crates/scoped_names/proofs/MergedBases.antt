@@ -164,15 +164,11 @@ begins_before es scope h w m (Some g) e kept is there =
 -- ---- the words that are left
 
 pub done_start : (es : List Entry) (scope : ℕ) (base : Base) (old others : List (Word × Given)) (words : List Word) → others ≡ old
-    → ((w : List ℕ) → (within es base.token (suc base.entry) w ≡ Nothing) ⊎ HasWord words w) → IsDone es scope base old others words
-done_start es scope base old others words same covers w = inr (ap (lookup (is_word w)) same, by (covers w))
-  where
-    by : (within es base.token (suc base.entry) w ≡ Nothing) ⊎ HasWord words w → SaysNothingNew es scope base w ⊎ HasWord words w
-    by (inl none) = inl (ap (both (inherited es base.token scope w)) none ∙ both_nothing (inherited es base.token scope w))
-    by (inr has) = inr has
+    → ((w : List ℕ) → SaysNothingNew es scope base w ⊎ HasWord words w) → IsDone es scope base old others words
+done_start es scope base old others words same covers w = inr (ap (lookup (is_word w)) same, covers w)
 
 -- a word of a list is its first or one of the others
-first_or : (k : Word) (ks : List Word) (w : List ℕ) → HasWord (k ∷ ks) w → (is_word w k ≡ true) ⊎ HasWord ks w
+pub first_or : (k : Word) (ks : List Word) (w : List ℕ) → HasWord (k ∷ ks) w → (is_word w k ≡ true) ⊎ HasWord ks w
 first_or k ks w (zero, x, at, is) = let same : k ≡ x = cc in inl (ap (is_word w) same ∙ is)
 first_or k ks w (suc n, x, at, is) = inr (n, x, at, is)
 
@@ -193,10 +189,10 @@ done_nothing es scope base old others k ks left is none done w = by (done w)
     by (inl right) = inl right
     by (inr kept) = inr (kept.0, next kept.1)
 
-abbrev word_eq : Word → Word → Bool
+abbrev pub word_eq : Word → Word → Bool
 word_eq a b = bytes_eq (folded a) (folded b)
 
-same_word : (a b : Word) → word_eq a b ≡ true → (w : List ℕ) → is_word w a ≡ is_word w b
+pub same_word : (a b : Word) → word_eq a b ≡ true → (w : List ℕ) → is_word w a ≡ is_word w b
 same_word a b h w = ap (bytes_eq (lower w)) ((bytes_eq-Decides (folded a) (folded b)).0 h)
 
 both_word : (w : List ℕ) (a b : Word) → is_word w a ≡ true → is_word w b ≡ true → word_eq a b ≡ true
@@ -254,7 +250,7 @@ done_given es scope base old others more k ks left g is right inserted done w = 
         from (inl (f, there, fits)) = inl (f, same ∙ there, fits)
         from (inr kept) = inr (same ∙ kept.0, next un kept.1)
 
-none_left : (left : List Word) (w : List ℕ) → left ≡ [] → HasWord left w → ⊥
+pub none_left : (left : List Word) (w : List ℕ) → left ≡ [] → HasWord left w → ⊥
 none_left left w none (k, x, at, is) = let wrong : slice_get [] k ≡ Some x = sym (ap (λ xs. slice_get xs k) none) ∙ at in cc
 
 -- where no word is left, what is kept says what the interface inherits with the base
@@ -287,7 +283,7 @@ done_all es scope base h more left none kept last first done t w = by (done w)
 
 -- ---- the words of a base
 
-HasWord_behind : (ws vs : List Word) (w : List ℕ) → HasWord vs w → HasWord (ws ++ vs) w
+pub HasWord_behind : (ws vs : List Word) (w : List ℕ) → HasWord vs w → HasWord (ws ++ vs) w
 HasWord_behind [] vs w h = h
 HasWord_behind (x ∷ ws) vs w h = let (k, y, at, is) = HasWord_behind ws vs w h in (suc k, y, at, is)
 

@@ -1,6 +1,6 @@
 -- One more base of an interface.
 use Rattle.std.proofs.Common.{◌≡◌, ◌∙◌, ℕ, zero, suc, ◌<◌, ◌≤◌, ◌⊎◌, inl, inr, Bool, true, false, cond, nat_eq, List, [], ◌∷◌, ◌++◌, map, length, slice_get, position, Option, Some, None, Vec, Global, refl, sym, ap, subst, arith}
-use Rattle.std.specs.Prelude.{nat_lt, slice_set, Box}
+use Rattle.std.specs.Prelude.{is_some, nat_lt, slice_set, Box}
 use Rattle.std.specs.Option.{option_map}
 use Rattle.std.proofs.Math.Dec.{leb}
 use Rattle.std.proofs.lemmas.Bool.{eq-eqb, eqb-true, le-ltb, leb-false, leb-true, lt-ltb}
@@ -23,6 +23,9 @@ use Rattle.scoped_names.specs.Records.{AreNested, ArePlaced, AreSearched, AreTie
 use Rattle.scoped_names.specs.SeveralBases.{HasNoneFrom, IsKept, Merges, with_more}
 use Rattle.scoped_names.proofs.Inheriting.{bases_kept, first_base, heir_list}
 use Rattle.scoped_names.proofs.Lookups.{named_keys}
+use Rattle.scoped_names.specs.declared.shortcuts.Shortcut.{Shortcut}
+use Rattle.scoped_names.specs.Shortcuts.{AreShort}
+use Rattle.scoped_names.proofs.WaysKept.{ways_like}
 use Rattle.scoped_names.proofs.Stability.{agree, both_nothing, constant}
 
 -- ---- one element that is changed
@@ -273,6 +276,12 @@ module _ (keys : List Key) (records : List Record) (words : List (Vec Word Globa
     searched = searched_after;
   }
 
+  pub ways_more : (ways : List (ℕ × Shortcut)) → AreShort es latest ways → lookup (nat_eq (suc e)) ways ≡ None → AreShort fs m ways
+  ways_more ways kept free =
+      ways_like es fs latest m ways (omega arith) kept
+      (λ q way at t w. other t q w (λ is. let wrong : Some way ≡ None = sym at ∙ ap (λ x. lookup (nat_eq x) ways) is ∙ free in cc))
+      (λ t q w h. early t q w (omega arith))
+
   pub told_more : fs ≡ with_base es (suc e) base
   told_more =
       let was : slice_get es e ≡ Some (entry_of r) = slice_get-map entry_of records e ∙ ap (option_map entry_of) there in
@@ -280,6 +289,10 @@ module _ (keys : List Key) (records : List Record) (words : List (Vec Word Globa
       map_changed entry_of records e changed
       ∙ ap (λ bs. slice_set es e (record (entry_of r) { bases = bs })) (with_it ∙ ap (λ bs. bs ++ base ∷ []) (sym old))
       ∙ sym (ap (entry_with_base es e base) was)
+
+pub free : (o : Option Shortcut) (b : Bool) → b ≡ is_some o → b ≡ false → o ≡ None
+free None b is none = refl
+free (Some x) b is none = cc
 
 -- ---- what is kept before
 
@@ -294,10 +307,10 @@ none_from records latest token placed late s j low = by (base_at (bases_of (entr
     by (Some b) is = let le = (placed s j b is).1 in absurd (omega arith)
 
 -- the first base is named before the next
-pub first_before : (records : List Record) (s token : ℕ) (h : Heir) → heir_of records s ≡ Some h → HasNoneFrom (entries_in records) s token → h.first.token ≤ token
+pub first_before : (records : List Record) (s token : ℕ) (h : Heir) → heir_of records s ≡ Some h → HasNoneFrom (entries_in records) s token → h.first.token < token
 first_before records s token h there last = by (leb token h.first.token) refl
   where
-    by : (b : Bool) → leb token h.first.token ≡ b → h.first.token ≤ token
+    by : (b : Bool) → leb token h.first.token ≡ b → h.first.token < token
     by true is =
         let none : Some h.first.entry ≡ None = sym (first_base records s h there) ∙ last h.first.token (leb-true token h.first.token is) in
         cc

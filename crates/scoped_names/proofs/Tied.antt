@@ -17,6 +17,9 @@ use Rattle.scoped_names.specs.Entry.{Entry, bases_of, is_named, named}
 use Rattle.scoped_names.specs.Search.{base_at, inherited}
 use Rattle.scoped_names.specs.declared.search.Found.TheVariants.{Nothing}
 use Rattle.scoped_names.specs.Records.{AreListed, ArePlaced, AreSearched, AreTied, HasWord, by_given, by_heir, entries_in, entry_of, heir_bases, heir_in, heir_of, is_word, key_of, unboxed, words_at, words_in}
+use Rattle.scoped_names.specs.declared.shortcuts.Shortcut.{Shortcut}
+use Rattle.scoped_names.specs.Shortcuts.{AreShort}
+use Rattle.scoped_names.proofs.WaysKept.{ways_like}
 use Rattle.scoped_names.proofs.Inheriting.{first_base}
 use Rattle.scoped_names.proofs.Stability.{bases_push, both_nothing, get_push, get_push_last, get_push_low, inherited_push, named_push, or_place, within_push}
 
@@ -143,6 +146,13 @@ module _ (keys : List Key) (records : List Record) (words : List (Vec Word Globa
     listed = listed_push more kept new;
     searched = searched_push;
   }
+
+  pub ways_push : (ways : List (ℕ × Shortcut)) → AreShort (entries_in records) latest ways → AreShort (entries_in (records ++ r ∷ [])) latest ways
+  ways_push ways kept =
+      subst (λ xs. AreShort xs latest ways) (sym (entries_push records r))
+      (ways_like (entries_in records) (entries_in records ++ entry_of r ∷ []) latest latest ways (omega arith) kept
+      (λ q way at t w. inherited_push (entries_in records) (entry_of r) no_bases latest bounded late t q w)
+      (λ t q w h. inherited_push (entries_in records) (entry_of r) no_bases latest bounded late t q w))
 
 -- ---- none yet
 

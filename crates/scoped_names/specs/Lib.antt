@@ -10,3 +10,4 @@ pub mod Records
 pub mod IdsKept
 pub mod Whole
 pub mod SeveralBases
+pub mod Shortcuts

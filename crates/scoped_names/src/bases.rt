@@ -47,7 +47,7 @@ fn merged(old: Found, new: Found, first: usize, token: usize) -> Option<Given>
 }
 
 /// Adds the words of which something is kept.
-fn list_given<'a>(words: &mut Vec<Word<'a>>, heir: &Heir<'a>) -> Result<(), AllocError>
+pub(crate) fn list_given<'a>(words: &mut Vec<Word<'a>>, heir: &Heir<'a>) -> Result<(), AllocError>
     ensures kept { OnOk result ((name : List ℕ) → HasWord words.old.items name → HasWord words.new.items name) }
     ensures listed { OnOk result ((name : List ℕ) →
         (get_by (is_word name) heir.now.others ≡ None) ⊎ HasWord words.new.items name) }
@@ -84,7 +84,11 @@ fn first_heir<'a>(alloc: Global, base: Base) -> Result<Box<Heir<'a>>, AllocError
 
 impl<'a> Table<'a> {
     /// Adds the words that a scope declares.
-    fn list_declared(&self, words: &mut Vec<Word<'a>>, scope: usize) -> Result<(), AllocError>
+    pub(crate) fn list_declared(
+        &self,
+        words: &mut Vec<Word<'a>>,
+        scope: usize,
+    ) -> Result<(), AllocError>
         ensures kept { OnOk result ((name : List ℕ) → HasWord words.old.items name → HasWord words.new.items name) }
         ensures listed { OnOk result ((n : ℕ) (name : List ℕ) →
             (own_of self.now n scope name ≡ Found.Nothing) ⊎ HasWord words.new.items name) }
@@ -95,28 +99,24 @@ impl<'a> Table<'a> {
         Ok(())
     }
 
-    /// The words that a base declares, itself or by its bases.
-    fn words_of_base(&self, alloc: Global, base: Base) -> Result<Vec<Word<'a>>, AllocError>
-        requires { base.entry < length self.now }
-        ensures { IfOk result (λ words. (name : List ℕ) →
-            (within_of self.now base.token (suc base.entry) name ≡ Found.Nothing) ⊎ HasWord words.items name) }
+    /// The words of which an interface may inherit something else where it gets one more base.
+    fn words_to_merge(
+        &self,
+        alloc: Global,
+        inner: usize,
+        heir: &Heir<'a>,
+        base: Base,
+    ) -> Result<Vec<Word<'a>>, AllocError>
+        requires kept { IsKept self.now inner heir.now }
+        requires last { HasNoneFrom self.now inner base.token }
+        requires first { heir.now.first.entry < length self.now }
+        requires earlier { heir.now.first.token < base.token }
+        requires placed { base.entry < length self.now }
+        ensures { IfOk result (λ words. (name : List ℕ) → SaysNothingNew self.now inner base name ⊎ HasWord words.items name) }
     {
-        let count = self.len();
-        prove!(base.entry < count);
-        let mut words = Vec::new(alloc);
-        let (mut limit, mut scope) = (base.token, base.entry + 1);
-        loop {
-            self.list_declared(&mut words, scope)?;
-            let Some(heir) = heir_of(self.records.as_slice(), scope) else {
-                return Ok(words);
-            };
-            list_given(&mut words, heir)?;
-            if limit <= heir.first.token {
-                return Ok(words);
-            }
-            limit = heir.first.token;
-            scope = heir.first.entry + 1;
-        }
+        let mut words = self.words_apart(alloc, heir.first, base)?;
+        list_given(&mut words, heir)?;
+        Ok(words)
     }
 
     /// What is kept of a word where an interface gets one more base; nothing where it says nothing
@@ -148,7 +148,7 @@ impl<'a> Table<'a> {
     ) -> Result<IndexMap<Word<'a>, Given>, AllocError>
         requires kept { IsKept self.now inner heir.now }
         requires placed { base.entry < length self.now }
-        requires covers { (name : List ℕ) → (within_of self.now base.token (suc base.entry) name ≡ Found.Nothing) ⊎ HasWord words.now name }
+        requires covers { (name : List ℕ) → SaysNothingNew self.now inner base name ⊎ HasWord words.now name }
         ensures { IfOk result (λ others. IsDone self.now inner base heir.now.others.entries others.entries []) }
     {
         let mut others = heir.others.clone()?;
@@ -172,7 +172,7 @@ impl<'a> Table<'a> {
         requires kept { IsKept self.now inner heir.now }
         requires last { HasNoneFrom self.now inner base.token }
         requires placed { base.entry < length self.now }
-        requires covers { (name : List ℕ) → (within_of self.now base.token (suc base.entry) name ≡ Found.Nothing) ⊎ HasWord words.now name }
+        requires covers { (name : List ℕ) → SaysNothingNew self.now inner base name ⊎ HasWord words.now name }
         ensures first { IfOk result (λ h. h.value.first ≡ heir.now.first) }
         ensures later { IfOk result (λ h. h.value.later.items ≡ heir.now.later.items ++ base ∷ []) }
         ensures merges { IfOk result (λ h. Merges self.now inner base h.value) }
@@ -226,6 +226,8 @@ impl<'a> Table<'a> {
         requires kept { IsKept self.now inner heir.now }
         requires last { HasNoneFrom self.now inner base.token }
         requires placed { base.entry < length self.now }
+        requires first { heir.now.first.entry < length self.now }
+        requires earlier { heir.now.first.token < base.token }
         ensures first { IfOk result (λ h. h.value.first ≡ heir.now.first) }
         ensures later { IfOk result (λ h. h.value.later.items ≡ heir.now.later.items ++ base ∷ []) }
         ensures merges { IfOk result (λ h. Merges self.now inner base h.value) }
@@ -233,7 +235,7 @@ impl<'a> Table<'a> {
         if has_base(heir, base.entry) {
             return Err(NameFault::BadBase { line });
         }
-        let words = self.words_of_base(alloc, base)?;
+        let words = self.words_to_merge(alloc, inner, heir, base)?;
         if self.features_differ(inner, base, words.as_slice()) {
             return Err(NameFault::BadBase { line });
         }

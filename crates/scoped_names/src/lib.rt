@@ -12,6 +12,7 @@ mod pragmas;
 mod record;
 mod repository_ids;
 mod search;
+mod shortcuts;
 mod specification;
 mod table;
 mod types;

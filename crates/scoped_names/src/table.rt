@@ -18,6 +18,7 @@ use crate::key::{Key, Word};
 use crate::record::{Heir, Record};
 use crate::repository_ids::IdPragmas;
 use crate::search::Found;
+use crate::shortcuts::{Place, Shortcut, Step};
 use const_values::{ConstKind, Constant};
 use idl_lexer::{Identifiers, Kind, Pragma, is_rooted};
 use idl_tree::names::{Leaf, ScopedName};
@@ -33,25 +34,30 @@ pub(crate) struct Table<'a> {
     /// The words that each scope declares.
     pub(crate) words: Vec<Vec<Word<'a>>>,
     /// The token of the last base.
-    latest: usize,
+    pub(crate) latest: usize,
     /// The members and parameters that each scope has; no search finds them.
     members: IndexSet<Key<'a>>,
     /// The entries of which a definition was read.
     defined: IndexSet<usize>,
     /// The prefix of repository ids that is set.
     prefix: &'a str,
+    /// Ways from scopes over several bases at once.
+    pub(crate) shortcuts: IndexMap<usize, Shortcut<'a>>,
+    /// How many words the ways have.
+    pub(crate) noted: usize,
 }
 
 impl<'a> Model for Table<'a> {
     ghost use Rattle.std.specs.Prelude.{List};
     ghost use Rattle.scoped_names.specs.Entry.{Entry};
     ghost use Rattle.scoped_names.specs.Records.{entries_in, AreTied};
+    ghost use Rattle.scoped_names.specs.Shortcuts.{AreShort};
 
     ghost Value = { List Entry };
 
     ghost view = { λ n. entries_in n.records.items };
 
-    ghost invariant = { λ n. AreTied n.keys.keys n.records.items n.words.items n.latest };
+    ghost invariant = { λ n. AreTied n.keys.keys n.records.items n.words.items n.latest × AreShort (entries_in n.records.items) n.latest n.shortcuts.entries };
 }
 
 /// What the interface has whose scope it is, if it has bases.
@@ -102,11 +108,13 @@ impl<'a> Table<'a> {
             members: IndexSet::new(alloc),
             defined: IndexSet::new(alloc),
             prefix: "",
+            shortcuts: IndexMap::new(alloc),
+            noted: 0,
         })
     }
 
     /// The scope's own entry of the name that is declared before the token.
-    fn own(&self, token: usize, scope: usize, text: &'a str) -> Found
+    pub(crate) fn own(&self, token: usize, scope: usize, text: &'a str) -> Found
         ensures { result ≡ own_of self.now token scope text.now }
     {
         let key = Key {
@@ -123,22 +131,13 @@ impl<'a> Table<'a> {
     pub(crate) fn inherited(&self, token: usize, scope: usize, text: &'a str) -> Found
         ensures { result ≡ inherited_by self.now token scope text.now }
     {
-        let (mut limit, mut inner) = (token, scope);
-        while let Some(heir) = heir_of(self.records.as_slice(), inner) {
-            if let Some(given) = heir.others.get(&Word { text }) {
-                return given.before(limit);
-            }
-            if limit <= heir.first.token {
-                return Found::Nothing;
-            }
-            limit = heir.first.token;
-            inner = heir.first.entry + 1;
-            match self.own(limit, inner, text) {
-                Found::Nothing => {}
-                found => return found,
+        let mut place = Place { token, scope };
+        loop {
+            match self.step(place, text) {
+                Step::Done(found) => return found,
+                Step::On(next) => place = next,
             }
         }
-        Found::Nothing
     }
 
     /// What a name before the token finds in the scope and its bases.
@@ -636,7 +635,8 @@ impl<'a> Table<'a> {
         let Some(number) = inner.checked_sub(1) else {
             return Err(NameFault::BadBase { line });
         };
-        if base.token <= self.latest || !self.may_be_base(base.entry) {
+        let has_heirs = self.shortcuts.contains_key(&inner);
+        if base.token <= self.latest || !self.may_be_base(base.entry) || has_heirs {
             return Err(NameFault::BadBase { line });
         }
         let heir = self.heir_for(alloc, inner, base, line)?;

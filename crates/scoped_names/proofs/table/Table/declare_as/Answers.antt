@@ -13,7 +13,7 @@ returns-in_ok-appears_again-in-Some-clause-told c =
     let es = c.args.self.now in
     let scope = c.args.scope in
     let there : named es scope c.name.result.now ≡ Some c.in-Some.number =
-    named_is c.self.inside.keys.keys c.self.inside.records.items es c.self.view_is c.self.invariant.keyed _ (Some c.in-Some.number)
+    named_is c.self.inside.keys.keys c.self.inside.records.items es c.self.view_is c.self.invariant.0.keyed _ (Some c.in-Some.number)
     (sym c.get_index_of.ensures.index ∙ c.in-Some.is) scope c.name.result.now (λ r. refl) in
     let e : Entry = record { scope = scope; name = word c.args.identifier; token = c.args.meaning.token; kind = c.args.meaning.kind; bases = []; worth = c.args.meaning.worth; stands_for = c.args.meaning.stands_for } in
     again es e c.in-Some.number (sym (ap (named es scope) c.name.ensures) ∙ there)
@@ -23,7 +23,7 @@ returns-in_ok-appears_again-in-Some-clause-inner c =
     let es = c.args.self.now in
     let scope = c.args.scope in
     let there : named es scope c.name.result.now ≡ Some c.in-Some.number =
-    named_is c.self.inside.keys.keys c.self.inside.records.items es c.self.view_is c.self.invariant.keyed _ (Some c.in-Some.number)
+    named_is c.self.inside.keys.keys c.self.inside.records.items es c.self.view_is c.self.invariant.0.keyed _ (Some c.in-Some.number)
     (sym c.get_index_of.ensures.index ∙ c.in-Some.is) scope c.name.result.now (λ r. refl) in
     let next : c.in-Some.number + 1 ≡ suc c.in-Some.number = omega arith in
     next ∙ sym (ap scope_number (sym (ap (named es scope) c.name.ensures) ∙ there))
@@ -33,7 +33,7 @@ returns-in_ok-push-in-None-clause-told c =
     let es = c.args.self.now in
     let scope = c.args.scope in
     let none : named es scope c.name.result.now ≡ None =
-    named_is c.self.inside.keys.keys c.self.inside.records.items es c.self.view_is c.self.invariant.keyed _ None
+    named_is c.self.inside.keys.keys c.self.inside.records.items es c.self.view_is c.self.invariant.0.keyed _ None
     (sym c.get_index_of.ensures.index ∙ c.in-None.is) scope c.name.result.now (λ r. refl) in
     let e : Entry = record { scope = scope; name = c.name.result.now; token = c.args.meaning.token; kind = c.args.meaning.kind; bases = []; worth = c.args.meaning.worth; stands_for = c.args.meaning.stands_for } in
     c.in_ok-push-in-None.ensures.pushed ∙ fresh es e none
@@ -44,7 +44,7 @@ returns-in_ok-push-in-None-clause-inner c =
     let es = c.args.self.now in
     let scope = c.args.scope in
     let none : named es scope c.name.result.now ≡ None =
-    named_is c.self.inside.keys.keys c.self.inside.records.items es c.self.view_is c.self.invariant.keyed _ None
+    named_is c.self.inside.keys.keys c.self.inside.records.items es c.self.view_is c.self.invariant.0.keyed _ None
     (sym c.get_index_of.ensures.index ∙ c.in-None.is) scope c.name.result.now (λ r. refl) in
     let e : Entry = record { scope = scope; name = c.name.result.now; token = c.args.meaning.token; kind = c.args.meaning.kind; bases = []; worth = c.args.meaning.worth; stands_for = c.args.meaning.stands_for } in
     let count : length es ≡ length c.self.inside.records.items = sym (ap length c.self.view_is) ∙ length-map c.self.inside.records.items entry_of in

@@ -16,7 +16,7 @@ loop-found-preserved c =
     let r = c.index.result.now in
     let count : length es ≡ length records = sym (ap length c.self.view_is) ∙ length-map records entry_of in
     let here : slice_get records (place - 1) ≡ Some r = slice_get_read records (length records) (place - 1) r refl (omega (arith, count)) c.index.ensures in
-    let behind : r.key.scope ≤ place - 1 = scope_behind records c.self.invariant.nested (place - 1) r here in
+    let behind : r.key.scope ≤ place - 1 = scope_behind records c.self.invariant.0.nested (place - 1) r here in
     let is : suc (place - 1) ≡ place = omega arith in
     let further = within_first es token (outwards es r.key.scope r.key.scope) text in
     let nothing = c.in-Nothing.ensures ∙ ap (λ s. within es token s text) (sym is) in
@@ -24,7 +24,7 @@ loop-found-preserved c =
       inside = omega arith;
       same =
           ap (λ found. or_else found further) nothing
-          ∙ sym (next_scope records es c.self.view_is c.self.invariant.nested token (place - 1) text r here)
+          ∙ sym (next_scope records es c.self.view_is c.self.invariant.0.nested token (place - 1) text r here)
           ∙ ap (λ s. within_first es token (outwards es s s) text) is
           ∙ c.loop-found.invariant.same;
     }

@@ -1,0 +1,13 @@
+use Rattle.std.proofs.Common.{◌≡◌, nat_eq, Some, sym, subst, arith}
+use Rattle.std.specs.Map.{lookup}
+use Rattle.scoped_names.specs.Shortcuts.{IsShort}
+use Rattle.scoped_names.proofs.Ways.{or_more}
+use Rattle.scoped_names.proofs.table.Table.stride.Goals as goal
+
+pub returns-in_ok-list_set-in-Some-clause-passes : goal.returns-in_ok-list_set-in-Some-clause-passes
+returns-in_ok-list_set-in-Some-clause-passes c = λ name.
+    let short = c.in-Some.short.now in
+    let place = c.args.place in
+    let at : lookup (nat_eq place.scope) c.self.inside.shortcuts.entries ≡ Some short = sym c.in-Some.ensures.value in
+    let is = subst (λ es. IsShort es place.scope short) c.self.view_is (c.self.invariant.1 place.scope short at).1 in
+    or_more short.words.keys c.list_set.new.words.items name (is.same place.token (omega arith) name) c.in_ok-list_set-in-Some.ensures.listed

@@ -1,0 +1,42 @@
+-- Places in searches along the first bases of interfaces, and ways over several bases at once.
+use Rattle.std.specs.Prelude.{◌≡◌, ◌≤◌, ◌<◌, ◌⊎◌, ℕ, suc, nat_eq, List, Some}
+use Rattle.std.specs.Map.{lookup}
+use Rattle.scoped_names.specs.declared.entry.Base.{Base}
+use Rattle.scoped_names.specs.declared.key.Word.{Word}
+use Rattle.scoped_names.specs.declared.search.Found.{Found}
+use Rattle.scoped_names.specs.declared.shortcuts.Place.{Place}
+use Rattle.scoped_names.specs.declared.shortcuts.Shortcut.{Shortcut}
+use Rattle.scoped_names.specs.declared.shortcuts.Step.{Step}
+use Rattle.scoped_names.specs.declared.shortcuts.Step.TheVariants.{Done, On}
+use Rattle.scoped_names.specs.Entry.{Entry}
+use Rattle.scoped_names.specs.Records.{HasWord}
+use Rattle.scoped_names.specs.Search.{inherited, within}
+
+-- what the bases of a scope give that are named before a token
+abbrev pub given_at : List Entry → List ℕ → Place → Found
+given_at es name place = inherited es place.token place.scope name
+
+-- a step of a search gives its end, or a place further down that gives the same
+abbrev pub IsStep : List Entry → List ℕ → Place → Step → Type 0
+IsStep es name place (Done found) = found ≡ given_at es name place
+IsStep es name place (On next) = (next.token < place.token) × (given_at es name next ≡ given_at es name place)
+
+-- each name that is none of the words is given at the place as it is found in the base
+abbrev pub LeadsTo : List Entry → Base → List Word → Place → Type 0
+LeadsTo es base words place = (name : List ℕ) →
+    (within es base.token (suc base.entry) name ≡ given_at es name place) ⊎ HasWord words name
+
+-- each name that is none of the words is given at the next place as at this
+abbrev pub Passes : List Entry → List Word → Place → Place → Type 0
+Passes es words place next = (name : List ℕ) → (given_at es name place ≡ given_at es name next) ⊎ HasWord words name
+
+-- a way from a scope to a place further down, past the bases that are named behind `after`
+pub record IsShort (es : List Entry) (scope : ℕ) (short : Shortcut) : Type 0 where
+  pub earlier : short.place.token ≤ short.after
+  pub same : (token : ℕ) → short.after < token
+      → Passes es short.words.keys (record { token = token; scope = scope }) short.place
+
+-- the ways that are kept, of which none leads behind a base that is named behind the latest
+abbrev pub AreShort : List Entry → ℕ → List (ℕ × Shortcut) → Type 0
+AreShort es latest shorts = (scope : ℕ) (short : Shortcut) →
+    lookup (nat_eq scope) shorts ≡ Some short → (short.after ≤ latest) × IsShort es scope short
