@@ -1,10 +1,10 @@
 //! The names of a whole specification.
 
-ghost use Rattle.std.specs.Prelude.{◌≡◌, ◌<◌, ◌≤◌, ◌↔◌, ℕ, length, option_copied, slice_get, Some, Ok, IfOk, IfErr, IfSome};
+ghost use Rattle.std.specs.Prelude.{◌≡◌, ◌<◌, ◌≤◌, ◌↔◌, ℕ, length, map, option_copied, slice_get, Some, Ok, IfOk, IfErr, IfSome};
 ghost use Rattle.std.specs.String.{string_bytes};
 ghost use Rattle.scoped_names.specs.Constants.{Explains, size_in_scope, worth_in_scope};
 ghost use Rattle.scoped_names.specs.Entry.{bases_in, meant_in, named, worth_in};
-ghost use Rattle.scoped_names.specs.RepositoryIds.{repository_id};
+ghost use Rattle.scoped_names.specs.RepositoryIds.{path as path_of, repository_id};
 ghost use Rattle.scoped_names.specs.Search.{Finds, word};
 
 use crate::entry::{Base, EntryKind};
@@ -134,6 +134,18 @@ impl<'a> Names<'a> {
         ensures err { IfErr result (Explains (size_in_scope self.now.entries scope expr.now)) }
     {
         self.table.size(alloc, scope, expr)
+    }
+
+    /// The names from the outermost scope to an entry's, its own the last.
+    ///
+    /// # Errors
+    ///
+    /// `AllocError` where memory was refused.
+    pub fn path(&self, alloc: Global, entry: usize) -> Result<Vec<&'a str>, AllocError>
+        requires { entry < length self.now.entries }
+        ensures { IfOk result (λ names. map (λ n. n.now) names.items ≡ path_of self.now.entries entry) }
+    {
+        self.table.path(alloc, entry)
     }
 
     /// The repository id of an entry.

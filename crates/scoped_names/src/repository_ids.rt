@@ -53,7 +53,7 @@ impl<'a> Model for IdPragmas<'a> {
 }
 
 /// The names from the outermost scope to an entry's, its own the last.
-fn path_to<'a>(
+pub(crate) fn path_to<'a>(
     alloc: Global,
     records: &[Record<'a>],
     entry: usize,

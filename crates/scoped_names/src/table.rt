@@ -1,11 +1,11 @@
 //! What a specification declares, and what names find.
 
-ghost use Rattle.std.specs.Prelude.{◌≡◌, ◌<◌, ◌≤◌, ◌^◌, ◌↔◌, ℕ, length, option_copied, IfOk, IfSome, OnOk, OnErr, ◌≢◌, ◌+◌, ◌++◌, ◌∷◌, [], None, List, true, slice_get};
+ghost use Rattle.std.specs.Prelude.{◌≡◌, ◌<◌, ◌≤◌, ◌^◌, ◌↔◌, ℕ, length, map, option_copied, IfOk, IfSome, OnOk, OnErr, ◌≢◌, ◌+◌, ◌++◌, ◌∷◌, [], None, List, true, slice_get};
 ghost use Rattle.idl_tree.specs.Starts.{name_start, name_first, is_rooted};
 ghost use Rattle.scoped_names.specs.Search.{own as own_of, inherited as inherited_by, within as within_of, within_first, outwards as outwards_from, sought_in, word, in_its_case as found_in_its_case, finds, Finds};
 ghost use Rattle.scoped_names.specs.Entry.{bases_in, worth_in, meant_in, named};
 ghost use Rattle.std.specs.String.{string_bytes};
-ghost use Rattle.scoped_names.specs.RepositoryIds.{repository_id as id_of};
+ghost use Rattle.scoped_names.specs.RepositoryIds.{path as path_of, repository_id as id_of};
 ghost use Rattle.scoped_names.specs.IdPragmas.{begins_at_root, identifiers_find};
 ghost use Rattle.idl_lexer.specs.Identifiers.{words};
 ghost use Rattle.idl_lexer.specs.Words.{unescaped as unescaped_word};
@@ -16,7 +16,7 @@ use crate::entry::{Base, EntryKind, Meaning};
 use crate::fault::NameFault;
 use crate::key::{Key, Word};
 use crate::record::{Heir, Record};
-use crate::repository_ids::IdPragmas;
+use crate::repository_ids::{IdPragmas, path_to};
 use crate::search::Found;
 use crate::shortcuts::{Place, Shortcut, Step};
 use const_values::{ConstKind, Constant};
@@ -328,6 +328,18 @@ impl<'a> Table<'a> {
         ensures { IfOk result (λ id. string_bytes id ≡ id_of self.now ids.now entry) }
     {
         ids.repository_id(alloc, self.records.as_slice(), entry)
+    }
+
+    /// The names from the outermost scope to an entry's, its own the last.
+    ///
+    /// # Errors
+    ///
+    /// `AllocError` where memory was refused.
+    pub(crate) fn path(&self, alloc: Global, entry: usize) -> Result<Vec<&'a str>, AllocError>
+        requires { entry < length self.now }
+        ensures { IfOk result (λ names. map (λ n. n.now) names.items ≡ path_of self.now entry) }
+    {
+        path_to(alloc, self.records.as_slice(), entry)
     }
 
     /// Whether the scope has a member of the word, or has the word for its own name.

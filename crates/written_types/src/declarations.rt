@@ -1,0 +1,172 @@
+//! What modules and interfaces declare.
+
+ghost use Rattle.std.specs.Prelude.{◌≡◌, ◌≤◌, length, IfOk, OnOk, Some};
+ghost use Rattle.std.specs.List.{fold};
+ghost use Rattle.idl_tree.specs.Lists.{parts};
+ghost use Rattle.scoped_names.specs.Entry.{named};
+ghost use Rattle.scoped_names.specs.Search.{word};
+ghost use Rattle.written_types.specs.Written.{opened};
+ghost use Rattle.written_types.specs.Types.{members_of};
+ghost use Rattle.written_types.specs.Declarations.{declaration, except, except_members, type_dcl, with_exception, with_typedef};
+
+use crate::arms::MemberList;
+use crate::fault::BuildFault;
+use crate::place::Place;
+use crate::readings::declared_entry;
+use crate::table::{NodeLines, TypeTable};
+use idl_tree::definitions::{Declaration, Except, TypeDcl};
+use idl_tree::names::{Leaf, Listed};
+use idl_tree::types::Declarator;
+use scoped_names::Names;
+use std::alloc::Global;
+use type_graph::Node;
+
+impl TypeTable {
+    /// A name for the type that has the number, or for an array of it.
+    fn write_typedef<'a>(
+        &mut self,
+        alloc: Global,
+        names: &Names<'a>,
+        scope: usize,
+        number: u32,
+        declarator: &Declarator<'a>,
+    ) -> Result<(), BuildFault>
+        requires { scope ≤ length names.now.entries }
+        ensures { OnOk result (self.new ≡ with_typedef names.now.entries scope number self.old declarator.now) }
+    {
+        let line = declarator.identifier.token.line;
+        let sizes = declarator.sizes.as_slice();
+        let number = self.write_arrays(alloc, names, scope, number, sizes, line)?;
+        let entry = declared_entry(names, scope, declarator.identifier)?;
+        self.put(entry, Place::Typed(number))
+    }
+
+    fn write_typedefs<'a>(
+        &mut self,
+        alloc: Global,
+        names: &Names<'a>,
+        scope: usize,
+        number: u32,
+        declarators: &Listed<Declarator<'a>>,
+    ) -> Result<(), BuildFault>
+        requires { scope ≤ length names.now.entries }
+        ensures { OnOk result (self.new ≡
+            fold (with_typedef names.now.entries scope number) self.old (parts declarators.now)) }
+    {
+        for declarator in declarators.iter() {
+            self.write_typedef(alloc, names, scope, number, declarator)?;
+        }
+        Ok(())
+    }
+
+    /// A structure or a union that is declared ahead.
+    fn write_ahead<'a>(
+        &mut self,
+        alloc: Global,
+        names: &Names<'a>,
+        scope: usize,
+        identifier: Leaf<'a>,
+    ) -> Result<(), BuildFault>
+        ensures { OnOk result (self.new ≡ (opened self.old (named names.now.entries scope (word identifier.entry))).written) }
+    {
+        let entry = declared_entry(names, scope, identifier)?;
+        self.declare(alloc, entry, identifier.token.line)?;
+        Ok(())
+    }
+
+    fn write_type_dcl<'a>(
+        &mut self,
+        alloc: Global,
+        names: &Names<'a>,
+        scope: usize,
+        t: &TypeDcl<'a>,
+    ) -> Result<(), BuildFault>
+        requires { scope ≤ length names.now.entries }
+        ensures { OnOk result (self.new ≡ type_dcl names.now.entries self.old scope t.now) }
+    {
+        match t {
+            TypeDcl::Typedef {
+                original,
+                declarators,
+            } => {
+                let line = declarators.first.identifier.token.line;
+                let number = self.write_type(alloc, names, scope, original, line)?;
+                self.write_typedefs(alloc, names, scope, number, declarators)
+            }
+            TypeDcl::Struct(s) => {
+                self.write_struct(alloc, names, scope, s)?;
+                Ok(())
+            }
+            TypeDcl::Union(u) => {
+                self.write_union(alloc, names, scope, u)?;
+                Ok(())
+            }
+            TypeDcl::Enum(e) => {
+                self.write_enum(alloc, names, scope, e)?;
+                Ok(())
+            }
+            TypeDcl::StructAhead(identifier) | TypeDcl::UnionAhead(identifier) => {
+                self.write_ahead(alloc, names, scope, *identifier)
+            }
+        }
+    }
+
+    /// The frame of an exception with these members.
+    fn add_exception(
+        &mut self,
+        entry: usize,
+        members: MemberList,
+        line: usize,
+    ) -> Result<(), BuildFault>
+        ensures { OnOk result (self.new ≡ with_exception (members_of self.old members) (Some entry)) }
+    {
+        self.count_members(members.len(), line)?;
+        let (members, held) = members.into_parts();
+        let frame = self.add(Node::Frame { members }, NodeLines { line, held })?;
+        self.raise(entry, frame)
+    }
+
+    fn write_except<'a>(
+        &mut self,
+        alloc: Global,
+        names: &Names<'a>,
+        scope: usize,
+        e: &Except<'a>,
+    ) -> Result<(), BuildFault>
+        requires { scope ≤ length names.now.entries }
+        ensures { OnOk result (self.new ≡ except names.now.entries self.old scope e.now) }
+    {
+        let line = e.identifier.token.line;
+        let entry = declared_entry(names, scope, e.identifier)?;
+        let mut members = MemberList::new(alloc);
+        members.push(basic_types::STRING, line)?;
+        for member in &e.members {
+            self.write_member(alloc, names, entry + 1, member, &mut members)?;
+        }
+        self.add_exception(entry, members, line)
+    }
+
+    /// A declaration of a module or an interface.
+    ///
+    /// # Errors
+    /// The first fault in the order of reading, with its line.
+    pub fn write_declaration<'a>(
+        &mut self,
+        alloc: Global,
+        names: &Names<'a>,
+        scope: usize,
+        d: &Declaration<'a>,
+    ) -> Result<(), BuildFault>
+        requires { scope ≤ length names.now.entries }
+        ensures { OnOk result (self.new ≡ declaration names.now.entries self.old scope d.now) }
+    {
+        match d {
+            Declaration::TypeDcl(t) => self.write_type_dcl(alloc, names, scope, t),
+            Declaration::Const(c) => {
+                self.write_const_type(alloc, names, scope, &c.const_type)?;
+                Ok(())
+            }
+            Declaration::Except(e) => self.write_except(alloc, names, scope, e),
+        }
+    }
+}

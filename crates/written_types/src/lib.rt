@@ -1,0 +1,19 @@
+//! Which types a specification writes, and what each is in a graph of types (ISO/IEC 19500-1, type
+//! declaration, constant declaration, exception declaration).
+#![tactic(auto)]
+
+mod arms;
+mod declarations;
+mod fault;
+mod labels;
+mod place;
+mod readings;
+mod simple;
+mod table;
+mod types;
+
+pub use arms::MemberList;
+pub use fault::BuildFault;
+pub use place::Place;
+pub use readings::{declared_entry, resolved};
+pub use table::{NodeLines, TypeTable};
