@@ -1,6 +1,6 @@
 -- Entries looked up by their keys.
-use Rattle.std.proofs.Common.{◌≡◌, ◌∙◌, ℕ, ◌+◌, ◌<◌, ◌≤◌, Bool, cond, not, List, [], ◌∷◌, map, length, get_or, slice_get, position, Option, Some, None, refl, sym, ap}
-use Rattle.std.specs.List.{prefix_len}
+use Rattle.std.proofs.Common.{◌≡◌, ◌∙◌, ℕ, ◌+◌, ◌<◌, ◌≤◌, Bool, false, cond, not, List, [], ◌∷◌, map, length, get_or, slice_get, position, Option, Some, None, refl, sym, ap}
+use Rattle.std.specs.List.{AllByRecursion, IsDistinct, prefix_len}
 use Rattle.std.specs.Prelude.{nat_lt}
 use Rattle.std.proofs.lemmas.Bool.{lt-ltb, le-ltb}
 use Rattle.std.proofs.lemmas.List.{length-map}
@@ -9,7 +9,7 @@ use Rattle.std.specs.Option.{option_map}
 use Rattle.scoped_names.specs.declared.key.Key.{Key}
 use Rattle.scoped_names.specs.declared.record.Record.{Record}
 use Rattle.scoped_names.specs.declared.search.Found.TheVariants.{Nothing, One}
-use Rattle.scoped_names.specs.Entry.{Entry, is_named, named}
+use Rattle.scoped_names.specs.Entry.{AreDistinct, Entry, is_named, named}
 use Rattle.scoped_names.specs.Search.{before, declared_before, own}
 use Rattle.scoped_names.specs.Records.{entries_in, entry_of, key_of}
 
@@ -44,6 +44,18 @@ named_keys test records scope name same =
     position_map test key_of records
     ∙ position_same (λ r. test r.key) (λ r. is_named scope name (entry_of r)) same records
     ∙ sym (position_map (is_named scope name) entry_of records)
+
+-- keys that differ are those of entries that differ
+module _ (eq : Key → Key → Bool) (same : (a b : Record) → eq a.key b.key ≡ is_named a.key.scope a.key.word.text.now (entry_of b)) where
+  apart : (r : Record) (rs : List Record) → AllByRecursion (λ k. eq r.key k ≡ false) (map key_of rs)
+      → AllByRecursion (λ e. is_named r.key.scope r.key.word.text.now e ≡ false) (map entry_of rs)
+  apart r [] h = tt
+  apart r (x ∷ xs) (first, rest) = (sym (same r x) ∙ first, apart r xs rest)
+
+  pub distinct : (records : List Record) → IsDistinct eq (map key_of records) → AreDistinct (entries_in records)
+  unfolding IsDistinct
+  distinct [] h = tt
+  distinct (r ∷ rs) (first, rest) = (apart r rs first, distinct rs rest)
 
 -- what is kept, and what a contract sees of it
 module _ (keys : List Key) (records : List Record) (es : List Entry) (is : entries_in records ≡ es) (keyed : keys ≡ map key_of records) where

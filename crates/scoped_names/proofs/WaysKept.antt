@@ -1,5 +1,5 @@
 -- Ways over several bases where searches give what they gave.
-use Rattle.std.proofs.Common.{◌≡◌, ◌∙◌, ℕ, ◌<◌, ◌≤◌, ◌⊎◌, inl, inr, nat_eq, List, Some, sym, arith}
+use Rattle.std.proofs.Common.{◌≡◌, ◌∙◌, ℕ, ◌<◌, ◌≤◌, ◌⊎◌, inl, inr, nat_eq, List, [], None, Some, sym, arith}
 use Rattle.std.specs.Map.{lookup}
 use Rattle.scoped_names.specs.declared.shortcuts.Shortcut.{Shortcut}
 use Rattle.scoped_names.specs.Entry.{Entry}
@@ -27,3 +27,9 @@ ways_like es fs latest later ways longer kept here there q way at =
         → (inherited fs t q name ≡ inherited fs way.place.token way.place.scope name) ⊎ HasWord way.words.keys name
     by t name (inr has) e = inr has
     by t name (inl is) e = inl (here q way at t name ∙ is ∙ sym e)
+
+none_there : (way : Shortcut) → None ≡ Some way → ⊥
+none_there way h = cc
+
+pub no_ways : (es : List Entry) (latest : ℕ) → AreShort es latest []
+no_ways es latest scope way at = absurd (none_there way at)

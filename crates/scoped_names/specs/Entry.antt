@@ -1,5 +1,6 @@
 -- A declared name as contracts see it, and scopes. Entries have numbers from 0, in order of declaration. A scope is 0
 -- for the whole file, else one more than the number of the entry whose scope it is.
+use Rattle.std.specs.List.{IsDistinct}
 use Rattle.std.specs.Prelude.{ℕ, zero, suc, Bool, ◌&&◌, nat_eq, List, [], position, slice_get, Option, Some, None}
 use Rattle.idl_lexer.specs.Words.{same_but_for_case}
 use Rattle.const_values.specs.declared.constant.Constant.{Constant}
@@ -51,3 +52,7 @@ scope_in (Some e) = e.scope
 abbrev pub around : List Entry → ℕ → ℕ
 around entries zero = 0
 around entries (suc e) = scope_in (slice_get entries e)
+
+-- no entry has the name of another of its scope, whatever the case
+abbrev pub AreDistinct : List Entry → Type 0
+AreDistinct entries = IsDistinct (λ one other. is_named one.scope one.name other) entries

@@ -335,7 +335,7 @@ impl<'a> Table<'a> {
                 token: start.number,
                 entry,
             };
-            self.shorten(alloc, entry + 1)?;
+            self.shorten(alloc, entry.saturating_add(1))?;
             self.add_base(alloc, inner, base, start.token.line)?;
         }
         Ok(())

@@ -3,7 +3,7 @@
 ghost use Rattle.std.specs.Prelude.{◌≡◌, ◌<◌, ◌≤◌, ◌↔◌, ℕ, length, map, option_copied, slice_get, Some, Ok, IfOk, IfErr, IfSome};
 ghost use Rattle.std.specs.String.{string_bytes};
 ghost use Rattle.scoped_names.specs.Constants.{Explains, size_in_scope, worth_in_scope};
-ghost use Rattle.scoped_names.specs.Entry.{bases_in, meant_in, named, worth_in};
+ghost use Rattle.scoped_names.specs.Entry.{AreDistinct, bases_in, meant_in, named, worth_in};
 ghost use Rattle.scoped_names.specs.RepositoryIds.{path as path_of, repository_id};
 ghost use Rattle.scoped_names.specs.Search.{Finds, word};
 
@@ -48,9 +48,10 @@ impl<'a> Names<'a> {
         self.table.resolve(scope, name)
     }
 
-    /// How many entries there are.
+    /// How many entries there are. No two of one scope have names that differ in case at most.
     pub fn len(&self) -> usize
-        ensures { result ≡ length self.now.entries }
+        ensures count { result ≡ length self.now.entries }
+        ensures distinct { AreDistinct self.now.entries }
     {
         self.table.len()
     }

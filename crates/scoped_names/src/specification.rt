@@ -1,6 +1,7 @@
 //! The names of a whole specification.
 
 ghost use Rattle.std.specs.Prelude.{IfOk};
+ghost use Rattle.scoped_names.specs.Entry.{AreDistinct};
 ghost use Rattle.scoped_names.specs.Whole.{AreNames};
 
 use crate::fault::NameFault;
@@ -18,7 +19,8 @@ use std::alloc::Global;
 /// The first fault in the order of reading, with its line; a type that was declared ahead and is
 /// never defined comes last.
 pub fn bind<'a>(alloc: Global, spec: &Spec<'a>) -> Result<Names<'a>, NameFault>
-    ensures { IfOk result (AreNames spec.now.definitions.items) }
+    ensures names { IfOk result (AreNames spec.now.definitions.items) }
+    ensures distinct { IfOk result (λ names. AreDistinct names.entries) }
 {
     // no list of tokens is so long
     if spec.tokens.len() >= usize::MAX / 2 {

@@ -3,7 +3,7 @@
 ghost use Rattle.std.specs.Prelude.{◌≡◌, ◌<◌, ◌≤◌, ◌^◌, ◌↔◌, ℕ, length, map, option_copied, IfOk, IfSome, OnOk, OnErr, ◌≢◌, ◌+◌, ◌++◌, ◌∷◌, [], None, List, true, slice_get};
 ghost use Rattle.idl_tree.specs.Starts.{name_start, name_first, is_rooted};
 ghost use Rattle.scoped_names.specs.Search.{own as own_of, inherited as inherited_by, within as within_of, within_first, outwards as outwards_from, sought_in, word, in_its_case as found_in_its_case, finds, Finds};
-ghost use Rattle.scoped_names.specs.Entry.{bases_in, worth_in, meant_in, named};
+ghost use Rattle.scoped_names.specs.Entry.{AreDistinct, bases_in, worth_in, meant_in, named};
 ghost use Rattle.std.specs.String.{string_bytes};
 ghost use Rattle.scoped_names.specs.RepositoryIds.{path as path_of, repository_id as id_of};
 ghost use Rattle.scoped_names.specs.IdPragmas.{begins_at_root, identifiers_find};
@@ -406,9 +406,10 @@ impl<'a> Table<'a> {
 
     /// How many entries there are.
     pub(crate) fn len(&self) -> usize
-        ensures { result ≡ length self.now }
+        ensures count { result ≡ length self.now }
+        ensures distinct { AreDistinct self.now }
     {
-        self.records.len()
+        self.keys.len()
     }
 
     /// Declares an identifier in a scope as what is meant. Gives the scope that the declaration has.
@@ -672,8 +673,11 @@ impl<'a> Table<'a> {
     /// # Errors
     ///
     /// `Unknown` with the line of the first declaration.
-    pub(crate) fn all_defined(&self) -> Result<(), NameFault> {
-        for (number, record) in self.records.iter().enumerate() {
+    pub(crate) fn all_defined(&self) -> Result<(), NameFault>
+        ensures distinct { AreDistinct self.now }
+    {
+        for number in 0..self.len() {
+            let record = &self.records[number];
             let has_body = record.kind == EntryKind::Struct || record.kind == EntryKind::Union;
             if has_body && !self.defined.contains(&(number + 1)) {
                 return Err(NameFault::Unknown { line: record.line });

@@ -17,8 +17,8 @@ bind_definitions-bound-requires-clause-small c =
     ap (λ xs. length (flat_map definition_yield xs)) c.as_slice-definitions.ensures.value ∙ Spec-length c.args.spec.now in
     omega arith
 
-pub returns : goal.returns
-returns c =
+pub returns-clause-names : goal.returns-clause-names
+returns-clause-names c =
     let ds = c.args.spec.now.definitions.items in
     let es = c.bind_definitions-bound.new.self in
     let value = c.as_slice-definitions.ensures.value in

@@ -1,5 +1,7 @@
 use Rattle.std.proofs.Common.{◌≡◌, ◌≤◌, ◌∷◌, [], ap, sym, subst, length, length-append, arith}
-use Rattle.scoped_names.specs.Records.{AreTied}
+use Rattle.scoped_names.specs.Records.{AreTied, entries_in}
+use Rattle.scoped_names.specs.Shortcuts.{AreShort}
+use Rattle.scoped_names.proofs.WaysKept.{no_ways}
 use Rattle.scoped_names.proofs.Tied.{tied_none}
 use Rattle.scoped_names.proofs.table.Table.new.Goals as goal
 
@@ -7,5 +9,7 @@ pub invariant_of-result : goal.invariant_of-result
 invariant_of-result c =
     let words = c.push.new.self.items in
     let some : 1 ≤ length words = omega (arith, ap length c.in_ok-push.ensures.items, length-append c.new-words.result.items (c.new.result ∷ [])) in
-    let keys : c.new-2.result.keys ≡ [] = c.new-2.ensures.empty in
-    subst (λ ks. AreTied ks c.new-3.result.items words 0) (sym keys) (subst (λ rs. AreTied [] rs words 0) (sym c.new-3.ensures.items) (tied_none words some))
+    let keys : c.new-2.result.keys ≡ [] = c.new-2.ensures.empty in (
+      subst (λ ks. AreTied ks c.new-3.result.items words 0) (sym keys) (subst (λ rs. AreTied [] rs words 0) (sym c.new-3.ensures.items) (tied_none words some)),
+      subst (AreShort (entries_in c.new-3.result.items) 0) (sym c.new-6.ensures.empty) (no_ways (entries_in c.new-3.result.items) 0),
+    )
