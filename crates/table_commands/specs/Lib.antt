@@ -2,3 +2,4 @@ pub mod Sample
 pub mod Lines
 pub mod Answer
 pub mod Refusal
+pub mod Files

@@ -3,6 +3,7 @@
 ghost use Rattle.std.specs.Prelude.{◌≤◌, ◌⊎◌, length, IfOk, IfErr};
 ghost use Rattle.table_file.specs.TableSpelling.{Spells, SpellsOld};
 ghost use Rattle.position_checker.specs.Acceptance.{IsRight};
+ghost use Rattle.table_commands.specs.Files.{RefusesFile, RefusesTable};
 ghost use Rattle.table_commands.specs.Refusal.{IsOfTable};
 
 use crate::refusal::Refusal;
@@ -17,11 +18,13 @@ pub const MAX_LEN: u32 = 16_777_216;
 /// The table of these octets, of version 1 or 2, which was found right.
 ///
 /// # Errors
-/// `NoTable` where they are none's, `NotRight` where its routines aren't.
+/// `NoTable` where they are none's, `NotRight` where its routines aren't; never where it has the
+/// plain or the joined program of its model alone.
 pub fn accepted<'a>(alloc: Global, octets: &[u8]) -> Result<Accepted, Refusal<'a>>
     ensures spelled { IfOk result (λ table. Spells table octets.now ⊎ SpellsOld table octets.now) }
     ensures right { IfOk result IsRight }
-    ensures refused { IfErr result IsOfTable }
+    ensures cause { IfErr result IsOfTable }
+    ensures refused { IfErr result (RefusesFile octets.now) }
 {
     let table = match decode_table(alloc, octets) {
         Ok(table) => table,
@@ -40,6 +43,7 @@ pub fn accepted<'a>(alloc: Global, octets: &[u8]) -> Result<Accepted, Refusal<'a
 pub fn upgraded<'a>(alloc: Global, table: &Accepted) -> Result<Vec<u8>, Refusal<'a>>
     ensures spelled { IfOk result (λ octets. Spells table.now octets.items) }
     ensures within { IfOk result (λ octets. length octets.items ≤ 16777216) }
+    ensures refused { IfErr result (RefusesTable table.now) }
 {
     match encode_table(alloc, table.table()) {
         Ok(octets) if octets.len() > MAX_LEN as usize => Err(Refusal::TooLong),

@@ -1,4 +1,9 @@
-use Rattle.std.proofs.Common.{◌≡◌, sym, subst}
+use Rattle.std.proofs.Common.{◌≡◌, ◌⊎◌, ℕ, List, sym, subst}
+use Rattle.table_file.specs.Table.{TableParts}
+use Rattle.table_file.specs.TableSpelling.{Spells, SpellsOld}
+use Rattle.position_checker.specs.Acceptance.{IsLone}
+use Rattle.position_checker.specs.Refusal.{OnlyIf}
+use Rattle.table_commands.specs.Files.{RefusesFile}
 use Rattle.position_checker.specs.declared.fault.CheckFault.{CheckFault}
 use Rattle.position_checker.specs.declared.fault.CheckFault.TheVariants as checks
 use Rattle.table_commands.specs.Refusal.{IsOfTable, refusal_of_check}
@@ -13,5 +18,20 @@ of_check (checks.ExitsTooSmall program routine entry) = tt
 of_check (checks.NoRoutine node) = tt
 of_check (checks.NamedEntryNotFull node) = tt
 
+-- a table that the checker refuses for another cause than memory isn't one that it never refuses
+not_right : (octets : List ℕ) (table : TableParts) → Spells table octets ⊎ SpellsOld table octets → (fault : CheckFault) → OnlyIf fault (IsLone table → ⊥) → RefusesFile octets (refusal_of_check fault)
+not_right octets table spelled checks.NoMemory another = tt
+not_right octets table spelled (checks.WrongWork program routine instr) another = record { table = table; spelled = spelled; another = another }
+not_right octets table spelled (checks.WrongPadding program routine instr) another = record { table = table; spelled = spelled; another = another }
+not_right octets table spelled (checks.EntryOutside program routine instr) another = record { table = table; spelled = spelled; another = another }
+not_right octets table spelled (checks.ExitsTooSmall program routine entry) another = record { table = table; spelled = spelled; another = another }
+not_right octets table spelled (checks.NoRoutine node) another = record { table = table; spelled = spelled; another = another }
+not_right octets table spelled (checks.NamedEntryNotFull node) another = record { table = table; spelled = spelled; another = another }
+
+pub returns-in-Err-check-clause-cause : goal.returns-in-Err-check-clause-cause
+returns-in-Err-check-clause-cause c = subst IsOfTable (sym c.from-in-Err-check.ensures) (of_check c.in-Err-check.refused.fault)
+
 pub returns-in-Err-check-clause-refused : goal.returns-in-Err-check-clause-refused
-returns-in-Err-check-clause-refused c = subst IsOfTable (sym c.from-in-Err-check.ensures) (of_check c.in-Err-check.refused.fault)
+returns-in-Err-check-clause-refused c =
+    subst (RefusesFile c.args.octets.now) (sym c.from-in-Err-check.ensures)
+    (not_right c.args.octets.now c.in-Ok.table c.in-Ok.ensures.spelled c.in-Err-check.refused.fault c.in-Err-check.ensures.lone)
