@@ -1,5 +1,5 @@
 -- The tapes of the parts of which headers, profiles and object references are made.
-use Rattle.std.specs.Prelude.{ℕ, ◌^◌, ◌<◌, ◌≤◌, pos, List, [], ◌∷◌, ◌++◌, length, map}
+use Rattle.std.specs.Prelude.{◌≡◌, ℕ, ◌^◌, ◌<◌, pos, List, [], ◌∷◌, ◌++◌, length, map}
 use Rattle.std.specs.List.{AllByRecursion}
 use Rattle.type_graph.specs.declared.width.Width.TheVariants.{Four}
 use Rattle.type_graph.specs.declared.width.Order.TheVariants.{Big}
@@ -34,6 +34,12 @@ tagged_list all = word Big Four (pos (length all)) ++ tagged_each all
 pub record AreTagged (all : List (ℕ × List ℕ)) : Type 0 where
   pub short : length all < 2 ^ 32
   pub each : AllByRecursion IsTagged all
+
+-- so many at the front of a tape, and the rest
+pub record AreFront (count : ℕ) (tape : List ℕ) (all : List (ℕ × List ℕ)) (rest : List ℕ) : Type 0 where
+  pub many : length all ≡ count
+  pub each : AllByRecursion IsTagged all
+  pub front : tape ≡ tagged_each all ++ rest
 
 -- what a tag with borrowed octets says
 abbrev pub pair_of : Tagged → ℕ × List ℕ

@@ -7,5 +7,7 @@ mod reading;
 mod writing;
 
 pub use fault::TapeFault;
-pub use reading::{Tagged, split_octets, split_tagged, split_u8, split_u16, split_u32};
+pub use reading::{
+    Tagged, split_octets, split_tagged, split_tagged_list, split_u8, split_u16, split_u32,
+};
 pub use writing::{push_octets, push_tagged, push_u8, push_u16, push_u32};

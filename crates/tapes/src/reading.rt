@@ -4,7 +4,7 @@ ghost use Rattle.std.specs.Prelude.{◌≡◌, ◌<◌, ◌^◌, ◌++◌, ℕ, 
 ghost use Rattle.type_graph.specs.declared.width.Width.TheVariants.{One, Two, Four};
 ghost use Rattle.type_graph.specs.declared.width.Order.TheVariants.{Big};
 ghost use Rattle.type_graph.specs.Words.{word};
-ghost use Rattle.tapes.specs.Parts.{counted, IsCounted, tagged, IsTagged, tagged_each, tagged_list, AreTagged, pair_of, pairs_of};
+ghost use Rattle.tapes.specs.Parts.{counted, IsCounted, tagged, IsTagged, tagged_list, AreFront, AreTagged, pair_of, pairs_of};
 ghost use Rattle.tapes.specs.Refusal.{RefusesReading};
 
 use crate::fault::TapeFault;
@@ -74,4 +74,37 @@ pub fn split_tagged(tape: &[u8]) -> Option<(Tagged<'_>, &[u8])>
     let (tag, behind) = split_u32(tape)?;
     let (octets, rest) = split_octets(behind)?;
     Some((Tagged { tag, octets }, rest))
+}
+
+/// So many tags with their octets.
+fn split_each(alloc: Global, count: u32, tape: &[u8]) -> Result<(Vec<Tagged<'_>>, &[u8]), TapeFault>
+    ensures found { IfOk result (λ r. AreFront count tape.now (pairs_of r.0.items) r.1.now) }
+    ensures refused { IfErr result (λ fault. RefusesReading fault ((all : List (ℕ × List ℕ)) (rest : List ℕ) → AreFront count tape.now all rest → ⊥)) }
+{
+    let mut all = Vec::new(alloc);
+    let mut rest = tape;
+    for _ in 0..count {
+        let Some((one, more)) = split_tagged(rest) else {
+            return Err(TapeFault::NotATape);
+        };
+        match all.push(one) {
+            Ok(()) => rest = more,
+            Err(_) => return Err(TapeFault::NoMemory),
+        }
+    }
+    Ok((all, rest))
+}
+
+/// A sequence of tags with their octets.
+///
+/// # Errors
+/// `NotATape` where none stands there. Want of memory.
+pub fn split_tagged_list(alloc: Global, tape: &[u8]) -> Result<(Vec<Tagged<'_>>, &[u8]), TapeFault>
+    ensures found { IfOk result (λ r. AreTagged (pairs_of r.0.items) × (tape.now ≡ tagged_list (pairs_of r.0.items) ++ r.1.now)) }
+    ensures refused { IfErr result (λ fault. RefusesReading fault ((all : List (ℕ × List ℕ)) (rest : List ℕ) → AreTagged all → tape.now ≡ tagged_list all ++ rest → ⊥)) }
+{
+    let Some((count, behind)) = split_u32(tape) else {
+        return Err(TapeFault::NotATape);
+    };
+    split_each(alloc, count, behind)
 }
