@@ -4,7 +4,7 @@ ghost use Rattle.std.specs.Prelude.{◌≡◌, ◌++◌, ◌<◌, pos, length, I
 ghost use Rattle.type_graph.specs.declared.width.Width.TheVariants.{One, Two, Four};
 ghost use Rattle.type_graph.specs.declared.width.Order.TheVariants.{Big};
 ghost use Rattle.type_graph.specs.Words.{word};
-ghost use Rattle.tapes.specs.Parts.{counted, IsCounted, tagged};
+ghost use Rattle.tapes.specs.Parts.{counted, IsCounted, tagged, IsTagged};
 ghost use Rattle.tapes.specs.Refusal.{RefusesWriting};
 
 use crate::fault::TapeFault;
@@ -54,8 +54,8 @@ pub fn push_octets(tape: &mut Vec<u8>, octets: &[u8]) -> Result<(), TapeFault>
 /// `TooLong` where there are 4,294,967,296 octets or more. Want of memory.
 pub fn push_tagged(tape: &mut Vec<u8>, tag: u32, octets: &[u8]) -> Result<(), TapeFault>
     ensures added { OnOk result (tape.new.items ≡ tape.old.items ++ tagged (tag, octets.now)) }
-    ensures counted { OnOk result (IsCounted octets.now) }
-    ensures refused { IfErr result (λ fault. RefusesWriting fault (IsCounted octets.now → ⊥)) }
+    ensures fits { OnOk result (IsTagged (tag, octets.now)) }
+    ensures refused { IfErr result (λ fault. RefusesWriting fault (IsTagged (tag, octets.now) → ⊥)) }
 {
     push_u32(tape, tag)?;
     push_octets(tape, octets)
