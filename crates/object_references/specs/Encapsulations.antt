@@ -1,0 +1,25 @@
+-- Values in encapsulations (ISO/IEC 19500-2, CDR: encapsulation). The first octet, at position 0, tells the byte order.
+use Rattle.std.specs.Prelude.{◌≡◌, ℕ, List, ◌∷◌, ◌++◌}
+use Rattle.type_graph.specs.declared.width.Order.{Order}
+use Rattle.type_graph.specs.declared.width.Order.TheVariants.{Big, Little}
+use Rattle.type_graph.specs.Words.{reading, writing}
+use Rattle.type_graph.specs.Value.{Tree}
+use Rattle.giop_types.specs.Fields.{Holds}
+
+abbrev pub flag_of : Order → ℕ
+flag_of Big = 0
+flag_of Little = 1
+
+-- what is read: whatever stands in the gaps, and any octets behind the value (own)
+pub record Encapsulates (node : ℕ) (value : Tree) (octets : List ℕ) : Type 0 where
+  pub order : Order
+  pub body : List ℕ
+  pub rest : List ℕ
+  pub octets_are : octets ≡ flag_of order ∷ body ++ rest
+  pub holds : Holds (reading order) node 1 value body
+
+-- what is written: in big order, and nothing behind the value (own)
+pub record IsWritten (node : ℕ) (value : Tree) (octets : List ℕ) : Type 0 where
+  pub body : List ℕ
+  pub octets_are : octets ≡ flag_of Big ∷ body
+  pub holds : Holds (writing Big) node 1 value body
