@@ -1,3 +1,6 @@
 pub mod GraphFacts
 pub mod ModelFacts
 pub mod Lists
+pub mod Named
+pub mod PartTrees
+pub mod Writings

@@ -1,2 +1,4 @@
 pub mod GiopNodes
 pub mod GiopModel
+pub mod Fields
+pub mod Named
