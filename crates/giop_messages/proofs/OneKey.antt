@@ -5,7 +5,7 @@ use Rattle.giop_types.specs.Fields.{octet_trees, tagged_tree, tagged_trees}
 use Rattle.giop_messages.specs.Keys.{HasKey}
 use Rattle.giop_messages.specs.Headers.{TellsKey, ByKey, ByProfile, ByReference, IsKeyOf, key_target, profile_target, reference_target}
 
-octets_same : (xs ys : List ℕ) → octet_trees xs ≡ octet_trees ys → xs ≡ ys
+pub octets_same : (xs ys : List ℕ) → octet_trees xs ≡ octet_trees ys → xs ≡ ys
 octets_same [] [] e = refl
 octets_same [] (y ∷ ys) e = absurd (cc)
 octets_same (x ∷ xs) [] e = absurd (cc)
@@ -14,13 +14,13 @@ octets_same (x ∷ xs) (y ∷ ys) e =
     let one : x ≡ y = cc in
     ap₂ (λ a b. a ∷ b) one (octets_same xs ys rest)
 
-tagged_same : (x y : ℕ × List ℕ) → tagged_tree x ≡ tagged_tree y → x ≡ y
+pub tagged_same : (x y : ℕ × List ℕ) → tagged_tree x ≡ tagged_tree y → x ≡ y
 tagged_same x y e =
     let tag : x.0 ≡ y.0 = cc in
     let trees : octet_trees x.1 ≡ octet_trees y.1 = cc in
     ap₂ (λ a b. (a, b)) tag (octets_same x.1 y.1 trees)
 
-all_tagged_same : (xs ys : List (ℕ × List ℕ)) → tagged_trees xs ≡ tagged_trees ys → xs ≡ ys
+pub all_tagged_same : (xs ys : List (ℕ × List ℕ)) → tagged_trees xs ≡ tagged_trees ys → xs ≡ ys
 all_tagged_same [] [] e = refl
 all_tagged_same [] (y ∷ ys) e = absurd (cc)
 all_tagged_same (x ∷ xs) [] e = absurd (cc)
