@@ -1,12 +1,13 @@
 -- The front of a stream, step by step.
-use Rattle.std.proofs.Common.{◌≡◌, ℕ, ◌+◌, ◌-◌, ◌%◌, ◌≤◌, Bool, true, false, not, ◌&&◌, ◌||◌, List, length, take, drop, refl, sym, ap, ◌∙◌, arith}
-use Rattle.std.proofs.Common.{Option, Some, None, IfSome, Ok, Err, nat_eq, nat_lt, if◌then◌else◌}
+use Rattle.std.proofs.Common.{◌≡◌, ℕ, ◌+◌, ◌-◌, ◌%◌, ◌≤◌, Bool, true, false, not, ◌&&◌, ◌||◌, List, [], length, take, drop, refl, sym, ap, ap₂, ◌∙◌, arith}
+use Rattle.std.proofs.Common.{Option, Some, None, IsSomeAnd, Ok, Err, nat_eq, nat_lt, if◌then◌else◌}
+use Rattle.std.proofs.lemmas.List.{drop_all, take_all}
 use Rattle.std.proofs.lemmas.Bool.{eqb-true, le-ltb, ltb-false, not-false, or_parts}
 use Rattle.giop_framing.specs.declared.fault.FramingFault.{FramingFault}
 use Rattle.giop_framing.specs.declared.fault.FramingFault.TheVariants.{BadFragment}
 use Rattle.giop_framing.specs.declared.head.Head.{Head}
 use Rattle.giop_framing.specs.Heads.{head_in, max_size}
-use Rattle.giop_framing.specs.Framing.{More, Broken, front, front_behind, placed, breaks, is_other, is_fragment, is_cut, breaks_run, same_order, id_in, order_in}
+use Rattle.giop_framing.specs.Framing.{More, Broken, Piece, Whole, front, front_behind, placed, joined, begun, breaks, is_other, is_fragment, is_cut, breaks_run, same_order, id_in, order_in}
 use Rattle.giop_framing.specs.Runs.{IsMessage, IsFirst, IsNext, IsFrame}
 use Rattle.giop_framing.proofs.HeadFacts.{message_at}
 
@@ -87,8 +88,9 @@ first_piece (Some there) head message kept is request on =
 
 -- a fragment is the next piece of the run
 next_piece : (run : Option (List ℕ)) (head : Head) (message : List ℕ) → breaks run head ≡ false → IsMessage head message
-    → is_other run head message ≡ false → is_fragment head.kind ≡ true → IfSome run (λ there. IsNext there message)
-next_piece None head message kept is same fragment = tt
+    → is_other run head message ≡ false → is_fragment head.kind ≡ true → IsSomeAnd run (λ there. IsNext there message)
+next_piece None head message kept is same fragment =
+    absurd (true_is_false (sym fragment ∙ (or_parts (is_fragment head.kind) (head.goes_on && is_cut head) kept).0))
 next_piece (Some there) head message kept is same fragment =
     record {
       head = head;
@@ -121,3 +123,22 @@ whole_front run octets head le e kept within same =
           (le-ltb (length octets) (12 + head.size) within)
           ∙ left_out (is_other run head message) (Broken BadFragment) here same;
     }
+
+-- A message that is whole, and no fragment, and that no fragments follow stands at its own front.
+pub own_front : (head : Head) (message : List ℕ) → IsMessage head message → is_fragment head.kind ≡ false
+    → head.goes_on ≡ false → front None message ≡ Whole message None []
+own_front head message is plain off =
+    let n = 12 + head.size in
+    let all : take n message ≡ message = take_all n message (omega (arith, is.whole)) in
+    let none : drop n message ≡ [] = drop_all n message (omega (arith, is.whole)) in
+    let here = placed None head (take n message) (drop n message) in
+    front_of None message (omega (arith, is.whole)) ∙ ap (front_behind None message) is.head_is
+    ∙ left_out (breaks None head) (Broken BadFragment) (if nat_lt (length message) n then More else here)
+    (ap (λ b. b || (head.goes_on && is_cut head)) plain ∙ ap (λ b. b && is_cut head) off)
+    ∙ left_out (nat_lt (length message) n) More here (le-ltb (length message) n (omega (arith, is.whole)))
+    ∙ left_out (is_fragment head.kind) (joined None head (take n message) (drop n message))
+    (if head.goes_on then Piece (begun (take n message)) (drop n message)
+    else Whole (take n message) None (drop n message)) plain
+    ∙ left_out head.goes_on (Piece (begun (take n message)) (drop n message))
+    (Whole (take n message) None (drop n message)) off
+    ∙ ap₂ (λ m r. Whole m None r) all none

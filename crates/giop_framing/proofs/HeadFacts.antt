@@ -1,8 +1,8 @@
 -- What follows from a head that was read.
 use Rattle.std.proofs.Common.{◌≡◌, ℕ, ◌+◌, ◌-◌, ◌<◌, ◌≤◌, Bool, true, false, not, ◌&&◌, List, ◌++◌, length, take, drop, refl, sym, ap, ◌∙◌, arith}
 use Rattle.std.proofs.Common.{Option, Some, None, Result, Ok, Err, nat_eq, nat_lt, slice_get, slice_index, if◌then◌else◌}
-use Rattle.std.proofs.lemmas.List.{get_or_append_left, drop-append-le, length-drop, length-take-le, take-append-drop, take_all}
-use Rattle.std.proofs.lemmas.Bool.{ltb-false}
+use Rattle.std.proofs.lemmas.List.{get_or-set_other, get_or-set_same, get_or-take, get_or_append_left, drop-append-le, length-drop, length-take-le, take-append-drop, take_all}
+use Rattle.std.proofs.lemmas.Bool.{eqb-true, le-ltb, ltb-false, not-false}
 use Rattle.byteorder.specs.Numbers.{big_from-append, little_from-append}
 use Rattle.type_graph.specs.declared.width.Order.{Order}
 use Rattle.type_graph.specs.declared.width.Order.TheVariants.{Big, Little}
@@ -34,6 +34,57 @@ judge : (giop version : Bool) (flags size number : ℕ) → Result Head FramingF
 judge giop version flags size number =
     if not giop then Err NotGiop else if not version then Err Version
     else if nat_lt max_size size then Err TooLong else typed flags size (slice_get kinds number)
+
+-- which type it is
+kind_typed : (flags size : ℕ) (kind : Option Kind) (head : Head) → typed flags size kind ≡ Ok head
+    → kind ≡ Some head.kind
+kind_typed flags size None head e = absurd (cc)
+kind_typed flags size (Some kind) head e =
+    let p = past (goes_on flags && not (may_go_on kind)) BadHead (Ok (head_of flags size kind)) head e in
+    let same : head_of flags size kind ≡ head = cc in
+    ap (λ (h : Head). Some h.kind) same
+
+-- a fault that doesn't hold isn't told
+skip : (b : Bool) (fault : FramingFault) (r : Result Head FramingFault) → b ≡ false → (if b then Err fault else r) ≡ r
+skip true fault r e = absurd (cc)
+skip false fault r e = refl
+
+-- the same message with other flags, under which nothing follows, and another size
+judged_alone : (giop version : Bool) (flags size number : ℕ) (head : Head) (other long : ℕ)
+    → judge giop version flags size number ≡ Ok head → goes_on other ≡ false → long ≤ max_size
+    → judge giop version other long number ≡ Ok (head_of other long head.kind)
+unfolding judge
+judged_alone giop version flags size number head other long e off le =
+    let kind = slice_get kinds number in
+    let p = past (not giop) NotGiop
+    (if not version then Err Version else if nat_lt max_size size then Err TooLong else typed flags size kind) head e in
+    let q = past (not version) Version (if nat_lt max_size size then Err TooLong else typed flags size kind) head p.1 in
+    let r = past (nat_lt max_size size) TooLong (typed flags size kind) head q.1 in
+    skip (not giop) NotGiop
+    (if not version then Err Version else if nat_lt max_size long then Err TooLong else typed other long kind) p.0
+    ∙ skip (not version) Version (if nat_lt max_size long then Err TooLong else typed other long kind) q.0
+    ∙ skip (nat_lt max_size long) TooLong (typed other long kind) (le-ltb max_size long le)
+    ∙ ap (typed other long) (kind_typed flags size kind head r.1)
+    ∙ ap (λ (b : Bool). if b && not (may_go_on head.kind) then Err BadHead else Ok (head_of other long head.kind)) off
+
+-- fragments follow a request or a fragment alone
+on_typed : (flags size : ℕ) (kind : Kind) (head : Head) → typed flags size (Some kind) ≡ Ok head → goes_on flags ≡ true
+    → may_go_on kind ≡ true
+on_typed flags size kind head e on =
+    let p = past (goes_on flags && not (may_go_on kind)) BadHead (Ok (head_of flags size kind)) head e in
+    not-false (may_go_on kind) (sym (ap (λ b. b && not (may_go_on kind)) on) ∙ p.0)
+
+judged_on : (giop version : Bool) (flags size number : ℕ) (head : Head)
+    → judge giop version flags size number ≡ Ok head → goes_on flags ≡ true → may_go_on head.kind ≡ true
+unfolding judge
+judged_on giop version flags size number head e on =
+    let kind = slice_get kinds number in
+    let p = past (not giop) NotGiop
+    (if not version then Err Version else if nat_lt max_size size then Err TooLong else typed flags size kind) head e in
+    let q = past (not version) Version (if nat_lt max_size size then Err TooLong else typed flags size kind) head p.1 in
+    let r = past (nat_lt max_size size) TooLong (typed flags size kind) head q.1 in
+    on_typed flags size head.kind head
+    (sym (ap (typed flags size) (kind_typed flags size kind head r.1)) ∙ r.1) on
 
 judged : (giop version : Bool) (flags size number : ℕ) (head : Head)
     → judge giop version flags size number ≡ Ok head → (head ≡ head_of flags size head.kind)
@@ -109,6 +160,35 @@ head_longer xs ys le =
     (flags_in (xs ++ ys)) (size_in (xs ++ ys)) (slice_index (xs ++ ys) 7) (flags_in xs) (size_in xs) (slice_index xs 7)
     giop version a6 size (at 7 (omega (arith, le)))
     ∙ sym (is_judged xs)
+
+-- what octets say whose flags and size are others, under which nothing follows
+pub head_alone : (message other : List ℕ) (head : Head) → head_in message ≡ Ok head
+    → ((i : ℕ) → i < 6 → slice_index other i ≡ slice_index message i)
+    → slice_index other 7 ≡ slice_index message 7
+    → goes_on (flags_in other) ≡ false → size_in other ≤ max_size
+    → head_in other ≡ Ok (head_of (flags_in other) (size_in other) head.kind)
+head_alone message other head e at kind off le =
+    let giop = giop_same (slice_index other 0) (slice_index other 1) (slice_index other 2) (slice_index other 3)
+    (slice_index message 0) (slice_index message 1) (slice_index message 2) (slice_index message 3)
+    (at 0 (omega arith)) (at 1 (omega arith)) (at 2 (omega arith)) (at 3 (omega arith)) in
+    let version =
+    version_same (slice_index other 4) (slice_index other 5) (slice_index message 4) (slice_index message 5)
+    (at 4 (omega arith)) (at 5 (omega arith)) in
+    is_judged other
+    ∙ judge_same (is_giop other) (is_1_2 other) (is_giop message) (is_1_2 message)
+    (flags_in other) (size_in other) (slice_index other 7) (flags_in other) (size_in other) (slice_index message 7)
+    giop version refl refl kind
+    ∙ judged_alone (is_giop message) (is_1_2 message) (flags_in message) (size_in message) (slice_index message 7) head
+    (flags_in other) (size_in other) (sym (is_judged message) ∙ e) off le
+
+-- a message that fragments follow is a request or a fragment
+pub head_on : (message : List ℕ) (head : Head) → head_in message ≡ Ok head → head.goes_on ≡ true
+    → may_go_on head.kind ≡ true
+head_on message head e on =
+    let flags : goes_on (flags_in message) ≡ true =
+    sym (ap (λ (h : Head). h.goes_on) (head_ok message head e).0) ∙ on in
+    judged_on (is_giop message) (is_1_2 message) (flags_in message) (size_in message) (slice_index message 7) head
+    (sym (is_judged message) ∙ e) flags
 
 -- the message at the front says what the stream says
 pub head_of_front : (n : ℕ) (octets : List ℕ) → 12 ≤ n → n ≤ length octets → head_in (take n octets) ≡ head_in octets

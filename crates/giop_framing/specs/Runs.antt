@@ -1,6 +1,7 @@
 -- What pieces of a run are, and what a run keeps.
-use Rattle.std.specs.Prelude.{◌≡◌, ℕ, ◌+◌, ◌≤◌, true, false, List, length, take, drop, Option, Some, None, IfSome, Result, Ok, Err}
+use Rattle.std.specs.Prelude.{◌≡◌, ℕ, ◌+◌, ◌≤◌, true, false, List, length, take, drop, Option, Some, None, IsSomeAnd, Result, Ok, Err}
 use Rattle.giop_framing.specs.declared.fault.FramingFault.{FramingFault}
+use Rattle.giop_framing.specs.declared.head.Kind.TheVariants.{Request}
 use Rattle.giop_framing.specs.declared.head.Head.{Head}
 use Rattle.giop_framing.specs.declared.frame.Frame.{Frame}
 use Rattle.giop_framing.specs.Heads.{head_in, max_size}
@@ -32,7 +33,7 @@ pub record IsFrame (run : Option (List ℕ)) (octets : List ℕ) (frame : Frame)
   pub within : frame.len ≤ length octets
   pub is : IsMessage frame.head (take frame.len octets)
   pub first : is_fragment frame.head.kind ≡ false → frame.head.goes_on ≡ true → IsFirst (take frame.len octets)
-  pub next : is_fragment frame.head.kind ≡ true → IfSome run (λ there. IsNext there (take frame.len octets))
+  pub next : is_fragment frame.head.kind ≡ true → IsSomeAnd run (λ there. IsNext there (take frame.len octets))
   pub front_is : front run octets ≡ placed run frame.head (take frame.len octets) (drop frame.len octets)
 
 -- what is told of the front of a stream
@@ -41,7 +42,11 @@ IsFront run octets (Err fault) = front run octets ≡ Broken fault
 IsFront run octets (Ok None) = front run octets ≡ More
 IsFront run octets (Ok (Some frame)) = IsFrame run octets frame
 
--- what a run keeps: it holds the number of its request, and has the size of one message
+-- what a run keeps: it is one whole request that no fragments follow, and holds the number of the request
 pub record IsRun (octets : List ℕ) : Type 0 where
   pub numbered : 16 ≤ length octets
   pub sized : length octets ≤ 12 + max_size
+  pub head : Head
+  pub is : IsMessage head octets
+  pub request : head.kind ≡ Request
+  pub alone : head.goes_on ≡ false

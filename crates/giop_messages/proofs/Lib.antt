@@ -1,0 +1,3 @@
+pub mod OneWritten
+pub mod OneKey
+pub mod OneMessage

@@ -1,0 +1,3 @@
+pub mod Shapes
+pub mod Targets
+pub mod Told
