@@ -6,4 +6,6 @@ mod faults;
 #[cfg(test)]
 mod pieces;
 #[cfg(test)]
+mod references;
+#[cfg(test)]
 mod types;

@@ -1,13 +1,13 @@
 //! Requests that come in fragments.
 
-ghost use Rattle.std.specs.Prelude.{◌≡◌, ◌≤◌, ◌-◌, ◌+◌, ◌++◌, length, take, drop, IfOk, OnOk, OnErr};
+ghost use Rattle.std.specs.Prelude.{◌≡◌, ◌≤◌, ◌-◌, ◌+◌, ◌++◌, false, length, take, drop, IfOk, OnOk, OnErr};
 ghost use Rattle.type_graph.specs.declared.width.Width.TheVariants.{Four};
 ghost use Rattle.type_graph.specs.Words.{plain_word};
 ghost use Rattle.giop_framing.specs.Heads.{max_size};
 ghost use Rattle.giop_framing.specs.Framing.{added, begun, id_in, sized, order_in as order_in_run, same_order as are_same};
-ghost use Rattle.giop_framing.specs.Runs.{IsFirst, IsNext};
+ghost use Rattle.giop_framing.specs.Runs.{IsFirst, IsMessage, IsNext};
 
-use crate::head::{HEAD_LEN, number, order_in};
+use crate::head::{HEAD_LEN, Head, number, order_in};
 use byteorder::{BigEndian, ByteOrder, LittleEndian};
 use std::alloc::{AllocError, Global};
 use std::marker::Model;
@@ -106,6 +106,17 @@ impl Run {
         ensures { result.now ≡ self.now }
     {
         self.octets.as_slice()
+    }
+
+    /// The head of the request.
+    pub fn head(&self) -> Head
+        ensures is { IsMessage result self.now }
+        ensures alone { result.goes_on ≡ false }
+    {
+        match Head::read(self.octets.as_slice()) {
+            Ok(head) => head,
+            Err(_) => unreachable!(),
+        }
     }
 
     fn order(&self) -> Order

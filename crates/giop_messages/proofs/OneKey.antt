@@ -1,33 +1,10 @@
 -- A target tells one key.
-use Rattle.std.proofs.Common.{◌≡◌, ℕ, pos, List, [], ◌∷◌, Option, Some, None, slice_get, refl, sym, ap, ap₂, ◌∙◌, subst, arith}
-use Rattle.type_graph.specs.Value.{Tree, Number, Bytes, Items, Choice, Trees, NoTree, AndTree}
+use Rattle.std.proofs.Common.{◌≡◌, ℕ, List, Option, Some, None, slice_get, refl, sym, ap, ap₂, ◌∙◌, subst}
+use Rattle.type_graph.specs.Value.{Tree}
 use Rattle.giop_types.specs.Fields.{octet_trees, tagged_tree, tagged_trees}
-use Rattle.giop_messages.specs.Keys.{HasKey}
+use Rattle.object_references.specs.Profiles.{HasKey}
+use Rattle.object_references.proofs.TreeLaws.{octets_same, tagged_same, all_tagged_same}
 use Rattle.giop_messages.specs.Headers.{TellsKey, ByKey, ByProfile, ByReference, IsKeyOf, key_target, profile_target, reference_target}
-
-pub octets_same : (xs ys : List ℕ) → octet_trees xs ≡ octet_trees ys → xs ≡ ys
-octets_same [] [] e = refl
-octets_same [] (y ∷ ys) e = absurd (cc)
-octets_same (x ∷ xs) [] e = absurd (cc)
-octets_same (x ∷ xs) (y ∷ ys) e =
-    let rest : octet_trees xs ≡ octet_trees ys = cc in
-    let one : x ≡ y = cc in
-    ap₂ (λ a b. a ∷ b) one (octets_same xs ys rest)
-
-pub tagged_same : (x y : ℕ × List ℕ) → tagged_tree x ≡ tagged_tree y → x ≡ y
-tagged_same x y e =
-    let tag : x.0 ≡ y.0 = cc in
-    let trees : octet_trees x.1 ≡ octet_trees y.1 = cc in
-    ap₂ (λ a b. (a, b)) tag (octets_same x.1 y.1 trees)
-
-pub all_tagged_same : (xs ys : List (ℕ × List ℕ)) → tagged_trees xs ≡ tagged_trees ys → xs ≡ ys
-all_tagged_same [] [] e = refl
-all_tagged_same [] (y ∷ ys) e = absurd (cc)
-all_tagged_same (x ∷ xs) [] e = absurd (cc)
-all_tagged_same (x ∷ xs) (y ∷ ys) e =
-    let rest : tagged_trees xs ≡ tagged_trees ys = cc in
-    let one : tagged_tree x ≡ tagged_tree y = cc in
-    ap₂ (λ a b. a ∷ b) (tagged_same x y one) (all_tagged_same xs ys rest)
 
 -- a profile tells one key
 module _ (key_once : (profile : ℕ × List ℕ) (a b : List ℕ) → HasKey profile a → HasKey profile b → a ≡ b) where

@@ -1,8 +1,8 @@
 -- Octets are at most one message.
-use Rattle.std.proofs.Common.{◌≡◌, ℕ, ◌+◌, pos, List, [], ◌∷◌, ◌++◌, length, drop, Option, Some, None, Ok, refl, sym, ap, ap₂, ◌∙◌, subst, arith}
+use Rattle.std.proofs.Common.{◌≡◌, ℕ, ◌+◌, List, length, drop, Option, Ok, refl, sym, ap, ◌∙◌, subst, arith}
 use Rattle.type_graph.specs.declared.width.Order.{Order}
 use Rattle.type_graph.specs.Words.{reading}
-use Rattle.type_graph.specs.Value.{Tree, Number, Bytes, Items, Trees, NoTree, AndTree, node_at}
+use Rattle.type_graph.specs.Value.{Tree, node_at}
 use Rattle.giop_types.proofs.GraphFacts.{giop_is_graph}
 use Rattle.type_graph.proofs.OneTape.{graph_fits_words}
 use Rattle.type_graph.proofs.OneReading.{one_reading}
@@ -10,9 +10,9 @@ use Rattle.giop_framing.specs.declared.head.Kind.{Kind}
 use Rattle.giop_framing.specs.declared.head.Kind.TheVariants as kinds
 use Rattle.giop_framing.specs.declared.head.Head.{Head}
 use Rattle.giop_types.specs.GiopNodes.{giop_nodes}
-use Rattle.giop_messages.specs.Keys.{HasKey}
+use Rattle.object_references.specs.Profiles.{HasKey}
 use Rattle.giop_messages.specs.Headers.{IsKeyOf, request_tree, reply_tree, cancel_tree, locate_tree, number_of}
-use Rattle.giop_messages.specs.Messages.{Asked, Answered, Sought, Content, Asks, Answers, Cancels, Seeks, Closes, Fails, IsWhole, HasHeader, HasBody, body_after, IsRequest, IsReply, IsCancel, IsLocate, IsBare, Says}
+use Rattle.giop_messages.specs.Messages.{Asked, Answered, Sought, Content, Asks, Answers, Cancels, Seeks, Closes, Fails, IsWhole, HasHeader, HasBody, body_after, IsRequest, IsReply, IsCancel, IsLocate, Says}
 use Rattle.giop_messages.specs.declared.message.ReplyStatus.{ReplyStatus}
 use Rattle.giop_messages.specs.declared.message.ReplyStatus.TheVariants.{NoException, UserException, SystemException, LocationForward, LocationForwardPerm, NeedsAddressingMode}
 use Rattle.giop_messages.proofs.OneKey.{keys_once}

@@ -1,4 +1,4 @@
-pub mod Keys
 pub mod Headers
 pub mod Messages
 pub mod Written
+pub mod Faults

@@ -2,7 +2,9 @@
 //! and the laws of these.
 #![tactic(auto)]
 
+mod fault;
 pub mod laws;
 mod message;
 
+pub use fault::GiopFault;
 pub use message::{Locate, Message, Reply, ReplyStatus, Request};

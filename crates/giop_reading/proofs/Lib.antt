@@ -1,3 +1,8 @@
-pub mod Shapes
 pub mod Targets
 pub mod Told
+pub mod TargetSplits
+pub mod HeaderParts
+pub mod HeaderSplits
+pub mod ProfileParts
+pub mod Places
+pub mod Contents

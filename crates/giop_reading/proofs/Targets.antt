@@ -1,21 +1,21 @@
 -- What the tape of a target address is made of.
-use Rattle.std.proofs.Common.{◌≡◌, ℕ, zero, suc, ◌+◌, ◌^◌, ◌<◌, ℤ, pos, negsuc, Bool, true, false, List, [], ◌∷◌, ◌++◌, length, None, if◌then◌else◌, refl, sym, ap, ap₂, ◌∙◌, append-nil, append_assoc, subst, arith}
+use Rattle.std.proofs.Common.{◌≡◌, ℕ, ◌^◌, ◌<◌, ℤ, pos, Bool, true, false, List, [], ◌∷◌, ◌++◌, None, if◌then◌else◌, refl, sym, ap, ap₂, ◌∙◌, append-nil, append_assoc, subst, arith}
 use Rattle.std.specs.Ordering.{int_eq}
 use Rattle.std.proofs.lemmas.Bool.Decides.{Decides-int_eq}
 use Rattle.type_graph.specs.declared.width.Width.TheVariants.{Two, Four}
 use Rattle.type_graph.specs.declared.width.Order.TheVariants.{Big}
 use Rattle.type_graph.specs.declared.node.Node.TheVariants as nodes
 use Rattle.type_graph.specs.Words.{twos_complement, word}
-use Rattle.type_graph.specs.Value.{Tree, Number, Bytes, Items, Choice, Trees, NoTree, AndTree, node_at, arm_of, Fits, FitAll, IsNumber, IsSigned, tape_of, tapes_of}
+use Rattle.type_graph.specs.Value.{Tree, Number, Bytes, Items, Choice, Trees, NoTree, AndTree, node_at, arm_of, Fits, FitAll, IsSigned, tape_of, tapes_of}
 use Rattle.type_graph.proofs.WordLaws.{length-word, plain_word_same}
 use Rattle.type_graph.proofs.OneTape.{cut_same, number_same}
 use Rattle.giop_types.specs.GiopNodes.{giop_nodes}
-use Rattle.giop_types.specs.Fields.{number_tree, struct_tree, trees, octets_tree, tagged_tree, tagged_list_tree}
+use Rattle.giop_types.specs.Fields.{number_tree, struct_tree, trees, tagged_list_tree}
 use Rattle.giop_messages.specs.Headers.{key_target, profile_target, reference_target}
-use Rattle.tapes.specs.Parts.{counted, IsCounted, tagged, IsTagged, tagged_list, AreTagged}
+use Rattle.tapes.specs.Parts.{counted, IsCounted, tagged_list, AreTagged}
 use Rattle.giop_reading.specs.Tapes.{Begins, HasValue, CountedFront, TaggedFront, SelectedFront}
 use Rattle.giop_types.proofs.PartTrees.{long_shape, struct_shape, text_shape, text_counted}
-use Rattle.giop_reading.proofs.Shapes.{peel, none_left, counted_value, tag_value, tag_list}
+use Rattle.object_references.proofs.Shapes.{peel, none_left, counted_value, tag_value, tag_list}
 
 abbrev arms : List (ℤ × ℕ)
 arms = (pos 0, 10) ∷ (pos 1, 11) ∷ (pos 2, 15) ∷ []

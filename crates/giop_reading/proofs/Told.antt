@@ -1,10 +1,10 @@
 -- The key that a target of each kind tells.
-use Rattle.std.proofs.Common.{◌≡◌, ℕ, ℤ, pos, List, [], ◌∷◌, Option, Some, None, slice_get, refl, sym, ap, ap₂, ◌∙◌, subst}
-use Rattle.type_graph.specs.Value.{Tree, Bytes, Choice, Trees, NoTree, AndTree}
-use Rattle.giop_types.specs.Fields.{number_tree, struct_tree, octet_trees, octets_tree, tagged_tree, tagged_trees, tagged_list_tree, trees}
-use Rattle.giop_messages.specs.Keys.{HasKey}
+use Rattle.std.proofs.Common.{◌≡◌, ℕ, ℤ, List, Option, Some, None, slice_get, refl, sym, ap₂, ◌∙◌, subst}
+use Rattle.type_graph.specs.Value.{Tree, Choice, NoTree}
+use Rattle.giop_types.specs.Fields.{tagged_tree, tagged_trees}
+use Rattle.object_references.specs.Profiles.{HasKey}
 use Rattle.giop_messages.specs.Headers.{IsKeyOf, TellsKey, ByKey, ByProfile, ByReference, key_target, profile_target, reference_target}
-use Rattle.giop_messages.proofs.OneKey.{tagged_same, all_tagged_same}
+use Rattle.object_references.proofs.TreeLaws.{tagged_same, all_tagged_same}
 use Rattle.giop_reading.specs.Tapes.{IsAt, IsIn}
 
 -- the same of an equal target

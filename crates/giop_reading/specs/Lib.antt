@@ -1,1 +1,3 @@
 pub mod Tapes
+pub mod Targets
+pub mod Profiles

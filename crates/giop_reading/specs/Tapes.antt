@@ -1,12 +1,13 @@
 -- What stands at the front of the tape of a header.
-use Rattle.std.specs.Prelude.{◌≡◌, ℕ, ◌<◌, ◌^◌, pos, List, ◌++◌, length, Option, Some, None, slice_get}
-use Rattle.type_graph.specs.declared.width.Width.TheVariants.{Four}
+use Rattle.std.specs.Prelude.{◌≡◌, ℕ, ◌<◌, ◌^◌, pos, List, [], ◌++◌, Option, Some, None}
+use Rattle.type_graph.specs.declared.width.Width.TheVariants.{Two, Four}
+use Rattle.type_graph.specs.declared.width.Order.{Order}
 use Rattle.type_graph.specs.declared.width.Order.TheVariants.{Big}
 use Rattle.type_graph.specs.Words.{word}
 use Rattle.type_graph.specs.Value.{Tree, node_at, Fits, tape_of}
 use Rattle.giop_types.specs.GiopNodes.{giop_nodes}
-use Rattle.giop_messages.specs.Keys.{HasKey}
-use Rattle.giop_messages.specs.Headers.{IsKeyOf}
+use Rattle.object_references.specs.Profiles.{HasKey}
+use Rattle.giop_messages.specs.Messages.{HasHeader}
 use Rattle.tapes.specs.Parts.{counted, IsCounted, tagged, IsTagged, tagged_list, AreTagged}
 
 -- the tape of this value of the node, and then the rest
@@ -25,20 +26,10 @@ pub record CountedFront (tape octets rest : List ℕ) : Type 0 where
   pub short : IsCounted octets
   pub front : tape ≡ counted octets ++ rest
 
-pub record HasCounted (tape : List ℕ) : Type 0 where
-  pub octets : List ℕ
-  pub rest : List ℕ
-  pub is : CountedFront tape octets rest
-
 -- a tag with its octets, and then the rest
 pub record TaggedFront (tape : List ℕ) (profile : ℕ × List ℕ) (rest : List ℕ) : Type 0 where
   pub short : IsTagged profile
   pub front : tape ≡ tagged profile ++ rest
-
-pub record HasTagged (tape : List ℕ) : Type 0 where
-  pub profile : ℕ × List ℕ
-  pub rest : List ℕ
-  pub is : TaggedFront tape profile rest
 
 -- a place among the profiles of an object reference, the reference, and then the rest
 pub record SelectedFront (tape : List ℕ) (selected : ℕ) (type_id : List ℕ) (profiles : List (ℕ × List ℕ)) (rest : List ℕ)
@@ -47,13 +38,6 @@ pub record SelectedFront (tape : List ℕ) (selected : ℕ) (type_id : List ℕ)
   pub short : IsCounted type_id
   pub are : AreTagged profiles
   pub front : tape ≡ word Big Four (pos selected) ++ (counted type_id ++ (tagged_list profiles ++ rest))
-
-pub record HasSelected (tape : List ℕ) : Type 0 where
-  pub selected : ℕ
-  pub type_id : List ℕ
-  pub profiles : List (ℕ × List ℕ)
-  pub rest : List ℕ
-  pub is : SelectedFront tape selected type_id profiles rest
 
 -- the key that a profile tells, none where it tells none
 abbrev pub IsIn : ℕ × List ℕ → Option (List ℕ) → Type 0
@@ -64,3 +48,15 @@ IsIn profile None = (key : List ℕ) → HasKey profile key → ⊥
 abbrev pub IsAt : Option (ℕ × List ℕ) → Option (List ℕ) → Type 0
 IsAt (Some profile) key = IsIn profile key
 IsAt None key = key ≡ None
+
+-- a discriminator, and then the tape behind that of a target
+pub record BeginsBehind (label : ℕ) (target : Tree) (tape rest : List ℕ) : Type 0 where
+  pub whole : List ℕ
+  pub begins : Begins 16 target whole rest
+  pub is : whole ≡ word Big Two (pos label) ++ tape
+
+-- Behind the head stands a value of the node, which ends at this place and has this tape.
+pub record IsTapeAt (octets : List ℕ) (order : Order) (node : ℕ) (tape : List ℕ) (stop : ℕ) : Type 0 where
+  pub value : Tree
+  pub header : HasHeader octets order node value stop
+  pub begins : Begins node value tape []

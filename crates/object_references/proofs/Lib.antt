@@ -1,1 +1,11 @@
 pub mod ListLaws
+pub mod Faults
+pub mod TreeLaws
+pub mod Shapes
+pub mod WrittenOctets
+pub mod Encapsulated
+pub mod ReferenceTapes
+pub mod ProfileTapes
+pub mod ProfileKeys
+pub mod ProfileLaws
+pub mod TextLaws

@@ -3,7 +3,8 @@ use Rattle.std.specs.Prelude.{◌≡◌, ℕ, List, ◌∷◌, ◌++◌}
 use Rattle.type_graph.specs.declared.width.Order.{Order}
 use Rattle.type_graph.specs.declared.width.Order.TheVariants.{Big, Little}
 use Rattle.type_graph.specs.Words.{reading, writing}
-use Rattle.type_graph.specs.Value.{Tree}
+use Rattle.type_graph.specs.Value.{Tree, node_at, tape_of}
+use Rattle.giop_types.specs.GiopNodes.{giop_nodes}
 use Rattle.giop_types.specs.Fields.{Holds}
 
 abbrev pub flag_of : Order → ℕ
@@ -23,3 +24,15 @@ pub record IsWritten (node : ℕ) (value : Tree) (octets : List ℕ) : Type 0 wh
   pub body : List ℕ
   pub octets_are : octets ≡ flag_of Big ∷ body
   pub holds : Holds (writing Big) node 1 value body
+
+-- what is read, by its tape
+pub record HasTape (node : ℕ) (octets tape : List ℕ) : Type 0 where
+  pub value : Tree
+  pub encapsulated : Encapsulates node value octets
+  pub tape_is : tape ≡ tape_of giop_nodes (node_at giop_nodes node) value
+
+-- what is written, by its tape
+pub record IsOfTape (node : ℕ) (tape octets : List ℕ) : Type 0 where
+  pub value : Tree
+  pub written : IsWritten node value octets
+  pub tape_is : tape ≡ tape_of giop_nodes (node_at giop_nodes node) value

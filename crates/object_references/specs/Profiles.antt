@@ -1,6 +1,10 @@
 -- The profiles of IIOP (ISO/IEC 19500-2, IIOP: IIOP IOR profiles).
-use Rattle.std.specs.Prelude.{◌≡◌, ℕ, zero, suc, List, [], ◌∷◌}
+use Rattle.std.specs.Prelude.{◌≡◌, ℕ, zero, suc, pos, List, [], ◌∷◌, ◌++◌}
+use Rattle.type_graph.specs.declared.width.Width.TheVariants.{One, Two, Four}
+use Rattle.type_graph.specs.declared.width.Order.TheVariants.{Big}
+use Rattle.type_graph.specs.Words.{word}
 use Rattle.type_graph.specs.Value.{Tree, Bytes}
+use Rattle.tapes.specs.Parts.{counted}
 use Rattle.giop_types.specs.Fields.{number_tree, octets_tree, struct_tree, tagged_list_tree}
 use Rattle.object_references.specs.Encapsulations.{Encapsulates, IsWritten}
 
@@ -40,3 +44,10 @@ new_body host port key = record { major = 1; minor = 2; host = host; port = port
 
 pub record IsProfile (host : List ℕ) (port : ℕ) (key octets : List ℕ) : Type 0 where
   pub written : IsWritten 25 (body_tree (new_body host port key) 2) octets
+
+-- its tape
+abbrev pub profile_tape : List ℕ → ℕ → List ℕ → List ℕ
+profile_tape host port key =
+    word Big One (pos 1)
+    ++ (word Big One (pos 2)
+    ++ (counted host ++ (word Big Two (pos port) ++ (counted key ++ word Big Four (pos 0)))))

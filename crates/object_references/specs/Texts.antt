@@ -19,8 +19,12 @@ pub record Spells (text : List ℕ) (reference : Reference) : Type 0 where
   pub digits_are : decode_of digits ≡ Ok octets
   pub encapsulated : Encapsulates 13 (reference_tree reference) octets
 
+-- octets in digits
+abbrev pub spelled : List ℕ → List ℕ
+spelled octets = codes "IOR:" ++ encode_lower octets
+
 -- what is written
 pub record IsTextOf (reference : Reference) (text : List ℕ) : Type 0 where
   pub octets : List ℕ
-  pub text_is : text ≡ codes "IOR:" ++ encode_lower octets
+  pub text_is : text ≡ spelled octets
   pub written : IsWritten 13 (reference_tree reference) octets

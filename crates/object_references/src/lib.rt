@@ -1,8 +1,15 @@
 //! Object references: their texts, and the profiles of IIOP that say where an object is.
 #![tactic(auto)]
 
+mod encapsulation;
 mod fault;
+mod iiop;
+pub mod laws;
 mod reference;
+mod text;
 
+pub use encapsulation::split_flag;
 pub use fault::ReferenceFault;
+pub use iiop::profile;
 pub use reference::Ior;
+pub use text::{ior_from_text, ior_to_text};

@@ -7,6 +7,7 @@ pub mod entry;
 mod evaluation;
 pub mod fault;
 mod key;
+pub mod laws;
 pub mod names;
 mod pragmas;
 mod record;

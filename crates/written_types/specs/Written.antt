@@ -35,6 +35,14 @@ abbrev pub with_place : Written → Option ℕ → Place → Written
 with_place w None p = w
 with_place w (Some e) p = record w { places = slice_set w.places e (Some p) }
 
+abbrev pub place_in : Option (Option Place) → Option Place
+place_in None = None
+place_in (Some p) = p
+
+-- what an entry has
+abbrev pub place_of : Written → ℕ → Option Place
+place_of w e = place_in (slice_get w.places e)
+
 abbrev pub type_in : Option (Option Place) → Option ℕ
 type_in None = None
 type_in (Some None) = None

@@ -1,7 +1,7 @@
 //! The types that are written so far.
 
 ghost use Rattle.std.specs.Prelude.{◌≡◌, ◌≤◌, length, IfOk, OnOk, Some, slice_get};
-ghost use Rattle.written_types.specs.Written.{found_type, named_type, next, raised_at, opened as opened_of, set_node, type_of, unwritten, with_node, with_place, undefined as undefined_node};
+ghost use Rattle.written_types.specs.Written.{found_type, named_type, next, place_of, raised_at, opened as opened_of, set_node, type_of, unwritten, with_node, with_place, undefined as undefined_node};
 ghost use Rattle.scoped_names.specs.Search.{finds};
 
 use crate::fault::BuildFault;
@@ -121,8 +121,13 @@ impl TypeTable {
     }
 
     /// What an entry has.
-    pub fn place(&self, entry: usize) -> Option<Place> {
-        *self.places.get(entry)?
+    pub fn place(&self, entry: usize) -> Option<Place>
+        ensures { result ≡ place_of self.now entry }
+    {
+        match self.places.get(entry) {
+            Some(place) => *place,
+            None => None,
+        }
     }
 
     /// The node of the type that an entry is the name of.

@@ -1,0 +1,12 @@
+pub mod ExceptionFacts
+pub mod Readings
+pub mod Lookups
+pub mod Cases
+pub mod Existence
+pub mod Sent
+pub mod Outcomes
+pub mod Requests
+pub mod ServedRaws
+pub mod ServedLists
+pub mod OneFinding
+pub mod OneAnswer

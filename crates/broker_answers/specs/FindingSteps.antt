@@ -1,0 +1,61 @@
+-- What the parts of a search for what a request asks find.
+use Rattle.std.specs.Prelude.{◌≡◌, ◌⊎◌, ℕ, List, None}
+use Rattle.type_graph.specs.declared.node.Node.{Node}
+use Rattle.type_model.specs.declared.signatures.Interface.{Interface}
+use Rattle.type_model.specs.declared.signatures.Operation.{Operation}
+use Rattle.tapes.specs.Parts.{counted}
+use Rattle.giop_types.specs.GiopNodes.{giop_nodes}
+use Rattle.giop_messages.specs.Messages.{Asked}
+use Rattle.broker_answers.specs.declared.exception.SystemException.TheVariants.{BadOperation, Marshal}
+use Rattle.broker_answers.specs.declared.finding.Finding.{Finding as Found}
+use Rattle.broker_answers.specs.declared.finding.Finding.TheVariants as found
+use Rattle.broker_answers.specs.Servants.{call_of}
+use Rattle.broker_answers.specs.Objects.{Served, IsNamedOperation, is_a, operation_named}
+use Rattle.broker_answers.specs.Findings.{Finding, Refuses, Tells, Calls, IsRead, IsUnread}
+
+-- what was found says
+abbrev pub finding_of : Found → Finding
+finding_of (found.Refuses exception) = Refuses exception
+finding_of (found.Tells truth) = Tells truth
+finding_of (found.Calls object operation arguments) = Calls (call_of object operation arguments.items)
+
+-- `_is_a` with an id
+pub record HasId (interface : Interface) (asked : Asked) (finding : Finding) : Type 0 where
+  pub id : List ℕ
+  pub read : IsRead giop_nodes asked 26 (counted id)
+  pub finding_is : finding ≡ Tells (is_a interface id)
+
+-- the body can't be read
+pub record IsIllegible (graph : List Node) (node : ℕ) (asked : Asked) (finding : Finding) : Type 0 where
+  pub unread : IsUnread graph asked node
+  pub finding_is : finding ≡ Refuses Marshal
+
+abbrev pub IsTypeAsked : Interface → Asked → Finding → Type 0
+IsTypeAsked interface asked finding = HasId interface asked finding ⊎ IsIllegible giop_nodes 26 asked finding
+
+-- a call with arguments
+pub record HasArguments (graph : List Node) (object number : ℕ) (operation : Operation) (asked : Asked)
+    (finding : Finding) : Type 0 where
+  pub tape : List ℕ
+  pub read : IsRead graph asked operation.request tape
+  pub finding_is : finding ≡ Calls (call_of object number tape)
+
+abbrev pub IsCallAsked : List Node → ℕ → ℕ → Operation → Asked → Finding → Type 0
+IsCallAsked graph object number operation asked finding =
+    HasArguments graph object number operation asked finding ⊎ IsIllegible graph operation.request asked finding
+
+-- the interface has no such operation
+pub record HasNoOperation (served : Served) (interface : Interface) (asked : Asked) (finding : Finding) : Type 0 where
+  pub named : operation_named served.model interface asked.operation ≡ None
+  pub finding_is : finding ≡ Refuses BadOperation
+
+-- it has
+pub record HasOperation (served : Served) (object : ℕ) (interface : Interface) (asked : Asked) (finding : Finding) : Type 0 where
+  pub number : ℕ
+  pub operation : Operation
+  pub is : IsNamedOperation served.model interface asked.operation number operation
+  pub asked_is : IsCallAsked served.model.graph object number operation asked finding
+
+abbrev pub IsOwnAsked : Served → ℕ → Interface → Asked → Finding → Type 0
+IsOwnAsked served object interface asked finding =
+    HasNoOperation served interface asked finding ⊎ HasOperation served object interface asked finding

@@ -1,0 +1,10 @@
+pub mod Servants
+pub mod Objects
+pub mod Exceptions
+pub mod Findings
+pub mod FindingSteps
+pub mod Replies
+pub mod Sending
+pub mod Serving
+pub mod Answering
+pub mod OneAnswer

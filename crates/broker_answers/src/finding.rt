@@ -1,0 +1,116 @@
+//! What a request asks for.
+
+ghost use Rattle.std.specs.Prelude.{◌≡◌, ◌↔◌, IfOk, IsTrue, option_map};
+ghost use Rattle.type_model.specs.Names.{IsNamed};
+ghost use Rattle.giop_messages.specs.Messages.{asked_of};
+ghost use Rattle.giop_types.specs.GiopNodes.{giop_nodes};
+ghost use Rattle.broker_answers.specs.Findings.{IsRead, IsReading, Tells};
+ghost use Rattle.broker_answers.specs.FindingSteps.{HasId, IsCallAsked, IsTypeAsked, finding_of};
+
+use crate::exception::SystemException;
+use crate::objects::is_a;
+use giop_messages::Request;
+use giop_types::{GiopTypes, ID_ARGUMENT};
+use position_checker::Accepted;
+use program_runner::RunFault;
+use std::alloc::{AllocError, Global};
+use tapes::split_octets;
+use type_model::{Interface, Operation};
+
+/// What a request asks for.
+#[derive(Debug, Drop)]
+pub(crate) enum Finding {
+    /// Nothing that can be done.
+    Refuses(SystemException),
+    /// A question that is answered without the servant.
+    Tells(bool),
+    /// A call of the servant.
+    Calls {
+        object: usize,
+        operation: u32,
+        arguments: Vec<u8>,
+    },
+}
+
+/// Whether a request names this operation.
+pub(crate) fn is_called(request: &Request<'_>, name: &str) -> bool
+    ensures { IsTrue result ↔ (request.now.operation.items ≡ name.now) }
+{
+    request.operation.as_slice() == name.as_bytes()
+}
+
+/// The tape of the value of a node at the front of a request's body, if there is one.
+#[tactic(auto, using(crate::proofs::Readings::read_is, crate::proofs::Readings::unread))]
+pub(crate) fn read_body(
+    alloc: Global,
+    accepted: &Accepted,
+    node: u32,
+    request: &Request<'_>,
+) -> Result<Option<Vec<u8>>, AllocError>
+    requires { IsNamed accepted.now.model.names node }
+    ensures { IfOk result (λ tape. IsReading accepted.now.model.graph (asked_of request.now) node (option_map (λ t. t.items) tape)) }
+{
+    match accepted.read(
+        alloc,
+        node,
+        request.order,
+        request.body_at as u64,
+        request.octets,
+    ) {
+        Ok((tape, _)) => Ok(Some(tape)),
+        Err(fault) => match fault {
+            RunFault::NoMemory => Err(AllocError),
+            _ => Ok(None),
+        },
+    }
+}
+
+/// Whether the id that this tape says is one of the interface's.
+#[tactic(auto, using(crate::proofs::Readings::id_read, crate::proofs::Readings::id_is_there))]
+fn has_type(interface: &Interface, request: &Request<'_>, tape: &[u8]) -> bool
+    requires { IsRead giop_nodes (asked_of request.now) 26 tape.now }
+    ensures { HasId interface.now (asked_of request.now) (Tells result) }
+{
+    match split_octets(tape) {
+        Some((id, _)) => is_a(interface, id),
+        None => unreachable!(),
+    }
+}
+
+/// What `_is_a` asks of an object with this interface.
+#[tactic(auto, using(crate::proofs::Readings::id_named))]
+pub(crate) fn type_asked(
+    types: &GiopTypes,
+    alloc: Global,
+    interface: &Interface,
+    request: &Request<'_>,
+) -> Result<Finding, AllocError>
+    ensures { IfOk result (λ f. IsTypeAsked interface.now (asked_of request.now) (finding_of f)) }
+{
+    match read_body(alloc, types.table(), ID_ARGUMENT, request)? {
+        Some(tape) => Ok(Finding::Tells(has_type(interface, request, tape.as_slice()))),
+        None => Ok(Finding::Refuses(SystemException::Marshal)),
+    }
+}
+
+/// What a call of an operation asks of the object at a place.
+pub(crate) fn call_asked(
+    alloc: Global,
+    accepted: &Accepted,
+    object: usize,
+    number: u32,
+    operation: &Operation,
+    request: &Request<'_>,
+) -> Result<Finding, AllocError>
+    requires { IsNamed accepted.now.model.names operation.now.request }
+    ensures { IfOk result (λ f. IsCallAsked accepted.now.model.graph object number operation.now (asked_of request.now) (finding_of f)) }
+{
+    match read_body(alloc, accepted, operation.request, request)? {
+        Some(arguments) => Ok(Finding::Calls {
+            object,
+            operation: number,
+            arguments,
+        }),
+        None => Ok(Finding::Refuses(SystemException::Marshal)),
+    }
+}

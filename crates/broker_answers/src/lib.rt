@@ -1,0 +1,20 @@
+//! What a broker answers to messages: objects and their servant, requests and their replies.
+#![tactic(auto)]
+
+mod answer;
+mod exception;
+mod finding;
+pub mod laws;
+mod message;
+mod objects;
+mod outcome;
+mod reply;
+mod servant;
+mod service;
+mod serving;
+mod wanted;
+
+pub use exception::SystemException;
+pub use servant::{Outcome, Servant};
+pub use service::Service;
+pub use serving::{Answer, refuse};

@@ -1,0 +1,133 @@
+//! What is served.
+
+ghost use Rattle.std.specs.Prelude.{◌≡◌, option_map, IfOk};
+ghost use Rattle.giop_messages.specs.Messages.{asked_of};
+ghost use Rattle.broker_answers.specs.Findings.{Finds, IsFor};
+ghost use Rattle.broker_answers.specs.FindingSteps.{IsOwnAsked, finding_of};
+ghost use Rattle.broker_answers.specs.Objects.{AreServed, interface_of, object_with as object_of, objects_of, served};
+
+use crate::exception::SystemException;
+use crate::finding::{Finding, call_asked, is_called, type_asked};
+use crate::objects::{Object, object_with, operation_named};
+use giop_messages::Request;
+use giop_types::GiopTypes;
+use position_checker::Accepted;
+use std::alloc::{AllocError, Global};
+use std::marker::Model;
+use type_model::Interface;
+
+/// The objects that are served, and the accepted types of their interfaces. A contract sees the
+/// model of these, and each object's key with the place of its interface.
+#[derive(Debug, Drop)]
+pub struct Service {
+    pub(crate) types: GiopTypes,
+    pub(crate) accepted: Accepted,
+    objects: Vec<Object>,
+}
+
+impl Model for Service {
+    ghost use Rattle.std.specs.Prelude.{◌≡◌};
+    ghost use Rattle.type_model.specs.ModelRules.{IsModel};
+    ghost use Rattle.giop_types.specs.GiopModel.{giop_table};
+    ghost use Rattle.broker_answers.specs.Objects.{AreServed, Served, objects_of, served};
+
+    ghost Value = { Served };
+
+    ghost view = { λ s. served s.accepted.model (objects_of s.objects.items) };
+
+    ghost invariant = { λ s. (s.types ≡ giop_table) × IsModel s.accepted.model × AreServed s.accepted.model (objects_of s.objects.items) };
+}
+
+impl Service {
+    /// These objects of accepted types. Takes no memory.
+    pub fn new(types: GiopTypes, accepted: Accepted, objects: Vec<(Vec<u8>, u32)>) -> Service
+        requires { AreServed accepted.model (objects_of objects.items) }
+        ensures { result ≡ served accepted.model (objects_of objects.items) }
+    {
+        Service {
+            types,
+            accepted,
+            objects,
+        }
+    }
+
+    /// The place of the object with a key.
+    pub(crate) fn object_with(&self, key: &Option<Vec<u8>>) -> Option<usize>
+        ensures { result ≡ object_of self.now.objects (option_map (λ k. k.items) key.now) }
+    {
+        match key {
+            Some(key) => object_with(self.objects.as_slice(), Some(key.as_slice())),
+            None => None,
+        }
+    }
+
+    /// The interface of the object at a place.
+    pub(crate) fn interface_of(&self, place: usize) -> Option<&Interface>
+        ensures is { option_map (λ i. i.now) result ≡ interface_of self.now place }
+        ensures rules { AreServed self.now.model self.now.objects }
+    {
+        let (_, interface) = self.objects.get(place)?;
+        self.accepted
+            .table()
+            .model()
+            .interfaces()
+            .get(*interface as usize)
+    }
+
+    /// What a request asks of the object at a place by an operation of its interface.
+    #[tactic(auto, using(crate::proofs::Lookups::request_named, crate::proofs::Cases::call_is))]
+    fn own_asked(
+        &self,
+        alloc: Global,
+        object: usize,
+        interface: &Interface,
+        request: &Request<'_>,
+    ) -> Result<Finding, AllocError>
+        ensures { IfOk result (λ f. IsOwnAsked self.now object interface.now (asked_of request.now) (finding_of f)) }
+    {
+        let model = self.accepted.table().model();
+        match operation_named(model, interface, request.operation.as_slice()) {
+            Some((number, operation)) => {
+                call_asked(alloc, &self.accepted, object, number, operation, request)
+            }
+            None => Ok(Finding::Refuses(SystemException::BadOperation)),
+        }
+    }
+
+    /// What a request asks of the object at a place, which has this interface.
+    fn object_asked(
+        &self,
+        alloc: Global,
+        object: usize,
+        interface: &Interface,
+        request: &Request<'_>,
+    ) -> Result<Finding, AllocError>
+        requires { IsFor self.now (asked_of request.now) object interface.now }
+        ensures { IfOk result (λ f. Finds self.now (asked_of request.now) (finding_of f)) }
+    {
+        if is_called(request, "_is_a") {
+            return type_asked(&self.types, alloc, interface, request);
+        }
+        if is_called(request, "_non_existent") {
+            return Ok(Finding::Tells(false));
+        }
+        self.own_asked(alloc, object, interface, request)
+    }
+
+    /// What a request asks for.
+    ///
+    /// # Errors
+    /// Want of memory.
+    #[tactic(auto, using(crate::proofs::Lookups::interface_there))]
+    pub(crate) fn find(&self, alloc: Global, request: &Request<'_>) -> Result<Finding, AllocError>
+        ensures { IfOk result (λ f. Finds self.now (asked_of request.now) (finding_of f)) }
+    {
+        let Some(object) = self.object_with(&request.key) else {
+            return Ok(Finding::Refuses(SystemException::ObjectNotExist));
+        };
+        match self.interface_of(object) {
+            Some(interface) => self.object_asked(alloc, object, interface, request),
+            None => unreachable!(),
+        }
+    }
+}

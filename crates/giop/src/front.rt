@@ -1,0 +1,99 @@
+//! What stands at the front of a stream.
+
+ghost use Rattle.std.specs.Prelude.{◌≡◌, ◌≤◌, false, true, length, take, not, option_map, IfOk, IfErr, IfSome, IfNone};
+ghost use Rattle.giop_framing.specs.Framing.{id_in, is_fragment};
+ghost use Rattle.giop_framing.specs.Heads.{number_in};
+ghost use Rattle.giop_framing.specs.Runs.{IsFrame, IsMessage};
+ghost use Rattle.giop.specs.Fronts.{IsFound, IsRefused, numbered};
+
+use byteorder::{BigEndian, ByteOrder, LittleEndian};
+use giop_framing::{Frame, HEAD_LEN, Run, frame_in};
+use giop_messages::{GiopFault, Message};
+use giop_reading::read_whole;
+use giop_types::GiopTypes;
+use std::alloc::Global;
+use type_graph::Order;
+
+/// What stands at the front of a stream.
+#[derive(Debug, Drop)]
+pub enum Front<'b> {
+    /// Not yet a whole message.
+    More,
+    /// A whole message.
+    Whole {
+        message: Message<'b>,
+        /// How many octets it has.
+        taken: usize,
+    },
+    /// A piece of a request that comes in fragments.
+    Part {
+        /// The number of the request.
+        id: u32,
+        /// It is the first of them, with which a run begins; else one that is added to the run.
+        first: bool,
+        /// No more of them follow.
+        last: bool,
+        /// How many octets it has.
+        taken: usize,
+    },
+}
+
+/// The number behind the head of a piece.
+fn id_of(order: Order, piece: &[u8]) -> u32
+    requires { 16 ≤ length piece.now }
+    ensures { result ≡ numbered order piece.now }
+{
+    let behind = piece.split_at(HEAD_LEN).1;
+    match order {
+        Order::Big => BigEndian::read_u32(behind),
+        Order::Little => LittleEndian::read_u32(behind),
+    }
+}
+
+/// A message, or a piece of one.
+fn read_frame<'b>(
+    types: &GiopTypes,
+    alloc: Global,
+    run: Option<&Run>,
+    frame: &Frame,
+    octets: &'b [u8],
+) -> Result<Front<'b>, GiopFault>
+    requires { IsFrame (option_map (λ r. r.now) run) octets.now frame.now }
+    ensures found { IfOk result (λ front. IsFound (option_map (λ r. r.now) run.entry) octets.now front) }
+    ensures refused { IfErr result (λ fault. IsRefused (option_map (λ r. r.now) run.entry) octets.now fault) }
+{
+    let piece = octets.split_at(frame.len).0;
+    let is_fragment = frame.head.is_fragment();
+    if is_fragment || frame.head.goes_on {
+        return Ok(Front::Part {
+            id: id_of(frame.head.order, piece),
+            first: !is_fragment,
+            last: !frame.head.goes_on,
+            taken: frame.len,
+        });
+    }
+    match read_whole(types, alloc, &frame.head, piece)? {
+        Some(message) => Ok(Front::Whole {
+            message,
+            taken: frame.len,
+        }),
+        None => Err(GiopFault::BadHead),
+    }
+}
+
+/// What stands at the front of a stream, while a run may be open.
+pub(crate) fn front_of<'b>(
+    types: &GiopTypes,
+    alloc: Global,
+    run: Option<&Run>,
+    octets: &'b [u8],
+) -> Result<Front<'b>, GiopFault>
+    ensures found { IfOk result (λ front. IsFound (option_map (λ r. r.now) run.entry) octets.now front) }
+    ensures refused { IfErr result (λ fault. IsRefused (option_map (λ r. r.now) run.entry) octets.now fault) }
+{
+    match frame_in(run, octets) {
+        Ok(Some(frame)) => read_frame(types, alloc, run, &frame, octets),
+        Ok(None) => Ok(Front::More),
+        Err(fault) => Err(GiopFault::from(fault)),
+    }
+}

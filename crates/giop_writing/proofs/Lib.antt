@@ -1,0 +1,4 @@
+pub mod MadeFacts
+pub mod HeaderTapes
+pub mod Bodies
+pub mod Refusals

@@ -1,0 +1,4 @@
+pub mod Written
+pub mod Courses
+pub mod Going
+pub mod Ending

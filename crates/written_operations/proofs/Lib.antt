@@ -1,0 +1,2 @@
+pub mod PlacesMore
+pub mod ModuleWalks

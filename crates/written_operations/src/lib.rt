@@ -1,0 +1,18 @@
+//! Which frames, operations and interfaces a specification writes behind its types (ISO/IEC
+//! 19500-1, interface declaration).
+#![tactic(auto)]
+
+mod definitions;
+mod frames;
+mod interfaces;
+mod oneway;
+mod operations;
+mod places;
+mod raised;
+mod signature;
+mod table;
+
+pub use definitions::write_file;
+pub use oneway::check_oneway;
+pub use signature::{Role, Signature};
+pub use table::OperationTable;

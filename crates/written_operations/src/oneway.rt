@@ -1,0 +1,53 @@
+//! Which operations may be oneway.
+
+ghost use Rattle.std.specs.Prelude.{◌≡◌, ◌↔◌, IfErr, IsTrue, OnErr, OnOk};
+ghost use Rattle.idl_tree.specs.Lists.{parts};
+ghost use Rattle.written_operations.specs.Oneway.{HasNoReply, KeepsOneway, are_in};
+ghost use Rattle.type_graph.specs.declared.fault.GraphFault.TheVariants.{BadOneway};
+ghost use Rattle.written_types.specs.declared.fault.BuildFault.TheVariants.{Types};
+
+use idl_tree::definitions::{Direction, Operation, Param};
+use idl_tree::names::Listed;
+use type_graph::GraphFault;
+use written_types::BuildFault;
+
+/// Whether all parameters are `in` ones.
+fn take_only_in(params: &Listed<Param<'_>>) -> bool
+    ensures { result ≡ are_in (parts params.now) }
+{
+    for param in params.iter() {
+        if param.direction != Direction::In {
+            return false;
+        }
+    }
+    true
+}
+
+/// Whether nothing comes back from an operation.
+fn has_no_reply(o: &Operation<'_>) -> bool
+    ensures { IsTrue result ↔ HasNoReply o.now }
+{
+    if o.result_type.is_some() || o.raises.is_some() {
+        return false;
+    }
+    match &o.params {
+        Some(params) => take_only_in(params),
+        None => true,
+    }
+}
+
+/// Judges whether an operation is oneway only if nothing comes back from it.
+///
+/// # Errors
+/// `BadOneway` where it isn't, with the line of its identifier.
+pub fn check_oneway(o: &Operation<'_>) -> Result<(), BuildFault>
+    ensures kept { OnOk result (KeepsOneway o.now) }
+    ensures broken { OnErr result (KeepsOneway o.now → ⊥) }
+    ensures line { IfErr result (λ fault. fault ≡ Types (BadOneway o.now.identifier.token.now.line)) }
+{
+    if o.is_oneway && !has_no_reply(o) {
+        let line = o.identifier.token.line;
+        return Err(BuildFault::Types(GraphFault::BadOneway { line }));
+    }
+    Ok(())
+}
