@@ -72,6 +72,23 @@ impl<'a> Names<'a> {
         self.table.kind(entry)
     }
 
+    /// The scope that an entry is declared in.
+    pub fn scope(&self, entry: usize) -> usize
+        requires { entry < length self.now.entries }
+        ensures { IfSome (slice_get self.now.entries entry) (λ e. result ≡ e.scope) }
+    {
+        self.table.scope(entry)
+    }
+
+    /// Where an entry's first declaration stands in the tree: the number of its identifier's token,
+    /// or, of a constant, which isn't found before its end, that of the token behind its value.
+    pub fn token(&self, entry: usize) -> usize
+        requires { entry < length self.now.entries }
+        ensures { IfSome (slice_get self.now.entries entry) (λ e. result ≡ e.token) }
+    {
+        self.table.token(entry)
+    }
+
     /// The line of the identifier of an entry's first declaration.
     pub fn line(&self, entry: usize) -> usize
         requires { entry < length self.now.entries }

@@ -290,6 +290,20 @@ impl<'a> Table<'a> {
         self.records[entry].line
     }
 
+    pub(crate) fn scope(&self, entry: usize) -> usize
+        requires { entry < length self.now }
+        ensures { IfSome (slice_get self.now entry) (λ e. result ≡ e.scope) }
+    {
+        self.records[entry].key.scope
+    }
+
+    pub(crate) fn token(&self, entry: usize) -> usize
+        requires { entry < length self.now }
+        ensures { IfSome (slice_get self.now entry) (λ e. result ≡ e.token) }
+    {
+        self.records[entry].token
+    }
+
     /// How many bases an interface names.
     pub(crate) fn base_count(&self, entry: usize) -> usize
         requires { entry < length self.now }

@@ -17,7 +17,7 @@ use Rattle.scoped_names.specs.declared.search.Found.{Found}
 use Rattle.scoped_names.specs.declared.search.Found.TheVariants.{Nothing, One, Several}
 use Rattle.written_types.specs.declared.place.Place.{Place}
 use Rattle.written_types.specs.declared.place.Place.TheVariants.{Typed, Raised, Called, Got, GotAndSet}
-use Rattle.written_types.specs.Written.{Written, next, place_of, unwritten, with_place}
+use Rattle.written_types.specs.Written.{Written, next, none_such, place_of, unwritten, with_place}
 use Rattle.written_types.specs.SimpleTypes.{param_type}
 use Rattle.written_operations.specs.declared.signature.Role.{Role}
 use Rattle.written_operations.specs.declared.signature.Role.TheVariants as Roles
@@ -38,19 +38,19 @@ undefined_yet entries = record { types = unwritten entries; operations = []; int
 
 -- ---- what is raised
 
--- the place of an exception among the exceptions; 0 where it is none, which names of the specification never give
+-- the place of an exception among the exceptions; where it is none, more than any place
 abbrev pub exception_in : Option Place → ℕ
-exception_in None = 0
+exception_in None = none_such
 exception_in (Some (Raised frame place)) = place
-exception_in (Some (Typed n)) = 0
-exception_in (Some (Called request)) = 0
-exception_in (Some (Got request)) = 0
-exception_in (Some (GotAndSet request)) = 0
+exception_in (Some (Typed n)) = none_such
+exception_in (Some (Called request)) = none_such
+exception_in (Some (Got request)) = none_such
+exception_in (Some (GotAndSet request)) = none_such
 
 abbrev pub found_exception : Written → Found → ℕ
-found_exception w Nothing = 0
+found_exception w Nothing = none_such
 found_exception w (One e) = exception_in (place_of w e)
-found_exception w Several = 0
+found_exception w Several = none_such
 
 -- the places of the exceptions that names find
 abbrev pub raised : List Entry → Written → ℕ → List ScopedName → List ℕ

@@ -18,7 +18,7 @@ use Rattle.type_graph.specs.declared.node.Node.TheVariants.{Text, Seq, Array, En
 use Rattle.scoped_names.specs.Entry.{Entry, named}
 use Rattle.scoped_names.specs.Search.{finds, word}
 use Rattle.scoped_names.specs.Constants.{size_in_scope}
-use Rattle.written_types.specs.Written.{Written, Numbered, already, added, found_type, named_type, or_zero}
+use Rattle.written_types.specs.Written.{Written, Numbered, already, added, found_type, named_type, or_none_such}
 
 -- the numbers of the basic types
 abbrev pub integer_number : Integer → ℕ
@@ -30,12 +30,12 @@ integer_number (Signed LongLong) = 7
 integer_number (Unsigned LongLong) = 8
 
 abbrev pub size_of : List Entry → ℕ → ConstExpr → ℕ
-size_of es scope size = or_zero (size_in_scope es scope size.expr)
+size_of es scope size = or_none_such (size_in_scope es scope size.expr)
 
 -- no bound is 0
 abbrev pub bound_of : List Entry → ℕ → Option Bound → ℕ
 bound_of es scope None = 0
-bound_of es scope (Some bound) = or_zero (size_in_scope es scope bound.expr)
+bound_of es scope (Some bound) = or_none_such (size_in_scope es scope bound.expr)
 
 -- a bounded string is a type of its own, and nothing else is
 abbrev pub const_type : List Entry → Written → ℕ → ConstType → Numbered

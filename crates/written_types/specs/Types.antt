@@ -1,5 +1,5 @@
 -- Structures, unions and their members (ISO/IEC 19500-1, type declaration).
-use Rattle.std.specs.Prelude.{ℕ, zero, suc, ◌-◌, true, false, cond, List, [], ◌∷◌, ◌++◌, Option, Some, None, ℤ, pos, int_lt}
+use Rattle.std.specs.Prelude.{ℕ, zero, suc, ◌-◌, ◌^◌, true, false, cond, List, [], ◌∷◌, ◌++◌, Option, Some, None, ℤ, pos, int_lt}
 use Rattle.std.specs.List.{fold}
 use Rattle.idl_tree.specs.declared.names.Leaf.{Leaf}
 use Rattle.idl_tree.specs.declared.names.Listed.{Listed}
@@ -69,15 +69,19 @@ switch_kind es scope SwitchTypes.Boolean = Some Kinds.Boolean
 switch_kind es scope (SwitchTypes.Enum e) = enum_kind (named es scope (word e.identifier))
 switch_kind es scope (SwitchTypes.Name name) = meant_found es (finds es scope name)
 
+-- more than any label in a graph: a constant of another kind has it
+abbrev pub no_label : ℤ
+no_label = pos (2 ^ 127)
+
 -- the value of a discriminator for which a constant stands: an enumerator is the number of those before it, and
 -- enumerators are the entries behind their enumeration
 abbrev pub label_number : Option Constant → ℤ
-label_number None = pos 0
+label_number None = no_label
 label_number (Some (Whole n)) = n
 label_number (Some (Boolean false)) = pos 0
 label_number (Some (Boolean true)) = pos 1
 label_number (Some (Character c)) = pos c
-label_number (Some (Text octets)) = pos 0
+label_number (Some (Text octets)) = no_label
 label_number (Some (Enumerator e owner)) = pos (e - owner - 1)
 
 abbrev pub label_of : List Entry → ℕ → Option ConstKind → Expr → ℤ

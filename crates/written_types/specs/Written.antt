@@ -1,6 +1,6 @@
 -- What the parts of a specification write of a graph of types, one behind another: the node of each type, in the order
 -- of their numbers, and what each declared name has.
-use Rattle.std.specs.Prelude.{ℕ, List, [], ◌∷◌, ◌++◌, length, replicate, Option, Some, None, slice_get, slice_set}
+use Rattle.std.specs.Prelude.{ℕ, ◌^◌, List, [], ◌∷◌, ◌++◌, length, replicate, Option, Some, None, slice_get, slice_set}
 use Rattle.type_graph.specs.declared.node.Node.{Node}
 use Rattle.type_graph.specs.declared.node.Node.TheVariants.{Struct}
 use Rattle.basic_types.specs.BasicNodes.{basic_nodes}
@@ -57,16 +57,20 @@ abbrev pub type_of : Written → Option ℕ → Option ℕ
 type_of w None = None
 type_of w (Some e) = type_in (slice_get w.places e)
 
--- 0 where there is none, which names of the specification never have
-abbrev pub or_zero : Option ℕ → ℕ
-or_zero None = 0
-or_zero (Some n) = n
+-- more than any number, bound and size in a graph: a name that finds no type and an expression without worth have it,
+-- so a graph says that there are none in what it was written for
+abbrev pub none_such : ℕ
+none_such = 2 ^ 32
+
+abbrev pub or_none_such : Option ℕ → ℕ
+or_none_such None = none_such
+or_none_such (Some n) = n
 
 -- the number of the type that a name finds
 abbrev pub found_type : Written → Found → ℕ
-found_type w Nothing = 0
-found_type w (One e) = or_zero (type_of w (Some e))
-found_type w Several = 0
+found_type w Nothing = none_such
+found_type w (One e) = or_none_such (type_of w (Some e))
+found_type w Several = none_such
 
 -- the number of a type, and what is written behind it
 pub record Numbered : Type 0 where

@@ -1,6 +1,6 @@
 //! The discriminators of unions and their labels (ISO/IEC 19500-1, unions).
 
-ghost use Rattle.std.specs.Prelude.{◌≡◌, ◌≤◌, length, IfOk, OnOk, Some};
+ghost use Rattle.std.specs.Prelude.{◌≡◌, ◌≤◌, length, IfOk, IfSome, OnOk, Some};
 ghost use Rattle.std.specs.List.{fold};
 ghost use Rattle.idl_tree.specs.Lists.{parts};
 ghost use Rattle.written_types.specs.Types.{label_number, label_of, switch_kind, switch_type, with_label};
@@ -32,18 +32,18 @@ pub(crate) struct Choice {
     pub line: usize,
 }
 
-/// The value of a discriminator for which a constant stands.
-fn value_of(constant: &Constant) -> i128
-    ensures { result ≡ label_number (Some constant.now) }
+/// The value of a discriminator for which a constant stands; None of a text.
+fn value_of(constant: &Constant) -> Option<i128>
+    ensures { IfSome result (λ n. n ≡ label_number (Some constant.now)) }
 {
     match constant {
-        Constant::Whole(value) => *value,
-        Constant::Boolean(false) => 0,
-        Constant::Boolean(true) => 1,
-        Constant::Character(octet) => i128::from(*octet),
-        Constant::Text(_) => 0,
+        Constant::Whole(value) => Some(*value),
+        Constant::Boolean(false) => Some(0),
+        Constant::Boolean(true) => Some(1),
+        Constant::Character(octet) => Some(i128::from(*octet)),
+        Constant::Text(_) => None,
         Constant::Enumerator { enumerator, owner } => {
-            enumerator.saturating_sub(*owner).saturating_sub(1) as i128
+            Some(enumerator.saturating_sub(*owner).saturating_sub(1) as i128)
         }
     }
 }
@@ -63,11 +63,13 @@ fn read_label<'a>(
     ensures { IfOk result (λ n. n ≡ label_of names.now.entries scope (Some kind) label.now.expr) }
 {
     let constant = names.value(alloc, scope, &label.expr)?;
-    if !kind.admits(&constant) {
-        let line = label.expr.start().token.line;
-        return Err(BuildFault::Types(GraphFault::LabelRange { line }));
+    match value_of(&constant) {
+        Some(value) if kind.admits(&constant) => Ok(value),
+        _ => {
+            let line = label.expr.start().token.line;
+            Err(BuildFault::Types(GraphFault::LabelRange { line }))
+        }
     }
-    Ok(value_of(&constant))
 }
 
 impl ArmList {
