@@ -4,7 +4,7 @@ ghost use Rattle.std.specs.Prelude.{◌≡◌, ◌<◌, ◌≤◌, ◌↔◌, �
 ghost use Rattle.std.specs.String.{string_bytes};
 ghost use Rattle.scoped_names.specs.Constants.{Explains, size_in_scope, worth_in_scope};
 ghost use Rattle.scoped_names.specs.Entry.{AreDistinct, bases_in, meant_in, named, worth_in};
-ghost use Rattle.scoped_names.specs.RepositoryIds.{path as path_of, repository_id};
+ghost use Rattle.scoped_names.specs.RepositoryIds.{name_in, path as path_of, repository_id};
 ghost use Rattle.scoped_names.specs.Search.{Finds, word};
 
 use crate::entry::{Base, EntryKind};
@@ -70,6 +70,14 @@ impl<'a> Names<'a> {
         ensures { IfSome (slice_get self.now.entries entry) (λ e. result ≡ e.kind) }
     {
         self.table.kind(entry)
+    }
+
+    /// An entry's name, without the underscore that escapes it.
+    pub fn name(&self, entry: usize) -> &'a str
+        requires { entry < length self.now.entries }
+        ensures { result.now ≡ name_in (slice_get self.now.entries entry) }
+    {
+        self.table.name(entry)
     }
 
     /// The scope that an entry is declared in.

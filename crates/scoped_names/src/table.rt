@@ -5,7 +5,7 @@ ghost use Rattle.idl_tree.specs.Starts.{name_start, name_first, is_rooted};
 ghost use Rattle.scoped_names.specs.Search.{own as own_of, inherited as inherited_by, within as within_of, within_first, outwards as outwards_from, sought_in, word, in_its_case as found_in_its_case, finds, Finds};
 ghost use Rattle.scoped_names.specs.Entry.{AreDistinct, bases_in, worth_in, meant_in, named};
 ghost use Rattle.std.specs.String.{string_bytes};
-ghost use Rattle.scoped_names.specs.RepositoryIds.{path as path_of, repository_id as id_of};
+ghost use Rattle.scoped_names.specs.RepositoryIds.{name_in, path as path_of, repository_id as id_of};
 ghost use Rattle.scoped_names.specs.IdPragmas.{begins_at_root, identifiers_find};
 ghost use Rattle.idl_lexer.specs.Identifiers.{words};
 ghost use Rattle.idl_lexer.specs.Words.{unescaped as unescaped_word};
@@ -288,6 +288,14 @@ impl<'a> Table<'a> {
         requires { entry < length self.now }
     {
         self.records[entry].line
+    }
+
+    /// An entry's name, without the underscore that escapes it.
+    pub(crate) fn name(&self, entry: usize) -> &'a str
+        requires { entry < length self.now }
+        ensures { result.now ≡ name_in (slice_get self.now entry) }
+    {
+        self.records[entry].key.word.text
     }
 
     pub(crate) fn scope(&self, entry: usize) -> usize
