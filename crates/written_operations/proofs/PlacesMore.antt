@@ -1,11 +1,12 @@
 -- Places of operations, one behind another.
 use Rattle.std.proofs.Common.{◌≡◌, ◌∙◌, ℕ, suc, ◌+◌, ◌-◌, ◌<◌, List, [], ◌∷◌, ◌++◌, Some, drop, slice_get, sym, ap, arith}
 use Rattle.std.specs.List.{fold, range_with_len}
-use Rattle.std.proofs.Math.Seq.{append_snoc, drop-cons}
+use Rattle.std.proofs.Math.Seq.{append_snoc}
 use Rattle.std.proofs.lemmas.Option.{get_or_from_slice_get, slice_get_within}
 use Rattle.scoped_names.specs.declared.entry.Base.{Base}
 use Rattle.written_operations.specs.Operations.{Defined}
-use Rattle.written_operations.specs.Interfaces.{operations_of, with_base, with_once}
+use Rattle.written_types.proofs.Folds.{fold_from}
+use Rattle.written_operations.specs.Interfaces.{all_bases_of, operations_of, with_base, with_base_and_above, with_once}
 
 -- the first of the numbers from k to before e, and the others
 pub range_step : (k e : ℕ) → k < e → range_with_len k (e - k) ≡ k ∷ range_with_len (k + 1) (e - (k + 1))
@@ -19,14 +20,23 @@ range_more xs ys all k e lt pushed told =
     ap (λ y. y ++ range_with_len (k + 1) (e - (k + 1))) pushed ∙ append_snoc xs k (range_with_len (k + 1) (e - (k + 1)))
     ∙ sym (ap (λ y. xs ++ y) (range_step k e lt)) ∙ told
 
+-- one base more, of those over which a fold goes
+pub step_more : (step : List ℕ → Base → List ℕ) (bases : List Base) (k : ℕ) (b : Base) (old new all : List ℕ) → slice_get bases k ≡ Some b
+    → new ≡ step old b → fold step old (drop k bases) ≡ all → fold step new (drop (k + 1) bases) ≡ all
+step_more step bases k b old new all there told left =
+    fold_from step old new bases k b told (slice_get_within bases k b there) (sym (get_or_from_slice_get bases k b b there)) ∙ left
+
 -- the operations of one base more
 pub base_more : (d : Defined) (bases : List Base) (k : ℕ) (b : Base) (old new more all : List ℕ) → slice_get bases k ≡ Some b
     → more ≡ operations_of d b.entry → new ≡ fold with_once old more → fold (with_base d) old (drop k bases) ≡ all
     → fold (with_base d) new (drop (k + 1) bases) ≡ all
 base_more d bases k b old new more all there gives told left =
-    let lt = slice_get_within bases k b there in
-    let here = get_or_from_slice_get bases k b b there in
-    let one : suc k ≡ k + 1 = omega arith in
-    let split : drop k bases ≡ b ∷ drop (k + 1) bases = drop-cons bases k b lt ∙ ap (λ x. x ∷ drop (suc k) bases) here ∙ ap (λ j. b ∷ drop j bases) one in
-    ap (λ x. fold (with_base d) x (drop (k + 1) bases)) (told ∙ ap (fold with_once old) gives)
-    ∙ sym (ap (fold (with_base d) old) split) ∙ left
+    step_more (with_base d) bases k b old new all there (told ∙ ap (fold with_once old) gives) left
+
+-- one base more and what it inherits from
+pub above_more : (d : Defined) (bases : List Base) (k : ℕ) (b : Base) (old mid new more all : List ℕ) → slice_get bases k ≡ Some b
+    → mid ≡ with_once old b.entry → more ≡ all_bases_of d b.entry → new ≡ fold with_once mid more
+    → fold (with_base_and_above d) old (drop k bases) ≡ all → fold (with_base_and_above d) new (drop (k + 1) bases) ≡ all
+above_more d bases k b old mid new more all there inserted gives told left =
+    step_more (with_base_and_above d) bases k b old new all there
+    (told ∙ ap (fold with_once mid) gives ∙ ap (λ m. fold with_once m (all_bases_of d b.entry)) inserted) left

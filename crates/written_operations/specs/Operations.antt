@@ -22,15 +22,16 @@ use Rattle.written_types.specs.SimpleTypes.{param_type}
 use Rattle.written_operations.specs.declared.signature.Role.{Role}
 use Rattle.written_operations.specs.declared.signature.Role.TheVariants as Roles
 use Rattle.written_operations.specs.declared.signature.Signature.{Signature}
+use Rattle.written_operations.specs.declared.signature.Offered.{Offered}
 use Rattle.written_operations.specs.declared.frames.Carried.{Carried}
 use Rattle.written_operations.specs.Oneway.{parts_of}
 use Rattle.written_operations.specs.Frames.{all_carried, nothing_carried, with_carried, with_frames}
 
--- the types, the operations in order, and of each entry that is a defined interface the places of its operations
+-- the types, the operations in order, and what each entry that is a defined interface has
 pub record Defined : Type 0 where
   pub types : Written
   pub operations : List Signature
-  pub interfaces : List (Option (List ℕ))
+  pub interfaces : List (Option Offered)
 
 -- what is written before the first part, where there are so many entries
 abbrev pub undefined_yet : ℕ → Defined

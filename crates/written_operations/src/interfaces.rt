@@ -3,12 +3,14 @@
 ghost use Rattle.std.specs.Prelude.{◌≡◌, ◌≤◌, ◌<◌, ◌^◌, suc, All, length, IfOk, OnOk, Some, option_copied, slice_get};
 ghost use Rattle.std.specs.List.{fold};
 ghost use Rattle.scoped_names.specs.Entry.{bases_in};
-ghost use Rattle.written_operations.specs.Interfaces.{KeepsAllRules, KeepsRules, export as exported, exports_of as its_exports, identifier_of as its_identifier, inherited, interface as interface_after, interface_of, operations_of, with_interface};
+ghost use Rattle.written_operations.specs.Interfaces.{KeepsAllRules, KeepsRules, all_bases, all_bases_of, export as exported, exports_of as its_exports, identifier_of as its_identifier, inherited, interface as interface_after, interface_of, operations_of, with_interface};
 
-use crate::places::{push_each_once, push_from};
+use crate::places::{insert_each, list_of, push_each_once, push_from};
+use crate::signature::Offered;
 use crate::table::OperationTable;
 use idl_tree::definitions::{Export, Interface};
 use idl_tree::names::Leaf;
+use indexmap::IndexSet;
 use scoped_names::Names;
 use std::alloc::Global;
 use type_graph::Items;
@@ -40,7 +42,17 @@ impl OperationTable {
         ensures { result.now ≡ operations_of self.now entry }
     {
         match self.interfaces.get(entry) {
-            Some(Some(places)) => places.as_slice(),
+            Some(Some(offered)) => offered.operations.as_slice(),
+            _ => &[],
+        }
+    }
+
+    /// The entries of all interfaces that an entry inherits from that is a defined interface.
+    fn all_bases_of(&self, entry: usize) -> &[usize]
+        ensures { result.now ≡ all_bases_of self.now entry }
+    {
+        match self.interfaces.get(entry) {
+            Some(Some(offered)) => offered.bases.as_slice(),
             _ => &[],
         }
     }
@@ -67,6 +79,30 @@ impl OperationTable {
             }
         }
         Ok(places)
+    }
+
+    /// The entries of all interfaces that an interface inherits from.
+    fn all_bases<'a>(
+        &self,
+        alloc: Global,
+        names: &Names<'a>,
+        entry: usize,
+    ) -> Result<Vec<usize>, BuildFault>
+        requires { entry < length names.now.entries }
+        ensures { IfOk result (λ bases. bases.items ≡
+            all_bases self.now (bases_in (slice_get names.now.entries entry))) }
+    {
+        let mut all = IndexSet::new(alloc);
+        for place in 0..names.base_count(entry) {
+            match names.base(entry, place) {
+                Some(base) => {
+                    all.insert(base.entry)?;
+                    insert_each(&mut all, self.all_bases_of(base.entry))?;
+                }
+                None => return Err(BuildFault::OtherNames),
+            }
+        }
+        list_of(alloc, &all)
     }
 
     fn write_export<'a>(
@@ -105,14 +141,14 @@ impl OperationTable {
         Ok(())
     }
 
-    /// An entry is an interface with these operations.
-    fn set_interface(&mut self, entry: usize, places: Vec<u32>) -> Result<(), BuildFault>
-        ensures { OnOk result (self.new ≡ with_interface self.old (Some entry) places.items) }
+    /// An entry is an interface that has this.
+    fn set_interface(&mut self, entry: usize, offered: Offered) -> Result<(), BuildFault>
+        ensures { OnOk result (self.new ≡ with_interface self.old (Some entry) offered) }
     {
         if entry >= self.interfaces.len() {
             return Err(BuildFault::OtherNames);
         }
-        self.interfaces[entry] = Some(Items::new(places));
+        self.interfaces[entry] = Some(offered);
         Ok(())
     }
 
@@ -134,7 +170,12 @@ impl OperationTable {
         self.write_exports(alloc, names, entry + 1, exports)?;
         let mut places = self.inherited(alloc, names, entry)?;
         push_from(&mut places, first, self.operations.len())?;
-        self.set_interface(entry, places)
+        let bases = self.all_bases(alloc, names, entry)?;
+        let offered = Offered {
+            operations: Items::new(places),
+            bases: Items::new(bases),
+        };
+        self.set_interface(entry, offered)
     }
 
     /// An interface, declared ahead or defined, whose oneway operations give nothing back.

@@ -14,5 +14,5 @@ mod table;
 
 pub use definitions::write_file;
 pub use oneway::check_oneway;
-pub use signature::{Role, Signature};
+pub use signature::{Offered, Role, Signature};
 pub use table::OperationTable;

@@ -1,9 +1,11 @@
-//! The places of operations in lists of them.
+//! The places of operations and the entries of bases in lists of them.
 
-ghost use Rattle.std.specs.Prelude.{◌≡◌, ◌++◌, ◌-◌, OnOk};
+ghost use Rattle.std.specs.Prelude.{◌≡◌, ◌++◌, ◌-◌, IfOk, OnOk};
 ghost use Rattle.std.specs.List.{fold, range_with_len};
 ghost use Rattle.written_operations.specs.Interfaces.{AreMarked, with_once};
 
+use indexmap::IndexSet;
+use std::alloc::Global;
 use written_types::BuildFault;
 
 /// One place more, unless it is there.
@@ -40,6 +42,31 @@ pub(crate) fn push_each_once(
         push_once(places, seen, *place)?;
     }
     Ok(())
+}
+
+/// More entries, each unless it is there.
+///
+/// # Errors
+/// Want of memory.
+pub(crate) fn insert_each(all: &mut IndexSet<usize>, more: &[usize]) -> Result<(), BuildFault>
+    ensures { OnOk result (all.new.keys ≡ fold with_once all.old.keys more.now) }
+{
+    for entry in more {
+        all.insert(*entry)?;
+    }
+    Ok(())
+}
+
+/// The entries of a set, in order.
+///
+/// # Errors
+/// Want of memory.
+pub(crate) fn list_of(alloc: Global, set: &IndexSet<usize>) -> Result<Vec<usize>, BuildFault>
+    ensures { IfOk result (λ list. list.items ≡ set.now.keys) }
+{
+    let mut list = Vec::new(alloc);
+    list.extend_from_slice(set.as_slice())?;
+    Ok(list)
 }
 
 /// The places from the first to before the end.

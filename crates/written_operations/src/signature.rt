@@ -1,4 +1,4 @@
-//! What a request can ask of an interface.
+//! What a request can ask of an interface, and what a defined interface has.
 
 use type_graph::Items;
 
@@ -24,4 +24,14 @@ pub struct Signature {
     pub request: u32,
     /// The places of the exceptions that it may raise, among all exceptions.
     pub raises: Items<u32>,
+}
+
+/// What a defined interface has, with what it inherits.
+#[derive(Debug, Drop)]
+pub struct Offered {
+    /// The places of its operations, those that it inherits first.
+    pub operations: Items<u32>,
+    /// The entries of all interfaces that it inherits from: each base and then the bases of that,
+    /// each once.
+    pub bases: Items<usize>,
 }

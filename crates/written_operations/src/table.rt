@@ -5,19 +5,19 @@ ghost use Rattle.written_types.specs.Written.{next};
 ghost use Rattle.written_operations.specs.Operations.{placed, undefined_yet, with_call};
 
 use crate::frames::{Carried, write_frames};
-use crate::signature::{Role, Signature};
+use crate::signature::{Offered, Role, Signature};
 use std::alloc::Global;
 use std::marker::Model;
 use type_graph::Items;
 use written_types::{BuildFault, Place, TypeTable};
 
-/// The types and operations that are written so far. A contract sees them, and the places of the
-/// operations of each entry that is a defined interface.
+/// The types and operations that are written so far. A contract sees them, and what each entry has
+/// that is a defined interface.
 #[derive(Debug, Drop)]
 pub struct OperationTable {
     pub(crate) types: TypeTable,
     pub(crate) operations: Vec<Signature>,
-    pub(crate) interfaces: Vec<Option<Items<u32>>>,
+    pub(crate) interfaces: Vec<Option<Offered>>,
 }
 
 impl Model for OperationTable {
@@ -29,7 +29,7 @@ impl Model for OperationTable {
 }
 
 /// No operations of so many entries.
-fn no_interfaces(alloc: Global, entries: usize) -> Result<Vec<Option<Items<u32>>>, BuildFault>
+fn no_interfaces(alloc: Global, entries: usize) -> Result<Vec<Option<Offered>>, BuildFault>
     ensures { IfOk result (λ interfaces. interfaces.items ≡ replicate entries None) }
 {
     let mut interfaces = Vec::new(alloc);
@@ -97,6 +97,15 @@ impl OperationTable {
         ensures { result.now ≡ self.now.types }
     {
         &self.types
+    }
+
+    /// Gives the types, the operations and what interfaces have back. Takes no memory.
+    pub fn into_parts(self) -> (TypeTable, Vec<Signature>, Vec<Option<Offered>>)
+        ensures types { result.0 ≡ self.types }
+        ensures operations { result.1.items ≡ self.operations }
+        ensures interfaces { result.2.items ≡ self.interfaces }
+    {
+        (self.types, self.operations, self.interfaces)
     }
 
     /// The operations so far, in the order of the text.

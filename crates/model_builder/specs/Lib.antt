@@ -1,0 +1,4 @@
+-- The model that an IDL file shows.
+pub mod Naming
+pub mod Signatures
+pub mod Shown

@@ -1,0 +1,166 @@
+//! Operations, exceptions and interfaces.
+
+ghost use Rattle.std.specs.Prelude.{◌≡◌, ◌++◌, ◌∷◌, [], map, IfOk, OnOk};
+ghost use Rattle.model_builder.specs.Signatures.{exception_of as its_exception, id_of as its_id, interface_of as its_interface, interfaces_from, operation_of as its_operation};
+
+use crate::naming::{marked_name, name_of};
+use scoped_names::Names;
+use std::alloc::Global;
+use type_graph::Items;
+use type_model::{Exception, Interface, Name, Operation};
+use written_operations::{Offered, Signature};
+use written_types::BuildFault;
+
+/// The repository id of an entry.
+fn id_of<'a>(alloc: Global, names: &Names<'a>, entry: usize) -> Result<Name, BuildFault>
+    ensures { IfOk result (λ id. id ≡ its_id names.now entry) }
+{
+    if entry >= names.len() {
+        return Err(BuildFault::OtherNames);
+    }
+    Ok(Name::new(names.repository_id(alloc, entry)?))
+}
+
+fn operation_of<'a>(alloc: Global, names: &Names<'a>, s: Signature) -> Result<Operation, BuildFault>
+    ensures { IfOk result (λ o. o ≡ its_operation names.now.entries s) }
+{
+    let Some(reply) = s.request.checked_add(1) else {
+        return Err(BuildFault::OtherNames);
+    };
+    if s.entry >= names.len() {
+        return Err(BuildFault::OtherNames);
+    }
+    Ok(Operation {
+        name: marked_name(alloc, names, s.role, s.entry)?,
+        oneway: s.is_oneway,
+        request: s.request,
+        reply,
+        exceptions: s.raises,
+    })
+}
+
+/// The operations of a file, in the order of the text.
+///
+/// # Errors
+/// `OtherNames` where one has no entry or no number, want of memory.
+pub(crate) fn operations_of<'a>(
+    alloc: Global,
+    names: &Names<'a>,
+    signatures: Vec<Signature>,
+) -> Result<Vec<Operation>, BuildFault>
+    ensures { IfOk result (λ list. list.items ≡ map (its_operation names.now.entries) signatures.items) }
+{
+    let mut list = Vec::new(alloc);
+    for signature in signatures {
+        list.push(operation_of(alloc, names, signature)?)?;
+    }
+    Ok(list)
+}
+
+fn exception_of<'a>(
+    alloc: Global,
+    names: &Names<'a>,
+    entry: usize,
+    frame: u32,
+) -> Result<Exception, BuildFault>
+    ensures { IfOk result (λ x. x ≡ its_exception names.now (entry, frame)) }
+{
+    let id = id_of(alloc, names, entry)?;
+    if entry >= names.len() {
+        return Err(BuildFault::OtherNames);
+    }
+    Ok(Exception {
+        name: name_of(alloc, names, entry)?,
+        id,
+        frame,
+    })
+}
+
+/// The exceptions of a file, in the order of the text.
+///
+/// # Errors
+/// `OtherNames` where one has no entry, want of memory.
+pub(crate) fn exceptions_of<'a>(
+    alloc: Global,
+    names: &Names<'a>,
+    exceptions: &[(usize, u32)],
+) -> Result<Vec<Exception>, BuildFault>
+    ensures { IfOk result (λ list. list.items ≡ map (its_exception names.now) exceptions.now) }
+{
+    let mut list = Vec::new(alloc);
+    for (entry, frame) in exceptions {
+        list.push(exception_of(alloc, names, *entry, *frame)?)?;
+    }
+    Ok(list)
+}
+
+/// The repository ids of entries.
+fn ids_of<'a>(alloc: Global, names: &Names<'a>, entries: &[usize]) -> Result<Vec<Name>, BuildFault>
+    ensures { IfOk result (λ ids. ids.items ≡ map (its_id names.now) entries.now) }
+{
+    let mut ids = Vec::new(alloc);
+    for entry in entries {
+        ids.push(id_of(alloc, names, *entry)?)?;
+    }
+    Ok(ids)
+}
+
+fn interface_of<'a>(
+    alloc: Global,
+    names: &Names<'a>,
+    entry: usize,
+    offered: Offered,
+) -> Result<Interface, BuildFault>
+    ensures { IfOk result (λ i. i ≡ its_interface names.now entry offered) }
+{
+    let id = id_of(alloc, names, entry)?;
+    if entry >= names.len() {
+        return Err(BuildFault::OtherNames);
+    }
+    let bases = ids_of(alloc, names, offered.bases.as_slice())?;
+    Ok(Interface {
+        name: name_of(alloc, names, entry)?,
+        id,
+        bases: Items::new(bases),
+        operations: offered.operations,
+    })
+}
+
+/// Adds the interface that an entry is, if it is a defined one.
+fn push_interface<'a>(
+    list: &mut Vec<Interface>,
+    alloc: Global,
+    names: &Names<'a>,
+    entry: usize,
+    offered: Option<Offered>,
+) -> Result<(), BuildFault>
+    ensures { OnOk result (list.new.items ≡ list.old.items ++ interfaces_from names.now entry (offered ∷ [])) }
+{
+    if let Some(offered) = offered {
+        list.push(interface_of(alloc, names, entry, offered)?)?;
+    }
+    Ok(())
+}
+
+/// The interfaces of a file that are defined, in order of declaration.
+///
+/// # Errors
+/// `OtherNames` where one has no entry, want of memory.
+pub(crate) fn interfaces_of<'a>(
+    alloc: Global,
+    names: &Names<'a>,
+    offered: Vec<Option<Offered>>,
+) -> Result<Vec<Interface>, BuildFault>
+    ensures { IfOk result (λ list. list.items ≡ interfaces_from names.now 0 offered.items) }
+{
+    let mut list = Vec::new(alloc);
+    let mut entry = 0;
+    for offered in offered {
+        if entry >= names.len() {
+            return Err(BuildFault::OtherNames);
+        }
+        push_interface(&mut list, alloc, names, entry, offered)?;
+        entry += 1;
+    }
+    Ok(list)
+}

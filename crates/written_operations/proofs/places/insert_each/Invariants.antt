@@ -1,0 +1,7 @@
+use Rattle.std.proofs.Common.{◌≡◌, drop}
+use Rattle.std.specs.List.{fold}
+use Rattle.written_operations.specs.Interfaces.{with_once}
+use Rattle.written_operations.proofs.places.insert_each.Given as goal
+
+abbrev pub invariant-loop-entry : goal.invariant-loop-entry
+invariant-loop-entry l = fold with_once l.all.keys (drop l.entry-index l.more) ≡ fold with_once l.fn.all.keys l.more
