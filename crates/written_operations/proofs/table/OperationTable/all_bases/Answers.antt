@@ -9,5 +9,5 @@ loop-place-preserved c =
     record {
       there = c.loop-place.invariant.there;
       told = above_more c.args.self.now bases c.loop-place.place c.in-Some.base c.loop-place.all.keys c.insert.new.self.keys c.insert_each.new.all.keys c.all_bases_of.result.now _
-          (sym c.base.ensures ∙ c.in-Some.is) c.in_ok-insert.ensures.keys c.all_bases_of.ensures c.in_ok-insert_each-in-Some.ensures c.loop-place.invariant.told;
+          (sym c.base.ensures ∙ c.in-Some.is) c.in_ok-insert-in-Some.ensures.keys c.all_bases_of.ensures c.in_ok-insert_each-in-Some.ensures c.loop-place.invariant.told;
     }
