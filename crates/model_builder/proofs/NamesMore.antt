@@ -1,5 +1,5 @@
 -- What each number of a range gives, one behind another.
-use Rattle.std.proofs.Common.{◌≡◌, ◌∙◌, ℕ, ◌+◌, ◌-◌, ◌<◌, List, ◌∷◌, ◌++◌, sym, ap, append_assoc}
+use Rattle.std.proofs.Common.{◌≡◌, ◌∙◌, ℕ, ◌+◌, ◌-◌, ◌<◌, List, ◌++◌, sym, ap, append_assoc}
 use Rattle.std.specs.List.{flat_map, range_with_len}
 use Rattle.written_operations.proofs.PlacesMore.{range_step}
 

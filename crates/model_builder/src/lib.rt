@@ -1,11 +1,11 @@
 //! The model of an IDL file: its types with their names, its interfaces, operations and exceptions.
 #![tactic(auto)]
 
-mod build;
+mod file;
 mod lines;
 mod model;
 mod naming;
 mod signatures;
 
-pub use build::build;
+pub use file::build;
 pub use written_types::BuildFault;
