@@ -1,2 +1,0 @@
--- What the table of an IDL file is.
-pub mod Compiled
