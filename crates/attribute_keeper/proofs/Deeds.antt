@@ -1,5 +1,5 @@
 -- What operations do, by their numbers and names.
-use Rattle.std.proofs.Common.{◌≡◌, ℕ, Bool, true, false, cond, ◌||◌, nat_eq, List, [], ◌∷◌, ◌++◌, refl, sym, ap, subst, ◌∙◌, Option, Some, None, slice_get, codes, eqb-true, eq-eqb, ne_eqb}
+use Rattle.std.proofs.Common.{◌≡◌, ℕ, Bool, true, false, cond, ◌||◌, nat_eq, List, [], ◌∷◌, ◌++◌, refl, sym, ap, subst, ◌∙◌, Option, Some, None, option_and_then, slice_get, codes, eqb-true, eq-eqb, ne_eqb}
 use Rattle.std.specs.List.{list_any}
 use Rattle.std.specs.Option.{option_map_or}
 use Rattle.std.specs.Str.{bytes_eq}
@@ -10,7 +10,7 @@ use Rattle.type_model.specs.ModelRules.{Parts}
 use Rattle.broker_answers.specs.Objects.{first_named, has_name}
 use Rattle.attribute_keeper.specs.declared.deed.Deed.{Deed}
 use Rattle.attribute_keeper.specs.declared.deed.Deed.TheVariants.{Get, Set, Echo, Nothing}
-use Rattle.attribute_keeper.specs.Attributes.{attribute_named, deed_at, deed_by, deed_of, deed_or, frame_deed, got_by, members_of, place_from, set_by, with_deeds}
+use Rattle.attribute_keeper.specs.Attributes.{attribute_named, deed_at, deed_by, deed_or, deed_where, frame_deed, got_by, members_of, place_from, set_by, with_deeds}
 use Rattle.attribute_keeper.specs.Keeping.{deed_in}
 use Rattle.attribute_keeper.proofs.Names.{some_is, none_isnt, false_isnt, false_unless, same_name, equal_name, named_behind, sets_none, got_is}
 use Rattle.attribute_keeper.proofs.Places.{one_name}
@@ -18,17 +18,17 @@ use Rattle.attribute_keeper.proofs.Places.{one_name}
 -- an operation of the object does what its number says
 pub deed_found : (model : Parts) (getters numbers : List ℕ) (number : ℕ)
     → deed_in (with_deeds model getters numbers) number
-    ≡ cond (list_any (λ other. nat_eq other number) numbers) (deed_at model getters number) Nothing
+    ≡ cond (list_any (λ other. nat_eq other number) numbers) (deed_at (attribute_named model getters) model number) Nothing
 deed_found model getters [] number = refl
 deed_found model getters (m ∷ more) number = by (nat_eq m number) refl (deed_found model getters more number) where
   any : Bool
   any = list_any (λ other. nat_eq other number) more
 
   by : (b : Bool) → nat_eq m number ≡ b
-      → deed_in (with_deeds model getters more) number ≡ cond any (deed_at model getters number) Nothing
-      → cond b (deed_at model getters m) (deed_in (with_deeds model getters more) number)
-      ≡ cond (b || any) (deed_at model getters number) Nothing
-  by true same further = ap (deed_at model getters) (eqb-true m number same)
+      → deed_in (with_deeds model getters more) number ≡ cond any (deed_at (attribute_named model getters) model number) Nothing
+      → cond b (deed_at (attribute_named model getters) model m) (deed_in (with_deeds model getters more) number)
+      ≡ cond (b || any) (deed_at (attribute_named model getters) model number) Nothing
+  by true same further = ap (deed_at (attribute_named model getters) model) (eqb-true m number same)
   by false same further = further
 
 -- the first that has a name is one of them
@@ -99,7 +99,7 @@ placed_sets model getters name y k other e place (Some j) is = by (bytes_eq y na
 
 pub operation_sets : (model : Parts) (getters name : List ℕ) (k : ℕ) (operation : Operation)
     → place_from model 0 name getters ≡ Some k
-    → sets_at k (deed_of model getters operation) ≡ bytes_eq operation.name (codes "_set_" ++ name)
+    → sets_at k (deed_where (attribute_named model getters) model.graph operation) ≡ bytes_eq operation.name (codes "_set_" ++ name)
 operation_sets model getters name k operation place =
     by_got (got_by operation) refl ∙ sym (named_behind (codes "_set_") operation.name name)
   where
@@ -112,22 +112,22 @@ operation_sets model getters name k operation place =
     is_name : Option (List ℕ) → Bool
     is_name o = option_map_or (λ other. bytes_eq other name) o false
 
-    by_set : (set : Option (List ℕ)) → sets_at k (deed_or None (attribute_named model getters set) frame) ≡ is_name set
+    by_set : (set : Option (List ℕ)) → sets_at k (deed_or None (option_and_then (attribute_named model getters) set) frame) ≡ is_name set
     by_set None = none
     by_set (Some y) = placed_sets model getters name y k frame none place (place_from model 0 y getters) refl
 
     by_got : (got : Option (List ℕ)) → got_by operation ≡ got
-        → sets_at k (deed_or (attribute_named model getters got) (attribute_named model getters (set_by operation)) frame)
+        → sets_at k (deed_or (option_and_then (attribute_named model getters) got) (option_and_then (attribute_named model getters) (set_by operation)) frame)
         ≡ is_name (set_by operation)
     by_got None e = by_set (set_by operation)
     by_got (Some x) e =
-        subst (λ s. sets_at k (deed_or (place_from model 0 x getters) (attribute_named model getters s) frame) ≡ is_name s)
+        subst (λ s. sets_at k (deed_or (place_from model 0 x getters) (option_and_then (attribute_named model getters) s) frame) ≡ is_name s)
         (sym (sets_none operation x e)) (got_sets_none k (place_from model 0 x getters) frame none)
 
 pub number_sets : (model : Parts) (getters name : List ℕ) (k : ℕ) (number : ℕ) → place_from model 0 name getters ≡ Some k
-    → sets_at k (deed_at model getters number) ≡ has_name (codes "_set_" ++ name) (slice_get model.operations number)
+    → sets_at k (deed_at (attribute_named model getters) model number) ≡ has_name (codes "_set_" ++ name) (slice_get model.operations number)
 number_sets model getters name k number place = by (slice_get model.operations number) where
-  by : (o : Option Operation) → sets_at k (option_map_or (deed_of model getters) o Nothing) ≡ has_name (codes "_set_" ++ name) o
+  by : (o : Option Operation) → sets_at k (option_map_or (deed_where (attribute_named model getters) model.graph) o Nothing) ≡ has_name (codes "_set_" ++ name) o
   by None = refl
   by (Some operation) = operation_sets model getters name k operation place
 
@@ -135,11 +135,18 @@ number_sets model getters name k number place = by (slice_get model.operations n
 
 -- the operation `_get_x` gets the attribute x
 pub number_gets : (model : Parts) (getters name : List ℕ) (k number : ℕ) → place_from model 0 name getters ≡ Some k
-    → has_name (codes "_get_" ++ name) (slice_get model.operations number) ≡ true → deed_at model getters number ≡ Get k
-number_gets model getters name k number place = by (slice_get model.operations number) where
-  by : (o : Option Operation) → has_name (codes "_get_" ++ name) o ≡ true → option_map_or (deed_of model getters) o Nothing ≡ Get k
+    → has_name (codes "_get_" ++ name) (slice_get model.operations number) ≡ true → deed_at (attribute_named model getters) model number ≡ Get k
+number_gets model getters name k number there = by (slice_get model.operations number) where
+  by : (o : Option Operation) → has_name (codes "_get_" ++ name) o ≡ true → option_map_or (deed_where (attribute_named model getters) model.graph) o Nothing ≡ Get k
   by None e = absurd (false_isnt e)
   by (Some operation) e =
-      ap (λ o. deed_or (attribute_named model getters o) (attribute_named model getters (set_by operation)) (frame_deed model.graph operation))
-      (got_is operation name e)
-      ∙ ap (λ o. deed_or o (attribute_named model getters (set_by operation)) (frame_deed model.graph operation)) place
+      ap (λ o. deed_or (option_and_then place o) set frame) (got_is operation name e) ∙ ap (λ o. deed_or o set frame) there
+    where
+      place : List ℕ → Option ℕ
+      place = attribute_named model getters
+
+      set : Option ℕ
+      set = option_and_then place (set_by operation)
+
+      frame : Deed
+      frame = frame_deed model.graph operation

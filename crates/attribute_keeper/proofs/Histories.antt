@@ -9,7 +9,7 @@ use Rattle.broker_answers.specs.Objects.{Objects, Served, first_named, has_name}
 use Rattle.broker_answers.specs.Servants.{Call, Done}
 use Rattle.attribute_keeper.specs.declared.deed.Deed.{Deed}
 use Rattle.attribute_keeper.specs.declared.deed.Deed.TheVariants.{Get, Set, Empty, Echo, Nothing}
-use Rattle.attribute_keeper.specs.Attributes.{deed_at, first_tape, getters_of, operations_at, place_from}
+use Rattle.attribute_keeper.specs.Attributes.{attribute_named, deed_at, first_tape, getters_of, operations_at, place_from}
 use Rattle.attribute_keeper.specs.Keeping.{Keeping, after, all_deeds, all_zeros, deed, deed_in, deeds_of, first_keeping, kept_after, said, says, tape_at, tapes_at, with_tape, zeros_of}
 use Rattle.attribute_keeper.specs.History.{after_all, is_setter, last_set, operations_served, sets}
 use Rattle.attribute_keeper.proofs.Names.{none_isnt}
@@ -120,11 +120,15 @@ tape_after s object k kept call Empty r = unset (nat_eq call.object object) call
 tape_after s object k kept call Echo r = unset (nat_eq call.object object) call.arguments (tape_at kept object k)
 tape_after s object k kept call Nothing r = unset (nat_eq call.object object) call.arguments (tape_at kept object k)
 
+-- what an operation does by its number
+abbrev deed_served_at : Served → ℕ → ℕ → Deed
+deed_served_at s object number = deed_at (attribute_named s.model (getters_of s.model (operations_served s object))) s.model number
+
 -- what a call to an object does is by its number alone
 deed_served : (s : Served) (kept : Keeping) (call : Call) → kept.deeds ≡ all_deeds s.model s.objects
     → deed kept call
     ≡ cond (list_any (λ other. nat_eq other call.operation) (operations_served s call.object))
-    (deed_at s.model (getters_of s.model (operations_served s call.object)) call.operation) Nothing
+    (deed_served_at s call.object call.operation) Nothing
 deed_served s kept call deeds =
     ap (λ ds. deed_in (slice_index_or ds call.object []) call.operation) deeds
     ∙ ap (λ rows. deed_in rows call.operation) (served_deeds s.model s.objects call.object)
@@ -136,7 +140,7 @@ sets_by_name : (s : Served) (object k : ℕ) (name : List ℕ) (kept : Keeping) 
     → place_from s.model 0 name (getters_of s.model (operations_served s object)) ≡ Some k
     → (nat_eq call.object object && sets_at k (deed kept call)) ≡ sets s object name call
 sets_by_name s object k name kept call deeds place = by (nat_eq call.object object) refl where
-  among : (b : Bool) → sets_at k (cond b (deed_at s.model (getters_of s.model (operations_served s object)) call.operation) Nothing)
+  among : (b : Bool) → sets_at k (cond b (deed_served_at s object call.operation) Nothing)
       ≡ (b && has_name (codes "_set_" ++ name) (slice_get s.model.operations call.operation))
   among true = number_sets s.model (getters_of s.model (operations_served s object)) name k call.operation place
   among false = refl
@@ -146,7 +150,7 @@ sets_by_name s object k name kept call deeds place = by (nat_eq call.object obje
   by true same =
       ap (sets_at k) (deed_served s kept call deeds
       ∙ ap (λ o. cond (list_any (λ other. nat_eq other call.operation) (operations_served s o))
-      (deed_at s.model (getters_of s.model (operations_served s o)) call.operation) Nothing) (eqb-true call.object object same))
+      (deed_served_at s o call.operation) Nothing) (eqb-true call.object object same))
       ∙ among (list_any (λ other. nat_eq other call.operation) (operations_served s object))
   by false apart = refl
 
@@ -174,7 +178,7 @@ gets_then : (s : Served) (x : List ℕ) (call : Call) (k : ℕ) (kept : Keeping)
     → IsFound s.model (codes "_get_" ++ x) (operations_served s call.object) call.operation → deed kept call ≡ Get k
 gets_then s x call k kept deeds place found =
     deed_served s kept call deeds
-    ∙ ap (λ b. cond b (deed_at s.model (getters_of s.model (operations_served s call.object)) call.operation) Nothing) found.among
+    ∙ ap (λ b. cond b (deed_served_at s call.object call.operation) Nothing) found.among
     ∙ number_gets s.model (getters_of s.model (operations_served s call.object)) x k call.operation place found.named
 
 pub says_last_set : (s : Served) (x : List ℕ) (call : Call) (before : List Call)

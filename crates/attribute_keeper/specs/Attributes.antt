@@ -2,7 +2,7 @@
 -- got by the operation `_get_x`, and set by `_set_x` unless it is readonly.
 use Rattle.std.specs.Prelude.{ℕ, suc, ◌<◌, Bool, false, cond, nat_eq, is_some, List, [], ◌∷◌, length, take, drop, map, filter, codes}
 use Rattle.std.specs.Prelude.{Option, Some, None, slice_get}
-use Rattle.std.specs.Option.{option_map_or}
+use Rattle.std.specs.Option.{option_and_then, option_map_or}
 use Rattle.std.specs.Str.{bytes_eq}
 use Rattle.std.specs.Cmp.Lexicographic.{pointwise}
 use Rattle.type_graph.specs.declared.node.Node.{Node}
@@ -27,6 +27,7 @@ got_by operation = behind (codes "_get_") operation.name
 abbrev pub set_by : Operation → Option (List ℕ)
 set_by operation = behind (codes "_set_") operation.name
 
+-- whether it gets the attribute of a name
 abbrev pub gets : List ℕ → Operation → Bool
 gets name operation = option_map_or (λ other. bytes_eq other name) (got_by operation) false
 
@@ -52,10 +53,9 @@ abbrev pub place_from : Parts → ℕ → List ℕ → List ℕ → Option ℕ
 place_from model n name [] = None
 place_from model n name (getter ∷ more) = cond (is_getter_of model name getter) (Some n) (place_from model (suc n) name more)
 
--- the place of the attribute of a name, if there is a name
-abbrev pub attribute_named : Parts → List ℕ → Option (List ℕ) → Option ℕ
-attribute_named model getters None = None
-attribute_named model getters (Some name) = place_from model 0 name getters
+-- the place of the attribute of a name
+abbrev pub attribute_named : Parts → List ℕ → List ℕ → Option ℕ
+attribute_named model getters name = place_from model 0 name getters
 
 -- ---- what an operation does
 
@@ -64,6 +64,7 @@ pub record HasFrames (graph : List Node) (operation : Operation) : Type 0 where
   pub request : operation.request < length graph
   pub reply : operation.reply < length graph
 
+-- the members of a frame
 abbrev pub members_of : Node → List ℕ
 members_of (Frame members) = members
 members_of node = []
@@ -77,23 +78,24 @@ deed_by request (member ∷ more) = cond (pointwise nat_eq request (member ∷ m
 abbrev pub frame_deed : List Node → Operation → Deed
 frame_deed graph operation = deed_by (members_of (node_at graph operation.request)) (members_of (node_at graph operation.reply))
 
+-- it gets an attribute, or sets one, or else
 abbrev pub deed_or : Option ℕ → Option ℕ → Deed → Deed
 deed_or (Some attribute) set other = Get attribute
 deed_or None (Some attribute) other = Set attribute
 deed_or None None other = other
 
--- an operation of an object gets one of these attributes, or sets it, or its frames say what it does
-abbrev pub deed_of : Parts → List ℕ → Operation → Deed
-deed_of model getters operation =
-    deed_or (attribute_named model getters (got_by operation)) (attribute_named model getters (set_by operation))
-    (frame_deed model.graph operation)
+-- what an operation does, where the attributes of an object are at these places by their names
+abbrev pub deed_where : (List ℕ → Option ℕ) → List Node → Operation → Deed
+deed_where place graph operation =
+    deed_or (option_and_then place (got_by operation)) (option_and_then place (set_by operation)) (frame_deed graph operation)
 
-abbrev pub deed_at : Parts → List ℕ → ℕ → Deed
-deed_at model getters number = option_map_or (deed_of model getters) (slice_get model.operations number) Nothing
+-- what that of a number does
+abbrev pub deed_at : (List ℕ → Option ℕ) → Parts → ℕ → Deed
+deed_at place model number = option_map_or (deed_where place model.graph) (slice_get model.operations number) Nothing
 
 -- operations by their numbers, and what each does
 abbrev pub with_deeds : Parts → List ℕ → List ℕ → List (ℕ × Deed)
-with_deeds model getters numbers = map (λ number. (number, deed_at model getters number)) numbers
+with_deeds model getters numbers = map (λ number. (number, deed_at (attribute_named model getters) model number)) numbers
 
 -- ---- tapes
 

@@ -1,3 +1,4 @@
 pub mod Attributes
 pub mod Keeping
 pub mod History
+pub mod Places

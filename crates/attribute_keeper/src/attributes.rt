@@ -1,10 +1,12 @@
 //! The attributes of an object, and what its operations do.
 
-ghost use Rattle.std.specs.Prelude.{◌≡◌, ◌<◌, length, option_map, IfOk};
+ghost use Rattle.std.specs.Prelude.{◌≡◌, ◌<◌, ℕ, List, length, option_and_then, option_map, slice_get, IfOk};
 ghost use Rattle.type_graph.specs.Value.{node_at};
-ghost use Rattle.attribute_keeper.specs.Attributes.{HasFrames, attribute_named, deed_at, deed_of, first_tape, first_tapes, frame_deed, getters_of, gets, got_by, is_getter, is_getter_of, members_of, operations_at, place_from, set_by, with_deeds};
+ghost use Rattle.attribute_keeper.specs.Attributes.{HasFrames, attribute_named, deed_at, deed_where, first_tape, first_tapes, frame_deed, getters_of, got_by, is_getter, members_of, operations_at, set_by, with_deeds};
+ghost use Rattle.attribute_keeper.specs.Places.{place_in};
 
 use crate::deed::Deed;
+use indexmap::IndexMap;
 use std::alloc::{AllocError, Global};
 use type_graph::{Graph, Items, Node};
 use type_model::{Model, Operation};
@@ -62,41 +64,38 @@ pub(crate) fn find_getters(
     Ok(getters)
 }
 
-fn has_got_name(operation: &Operation, name: &[u8]) -> bool
-    ensures { result ≡ gets name.now operation.now }
+/// The name of the attribute that the operation of a number gets.
+fn gotten(model: &Model, number: u32) -> Option<&[u8]>
+    ensures { option_map (λ name. name.now) result ≡ option_and_then got_by (slice_get model.now.operations number) }
 {
-    match got_name(operation) {
-        Some(other) => other == name,
-        None => false,
-    }
+    got_name(model.operations().get(number as usize)?)
 }
 
-/// Whether the operation of a number gets the attribute of a name.
-fn is_get_of(model: &Model, name: &[u8], number: u32) -> bool
-    ensures { result ≡ is_getter_of model.now name.now number }
-{
-    match model.operations().get(number as usize) {
-        Some(operation) => has_got_name(operation, name),
-        None => false,
-    }
-}
+/// Where attributes are, by their names.
+type Places<'m> = IndexMap<&'m [u8], usize>;
 
-fn place_of(model: &Model, getters: &[u32], name: &[u8]) -> Option<usize>
-    ensures { result ≡ place_from model.now 0 name.now getters.now }
+/// Where the attributes are that these operations get: of two of one name the first.
+fn find_places<'m>(
+    alloc: Global,
+    model: &'m Model,
+    getters: &[u32],
+) -> Result<Places<'m>, AllocError>
+    ensures { IfOk result (λ places. (name : List ℕ) → place_in places.entries name ≡ attribute_named model.now getters.now name) }
 {
-    for place in 0..getters.len() {
-        if is_get_of(model, name, getters[place]) {
-            return Some(place);
+    let mut places = IndexMap::new(alloc);
+    for place in (0..getters.len()).rev() {
+        if let Some(name) = gotten(model, getters[place]) {
+            places.insert(name, place)?;
         }
     }
-    None
+    Ok(places)
 }
 
-/// The place of the first attribute of a name, if there is a name.
-fn attribute_of(model: &Model, getters: &[u32], name: Option<&[u8]>) -> Option<usize>
-    ensures { result ≡ attribute_named model.now getters.now (option_map (λ n. n.now) name.entry) }
+/// The place of the attribute of a name, if there is a name.
+fn place_of(places: &Places<'_>, name: Option<&[u8]>) -> Option<usize>
+    ensures { result ≡ option_and_then (place_in places.now.entries) (option_map (λ n. n.now) name.entry) }
 {
-    place_of(model, getters, name?)
+    places.get(name?).copied()
 }
 
 fn frame_members(graph: &Graph, frame: u32) -> &[u32]
@@ -125,25 +124,25 @@ fn other_deed(graph: &Graph, operation: &Operation) -> Deed
     }
 }
 
-/// What an operation of an object does that has these attributes.
-fn operation_deed(model: &Model, getters: &[u32], operation: &Operation) -> Deed
-    requires { HasFrames model.now.graph operation.now }
-    ensures { result ≡ deed_of model.now getters.now operation.now }
+/// What an operation of an object does whose attributes are there.
+fn operation_deed(graph: &Graph, places: &Places<'_>, operation: &Operation) -> Deed
+    requires { HasFrames graph.now operation.now }
+    ensures { result ≡ deed_where (place_in places.now.entries) graph.now operation.now }
 {
-    if let Some(attribute) = attribute_of(model, getters, got_name(operation)) {
+    if let Some(attribute) = place_of(places, got_name(operation)) {
         return Deed::Get(attribute);
     }
-    match attribute_of(model, getters, set_name(operation)) {
+    match place_of(places, set_name(operation)) {
         Some(attribute) => Deed::Set(attribute),
-        None => other_deed(model.graph(), operation),
+        None => other_deed(graph, operation),
     }
 }
 
-fn number_deed(model: &Model, getters: &[u32], number: u32) -> Deed
-    ensures { result ≡ deed_at model.now getters.now number }
+fn number_deed(model: &Model, places: &Places<'_>, number: u32) -> Deed
+    ensures { result ≡ deed_at (place_in places.now.entries) model.now number }
 {
     match model.operations().get(number as usize) {
-        Some(operation) => operation_deed(model, getters, operation),
+        Some(operation) => operation_deed(model.graph(), places, operation),
         None => Deed::Nothing,
     }
 }
@@ -157,9 +156,10 @@ pub(crate) fn find_deeds(
 ) -> Result<Items<(u32, Deed)>, AllocError>
     ensures { IfOk result (λ deeds. deeds ≡ with_deeds model.now getters.now numbers.now) }
 {
+    let places = find_places(alloc, model, getters)?;
     let mut deeds = Vec::new(alloc);
     for number in numbers {
-        deeds.push((*number, number_deed(model, getters, *number)))?;
+        deeds.push((*number, number_deed(model, &places, *number)))?;
     }
     Ok(Items::new(deeds))
 }
