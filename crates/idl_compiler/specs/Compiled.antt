@@ -1,0 +1,39 @@
+-- What compiling an IDL file means, from its text to its table: each step is the definition of its own crate.
+use Rattle.std.specs.Prelude.{ℕ, List, Result}
+use Rattle.idl_lexer.specs.declared.token.Token.{Token}
+use Rattle.idl_lexer.specs.Tokens.{Lexed}
+use Rattle.idl_tree.specs.declared.definitions.Definition.{Definition}
+use Rattle.idl_tree.specs.Pieces.{Spell}
+use Rattle.idl_tree.specs.DefinitionYields.{definitions_spelled}
+use Rattle.scoped_names.specs.Whole.{AreNames, Whole}
+use Rattle.type_model.specs.ModelRules.{Parts}
+use Rattle.marshal_program.specs.declared.fault.GenFault.{GenFault}
+use Rattle.marshal_program.specs.declared.instr.Routine.{Routine}
+use Rattle.settled_tables.specs.Settlement.{IsSettled}
+use Rattle.settled_tables.specs.declared.choice.Settled.{Settled}
+use Rattle.model_builder.specs.Shown.{Shows}
+
+-- the model shows the definitions, by the names that they declare
+pub record IsModelOf (definitions : List Definition) (model : Parts) : Type 0 where
+  pub names : Whole
+  pub named : AreNames definitions names
+  pub shows : Shows definitions names model
+
+-- the table has the model and its plain program, and a planned program beside it where that is used
+pub record IsTableOf (model : Parts) (settled : Settled) : Type 0 where
+  pub planned : Result (List Routine) GenFault
+  pub served : IsSettled model planned settled
+
+-- the table is that of a model of which this holds
+pub record HasTable (Shown : Parts → Type 0) (settled : Settled) : Type 0 where
+  pub model : Parts
+  pub shown : Shown model
+  pub table : IsTableOf model settled
+
+-- the table is that of the definitions that the tokens spell of which the text consists
+pub record IsCompiled (source : List ℕ) (settled : Settled) : Type 0 where
+  pub tokens : List Token
+  pub lexed : Lexed source tokens
+  pub definitions : List Definition
+  pub spelled : Spell (definitions_spelled definitions) tokens
+  pub table : HasTable (IsModelOf definitions) settled

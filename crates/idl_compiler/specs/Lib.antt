@@ -1,0 +1,2 @@
+-- What the table of an IDL file is.
+pub mod Compiled
