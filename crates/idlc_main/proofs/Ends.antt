@@ -1,10 +1,10 @@
 -- How a run ends on a fault.
 use Rattle.std.proofs.Common.{◌≡◌, refl, ℕ, ◌≤◌, List, Option, arith}
 use Rattle.idlc_main.specs.declared.fault.Fault.{Fault}
-use Rattle.idlc_main.specs.declared.fault.Fault.TheVariants.{Usage, BadOrder, NotText, NoWord, Unread, Refused, Unmade, Unwritten, NoMemory}
+use Rattle.idlc_main.specs.declared.fault.Fault.TheVariants.{Usage, BadOrder, NotText, NoWord, Unread, Refused, NoReference, NoRefusal, Unmade, Unwritten, NoMemory}
 use Rattle.idlc_main.specs.Fault.{status_of}
-use Rattle.idlc_main.specs.Words.{Ask}
-use Rattle.idlc_main.specs.Answer.{IsEndOf, IsFaultOf, IsToldOf}
+use Rattle.idlc_main.specs.Ask.{Ask, Explanation, Reference, ReferenceAsk, Value, ValueAsk}
+use Rattle.idlc_main.specs.Answer.{IsEndOf, IsExplanationFault, IsFaultOf, IsReferenceFault, IsStrange, IsToldOf, IsValueFault}
 
 -- a fault that answers may be told
 pub told_of : (ask : Ask) (fault : Fault) → IsFaultOf ask fault → IsToldOf ask fault
@@ -13,10 +13,25 @@ told_of ask (BadOrder error) is = is
 told_of ask NotText is = is
 told_of ask NoWord is = is
 told_of ask (Refused refusal) is = is
+told_of ask (NoReference refusal) is = is
+told_of ask (NoRefusal number) is = is
 told_of ask (Unmade file) is = is
 told_of ask (Unread file) is = is
-told_of ask Unwritten is = absurd is
+told_of ask Unwritten is = tt
 told_of ask NoMemory is = is
+
+-- a fault that answers nothing, whatever is asked for
+never : (ask : Ask) (fault : Fault) → ((value : ValueAsk) → IsValueFault value fault → ⊥)
+    → ((reference : ReferenceAsk) → IsReferenceFault reference fault → ⊥)
+    → ((number : ℕ) → IsExplanationFault number fault → ⊥) → IsFaultOf ask fault → ⊥
+never (Value value) fault v r e is = v value is
+never (Reference reference) fault v r e is = r reference is
+never (Explanation number) fault v r e is = e number is
+
+strange : (ask : Ask) (number : ℕ) → IsFaultOf ask (NoRefusal number) → IsStrange ask
+strange (Value value) number is = absurd is
+strange (Reference reference) number is = absurd is
+strange (Explanation n) number is = is.1
 
 module _ (ask : Ask) (old new : Option (List ℕ)) where
   -- the input was refused
@@ -25,6 +40,14 @@ module _ (ask : Ask) (old new : Option (List ℕ)) where
     done = λ is_0. absurd (omega arith);
     refused = λ _. (fault, of_1, why);
     understood = λ is_2. absurd (omega arith);
+  }
+
+  -- no refusal has the number
+  ends_strange : (status : ℕ) → status ≡ 2 → IsStrange ask → IsEndOf ask status old new
+  ends_strange status is_2 why = record {
+    done = λ is_0. absurd (omega arith);
+    refused = λ is_1. absurd (omega arith);
+    understood = λ _. why;
   }
 
   -- it was not the input
@@ -36,12 +59,14 @@ module _ (ask : Ask) (old new : Option (List ℕ)) where
   }
 
   pub ends : (fault : Fault) (status : ℕ) → status ≡ status_of fault → IsToldOf ask fault → IsEndOf ask status old new
-  ends (Usage error) status is told = absurd told
-  ends (BadOrder error) status is told = absurd told
-  ends NotText status is told = absurd told
-  ends NoWord status is told = absurd told
+  ends (Usage error) status is told = absurd (never ask (Usage error) (λ _ h. h) (λ _ h. h) (λ _ h. h) told)
+  ends (BadOrder error) status is told = absurd (never ask (BadOrder error) (λ _ h. h) (λ _ h. h) (λ _ h. h) told)
+  ends NotText status is told = absurd (never ask NotText (λ _ h. h) (λ _ h. h) (λ _ h. h) told)
+  ends NoWord status is told = absurd (never ask NoWord (λ _ h. h) (λ _ h. h) (λ _ h. h) told)
   ends (Refused refusal) status is told = ends_refused (Refused refusal) status is refl told
-  ends (Unmade file) status is told = absurd told
+  ends (NoReference refusal) status is told = ends_refused (NoReference refusal) status is refl told
+  ends (NoRefusal number) status is told = ends_strange status is (strange ask number told)
+  ends (Unmade file) status is told = absurd (never ask (Unmade file) (λ _ h. h) (λ _ h. h) (λ _ h. h) told)
   ends (Unread file) status is told = ends_else status (omega arith)
   ends Unwritten status is told = ends_else status (omega arith)
   ends NoMemory status is told = ends_else status (omega arith)

@@ -1,4 +1,7 @@
 pub mod Requests
+pub mod References
+pub mod Commands
+pub mod Answers
 pub mod Mistakes
 pub mod Ends
 pub mod Worked

@@ -10,15 +10,16 @@ use Rattle.table_commands.specs.declared.values.Way.{Way}
 use Rattle.table_commands.specs.declared.values.Way.TheVariants.{Encode, Decode}
 use Rattle.idlc_main.specs.Way.{name_of}
 use Rattle.idlc_main.specs.declared.words.Asked.{Asked}
-use Rattle.idlc_main.specs.Words.{Ask, Tells, word_of, ask_of}
+use Rattle.idlc_main.specs.Ask.{Value, ValueAsk, value_ask_of}
+use Rattle.idlc_main.specs.Words.{TellsValue, word_of}
 
 pub same_some : (found : Option Text) (a b : Text) → found ≡ Some a → found ≡ Some b → a ≡ b
 same_some found a b first second = let both : Some a ≡ Some b = sym first ∙ second in cc
 
-some_since : (found : Option Text) (text : Text) → found ≡ Some text → IsSome found
+pub some_since : (found : Option Text) (text : Text) → found ≡ Some text → IsSome found
 some_since found text is = rw is refl
 
-different : (a b : ℕ) → a ≡ b → (a ≡ b → ⊥) → ⊥
+pub different : (a b : ℕ) → a ≡ b → (a ≡ b → ⊥) → ⊥
 different a b same other = other same
 
 order_of : (found : Option Text) (a b : Order) → found ≡ Some (word_of b) → (a ≡ Little) ↔ (found ≡ Some (codes "little")) → a ≡ b
@@ -47,26 +48,26 @@ module _ (found : Found) (way : Way) where
       → IsNumeral 10 (without_leading_plus text)
       → digits_value 10 (without_leading_plus text) < 2 ^ 64 → IsSome result
 
-  module _ (ask : Ask) (tells : Tells (rows_of found) ask) where
+  module _ (ask : ValueAsk) (tells : TellsValue (rows_of found) ask) where
     found_first : (id text : Text) → first_of id (rows_of found) ≡ Some text → first_value found id ≡ Some text
     found_first id text is = first_value-rows found id ∙ is
 
-    digits_are : one_text found (codes "POS") ≡ Some tells.digits
-    digits_are = one_text-rows found (codes "POS") ∙ tells.pos
+    digits_are : one_text found (codes "POS") ≡ Some tells.pos.digits
+    digits_are = one_text-rows found (codes "POS") ∙ tells.pos.found
 
-    pub is_asked : (asked : Asked) → way ≡ ask.value.way → IsRequest asked → ask_of asked ≡ ask
+    pub is_asked : (asked : Asked) → way ≡ ask.value.way → IsRequest asked → value_ask_of asked ≡ ask
     is_asked asked way_is is =
         let table : asked.table.now ≡ ask.table = same_some _ _ _ is.table (found_first _ _ tells.table) in
         let name : asked.request.name.now ≡ ask.value.name = same_some _ _ _ is.name (found_first _ _ tells.name) in
         let order : asked.request.order ≡ ask.value.order = order_of _ _ _ (found_first _ _ tells.order) is.order in
-        let pos : asked.request.pos ≡ ask.value.pos = sym (is.pos tells.digits digits_are) ∙ tells.number in
+        let pos : asked.request.pos ≡ ask.value.pos = sym (is.pos tells.pos.digits digits_are) ∙ tells.pos.is in
         let hex : asked.request.hex.now ≡ ask.value.hex = same_some _ _ _ is.hex (found_first _ _ tells.hex) in
         rw (is.way_is ∙ way_is, table, name, order, pos, hex) refl
 
     pub some_asked : (result : Option Asked) → IsWhole result → IsSome result
     some_asked result whole = whole (some_since _ _ (found_first _ _ tells.table)) (some_since _ _ (found_first _ _ tells.name))
         (some_since _ _ (found_first _ _ tells.order)) (some_since _ _ (found_first _ _ tells.hex))
-        tells.digits digits_are tells.numeral (rw tells.number tells.in_64_bits)
+        tells.pos.digits digits_are tells.pos.numeral (rw tells.pos.is tells.pos.fits)
 
     pub asked : (result : Option Asked) → way ≡ ask.value.way → IsWhole result
         → IfSome result (λ asked. asked.request.way ≡ way)
@@ -75,17 +76,17 @@ module _ (found : Found) (way : Way) where
         → IfSome result (λ asked. (asked.request.order ≡ Little) ↔ (first_value found (codes "ORDER") ≡ Some (codes "little")))
         → IfSome result (λ asked. (text : Text) → one_text found (codes "POS") ≡ Some text → digits_value 10 (without_leading_plus text) ≡ asked.request.pos)
         → IfSome result (λ asked. first_value found (codes "HEX") ≡ Some asked.request.hex.now)
-        → IsSomeAnd result (λ asked. ask_of asked ≡ ask)
+        → IsSomeAnd result (λ asked. Some (Value (value_ask_of asked)) ≡ Some (Value ask))
     asked None way_is whole way table name order pos hex =
         let bad : false ≡ true = some_asked None whole in absurd cc
-    asked (Some it) way_is whole way table name order pos hex = is_asked it way_is (record {
+    asked (Some it) way_is whole way table name order pos hex = ap (λ a. Some (Value a)) (is_asked it way_is (record {
       way_is = way;
       table = table;
       name = name;
       order = order;
       pos = pos;
       hex = hex;
-    })
+    }))
 
 pub same_way : (a b : Way) → name_of a ≡ name_of b → a ≡ b
 same_way Encode Encode same = refl

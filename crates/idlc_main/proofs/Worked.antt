@@ -8,16 +8,18 @@ use Rattle.clap.specs.declared.parser.matches.ValueSource.TheVariants.{CommandLi
 use Rattle.clap.proofs.OnLiterals.{clap_on_literals}
 use Rattle.type_graph.specs.declared.width.Order.TheVariants.{Big}
 use Rattle.table_commands.specs.declared.values.Way.TheVariants.{Encode}
-use Rattle.idlc_main.specs.Words.{Ask, AsksFor, IsReadAs, Tells, program_app, texts}
+use Rattle.idlc_main.specs.Ask.{Ask, Value}
+use Rattle.idlc_main.specs.Commands.{program_app}
+use Rattle.idlc_main.specs.Words.{AsksFor, IsReadAs, Tells, texts}
 
 abbrev words : List Text
 words = codes "idlc" ∷ codes "encode" ∷ codes "builtin" ∷ codes "S" ∷ codes "big" ∷ codes "12" ∷ codes "07" ∷ []
 
 abbrev ask : Ask
-ask = record {
+ask = Value (record {
   table = codes "builtin";
   value = record { way = Encode; name = codes "S"; order = Big; pos = 12; hex = codes "07" };
-}
+})
 
 -- what clap keeps of a word
 abbrev row : Text → Text → Row
@@ -53,11 +55,13 @@ module _ (orders : Bor (List (Bor Text))) (are : texts orders.now ≡ codes "big
     table = refl;
     name = refl;
     order = refl;
-    digits = codes "12";
-    pos = refl;
-    numeral = (omega arith, (omega arith, (omega arith, tt)));
-    number = refl;
-    in_64_bits = omega arith;
+    pos = record {
+      digits = codes "12";
+      found = refl;
+      numeral = (omega arith, (omega arith, (omega arith, tt)));
+      is = refl;
+      fits = omega arith;
+    };
     hex = refl;
   }
 

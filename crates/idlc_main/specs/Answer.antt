@@ -1,28 +1,47 @@
--- What a run answers that marshals a value, by what it is asked for.
-use Rattle.std.specs.Prelude.{◌≡◌, ◌≢◌, ◌⊎◌, ℕ, List, Option, Result, String, codes, IfOk, IfErr}
+-- What a run answers, by what it is asked for.
+use Rattle.std.specs.Prelude.{◌≡◌, ◌≢◌, ◌⊎◌, ℕ, List, Option, Some, Result, String, true, false, codes, IfOk, IfErr}
 use Rattle.std.specs.String.{string_bytes}
 use Rattle.std.specs.Io.KnownBytes.{Appends}
 use Rattle.table_file.specs.Table.{TableParts}
 use Rattle.position_checker.specs.Acceptance.{IsRight}
+use Rattle.fault_texts.specs.Headings.{first_line, heading, is_refusal}
+use Rattle.reference_commands.specs.Lines.{IsLine as IsLineWith}
+use Rattle.reference_commands.specs.Refusal.{IsRefusalOf as IsRefusalWith}
+use Rattle.reference_commands.specs.declared.refusal.Refusal.{Refusal as ReferenceRefusal}
 use Rattle.table_commands.specs.Sample.{sample_table}
 use Rattle.table_commands.specs.Answer.{IsLine as IsLineOf, IsRefusalOf}
 use Rattle.table_commands.specs.declared.refusal.Refusal.{Refusal}
 use Rattle.table_commands.specs.declared.refusal.Refusal.TheVariants.{NoTable, NotRight, TooLong}
 use Rattle.idlc_main.specs.declared.fault.Fault.{Fault}
-use Rattle.idlc_main.specs.declared.fault.Fault.TheVariants.{Unread, Refused, Unwritten, NoMemory}
+use Rattle.idlc_main.specs.declared.fault.Fault.TheVariants.{Unread, Refused, NoReference, NoRefusal, Unwritten, NoMemory}
 use Rattle.idlc_main.specs.Fault.{status_of}
-use Rattle.idlc_main.specs.Words.{Ask}
+use Rattle.idlc_main.specs.Ask.{Ask, Explanation, Reference, ReferenceAsk, Value, ValueAsk}
 
 -- a table that is right, and the sample where that was asked for
-pub record IsTableOf (ask : Ask) (table : TableParts) : Type 0 where
-  pub sample : ask.table ≡ codes "builtin" → table ≡ sample_table
+pub record IsTableOf (name : List ℕ) (table : TableParts) : Type 0 where
+  pub sample : name ≡ codes "builtin" → table ≡ sample_table
   pub right : IsRight table
 
 -- the line that answers
-pub record IsLine (ask : Ask) (line : List ℕ) : Type 0 where
+pub record IsValueLine (ask : ValueAsk) (line : List ℕ) : Type 0 where
   pub table : TableParts
-  pub is : IsTableOf ask table
+  pub is : IsTableOf ask.table table
   pub answers : IsLineOf table ask.value line
+
+pub record IsReferenceLine (ask : ReferenceAsk) (line : List ℕ) : Type 0 where
+  pub table : TableParts
+  pub is : IsTableOf ask.table table
+  pub answers : IsLineWith table.model ask.parts line
+
+-- the lines of an explanation
+pub record Explains (number : ℕ) (lines : List ℕ) : Type 0 where
+  pub refusal : is_refusal number ≡ true
+  pub headed : heading number ≡ Some (first_line lines)
+
+abbrev pub IsLine : Ask → List ℕ → Type 0
+IsLine (Value ask) line = IsValueLine ask line
+IsLine (Reference ask) line = IsReferenceLine ask line
+IsLine (Explanation number) lines = Explains number lines
 
 -- the file is no table's, or its table isn't right
 abbrev pub IsOfFile : Refusal → Type 0
@@ -39,17 +58,39 @@ IsFileFault name NoMemory = Unit {0}
 IsFileFault name fault = ⊥
 
 -- the table has no answer
-pub record IsRefused (ask : Ask) (refusal : Refusal) : Type 0 where
+pub record IsRefused (ask : ValueAsk) (refusal : Refusal) : Type 0 where
   pub table : TableParts
-  pub is : IsTableOf ask table
+  pub is : IsTableOf ask.table table
   pub refused : IsRefusalOf table ask.value refusal
 
+pub record HasNoReference (ask : ReferenceAsk) (refusal : ReferenceRefusal) : Type 0 where
+  pub table : TableParts
+  pub is : IsTableOf ask.table table
+  pub refused : IsRefusalWith table.model ask.parts refusal
+
 -- the fault that answers
+abbrev pub IsValueFault : ValueAsk → Fault → Type 0
+IsValueFault ask (Unread file) = (ask.table ≢ codes "builtin") × (file.now ≡ ask.table)
+IsValueFault ask (Refused refusal) = (IsOfFile refusal × (ask.table ≢ codes "builtin")) ⊎ IsRefused ask refusal
+IsValueFault ask NoMemory = Unit {0}
+IsValueFault ask fault = ⊥
+
+abbrev pub IsReferenceFault : ReferenceAsk → Fault → Type 0
+IsReferenceFault ask (Unread file) = (ask.table ≢ codes "builtin") × (file.now ≡ ask.table)
+IsReferenceFault ask (Refused refusal) = IsOfFile refusal × (ask.table ≢ codes "builtin")
+IsReferenceFault ask (NoReference refusal) = HasNoReference ask refusal
+IsReferenceFault ask NoMemory = Unit {0}
+IsReferenceFault ask fault = ⊥
+
+abbrev pub IsExplanationFault : ℕ → Fault → Type 0
+IsExplanationFault number (NoRefusal n) = (n ≡ number) × (is_refusal number ≡ false)
+IsExplanationFault number NoMemory = Unit {0}
+IsExplanationFault number fault = ⊥
+
 abbrev pub IsFaultOf : Ask → Fault → Type 0
-IsFaultOf ask (Unread file) = (ask.table ≢ codes "builtin") × (file.now ≡ ask.table)
-IsFaultOf ask (Refused refusal) = (IsOfFile refusal × (ask.table ≢ codes "builtin")) ⊎ IsRefused ask refusal
-IsFaultOf ask NoMemory = Unit {0}
-IsFaultOf ask fault = ⊥
+IsFaultOf (Value ask) fault = IsValueFault ask fault
+IsFaultOf (Reference ask) fault = IsReferenceFault ask fault
+IsFaultOf (Explanation number) fault = IsExplanationFault number fault
 
 pub record IsAnswer {A : Type 0} (ask : Ask) (result : Result (String A) Fault) : Type 0 where
   pub line : IfOk result (λ line. IsLine ask (string_bytes line))
@@ -66,13 +107,19 @@ abbrev pub IsToldOf : Ask → Fault → Type 0
 IsToldOf ask Unwritten = Unit {0}
 IsToldOf ask fault = IsFaultOf ask fault
 
--- the file is no right table, or the table has no such type, the digits are none, or no value is there
+-- The file is no right table, or the table has no such type or interface, the digits or the object are none, or no such
+-- value or reference is there.
 abbrev pub IsRefusedAsk : Ask → Type 0
 IsRefusedAsk ask = (fault : Fault) × (status_of fault ≡ 1) × IsFaultOf ask fault
 
--- how a run ends that asks for a value, by its status and what standard output held before and
+-- the number of no refusal
+abbrev pub IsStrange : Ask → Type 0
+IsStrange (Explanation number) = is_refusal number ≡ false
+IsStrange ask = ⊥
+
+-- how a run ends that asks for something, by its status and what standard output held before and
 -- holds after
 pub record IsEndOf (ask : Ask) (status : ℕ) (old new : Option (List ℕ)) : Type 0 where
   pub done : status ≡ 0 → IsPrinted ask old new
   pub refused : status ≡ 1 → IsRefusedAsk ask
-  pub understood : status ≢ 2
+  pub understood : status ≡ 2 → IsStrange ask

@@ -1,9 +1,10 @@
 //! Why a run of the program didn't do what was asked for.
 
 ghost use Rattle.std.specs.Prelude.{◌≡◌, ◌≤◌};
-ghost use Rattle.idlc_main.specs.Fault.{fault_of};
+ghost use Rattle.idlc_main.specs.Fault.{fault_of, fault_of_reference};
 ghost use Rattle.idlc_main.specs.declared.fault.Fault.TheVariants.{NoMemory};
 
+use reference_commands::Refusal as ReferenceRefusal;
 use std::alloc::AllocError;
 use table_commands::Refusal;
 use thiserror::Error;
@@ -27,6 +28,12 @@ pub enum Fault<'a> {
     /// A table or its input was refused.
     #[error(transparent)]
     Refused(Refusal<'a>),
+    /// There is no such reference.
+    #[error(transparent)]
+    NoReference(ReferenceRefusal<'a>),
+    /// No refusal has the number whose meaning is asked for.
+    #[error("no refusal has the number {number}")]
+    NoRefusal { number: u8 },
     #[error("cannot write {file}")]
     Unmade { file: &'a str },
     /// Standard output can't be written, of which no line tells.
@@ -46,8 +53,9 @@ impl<'a> Fault<'a> {
         ensures range { (1 ≤ result) × (result ≤ 4) }
     {
         match self {
-            Fault::Refused(_) => 1,
+            Fault::Refused(_) | Fault::NoReference(_) => 1,
             Fault::Usage(_) | Fault::BadOrder(_) | Fault::NotText | Fault::NoWord => 2,
+            Fault::NoRefusal { .. } => 2,
             Fault::Unread { .. } | Fault::Unmade { .. } | Fault::Unwritten => 3,
             Fault::NoMemory => 4,
         }
@@ -69,6 +77,17 @@ impl<'a> From<Refusal<'a>> for Fault<'a> {
         match refusal {
             Refusal::NoMemory => Fault::NoMemory,
             refusal => Fault::Refused(refusal),
+        }
+    }
+}
+
+impl<'a> From<ReferenceRefusal<'a>> for Fault<'a> {
+    ghost from_gives = { λ refusal fault. fault ≡ fault_of_reference refusal };
+
+    fn from(refusal: ReferenceRefusal<'a>) -> Fault<'a> {
+        match refusal {
+            ReferenceRefusal::NoMemory => Fault::NoMemory,
+            refusal => Fault::NoReference(refusal),
         }
     }
 }

@@ -1,9 +1,11 @@
-//! The program `idlc`: checks the tables of IDL specifications and marshals values by them.
+//! The program `idlc`: checks the tables of IDL specifications, marshals values by them and prints
+//! references to objects.
 #![tactic(auto)]
 
 ghost use Rattle.std.specs.Prelude.{◌≡◌, ◌≢◌, ◌≤◌, ◌⊎◌, IfErr, IsErrAnd, MatchResult};
 ghost use Rattle.idlc_main.specs.Fault.{IsOfWords, IsTold};
-ghost use Rattle.idlc_main.specs.Words.{Ask, AsksFor, IsMistaken, texts};
+ghost use Rattle.idlc_main.specs.Ask.{Ask};
+ghost use Rattle.idlc_main.specs.Words.{AsksFor, IsMistaken, texts};
 ghost use Rattle.idlc_main.specs.Answer.{IsAnswer, IsEndOf, IsPrinted, IsToldOf};
 
 mod fault;

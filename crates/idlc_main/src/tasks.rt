@@ -1,19 +1,23 @@
 //! What the commands do.
 
-ghost use Rattle.std.specs.Prelude.{◌≡◌, IfErr};
+ghost use Rattle.std.specs.Prelude.{◌≡◌, ℕ, IfErr};
 ghost use Rattle.idlc_main.specs.Answer.{IsAnswer};
-ghost use Rattle.idlc_main.specs.Words.{ask_of};
+ghost use Rattle.idlc_main.specs.Ask.{Explanation, Reference, Value, reference_ask_of, value_ask_of};
 ghost use Rattle.idlc_main.specs.declared.words.Asked.{Asked};
+ghost use Rattle.idlc_main.specs.declared.words.AskedReference.{AskedReference};
 ghost use Rattle.idlc_main.specs.Fault.{IsTold};
 
 use crate::fault::Fault;
 use crate::tables::{put, table_of};
-use crate::words::{Asked, Task};
+use crate::words::{Asked, AskedReference, Task};
+use fault_texts::explanation;
+use reference_commands::reference_line;
+use std::alloc::Global;
 use std::fs::Files;
 use table_commands::{accepted_line, listing, marshal, upgraded};
 
 fn value<'a, R: Files + AllocGlobal>(rt: &R, asked: &Asked<'a>) -> Result<String, Fault<'a>>
-    ensures answers { IsAnswer (ask_of asked.now) result }
+    ensures answers { IsAnswer (Value (value_ask_of asked.now)) result }
     ensures told { IfErr result IsTold }
 {
     let table = match table_of(rt, asked.table) {
@@ -41,13 +45,47 @@ fn upgrade<'a, R: Files + AllocGlobal>(
     Ok(line)
 }
 
+fn reference<'a, R: Files + AllocGlobal>(
+    rt: &R,
+    asked: &AskedReference<'a>,
+) -> Result<String, Fault<'a>>
+    ensures answers { IsAnswer (Reference (reference_ask_of asked.now)) result }
+    ensures told { IfErr result IsTold }
+{
+    let table = match table_of(rt, asked.table) {
+        Ok(table) => table,
+        Err(fault) => return Err(fault),
+    };
+    match reference_line(rt.alloc(), &table, &asked.wanted) {
+        Ok(line) => Ok(line),
+        Err(refusal) => Err(Fault::from(refusal)),
+    }
+}
+
+fn explained<'a>(alloc: Global, number: u8) -> Result<String, Fault<'a>>
+    ensures answers { IsAnswer (Explanation number) result }
+    ensures told { IfErr result IsTold }
+{
+    match explanation(number) {
+        Some(text) => Ok(String::from_str(alloc, text)?),
+        None => Err(Fault::NoRefusal { number }),
+    }
+}
+
 /// Does what is asked for, and gives the text for standard output.
 pub fn done<'a, R: Files + AllocGlobal>(rt: &R, task: &Task<'a>) -> Result<String, Fault<'a>>
-    ensures value { (asked : Asked) → task.now ≡ Task.Value asked → IsAnswer (ask_of asked) result }
+    ensures value { (asked : Asked) → task.now ≡ Task.Value asked
+        → IsAnswer (Value (value_ask_of asked)) result }
+    ensures reference { (asked : AskedReference) → task.now ≡ Task.Reference asked
+        → IsAnswer (Reference (reference_ask_of asked)) result }
+    ensures explanation { (number : ℕ) → task.now ≡ Task.Explain number
+        → IsAnswer (Explanation number) result }
     ensures told { IfErr result IsTold }
 {
     match task {
         Task::Value(asked) => value(rt, asked),
+        Task::Reference(asked) => reference(rt, asked),
+        Task::Explain { number } => explained(rt.alloc(), *number),
         Task::Check { table } => {
             let table = table_of(rt, table)?;
             Ok(accepted_line(rt.alloc(), &table)?)

@@ -1,9 +1,8 @@
 use Rattle.std.proofs.Common.{rules, ap, refl, sym, subst, ◌≡◌, ◌∙◌}
 use Rattle.clap.specs.Words.{app_of, fault_of, is_simple, is_simple_and_free, subcommand_of, takes}
 use Rattle.clap.specs.declared.builder.value_parser.ValueParser.TheVariants.{Names}
-use Rattle.idlc_main.specs.declared.words.Task.{Task}
-use Rattle.idlc_main.specs.declared.words.Said.TheVariants.{Do}
-use Rattle.idlc_main.specs.Words.{AreMistakes, TakesOrders, program_app, texts}
+use Rattle.idlc_main.specs.Commands.{program_app}
+use Rattle.idlc_main.specs.Words.{AreMistakes, TakesOrders, texts}
 use Rattle.idlc_main.proofs.Mistakes.{no_mistakes, refused_words}
 use Rattle.idlc_main.proofs.words.parse.Goals as goal
 
@@ -30,8 +29,7 @@ returns-in-Some-clause-asked c ask asks =
     let app_is : app_of c.in_ok-program.field-0 ≡ program_app (Names c.as_slice.result) = c.in_ok-program.ensures in
     let read = asks (Names c.as_slice.result) orders in
     let command = (c.in-Ok.ensures.matches (ap is_simple app_is)).1 ∙ ap (λ app. subcommand_of app (texts c.args.words.now)) app_is ∙ read.command in
-    let found = c.in-Some.ensures ask read.rows command read.tells in
-    (found.0, ap (λ (t : Task). Do t) found.1, found.2)
+    (c.in-Some.task, refl, c.in-Some.ensures ask read.rows command read.tells)
 
 pub returns-in-Some-clause-mistaken : goal.returns-in-Some-clause-mistaken
 returns-in-Some-clause-mistaken c mistaken =

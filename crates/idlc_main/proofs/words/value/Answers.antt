@@ -1,4 +1,4 @@
-use Rattle.std.proofs.Common.{◌≡◌, refl, Some, None}
+use Rattle.std.proofs.Common.{Some, None}
 use Rattle.clap.specs.Words.{found_of}
 use Rattle.idlc_main.proofs.Requests.{asked}
 use Rattle.idlc_main.proofs.words.value.Goals as goal
@@ -6,7 +6,7 @@ use Rattle.idlc_main.proofs.words.value.Goals as goal
 pub returns-in-Some : goal.returns-in-Some
 returns-in-Some c ask way_is tells =
     let e = c.in-Some.ensures in
-    (c.in-Some.asked, refl, asked (found_of c.args.words.now) c.args.way ask tells (Some c.in-Some.asked) way_is e.whole e.way e.table e.name e.order e.pos e.hex)
+    asked (found_of c.args.words.now) c.args.way ask tells (Some c.in-Some.asked) way_is e.whole e.way e.table e.name e.order e.pos e.hex
 
 pub returns-in-None : goal.returns-in-None
 returns-in-None c ask way_is tells =

@@ -3,7 +3,7 @@ use Rattle.std.proofs.lemmas.Result.{IfOk-weaker}
 use Rattle.clap.specs.Words.{App, app_of, new_app, with_subcommand}
 use Rattle.clap.specs.Simple.{app_of_fields}
 use Rattle.clap.specs.declared.builder.value_parser.ValueParser.TheVariants.{Names}
-use Rattle.idlc_main.specs.Words.{command_app}
+use Rattle.idlc_main.specs.Commands.{command_app}
 use Rattle.idlc_main.proofs.Globals.{no_globals}
 use Rattle.idlc_main.proofs.words.value_commands.Goals as goal
 
