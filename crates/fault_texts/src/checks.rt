@@ -7,8 +7,8 @@ const WRONG_WORK: &str = "80 WrongWork
 From this instruction on a routine doesn't do the work of its node. Programs, routines and
 instructions are counted from 0.
 Input, a file of these octets, whose routine takes a boolean for an octet:
-    49444c54010000000101000000010000000153000000000000000000000000000000000000
-    000100000000ffffffffffffffffff00000000000000010300000001
+    49444c54010000000101000000010000000153000000000000000000000000000000000000000100000000ffff
+    ffffffffffffff00000000000000010300000001
 To mend it: write the table again; idlc show lists the routines of one that is right.
 ";
 
@@ -16,25 +16,25 @@ const WRONG_PADDING: &str = "81 WrongPadding
 The gap before the work of an instruction isn't the one that belongs there, at some position
 where the routine may start.
 Input, a file of these octets, whose routine takes an unsigned long without a gap:
-    49444c54010000000100040000000001000000015300000000000000000000000000000000
-    0000000100000000ffffffffffffffffff0000000000000001020400000001
+    49444c540100000001000400000000010000000153000000000000000000000000000000000000000100000000
+    ffffffffffffffffff0000000000000001020400000001
 To mend it: put Align before the work, or let the routine start at multiples alone.
 ";
 
 const ENTRY_OUTSIDE: &str = "82 EntryOutside
 An instruction names a routine at a position where that may not start, by its set of entries.
 Input, a file of these octets, whose second routine calls the first at every position:
-    49444c540100000002010800000001000000000000000000000000000000000000000000000002
-    00000000010202020202020202000000000000000101000000010000
-    0001ffffffffffffffffff00000001000000010b00000000
+    49444c540100000002010800000001000000000000000000000000000000000000000000000002000000000102
+    000000000000000000000000000001010000000100000001ffffffffffffffffff00000001000000010b000000
+    00
 To mend it: give the routine more entries, or put a gap before the call.
 ";
 
 const EXITS_TOO_SMALL: &str = "83 ExitsTooSmall
 From this entry a routine may end at a position that its exits don't have.
 Input, a file of these octets, whose routine is to end where it starts:
-    49444c5401000000010100000000000000000000000000000000
-    0000000100000000ff01020408102040800000000000000001010000000100
+    49444c54010000000101000000000000000000000000000000000000000100000000ff01020408102040800000
+    0000000000010100000001
 To mend it: add the position, counted modulo 8, to the exits for that entry.
 ";
 
@@ -48,8 +48,8 @@ To mend it: write the table again; a routine of the type has to be there.
 const NAMED_ENTRY_NOT_FULL: &str = "85 NamedEntryNotFull
 A type that has a name has no routine that may start at every position.
 Input, a file of these octets, whose routine starts at multiples of 8 alone:
-    49444c54010000000101000000010000000153000000000000000000000000000000000000
-    00010000000001020000000000000000000000000000010100000001
+    49444c540100000001010000000100000001530000000000000000000000000000000000000001000000000102
+    0000000000000000000000000000010100000001
 To mend it: give one routine of the type the entries FF, with the gaps that it needs then.
 ";
 

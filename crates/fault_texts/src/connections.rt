@@ -29,8 +29,8 @@ To mend it: connect again; the calls whose answers are missing may have been mad
 ";
 
 const NO_MEMORY: &str = "104 NoMemory
-Memory was refused while a connection's octets were served. The connection is closed, and some
-of its calls, from the first on, have been made.
+Memory was refused. At a begin nothing has changed; while octets were served the connection is
+closed, and its calls up to some one of them have been made.
 Input: a broker that may take no memory.
 To mend it: give it more memory, or send smaller messages.
 ";

@@ -22,15 +22,15 @@ const TABLE_NUMBER: &str = "52 BadNumber
 A number in the table is out of range, a count is 0 or a limit is passed, an entry set is empty,
 or its types or names keep no rule.
 Input, a file of these octets, an enumeration without enumerators:
-    49444c540100000001040000000000000000000000000000000000000000000000
+    49444c54010000000104000000000000000000000000000000000000000000000000
 To mend it: write the table again; where it is made by hand, look at its numbers of nodes.
 ";
 
 const RANK_RISES: &str = "53 RankRises
 A routine calls one whose rank isn't lower without a sequence between, so it might not end.
 Input, a file of these octets, a routine that calls itself:
-    49444c5401000000010100000000000000000000000000000000
-    0000000100000000ffffffffffffffffff00000000000000010b00000000
+    49444c54010000000101000000000000000000000000000000000000000100000000ffffffffffffffffff0000
+    0000000000010b00000000
 To mend it: give the called routine a lower rank, or call it for the elements of a sequence.
 ";
 
@@ -44,9 +44,8 @@ To mend it: cut the file off behind the table.
 const EMPTY_ROUTINE: &str = "55 EmptyRoutine
 A routine that is called does nothing, or leaves gaps alone, so it takes no octet.
 Input, a file of these octets, the second routine of which calls the first:
-    49444c5401000000010100000000000000000000000000000000
-    0000000200000000ffffffffffffffffff000000000000000000000000ffffffffffffffffff
-    00000001000000010b00000000
+    49444c54010000000101000000000000000000000000000000000000000200000000ffffffffffffffffff0000
+    00000000000000000000ffffffffffffffffff00000001000000010b00000000
 To mend it: give the called routine its instructions, or take the call out.
 ";
 

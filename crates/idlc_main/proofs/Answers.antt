@@ -11,9 +11,9 @@ use Rattle.idlc_main.specs.Answer.{IsAnswer}
 
 -- want of memory answers whatever is asked for
 pub no_memory : {A : Type 0} (ask : Ask) (fault : Fault) → fault ≡ NoMemory → IsAnswer {A = A} ask (Err fault)
-no_memory (Value ask) fault is = record { line = tt; fault = rw is tt; }
-no_memory (Reference ask) fault is = record { line = tt; fault = rw is tt; }
-no_memory (Explanation number) fault is = record { line = tt; fault = rw is tt; }
+no_memory (Value ask) fault is = record { line = tt; fault = rw is tt }
+no_memory (Reference ask) fault is = record { line = tt; fault = rw is tt }
+no_memory (Explanation number) fault is = record { line = tt; fault = rw is tt }
 
 module _ {A : Type 0} (ask : Ask) (result : Result (String A) Fault) where
   of_same : (other : Ask) → Some other ≡ Some ask → IsAnswer other result → IsAnswer ask result

@@ -53,4 +53,4 @@ module _ (found : Found) where
         → IsSomeAnd result (λ asked. Some (Reference (reference_ask_of asked)) ≡ Some (Reference ask))
     asked None whole table host port object = let bad : false ≡ true = some_asked None whole in absurd cc
     asked (Some it) whole table host port object =
-        ap (λ a. Some (Reference a)) (is_asked it (record { table = table; host = host; port = port; object = object; }))
+        ap (λ a. Some (Reference a)) (is_asked it (record { table = table; host = host; port = port; object = object }))

@@ -133,6 +133,32 @@ fn tells_the_first_fault(rt: HostRuntime) {
     refuse(&rt, "decode Builtin S big 0 07", 3, "cannot read Builtin");
 }
 
+/// The table is judged before the object, and the object before its interface.
+#[test]
+fn refers_and_explains(rt: HostRuntime) {
+    let reference = "ior builtin --host h --port 65535 --object";
+    let rows = [
+        ("K=P", "no interface P"),
+        ("P", "bad object"),
+        ("=P", "bad object"),
+    ];
+    for (object, fault) in rows {
+        match format!(in rt.alloc(); "{reference} {object}") {
+            Ok(words) => refuse(&rt, words.as_str(), 1, fault),
+            Err(_) => assert!(rt; false, "no memory"),
+        }
+    }
+    let unread = "ior --object P none.table --port 1 --host h";
+    refuse(&rt, unread, 3, "cannot read none.table");
+    refuse(&rt, "explain 8", 2, "no refusal has the number 8");
+    let text = "54 Trailing\n\
+        Octets stand behind the table's end.\n\
+        Input, a file of these octets, the empty table and one octet more:\n\
+        \x20   49444c540100000000000000000000000000000000000000000000000000\n\
+        To mend it: cut the file off behind the table.\n";
+    expect(&rt, "idlc explain 54", 0, text, "");
+}
+
 /// The words behind the first, and the fault behind the name of the program.
 fn refuse<R: Files + AllocGlobal + Abort>(rt: &R, words: &str, status: u8, fault: &str) {
     let line = format!(in rt.alloc(); "idlc {words}");
@@ -161,6 +187,9 @@ fn refuses_other_words(rt: HostRuntime) {
         ("idlc upgrade builtin", false),
         ("idlc upgrade builtin -o", false),
         ("idlc upgrade builtin -o a -o b", false),
+        ("idlc ior builtin --host h --port 1", false),
+        ("idlc ior builtin --host h --port 65536 --object K=P", false),
+        ("idlc explain 256", false),
     ];
     for (line, is_order) in rows {
         let mut wrote = Vec::new(rt.alloc());

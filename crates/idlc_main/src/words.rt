@@ -43,9 +43,7 @@ pub enum Task<'a> {
     Value(Asked<'a>),
     Reference(AskedReference<'a>),
     /// What the refusal of a number means.
-    Explain {
-        number: u8,
-    },
+    Explain { number: u8 },
     Check { table: &'a str },
     Show { table: &'a str },
     Upgrade { table: &'a str, output: &'a str },
