@@ -12,4 +12,4 @@ returns-in_ok-from_str-in-Some-clause-answers c = record {
 }
 
 pub returns-in-None-clause-answers : goal.returns-in-None-clause-answers
-returns-in-None-clause-answers c = record { line = tt; fault = (refl, sym c.in-None.ensures.there); }
+returns-in-None-clause-answers c = record { line = tt; fault = (refl, sym c.in-None.ensures.there) }
