@@ -15,15 +15,25 @@ use whole_files::{ReadFault, WriteFault, read_whole, write_whole};
 /// The name by which the commands know the sample table.
 pub const SAMPLE: &str = "builtin";
 
+/// Why a file wasn't read.
+fn unread<'a>(file: &'a str, fault: ReadFault) -> Fault<'a>
+    ensures fault { IsFileFault file.now result }
+    ensures told { IsTold result }
+{
+    match fault {
+        ReadFault::Unread => Fault::Unread { file },
+        ReadFault::TooLong => Fault::Refused(Refusal::TooLong),
+        ReadFault::NoMemory => Fault::NoMemory,
+    }
+}
+
 fn octets_in<'a, R: Files + AllocGlobal>(rt: &R, file: &'a str) -> Result<Vec<u8>, Fault<'a>>
     ensures fault { IfErr result (IsFileFault file.now) }
     ensures told { IfErr result IsTold }
 {
     match read_whole(rt, file, MAX_LEN) {
         Ok(octets) => Ok(octets),
-        Err(ReadFault::Unread) => Err(Fault::Unread { file }),
-        Err(ReadFault::TooLong) => Err(Fault::Refused(Refusal::TooLong)),
-        Err(ReadFault::NoMemory) => Err(Fault::NoMemory),
+        Err(fault) => Err(unread(file, fault)),
     }
 }
 
@@ -59,6 +69,16 @@ pub fn table_of<'a, R: Files + AllocGlobal>(rt: &R, name: &'a str) -> Result<Acc
     table_in(rt, name)
 }
 
+/// Why a file wasn't written.
+fn unmade<'a>(file: &'a str, fault: WriteFault) -> Fault<'a>
+    ensures { IsTold result }
+{
+    match fault {
+        WriteFault::Unwritten => Fault::Unmade { file },
+        WriteFault::NoMemory => Fault::NoMemory,
+    }
+}
+
 /// Writes a table's octets to a file.
 pub fn put<'a, R: Files + AllocGlobal>(
     rt: &R,
@@ -69,7 +89,6 @@ pub fn put<'a, R: Files + AllocGlobal>(
 {
     match write_whole(rt, file, octets) {
         Ok(()) => Ok(()),
-        Err(WriteFault::Unwritten) => Err(Fault::Unmade { file }),
-        Err(WriteFault::NoMemory) => Err(Fault::NoMemory),
+        Err(fault) => Err(unmade(file, fault)),
     }
 }
