@@ -14,9 +14,9 @@ abbrev pub model_of : Whole → Defined → Parts
 model_of names d = parts_of d.types.nodes (names_of names.entries d.types) (interfaces_from names 0 d.interfaces)
     (map (operation_of names.entries) d.operations) (map (exception_of names) d.types.exceptions)
 
--- The model is that of the definitions, whose names these are. As it keeps the rules of models, each name in the
--- definitions finds a type or an exception, and each bound and size has a worth: what finds nothing has a number that
--- no model has.
+-- The model is that of the definitions, whose names these are. As it keeps the rules of models, each name that it is
+-- made by finds a type or an exception, and each bound and size has a worth: what finds nothing has a number that no
+-- model has. The name of a constant's type makes nothing of a model, and is judged with the names.
 pub record Shows (definitions : List Definition) (names : Whole) (model : Parts) : Type 0 where
   pub parts : model ≡ model_of names (defined_by names.entries definitions)
   pub rules : IsModel model
