@@ -1,8 +1,10 @@
 -- Words for objects.
-use Rattle.std.proofs.Common.{◌≡◌, ◌≢◌, ℕ, suc, ◌<◌, List, [], ◌∷◌, ◌++◌, length, slice_index, Some, None, sym, ap₂, ◌∙◌, arith}
+use Rattle.std.proofs.Common.{◌≡◌, ◌≢◌, ℕ, zero, suc, ◌<◌, List, [], ◌∷◌, ◌++◌, length, drop, slice_get, slice_index, Some, None, true, refl, sym, ap₂, ◌∙◌, arith}
 use Rattle.std.specs.Borrow.{Bor}
 use Rattle.std.proofs.lemmas.Str.Pattern.{IsSplitOnceResult, split_after, split_parts}
-use Rattle.reference_commands.specs.Lines.{IsObject}
+use Rattle.std.specs.Str.{bytes_eq}
+use Rattle.type_model.specs.declared.signatures.Interface.{Interface}
+use Rattle.reference_commands.specs.Lines.{IsObject, interface_named}
 
 pub object_found : (word : List ℕ) (key name : Bor (List ℕ)) → IsSplitOnceResult 61 word (Some (key, name))
     → 0 < length key.now → IsObject word key.now name.now
@@ -33,3 +35,14 @@ cut_first (x ∷ k) n (y ∷ l) m e f g =
 -- a word names one object
 pub object_once : (word key name k n : List ℕ) → IsObject word key name → IsObject word k n → (key ≡ k) × (name ≡ n)
 object_once word key name k n a b = cut_first key name k n (sym a.word_is ∙ b.word_is) a.first b.first
+
+-- the interface at a place has the name, and none before
+pub first_place : (name : List ℕ) (interfaces : List Interface) (place : ℕ) (interface : Interface)
+    → slice_get interfaces place ≡ Some interface → bytes_eq interface.name name ≡ true
+    → interface_named name (drop place interfaces) ≡ slice_get interfaces place
+first_place name [] place interface e same = cc
+first_place name (x ∷ more) zero interface e same =
+    let one : x ≡ interface = cc in
+    let named : bytes_eq x.name name ≡ true = cc in
+    rw (named) refl
+first_place name (x ∷ more) (suc k) interface e same = first_place name more k interface e same

@@ -1,0 +1,5 @@
+pub mod Lines
+pub mod Objects
+pub mod Faults
+pub mod Visits
+pub mod Serving

@@ -1,0 +1,52 @@
+-- How serving an object ends.
+use Rattle.std.specs.Prelude.{◌⊎◌, ℕ, List, [], ◌∷◌, Option}
+use Rattle.std.specs.Io.KnownBytes.{Appends, Keeps}
+use Rattle.type_model.specs.ModelRules.{Parts}
+use Rattle.broker_answers.specs.Objects.{served}
+use Rattle.broker_answers.specs.Servants.{acts}
+use Rattle.iiop_streams.specs.Outcomes.{Ends}
+use Rattle.attribute_keeper.specs.Keeping.{Keeping, first_keeping, says, after}
+use Rattle.socket_server.specs.declared.fault.ServeFault.{ServeFault}
+use Rattle.socket_server.specs.declared.fault.ServeFault.TheVariants.{BadObject, NoInterface, Socket, Unwritten, NoMemory}
+use Rattle.socket_server.specs.Lines.{serving}
+use Rattle.socket_server.specs.Objects.{IsObjectFault, IsObjectOf}
+use Rattle.socket_server.specs.Visits.{AreServed}
+
+-- Just so many connections came, and the object that the word names was served to each of them, by a keeper that had its
+-- attributes as they are at first, and kept them from one to the next.
+pub record IsDone (model : Parts) (word : List ℕ) (count : ℕ) (came came' : List Ends) : Type 0 where
+  pub object : List ℕ × ℕ
+  pub is : IsObjectOf model word object
+  pub last : Keeping
+  pub served_all : AreServed (acts says after) (served model (object ∷ [])) count came (first_keeping model (object ∷ [])) came' last
+
+-- the word names an object of an interface that is there
+pub record HasObject (model : Parts) (word : List ℕ) : Type 0 where
+  pub object : List ℕ × ℕ
+  pub is : IsObjectOf model word object
+
+-- the cause of a fault; that of the object comes before the others
+abbrev pub IsFaultOf : Parts → List ℕ → ServeFault → Type 0
+IsFaultOf model word BadObject = IsObjectFault model word BadObject
+IsFaultOf model word (NoInterface name) = IsObjectFault model word (NoInterface name)
+IsFaultOf model word Socket = HasObject model word
+IsFaultOf model word Unwritten = HasObject model word
+IsFaultOf model word NoMemory = Unit {0}
+
+-- it is one of the object
+abbrev pub IsOfObject : ServeFault → Type 0
+IsOfObject BadObject = Unit {0}
+IsOfObject (NoInterface name) = Unit {0}
+IsOfObject fault = ⊥
+
+-- what a printer held before and holds after: the line or nothing was printed, but where that failed
+abbrev pub IsLineOrNothing : ℕ → Option (List ℕ) → Option (List ℕ) → ServeFault → Type 0
+IsLineOrNothing port old new Unwritten = Unit {0}
+IsLineOrNothing port old new fault = Appends old new (serving port) ⊎ Keeps old new
+
+-- the line isn't printed: the port isn't listened on, there is no memory for the line, or printing failed
+abbrev pub IsUnprinted : Option (List ℕ) → Option (List ℕ) → ServeFault → Type 0
+IsUnprinted old new Unwritten = Unit {0}
+IsUnprinted old new Socket = Keeps old new
+IsUnprinted old new NoMemory = Keeps old new
+IsUnprinted old new fault = ⊥

@@ -1,0 +1,12 @@
+//! What is asked for.
+
+/// An object to serve, and how.
+#[derive(Clone, Copy, Debug)]
+pub struct Asked<'a> {
+    /// The port of TCP, on 127.0.0.1.
+    pub port: u16,
+    /// The object's key, an equals sign, and the name of its interface.
+    pub object: &'a str,
+    /// So many connections are served, one after the other.
+    pub connections: u32,
+}

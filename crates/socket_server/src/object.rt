@@ -1,0 +1,60 @@
+//! The object that is served.
+
+ghost use Rattle.std.specs.Prelude.{◌≡◌, ◌∷◌, [], IfOk, IfErr};
+ghost use Rattle.broker_answers.specs.Objects.{objects_of};
+ghost use Rattle.socket_server.specs.Objects.{IsBrokerOf, IsObjectFault, IsObjectOf};
+
+use crate::fault::ServeFault;
+use attribute_keeper::Keeper;
+use giop::Giop;
+use iiop_broker::Broker;
+use position_checker::Accepted;
+use reference_commands::{interface_place, object_in};
+use std::alloc::{AllocError, Global};
+
+/// The key of the object, and the place of its interface. The table of a file has fewer than
+/// 4,294,967,296 interfaces; one that has more is refused for want of memory.
+fn object_of<'a>(table: &Accepted, word: &'a str) -> Result<(&'a str, u32), ServeFault<'a>>
+    ensures is { IfOk result (λ object. IsObjectOf table.now.model word.now (object.0.now, object.1)) }
+    ensures refused { IfErr result (IsObjectFault table.now.model word.now) }
+{
+    let Some((key, name)) = object_in(word) else {
+        return Err(ServeFault::BadObject);
+    };
+    let Some(place) = interface_place(table.table().model().interfaces(), name) else {
+        return Err(ServeFault::NoInterface { name });
+    };
+    match u32::try_from(place) {
+        Ok(place) => Ok((key, place)),
+        Err(_) => Err(ServeFault::NoMemory),
+    }
+}
+
+/// The objects of which there is just this one.
+fn lone_object(alloc: Global, key: &str, place: u32) -> Result<Vec<(Vec<u8>, u32)>, AllocError>
+    ensures { IfOk result (λ objects. objects_of objects.items ≡ (key.now, place) ∷ []) }
+{
+    let key = Vec::from_slice(alloc, key.as_bytes())?;
+    let mut objects = Vec::new(alloc);
+    objects.push((key, place))?;
+    Ok(objects)
+}
+
+/// A broker of the object that a word names, and of a keeper of its attributes.
+pub(crate) fn broker_of<'a>(
+    alloc: Global,
+    table: Accepted,
+    word: &'a str,
+) -> Result<Broker<Keeper>, ServeFault<'a>>
+    ensures made { IfOk result (IsBrokerOf table.model word.now) }
+    ensures refused { IfErr result (IsObjectFault table.model word.now) }
+{
+    let (key, place) = match object_of(&table, word) {
+        Ok(object) => object,
+        Err(fault) => return Err(fault),
+    };
+    let objects = lone_object(alloc, key, place)?;
+    let giop = Giop::new(alloc)?;
+    let keeper = Keeper::new(alloc, &table, objects.as_slice())?;
+    Ok(Broker::new(alloc, giop, table, objects, keeper))
+}

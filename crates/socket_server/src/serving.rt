@@ -1,0 +1,95 @@
+//! An object served.
+
+ghost use Rattle.std.specs.Prelude.{◌≡◌, IfErr, OnOk};
+ghost use Rattle.std.specs.Io.KnownBytes.{Appends};
+ghost use Rattle.socket_server.specs.Lines.{serving};
+ghost use Rattle.socket_server.specs.Serving.{HasObject, IsDone, IsFaultOf, IsLineOrNothing, IsOfObject, IsUnprinted};
+
+use crate::announcing::serving_line;
+use crate::asked::Asked;
+use crate::connections::serve_connections;
+use crate::fault::ServeFault;
+use crate::listener::Listener;
+use crate::loopback::Loopback;
+use crate::object::broker_of;
+use position_checker::Accepted;
+use std::alloc::Global;
+use std::io::Write;
+use std::net::Net;
+
+/// Listens, and says so.
+fn announce<'a, L: Listener, W: Write>(
+    alloc: Global,
+    listener: &mut L,
+    out: &mut W,
+    port: u16,
+) -> Result<(), ServeFault<'a>>
+    ensures came { L.came listener.new ≡ L.came listener.old }
+    ensures printed { OnOk result (Appends (W.contents out.old) (W.contents out.new) (serving port)) }
+    ensures unprinted { IfErr result (IsUnprinted (W.contents out.old) (W.contents out.new)) }
+{
+    let line = serving_line(alloc, port)?;
+    if listener.listen(port).is_err() {
+        return Err(ServeFault::Socket);
+    }
+    if out.write_all(line.as_bytes()).is_err() || out.flush().is_err() {
+        return Err(ServeFault::Unwritten);
+    }
+    Ok(())
+}
+
+/// Serves an object of a table's interface to connections that a listener has come, one after the
+/// other, and prints `serving` and the port once it listens. The object's attributes last from one
+/// connection to the next. A connection that breaks off counts as one that ends well.
+///
+/// # Errors
+/// `BadObject` and `NoInterface` before anything is listened on. `Socket` where the port can't be
+/// listened on or a connection can't be accepted, `Unwritten` where the line can't be printed.
+/// Want of memory.
+pub fn serve_at<'a, L: Listener, W: Write>(
+    alloc: Global,
+    listener: &mut L,
+    out: &mut W,
+    table: Accepted,
+    asked: &Asked<'a>,
+) -> Result<(), ServeFault<'a>>
+    ensures done { OnOk result (IsDone table.model asked.now.object.now asked.now.connections (L.came listener.old) (L.came listener.new)) }
+    ensures printed { OnOk result (Appends (W.contents out.old) (W.contents out.new) (serving asked.now.port)) }
+    ensures refused { IfErr result (IsFaultOf table.model asked.now.object.now) }
+    ensures printing { IfErr result (IsLineOrNothing asked.now.port (W.contents out.old) (W.contents out.new)) }
+    ensures silent { IfErr result (λ fault. IsOfObject fault → out.new ≡ out.old) }
+    ensures deaf { IfErr result (λ fault. IsOfObject fault → listener.new ≡ listener.old) }
+{
+    let mut broker = match broker_of(alloc, table, asked.object) {
+        Ok(broker) => broker,
+        Err(fault) => return Err(fault),
+    };
+    match announce(alloc, listener, out, asked.port) {
+        Ok(()) => {}
+        Err(fault) => return Err(fault),
+    }
+    match serve_connections(&mut broker, listener, asked.connections) {
+        Ok(()) => Ok(()),
+        Err(interruption) => Err(ServeFault::from(interruption)),
+    }
+}
+
+/// The same on TCP, to connections to 127.0.0.1.
+///
+/// # Errors
+/// As `serve_at`.
+pub fn serve<'a, R: Net + AllocGlobal, W: Write>(
+    rt: &R,
+    out: &mut W,
+    table: Accepted,
+    asked: &Asked<'a>,
+) -> Result<(), ServeFault<'a>>
+    ensures printed { OnOk result (Appends (W.contents out.old) (W.contents out.new) (serving asked.now.port)) }
+    ensures named { OnOk result (HasObject table.model asked.now.object.now) }
+    ensures refused { IfErr result (IsFaultOf table.model asked.now.object.now) }
+    ensures printing { IfErr result (IsLineOrNothing asked.now.port (W.contents out.old) (W.contents out.new)) }
+    ensures silent { IfErr result (λ fault. IsOfObject fault → out.new ≡ out.old) }
+{
+    let mut loopback = Loopback::new(rt);
+    serve_at(rt.alloc(), &mut loopback, out, table, asked)
+}
