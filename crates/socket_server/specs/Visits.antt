@@ -1,14 +1,18 @@
 -- Connections served one after the other.
-use Rattle.std.specs.Prelude.{◌≡◌, ℕ, ◌<◌, List, [], ◌∷◌, ◌++◌, length, Result, Ok, Err}
+use Rattle.std.specs.Prelude.{◌≡◌, ℕ, ◌<◌, List, [], ◌∷◌, ◌++◌, length, Result, Ok, Err, None, false}
 use Rattle.broker_talk.specs.Talk.{world}
 use Rattle.broker_answers.specs.Servants.{Acting}
 use Rattle.broker_answers.specs.Objects.{Served}
-use Rattle.iiop_streams.specs.Outcomes.{Ends}
+use Rattle.iiop_streams.specs.Outcomes.{Ends, ends}
 use Rattle.iiop_streams.specs.Serving.{IsServed}
 use Rattle.iiop_streams.specs.declared.fault.StreamFault.{StreamFault}
 use Rattle.iiop_streams.specs.declared.fault.StreamFault.TheVariants as faults
 use Rattle.socket_server.specs.declared.connections.Interruption.{Interruption}
 use Rattle.socket_server.specs.declared.connections.Interruption.TheVariants.{Unaccepted, NoMemory}
+
+-- a connection that tells nothing
+abbrev pub untold : Ends
+untold = ends None None false false
 
 -- only want of memory at a stream interrupts
 abbrev pub interruption_of : Result (Unit {0}) StreamFault → Result (Unit {0}) Interruption

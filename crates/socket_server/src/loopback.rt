@@ -1,7 +1,7 @@
 //! Sockets of this machine alone.
 
-ghost use Rattle.std.specs.Prelude.{◌≡◌, None, false, replicate, IfOk};
-ghost use Rattle.iiop_streams.specs.Outcomes.{ends};
+ghost use Rattle.std.specs.Prelude.{◌≡◌, false, replicate, IfOk};
+ghost use Rattle.socket_server.specs.Visits.{untold};
 
 use crate::listener::Listener;
 use iiop_streams::{Failed, Wire};
@@ -45,7 +45,7 @@ impl<'r, R: Net> Listener for Loopback<'r, R> {
 
     type Writer = Wire<R::Stream>;
 
-    ghost came = { λ loopback. replicate loopback.count (ends None None false false) };
+    ghost came = { λ loopback. replicate loopback.count untold };
 
     fn listen(&mut self, port: u16) -> Result<(), Failed> {
         match TcpListener::bind(self.net, ("127.0.0.1", port)) {

@@ -1,9 +1,10 @@
 //! An object served.
 
-ghost use Rattle.std.specs.Prelude.{◌≡◌, IfErr, OnOk};
+ghost use Rattle.std.specs.Prelude.{◌≡◌, [], replicate, IfErr, OnOk};
 ghost use Rattle.std.specs.Io.KnownBytes.{Appends};
 ghost use Rattle.socket_server.specs.Lines.{serving};
-ghost use Rattle.socket_server.specs.Serving.{HasObject, IsDone, IsFaultOf, IsLineOrNothing, IsOfObject, IsUnprinted};
+ghost use Rattle.socket_server.specs.Serving.{IsDone, IsFaultOf, IsLineOrNothing, IsOfObject, IsUnprinted};
+ghost use Rattle.socket_server.specs.Visits.{untold};
 
 use crate::announcing::serving_line;
 use crate::asked::Asked;
@@ -74,7 +75,7 @@ pub fn serve_at<'a, L: Listener, W: Write>(
     }
 }
 
-/// The same on TCP, to connections to 127.0.0.1.
+/// The same on TCP, to connections to 127.0.0.1, which tell nothing of what they carry.
 ///
 /// # Errors
 /// As `serve_at`.
@@ -84,8 +85,8 @@ pub fn serve<'a, R: Net + AllocGlobal, W: Write>(
     table: Accepted,
     asked: &Asked<'a>,
 ) -> Result<(), ServeFault<'a>>
+    ensures done { OnOk result (IsDone table.model asked.now.object.now asked.now.connections [] (replicate asked.now.connections untold)) }
     ensures printed { OnOk result (Appends (W.contents out.old) (W.contents out.new) (serving asked.now.port)) }
-    ensures named { OnOk result (HasObject table.model asked.now.object.now) }
     ensures refused { IfErr result (IsFaultOf table.model asked.now.object.now) }
     ensures printing { IfErr result (IsLineOrNothing asked.now.port (W.contents out.old) (W.contents out.new)) }
     ensures silent { IfErr result (λ fault. IsOfObject fault → out.new ≡ out.old) }
