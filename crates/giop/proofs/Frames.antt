@@ -110,9 +110,9 @@ pub silent : (run : Option (List ℕ)) (octets lent : List ℕ) (frame : Frame) 
     → is_fragment frame.head.kind ≡ false → frame.head.goes_on ≡ false → lent ≡ take frame.len octets
     → ((content : Content) → Says lent content → ⊥) → IsSilent run octets
 silent run octets lent frame f e g l none = record {
-  message = take frame.len octets;
+  taken = frame.len;
+  within = f.within;
   run_behind = run_behind run frame.head (take frame.len octets);
-  rest = drop frame.len octets;
   front_is = whole_is run octets frame f e g;
   says_nothing = subst (λ (m : List ℕ). (content : Content) → Says m content → ⊥) l none;
 }

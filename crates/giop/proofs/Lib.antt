@@ -1,2 +1,3 @@
+pub mod EmptyTapes
 pub mod Frames
 pub mod RoundTrips

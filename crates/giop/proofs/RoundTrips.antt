@@ -1,5 +1,5 @@
 -- What is read of the messages that are written.
-use Rattle.std.proofs.Common.{◌≡◌, ℕ, ◌+◌, ◌^◌, ◌<◌, ◌≤◌, Bool, false, List, [], ◌∷◌, ◌++◌, length, length-append, drop, replicate, Option, Some, None, Result, Ok, Err, nat_lt, if◌then◌else◌, mod-eq_of_lt, refl, sym, ap, ap₂, ◌∙◌, append_assoc, subst, arith}
+use Rattle.std.proofs.Common.{◌≡◌, ℕ, ◌+◌, ◌^◌, ◌<◌, ◌≤◌, Bool, false, List, [], ◌∷◌, ◌++◌, length, length-append, drop, replicate, Option, Some, None, Result, Ok, Err, nat_lt, if◌then◌else◌, mod-eq_of_lt, refl, sym, ap, ap₂, ◌∙◌, append_assoc, subst, subst₂, arith}
 use Rattle.std.proofs.lemmas.Bool.Decides.{nat_tests}
 use Rattle.std.proofs.lemmas.List.{drop_all, length-replicate}
 use Rattle.std.proofs.Math.Seq.{drop-append_seam}
@@ -22,9 +22,10 @@ use Rattle.object_references.proofs.Encapsulated.{held_read}
 use Rattle.giop_messages.specs.declared.message.ReplyStatus.{ReplyStatus}
 use Rattle.giop_messages.specs.Headers.{ByKey, key_target, number_of, reply_tree, request_tree}
 use Rattle.giop_messages.specs.Messages.{HasHeader, body_after}
-use Rattle.giop_messages.specs.Written.{Given, IsBody, IsWritten, body_gap, head_octets}
+use Rattle.giop_messages.specs.Written.{Given, IsBody, IsGiven, IsWritten, body_gap, head_octets}
 use Rattle.giop_writing.proofs.MadeFacts.{length-head_octets, length_made}
-use Rattle.giop.specs.RoundTrips.{HoldsBody, SaysReply, SaysRequest}
+use Rattle.giop.specs.RoundTrips.{HoldsBody, HoldsTape, IsEmpty, SaysReply, SaysRequest}
+use Rattle.giop.proofs.EmptyTapes.{none_meant}
 
 -- ---- the head
 
@@ -85,14 +86,30 @@ header_read order kind size node value octets header behind e h = record {
 
 -- ---- the body
 
-body_read : (order : Order) (kind size : ℕ) (body : Option Given) (octets header behind : List ℕ)
-    → octets ≡ head_octets order kind size ++ (header ++ behind) → IsBody order body (12 + length header) behind
-    → HoldsBody order body (body_after (12 + length header)) (drop (body_after (12 + length header)) octets)
-body_read order kind size None octets header behind e is =
+nothing_behind : (order : Order) (body : Option Given) (stop : ℕ) (behind : List ℕ) → IsBody order body stop behind
+    → IsEmpty body → behind ≡ []
+nothing_behind order None stop behind is e = is
+nothing_behind order (Some given) stop behind is e =
+    let M : List ℕ → Type 0 = λ tape. Means given.graph (writing order) 64 given.node (body_after stop) tape is.body in
+    is.octets_are
+    ∙ ap₂ (λ (gap l : List ℕ). gap ++ l) (ap (body_gap stop) e)
+    (none_meant given.graph (writing order) 64 given.node (body_after stop) is.body (subst M e is.is))
+
+none_read : (order : Order) (kind size : ℕ) (octets header behind : List ℕ)
+    → octets ≡ head_octets order kind size ++ (header ++ behind) → behind ≡ []
+    → drop (body_after (12 + length header)) octets ≡ []
+none_read order kind size octets header behind e none =
     let long : length octets ≡ 12 + length (header ++ behind) = length_made order kind size octets (header ++ behind) e in
     drop_all (body_after (12 + length header)) octets
-    (omega (arith, long, length-append header behind, ap length is))
-body_read order kind size (Some given) octets header behind e is = λ octet more t.
+    (omega (arith, long, length-append header behind, ap length none))
+
+tape_read : (order : Order) (kind size : ℕ) (given : Given) (tape octets header behind : List ℕ)
+    → octets ≡ head_octets order kind size ++ (header ++ behind) → IsGiven order given (12 + length header) behind
+    → given.tape ≡ tape
+    → HoldsTape order given tape (body_after (12 + length header)) (drop (body_after (12 + length header)) octets)
+tape_read order kind size given [] octets header behind e is t =
+    none_read order kind size octets header behind e (nothing_behind order (Some given) (12 + length header) behind is t)
+tape_read order kind size given (octet ∷ more) octets header behind e is t =
     let gap = replicate (pad (12 + length header) 8) 0 in
     let front = head_octets order kind size ++ (header ++ gap) in
     let gaps : body_gap (12 + length header) given.tape ≡ gap = ap (body_gap (12 + length header)) t in
@@ -109,9 +126,16 @@ body_read order kind size (Some given) octets header behind e is = λ octet more
     ) in
     let there : drop (body_after (12 + length header)) octets ≡ is.body =
     ap₂ (λ (n : ℕ) (l : List ℕ). drop n l) (sym long) cut ∙ drop-append_seam front is.body in
-    let M : List ℕ → Type 0 = Means given.graph (reading order) 64 given.node (body_after (12 + length header)) given.tape in
-    subst M (sym there)
+    let M : List ℕ → List ℕ → Type 0 = Means given.graph (reading order) 64 given.node (body_after (12 + length header)) in
+    subst₂ M t (sym there)
     (written_is_read given.graph order 64 given.node (body_after (12 + length header)) given.tape is.body is.is)
+
+body_read : (order : Order) (kind size : ℕ) (body : Option Given) (octets header behind : List ℕ)
+    → octets ≡ head_octets order kind size ++ (header ++ behind) → IsBody order body (12 + length header) behind
+    → HoldsBody order body (body_after (12 + length header)) (drop (body_after (12 + length header)) octets)
+body_read order kind size None octets header behind e is = none_read order kind size octets header behind e is
+body_read order kind size (Some given) octets header behind e is =
+    tape_read order kind size given given.tape octets header behind e is refl
 
 -- ---- messages
 
@@ -120,6 +144,12 @@ whole_written : (order : Order) (kind node : ℕ) (value : Tree) (body : Option 
 whole_written order kind node value body octets w =
     length_made order kind (length w.header + length w.behind) octets (w.header ++ w.behind) w.octets_are
     ∙ ap (λ n. 12 + n) (length-append w.header w.behind)
+
+stops_written : (order : Order) (kind node : ℕ) (value : Tree) (body : Option Given) (octets : List ℕ)
+    (w : IsWritten order kind node value body octets) → IsEmpty body → length octets ≡ 12 + length w.header
+stops_written order kind node value body octets w e =
+    whole_written order kind node value body octets w
+    ∙ omega (arith, ap length (nothing_behind order body (12 + length w.header) w.behind w.body_is e))
 
 pub request_said : (order : Order) (id flags : ℕ) (key operation : List ℕ) (body : Option Given) (octets : List ℕ)
     → length octets ≤ 12 + max_size
@@ -160,6 +190,7 @@ request_said order id flags key operation body octets small w =
       operation_is = refl;
       order_is = refl;
       body_is = body_read order 0 size body octets w.header w.behind w.octets_are w.body_is;
+      stops = stops_written order 0 17 (request_tree id flags (octet_trees (0 ∷ 0 ∷ 0 ∷ [])) (key_target key) operation NoTree) body octets w;
     }
 
 pub reply_said : (order : Order) (id : ℕ) (status : ReplyStatus) (body : Option Given) (octets : List ℕ)
@@ -193,4 +224,5 @@ reply_said order id status body octets small w =
       status_is = refl;
       order_is = refl;
       body_is = body_read order 1 size body octets w.header w.behind w.octets_are w.body_is;
+      stops = stops_written order 1 19 (reply_tree id (number_of status) NoTree) body octets w;
     }

@@ -52,13 +52,14 @@ pub record IsBroken (run : Option (List ℕ)) (octets : List ℕ) (fault : GiopF
   pub fault_is : fault ≡ framing_as broken
   pub front_is : front run octets ≡ Broken broken
 
--- a message stands there that says nothing
+-- A whole message of the stream's own octets stands there that says nothing. One that a last piece completes is none of
+-- these: the piece is told.
 pub record IsSilent (run : Option (List ℕ)) (octets : List ℕ) : Type 0 where
-  pub message : List ℕ
+  pub taken : ℕ
+  pub within : taken ≤ length octets
   pub run_behind : Option (List ℕ)
-  pub rest : List ℕ
-  pub front_is : front run octets ≡ Whole message run_behind rest
-  pub says_nothing : (content : Content) → Says message content → ⊥
+  pub front_is : front run octets ≡ Whole (take taken octets) run_behind (drop taken octets)
+  pub says_nothing : (content : Content) → Says (take taken octets) content → ⊥
 
 -- Want of memory; a message that says nothing is refused for its header; else a rule of framing is broken.
 abbrev pub IsRefused : Option (List ℕ) → List ℕ → GiopFault → Type 0

@@ -78,6 +78,18 @@ no_type = refl
 reply_in_fragments : front None (71 ∷ 73 ∷ 79 ∷ 80 ∷ 1 ∷ 2 ∷ 2 ∷ 1 ∷ 0 ∷ 0 ∷ 0 ∷ 4 ∷ []) ≡ Broken BadHead
 reply_in_fragments = refl
 
+-- a head of version 1.1 between two requests
+old_head : List ℕ
+old_head = 71 ∷ 73 ∷ 79 ∷ 80 ∷ 1 ∷ 1 ∷ 0 ∷ 0 ∷ 0 ∷ 0 ∷ 0 ∷ 0 ∷ []
+
+before_it : front None (ping ++ (old_head ++ ping)) ≡ Whole ping None (old_head ++ ping)
+unfolding ping old_head
+before_it = refl
+
+old_version : front None (old_head ++ ping) ≡ Broken Version
+unfolding ping old_head
+old_version = refl
+
 -- the other bits of the flags say nothing
 all_other_flags : front None (71 ∷ 73 ∷ 79 ∷ 80 ∷ 1 ∷ 2 ∷ 252 ∷ 5 ∷ 0 ∷ 0 ∷ 0 ∷ 0 ∷ []) ≡ Whole
     (71 ∷ 73 ∷ 79 ∷ 80 ∷ 1 ∷ 2 ∷ 252 ∷ 5 ∷ 0 ∷ 0 ∷ 0 ∷ 0 ∷ []) None []
