@@ -1,4 +1,4 @@
-pub mod ZeroSearch
+pub mod Chunks
 pub mod Turning
 pub mod Calls
 pub mod Agreement

@@ -6,7 +6,7 @@ ghost use Rattle.type_graph.specs.declared.width.Width.TheVariants.{Four};
 ghost use Rattle.program_runner.specs.Steps.{Gives, has_no_bool, judged_bools, number_at, is_over, read_length, tape_length, no_zero, terminated, unterminated};
 
 use crate::fault::RunFault;
-use memchr::memchr;
+use crate::lanes::{NoBoolean, Zero, has};
 use type_graph::Order;
 
 /// The unsigned long at the front (ISO/IEC 19500-2, CDR, integer data types).
@@ -27,7 +27,7 @@ pub fn number_at_front(order: Order, octets: &[u8]) -> Result<u32, RunFault>
 fn has_no_bool(octets: &[u8]) -> bool
     ensures { result ≡ has_no_bool octets.now }
 {
-    octets.iter().any(|octet| *octet > 1)
+    has::<NoBoolean>(octets)
 }
 
 /// Refuses so many octets at the front unless they are there and each is 0 or 1.
@@ -79,7 +79,7 @@ pub fn length_on_tape(bound: u32, said: u32) -> Result<u32, RunFault>
 fn has_zero(text: &[u8]) -> bool
     ensures { result ≡ list_any (λ octet. octet == 0) text.now }
 {
-    memchr(0, text).is_some()
+    has::<Zero>(text)
 }
 
 fn without_zero(text: &[u8]) -> Result<&[u8], RunFault>
