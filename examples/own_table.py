@@ -74,7 +74,7 @@ ROUTINES = (line, extent_at_4, item, item_at_0, items, drawing)
 DECEPTIONS = {
     # without its gap, a line that starts at 1 would be written where no reader looks for it
     "no-gap": (0, replace(line, code=(Words(4, 5),))),
-    # the gap to 8 is the right one at 1 and at 0, and at 4 it is 4 octets too long
+    # the gap to 8 is the right one at 0 and from 5 to 7, and from 1 to 4 it is 4 octets too long
     "other-gap": (0, replace(line, code=(Align(8), Words(4, 5)))),
     # four words are no line of five
     "short-run": (0, replace(line, code=(Align(4), Words(4, 4)))),
