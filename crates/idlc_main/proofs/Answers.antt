@@ -1,21 +1,23 @@
 -- What a task answers is what was asked for.
-use Rattle.std.proofs.Common.{◌≡◌, refl, ℕ, subst, Some, Result, Err, String}
+use Rattle.std.proofs.Common.{◌≡◌, refl, ℕ, subst, List, Option, Some, Result, Ok, Err, IfOk, IfErr, MatchResult, string_bytes}
+use Rattle.std.specs.Io.KnownBytes.{Appends}
 use Rattle.idlc_main.specs.declared.fault.Fault.{Fault}
-use Rattle.idlc_main.specs.declared.fault.Fault.TheVariants.{NoMemory}
-use Rattle.idlc_main.specs.declared.words.Asked.{Asked}
-use Rattle.idlc_main.specs.declared.words.AskedReference.{AskedReference}
-use Rattle.idlc_main.specs.declared.words.Task.{Task}
-use Rattle.idlc_main.specs.declared.words.Task.TheVariants as tasks
-use Rattle.idlc_main.specs.Ask.{Ask, Value, Reference, Explanation, ask_of, reference_ask_of, value_ask_of}
-use Rattle.idlc_main.specs.Answer.{IsAnswer}
+use Rattle.idlc_main.specs.declared.fault.Fault.TheVariants.{Unwritten, NoMemory}
+use Rattle.command_words.specs.declared.task.Asked.{Asked}
+use Rattle.command_words.specs.declared.task.AskedReference.{AskedReference}
+use Rattle.command_words.specs.declared.task.Task.{Task}
+use Rattle.command_words.specs.declared.task.Task.TheVariants as tasks
+use Rattle.command_words.specs.Ask.{Ask, Value, Reference, Explanation, ask_of, reference_ask_of, value_ask_of}
+use Rattle.idlc_main.specs.Answer.{IsAnswer, IsPrinted, IsToldOf}
+use Rattle.idlc_main.specs.declared.told.Answer.{Answer}
 
 -- want of memory answers whatever is asked for
-pub no_memory : {A : Type 0} (ask : Ask) (fault : Fault) → fault ≡ NoMemory → IsAnswer {A = A} ask (Err fault)
+pub no_memory : (ask : Ask) (fault : Fault) → fault ≡ NoMemory → IsAnswer ask (Err fault)
 no_memory (Value ask) fault is = record { line = tt; fault = rw is tt }
 no_memory (Reference ask) fault is = record { line = tt; fault = rw is tt }
 no_memory (Explanation number) fault is = record { line = tt; fault = rw is tt }
 
-module _ {A : Type 0} (ask : Ask) (result : Result (String A) Fault) where
+module _ (ask : Ask) (result : Result Answer Fault) where
   of_same : (other : Ask) → Some other ≡ Some ask → IsAnswer other result → IsAnswer ask result
   of_same other same is = let one : other ≡ ask = cc in subst (λ (a : Ask). IsAnswer a result) one is
 
@@ -29,3 +31,11 @@ module _ {A : Type 0} (ask : Ask) (result : Result (String A) Fault) where
   answers (tasks.Check table) is value reference explanation = absurd cc
   answers (tasks.Show table) is value reference explanation = absurd cc
   answers (tasks.Upgrade table output) is value reference explanation = absurd cc
+  answers (tasks.Compile source output) is value reference explanation = absurd cc
+
+-- the text of an answer that was put on standard output, or couldn't be
+pub printed : {T : Type 0} (ask : Ask) (answer : Answer) (old new : Option (List ℕ)) (result : Result T Fault) → IsAnswer ask (Ok answer)
+    → IfOk result (λ _. Appends old new (string_bytes answer.text)) → IfErr result (λ fault. fault ≡ Unwritten)
+    → MatchResult result (λ _. IsPrinted ask old new) (IsToldOf ask)
+printed ask answer old new (Ok done) is said unwritten = record { line = string_bytes answer.text; printed = said; is_line = is.line }
+printed ask answer old new (Err fault) is said unwritten = rw unwritten tt

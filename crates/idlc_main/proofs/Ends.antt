@@ -1,19 +1,20 @@
 -- How a run ends on a fault.
 use Rattle.std.proofs.Common.{◌≡◌, refl, ℕ, ◌≤◌, List, Option, arith}
 use Rattle.idlc_main.specs.declared.fault.Fault.{Fault}
-use Rattle.idlc_main.specs.declared.fault.Fault.TheVariants.{Usage, BadOrder, NotText, NoWord, Unread, Refused, NoReference, NoRefusal, Unmade, Unwritten, NoMemory}
+use Rattle.idlc_main.specs.declared.fault.Fault.TheVariants.{Words, NotText, Unread, Refused, NoReference, NotCompiled, NotServed, Socket, NoRefusal, Unmade, Unwritten, NoMemory}
 use Rattle.idlc_main.specs.Fault.{status_of}
-use Rattle.idlc_main.specs.Ask.{Ask, Explanation, Reference, ReferenceAsk, Value, ValueAsk}
+use Rattle.command_words.specs.Ask.{Ask, Explanation, Reference, ReferenceAsk, Value, ValueAsk}
 use Rattle.idlc_main.specs.Answer.{IsEndOf, IsExplanationFault, IsFaultOf, IsReferenceFault, IsStrange, IsToldOf, IsValueFault}
 
 -- a fault that answers may be told
 pub told_of : (ask : Ask) (fault : Fault) → IsFaultOf ask fault → IsToldOf ask fault
-told_of ask (Usage error) is = is
-told_of ask (BadOrder error) is = is
+told_of ask (Words mistake) is = is
 told_of ask NotText is = is
-told_of ask NoWord is = is
 told_of ask (Refused refusal) is = is
 told_of ask (NoReference refusal) is = is
+told_of ask (NotCompiled refusal) is = is
+told_of ask (NotServed fault) is = is
+told_of ask Socket is = is
 told_of ask (NoRefusal number) is = is
 told_of ask (Unmade file) is = is
 told_of ask (Unread file) is = is
@@ -59,12 +60,13 @@ module _ (ask : Ask) (old new : Option (List ℕ)) where
   }
 
   pub ends : (fault : Fault) (status : ℕ) → status ≡ status_of fault → IsToldOf ask fault → IsEndOf ask status old new
-  ends (Usage error) status is told = absurd (never ask (Usage error) (λ _ h. h) (λ _ h. h) (λ _ h. h) told)
-  ends (BadOrder error) status is told = absurd (never ask (BadOrder error) (λ _ h. h) (λ _ h. h) (λ _ h. h) told)
+  ends (Words mistake) status is told = absurd (never ask (Words mistake) (λ _ h. h) (λ _ h. h) (λ _ h. h) told)
   ends NotText status is told = absurd (never ask NotText (λ _ h. h) (λ _ h. h) (λ _ h. h) told)
-  ends NoWord status is told = absurd (never ask NoWord (λ _ h. h) (λ _ h. h) (λ _ h. h) told)
   ends (Refused refusal) status is told = ends_refused (Refused refusal) status is refl told
   ends (NoReference refusal) status is told = ends_refused (NoReference refusal) status is refl told
+  ends (NotCompiled refusal) status is told = absurd (never ask (NotCompiled refusal) (λ _ h. h) (λ _ h. h) (λ _ h. h) told)
+  ends (NotServed fault) status is told = absurd (never ask (NotServed fault) (λ _ h. h) (λ _ h. h) (λ _ h. h) told)
+  ends Socket status is told = absurd (never ask Socket (λ _ h. h) (λ _ h. h) (λ _ h. h) told)
   ends (NoRefusal number) status is told = ends_strange status is (strange ask number told)
   ends (Unmade file) status is told = absurd (never ask (Unmade file) (λ _ h. h) (λ _ h. h) (λ _ h. h) told)
   ends (Unread file) status is told = ends_else status (omega arith)

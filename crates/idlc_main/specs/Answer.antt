@@ -1,13 +1,14 @@
 -- What a run answers, by what it is asked for.
-use Rattle.std.specs.Prelude.{◌≡◌, ◌≢◌, ◌⊎◌, ℕ, List, Option, Some, Result, String, true, false, codes, IfOk, IfErr}
+use Rattle.std.specs.Prelude.{◌≡◌, ◌≢◌, ◌⊎◌, ℕ, List, Option, Some, Result, true, false, codes, IfOk, IfErr}
 use Rattle.std.specs.String.{string_bytes}
-use Rattle.std.specs.Io.KnownBytes.{Appends}
+use Rattle.std.specs.Io.KnownBytes.{Appends, Keeps}
 use Rattle.table_file.specs.Table.{TableParts}
 use Rattle.position_checker.specs.Acceptance.{IsRight}
 use Rattle.fault_texts.specs.Headings.{first_line, heading, is_refusal}
 use Rattle.reference_commands.specs.Lines.{IsLine as IsLineWith}
 use Rattle.reference_commands.specs.Refusal.{IsRefusalOf as IsRefusalWith}
 use Rattle.reference_commands.specs.declared.refusal.Refusal.{Refusal as ReferenceRefusal}
+use Rattle.socket_server.specs.Lines.{serving}
 use Rattle.table_commands.specs.Sample.{sample_table}
 use Rattle.table_commands.specs.Answer.{IsLine as IsLineOf, IsRefusalOf}
 use Rattle.table_commands.specs.declared.refusal.Refusal.{Refusal}
@@ -15,7 +16,8 @@ use Rattle.table_commands.specs.declared.refusal.Refusal.TheVariants.{NoTable, N
 use Rattle.idlc_main.specs.declared.fault.Fault.{Fault}
 use Rattle.idlc_main.specs.declared.fault.Fault.TheVariants.{Unread, Refused, NoReference, NoRefusal, Unwritten, NoMemory}
 use Rattle.idlc_main.specs.Fault.{status_of}
-use Rattle.idlc_main.specs.Ask.{Ask, Explanation, Reference, ReferenceAsk, Value, ValueAsk}
+use Rattle.command_words.specs.Ask.{Ask, Explanation, Reference, ReferenceAsk, Value, ValueAsk}
+use Rattle.idlc_main.specs.declared.told.Answer.{Answer}
 
 -- a table that is right, and the sample where that was asked for
 pub record IsTableOf (name : List ℕ) (table : TableParts) : Type 0 where
@@ -92,8 +94,8 @@ IsFaultOf (Value ask) fault = IsValueFault ask fault
 IsFaultOf (Reference ask) fault = IsReferenceFault ask fault
 IsFaultOf (Explanation number) fault = IsExplanationFault number fault
 
-pub record IsAnswer {A : Type 0} (ask : Ask) (result : Result (String A) Fault) : Type 0 where
-  pub line : IfOk result (λ line. IsLine ask (string_bytes line))
+pub record IsAnswer (ask : Ask) (result : Result Answer Fault) : Type 0 where
+  pub line : IfOk result (λ answer. IsLine ask (string_bytes answer.text))
   pub fault : IfErr result (IsFaultOf ask)
 
 -- standard output, which held `old` and holds `new`, got the line that answers
@@ -123,3 +125,8 @@ pub record IsEndOf (ask : Ask) (status : ℕ) (old new : Option (List ℕ)) : Ty
   pub done : status ≡ 0 → IsPrinted ask old new
   pub refused : status ≡ 1 → IsRefusedAsk ask
   pub understood : status ≡ 2 → IsStrange ask
+
+-- standard output, which held `old` and holds `new`, got nothing, or the line that calls are served
+pub record MayServe (old new : Option (List ℕ)) : Type 0 where
+  pub port : ℕ
+  pub printed : Appends old new (serving port) ⊎ Keeps old new

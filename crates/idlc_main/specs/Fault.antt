@@ -1,21 +1,29 @@
 -- The status with which the program ends on a fault.
 use Rattle.std.specs.Prelude.{ℕ}
+use Rattle.command_words.specs.declared.mistake.Mistake.{Mistake}
+use Rattle.command_words.specs.declared.mistake.Mistake.TheVariants as mistakes
+use Rattle.command_words.specs.Mistake.{IsOfWords as IsWrong}
+use Rattle.compile_command.specs.declared.refusal.Refusal.{Refusal as CompileRefusal}
+use Rattle.compile_command.specs.declared.refusal.Refusal.TheVariants as compile_refusals
 use Rattle.table_commands.specs.declared.refusal.Refusal.{Refusal}
 use Rattle.table_commands.specs.declared.refusal.Refusal.TheVariants as refusals
 use Rattle.reference_commands.specs.declared.refusal.Refusal.{Refusal as ReferenceRefusal}
 use Rattle.reference_commands.specs.declared.refusal.Refusal.TheVariants as reference_refusals
+use Rattle.socket_server.specs.declared.fault.ServeFault.{ServeFault}
+use Rattle.socket_server.specs.declared.fault.ServeFault.TheVariants as serve_faults
 use Rattle.idlc_main.specs.declared.fault.Fault.{Fault}
-use Rattle.idlc_main.specs.declared.fault.Fault.TheVariants.{Usage, BadOrder, NotText, NoWord, Unread, Refused, NoReference, NoRefusal, Unmade, Unwritten, NoMemory}
+use Rattle.idlc_main.specs.declared.fault.Fault.TheVariants.{Words, NotText, Unread, Refused, NoReference, NotCompiled, NotServed, Socket, NoRefusal, Unmade, Unwritten, NoMemory}
 
--- 1 for refused input, 2 for usage, 3 for files and standard output, 4 for want of memory
+-- 1 for refused input, 2 for usage, 3 for files, sockets and standard output, 4 for want of memory
 abbrev pub status_of : Fault → ℕ
-status_of (Usage error) = 2
-status_of (BadOrder error) = 2
+status_of (Words mistake) = 2
 status_of NotText = 2
-status_of NoWord = 2
 status_of (Unread file) = 3
 status_of (Refused refusal) = 1
 status_of (NoReference refusal) = 1
+status_of (NotCompiled refusal) = 1
+status_of (NotServed fault) = 1
+status_of Socket = 3
 status_of (NoRefusal number) = 2
 status_of (Unmade file) = 3
 status_of Unwritten = 3
@@ -30,10 +38,23 @@ abbrev pub fault_of_reference : ReferenceRefusal → Fault
 fault_of_reference reference_refusals.NoMemory = NoMemory
 fault_of_reference refusal = NoReference refusal
 
+abbrev pub fault_of_source : CompileRefusal → Fault
+fault_of_source compile_refusals.NoMemory = NoMemory
+fault_of_source refusal = NotCompiled refusal
+
+abbrev pub fault_of_service : ServeFault → Fault
+fault_of_service serve_faults.Socket = Socket
+fault_of_service serve_faults.Unwritten = Unwritten
+fault_of_service serve_faults.NoMemory = NoMemory
+fault_of_service fault = NotServed fault
+
+abbrev pub fault_of_words : Mistake → Fault
+fault_of_words mistakes.NoMemory = NoMemory
+fault_of_words mistake = Words mistake
+
 -- a fault that the reading of the words may have
 abbrev pub IsOfWords : Fault → Type 0
-IsOfWords (Usage error) = Unit {0}
-IsOfWords (BadOrder error) = Unit {0}
+IsOfWords (Words mistake) = IsWrong mistake
 IsOfWords NoMemory = Unit {0}
 IsOfWords fault = ⊥
 

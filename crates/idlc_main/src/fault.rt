@@ -1,28 +1,25 @@
 //! Why a run of the program didn't do what was asked for.
 
 ghost use Rattle.std.specs.Prelude.{◌≡◌, ◌≤◌};
-ghost use Rattle.idlc_main.specs.Fault.{fault_of, fault_of_reference};
+ghost use Rattle.idlc_main.specs.Fault.{fault_of, fault_of_reference, fault_of_service, fault_of_source, fault_of_words};
 ghost use Rattle.idlc_main.specs.declared.fault.Fault.TheVariants.{NoMemory};
 
+use command_words::Mistake;
+use compile_command::Refusal as CompileRefusal;
 use reference_commands::Refusal as ReferenceRefusal;
+use socket_server::ServeFault;
 use std::alloc::AllocError;
 use table_commands::Refusal;
 use thiserror::Error;
 
-/// A fault has as its text the line that stands behind `idlc: ` on standard error.
+/// A fault has as its text the line that stands behind `idlc: ` on standard error, but for words.
 #[derive(Debug, Drop, Error)]
 pub enum Fault<'a> {
-    /// The words aren't those of a command.
+    /// The words aren't those of a command. The text is whole lines.
     #[error(transparent)]
-    Usage(clap::Error),
-    /// The word for the byte order is neither of the two.
-    #[error(transparent)]
-    BadOrder(clap::Error),
+    Words(Mistake),
     #[error("a word isn't UTF-8")]
     NotText,
-    /// `clap` passed words that ask for nothing, which its contract doesn't rule out.
-    #[error("a word is missing")]
-    NoWord,
     #[error("cannot read {file}")]
     Unread { file: &'a str },
     /// A table or its input was refused.
@@ -31,6 +28,15 @@ pub enum Fault<'a> {
     /// There is no such reference.
     #[error(transparent)]
     NoReference(ReferenceRefusal<'a>),
+    /// The IDL file has no table.
+    #[error(transparent)]
+    NotCompiled(CompileRefusal),
+    /// There is no such object to serve.
+    #[error(transparent)]
+    NotServed(ServeFault<'a>),
+    /// The port can't be listened on, or a connection can't be accepted.
+    #[error("socket")]
+    Socket,
     /// No refusal has the number whose meaning is asked for.
     #[error("no refusal has the number {number}")]
     NoRefusal { number: u8 },
@@ -46,17 +52,18 @@ pub enum Fault<'a> {
 impl<'a> Fault<'a> {
     ghost use Rattle.idlc_main.specs.Fault.{status_of};
 
-    /// The status with which the program ends: 1 for refused input, 2 for usage, 3 for files and
-    /// standard output, 4 for want of memory.
+    /// The status with which the program ends: 1 for refused input, 2 for usage, 3 for files,
+    /// sockets and standard output, 4 for want of memory.
     pub fn status(&self) -> u8
         ensures status { result ≡ status_of self.now }
         ensures range { (1 ≤ result) × (result ≤ 4) }
     {
         match self {
             Fault::Refused(_) | Fault::NoReference(_) => 1,
-            Fault::Usage(_) | Fault::BadOrder(_) | Fault::NotText | Fault::NoWord => 2,
-            Fault::NoRefusal { .. } => 2,
-            Fault::Unread { .. } | Fault::Unmade { .. } | Fault::Unwritten => 3,
+            Fault::NotCompiled(_) | Fault::NotServed(_) => 1,
+            Fault::Words(_) | Fault::NotText | Fault::NoRefusal { .. } => 2,
+            Fault::Unread { .. } | Fault::Unmade { .. } => 3,
+            Fault::Socket | Fault::Unwritten => 3,
             Fault::NoMemory => 4,
         }
     }
@@ -67,6 +74,17 @@ impl<'a> From<AllocError> for Fault<'a> {
 
     fn from(_error: AllocError) -> Fault<'a> {
         Fault::NoMemory
+    }
+}
+
+impl<'a> From<Mistake> for Fault<'a> {
+    ghost from_gives = { λ mistake fault. fault ≡ fault_of_words mistake };
+
+    fn from(mistake: Mistake) -> Fault<'a> {
+        match mistake {
+            Mistake::NoMemory => Fault::NoMemory,
+            mistake => Fault::Words(mistake),
+        }
     }
 }
 
@@ -88,6 +106,30 @@ impl<'a> From<ReferenceRefusal<'a>> for Fault<'a> {
         match refusal {
             ReferenceRefusal::NoMemory => Fault::NoMemory,
             refusal => Fault::NoReference(refusal),
+        }
+    }
+}
+
+impl<'a> From<CompileRefusal> for Fault<'a> {
+    ghost from_gives = { λ refusal fault. fault ≡ fault_of_source refusal };
+
+    fn from(refusal: CompileRefusal) -> Fault<'a> {
+        match refusal {
+            CompileRefusal::NoMemory => Fault::NoMemory,
+            refusal => Fault::NotCompiled(refusal),
+        }
+    }
+}
+
+impl<'a> From<ServeFault<'a>> for Fault<'a> {
+    ghost from_gives = { λ refusal fault. fault ≡ fault_of_service refusal };
+
+    fn from(fault: ServeFault<'a>) -> Fault<'a> {
+        match fault {
+            ServeFault::Socket => Fault::Socket,
+            ServeFault::Unwritten => Fault::Unwritten,
+            ServeFault::NoMemory => Fault::NoMemory,
+            fault => Fault::NotServed(fault),
         }
     }
 }

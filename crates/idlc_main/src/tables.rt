@@ -27,7 +27,8 @@ fn unread<'a>(file: &'a str, fault: ReadFault) -> Fault<'a>
     }
 }
 
-fn octets_in<'a, R: Files + AllocGlobal>(rt: &R, file: &'a str) -> Result<Vec<u8>, Fault<'a>>
+/// The octets of a file.
+pub fn octets_in<'a, R: Files + AllocGlobal>(rt: &R, file: &'a str) -> Result<Vec<u8>, Fault<'a>>
     ensures fault { IfErr result (IsFileFault file.now) }
     ensures told { IfErr result IsTold }
 {

@@ -1,22 +1,25 @@
 //! What the commands do.
 
 ghost use Rattle.std.specs.Prelude.{◌≡◌, ℕ, IfErr};
+ghost use Rattle.compile_command.specs.Files.{IsCompiledFile};
+ghost use Rattle.command_words.specs.Ask.{Explanation, Reference, Value, reference_ask_of, value_ask_of};
+ghost use Rattle.command_words.specs.declared.task.Asked.{Asked};
+ghost use Rattle.command_words.specs.declared.task.AskedReference.{AskedReference};
 ghost use Rattle.idlc_main.specs.Answer.{IsAnswer};
-ghost use Rattle.idlc_main.specs.Ask.{Explanation, Reference, Value, reference_ask_of, value_ask_of};
-ghost use Rattle.idlc_main.specs.declared.words.Asked.{Asked};
-ghost use Rattle.idlc_main.specs.declared.words.AskedReference.{AskedReference};
 ghost use Rattle.idlc_main.specs.Fault.{IsTold};
 
 use crate::fault::Fault;
-use crate::tables::{put, table_of};
-use crate::words::{Asked, AskedReference, Task};
+use crate::tables::{octets_in, put, table_of};
+use crate::told::{Answer, Notice};
+use command_words::{Asked, AskedReference, Task};
+use compile_command::{Compiled, compile_file};
 use fault_texts::explanation;
 use reference_commands::reference_line;
 use std::alloc::Global;
 use std::fs::Files;
 use table_commands::{accepted_line, listing, marshal, upgraded};
 
-fn value<'a, R: Files + AllocGlobal>(rt: &R, asked: &Asked<'a>) -> Result<String, Fault<'a>>
+fn value<'a, R: Files + AllocGlobal>(rt: &R, asked: &Asked<'a>) -> Result<Answer, Fault<'a>>
     ensures answers { IsAnswer (Value (value_ask_of asked.now)) result }
     ensures told { IfErr result IsTold }
 {
@@ -25,30 +28,15 @@ fn value<'a, R: Files + AllocGlobal>(rt: &R, asked: &Asked<'a>) -> Result<String
         Err(fault) => return Err(fault),
     };
     match marshal(rt.alloc(), &table, &asked.request) {
-        Ok(line) => Ok(line),
+        Ok(line) => Ok(Answer::plain(line)),
         Err(refusal) => Err(Fault::from(refusal)),
     }
-}
-
-/// The table anew, in the newest version, in another file; then how many routines it has.
-fn upgrade<'a, R: Files + AllocGlobal>(
-    rt: &R,
-    table: &'a str,
-    output: &'a str,
-) -> Result<String, Fault<'a>>
-    ensures told { IfErr result IsTold }
-{
-    let table = table_of(rt, table)?;
-    let octets = upgraded(rt.alloc(), &table)?;
-    let line = accepted_line(rt.alloc(), &table)?;
-    put(rt, output, octets.as_slice())?;
-    Ok(line)
 }
 
 fn reference<'a, R: Files + AllocGlobal>(
     rt: &R,
     asked: &AskedReference<'a>,
-) -> Result<String, Fault<'a>>
+) -> Result<Answer, Fault<'a>>
     ensures answers { IsAnswer (Reference (reference_ask_of asked.now)) result }
     ensures told { IfErr result IsTold }
 {
@@ -57,23 +45,86 @@ fn reference<'a, R: Files + AllocGlobal>(
         Err(fault) => return Err(fault),
     };
     match reference_line(rt.alloc(), &table, &asked.wanted) {
-        Ok(line) => Ok(line),
+        Ok(line) => Ok(Answer::plain(line)),
         Err(refusal) => Err(Fault::from(refusal)),
     }
 }
 
-fn explained<'a>(alloc: Global, number: u8) -> Result<String, Fault<'a>>
+fn explained<'a>(alloc: Global, number: u8) -> Result<Answer, Fault<'a>>
     ensures answers { IsAnswer (Explanation number) result }
     ensures told { IfErr result IsTold }
 {
     match explanation(number) {
-        Some(text) => Ok(String::from_str(alloc, text)?),
+        Some(text) => Ok(Answer::plain(String::from_str(alloc, text)?)),
         None => Err(Fault::NoRefusal { number }),
     }
 }
 
+fn check<'a, R: Files + AllocGlobal>(rt: &R, table: &'a str) -> Result<Answer, Fault<'a>>
+    ensures told { IfErr result IsTold }
+{
+    let table = table_of(rt, table)?;
+    Ok(Answer::plain(accepted_line(rt.alloc(), &table)?))
+}
+
+fn show<'a, R: Files + AllocGlobal>(rt: &R, table: &'a str) -> Result<Answer, Fault<'a>>
+    ensures told { IfErr result IsTold }
+{
+    let table = table_of(rt, table)?;
+    Ok(Answer::plain(listing(rt.alloc(), &table)?))
+}
+
+/// The table anew, in the newest version, in another file; then how many routines it has.
+fn upgrade<'a, R: Files + AllocGlobal>(
+    rt: &R,
+    table: &'a str,
+    output: &'a str,
+) -> Result<Answer, Fault<'a>>
+    ensures told { IfErr result IsTold }
+{
+    let table = table_of(rt, table)?;
+    let octets = upgraded(rt.alloc(), &table)?;
+    let line = accepted_line(rt.alloc(), &table)?;
+    put(rt, output, octets.as_slice())?;
+    Ok(Answer::plain(line))
+}
+
+/// Writes the table file of an IDL file. It is handed no other octets.
+fn put_compiled<'a, R: Files + AllocGlobal>(
+    rt: &R,
+    output: &'a str,
+    source: &[u8],
+    file: &Compiled,
+) -> Result<(), Fault<'a>>
+    requires { IsCompiledFile source.now file.now }
+    ensures told { IfErr result IsTold }
+{
+    put(rt, output, file.octets.as_slice())
+}
+
+/// The table of an IDL file, in another file; then how many routines it has.
+fn compile<'a, R: Files + AllocGlobal>(
+    rt: &R,
+    source: &'a str,
+    output: &'a str,
+) -> Result<Answer, Fault<'a>>
+    ensures told { IfErr result IsTold }
+{
+    let source = octets_in(rt, source)?;
+    let file = compile_file(rt.alloc(), source.as_slice())?;
+    put_compiled(rt, output, source.as_slice(), &file)?;
+    Ok(Answer {
+        text: file.line,
+        notice: if file.is_planned {
+            None
+        } else {
+            Some(Notice::PlanUnused)
+        },
+    })
+}
+
 /// Does what is asked for, and gives the text for standard output.
-pub fn done<'a, R: Files + AllocGlobal>(rt: &R, task: &Task<'a>) -> Result<String, Fault<'a>>
+pub fn done<'a, R: Files + AllocGlobal>(rt: &R, task: &Task<'a>) -> Result<Answer, Fault<'a>>
     ensures value { (asked : Asked) → task.now ≡ Task.Value asked
         → IsAnswer (Value (value_ask_of asked)) result }
     ensures reference { (asked : AskedReference) → task.now ≡ Task.Reference asked
@@ -86,14 +137,9 @@ pub fn done<'a, R: Files + AllocGlobal>(rt: &R, task: &Task<'a>) -> Result<Strin
         Task::Value(asked) => value(rt, asked),
         Task::Reference(asked) => reference(rt, asked),
         Task::Explain { number } => explained(rt.alloc(), *number),
-        Task::Check { table } => {
-            let table = table_of(rt, table)?;
-            Ok(accepted_line(rt.alloc(), &table)?)
-        }
-        Task::Show { table } => {
-            let table = table_of(rt, table)?;
-            Ok(listing(rt.alloc(), &table)?)
-        }
+        Task::Check { table } => check(rt, table),
+        Task::Show { table } => show(rt, table),
         Task::Upgrade { table, output } => upgrade(rt, table, output),
+        Task::Compile { source, output } => compile(rt, source, output),
     }
 }

@@ -1,10 +1,11 @@
 use crate::run;
 use std::fs::Files;
 use std::io;
+use std::net::Net;
 use std::process::Abort;
 
 /// Runs the program over memory with the words of a line, which blanks part.
-fn run_line<R: Files + AllocGlobal, O: io::Write, E: io::Write>(
+fn run_line<R: Files + Net + AllocGlobal, O: io::Write, E: io::Write>(
     rt: &R,
     line: &str,
     out: &mut O,
@@ -20,7 +21,13 @@ fn run_line<R: Files + AllocGlobal, O: io::Write, E: io::Write>(
 }
 
 /// Holds the status and the streams of a run to what is wanted.
-fn expect<R: Files + AllocGlobal + Abort>(rt: &R, line: &str, status: u8, out: &str, err: &str) {
+fn expect<R: Files + Net + AllocGlobal + Abort>(
+    rt: &R,
+    line: &str,
+    status: u8,
+    out: &str,
+    err: &str,
+) {
     let mut wrote = Vec::new(rt.alloc());
     let mut told = Vec::new(rt.alloc());
     let ended = run_line(rt, line, &mut wrote, &mut told);
@@ -56,6 +63,40 @@ fn marshals_the_sample_structure(rt: HostRuntime) {
     ];
     for (line, out) in rows {
         expect(&rt, line, 0, out, "");
+    }
+}
+
+/// The empty file has a table.
+#[test]
+fn compiles_and_serves(rt: HostRuntime) {
+    let compiled = "idlc compile /dev/null -o /dev/null";
+    expect(&rt, compiled, 0, "accepted 14\n", "");
+    let rows = [
+        ("compile /dev/zero -o /dev/null", 1, "too long"),
+        ("compile none.idl -o /dev/null", 3, "cannot read none.idl"),
+        (
+            "compile /dev/null -o /dev/full",
+            3,
+            "cannot write /dev/full",
+        ),
+        (
+            "serve builtin --port 0 --object P --connections 0",
+            1,
+            "bad object",
+        ),
+        (
+            "serve builtin --port 0 --object K=P --connections 0",
+            1,
+            "no interface P",
+        ),
+        (
+            "serve none --port 0 --object P --connections 0",
+            3,
+            "cannot read none",
+        ),
+    ];
+    for (line, status, fault) in rows {
+        refuse(&rt, line, status, fault);
     }
 }
 
@@ -160,7 +201,7 @@ fn refers_and_explains(rt: HostRuntime) {
 }
 
 /// The words behind the first, and the fault behind the name of the program.
-fn refuse<R: Files + AllocGlobal + Abort>(rt: &R, words: &str, status: u8, fault: &str) {
+fn refuse<R: Files + Net + AllocGlobal + Abort>(rt: &R, words: &str, status: u8, fault: &str) {
     let line = format!(in rt.alloc(); "idlc {words}");
     let told = format!(in rt.alloc(); "idlc: {fault}\n");
     match (line, told) {
@@ -190,6 +231,8 @@ fn refuses_other_words(rt: HostRuntime) {
         ("idlc ior builtin --host h --port 1", false),
         ("idlc ior builtin --host h --port 65536 --object K=P", false),
         ("idlc explain 256", false),
+        ("idlc compile a.idl", false),
+        ("idlc serve builtin --port 1 --object K=P", false),
     ];
     for (line, is_order) in rows {
         let mut wrote = Vec::new(rt.alloc());

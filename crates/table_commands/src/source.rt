@@ -42,6 +42,7 @@ pub fn accepted<'a>(alloc: Global, octets: &[u8]) -> Result<Accepted, Refusal<'a
 /// `NoTable` where it can't be spelled, `TooLong` where it has more octets than a file may have.
 pub fn upgraded<'a>(alloc: Global, table: &Accepted) -> Result<Vec<u8>, Refusal<'a>>
     ensures spelled { IfOk result (λ octets. Spells table.now octets.items) }
+    ensures right { IsRight table.now }
     ensures within { IfOk result (λ octets. length octets.items ≤ 16777216) }
     ensures refused { IfErr result (RefusesTable table.now) }
 {

@@ -1,16 +1,16 @@
-use Rattle.std.proofs.Common.{◌≡◌, Some, subst, sym}
-use Rattle.idlc_main.specs.declared.words.Task.{Task}
-use Rattle.idlc_main.specs.Ask.{ask_of}
-use Rattle.idlc_main.proofs.Answers.{answers, no_memory}
+use Rattle.idlc_main.proofs.Answers.{answers, printed}
+use Rattle.idlc_main.proofs.Ends.{told_of}
+use Rattle.idlc_main.proofs.Silence.{unwritten_told}
 use Rattle.idlc_main.proofs.answer.Goals as goal
 
-pub returns-in-Ok-Do-clause-asked : goal.returns-in-Ok-Do-clause-asked
-returns-in-Ok-Do-clause-asked g c ask asks =
-    let found = c.in-Ok-Do.ensures.asked ask asks in
-    let same = found.1 in
-    let is : c.in-Ok-Do.task ≡ found.0 = cc in
-    answers ask c.done.result c.in-Ok-Do.task (subst (λ (t : Task). ask_of t ≡ Some ask) (sym is) found.2)
-    c.done.ensures.value c.done.ensures.reference c.done.ensures.explanation
+pub returns-in-Ok-clause-asked : goal.returns-in-Ok-clause-asked
+returns-in-Ok-clause-asked g c ask is =
+    printed ask c.in-Ok.answer _ _ c.say.result (answers ask _ c.args.task.now is c.in-Ok.ensures.value c.in-Ok.ensures.reference c.in-Ok.ensures.explanation)
+    c.say.ensures.said c.say.ensures.unwritten
+
+pub returns-in-Ok-clause-kept : goal.returns-in-Ok-clause-kept
+returns-in-Ok-clause-kept g c = unwritten_told _ c.say.result c.say.ensures.unwritten
 
 pub returns-in-Err-clause-asked : goal.returns-in-Err-clause-asked
-returns-in-Err-clause-asked g c ask asks = no_memory ask c.in-Err.fault (c.in-Err.ensures.asked ask asks)
+returns-in-Err-clause-asked g c ask is =
+    told_of ask c.in-Err.fault (answers ask _ c.args.task.now is c.in-Err.ensures.value c.in-Err.ensures.reference c.in-Err.ensures.explanation).fault

@@ -1,25 +1,19 @@
-use Rattle.std.proofs.Common.{◌≡◌, ◌∙◌, sym, List, ℕ, Option, Some, None, Result, Ok, Err, IfOk, true, false, string_bytes}
-use Rattle.std.specs.Result.{is_err}
-use Rattle.std.specs.Io.KnownBytes.{Appends, Keeps}
-use Rattle.idlc_main.proofs.Ends.{told_of}
+use Rattle.std.proofs.Common.{◌≡◌, refl, Some, subst, sym}
+use Rattle.command_words.specs.Ask.{ask_of}
+use Rattle.command_words.specs.declared.task.Task.{Task}
+use Rattle.idlc_main.proofs.Silence.{kept_serves, remembered}
 use Rattle.idlc_main.proofs.print.Goals as goal
 
-appends_kept : (old mid new : Option (List ℕ)) (text : List ℕ) → Appends old mid text → Keeps mid new → Appends old new text
-appends_kept None mid new text appends keeps = tt
-appends_kept (Some xs) None new text appends keeps = absurd appends
-appends_kept (Some xs) (Some ys) None text appends keeps = absurd keeps
-appends_kept (Some xs) (Some ys) (Some zs) text appends keeps = keeps ∙ appends
+pub returns-in-Ok-Do-clause-asked : goal.returns-in-Ok-Do-clause-asked
+returns-in-Ok-Do-clause-asked g c ask asks =
+    let found = c.in-Ok-Do.ensures.asked ask asks in
+    let same = found.1 in
+    let is : c.in-Ok-Do.task ≡ found.0 = cc in
+    c.answer.ensures.asked ask (subst (λ (t : Task). ask_of t ≡ Some ask) (sym is) found.2)
 
-at_ok : {T E : Type 0} (result : Result T E) (P : Type 0) → is_err result ≡ false → IfOk result (λ _. P) → P
-at_ok (Ok value) P no_err p = p
-at_ok (Err error) P no_err p = let bad : true ≡ false = no_err in absurd cc
+pub returns-in-Ok-Do-clause-memory : goal.returns-in-Ok-Do-clause-memory
+returns-in-Ok-Do-clause-memory g c =
+    remembered _ _ c.answer.result (λ same. kept_serves _ _ (rw same refl)) c.answer.ensures.kept
 
-pub returns-clause-asked : goal.returns-clause-asked
-returns-clause-asked g c ask asks = record {
-  line = string_bytes c.in-Ok.text;
-  printed = appends_kept _ _ _ _ (at_ok c.write_all.result _ (sym c.if-is_err.ensures.value) (rw (← c.as_bytes.ensures.value) c.write_all.ensures.bytes)) c.flush.ensures.bytes;
-  is_line = (c.in-Ok.ensures.asked ask asks).line;
-}
-
-pub returns-in-Err-clause-asked : goal.returns-in-Err-clause-asked
-returns-in-Err-clause-asked g c ask asks = told_of ask c.in-Err.fault (c.in-Err.ensures.asked ask asks).fault
+pub returns-in-Err-clause-memory : goal.returns-in-Err-clause-memory
+returns-in-Err-clause-memory g c is = kept_serves _ _ refl

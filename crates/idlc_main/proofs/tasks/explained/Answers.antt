@@ -1,4 +1,4 @@
-use Rattle.std.proofs.Common.{ap, refl, sym, Some, ◌∙◌}
+use Rattle.std.proofs.Common.{ap, refl, sym, string_bytes, Some, ◌∙◌}
 use Rattle.fault_texts.specs.Headings.{first_line}
 use Rattle.idlc_main.proofs.tasks.explained.Goals as goal
 
@@ -6,7 +6,8 @@ pub returns-in_ok-from_str-in-Some-clause-answers : goal.returns-in_ok-from_str-
 returns-in_ok-from_str-in-Some-clause-answers c = record {
   line = record {
     refusal = sym c.in-Some.ensures.there;
-    headed = sym c.in-Some.ensures.headed ∙ ap (λ l. Some (first_line l)) (sym c.in_ok-from_str-in-Some.ensures.ok);
+    headed = sym c.in-Some.ensures.headed ∙ (ap (λ l. Some (first_line l)) (sym c.in_ok-from_str-in-Some.ensures.ok)
+        ∙ ap (λ t. Some (first_line (string_bytes t))) (sym c.plain.ensures));
   };
   fault = tt;
 }

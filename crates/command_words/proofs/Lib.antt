@@ -1,0 +1,6 @@
+pub mod ByCommand
+pub mod Globals
+pub mod Mistakes
+pub mod References
+pub mod Requests
+pub mod Worked

@@ -1,0 +1,95 @@
+-- What was found for the words of a command tells what is asked for.
+use Rattle.std.proofs.Common.{◌≡◌, ◌∙◌, ◌<◌, ◌^◌, ◌↔◌, ℕ, Option, Some, None, IsSome, IsSomeAnd, IfSome, codes, length, ap, sym, refl, arith, slice_index, true, false}
+use Rattle.std.specs.Str.Parse.{IsNumeral, digits_value, without_leading_plus}
+use Rattle.clap.specs.Words.{Text, first_of, first_value, one_text, rows_of}
+use Rattle.clap.specs.declared.parser.matches.Found.{Found}
+use Rattle.clap.proofs.WalkLemmas.{first_value-rows, one_text-rows}
+use Rattle.type_graph.specs.declared.width.Order.{Order}
+use Rattle.type_graph.specs.declared.width.Order.TheVariants.{Big, Little}
+use Rattle.table_commands.specs.declared.values.Way.{Way}
+use Rattle.table_commands.specs.declared.values.Way.TheVariants.{Encode, Decode}
+use Rattle.command_words.specs.Way.{name_of}
+use Rattle.command_words.specs.declared.task.Asked.{Asked}
+use Rattle.command_words.specs.Ask.{Value, ValueAsk, value_ask_of}
+use Rattle.command_words.specs.Words.{TellsValue, word_of}
+
+pub same_some : (found : Option Text) (a b : Text) → found ≡ Some a → found ≡ Some b → a ≡ b
+same_some found a b first second = let both : Some a ≡ Some b = sym first ∙ second in cc
+
+pub some_since : (found : Option Text) (text : Text) → found ≡ Some text → IsSome found
+some_since found text is = rw is refl
+
+pub different : (a b : ℕ) → a ≡ b → (a ≡ b → ⊥) → ⊥
+different a b same other = other same
+
+order_of : (found : Option Text) (a b : Order) → found ≡ Some (word_of b) → (a ≡ Little) ↔ (found ≡ Some (codes "little")) → a ≡ b
+order_of found a Little is little = little.1 is
+order_of found Big Big is little = refl
+order_of found Little Big is little =
+    absurd (different 6 3 (ap length (same_some found (codes "little") (codes "big") (little.0 refl) is)) (omega arith))
+
+module _ (found : Found) (way : Way) where
+  -- the request has what was found for each word
+  pub record IsRequest (asked : Asked) : Type 0 where
+    pub way_is : asked.request.way ≡ way
+    pub table : first_value found (codes "T") ≡ Some asked.table.now
+    pub name : first_value found (codes "NAME") ≡ Some asked.request.name.now
+    pub order : (asked.request.order ≡ Little) ↔ (first_value found (codes "ORDER") ≡ Some (codes "little"))
+    pub pos : (text : Text) → one_text found (codes "POS") ≡ Some text → digits_value 10 (without_leading_plus text) ≡ asked.request.pos
+    pub hex : first_value found (codes "HEX") ≡ Some asked.request.hex.now
+
+  -- nothing is missing where each word was found
+  abbrev pub IsWhole : Option Asked → Type 0
+  IsWhole result = IsSome (first_value found (codes "T"))
+      → IsSome (first_value found (codes "NAME"))
+      → IsSome (first_value found (codes "ORDER"))
+      → IsSome (first_value found (codes "HEX"))
+      → (text : Text) → one_text found (codes "POS") ≡ Some text
+      → IsNumeral 10 (without_leading_plus text)
+      → digits_value 10 (without_leading_plus text) < 2 ^ 64 → IsSome result
+
+  module _ (ask : ValueAsk) (tells : TellsValue (rows_of found) ask) where
+    found_first : (id text : Text) → first_of id (rows_of found) ≡ Some text → first_value found id ≡ Some text
+    found_first id text is = first_value-rows found id ∙ is
+
+    digits_are : one_text found (codes "POS") ≡ Some tells.pos.digits
+    digits_are = one_text-rows found (codes "POS") ∙ tells.pos.found
+
+    pub is_asked : (asked : Asked) → way ≡ ask.value.way → IsRequest asked → value_ask_of asked ≡ ask
+    is_asked asked way_is is =
+        let table : asked.table.now ≡ ask.table = same_some _ _ _ is.table (found_first _ _ tells.table) in
+        let name : asked.request.name.now ≡ ask.value.name = same_some _ _ _ is.name (found_first _ _ tells.name) in
+        let order : asked.request.order ≡ ask.value.order = order_of _ _ _ (found_first _ _ tells.order) is.order in
+        let pos : asked.request.pos ≡ ask.value.pos = sym (is.pos tells.pos.digits digits_are) ∙ tells.pos.is in
+        let hex : asked.request.hex.now ≡ ask.value.hex = same_some _ _ _ is.hex (found_first _ _ tells.hex) in
+        rw (is.way_is ∙ way_is, table, name, order, pos, hex) refl
+
+    pub some_asked : (result : Option Asked) → IsWhole result → IsSome result
+    some_asked result whole = whole (some_since _ _ (found_first _ _ tells.table)) (some_since _ _ (found_first _ _ tells.name))
+        (some_since _ _ (found_first _ _ tells.order)) (some_since _ _ (found_first _ _ tells.hex))
+        tells.pos.digits digits_are tells.pos.numeral (rw tells.pos.is tells.pos.fits)
+
+    pub asked : (result : Option Asked) → way ≡ ask.value.way → IsWhole result
+        → IfSome result (λ asked. asked.request.way ≡ way)
+        → IfSome result (λ asked. first_value found (codes "T") ≡ Some asked.table.now)
+        → IfSome result (λ asked. first_value found (codes "NAME") ≡ Some asked.request.name.now)
+        → IfSome result (λ asked. (asked.request.order ≡ Little) ↔ (first_value found (codes "ORDER") ≡ Some (codes "little")))
+        → IfSome result (λ asked. (text : Text) → one_text found (codes "POS") ≡ Some text → digits_value 10 (without_leading_plus text) ≡ asked.request.pos)
+        → IfSome result (λ asked. first_value found (codes "HEX") ≡ Some asked.request.hex.now)
+        → IsSomeAnd result (λ asked. Some (Value (value_ask_of asked)) ≡ Some (Value ask))
+    asked None way_is whole way table name order pos hex =
+        let bad : false ≡ true = some_asked None whole in absurd cc
+    asked (Some it) way_is whole way table name order pos hex = ap (λ a. Some (Value a)) (is_asked it way_is (record {
+      way_is = way;
+      table = table;
+      name = name;
+      order = order;
+      pos = pos;
+      hex = hex;
+    }))
+
+pub same_way : (a b : Way) → name_of a ≡ name_of b → a ≡ b
+same_way Encode Encode same = refl
+same_way Decode Decode same = refl
+same_way Encode Decode same = absurd (different 101 100 (ap (λ t. slice_index t 0) same) (omega arith))
+same_way Decode Encode same = absurd (different 100 101 (ap (λ t. slice_index t 0) same) (omega arith))

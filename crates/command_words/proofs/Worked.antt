@@ -1,0 +1,166 @@
+-- What a few lines of words ask for.
+use Rattle.std.proofs.Common.{◌≡◌, ◌&&◌, refl, ap, true, pos, List, [], ◌∷◌, Some, None, codes, arith, Bor}
+use Rattle.std.specs.List.{list_any}
+use Rattle.std.specs.Str.{bytes_eq}
+use Rattle.clap.specs.Words.{Row, Text, reading_of, subcommand_of, takes}
+use Rattle.clap.specs.declared.builder.value_parser.ValueParser.{ValueParser}
+use Rattle.clap.specs.declared.builder.value_parser.ValueParser.TheVariants.{Names, Signed, String}
+use Rattle.clap.specs.declared.parser.matches.ValueSource.TheVariants.{CommandLine}
+use Rattle.clap.proofs.OnLiterals.{clap_on_literals}
+use Rattle.type_graph.specs.declared.width.Order.TheVariants.{Big}
+use Rattle.table_commands.specs.declared.values.Way.TheVariants.{Encode}
+use Rattle.command_words.specs.Ask.{Ask, Explanation, Reference, Value}
+use Rattle.command_words.specs.Commands.{program_app}
+use Rattle.command_words.specs.Words.{AsksFor, IsReadAs, Tells, texts}
+
+abbrev words : List Text
+words = codes "idlc" ∷ codes "encode" ∷ codes "builtin" ∷ codes "S" ∷ codes "big" ∷ codes "12" ∷ codes "07" ∷ []
+
+abbrev ask : Ask
+ask = Value (record {
+  table = codes "builtin";
+  value = record { way = Encode; name = codes "S"; order = Big; pos = 12; hex = codes "07" };
+})
+
+-- what clap keeps of a word
+abbrev row_by : ValueParser → Text → Text → Row
+row_by parser id word = record {
+  id = id;
+  values = word ∷ [];
+  count = None;
+  source = Some CommandLine;
+  reading = reading_of parser;
+}
+
+abbrev row : Text → Text → Row
+row id word = row_by String id word
+
+abbrev found : List Row
+found = row (codes "T") (codes "builtin") ∷ row (codes "NAME") (codes "S") ∷ row (codes "ORDER") (codes "big") ∷ row (codes "POS") (codes "12")
+    ∷ row (codes "HEX") (codes "07") ∷ []
+
+module _ (orders : Bor (List (Bor Text))) (are : texts orders.now ≡ codes "big" ∷ codes "little" ∷ []) where
+  any_big : (names : List (Bor Text)) → texts names ≡ codes "big" ∷ codes "little" ∷ [] → list_any (λ name. bytes_eq name.now (codes "big")) names ≡ true
+  any_big [] names_are = absurd cc
+  any_big (first ∷ rest) names_are =
+      let first_is : first.now ≡ codes "big" = cc in rw first_is refl
+
+  are_taken : takes (program_app (Names orders)) words ≡ true
+  unfolding clap_on_literals
+  are_taken = ap (λ b. b && true && true && true && true) (any_big orders.now are)
+
+  is_encode : subcommand_of (program_app (Names orders)) words ≡ Some (codes "encode", found)
+  unfolding clap_on_literals
+  is_encode = refl
+
+  tells : Tells found ask
+  unfolding clap_on_literals
+  tells = record {
+    table = refl;
+    name = refl;
+    order = refl;
+    pos = record {
+      digits = codes "12";
+      found = refl;
+      numeral = (omega arith, (omega arith, (omega arith, tt)));
+      is = refl;
+      fits = omega arith;
+    };
+    hex = refl;
+  }
+
+  pub is_read : IsReadAs (program_app (Names orders)) words ask
+  is_read = record {
+    taken = are_taken;
+    rows = found;
+    command = is_encode;
+    tells = tells;
+  }
+
+-- so a clause that speaks of what words ask for speaks of these
+pub words_ask : AsksFor words ask
+words_ask orders takes_orders = rw takes_orders.is_of_names (is_read takes_orders.names takes_orders.are_orders)
+
+abbrev reference_words : List Text
+reference_words = codes "idlc" ∷ codes "ior" ∷ codes "builtin" ∷ codes "--host" ∷ codes "h" ∷ codes "--port" ∷ codes "99" ∷ codes "--object"
+    ∷ codes "K=P" ∷ []
+
+abbrev reference_ask : Ask
+reference_ask = Reference (record {
+  table = codes "builtin";
+  parts = record { host = codes "h"; port = 99; object = codes "K=P" };
+})
+
+abbrev reference_found : List Row
+reference_found = row (codes "T") (codes "builtin") ∷ row (codes "host") (codes "h") ∷ row_by (Signed (pos 0) (pos 65535)) (codes "port") (codes "99")
+    ∷ row (codes "object") (codes "K=P") ∷ []
+
+abbrev explain_words : List Text
+explain_words = codes "idlc" ∷ codes "explain" ∷ codes "54" ∷ []
+
+abbrev explain_found : List Row
+explain_found = row_by (Signed (pos 0) (pos 255)) (codes "NN") (codes "54") ∷ []
+
+module _ (orders : Bor (List (Bor Text))) where
+  reference_taken : takes (program_app (Names orders)) reference_words ≡ true
+  unfolding clap_on_literals
+  reference_taken = refl
+
+  is_reference : subcommand_of (program_app (Names orders)) reference_words ≡ Some (codes "ior", reference_found)
+  unfolding clap_on_literals
+  is_reference = refl
+
+  reference_tells : Tells reference_found reference_ask
+  unfolding clap_on_literals
+  reference_tells = record {
+    table = refl;
+    host = refl;
+    port = record {
+      digits = codes "99";
+      found = refl;
+      numeral = (omega arith, (omega arith, (omega arith, tt)));
+      is = refl;
+      fits = omega arith;
+    };
+    object = refl;
+  }
+
+  explain_taken : takes (program_app (Names orders)) explain_words ≡ true
+  unfolding clap_on_literals
+  explain_taken = refl
+
+  is_explain : subcommand_of (program_app (Names orders)) explain_words ≡ Some (codes "explain", explain_found)
+  unfolding clap_on_literals
+  is_explain = refl
+
+  explain_tells : Tells explain_found (Explanation 54)
+  unfolding clap_on_literals
+  explain_tells = record {
+    digits = codes "54";
+    found = refl;
+    numeral = (omega arith, (omega arith, (omega arith, tt)));
+    is = refl;
+    fits = omega arith;
+  }
+
+  pub reference_read : IsReadAs (program_app (Names orders)) reference_words reference_ask
+  reference_read = record {
+    taken = reference_taken;
+    rows = reference_found;
+    command = is_reference;
+    tells = reference_tells;
+  }
+
+  pub explain_read : IsReadAs (program_app (Names orders)) explain_words (Explanation 54)
+  explain_read = record {
+    taken = explain_taken;
+    rows = explain_found;
+    command = is_explain;
+    tells = explain_tells;
+  }
+
+pub reference_words_ask : AsksFor reference_words reference_ask
+reference_words_ask orders takes_orders = rw takes_orders.is_of_names (reference_read takes_orders.names)
+
+pub explain_words_ask : AsksFor explain_words (Explanation 54)
+explain_words_ask orders takes_orders = rw takes_orders.is_of_names (explain_read takes_orders.names)

@@ -1,0 +1,44 @@
+-- What a run may be asked for.
+use Rattle.std.specs.Prelude.{ℕ, List, Option, Some, None, codes}
+use Rattle.table_commands.specs.Answer.{Ask as Marshalling, ask_of as marshalling_of}
+use Rattle.reference_commands.specs.Lines.{Ask as Parts, ask_of as parts_of}
+use Rattle.command_words.specs.declared.task.Asked.{Asked}
+use Rattle.command_words.specs.declared.task.AskedReference.{AskedReference}
+use Rattle.command_words.specs.declared.task.Task.{Task}
+use Rattle.command_words.specs.declared.task.Task.TheVariants as tasks
+use Rattle.command_words.specs.Way.{name_of}
+
+-- a value of a table
+pub record ValueAsk : Type 0 where
+  pub table : List ℕ
+  pub value : Marshalling
+
+-- a reference to an object of a table's interface
+pub record ReferenceAsk : Type 0 where
+  pub table : List ℕ
+  pub parts : Parts
+
+pub data Ask : Type 0 where
+  Value : ValueAsk → Ask
+  Reference : ReferenceAsk → Ask
+  -- what the refusal of a number means
+  Explanation : ℕ → Ask
+
+abbrev pub value_ask_of : Asked → ValueAsk
+value_ask_of asked = record { table = asked.table.now; value = marshalling_of asked.request }
+
+abbrev pub reference_ask_of : AskedReference → ReferenceAsk
+reference_ask_of asked = record { table = asked.table.now; parts = parts_of asked.wanted }
+
+-- what a task answers, but for tables
+abbrev pub ask_of : Task → Option Ask
+ask_of (tasks.Value asked) = Some (Value (value_ask_of asked))
+ask_of (tasks.Reference asked) = Some (Reference (reference_ask_of asked))
+ask_of (tasks.Explain number) = Some (Explanation number)
+ask_of task = None
+
+-- the command that asks for it
+abbrev pub command_of : Ask → List ℕ
+command_of (Value ask) = name_of ask.value.way
+command_of (Reference ask) = codes "ior"
+command_of (Explanation number) = codes "explain"

@@ -1,0 +1,89 @@
+-- The rules by which clap reads the words of the commands.
+use Rattle.std.specs.Prelude.{true, pos, Option, Some, None, codes}
+use Rattle.clap.specs.declared.builder.value_parser.ValueParser.{ValueParser}
+use Rattle.clap.specs.declared.builder.value_parser.ValueParser.TheVariants.{Signed, Unsigned}
+use Rattle.clap.specs.Words.{App, Rule, Text, new_app, new_rule, with_rule, with_subcommand}
+use Rattle.table_commands.specs.declared.values.Way.{Way}
+use Rattle.table_commands.specs.declared.values.Way.TheVariants.{Encode, Decode}
+use Rattle.command_words.specs.Way.{name_of}
+
+-- a word that has to be there, of the form that the parser takes
+abbrev pub wanted : Text → Option ValueParser → Rule
+wanted id parser = record (new_rule id) { parser = parser; required = true }
+
+-- the words of a command
+abbrev pub command_app : ValueParser → Text → App
+command_app orders name = with_rule
+    (with_rule
+    (with_rule (with_rule (with_rule (new_app name) (wanted (codes "T") None)) (wanted (codes "NAME") None))
+    (wanted (codes "ORDER") (Some orders)))
+    (wanted (codes "POS") (Some (Unsigned 0 18446744073709551615))))
+    (wanted (codes "HEX") None)
+
+abbrev pub with_command : ValueParser → App → Way → App
+with_command orders app way = with_subcommand app (command_app orders (name_of way)).top
+
+-- the words of a command that asks of a table alone
+abbrev pub table_app : Text → App
+table_app name = with_rule (new_app name) (wanted (codes "T") None)
+
+-- the option `-o`, which has to be there
+abbrev pub output : Rule
+output = record (new_rule (codes "o")) { short = Some 111; value_names = 1; required = true }
+
+abbrev pub upgrade_app : App
+upgrade_app = with_rule (table_app (codes "upgrade")) output
+
+abbrev pub compile_app : App
+compile_app = with_rule (with_rule (new_app (codes "compile")) (wanted (codes "F") None)) output
+
+-- the command that makes tables; a run has to name a command
+abbrev pub first_app : App
+first_app =
+    let none = new_app (codes "idlc") in
+    with_subcommand (record none { top = record none.top { subcommand_required = true } }) compile_app.top
+
+-- this and the commands that marshal a value
+abbrev pub value_app : ValueParser → App
+value_app orders = with_command orders (with_command orders first_app Encode) Decode
+
+-- these and the commands that ask of a table alone
+abbrev pub tables_app : ValueParser → App
+tables_app orders =
+    with_subcommand
+    (with_subcommand (with_subcommand (value_app orders) (table_app (codes "check")).top)
+    (table_app (codes "show")).top) upgrade_app.top
+
+-- an option that has to be there, of the form that the parser takes
+abbrev pub option_rule : Text → Option ValueParser → Rule
+option_rule name parser = record (new_rule name) { long = Some name; value_names = 1; parser = parser; required = true }
+
+abbrev pub port_rule : Rule
+port_rule = option_rule (codes "port") (Some (Signed (pos 0) (pos 65535)))
+
+abbrev pub object_rule : Rule
+object_rule = option_rule (codes "object") None
+
+-- the words of the command for references
+abbrev pub reference_app : App
+reference_app = with_rule
+    (with_rule (with_rule (table_app (codes "ior")) (option_rule (codes "host") None)) port_rule)
+    object_rule
+
+-- the words of the command that serves calls
+abbrev pub serve_app : App
+serve_app = with_rule
+    (with_rule (with_rule (table_app (codes "serve")) port_rule) object_rule)
+    (option_rule (codes "connections") (Some (Signed (pos 0) (pos 4294967295))))
+
+-- the command that says what refusals mean
+abbrev pub explain_app : App
+explain_app = with_rule (new_app (codes "explain")) (wanted (codes "NN") (Some (Signed (pos 0) (pos 255))))
+
+-- all commands of tables and of their objects
+abbrev pub served_app : ValueParser → App
+served_app orders = with_subcommand (with_subcommand (tables_app orders) reference_app.top) serve_app.top
+
+-- the commands, of which a run has to name one
+abbrev pub program_app : ValueParser → App
+program_app orders = with_subcommand (served_app orders) explain_app.top

@@ -1,0 +1,5 @@
+pub mod Ask
+pub mod Commands
+pub mod Mistake
+pub mod Way
+pub mod Words

@@ -1,0 +1,81 @@
+-- What the words of a run ask for, as clap reads them by the rules of the commands.
+use Rattle.std.specs.Prelude.{◌≡◌, ◌≢◌, ◌<◌, ◌^◌, ℕ, true, List, [], ◌∷◌, map, Some, codes}
+use Rattle.std.specs.Borrow.{Bor}
+use Rattle.std.specs.List.{All}
+use Rattle.std.specs.Str.Parse.{IsNumeral, digits_value, without_leading_plus}
+use Rattle.clap.specs.declared.builder.value_parser.ValueParser.{ValueParser}
+use Rattle.clap.specs.declared.builder.value_parser.ValueParser.TheVariants.{Names}
+use Rattle.clap.specs.Words.{App, Kinds, Row, Text, fault_of, first_of, one_of, subcommand_of, takes}
+use Rattle.clap.specs.declared.error.kind.ErrorKind.{ErrorKind}
+use Rattle.clap.specs.declared.error.kind.ErrorKind.TheVariants.{DisplayHelp, DisplayVersion}
+use Rattle.type_graph.specs.declared.width.Order.{Order}
+use Rattle.type_graph.specs.declared.width.Order.TheVariants.{Big, Little}
+use Rattle.command_words.specs.Ask.{Ask, Explanation, Reference, ReferenceAsk, Value, ValueAsk, command_of}
+use Rattle.command_words.specs.Commands.{program_app}
+
+-- the texts behind references
+abbrev pub texts : List (Bor Text) → List Text
+texts = map (λ word. word.now)
+
+-- the word for a byte order
+abbrev pub word_of : Order → Text
+word_of Big = codes "big"
+word_of Little = codes "little"
+
+-- the parser of the word for a byte order, which takes these two
+pub record TakesOrders (parser : ValueParser) : Type 0 where
+  pub names : Bor (List (Bor Text))
+  pub is_of_names : parser ≡ Names names
+  pub are_orders : texts names.now ≡ codes "big" ∷ codes "little" ∷ []
+
+-- the word that was found for an argument is this number, of so many bits
+pub record TellsWhole (id : Text) (bits : ℕ) (rows : List Row) (number : ℕ) : Type 0 where
+  pub digits : Text
+  pub found : one_of id rows ≡ Some digits
+  pub numeral : IsNumeral 10 (without_leading_plus digits)
+  pub is : digits_value 10 (without_leading_plus digits) ≡ number
+  pub fits : number < 2 ^ bits
+
+-- what clap found for the words of a command tells what is asked for
+pub record TellsValue (rows : List Row) (ask : ValueAsk) : Type 0 where
+  pub table : first_of (codes "T") rows ≡ Some ask.table
+  pub name : first_of (codes "NAME") rows ≡ Some ask.value.name
+  pub order : first_of (codes "ORDER") rows ≡ Some (word_of ask.value.order)
+  pub pos : TellsWhole (codes "POS") 64 rows ask.value.pos
+  pub hex : first_of (codes "HEX") rows ≡ Some ask.value.hex
+
+pub record TellsReference (rows : List Row) (ask : ReferenceAsk) : Type 0 where
+  pub table : first_of (codes "T") rows ≡ Some ask.table
+  pub host : first_of (codes "host") rows ≡ Some ask.parts.host
+  pub port : TellsWhole (codes "port") 16 rows ask.parts.port
+  pub object : first_of (codes "object") rows ≡ Some ask.parts.object
+
+abbrev pub TellsNumber : List Row → ℕ → Type 0
+TellsNumber rows number = TellsWhole (codes "NN") 8 rows number
+
+abbrev pub Tells : List Row → Ask → Type 0
+Tells rows (Value ask) = TellsValue rows ask
+Tells rows (Reference ask) = TellsReference rows ask
+Tells rows (Explanation number) = TellsNumber rows number
+
+pub record IsReadAs (app : App) (words : List Text) (ask : Ask) : Type 0 where
+  pub taken : takes app words ≡ true
+  pub rows : List Row
+  pub command : subcommand_of app words ≡ Some (command_of ask, rows)
+  pub tells : Tells rows ask
+
+-- clap takes the words, and they ask for this
+abbrev pub AsksFor : List Text → Ask → Type 0
+AsksFor words ask = (orders : ValueParser) → TakesOrders orders → IsReadAs (program_app orders) words ask
+
+-- a kind of error that tells of wrong words
+abbrev pub IsMistake : ErrorKind → Type 0
+IsMistake kind = (kind ≢ DisplayHelp) × (kind ≢ DisplayVersion)
+
+abbrev pub AreMistakes : Kinds → Type 0
+AreMistakes [] = ⊥
+AreMistakes (kind ∷ rest) = IsMistake kind × All IsMistake rest
+
+-- clap refuses the words, and not because they ask for help
+abbrev pub IsMistaken : List Text → Type 0
+IsMistaken words = (orders : ValueParser) → TakesOrders orders → AreMistakes (fault_of (program_app orders) words)

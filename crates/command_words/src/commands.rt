@@ -1,0 +1,225 @@
+//! The commands, as `clap` is told of them.
+
+ghost use Rattle.std.specs.Prelude.{◌≡◌, pos, codes, IfOk, Some, None, false};
+ghost use Rattle.clap.specs.Words.{app_of, rule_of};
+ghost use Rattle.clap.specs.declared.builder.value_parser.ValueParser.TheVariants.{Names, Signed, Unsigned};
+ghost use Rattle.command_words.specs.Commands.{command_app, compile_app, explain_app, first_app, option_rule, output, program_app, reference_app, serve_app, served_app, table_app, tables_app, upgrade_app, value_app, wanted};
+
+use clap::{Arg, Command, value_parser};
+use std::alloc::{AllocError, Global};
+
+/// A word that has to be there.
+fn wanted<'a>(alloc: Global, id: &'a str, help: &'a str) -> Arg<'a>
+    ensures rule { rule_of result ≡ wanted id.entry.now None }
+    ensures local { result.global ≡ false }
+{
+    Arg::new(alloc, id).help(help).required(true)
+}
+
+const TABLE: &str = "A table file, or builtin, the sample table";
+
+/// What `compile` serves of IDL, and what it doesn't.
+const SERVED: &str = "Served: modules, interfaces and their bases, operations, oneway ones too, \
+    attributes, exceptions, constants, enumerations, structures, unions, typedefs, arrays, \
+    sequences and strings with bounds and without, Object, declarations ahead, the pragmas prefix, \
+    ID and version.\nNot served: any, floating and fixed point, wide characters and strings, \
+    valuetypes, abstract and local interfaces, native, contexts, components, import. #include and \
+    #define are refused: run a preprocessor first.";
+
+/// The word for the byte order.
+fn order_word<'a>(alloc: Global, orders: &'a [&'a str]) -> Arg<'a>
+    ensures rule { rule_of result ≡ wanted (codes "ORDER") (Some (Names orders.entry)) }
+    ensures local { result.global ≡ false }
+{
+    wanted(alloc, "ORDER", "The byte order").value_parser(orders)
+}
+
+/// The word for the position.
+fn pos_word<'a>(alloc: Global) -> Arg<'a>
+    ensures rule { rule_of result ≡ wanted (codes "POS") (Some (Unsigned 0 18446744073709551615)) }
+    ensures local { result.global ≡ false }
+{
+    wanted(alloc, "POS", "The position of the first octet").value_parser(value_parser!(u64))
+}
+
+/// The commands that marshal a value take the same words.
+fn command<'a>(
+    alloc: Global,
+    orders: &'a [&'a str],
+    name: &'a str,
+    hex: &'a str,
+) -> Result<Command<'a>, AllocError>
+    ensures { IfOk result (λ command. app_of command ≡ command_app (Names orders.entry) name.entry.now) }
+{
+    Command::new(alloc, name)
+        .arg(wanted(alloc, "T", TABLE))?
+        .arg(wanted(alloc, "NAME", "The name of a type of the table"))?
+        .arg(order_word(alloc, orders))?
+        .arg(pos_word(alloc))?
+        .arg(wanted(alloc, "HEX", hex))
+}
+
+/// A command that asks of a table alone.
+fn table_command<'a>(alloc: Global, name: &'a str) -> Result<Command<'a>, AllocError>
+    ensures { IfOk result (λ command. app_of command ≡ table_app name.entry.now) }
+{
+    Command::new(alloc, name).arg(wanted(alloc, "T", TABLE))
+}
+
+/// The option for the file that is written.
+fn output_option<'a>(alloc: Global, value: &'a str) -> Arg<'a>
+    ensures rule { rule_of result ≡ output }
+    ensures local { result.global ≡ false }
+{
+    Arg::new(alloc, "o")
+        .short('o')
+        .value_name(value)
+        .help("The file for the table")
+        .required(true)
+}
+
+fn upgrade_command<'a>(alloc: Global) -> Result<Command<'a>, AllocError>
+    ensures { IfOk result (λ command. app_of command ≡ upgrade_app) }
+{
+    table_command(alloc, "upgrade")?.arg(output_option(alloc, "U"))
+}
+
+fn compile_command<'a>(alloc: Global) -> Result<Command<'a>, AllocError>
+    ensures { IfOk result (λ command. app_of command ≡ compile_app) }
+{
+    Command::new(alloc, "compile")
+        .arg(wanted(alloc, "F", "An IDL file, as a preprocessor leaves it"))?
+        .arg(output_option(alloc, "T"))
+}
+
+/// The command that makes tables.
+fn first_command<'a>(alloc: Global) -> Result<Command<'a>, AllocError>
+    ensures { IfOk result (λ program. app_of program ≡ first_app) }
+{
+    let compile = compile_command(alloc)?;
+    Command::new(alloc, "idlc")
+        .about("Compiles IDL files to tables, and marshals values in CDR by them")
+        .subcommand_required(true)
+        .subcommand(
+            compile
+                .about("Writes the table of an IDL file")
+                .after_help(SERVED),
+        )
+}
+
+/// The command that makes tables, and those that marshal a value.
+fn value_commands<'a>(alloc: Global, orders: &'a [&'a str]) -> Result<Command<'a>, AllocError>
+    ensures { IfOk result (λ program. app_of program ≡ value_app (Names orders.entry)) }
+{
+    let first = first_command(alloc)?;
+    let encode = command(alloc, orders, "encode", "The value's tape")?;
+    let decode = command(alloc, orders, "decode", "The octets")?;
+    first
+        .subcommand(encode.about("Writes the octets of a value"))?
+        .subcommand(decode.about("Reads a value from octets"))
+}
+
+/// An option that has to be there.
+fn option<'a>(alloc: Global, name: &'a str, value: &'a str, help: &'a str) -> Arg<'a>
+    ensures rule { rule_of result ≡ option_rule name.entry.now None }
+    ensures local { result.global ≡ false }
+{
+    Arg::new(alloc, name)
+        .long(name)
+        .value_name(value)
+        .help(help)
+        .required(true)
+}
+
+/// The option for the port.
+fn port_option<'a>(alloc: Global) -> Arg<'a>
+    ensures rule { rule_of result ≡ option_rule (codes "port") (Some (Signed (pos 0) (pos 65535))) }
+    ensures local { result.global ≡ false }
+{
+    option(alloc, "port", "P", "The port of the object").value_parser(value_parser!(u16))
+}
+
+/// The option for an object.
+fn object_option<'a>(alloc: Global) -> Arg<'a>
+    ensures rule { rule_of result ≡ option_rule (codes "object") None }
+    ensures local { result.global ≡ false }
+{
+    let help = "The key of the object, and its interface";
+    option(alloc, "object", "KEY=NAME", help)
+}
+
+/// The command for references.
+fn reference_command<'a>(alloc: Global) -> Result<Command<'a>, AllocError>
+    ensures { IfOk result (λ command. app_of command ≡ reference_app) }
+{
+    table_command(alloc, "ior")?
+        .arg(option(alloc, "host", "H", "The host of the object"))?
+        .arg(port_option(alloc))?
+        .arg(object_option(alloc))
+}
+
+/// The option for the number of connections.
+fn connections_option<'a>(alloc: Global) -> Arg<'a>
+    ensures rule { rule_of result ≡ option_rule (codes "connections") (Some (Signed (pos 0) (pos 4294967295))) }
+    ensures local { result.global ≡ false }
+{
+    let help = "So many connections are served, one after the other";
+    option(alloc, "connections", "N", help).value_parser(value_parser!(u32))
+}
+
+/// The command that serves calls.
+fn serve_command<'a>(alloc: Global) -> Result<Command<'a>, AllocError>
+    ensures { IfOk result (λ command. app_of command ≡ serve_app) }
+{
+    table_command(alloc, "serve")?
+        .arg(port_option(alloc))?
+        .arg(object_option(alloc))?
+        .arg(connections_option(alloc))
+}
+
+/// The word for the number of a refusal.
+fn number_word<'a>(alloc: Global) -> Arg<'a>
+    ensures rule { rule_of result ≡ wanted (codes "NN") (Some (Signed (pos 0) (pos 255))) }
+    ensures local { result.global ≡ false }
+{
+    wanted(alloc, "NN", "The number of the refusal").value_parser(value_parser!(u8))
+}
+
+fn explain_command<'a>(alloc: Global) -> Result<Command<'a>, AllocError>
+    ensures { IfOk result (λ command. app_of command ≡ explain_app) }
+{
+    Command::new(alloc, "explain").arg(number_word(alloc))
+}
+
+/// The commands that marshal a value, and those that ask of a table alone.
+fn commands_of_tables<'a>(alloc: Global, orders: &'a [&'a str]) -> Result<Command<'a>, AllocError>
+    ensures { IfOk result (λ program. app_of program ≡ tables_app (Names orders.entry)) }
+{
+    let marshals = value_commands(alloc, orders)?;
+    let check = table_command(alloc, "check")?;
+    let checks = marshals.subcommand(check.about("Checks a table"))?;
+    let show = table_command(alloc, "show")?;
+    let lists = checks.subcommand(show.about("Lists the routines of a table"))?;
+    let upgrade = upgrade_command(alloc)?;
+    lists.subcommand(upgrade.about("Writes a table in the newest version"))
+}
+
+/// All commands of tables and of their objects.
+fn commands_of_objects<'a>(alloc: Global, orders: &'a [&'a str]) -> Result<Command<'a>, AllocError>
+    ensures { IfOk result (λ program. app_of program ≡ served_app (Names orders.entry)) }
+{
+    let tables = commands_of_tables(alloc, orders)?;
+    let reference = reference_command(alloc)?;
+    let refers = tables.subcommand(reference.about("Prints a reference to an object"))?;
+    let serve = serve_command(alloc)?;
+    refers.subcommand(serve.about("Serves calls to an object that keeps its attributes"))
+}
+
+/// The whole program.
+pub(crate) fn program<'a>(alloc: Global, orders: &'a [&'a str]) -> Result<Command<'a>, AllocError>
+    ensures { IfOk result (λ program. app_of program ≡ program_app (Names orders.entry)) }
+{
+    let objects = commands_of_objects(alloc, orders)?;
+    let explain = explain_command(alloc)?;
+    objects.subcommand(explain.about("Says what a refusal means"))
+}

@@ -1,0 +1,12 @@
+//! The words of a command line, and what they ask for, as `clap` reads them.
+#![tactic(auto)]
+
+mod commands;
+mod line;
+mod matches;
+mod mistake;
+mod task;
+
+pub use line::parse;
+pub use mistake::Mistake;
+pub use task::{Asked, AskedReference, Said, Service, Task};

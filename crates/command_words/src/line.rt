@@ -1,0 +1,76 @@
+//! The words of a command line.
+
+ghost use Rattle.std.specs.Prelude.{◌≡◌, ◌≢◌, codes, IsErr, IsErrAnd, IfErr, MatchResult, Err, Some, true};
+ghost use Rattle.clap.specs.Words.{kind_of};
+ghost use Rattle.command_words.specs.Ask.{Ask, ask_of};
+ghost use Rattle.command_words.specs.Mistake.{IsOfWords};
+ghost use Rattle.command_words.specs.Words.{AsksFor, IsMistaken, texts};
+ghost use Rattle.command_words.specs.declared.task.Task.{Task};
+
+use crate::commands::program;
+use crate::matches::{service_in, task_in};
+use crate::mistake::Mistake;
+use crate::task::Said;
+use clap::ArgMatches;
+use clap::error::ErrorKind;
+use std::alloc::Global;
+
+const ORDERS: [&str; 2] = ["big", "little"];
+
+/// Whether the words name a command that takes a byte order, the only word of it that has to be one
+/// of a few.
+fn has_order(words: &[&str]) -> bool {
+    match words.get(1) {
+        Some(name) => *name == "encode" || *name == "decode",
+        None => false,
+    }
+}
+
+/// The text of asked-for help, or the fault.
+fn help_or_fault<'a>(
+    alloc: Global,
+    has_order: bool,
+    error: clap::Error,
+) -> Result<Said<'a>, Mistake>
+    ensures memory { kind_of error ≡ ErrorKind.OutOfMemory → result ≡ Err Mistake.NoMemory }
+    ensures order { has_order ≡ true → kind_of error ≡ ErrorKind.InvalidValue → result ≡ Err (Mistake.BadOrder error) }
+    ensures help { kind_of error ≡ ErrorKind.DisplayHelp
+        → IfErr result (λ fault. fault ≡ Mistake.NoMemory) }
+    ensures usage { kind_of error ≢ ErrorKind.DisplayHelp
+        → kind_of error ≢ ErrorKind.DisplayVersion → IsErr result }
+    ensures err { IfErr result IsOfWords }
+{
+    match error.kind() {
+        ErrorKind::OutOfMemory => Err(Mistake::NoMemory),
+        ErrorKind::InvalidValue if has_order => Err(Mistake::BadOrder(error)),
+        _ if error.use_stderr() => Err(Mistake::Usage(error)),
+        _ => Ok(Said::Help(format!(in alloc; "{error}")?)),
+    }
+}
+
+/// Words that ask for no answer ask to serve calls.
+fn served<'a>(matches: &ArgMatches<'a>) -> Result<Said<'a>, Mistake> {
+    match service_in(matches) {
+        Some(service) => Ok(Said::Serve(service)),
+        None => Err(Mistake::NoWord),
+    }
+}
+
+/// What the words of a run say.
+///
+/// # Errors
+/// What `clap` says of words that aren't those of a command. Want of memory.
+pub fn parse<'a>(alloc: Global, words: &'a [&'a str]) -> Result<Said<'a>, Mistake>
+    ensures asked { (ask : Ask) → AsksFor (texts words.now) ask → MatchResult result
+        (λ said. (task : Task) × (said ≡ Said.Do task) × (ask_of task ≡ Some ask))
+        (λ fault. fault ≡ Mistake.NoMemory) }
+    ensures mistaken { IsMistaken (texts words.now) → IsErrAnd result IsOfWords }
+{
+    match program(alloc, ORDERS.as_slice())?.try_get_matches_from(words) {
+        Err(error) => help_or_fault(alloc, has_order(words), error),
+        Ok(matches) => match task_in(&matches) {
+            Some(task) => Ok(Said::Do(task)),
+            None => served(&matches),
+        },
+    }
+}

@@ -1,0 +1,159 @@
+//! What `clap` found for the words of a command.
+
+ghost use Rattle.std.specs.Prelude.{◌≡◌, ◌<◌, ◌^◌, ◌↔◌, IsSome, IsSomeAnd, ℕ, List, codes, IfSome, Some};
+ghost use Rattle.std.specs.Str.Parse.{IsNumeral, digits_value, without_leading_plus};
+ghost use Rattle.clap.specs.Words.{rows_of, Row, subcommand_rows_of};
+ghost use Rattle.clap.specs.Matches.{found_of, first_value, one_text};
+ghost use Rattle.command_words.specs.Ask.{Ask, Explanation, Reference, ReferenceAsk, Value, ValueAsk, ask_of, command_of};
+ghost use Rattle.command_words.specs.Words.{Tells, TellsNumber, TellsReference, TellsValue};
+
+use crate::task::{Asked, AskedReference, Service, Task};
+use clap::ArgMatches;
+use reference_commands::Wanted;
+use table_commands::{Request, Way};
+use type_graph::Order;
+
+fn asked_in<'a>(way: Way, matches: &ArgMatches<'a>) -> Option<Asked<'a>>
+    ensures way { IfSome result (λ asked. asked.request.way ≡ way) }
+    ensures table { IfSome result (λ asked.
+        first_value (found_of matches.now) (codes "T") ≡ Some asked.table.now) }
+    ensures name { IfSome result (λ asked.
+        first_value (found_of matches.now) (codes "NAME") ≡ Some asked.request.name.now) }
+    ensures order { IfSome result (λ asked. (asked.request.order ≡ Order.Little)
+        ↔ (first_value (found_of matches.now) (codes "ORDER") ≡ Some (codes "little"))) }
+    ensures pos { IfSome result (λ asked. (text : List ℕ)
+        → one_text (found_of matches.now) (codes "POS") ≡ Some text
+        → digits_value 10 (without_leading_plus text) ≡ asked.request.pos) }
+    ensures hex { IfSome result (λ asked.
+        first_value (found_of matches.now) (codes "HEX") ≡ Some asked.request.hex.now) }
+    ensures whole { IsSome (first_value (found_of matches.now) (codes "T"))
+        → IsSome (first_value (found_of matches.now) (codes "NAME"))
+        → IsSome (first_value (found_of matches.now) (codes "ORDER"))
+        → IsSome (first_value (found_of matches.now) (codes "HEX"))
+        → (text : List ℕ) → one_text (found_of matches.now) (codes "POS") ≡ Some text
+        → IsNumeral 10 (without_leading_plus text)
+        → digits_value 10 (without_leading_plus text) < 2 ^ 64 → IsSome result }
+{
+    let order = match matches.get_str("ORDER")? {
+        "little" => Order::Little,
+        _ => Order::Big,
+    };
+    Some(Asked {
+        table: matches.get_str("T")?,
+        request: Request {
+            way,
+            name: matches.get_str("NAME")?,
+            order,
+            pos: matches.get_one::<u64>("POS")?,
+            hex: matches.get_str("HEX")?,
+        },
+    })
+}
+
+fn value<'a>(way: Way, words: &ArgMatches<'a>) -> Option<Task<'a>>
+    ensures { (ask : ValueAsk) → way ≡ ask.value.way → TellsValue (rows_of (found_of words.now)) ask
+        → IsSomeAnd result (λ task. ask_of task ≡ Some (Value ask)) }
+{
+    match asked_in(way, words) {
+        Some(asked) => Some(Task::Value(asked)),
+        None => None,
+    }
+}
+
+fn reference_in<'a>(matches: &ArgMatches<'a>) -> Option<AskedReference<'a>>
+    ensures table { IfSome result (λ asked.
+        first_value (found_of matches.now) (codes "T") ≡ Some asked.table.now) }
+    ensures host { IfSome result (λ asked.
+        first_value (found_of matches.now) (codes "host") ≡ Some asked.wanted.host.now) }
+    ensures port { IfSome result (λ asked. (text : List ℕ)
+        → one_text (found_of matches.now) (codes "port") ≡ Some text
+        → digits_value 10 (without_leading_plus text) ≡ asked.wanted.port) }
+    ensures object { IfSome result (λ asked.
+        first_value (found_of matches.now) (codes "object") ≡ Some asked.wanted.object.now) }
+    ensures whole { IsSome (first_value (found_of matches.now) (codes "T"))
+        → IsSome (first_value (found_of matches.now) (codes "host"))
+        → IsSome (first_value (found_of matches.now) (codes "object"))
+        → (text : List ℕ) → one_text (found_of matches.now) (codes "port") ≡ Some text
+        → IsNumeral 10 (without_leading_plus text)
+        → digits_value 10 (without_leading_plus text) < 2 ^ 16 → IsSome result }
+{
+    Some(AskedReference {
+        table: matches.get_str("T")?,
+        wanted: Wanted {
+            host: matches.get_str("host")?,
+            port: matches.get_one::<u16>("port")?,
+            object: matches.get_str("object")?,
+        },
+    })
+}
+
+fn reference<'a>(words: &ArgMatches<'a>) -> Option<Task<'a>>
+    ensures { (ask : ReferenceAsk) → TellsReference (rows_of (found_of words.now)) ask
+        → IsSomeAnd result (λ task. ask_of task ≡ Some (Reference ask)) }
+{
+    match reference_in(words) {
+        Some(asked) => Some(Task::Reference(asked)),
+        None => None,
+    }
+}
+
+fn explain<'a>(words: &ArgMatches<'a>) -> Option<Task<'a>>
+    ensures { (number : ℕ) → TellsNumber (rows_of (found_of words.now)) number
+        → IsSomeAnd result (λ task. ask_of task ≡ Some (Explanation number)) }
+{
+    match words.get_one::<u8>("NN") {
+        Some(number) => Some(Task::Explain { number }),
+        None => None,
+    }
+}
+
+fn upgrade<'a>(matches: &ArgMatches<'a>) -> Option<Task<'a>> {
+    Some(Task::Upgrade {
+        table: matches.get_str("T")?,
+        output: matches.get_str("o")?,
+    })
+}
+
+fn compile<'a>(matches: &ArgMatches<'a>) -> Option<Task<'a>> {
+    Some(Task::Compile {
+        source: matches.get_str("F")?,
+        output: matches.get_str("o")?,
+    })
+}
+
+/// What the words ask for, but for calls to serve. `clap` has seen to it that none is missing.
+pub(crate) fn task_in<'a>(matches: &ArgMatches<'a>) -> Option<Task<'a>>
+    ensures { (ask : Ask) (rows : List Row) → subcommand_rows_of matches.now ≡ Some (command_of ask, rows)
+        → Tells rows ask → IsSomeAnd result (λ task. ask_of task ≡ Some ask) }
+{
+    let (name, words) = matches.subcommand()?;
+    match name {
+        "encode" => value(Way::Encode, words),
+        "decode" => value(Way::Decode, words),
+        "check" => Some(Task::Check {
+            table: words.get_str("T")?,
+        }),
+        "show" => Some(Task::Show {
+            table: words.get_str("T")?,
+        }),
+        "upgrade" => upgrade(words),
+        "compile" => compile(words),
+        "ior" => reference(words),
+        "explain" => explain(words),
+        _ => None,
+    }
+}
+
+/// The calls that the words ask to serve.
+pub(crate) fn service_in<'a>(matches: &ArgMatches<'a>) -> Option<Service<'a>> {
+    let (name, words) = matches.subcommand()?;
+    if name != "serve" {
+        return None;
+    }
+    Some(Service {
+        table: words.get_str("T")?,
+        port: words.get_one::<u16>("port")?,
+        object: words.get_str("object")?,
+        connections: words.get_one::<u32>("connections")?,
+    })
+}

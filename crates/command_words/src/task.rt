@@ -1,0 +1,55 @@
+//! What a run of the program may be asked to do.
+
+use reference_commands::Wanted;
+use table_commands::Request;
+
+/// A value of a table.
+#[derive(Clone, Copy, Debug)]
+pub struct Asked<'a> {
+    /// The name of the table.
+    pub table: &'a str,
+    pub request: Request<'a>,
+}
+
+/// A reference to an object of a table's interface.
+#[derive(Clone, Copy, Debug)]
+pub struct AskedReference<'a> {
+    /// The name of the table.
+    pub table: &'a str,
+    pub wanted: Wanted<'a>,
+}
+
+/// Calls to an object of a table's interface, that come by a socket.
+#[derive(Clone, Copy, Debug)]
+pub struct Service<'a> {
+    /// The name of the table.
+    pub table: &'a str,
+    pub port: u16,
+    /// The key of the object, an equals sign, and the name of its interface.
+    pub object: &'a str,
+    /// So many connections are served, one after the other.
+    pub connections: u32,
+}
+
+/// What a run is asked to do.
+#[derive(Clone, Copy, Debug)]
+pub enum Task<'a> {
+    Value(Asked<'a>),
+    Reference(AskedReference<'a>),
+    /// What the refusal of a number means.
+    Explain { number: u8 },
+    Check { table: &'a str },
+    Show { table: &'a str },
+    Upgrade { table: &'a str, output: &'a str },
+    /// The table of an IDL file, in another file.
+    Compile { source: &'a str, output: &'a str },
+}
+
+/// What the words say.
+#[derive(Debug, Drop)]
+pub enum Said<'a> {
+    /// The text of asked-for help.
+    Help(String),
+    Do(Task<'a>),
+    Serve(Service<'a>),
+}

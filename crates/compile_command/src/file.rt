@@ -1,0 +1,72 @@
+//! From the octets of an IDL file to those of its table file.
+
+ghost use Rattle.std.specs.Prelude.{◌≡◌, ◌≤◌, length, IfOk};
+ghost use Rattle.compile_command.specs.Files.{IsCompiledFile};
+ghost use Rattle.position_checker.specs.Acceptance.{IsRight};
+ghost use Rattle.table_file.specs.TableSpelling.{Spells};
+
+use crate::refusal::{Refusal, told, unwritten};
+use idl_compiler::{CompileFault, compile};
+use idl_lexer::LexFault;
+use position_checker::Accepted;
+use settled_tables::Settled;
+use std::alloc::Global;
+use std::str;
+use table_commands::{accepted_line, upgraded};
+
+/// The table file of an IDL file, and what is told of it.
+#[derive(Debug, Drop)]
+pub struct Compiled {
+    /// The octets of the table file, of the newest version.
+    pub octets: Vec<u8>,
+    /// The line that says how many routines were accepted.
+    pub line: String,
+    /// Whether the planned program serves the names of the table.
+    pub is_planned: bool,
+}
+
+/// The octets of an accepted table's file.
+fn octets_of(alloc: Global, table: &Accepted) -> Result<Vec<u8>, Refusal>
+    ensures spelled { IfOk result (λ octets. Spells table.now octets.items) }
+    ensures right { IsRight table.now }
+    ensures within { IfOk result (λ octets. length octets.items ≤ 16777216) }
+{
+    match upgraded(alloc, table) {
+        Ok(octets) => Ok(octets),
+        Err(refusal) => Err(unwritten(alloc, &refusal)),
+    }
+}
+
+fn file_of(alloc: Global, settled: &Settled) -> Result<Compiled, Refusal>
+    ensures spelled { IfOk result (λ file. Spells settled.now.table file.octets.items) }
+    ensures within { IfOk result (λ file. length file.octets.items ≤ 16777216) }
+    ensures right { IsRight settled.now.table }
+    ensures planned { IfOk result (λ file. file.is_planned ≡ settled.now.is_planned) }
+{
+    let octets = octets_of(alloc, &settled.table)?;
+    let line = accepted_line(alloc, &settled.table)?;
+    Ok(Compiled {
+        octets,
+        line,
+        is_planned: settled.is_planned,
+    })
+}
+
+/// The table file of an IDL file (ISO/IEC 19500-1), as a preprocessor leaves it.
+///
+/// # Errors
+/// `Fault` with the first fault of the file and its line, 0 where the file isn't UTF-8: tokens
+/// before grammar, grammar before names, names before types. `TooLong` where the table has more
+/// octets than a file may have. Want of memory.
+pub fn compile_file(alloc: Global, source: &[u8]) -> Result<Compiled, Refusal>
+    ensures { IfOk result (IsCompiledFile source.now) }
+{
+    let Ok(text) = str::from_utf8(source) else {
+        return Err(told(alloc, &LexFault::BadChar { line: 0 }));
+    };
+    match compile(alloc, text) {
+        Ok(settled) => file_of(alloc, &settled),
+        Err(CompileFault::NoMemory) => Err(Refusal::NoMemory),
+        Err(fault) => Err(told(alloc, &fault)),
+    }
+}

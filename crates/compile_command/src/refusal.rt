@@ -1,0 +1,42 @@
+//! Why a file isn't compiled.
+
+use std::alloc::{AllocError, Global};
+use std::fmt::Display;
+use table_commands::Refusal as TableRefusal;
+use thiserror::Error;
+
+/// A refusal has as its text the line that the program puts behind its name.
+#[derive(Debug, Drop, Error)]
+pub enum Refusal {
+    /// The file has a fault. The text is its number and name, with its line.
+    #[error("{text}")]
+    Fault { text: String },
+    /// The table has more octets than a file may have.
+    #[error("too long")]
+    TooLong,
+    #[error("no memory")]
+    NoMemory,
+}
+
+impl From<AllocError> for Refusal {
+    fn from(_error: AllocError) -> Refusal {
+        Refusal::NoMemory
+    }
+}
+
+/// The text of a fault is kept in place of the fault, which may be large.
+pub(crate) fn told<F: Display>(alloc: Global, fault: &F) -> Refusal {
+    match format!(in alloc; "{fault}") {
+        Ok(text) => Refusal::Fault { text },
+        Err(_) => Refusal::NoMemory,
+    }
+}
+
+/// Why the table has no file.
+pub(crate) fn unwritten(alloc: Global, refusal: &TableRefusal<'_>) -> Refusal {
+    match refusal {
+        TableRefusal::NoMemory => Refusal::NoMemory,
+        TableRefusal::TooLong => Refusal::TooLong,
+        refusal => told(alloc, refusal),
+    }
+}

@@ -1,9 +1,0 @@
-use Rattle.std.proofs.Common.{ap₂, ◌∙◌}
-use Rattle.std.proofs.lemmas.Result.{IfOk-weaker}
-use Rattle.clap.specs.Words.{with_rule}
-use Rattle.idlc_main.proofs.words.explain_command.Goals as goal
-
-pub returns : goal.returns
-returns c =
-    IfOk-weaker c.arg.result _ _ (λ command h. h.shape c.number_word.ensures.local
-    ∙ ap₂ with_rule c.new.ensures.app c.number_word.ensures.rule) c.arg.ensures

@@ -1,0 +1,38 @@
+//! Calls served to an object of a table's interface.
+
+ghost use Rattle.std.specs.Prelude.{◌≡◌, ◌<◌, IfErr};
+ghost use Rattle.idlc_main.specs.Answer.{MayServe};
+ghost use Rattle.idlc_main.specs.Fault.{status_of};
+ghost use Rattle.idlc_main.specs.declared.fault.Fault.TheVariants.{NoMemory};
+
+use crate::fault::Fault;
+use crate::tables::table_of;
+use command_words::Service;
+use socket_server::{Asked, serve};
+use std::fs::Files;
+use std::io::Write;
+use std::net::Net;
+
+/// Serves calls by a table, which is checked before anything listens.
+pub fn served<'a, R: Files + Net + AllocGlobal, O: Write>(
+    rt: &R,
+    out: &mut O,
+    service: &Service<'a>,
+) -> Result<(), Fault<'a>>
+    ensures silent { IfErr result (λ fault. status_of fault < 3 → out.new ≡ out.old) }
+    ensures memory { IfErr result (λ fault. fault ≡ NoMemory → MayServe (O.contents out.old) (O.contents out.new)) }
+{
+    let table = match table_of(rt, service.table) {
+        Ok(table) => table,
+        Err(fault) => return Err(fault),
+    };
+    let asked = Asked {
+        port: service.port,
+        object: service.object,
+        connections: service.connections,
+    };
+    match serve(rt, out, table, &asked) {
+        Ok(()) => Ok(()),
+        Err(fault) => Err(Fault::from(fault)),
+    }
+}
