@@ -1,3 +1,4 @@
 pub mod Visits
 pub mod Objects
 pub mod Counts
+pub mod Sessions
