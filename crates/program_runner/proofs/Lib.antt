@@ -1,5 +1,6 @@
 pub mod Chunks
 pub mod Turning
+pub mod Gaps
 pub mod Calls
 pub mod Agreement
 pub mod PassAgreement

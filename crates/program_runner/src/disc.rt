@@ -9,7 +9,7 @@ ghost use Rattle.program_runner.specs.Steps.{Gives, number_at, disc_number};
 
 use crate::fault::RunFault;
 use crate::text::number_at_front;
-use crate::words::push_number;
+use crate::words::{make_room, push_number};
 use marshal_program::Disc;
 use std::alloc::AllocError;
 use type_graph::{Order, Width};
@@ -106,6 +106,7 @@ pub fn push_word(out: &mut Vec<u8>, order: Order, width: Width, n: u64) -> Resul
     requires { n < words_of width }
     ensures { OnOk result (out.new.items ≡ out.old.items ++ plain_word order width n) }
 {
+    make_room(out, width.octets())?;
     match width {
         Width::One => push_octet(out, order, n as u8),
         Width::Two => push_short(out, order, n as u16),

@@ -1,12 +1,12 @@
 //! Numbers, lengths and strings at the front of an input.
 
-ghost use Rattle.std.specs.Prelude.{◌≡◌, ◌==◌};
+ghost use Rattle.std.specs.Prelude.{◌≡◌, ◌<◌, ◌≤◌, ◌==◌, IfOk, length, take};
 ghost use Rattle.std.specs.List.{list_any};
 ghost use Rattle.type_graph.specs.declared.width.Width.TheVariants.{Four};
 ghost use Rattle.program_runner.specs.Steps.{Gives, has_no_bool, judged_bools, number_at, is_over, read_length, tape_length, no_zero, terminated, unterminated};
 
 use crate::fault::RunFault;
-use crate::lanes::{NoBoolean, Zero, has};
+use crate::lanes::{NoBoolean, Zero, has_in_front};
 use type_graph::Order;
 
 /// The unsigned long at the front (ISO/IEC 19500-2, CDR, integer data types).
@@ -23,11 +23,12 @@ pub fn number_at_front(order: Order, octets: &[u8]) -> Result<u32, RunFault>
     }
 }
 
-/// One of the octets is neither 0 nor 1.
-fn has_no_bool(octets: &[u8]) -> bool
-    ensures { result ≡ has_no_bool octets.now }
+/// One of the first octets is neither 0 nor 1.
+fn has_no_bool(octets: &[u8], n: usize) -> bool
+    requires { n ≤ length octets.now }
+    ensures { result ≡ has_no_bool (take n octets.now) }
 {
-    has::<NoBoolean>(octets)
+    has_in_front::<NoBoolean>(octets, n)
 }
 
 /// Refuses so many octets at the front unless they are there and each is 0 or 1.
@@ -37,7 +38,7 @@ pub fn judge_bools(n: usize, octets: &[u8]) -> Result<(), RunFault>
     if octets.len() < n {
         return Err(RunFault::Short);
     }
-    if has_no_bool(&octets[..n]) {
+    if has_no_bool(octets, n) {
         return Err(RunFault::BadBool);
     }
     Ok(())
@@ -76,24 +77,30 @@ pub fn length_on_tape(bound: u32, said: u32) -> Result<u32, RunFault>
     Ok(said)
 }
 
-fn has_zero(text: &[u8]) -> bool
-    ensures { result ≡ list_any (λ octet. octet == 0) text.now }
+fn has_zero(octets: &[u8], n: usize) -> bool
+    requires { n ≤ length octets.now }
+    ensures { result ≡ list_any (λ octet. octet == 0) (take n octets.now) }
 {
-    has::<Zero>(text)
+    has_in_front::<Zero>(octets, n)
 }
 
-fn without_zero(text: &[u8]) -> Result<&[u8], RunFault>
-    ensures { Gives (λ t. t.now) result (no_zero text.now) }
+/// The first octets, where none of them is zero.
+fn without_zero(octets: &[u8], n: usize) -> Result<&[u8], RunFault>
+    requires { n ≤ length octets.now }
+    ensures value { Gives (λ t. t.now) result (no_zero (take n octets.now)) }
+    ensures front { IfOk result (λ t. t.now ≡ take n octets.now) }
 {
-    if has_zero(text) {
+    if has_zero(octets, n) {
         return Err(RunFault::ZeroInside);
     }
-    Ok(text)
+    Ok(&octets[..n])
 }
 
 /// The string of so many octets at the front, which a zero ends.
 pub fn terminated_text(n: usize, octets: &[u8]) -> Result<&[u8], RunFault>
-    ensures { Gives (λ t. t.now) result (terminated n octets.now) }
+    ensures value { Gives (λ t. t.now) result (terminated n octets.now) }
+    ensures front { IfOk result (λ t. t.now ≡ take n octets.now) }
+    ensures within { IfOk result (λ _. n < length octets.now) }
 {
     if octets.len() <= n {
         return Err(RunFault::Short);
@@ -101,15 +108,17 @@ pub fn terminated_text(n: usize, octets: &[u8]) -> Result<&[u8], RunFault>
     if octets[n] != 0 {
         return Err(RunFault::NoTerminator);
     }
-    without_zero(&octets[..n])
+    without_zero(octets, n)
 }
 
 /// The string of so many octets at the front.
 pub fn plain_text(n: usize, octets: &[u8]) -> Result<&[u8], RunFault>
-    ensures { Gives (λ t. t.now) result (unterminated n octets.now) }
+    ensures value { Gives (λ t. t.now) result (unterminated n octets.now) }
+    ensures front { IfOk result (λ t. t.now ≡ take n octets.now) }
+    ensures within { IfOk result (λ _. n ≤ length octets.now) }
 {
     if octets.len() < n {
         return Err(RunFault::Short);
     }
-    without_zero(&octets[..n])
+    without_zero(octets, n)
 }

@@ -1,6 +1,6 @@
 //! Octets at the end of a list: zeros for a gap, numbers in a byte order.
 
-ghost use Rattle.std.specs.Prelude.{◌≡◌, ◌<◌, ◌+◌, ◌*◌, ◌++◌, length, take, drop, replicate, OnOk};
+ghost use Rattle.std.specs.Prelude.{◌≡◌, ◌<◌, ◌≤◌, ◌+◌, ◌*◌, ◌++◌, length, take, drop, replicate, OnOk};
 ghost use Rattle.type_graph.specs.declared.width.Width.TheVariants.{Four};
 ghost use Rattle.type_graph.specs.Words.{octets_in, plain_word, pad};
 ghost use Rattle.program_runner.specs.Steps.{turned, in_order};
@@ -18,16 +18,83 @@ pub fn gap_at(place: u64, to: Width) -> usize
     ((k - place % k) % k) as usize
 }
 
-/// Zeros at the end, fewer than 8.
+/// How many octets an output has room for at least once it has any, so that a small value asks for memory once.
+const FIRST_ROOM: usize = 64;
+
+/// Asks for room. It stands apart, so that what is inlined is the test alone.
+#[cold]
+#[inline(never)]
+fn ask_for_room(out: &mut Vec<u8>, n: usize) -> Result<(), AllocError>
+    ensures { out.new.items ≡ out.old.items }
+{
+    out.reserve(n.max(FIRST_ROOM))
+}
+
+/// Whether there is room for so many octets more at the end.
+pub fn has_room(out: &Vec<u8>, n: usize) -> bool {
+    out.capacity() - out.len() >= n
+}
+
+/// Makes room for so many octets more at the end.
+pub fn make_room(out: &mut Vec<u8>, n: usize) -> Result<(), AllocError>
+    ensures { out.new.items ≡ out.old.items }
+{
+    if !has_room(out, n) {
+        ask_for_room(out, n)?;
+    }
+    Ok(())
+}
+
+/// A run of so many octets at the end: a compiler that knows how many needs no call to copy them.
+pub fn push_few<const N: usize>(out: &mut Vec<u8>, octets: &[u8]) -> Result<(), AllocError>
+    requires { length octets.now ≡ N }
+    ensures { OnOk result (out.new.items ≡ out.old.items ++ octets.now) }
+{
+    make_room(out, N)?;
+    out.extend_from_slice(&octets[..N])
+}
+
+/// Zeros at the end, fewer than 8: eight are written and those too many are taken back, without a branch.
+#[tactic(auto, using(crate::proofs::Gaps::zeros_kept))]
 pub fn push_zeros(out: &mut Vec<u8>, n: usize) -> Result<(), AllocError>
     requires { n < 8 }
     ensures { OnOk result (out.new.items ≡ out.old.items ++ replicate n 0) }
 {
-    let mut zeros: ArrayVec<u8, 8> = ArrayVec::new();
-    for _ in 0..n {
-        zeros.push(0);
+    let end = out.len() + n;
+    let zeros: ArrayVec<u8, 8> = ArrayVec::from([0; 8]);
+    push_few::<8>(out, zeros.as_slice())?;
+    out.truncate(end);
+    Ok(())
+}
+
+/// Octets at the end.
+pub fn push_octets(out: &mut Vec<u8>, octets: &[u8]) -> Result<(), AllocError>
+    ensures { OnOk result (out.new.items ≡ out.old.items ++ octets.now) }
+{
+    if octets.len() == 1 {
+        return push_few::<1>(out, octets);
     }
-    out.extend_from_slice(zeros.as_slice())
+    make_room(out, octets.len())?;
+    out.extend_from_slice(octets)
+}
+
+/// Runs of up to so many octets are copied without a call.
+const SHORT_RUN: usize = 16;
+
+/// So many octets of a front at the end: of a short one as many as a short run has are written, where they are there, and
+/// those too many are taken back.
+#[tactic(auto, using(crate::proofs::Gaps::front_kept))]
+pub fn push_front(out: &mut Vec<u8>, octets: &[u8], n: usize) -> Result<(), AllocError>
+    requires { n ≤ length octets.now }
+    ensures { OnOk result (out.new.items ≡ out.old.items ++ take n octets.now) }
+{
+    if n > SHORT_RUN || octets.len() < SHORT_RUN {
+        return push_octets(out, &octets[..n]);
+    }
+    let end = out.len() + n;
+    push_few::<SHORT_RUN>(out, &octets[..SHORT_RUN])?;
+    out.truncate(end);
+    Ok(())
 }
 
 /// Turns the words of `N` octets from a place to the end round, one by one.
@@ -42,13 +109,24 @@ fn turn_words<const N: usize>(out: &mut Vec<u8>, start: usize, n: u32)
     }
 }
 
+/// One word turned round at the end.
+pub fn push_reversed<const N: usize>(out: &mut Vec<u8>, word: &[u8]) -> Result<(), AllocError>
+    requires { length word.now ≡ N }
+    ensures { OnOk result (out.new.items ≡ out.old.items ++ turned N 1 word.now) }
+{
+    let start = out.len();
+    push_few::<N>(out, word)?;
+    turn_words::<N>(out, start, 1);
+    Ok(())
+}
+
 /// Copies all words at once, so that room is made once, and then turns them where they lie.
 fn push_turned<const N: usize>(out: &mut Vec<u8>, n: u32, words: &[u8]) -> Result<(), AllocError>
     requires { length words.now ≡ n * N }
     ensures { OnOk result (out.new.items ≡ out.old.items ++ turned N n words.now) }
 {
     let start = out.len();
-    out.extend_from_slice(words)?;
+    push_octets(out, words)?;
     turn_words::<N>(out, start, n);
     Ok(())
 }
@@ -65,7 +143,7 @@ pub fn push_words(
     ensures { OnOk result (out.new.items ≡ out.old.items ++ in_order order (octets_in width) n words.now) }
 {
     match (order, width) {
-        (Order::Big, _) => out.extend_from_slice(words),
+        (Order::Big, _) => push_octets(out, words),
         (Order::Little, Width::One) => push_turned::<1>(out, n, words),
         (Order::Little, Width::Two) => push_turned::<2>(out, n, words),
         (Order::Little, Width::Four) => push_turned::<4>(out, n, words),
@@ -81,5 +159,5 @@ pub fn push_number(out: &mut Vec<u8>, order: Order, n: u32) -> Result<(), AllocE
         Order::Big => n.to_be_bytes(),
         Order::Little => n.to_le_bytes(),
     };
-    out.extend_from_slice(&word)
+    push_few::<4>(out, &word)
 }
