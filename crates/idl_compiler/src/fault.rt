@@ -7,7 +7,6 @@ use model_builder::BuildFault;
 use scoped_names::NameFault;
 use std::alloc::AllocError;
 use thiserror::Error;
-use type_graph::GraphFault;
 
 /// The first fault of a file in the order of the steps: tokens, grammar, names, types. Its text is
 /// its number and name, with its line.
@@ -60,7 +59,7 @@ impl From<NameFault> for CompileFault {
 impl From<BuildFault> for CompileFault {
     fn from(fault: BuildFault) -> CompileFault {
         match fault {
-            BuildFault::Types(GraphFault::NoMemory) => CompileFault::NoMemory,
+            BuildFault::NoMemory => CompileFault::NoMemory,
             fault => CompileFault::Model(fault),
         }
     }

@@ -1,4 +1,5 @@
 -- The model that an IDL file shows.
+pub mod Refusal
 pub mod Naming
 pub mod Signatures
 pub mod Shown

@@ -8,4 +8,4 @@ mod naming;
 mod signatures;
 
 pub use file::build;
-pub use written_types::BuildFault;
+pub use written_types::{BuildFault, TypeFault};

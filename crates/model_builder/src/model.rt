@@ -9,7 +9,7 @@ use crate::naming::names_of;
 use crate::signatures::{exceptions_of, interfaces_of, operations_of};
 use scoped_names::Names;
 use std::alloc::Global;
-use type_graph::Items;
+use type_graph::{GraphFault, Items};
 use type_model::Model;
 use written_operations::{Offered, Signature};
 use written_types::{BuildFault, TypeTable};
@@ -34,12 +34,17 @@ pub(crate) fn model_of<'a>(
     let exceptions = exceptions_of(alloc, names, types.exceptions())?;
     let interfaces = interfaces_of(alloc, names, offered)?;
     let graph = graph_of(alloc, types)?;
-    Ok(Model::new(
+    let model = Model::new(
         alloc,
         graph,
         Items::new(list),
         Items::new(interfaces),
         Items::new(operations),
         Items::new(exceptions),
-    )?)
+    );
+    match model {
+        Ok(model) => Ok(model),
+        Err(GraphFault::NoMemory) => Err(BuildFault::NoMemory),
+        Err(_) => Err(BuildFault::OtherNames),
+    }
 }

@@ -3,13 +3,12 @@
 ghost use Rattle.std.specs.Prelude.{◌≡◌, ◌↔◌, IfErr, IsTrue, OnErr, OnOk};
 ghost use Rattle.idl_tree.specs.Lists.{parts};
 ghost use Rattle.written_operations.specs.Oneway.{HasNoReply, KeepsOneway, are_in};
-ghost use Rattle.type_graph.specs.declared.fault.GraphFault.TheVariants.{BadOneway};
 ghost use Rattle.written_types.specs.declared.fault.BuildFault.TheVariants.{Types};
+ghost use Rattle.written_types.specs.declared.fault.TypeFault.TheVariants.{BadOneway};
 
 use idl_tree::definitions::{Direction, Operation, Param};
 use idl_tree::names::Listed;
-use type_graph::GraphFault;
-use written_types::BuildFault;
+use written_types::{BuildFault, TypeFault};
 
 /// Whether all parameters are `in` ones.
 fn take_only_in(params: &Listed<Param<'_>>) -> bool
@@ -47,7 +46,7 @@ pub fn check_oneway(o: &Operation<'_>) -> Result<(), BuildFault>
 {
     if o.is_oneway && !has_no_reply(o) {
         let line = o.identifier.token.line;
-        return Err(BuildFault::Types(GraphFault::BadOneway { line }));
+        return Err(BuildFault::Types(TypeFault::BadOneway { line }));
     }
     Ok(())
 }

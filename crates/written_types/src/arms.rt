@@ -3,10 +3,10 @@
 ghost use Rattle.std.specs.Prelude.{◌≡◌, ◌≤◌, ◌++◌, ℕ, ℤ, List, [], ◌∷◌, insert, length, IfOk, OnOk, Some};
 ghost use Rattle.written_types.specs.Types.{no_arms, with_arm};
 
-use crate::fault::BuildFault;
+use crate::fault::{BuildFault, TypeFault};
 use std::alloc::Global;
 use std::marker::Model;
-use type_graph::{Arms, GraphFault, GraphLimit, Members, Node, Values};
+use type_graph::{Arms, GraphLimit, Members, Node, Values};
 
 const MAX_MEMBERS: usize = 1024;
 
@@ -126,7 +126,7 @@ impl ArmList {
     {
         let (line, label_line) = lines;
         if self.has(label) {
-            return Err(BuildFault::Types(GraphFault::LabelTwice { line: label_line }));
+            return Err(BuildFault::Types(TypeFault::LabelTwice { line: label_line }));
         }
         if self.arms.len() >= MAX_MEMBERS {
             return Err(BuildFault::limit(GraphLimit::Members, label_line));
@@ -147,7 +147,7 @@ impl ArmList {
         ensures { OnOk result (self.new ≡ record self.old { default = Some number }) }
     {
         if self.default.is_some() {
-            return Err(BuildFault::Types(GraphFault::LabelTwice { line: lines.1 }));
+            return Err(BuildFault::Types(TypeFault::LabelTwice { line: lines.1 }));
         }
         self.default = Some(number);
         self.default_lines = lines;
@@ -168,7 +168,7 @@ impl ArmList {
     pub fn check_default(&self, values: Values) -> Result<(), BuildFault> {
         if self.default.is_some() && self.arms.len() as u128 >= values.count {
             let line = self.default_lines.1;
-            return Err(BuildFault::Types(GraphFault::DefaultNeedless { line }));
+            return Err(BuildFault::Types(TypeFault::DefaultNeedless { line }));
         }
         Ok(())
     }

@@ -3,52 +3,74 @@
 use scoped_names::NameFault;
 use std::alloc::{AllocError, AllocFailed};
 use thiserror::Error;
-use type_graph::{GraphFault, GraphLimit};
+use type_graph::GraphLimit;
+
+/// A rule that the types of a specification break, with the line of what breaks it. What else the
+/// rules of a graph refuse has no variant, since no specification writes it.
+#[derive(Clone, Copy, Debug, PartialEq, Eq, Drop, Error)]
+pub enum TypeFault {
+    /// A type holds itself without a sequence between.
+    #[error("30 SelfHeld line {line}")]
+    SelfHeld { line: usize },
+    /// A label stands twice in a union, or a second default.
+    #[error("31 LabelTwice line {line}")]
+    LabelTwice { line: usize },
+    /// A label is no value of the union's discriminator.
+    #[error("32 LabelRange line {line}")]
+    LabelRange { line: usize },
+    /// A default where the labels are all values of the discriminator.
+    #[error("33 DefaultNeedless line {line}")]
+    DefaultNeedless { line: usize },
+    /// The discriminator of a union is of a type that has no labels.
+    #[error("34 BadSwitch line {line}")]
+    BadSwitch { line: usize },
+    #[error("35 Limit line {line}")]
+    Limit { which: GraphLimit, line: usize },
+    /// A oneway operation that answers something.
+    #[error("36 BadOneway line {line}")]
+    BadOneway { line: usize },
+}
 
 /// The first fault in the order of reading; a type that holds itself and too long a path come last.
 #[derive(Debug, Drop, Error)]
 pub enum BuildFault {
-    /// The types break a rule of graphs.
+    /// The types break a rule.
     #[error("{0}")]
-    Types(GraphFault),
+    Types(TypeFault),
     /// A name finds nothing of its kind.
     #[error("{0}")]
     Names(NameFault),
     /// The names are those of another specification.
     #[error("the names are those of another specification")]
     OtherNames,
+    #[error("no memory")]
+    NoMemory,
 }
 
 impl BuildFault {
     /// A limit that is passed at a line.
     pub fn limit(which: GraphLimit, line: usize) -> BuildFault {
-        BuildFault::Types(GraphFault::Limit { which, line })
+        BuildFault::Types(TypeFault::Limit { which, line })
     }
 }
 
 impl From<AllocError> for BuildFault {
     fn from(_error: AllocError) -> BuildFault {
-        BuildFault::Types(GraphFault::NoMemory)
+        BuildFault::NoMemory
     }
 }
 
 impl<T: Drop> From<AllocFailed<T>> for BuildFault {
     fn from(_error: AllocFailed<T>) -> BuildFault {
-        BuildFault::Types(GraphFault::NoMemory)
+        BuildFault::NoMemory
     }
 }
 
 impl From<NameFault> for BuildFault {
     fn from(fault: NameFault) -> BuildFault {
         match fault {
-            NameFault::NoMemory => BuildFault::Types(GraphFault::NoMemory),
+            NameFault::NoMemory => BuildFault::NoMemory,
             fault => BuildFault::Names(fault),
         }
-    }
-}
-
-impl From<GraphFault> for BuildFault {
-    fn from(fault: GraphFault) -> BuildFault {
-        BuildFault::Types(fault)
     }
 }

@@ -6,7 +6,7 @@ ghost use Rattle.idl_tree.specs.Lists.{parts};
 ghost use Rattle.written_types.specs.Types.{label_number, label_of, switch_kind, switch_type, with_label};
 
 use crate::arms::ArmList;
-use crate::fault::BuildFault;
+use crate::fault::{BuildFault, TypeFault};
 use crate::readings::{declared_entry, integer_number, resolved};
 use crate::table::TypeTable;
 use const_values::{ConstKind, Constant};
@@ -15,7 +15,7 @@ use idl_tree::names::Listed;
 use idl_tree::types::{Label, SwitchType};
 use scoped_names::Names;
 use std::alloc::Global;
-use type_graph::{GraphFault, Node, Values};
+use type_graph::{Node, Values};
 
 /// The discriminator of a union: its type, of which type its labels are constants, its values.
 #[derive(Clone, Copy)]
@@ -67,7 +67,7 @@ fn read_label<'a>(
         Some(value) if kind.admits(&constant) => Ok(value),
         _ => {
             let line = label.expr.start().token.line;
-            Err(BuildFault::Types(GraphFault::LabelRange { line }))
+            Err(BuildFault::Types(TypeFault::LabelRange { line }))
         }
     }
 }
@@ -91,7 +91,7 @@ impl ArmList {
                 let line = expr.expr.start().token.line;
                 let value = read_label(alloc, names, scope, switch.kind, expr)?;
                 if !switch.values.contains(value) {
-                    return Err(BuildFault::Types(GraphFault::LabelRange { line }));
+                    return Err(BuildFault::Types(TypeFault::LabelRange { line }));
                 }
                 self.add(value, choice.number, (choice.line, line))
             }
@@ -202,7 +202,7 @@ impl TypeTable {
                 kind,
                 values,
             }),
-            _ => Err(BuildFault::Types(GraphFault::BadSwitch { line })),
+            _ => Err(BuildFault::Types(TypeFault::BadSwitch { line })),
         }
     }
 }

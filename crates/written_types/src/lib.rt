@@ -13,7 +13,7 @@ mod table;
 mod types;
 
 pub use arms::MemberList;
-pub use fault::BuildFault;
+pub use fault::{BuildFault, TypeFault};
 pub use place::Place;
 pub use readings::{declared_entry, resolved};
 pub use table::{NodeLines, TypeTable};
