@@ -67,6 +67,14 @@ pub fn push_zeros(out: &mut Vec<u8>, n: usize) -> Result<(), AllocError>
     Ok(())
 }
 
+#[inline(never)]
+fn push_many(out: &mut Vec<u8>, octets: &[u8]) -> Result<(), AllocError>
+    ensures { OnOk result (out.new.items ≡ out.old.items ++ octets.now) }
+{
+    make_room(out, octets.len())?;
+    out.extend_from_slice(octets)
+}
+
 /// Octets at the end.
 pub fn push_octets(out: &mut Vec<u8>, octets: &[u8]) -> Result<(), AllocError>
     ensures { OnOk result (out.new.items ≡ out.old.items ++ octets.now) }
@@ -74,8 +82,7 @@ pub fn push_octets(out: &mut Vec<u8>, octets: &[u8]) -> Result<(), AllocError>
     if octets.len() == 1 {
         return push_few::<1>(out, octets);
     }
-    make_room(out, octets.len())?;
-    out.extend_from_slice(octets)
+    push_many(out, octets)
 }
 
 /// Runs of up to so many octets are copied without a call.
