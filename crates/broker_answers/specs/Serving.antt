@@ -71,7 +71,8 @@ pub record MovesRaw {S : Type 0} (acting : Acting S) (served : Served) (raw : Ra
   pub moves : MovesItem acting served item before after
 
 -- One message that is answered: what it says, the state after it, and whether it closes the connection.
-pub record ServesRaw {S : Type 0} (acting : Acting S) (served : Served) (raw : Raw) (before : S) (octets : List ℕ) (closed : Bool) (after : S) : Type 0 where
+pub record ServesRaw {S : Type 0} (acting : Acting S) (served : Served) (raw : Raw)
+    (before : S) (octets : List ℕ) (closed : Bool) (after : S) : Type 0 where
   pub item : Item
   pub moves : MovesRaw acting served raw item before after
   pub answers : AnswersItem served (acting.says before) item octets

@@ -72,7 +72,8 @@ kept_or_shut keeping true kept = keeping.shut
 kept_or_shut keeping false kept = kept
 
 -- each of its messages is answered
-pub record Answers {S C : Type 0} (keeping : Keeping C) (Serves : Serving S) (before : World S C) (c : ℕ) (octets answer : List ℕ) (after : World S C) : Type 0 where
+pub record Answers {S C : Type 0} (keeping : Keeping C) (Serves : Serving S)
+    (before : World S C) (c : ℕ) (octets answer : List ℕ) (after : World S C) : Type 0 where
   pub kept : C
   pub there : at c before.there ≡ Some kept
   pub closes : Bool
@@ -81,7 +82,8 @@ pub record Answers {S C : Type 0} (keeping : Keeping C) (Serves : Serving S) (be
   pub now : after ≡ world servant (put c (kept_or_shut keeping closes (keeping.heard kept octets).kept) before.there)
 
 -- Only so many of its messages are seen to, no octets go out, and the connection is closed.
-pub record Abandons {S C : Type 0} (keeping : Keeping C) (Moves : Moving S) (before : World S C) (c : ℕ) (octets : List ℕ) (j : ℕ) (answer : List ℕ) (after : World S C) : Type 0 where
+pub record Abandons {S C : Type 0} (keeping : Keeping C) (Moves : Moving S) (before : World S C)
+    (c : ℕ) (octets : List ℕ) (j : ℕ) (answer : List ℕ) (after : World S C) : Type 0 where
   pub kept : C
   pub there : at c before.there ≡ Some kept
   pub servant : S

@@ -13,13 +13,15 @@ abbrev pub behind : List Raw → Cut → Cut
 behind raws c = cut_of (raws ++ c.raws) c.left
 
 -- the first of them are served, and none of these closes
-pub record Progress {S : Type 0} (acting : Acting S) (served : Served) (all left : Cut) (before : S) (answer : List ℕ) (after : S) : Type 0 where
+pub record Progress {S : Type 0} (acting : Acting S) (served : Served)
+    (all left : Cut) (before : S) (answer : List ℕ) (after : S) : Type 0 where
   pub done : List Raw
   pub cut_is : all ≡ behind done left
   pub serves : Serves acting served done before answer false after
 
 -- the first of them are served, and the last of these closes
-pub record Ended {S : Type 0} (acting : Acting S) (served : Served) (all : List Raw) (before : S) (answer : List ℕ) (after : S) : Type 0 where
+pub record Ended {S : Type 0} (acting : Acting S) (served : Served)
+    (all : List Raw) (before : S) (answer : List ℕ) (after : S) : Type 0 where
   pub done : List Raw
   pub left : List Raw
   pub raws_are : all ≡ done ++ left
@@ -33,7 +35,8 @@ pub record Stopped {S : Type 0} (acting : Acting S) (served : Served) (all : Lis
   pub moves : Moves acting served done before after
 
 -- all of them are served, and this is kept of the connection
-pub record IsHeard {S : Type 0} (acting : Acting S) (served : Served) (all : Cut) (before : S) (answer : List ℕ) (kept : Kept) (after : S) : Type 0 where
+pub record IsHeard {S : Type 0} (acting : Acting S) (served : Served) (all : Cut)
+    (before : S) (answer : List ℕ) (kept : Kept) (after : S) : Type 0 where
   pub closed : Bool
   pub serves : Serves acting served all.raws before answer closed after
   pub kept_is : stream_of kept ≡ kept_or_shut rests closed all.left

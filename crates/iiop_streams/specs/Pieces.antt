@@ -12,7 +12,9 @@ use Rattle.iiop_streams.specs.declared.piece.Trouble.TheVariants as troubles
 use Rattle.iiop_streams.specs.Ends.{written_with}
 
 -- its answer is written
-pub record IsSent {S : Type 0} (acting : Acting S) (served : Served) (c : ℕ) (before : World S Stream) (piece : List ℕ) (written : Option (List ℕ)) (sent : Sent) (after : World S Stream) (written' : Option (List ℕ)) : Type 0 where
+pub record IsSent {S : Type 0} (acting : Acting S) (served : Served) (c : ℕ)
+    (before : World S Stream) (piece : List ℕ) (written : Option (List ℕ))
+    (sent : Sent) (after : World S Stream) (written' : Option (List ℕ)) : Type 0 where
   pub answer : List ℕ
   pub answers : Answers rests (Serves acting served) before c piece answer after
   pub wrote : written' ≡ written_with written answer
@@ -20,7 +22,9 @@ pub record IsSent {S : Type 0} (acting : Acting S) (served : Served) (c : ℕ) (
   pub closed : (sent.closed ≡ true) ↔ (at c after.there ≡ Some Closed)
 
 -- just so many octets of its answer are written
-pub record IsStuck {S : Type 0} (acting : Acting S) (served : Served) (c : ℕ) (before : World S Stream) (piece : List ℕ) (written : Option (List ℕ)) (n : ℕ) (after : World S Stream) (written' : Option (List ℕ)) (failure : Bool) : Type 0 where
+pub record IsStuck {S : Type 0} (acting : Acting S) (served : Served) (c : ℕ)
+    (before : World S Stream) (piece : List ℕ) (written : Option (List ℕ)) (n : ℕ)
+    (after : World S Stream) (written' : Option (List ℕ)) (failure : Bool) : Type 0 where
   pub answer : List ℕ
   pub answers : Answers rests (Serves acting served) before c piece answer after
   pub within : n ≤ length answer
@@ -28,12 +32,15 @@ pub record IsStuck {S : Type 0} (acting : Acting S) (served : Served) (c : ℕ) 
   pub failed : failure ≡ true
 
 -- it was given up
-pub record IsGivenUp {S : Type 0} (acting : Acting S) (served : Served) (c : ℕ) (before : World S Stream) (piece : List ℕ) (written : Option (List ℕ)) (after : World S Stream) (written' : Option (List ℕ)) : Type 0 where
+pub record IsGivenUp {S : Type 0} (acting : Acting S) (served : Served) (c : ℕ)
+    (before : World S Stream) (piece : List ℕ) (written : Option (List ℕ))
+    (after : World S Stream) (written' : Option (List ℕ)) : Type 0 where
   pub j : ℕ
   pub abandons : Abandons rests (Moves acting served) before c piece j [] after
   pub silent : written' ≡ written
 
-abbrev pub IsTrouble : {S : Type 0} → Acting S → Served → ℕ → World S Stream → List ℕ → Option (List ℕ) → Trouble → World S Stream → Option (List ℕ) → Bool → Type 0
+abbrev pub IsTrouble : {S : Type 0} → Acting S → Served → ℕ → World S Stream → List ℕ
+    → Option (List ℕ) → Trouble → World S Stream → Option (List ℕ) → Bool → Type 0
 IsTrouble acting served c before piece written troubles.NoMemory after written' failure =
     IsGivenUp acting served c before piece written after written'
 IsTrouble acting served c before piece written (troubles.Stuck n) after written' failure =

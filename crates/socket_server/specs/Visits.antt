@@ -26,7 +26,8 @@ interruption_of (Err faults.TooMany) = Ok tt
 
 -- A connection that told `from` when it came was served alone, as one stream, with the servant as it was before and is
 -- after; it ended or broke off, or was given up for want of memory.
-pub record IsSeen {S : Type 0} (acting : Acting S) (served : Served) (from : Ends) (before : S) (end : Result (Unit {0}) Interruption) (after : S) : Type 0 where
+pub record IsSeen {S : Type 0} (acting : Acting S) (served : Served) (from : Ends)
+    (before : S) (end : Result (Unit {0}) Interruption) (after : S) : Type 0 where
   pub result : Result (Unit {0}) StreamFault
   pub end_is : interruption_of result ≡ end
   pub to : Ends
@@ -39,7 +40,8 @@ AreSeen {S} acting served (from ∷ more) before after =
     (between : S) × IsSeen acting served from before (Ok tt) between × AreSeen acting served more between after
 
 -- one more came than had come, and was served
-pub record IsOneMore {S : Type 0} (acting : Acting S) (served : Served) (came : List Ends) (before : S) (end : Result (Unit {0}) Interruption) (came' : List Ends) (after : S) : Type 0 where
+pub record IsOneMore {S : Type 0} (acting : Acting S) (served : Served) (came : List Ends)
+    (before : S) (end : Result (Unit {0}) Interruption) (came' : List Ends) (after : S) : Type 0 where
   pub from : Ends
   pub came_is : came' ≡ came ++ from ∷ []
   pub seen : IsSeen acting served from before end after
@@ -51,14 +53,16 @@ IsVisit acting served came before (Err Unaccepted) came' after = (came' ≡ came
 IsVisit acting served came before (Err NoMemory) came' after = IsOneMore acting served came before (Err NoMemory) came' after
 
 -- just so many came, and were served
-pub record AreServed {S : Type 0} (acting : Acting S) (served : Served) (count : ℕ) (came : List Ends) (before : S) (came' : List Ends) (after : S) : Type 0 where
+pub record AreServed {S : Type 0} (acting : Acting S) (served : Served) (count : ℕ)
+    (came : List Ends) (before : S) (came' : List Ends) (after : S) : Type 0 where
   pub more : List Ends
   pub count_is : length more ≡ count
   pub came_is : came' ≡ came ++ more
   pub seen : AreSeen acting served more before after
 
 -- fewer were, and the next one wasn't
-pub record AreCut {S : Type 0} (acting : Acting S) (served : Served) (count : ℕ) (came : List Ends) (before : S) (interruption : Interruption) (came' : List Ends) (after : S) : Type 0 where
+pub record AreCut {S : Type 0} (acting : Acting S) (served : Served) (count : ℕ) (came : List Ends)
+    (before : S) (interruption : Interruption) (came' : List Ends) (after : S) : Type 0 where
   pub fewer : ℕ
   pub within : fewer < count
   pub came_before : List Ends
