@@ -54,7 +54,7 @@ pub fn push_few<const N: usize>(out: &mut Vec<u8>, octets: &[u8]) -> Result<(), 
     out.extend_from_slice(&octets[..N])
 }
 
-/// Zeros at the end, fewer than 8: eight are written and those too many are taken back, without a branch.
+/// Zeros at the end, fewer than 8: eight are written and those too many are taken back, without a loop.
 #[tactic(auto, using(crate::proofs::Gaps::zeros_kept))]
 pub fn push_zeros(out: &mut Vec<u8>, n: usize) -> Result<(), AllocError>
     requires { n < 8 }
@@ -67,6 +67,7 @@ pub fn push_zeros(out: &mut Vec<u8>, n: usize) -> Result<(), AllocError>
     Ok(())
 }
 
+/// Octets at the end by a call, so that what is inlined is the single one.
 #[inline(never)]
 fn push_many(out: &mut Vec<u8>, octets: &[u8]) -> Result<(), AllocError>
     ensures { OnOk result (out.new.items ≡ out.old.items ++ octets.now) }
