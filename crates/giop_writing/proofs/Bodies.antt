@@ -1,5 +1,5 @@
 -- Bodies, and the gap before them.
-use Rattle.std.proofs.Common.{◌≡◌, ℕ, zero, suc, ◌+◌, ◌<◌, List, [], ◌∷◌, ◌++◌, length, take, replicate, Option, Some, refl, ap, ◌∙◌, append_assoc, subst, arith}
+use Rattle.std.proofs.Common.{◌≡◌, ℕ, zero, suc, ◌+◌, ◌<◌, List, [], ◌∷◌, ◌++◌, take, replicate, Option, Some, refl, ap, ◌∙◌, append_assoc, subst, arith}
 use Rattle.std.specs.Borrow.{Bor}
 use Rattle.type_graph.specs.declared.width.Order.{Order}
 use Rattle.type_graph.specs.declared.node.Node.{Node}
@@ -9,7 +9,7 @@ use Rattle.position_checker.specs.declared.accepted.Accepted.{Accepted}
 use Rattle.giop_messages.specs.declared.fault.GiopFault.{GiopFault}
 use Rattle.giop_messages.specs.Faults.{IsMemoryOr}
 use Rattle.giop_messages.specs.Messages.{body_after}
-use Rattle.giop_messages.specs.Written.{Given, IsBody, IsGiven, body_gap}
+use Rattle.giop_messages.specs.Written.{Given, IsBody}
 use Rattle.giop_writing.specs.Made.{given, given_by}
 use Rattle.giop_writing.proofs.Refusals.{memory_or}
 
@@ -44,12 +44,11 @@ zeros_taken (suc (suc (suc (suc (suc (suc zero)))))) h = refl
 zeros_taken (suc (suc (suc (suc (suc (suc (suc zero))))))) h = refl
 zeros_taken (suc (suc (suc (suc (suc (suc (suc (suc n)))))))) h = absurd (omega (arith, h))
 
-pub parts_joined : (none one two three four head header body : List ℕ) (gap : ℕ) → gap < 8 → none ≡ []
+pub parts_joined : (none one two three head header : List ℕ) (gap : ℕ) → gap < 8 → none ≡ []
     → one ≡ none ++ head → two ≡ one ++ header
-    → three ≡ two ++ take {A = ℕ} gap (0 ∷ 0 ∷ 0 ∷ 0 ∷ 0 ∷ 0 ∷ 0 ∷ 0 ∷ []) → four ≡ three ++ body
-    → four ≡ head ++ (header ++ (replicate gap 0 ++ body))
-parts_joined none one two three four head header body gap short e f g h i =
+    → three ≡ two ++ take {A = ℕ} gap (0 ∷ 0 ∷ 0 ∷ 0 ∷ 0 ∷ 0 ∷ 0 ∷ 0 ∷ [])
+    → three ≡ head ++ (header ++ replicate gap 0)
+parts_joined none one two three head header gap short e f g h =
     let zeros : three ≡ two ++ replicate gap 0 = h ∙ ap (λ l. two ++ l) (zeros_taken gap short) in
     let first : one ≡ head = f ∙ ap (λ l. l ++ head) e in
-    i ∙ ap (λ l. l ++ body) (zeros ∙ ap (λ l. l ++ replicate gap 0) (g ∙ ap (λ l. l ++ header) first))
-    ∙ simp append_assoc
+    zeros ∙ ap (λ l. l ++ replicate gap 0) (g ∙ ap (λ l. l ++ header) first) ∙ simp append_assoc

@@ -1,5 +1,5 @@
 -- The values of the headers that are written, and their tapes.
-use Rattle.std.proofs.Common.{◌≡◌, ℕ, suc, ◌-◌, ◌^◌, ◌<◌, pos, List, [], ◌∷◌, ◌++◌, length, replicate, refl, sym, ap, ap₂, ◌∙◌, subst, append-nil, append_assoc, arith, Bool, true, false, get_or, Option}
+use Rattle.std.proofs.Common.{◌≡◌, ℕ, suc, ◌^◌, ◌<◌, pos, List, [], ◌∷◌, ◌++◌, replicate, sym, ap, ap₂, ◌∙◌, append-nil, append_assoc, arith, Bool, true, false, get_or, Option}
 use Rattle.type_graph.specs.declared.width.Order.{Order}
 use Rattle.type_graph.specs.declared.width.Width.TheVariants.{One, Two, Four}
 use Rattle.type_graph.specs.declared.width.Order.TheVariants.{Big}

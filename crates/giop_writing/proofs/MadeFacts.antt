@@ -1,22 +1,20 @@
 -- What is made of the tape of a value is what is written of the value.
-use Rattle.std.proofs.Common.{◌≡◌, ℕ, ◌+◌, ◌≤◌, ◌<◌, List, ◌++◌, length, length-append, Option, Result, Ok, Err, IfOk, IfErr, refl, sym, ap, ◌∙◌, subst, arith}
+use Rattle.std.proofs.Common.{◌≡◌, ℕ, ◌+◌, List, ◌++◌, length, length-append, Option, Result, Ok, Err, IfOk, IfErr, sym, ap, ◌∙◌, subst, arith}
 use Rattle.type_graph.specs.declared.width.Order.{Order}
 use Rattle.type_graph.specs.declared.width.Width.TheVariants.{Four}
-use Rattle.type_graph.specs.Words.{Format, writing, plain_word}
+use Rattle.type_graph.specs.Words.{writing}
 use Rattle.type_graph.specs.Value.{Tree, node_at, Fits, tape_of}
-use Rattle.type_graph.specs.Encoding.{Means, Encodes}
+use Rattle.type_graph.specs.Encoding.{Encodes}
 use Rattle.type_graph.proofs.WordLaws.{length-plain_word}
 use Rattle.type_graph.proofs.OneTape.{graph_fits_words, one_tape}
-use Rattle.giop_framing.specs.Heads.{max_size}
 use Rattle.giop_types.specs.GiopNodes.{giop_nodes}
 use Rattle.giop_types.specs.Fields.{Holds}
 use Rattle.giop_types.proofs.GraphFacts.{giop_is_graph}
 use Rattle.giop_messages.specs.declared.fault.GiopFault.{GiopFault}
 use Rattle.giop_messages.specs.declared.fault.GiopFault.TheVariants as faults
-use Rattle.giop_messages.specs.Faults.{IsMemoryOr}
-use Rattle.giop_messages.specs.Written.{Given, IsBody, IsWritten, head_octets}
-use Rattle.giop_writing.specs.Made.{IsHeader, IsMade, IsLong, HasNoBody, IsNotMade}
-use Rattle.giop_writing.specs.Refusal.{IsTooLong, HasBadBody, IsRefused}
+use Rattle.giop_messages.specs.Written.{Given, IsWritten, head_octets}
+use Rattle.giop_writing.specs.Made.{IsHeader, IsMade, IsNotMade}
+use Rattle.giop_writing.specs.Refusal.{IsRefused}
 
 -- a value and its tape
 abbrev IsTapeOf : ℕ → Tree → List ℕ → Type 0

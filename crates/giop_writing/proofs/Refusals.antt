@@ -1,5 +1,5 @@
 -- Why none are made, from why a part of them isn't.
-use Rattle.std.proofs.Common.{◌≡◌, ℕ, ◌+◌, ◌<◌, List, ◌++◌, length, length-append, replicate, Option, refl, sym, ap, ◌∙◌, arith}
+use Rattle.std.proofs.Common.{◌≡◌, ℕ, ◌+◌, ◌<◌, List, ◌++◌, length, length-append, replicate, Option, refl, ap, ◌∙◌, arith}
 use Rattle.std.proofs.lemmas.List.{length-replicate}
 use Rattle.type_graph.specs.declared.width.Order.{Order}
 use Rattle.program_runner.specs.declared.fault.RunFault.{RunFault}
@@ -10,7 +10,7 @@ use Rattle.giop_messages.specs.declared.fault.GiopFault.{GiopFault}
 use Rattle.giop_messages.specs.declared.fault.GiopFault.TheVariants as faults
 use Rattle.giop_messages.specs.Faults.{IsMemoryOr}
 use Rattle.giop_messages.specs.Written.{Given, IsBody, head_octets}
-use Rattle.giop_writing.specs.Made.{IsHeader, IsMade, IsLong, HasNoBody, IsNotMade}
+use Rattle.giop_writing.specs.Made.{IsHeader, IsLong, IsNotMade}
 use Rattle.giop_writing.proofs.MadeFacts.{length_made}
 
 -- a run that isn't refused for memory

@@ -20,6 +20,10 @@ use program_runner::RunFault;
 use std::alloc::{AllocError, Global};
 use type_graph::Order;
 
+/// From how many octets on a body stays in the list into which it was written, and what stands
+/// before it is put there: a copy into a list of its own would cost more.
+const LARGE: usize = 16_384;
+
 /// The flags that tell a byte order.
 fn flags(order: Order) -> u8
     ensures { result ≡ flags_of order }
@@ -88,6 +92,49 @@ fn size_of(header: &[u8], gap: usize, body: &[u8]) -> Option<u32>
     Some((header.len() + (gap + body.len())) as u32)
 }
 
+/// How many octets behind the head of a message of this size are put into a list of their own: a
+/// large body stays in the list into which it was written.
+fn room_of(size: u32, body: &[u8]) -> usize
+    ensures { result ≤ size }
+{
+    if body.len() < LARGE {
+        size as usize
+    } else {
+        (size as usize).saturating_sub(body.len())
+    }
+}
+
+/// What stands before a body: head, header and a gap, in a list with room for so many octets behind
+/// the head.
+fn front(
+    alloc: Global,
+    order: Order,
+    kind: u8,
+    size: u32,
+    header: &[u8],
+    gap: usize,
+    room: usize,
+) -> Result<Vec<u8>, AllocError>
+    requires gap { gap < 8 }
+    requires room { room ≤ max_size }
+    ensures { IfOk result (λ octets. octets.items ≡ head_octets order kind size ++ (header.now ++ replicate gap 0)) }
+{
+    let mut octets = Vec::with_capacity(alloc, HEAD_LEN + room)?;
+    push_head(&mut octets, order, kind, size)?;
+    octets.extend_from_slice(header)?;
+    octets.extend_from_slice(&[0; 8][..gap])?;
+    Ok(octets)
+}
+
+/// Puts octets before others, in the list of these.
+fn put_before(mut octets: Vec<u8>, front: Vec<u8>) -> Result<Vec<u8>, AllocError>
+    ensures { IfOk result (λ all. all.items ≡ front.items ++ octets.items) }
+{
+    octets.reserve_exact(front.len())?;
+    octets.splice(0..0, front)?;
+    Ok(octets)
+}
+
 /// Head, header, a gap and a body.
 fn joined(
     alloc: Global,
@@ -96,17 +143,18 @@ fn joined(
     size: u32,
     header: &[u8],
     gap: usize,
-    body: &[u8],
+    body: Vec<u8>,
 ) -> Result<Vec<u8>, AllocError>
     requires gap { gap < 8 }
     requires size { size ≤ max_size }
-    ensures { IfOk result (λ octets. octets.items ≡ head_octets order kind size ++ (header.now ++ (replicate gap 0 ++ body.now))) }
+    ensures { IfOk result (λ octets. octets.items ≡ head_octets order kind size ++ (header.now ++ (replicate gap 0 ++ body.items))) }
 {
-    let mut octets = Vec::with_capacity(alloc, HEAD_LEN + size as usize)?;
-    push_head(&mut octets, order, kind, size)?;
-    octets.extend_from_slice(header)?;
-    octets.extend_from_slice(&[0; 8][..gap])?;
-    octets.extend_from_slice(body)?;
+    let room = room_of(size, body.as_slice());
+    let mut octets = front(alloc, order, kind, size, header, gap, room)?;
+    if body.len() >= LARGE {
+        return put_before(body, octets);
+    }
+    octets.extend_from_slice(body.as_slice())?;
     Ok(octets)
 }
 
@@ -137,15 +185,7 @@ pub(crate) fn write_message(
     let Some(size) = size_of(header.as_slice(), gap, body.as_slice()) else {
         return Err(GiopFault::TooLong);
     };
-    match joined(
-        alloc,
-        order,
-        kind,
-        size,
-        header.as_slice(),
-        gap,
-        body.as_slice(),
-    ) {
+    match joined(alloc, order, kind, size, header.as_slice(), gap, body) {
         Ok(octets) => Ok(octets),
         Err(_) => Err(GiopFault::NoMemory),
     }

@@ -1,7 +1,7 @@
 //! Sources of about 1 MiB that end with their refusal.
 
-use idl_lexer::lex;
-use idl_parser::{ParseFault, parse};
+use crate::table::fault_of;
+use idl_parser::ParseFault;
 use std::alloc::Global;
 use std::test::Fail;
 
@@ -11,11 +11,10 @@ fn refusal(alloc: Global, front: &str, part: &str, times: usize) -> Result<u32, 
     for _ in 0..times {
         source.push_str(part)?;
     }
-    let tokens = lex(alloc, source.as_str())?;
-    Ok(match parse(alloc, &tokens) {
-        Err(ParseFault::Unexpected { .. }) => 10,
-        Err(ParseFault::EndOfFile { .. }) => 11,
-        Err(ParseFault::TooDeep { .. }) => 13,
+    Ok(match fault_of(alloc, source.as_str())? {
+        Some(ParseFault::Unexpected { .. }) => 10,
+        Some(ParseFault::EndOfFile { .. }) => 11,
+        Some(ParseFault::TooDeep { .. }) => 13,
         _ => 0,
     })
 }

@@ -1,7 +1,7 @@
 //! What no contract of the parser says: which fault a source gets, its line, and that good sources are taken.
 
-use crate::table::{Reader, wrong_rows};
-use idl_lexer::lex;
+use crate::table::{Reader, fault_of, fault_of_tokens, wrong_rows};
+use idl_lexer::{Token, lex};
 use idl_parser::{ParseFault, parse};
 use idl_tree::definitions::{Const, Declaration, Definition};
 use idl_tree::expression::Expr;
@@ -15,10 +15,9 @@ struct Fault;
 
 impl Reader for Fault {
     fn answer(alloc: Global, source: &str) -> Result<String, Fail> {
-        let tokens = lex(alloc, source)?;
-        match parse(alloc, &tokens) {
-            Ok(_) => Ok(String::new(alloc)),
-            Err(fault) => Ok(fault.to_string(alloc)?),
+        match fault_of(alloc, source)? {
+            None => Ok(String::new(alloc)),
+            Some(fault) => Ok(fault.to_string(alloc)?),
         }
     }
 }
@@ -153,10 +152,9 @@ struct Told;
 
 impl Reader for Told {
     fn answer(alloc: Global, source: &str) -> Result<String, Fail> {
-        let tokens = lex(alloc, source)?;
-        Ok(match parse(alloc, &tokens) {
-            Err(ParseFault::Unexpected { at, .. }) => at.to_string(alloc)?,
-            Err(ParseFault::LeftOut { what, .. }) => what.to_string(alloc)?,
+        Ok(match fault_of(alloc, source)? {
+            Some(ParseFault::Unexpected { at, .. }) => at.to_string(alloc)?,
+            Some(ParseFault::LeftOut { what, .. }) => what.to_string(alloc)?,
             _ => String::new(alloc),
         })
     }
@@ -215,7 +213,10 @@ fn early_ends(alloc: Global, source: &str) -> Result<(usize, usize), Fail> {
     let tokens = lex(alloc, source)?;
     let mut early = 0usize;
     for len in 1..tokens.len() {
-        if let Err(ParseFault::EndOfFile { line: 1 }) = parse(alloc, tokens.split_at(len).0) {
+        if let Some(ParseFault::EndOfFile { line: 1 }) = fault_of_tokens(
+            alloc,
+            tokens.split_at(len).0,
+        ) {
             early = early.saturating_add(1);
         }
     }
@@ -312,18 +313,26 @@ fn rest_len(value: &Expr<'_>) -> usize {
     }
 }
 
-/// The same of the value of a first constant, and of the bound of a string.
+/// The same of the value of a constant, or of the bound of a string.
+fn operand_count(constant: &Const<'_>) -> usize {
+    match &constant.const_type {
+        ConstType::String(Some(bound)) => rest_len(&bound.expr),
+        _ => rest_len(&constant.value.expr),
+    }
+}
+
+/// The same of the constant that tokens begin with.
+fn first_operand_count(alloc: Global, tokens: &[Token<'_>]) -> Result<Option<usize>, ParseFault> {
+    let spec = parse(alloc, tokens)?;
+    Ok(first_const(&spec).map(operand_count))
+}
+
 struct Operands;
 
 impl Reader for Operands {
     fn answer(alloc: Global, source: &str) -> Result<String, Fail> {
         let tokens = lex(alloc, source)?;
-        let spec = parse(alloc, &tokens)?;
-        let constant = first_const(&spec).ok_or("no constant")?;
-        let count = match &constant.const_type {
-            ConstType::String(Some(bound)) => rest_len(&bound.expr),
-            _ => rest_len(&constant.value.expr),
-        };
+        let count = first_operand_count(alloc, &tokens)?.ok_or("no constant")?;
         Ok(count.to_string(alloc)?)
     }
 }
@@ -375,13 +384,17 @@ fn marks(value: &Expr<'_>) -> Option<[usize; 3]> {
     }
 }
 
+/// The lines of the marks of the constant that tokens begin with.
+fn first_marks(alloc: Global, tokens: &[Token<'_>]) -> Result<Option<[usize; 3]>, ParseFault> {
+    let spec = parse(alloc, tokens)?;
+    Ok(first_const(&spec).and_then(|constant| marks(&constant.value.expr)))
+}
+
 #[test]
 fn marks_keep_their_line(rt: HostRuntime) -> Result<(), Fail> {
     let alloc = rt.alloc();
     let tokens = lex(alloc, "const long X =\n-\n(\nTRUE\n);")?;
-    let spec = parse(alloc, &tokens)?;
-    let constant = first_const(&spec).ok_or("no constant")?;
-    assert_eq!(rt; marks(&constant.value.expr), Some([2, 3, 4]));
+    assert_eq!(rt; first_marks(alloc, &tokens)?, Some([2, 3, 4]));
     Ok(())
 }
 

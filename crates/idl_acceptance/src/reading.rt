@@ -1,7 +1,7 @@
 //! Readers of trees: the texts that are printed, and large literals.
 
+use crate::table::printed;
 use idl_lexer::{Identifiers, Kind, Token, lex};
-use idl_parser::parse;
 use idl_tree::names::{Leaf, Listed};
 use std::alloc::Global;
 use std::test::Fail;
@@ -16,10 +16,8 @@ const PRINTED: &str =
 
 #[test]
 fn specifications_are_printed(rt: HostRuntime) -> Result<(), Fail> {
-    let alloc = rt.alloc();
-    let tokens = lex(alloc, MODULES)?;
-    let spec = parse(alloc, &tokens)?;
-    assert_eq!(rt; format!(in alloc; "{spec:?}")?.as_str(), PRINTED);
+    let text = printed(rt.alloc(), MODULES)?;
+    assert_eq!(rt; text.as_str(), PRINTED);
     Ok(())
 }
 

@@ -1,6 +1,7 @@
 //! Tables of tests, as texts: each row is an answer, ` => ` and a source, in which a backquote stands for a line feed.
 
-use idl_lexer::{Kind, Token};
+use idl_lexer::{Kind, Token, lex};
+use idl_parser::{ParseFault, parse};
 use std::alloc::Global;
 use std::test::Fail;
 
@@ -42,4 +43,27 @@ pub fn shown(alloc: Global, tokens: &[Token<'_>]) -> Result<String, Fail> {
         out.push('|')?;
     }
     Ok(out)
+}
+
+/// The tree of tokens, printed.
+fn printed_tree(alloc: Global, tokens: &[Token<'_>]) -> Result<String, Fail> {
+    let spec = parse(alloc, tokens)?;
+    Ok(format!(in alloc; "{spec:?}")?)
+}
+
+/// The tree of a source, printed.
+pub fn printed(alloc: Global, source: &str) -> Result<String, Fail> {
+    let tokens = lex(alloc, source)?;
+    printed_tree(alloc, &tokens)
+}
+
+/// The fault of tokens, if they are refused. What holds the tree of a file does nothing else, as it is slow to prove.
+pub fn fault_of_tokens(alloc: Global, tokens: &[Token<'_>]) -> Option<ParseFault> {
+    parse(alloc, tokens).err()
+}
+
+/// The fault of a source, if it is refused.
+pub fn fault_of(alloc: Global, source: &str) -> Result<Option<ParseFault>, Fail> {
+    let tokens = lex(alloc, source)?;
+    Ok(fault_of_tokens(alloc, &tokens))
 }

@@ -1,16 +1,7 @@
 //! Whole trees of small sources, as they are printed.
 
-use idl_lexer::lex;
-use idl_parser::parse;
-use std::alloc::Global;
+use crate::table::printed;
 use std::test::Fail;
-
-/// A specification, printed.
-fn shown(alloc: Global, source: &str) -> Result<String, Fail> {
-    let tokens = lex(alloc, source)?;
-    let spec = parse(alloc, &tokens)?;
-    Ok(format!(in alloc; "{spec:?}")?)
-}
 
 /// Sources and their trees.
 const TREES: [(&str, &str); 4] = [
@@ -51,7 +42,7 @@ const TREES: [(&str, &str); 4] = [
 fn trees_are_these(rt: HostRuntime) -> Result<(), Fail> {
     let alloc = rt.alloc();
     for (source, tree) in TREES {
-        let text = shown(alloc, source)?;
+        let text = printed(alloc, source)?;
         assert!(rt; text.contains(tree));
     }
     Ok(())

@@ -5,6 +5,7 @@ pub mod Calls
 pub mod Agreement
 pub mod PassAgreement
 pub mod WordAgreement
+pub mod Numbers
 pub mod Judged
 pub mod TextParts
 pub mod TextAgreement

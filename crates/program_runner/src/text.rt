@@ -1,12 +1,12 @@
 //! Numbers, lengths and strings at the front of an input.
 
-ghost use Rattle.std.specs.Prelude.{◌≡◌, ◌<◌, ◌≤◌, ◌==◌, IfOk, length, take};
-ghost use Rattle.std.specs.List.{list_any};
+ghost use Rattle.std.specs.Prelude.{◌≡◌, ◌<◌, ◌≤◌, ◌++◌, IfOk, OnOk, length, take};
 ghost use Rattle.type_graph.specs.declared.width.Width.TheVariants.{Four};
-ghost use Rattle.program_runner.specs.Steps.{Gives, has_no_bool, judged_bools, number_at, is_over, read_length, tape_length, no_zero, terminated, unterminated};
+ghost use Rattle.program_runner.specs.Steps.{Gives, Passes, number_at, is_over, read_length, tape_length, no_zero, terminated, unterminated};
 
+use crate::blocks::push_unless;
 use crate::fault::RunFault;
-use crate::lanes::{NoBoolean, Zero, has_in_front};
+use crate::lanes::Zero;
 use type_graph::Order;
 
 /// The unsigned long at the front (ISO/IEC 19500-2, CDR, integer data types).
@@ -21,27 +21,6 @@ pub fn number_at_front(order: Order, octets: &[u8]) -> Result<u32, RunFault>
         Order::Big => Ok(u32::from_be_bytes(word)),
         Order::Little => Ok(u32::from_le_bytes(word)),
     }
-}
-
-/// One of the first octets is neither 0 nor 1.
-fn has_no_bool(octets: &[u8], n: usize) -> bool
-    requires { n ≤ length octets.now }
-    ensures { result ≡ has_no_bool (take n octets.now) }
-{
-    has_in_front::<NoBoolean>(octets, n)
-}
-
-/// Refuses so many octets at the front unless they are there and each is 0 or 1.
-pub fn judge_bools(n: usize, octets: &[u8]) -> Result<(), RunFault>
-    ensures { Gives (λ done. done) result (judged_bools n octets.now) }
-{
-    if octets.len() < n {
-        return Err(RunFault::Short);
-    }
-    if has_no_bool(octets, n) {
-        return Err(RunFault::BadBool);
-    }
-    Ok(())
 }
 
 /// More than a bound, where there is one.
@@ -77,29 +56,9 @@ pub fn length_on_tape(bound: u32, said: u32) -> Result<u32, RunFault>
     Ok(said)
 }
 
-fn has_zero(octets: &[u8], n: usize) -> bool
-    requires { n ≤ length octets.now }
-    ensures { result ≡ list_any (λ octet. octet == 0) (take n octets.now) }
-{
-    has_in_front::<Zero>(octets, n)
-}
-
-/// The first octets, where none of them is zero.
-fn without_zero(octets: &[u8], n: usize) -> Result<&[u8], RunFault>
-    requires { n ≤ length octets.now }
-    ensures value { Gives (λ t. t.now) result (no_zero (take n octets.now)) }
-    ensures front { IfOk result (λ t. t.now ≡ take n octets.now) }
-{
-    if has_zero(octets, n) {
-        return Err(RunFault::ZeroInside);
-    }
-    Ok(&octets[..n])
-}
-
-/// The string of so many octets at the front, which a zero ends.
-pub fn terminated_text(n: usize, octets: &[u8]) -> Result<&[u8], RunFault>
-    ensures value { Gives (λ t. t.now) result (terminated n octets.now) }
-    ensures front { IfOk result (λ t. t.now ≡ take n octets.now) }
+/// Refuses a string of so many octets at the front unless they are there and a zero ends them.
+pub fn check_terminator(n: usize, octets: &[u8]) -> Result<(), RunFault>
+    ensures value { Passes (λ _. no_zero (take n octets.now)) result (terminated n octets.now) }
     ensures within { IfOk result (λ _. n < length octets.now) }
 {
     if octets.len() <= n {
@@ -108,17 +67,28 @@ pub fn terminated_text(n: usize, octets: &[u8]) -> Result<&[u8], RunFault>
     if octets[n] != 0 {
         return Err(RunFault::NoTerminator);
     }
-    without_zero(octets, n)
+    Ok(())
 }
 
-/// The string of so many octets at the front.
-pub fn plain_text(n: usize, octets: &[u8]) -> Result<&[u8], RunFault>
-    ensures value { Gives (λ t. t.now) result (unterminated n octets.now) }
-    ensures front { IfOk result (λ t. t.now ≡ take n octets.now) }
+/// Refuses a string of so many octets at the front unless they are there.
+pub fn check_length(n: usize, octets: &[u8]) -> Result<(), RunFault>
+    ensures value { Passes (λ _. no_zero (take n octets.now)) result (unterminated n octets.now) }
     ensures within { IfOk result (λ _. n ≤ length octets.now) }
 {
     if octets.len() < n {
         return Err(RunFault::Short);
     }
-    without_zero(octets, n)
+    Ok(())
+}
+
+/// So many octets of a front at the end, of which none may be zero.
+pub fn push_text(out: &mut Vec<u8>, octets: &[u8], n: usize) -> Result<(), RunFault>
+    requires { n ≤ length octets.now }
+    ensures value { Gives (λ _. take n octets.now) result (no_zero (take n octets.now)) }
+    ensures pushed { OnOk result (out.new.items ≡ out.old.items ++ take n octets.now) }
+{
+    if push_unless::<Zero>(out, octets, n)? {
+        return Err(RunFault::ZeroInside);
+    }
+    Ok(())
 }

@@ -163,9 +163,8 @@ pub fn push_words(
 pub fn push_number(out: &mut Vec<u8>, order: Order, n: u32) -> Result<(), AllocError>
     ensures { OnOk result (out.new.items ≡ out.old.items ++ plain_word order Four n) }
 {
-    let word = match order {
-        Order::Big => n.to_be_bytes(),
-        Order::Little => n.to_le_bytes(),
-    };
-    push_few::<4>(out, &word)
+    match order {
+        Order::Big => push_few::<4>(out, &n.to_be_bytes()),
+        Order::Little => push_few::<4>(out, &n.to_le_bytes()),
+    }
 }

@@ -3,7 +3,7 @@
 ghost use Rattle.std.specs.Prelude.{◌≡◌, ◌<◌, ◌≤◌, ◌↔◌, ℕ, All, length, slice_get, slice_index_or, IfSome, IfNone, IfOk, IfErr, OnOk, OnErr, IsTrue, EachIndex, true, false};
 ghost use Rattle.type_graph.specs.GraphRules.{IsNode, IsPart, AreMembers, IsGraph, IsShallow, IsWide, all_members, members_in, held_by};
 ghost use Rattle.type_graph.specs.Levels.{IsLevelAbove, IsLevel};
-ghost use Rattle.type_graph.specs.Refusal.{IsPlaceIn, IsFault};
+ghost use Rattle.type_graph.specs.Refusal.{DeniesIfBad, IsPlaceIn, IsFault, IsWellFormed};
 
 use crate::cycles::find_cycle;
 use crate::fault::{GraphLimit, NodeRule, RuleFault};
@@ -28,6 +28,7 @@ pub const MAX_PATH: usize = 64;
 fn check_width(width: Width) -> Result<(), NodeRule>
     ensures ok { OnOk result (IsWide width) }
     ensures err { OnErr result (IsWide width → ⊥) }
+    ensures bad { IfErr result (λ rule. DeniesIfBad rule (IsWide width)) }
 {
     match width {
         Width::One => Err(NodeRule::BadNode),
@@ -54,6 +55,7 @@ fn are_parts(nodes: &[Node], members: &[u32]) -> bool
 fn check_part(nodes: &[Node], number: u32) -> Result<(), NodeRule>
     ensures ok { OnOk result (IsPart nodes.now number) }
     ensures err { OnErr result (IsPart nodes.now number → ⊥) }
+    ensures bad { IfErr result (λ rule. DeniesIfBad rule (IsPart nodes.now number)) }
 {
     if !is_part(nodes, number) {
         return Err(NodeRule::BadNode);
@@ -64,6 +66,7 @@ fn check_part(nodes: &[Node], number: u32) -> Result<(), NodeRule>
 fn check_members(nodes: &[Node], members: &[u32]) -> Result<(), NodeRule>
     ensures ok { OnOk result (AreMembers nodes.now members.now) }
     ensures err { OnErr result (AreMembers nodes.now members.now → ⊥) }
+    ensures bad { IfErr result (λ rule. DeniesIfBad rule (All (IsPart nodes.now) members.now)) }
 {
     if members.len() > MAX_MEMBERS {
         return Err(NodeRule::Limit {
@@ -79,6 +82,7 @@ fn check_members(nodes: &[Node], members: &[u32]) -> Result<(), NodeRule>
 fn check_struct(nodes: &[Node], members: &[u32]) -> Result<(), NodeRule>
     ensures ok { OnOk result ((0 < length members.now) × AreMembers nodes.now members.now) }
     ensures err { OnErr result ((0 < length members.now) × AreMembers nodes.now members.now → ⊥) }
+    ensures bad { IfErr result (λ rule. DeniesIfBad rule ((0 < length members.now) × All (IsPart nodes.now) members.now)) }
 {
     if members.is_empty() {
         return Err(NodeRule::BadNode);
@@ -89,6 +93,7 @@ fn check_struct(nodes: &[Node], members: &[u32]) -> Result<(), NodeRule>
 fn check_enum(n: u32) -> Result<(), NodeRule>
     ensures ok { OnOk result ((0 < n) × (n ≤ 65536)) }
     ensures err { OnErr result ((0 < n) × (n ≤ 65536) → ⊥) }
+    ensures bad { IfErr result (λ rule. DeniesIfBad rule (0 < n)) }
 {
     if n == 0 {
         return Err(NodeRule::BadNode);
@@ -104,6 +109,7 @@ fn check_enum(n: u32) -> Result<(), NodeRule>
 fn check_array(nodes: &[Node], elem: u32, n: u32) -> Result<(), NodeRule>
     ensures ok { OnOk result (IsPart nodes.now elem × (0 < n) × (n ≤ 1048576)) }
     ensures err { OnErr result (IsPart nodes.now elem × (0 < n) × (n ≤ 1048576) → ⊥) }
+    ensures bad { IfErr result (λ rule. DeniesIfBad rule (IsPart nodes.now elem × (0 < n))) }
 {
     if n == 0 {
         return Err(NodeRule::BadNode);
@@ -119,6 +125,7 @@ fn check_array(nodes: &[Node], elem: u32, n: u32) -> Result<(), NodeRule>
 fn check_seq(nodes: &[Node], elem: u32, bound: u32) -> Result<(), NodeRule>
     ensures ok { OnOk result (IsPart nodes.now elem × (bound ≤ 4294967295)) }
     ensures err { OnErr result (IsPart nodes.now elem × (bound ≤ 4294967295) → ⊥) }
+    ensures bad { IfErr result (λ rule. DeniesIfBad rule (IsPart nodes.now elem)) }
 {
     check_part(nodes, elem)
 }
@@ -126,6 +133,7 @@ fn check_seq(nodes: &[Node], elem: u32, bound: u32) -> Result<(), NodeRule>
 fn check_node(nodes: &[Node], node: &Node) -> Result<(), NodeRule>
     ensures ok { OnOk result (IsNode nodes.now node.now) }
     ensures err { OnErr result (IsNode nodes.now node.now → ⊥) }
+    ensures bad { IfErr result (λ rule. DeniesIfBad rule (IsWellFormed nodes.now node.now)) }
     ensures place { IfErr result (IsPlaceIn nodes.now node.now) }
 {
     match node {

@@ -3,7 +3,7 @@
 ghost use Rattle.std.specs.Prelude.{◌≡◌, ◌<◌, ◌≤ℤ◌, ◌<ℤ◌, ◌+ℤ◌, ◌↔◌, ℕ, ℤ, List, All, pos, length, IsTrue, IsSomeAnd, IfOk, IfErr, IfSome, IfNone, OnOk, OnErr, slice_get};
 ghost use Rattle.type_graph.specs.GraphRules.{IsSwitch, IsPart, IsUnion, label_at};
 ghost use Rattle.type_graph.specs.Labels.{AreWithin, AreRising, AreValues, HasOtherWithin};
-ghost use Rattle.type_graph.specs.Refusal.{IsPlace};
+ghost use Rattle.type_graph.specs.Refusal.{DeniesIfBad, IsPlace, IsUnionOfParts, NeverFall};
 ghost use Rattle.type_graph.specs.Value.{node_at};
 
 use crate::fault::{GraphLimit, NodeRule};
@@ -17,6 +17,7 @@ fn switch_of(nodes: &[Node], switch: u32) -> Result<Values, NodeRule>
     ensures kind { OnOk result (IsSomeAnd (slice_get nodes.now switch) IsSwitch) }
     ensures values { IfOk result (λ values. AreValues (node_at nodes.now switch) values.least values.end values.count) }
     ensures err { OnErr result (IsSomeAnd (slice_get nodes.now switch) IsSwitch → ⊥) }
+    ensures bad { IfErr result (λ rule. DeniesIfBad rule (IsPart nodes.now switch)) }
     ensures place { (arms : List (ℤ × ℕ)) → IfErr result (IsPlace nodes.now switch arms) }
 {
     match nodes.get(switch as usize) {
@@ -47,6 +48,7 @@ fn check_labels(
     requires { AreValues (node_at nodes.now switch) values.least values.end values.count }
     ensures ok { OnOk result (AreWithin values.least values.end arms.now) }
     ensures err { OnErr result (AreWithin values.least values.end arms.now → ⊥) }
+    ensures bad { IfErr result (λ rule. DeniesIfBad rule (Unit {0})) }
     ensures place { IfErr result (IsPlace nodes.now switch arms.now) }
 {
     match first_outside(values, arms) {
@@ -64,6 +66,7 @@ fn are_parts(nodes: &[Node], arms: &[(i128, u32)]) -> bool
 fn check_rising(nodes: &[Node], switch: u32, arms: &[(i128, u32)]) -> Result<(), NodeRule>
     ensures ok { OnOk result (AreRising arms.now) }
     ensures err { OnErr result (AreRising arms.now → ⊥) }
+    ensures bad { IfErr result (λ rule. DeniesIfBad rule (NeverFall arms.now)) }
     ensures place { IfErr result (IsPlace nodes.now switch arms.now) }
 {
     let Some(place) = first_fall(arms) else {
@@ -97,6 +100,7 @@ fn check_default(
     ensures part { OnOk result (IfSome default (IsPart nodes.now)) }
     ensures needed { OnOk result (IfSome default (λ member. HasOtherWithin values.least values.end arms.now)) }
     ensures err { OnErr result (IfSome default (IsPart nodes.now) → IfSome default (λ member. HasOtherWithin values.least values.end arms.now) → ⊥) }
+    ensures bad { IfErr result (λ rule. DeniesIfBad rule (IfSome default (IsPart nodes.now))) }
     ensures place { (switch : ℕ) → IfErr result (IsPlace nodes.now switch arms.now) }
 {
     let Some(member) = default else {
@@ -120,6 +124,7 @@ pub fn check_union(
 ) -> Result<(), NodeRule>
     ensures ok { OnOk result (IsUnion nodes.now switch arms.now default) }
     ensures err { OnErr result (IsUnion nodes.now switch arms.now default → ⊥) }
+    ensures bad { IfErr result (λ rule. DeniesIfBad rule (IsUnionOfParts nodes.now switch arms.now default)) }
     ensures place { IfErr result (IsPlace nodes.now switch arms.now) }
 {
     let values = match switch_of(nodes, switch) {
