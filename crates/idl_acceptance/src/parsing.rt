@@ -384,17 +384,22 @@ fn marks(value: &Expr<'_>) -> Option<[usize; 3]> {
     }
 }
 
-/// The lines of the marks of the constant that tokens begin with.
-fn first_marks(alloc: Global, tokens: &[Token<'_>]) -> Result<Option<[usize; 3]>, ParseFault> {
+/// The same of the value of a constant, zeros where it has none of these.
+fn mark_lines(constant: &Const<'_>) -> [usize; 3] {
+    marks(&constant.value.expr).unwrap_or([0; 3])
+}
+
+/// The same of the constant that tokens begin with.
+fn first_mark_lines(alloc: Global, tokens: &[Token<'_>]) -> Result<Option<[usize; 3]>, ParseFault> {
     let spec = parse(alloc, tokens)?;
-    Ok(first_const(&spec).and_then(|constant| marks(&constant.value.expr)))
+    Ok(first_const(&spec).map(mark_lines))
 }
 
 #[test]
 fn marks_keep_their_line(rt: HostRuntime) -> Result<(), Fail> {
     let alloc = rt.alloc();
     let tokens = lex(alloc, "const long X =\n-\n(\nTRUE\n);")?;
-    assert_eq!(rt; first_marks(alloc, &tokens)?, Some([2, 3, 4]));
+    assert_eq!(rt; first_mark_lines(alloc, &tokens)?, Some([2, 3, 4]));
     Ok(())
 }
 
