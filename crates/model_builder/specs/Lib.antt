@@ -3,3 +3,4 @@ pub mod Refusal
 pub mod Naming
 pub mod Signatures
 pub mod Shown
+pub mod Formed

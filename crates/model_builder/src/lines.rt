@@ -1,8 +1,12 @@
 //! The lines of faults of a graph.
 
-ghost use Rattle.std.specs.Prelude.{◌≡◌, ◌≢◌, IfErr, IfOk, OnOk};
+ghost use Rattle.std.specs.Prelude.{◌≡◌, ◌≢◌, ◌<◌, false, length, All, IfErr, IfOk, IfSome, OnOk};
 ghost use Rattle.type_graph.specs.GraphRules.{IsGraph};
+ghost use Rattle.type_graph.specs.Refusal.{BreaksRule, IsFault, IsWellFormed};
+ghost use Rattle.type_graph.specs.Value.{node_at};
+ghost use Rattle.written_types.specs.Written.{none_such, undefined};
 ghost use Rattle.written_types.specs.declared.fault.BuildFault.TheVariants.{NoMemory};
+ghost use Rattle.model_builder.specs.Formed.{AreFormed, HasSmallNumbers};
 ghost use Rattle.model_builder.specs.Refusal.{OnlyIf};
 
 use scoped_names::NameFault;
@@ -29,21 +33,89 @@ fn line_of(types: &TypeTable, fault: &RuleFault) -> usize {
     }
 }
 
-/// What is told where a node breaks a rule for which no fault of types stands, as by the names of
-/// another file: a structure without members was declared ahead alone.
+/// Whether it is a structure without members: one that was declared ahead alone.
+fn is_undefined(node: &Node) -> bool
+    ensures { result ≡ false → node.now ≢ undefined }
+{
+    match node {
+        Node::Struct { members } => members.as_slice().is_empty(),
+        _ => false,
+    }
+}
+
+/// Sees of a number that it is one of 32 bits: what a name that finds no type has in the definitions is none.
+fn see(_number: u32)
+    ensures { _number < none_such }
+{}
+
+fn see_each(numbers: &[u32])
+    ensures { All (λ n. n < none_such) numbers.now }
+{
+    for number in numbers {
+        see(*number);
+    }
+}
+
+fn see_arms(arms: &[(i128, u32)])
+    ensures { All (λ arm. arm.1 < none_such) arms.now }
+{
+    for arm in arms {
+        see(arm.1);
+    }
+}
+
+fn see_default(default: Option<u32>)
+    ensures { IfSome default (λ n. n < none_such) }
+{
+    if let Some(number) = default {
+        see(number);
+    }
+}
+
+/// Sees it of the numbers of a node's parts.
+fn see_parts(node: &Node)
+    ensures { HasSmallNumbers node.now }
+{
+    match node {
+        Node::Seq { elem, .. } | Node::Array { elem, .. } => see(*elem),
+        Node::Struct { members } | Node::Frame { members } => see_each(members.as_slice()),
+        Node::Union {
+            switch,
+            arms,
+            default,
+        } => {
+            see(*switch);
+            see_arms(arms.as_slice());
+            see_default(*default)
+        }
+        _ => {}
+    }
+}
+
+/// What is told where a node breaks a rule that has no name of its own, as only a structure does that was declared ahead
+/// alone: as all that a file writes is well formed else.
+#[tactic(auto, using(crate::proofs::WellFormed::well_formed))]
 fn fault_of_names(types: &TypeTable, node: usize, line: usize) -> BuildFault
+    requires formed { AreFormed types.now.nodes }
+    requires there { node < length types.now.nodes }
+    requires broken { IsWellFormed types.now.nodes (node_at types.now.nodes node) → ⊥ }
     ensures { result ≢ NoMemory }
 {
     match types.nodes().get(node) {
-        Some(Node::Struct { members }) if members.as_slice().is_empty() => {
-            BuildFault::Names(NameFault::Unknown { line })
+        Some(node) if is_undefined(node) => BuildFault::Names(NameFault::Unknown { line }),
+        Some(node) => {
+            see_parts(node);
+            unreachable!()
         }
-        _ => BuildFault::OtherNames,
+        None => unreachable!(),
     }
 }
 
 /// What is told of a node that breaks a rule of nodes in a line.
 fn fault_in_node(types: &TypeTable, node: usize, rule: NodeRule, line: usize) -> BuildFault
+    requires formed { AreFormed types.now.nodes }
+    requires there { node < length types.now.nodes }
+    requires broken { BreaksRule types.now.nodes (node_at types.now.nodes node) rule }
     ensures { result ≢ NoMemory }
 {
     BuildFault::Types(match rule {
@@ -64,6 +136,8 @@ fn limit(which: GraphLimit, line: usize) -> BuildFault
 
 /// What is told of a rule that the types break.
 fn told(types: &TypeTable, fault: RuleFault) -> BuildFault
+    requires formed { AreFormed types.now.nodes }
+    requires broken { IsFault types.now.nodes fault }
     ensures { result ≢ NoMemory }
 {
     let line = line_of(types, &fault);
@@ -81,6 +155,7 @@ fn told(types: &TypeTable, fault: RuleFault) -> BuildFault
 /// # Errors
 /// The fault with its line, want of memory.
 pub(crate) fn check_types(alloc: Global, types: &TypeTable) -> Result<(), BuildFault>
+    requires { AreFormed types.now.nodes }
     ensures kept { OnOk result (IsGraph types.now.nodes) }
     ensures broken { IfErr result (λ fault. OnlyIf fault (IsGraph types.now.nodes → ⊥)) }
 {
@@ -96,6 +171,7 @@ pub(crate) fn check_types(alloc: Global, types: &TypeTable) -> Result<(), BuildF
 /// # Errors
 /// The fault of a rule that they break, with its line; want of memory.
 pub(crate) fn graph_of(alloc: Global, types: TypeTable) -> Result<Graph, BuildFault>
+    requires { AreFormed types.nodes }
     ensures kept { IfOk result (λ graph. graph ≡ types.nodes) }
     ensures rules { IfOk result IsGraph }
     ensures broken { IfErr result (λ fault. OnlyIf fault (IsGraph types.nodes → ⊥)) }

@@ -2,6 +2,7 @@
 
 ghost use Rattle.std.specs.Prelude.{◌≡◌, List, Option, IfOk};
 ghost use Rattle.type_model.specs.ModelRules.{IsModel};
+ghost use Rattle.model_builder.specs.Formed.{AreFormed};
 ghost use Rattle.model_builder.specs.Shown.{model_of as its_model};
 
 use crate::lines::graph_of;
@@ -25,6 +26,7 @@ pub(crate) fn model_of<'a>(
     signatures: Vec<Signature>,
     offered: Vec<Option<Offered>>,
 ) -> Result<Model, BuildFault>
+    requires { AreFormed types.nodes }
     ensures shows { IfOk result (λ model. model ≡
         its_model names.now (record { types = types; operations = signatures.items; interfaces = offered.items })) }
     ensures rules { IfOk result IsModel }
