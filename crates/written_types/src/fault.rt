@@ -6,7 +6,7 @@ use thiserror::Error;
 use type_graph::GraphLimit;
 
 /// A rule that the types of a specification break, with the line of what breaks it. What else the
-/// rules of a graph refuse has no variant: it is told as the names of another specification.
+/// rules of a graph refuse no specification gets, but for a type that is declared ahead alone.
 #[derive(Clone, Copy, Debug, PartialEq, Eq, Drop, Error)]
 pub enum TypeFault {
     /// A type holds itself without a sequence between.
