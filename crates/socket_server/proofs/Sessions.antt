@@ -1,48 +1,50 @@
 -- How a session of a broker that was just made ends.
-use Rattle.std.proofs.Common.{◌≡◌, ap, subst, ℕ, List}
+use Rattle.std.proofs.Common.{subst, ℕ, List, Result, Ok, Err, IfErr, OnOk}
 use Rattle.type_model.specs.ModelRules.{Parts}
 use Rattle.iiop_broker.specs.World.{Broking}
 use Rattle.broker_answers.specs.Servants.{acts}
 use Rattle.iiop_streams.specs.Outcomes.{Ends}
 use Rattle.attribute_keeper.specs.Keeping.{Keeping, says, after}
-use Rattle.socket_server.specs.declared.connections.Interruption.{Interruption}
-use Rattle.socket_server.specs.declared.connections.Interruption.TheVariants.{Unaccepted, NoMemory}
 use Rattle.socket_server.specs.declared.fault.ServeFault.{ServeFault}
-use Rattle.socket_server.specs.Faults.{fault_of}
+use Rattle.socket_server.specs.declared.fault.ServeFault.TheVariants.{BadObject, NoInterface, Socket, Unwritten, NoMemory}
 use Rattle.socket_server.specs.Objects.{IsBrokerOf}
 use Rattle.socket_server.specs.Serving.{HasObject, IsDone, IsFaultOf, IsOfObject}
 use Rattle.socket_server.specs.Visits.{AreServed}
 
 module _ (model : Parts) (word : List ℕ) where
-  pub done_by : (broker : Broking Keeping) (count : ℕ) (before came came' : List Ends) (last : Keeping) → IsBrokerOf model word broker
-      → came ≡ before → AreServed (acts says after) broker.served count came broker.world.servant came' last
-      → IsDone model word count before came'
-  done_by broker count before came came' last made same all =
-      let from : AreServed (acts says after) broker.served count before broker.world.servant came' last =
-      subst (λ (c : List Ends). AreServed (acts says after) broker.served count c broker.world.servant came' last) same all in
-      record {
-        object = made.object;
-        is = made.is;
-        last = last;
-        served_all = subst (λ (b : Broking Keeping). AreServed (acts says after) b.served count before b.world.servant came' last) made.new from;
-      }
+  pub done_by : (broker : Broking Keeping) (count : ℕ) (came came' : List Ends) (last : Keeping) → IsBrokerOf model word broker
+      → AreServed (acts says after) broker.served count came broker.world.servant came' last → IsDone model word count came came'
+  done_by broker count came came' last made all = record {
+    object = made.object;
+    is = made.is;
+    last = last;
+    served_all = subst (λ (b : Broking Keeping). AreServed (acts says after) b.served count came b.world.servant came' last) made.new all;
+  }
+
+  pub done_on_ok : (r : Result (Unit {0}) ServeFault) (broker : Broking Keeping) (count : ℕ) (came came' : List Ends) (last : Keeping)
+      → IsBrokerOf model word broker → OnOk r (AreServed (acts says after) broker.served count came broker.world.servant came' last)
+      → OnOk r (IsDone model word count came came')
+  done_on_ok (Ok done) broker count came came' last made all = done_by broker count came came' last made all
+  done_on_ok (Err fault) broker count came came' last made all = tt
 
   pub has_object : (broker : Broking Keeping) → IsBrokerOf model word broker → HasObject model word
   has_object broker made = record { object = made.object; is = made.is }
 
-  interrupted_by : (interruption : Interruption) → HasObject model word → IsFaultOf model word (fault_of interruption)
-  interrupted_by Unaccepted has = has
-  interrupted_by NoMemory has = tt
+  -- a fault that isn't one of the object's has its cause
+  pub later_fault : (fault : ServeFault) → (IsOfObject fault → ⊥) → HasObject model word → IsFaultOf model word fault
+  later_fault BadObject later has = absurd (later tt)
+  later_fault (NoInterface name) later has = absurd (later tt)
+  later_fault Socket later has = has
+  later_fault Unwritten later has = has
+  later_fault NoMemory later has = tt
 
-  -- an interruption has its cause
-  pub interrupted : (interruption : Interruption) (fault : ServeFault) → fault ≡ fault_of interruption → HasObject model word
-      → IsFaultOf model word fault
-  interrupted interruption fault is has = rw is (interrupted_by interruption has)
+  pub faults_have_causes : (r : Result (Unit {0}) ServeFault) → IfErr r (λ fault. IsOfObject fault → ⊥) → HasObject model word
+      → IfErr r (IsFaultOf model word)
+  faults_have_causes (Ok done) later has = tt
+  faults_have_causes (Err fault) later has = later_fault fault later has
 
-not_of_object_by : (interruption : Interruption) → IsOfObject (fault_of interruption) → ⊥
-not_of_object_by Unaccepted of = of
-not_of_object_by NoMemory of = of
-
--- and isn't one of the object
-pub not_of_object : (interruption : Interruption) (fault : ServeFault) → fault ≡ fault_of interruption → IsOfObject fault → ⊥
-not_of_object interruption fault is of = not_of_object_by interruption (subst IsOfObject is of)
+  -- what is asked of a fault of the object's is asked of none
+  pub none_of_object : (A : Type 0) (r : Result (Unit {0}) ServeFault) → IfErr r (λ fault. IsOfObject fault → ⊥)
+      → IfErr r (λ fault. IsOfObject fault → A)
+  none_of_object A (Ok done) later = tt
+  none_of_object A (Err fault) later = λ of. absurd (later of)

@@ -3,7 +3,7 @@ use Rattle.std.specs.Prelude.{◌≡◌, ℕ, List, [], ◌∷◌, slice_get, So
 use Rattle.type_model.specs.declared.signatures.Interface.{Interface}
 use Rattle.type_model.specs.ModelRules.{Parts}
 use Rattle.broker_talk.specs.Talk.{world}
-use Rattle.broker_answers.specs.Objects.{served}
+use Rattle.broker_answers.specs.Objects.{Objects, served}
 use Rattle.iiop_broker.specs.World.{Broking, broking}
 use Rattle.attribute_keeper.specs.Keeping.{Keeping, first_keeping}
 use Rattle.reference_commands.specs.Lines.{IsObject, interface_named}
@@ -25,6 +25,13 @@ pub record HasNoInterface (model : Parts) (word name : List ℕ) : Type 0 where
   pub key : List ℕ
   pub names : IsObject word key name
   pub missing : interface_named name model.interfaces ≡ None
+
+-- the objects are just the one that the word names, and the keeper has its attributes as they are at first
+pub record AreOf (model : Parts) (word : List ℕ) (objects : Objects) (keeper : Keeping) : Type 0 where
+  pub object : List ℕ × ℕ
+  pub is : IsObjectOf model word object
+  pub alone : objects ≡ object ∷ []
+  pub first : keeper ≡ first_keeping model (object ∷ [])
 
 -- the broker of the object, with the keeper of its attributes as they are at first
 pub record IsBrokerOf (model : Parts) (word : List ℕ) (broker : Broking Keeping) : Type 0 where

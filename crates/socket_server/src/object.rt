@@ -2,7 +2,7 @@
 
 ghost use Rattle.std.specs.Prelude.{◌≡◌, ◌∷◌, [], IfOk, IfErr};
 ghost use Rattle.broker_answers.specs.Objects.{objects_of};
-ghost use Rattle.socket_server.specs.Objects.{IsBrokerOf, IsObjectFault, IsObjectOf};
+ghost use Rattle.socket_server.specs.Objects.{AreOf, IsBrokerOf, IsObjectFault, IsObjectOf};
 
 use crate::fault::ServeFault;
 use attribute_keeper::Keeper;
@@ -40,6 +40,26 @@ fn lone_object(alloc: Global, key: &str, place: u32) -> Result<Vec<(Vec<u8>, u32
     Ok(objects)
 }
 
+/// The object that a word names, a keeper of its attributes, and the types of messages. They stand apart from the broker, so
+/// that the table is let go at one place alone.
+fn parts_of<'a>(
+    alloc: Global,
+    table: &Accepted,
+    word: &'a str,
+) -> Result<(Vec<(Vec<u8>, u32)>, Keeper, Giop), ServeFault<'a>>
+    ensures made { IfOk result (λ parts. AreOf table.now.model word.now (objects_of parts.0.items) parts.1) }
+    ensures refused { IfErr result (IsObjectFault table.now.model word.now) }
+{
+    let (key, place) = match object_of(table, word) {
+        Ok(object) => object,
+        Err(fault) => return Err(fault),
+    };
+    let objects = lone_object(alloc, key, place)?;
+    let keeper = Keeper::new(alloc, table, objects.as_slice())?;
+    let giop = Giop::new(alloc)?;
+    Ok((objects, keeper, giop))
+}
+
 /// A broker of the object that a word names, and of a keeper of its attributes.
 pub(crate) fn broker_of<'a>(
     alloc: Global,
@@ -49,12 +69,8 @@ pub(crate) fn broker_of<'a>(
     ensures made { IfOk result (IsBrokerOf table.model word.now) }
     ensures refused { IfErr result (IsObjectFault table.model word.now) }
 {
-    let (key, place) = match object_of(&table, word) {
-        Ok(object) => object,
-        Err(fault) => return Err(fault),
-    };
-    let objects = lone_object(alloc, key, place)?;
-    let giop = Giop::new(alloc)?;
-    let keeper = Keeper::new(alloc, &table, objects.as_slice())?;
-    Ok(Broker::new(alloc, giop, table, objects, keeper))
+    match parts_of(alloc, &table, word) {
+        Ok((objects, keeper, giop)) => Ok(Broker::new(alloc, giop, table, objects, keeper)),
+        Err(fault) => Err(fault),
+    }
 }

@@ -2,9 +2,10 @@
 
 ghost use Rattle.std.specs.Prelude.{◌≡◌, [], replicate, IfErr, OnOk};
 ghost use Rattle.std.specs.Io.KnownBytes.{Appends};
+ghost use Rattle.broker_answers.specs.Servants.{acts};
 ghost use Rattle.socket_server.specs.Lines.{serving};
 ghost use Rattle.socket_server.specs.Serving.{IsDone, IsFaultOf, IsLineOrNothing, IsOfObject, IsUnprinted};
-ghost use Rattle.socket_server.specs.Visits.{untold};
+ghost use Rattle.socket_server.specs.Visits.{AreServed, untold};
 
 use crate::announcing::serving_line;
 use crate::asked::Asked;
@@ -13,6 +14,7 @@ use crate::fault::ServeFault;
 use crate::listener::Listener;
 use crate::loopback::Loopback;
 use crate::object::broker_of;
+use iiop_broker::{Broker, Servant};
 use position_checker::Accepted;
 use std::alloc::Global;
 use std::io::Write;
@@ -37,6 +39,31 @@ fn announce<'a, L: Listener, W: Write>(
         return Err(ServeFault::Unwritten);
     }
     Ok(())
+}
+
+/// Listens, says so, and serves connections by a broker. It stands apart from the function that owns the broker, of which
+/// the prover then sees nothing here but the contract.
+fn serve_by<'a, S: Servant, L: Listener, W: Write>(
+    alloc: Global,
+    broker: &mut Broker<S>,
+    listener: &mut L,
+    out: &mut W,
+    asked: &Asked<'_>,
+) -> Result<(), ServeFault<'a>>
+    requires alone { broker.old.world.there ≡ [] }
+    ensures done { OnOk result (AreServed (acts S.says S.after) broker.old.served asked.now.connections (L.came listener.old) broker.old.world.servant (L.came listener.new) broker.new.world.servant) }
+    ensures printed { OnOk result (Appends (W.contents out.old) (W.contents out.new) (serving asked.now.port)) }
+    ensures printing { IfErr result (IsLineOrNothing asked.now.port (W.contents out.old) (W.contents out.new)) }
+    ensures later { IfErr result (λ fault. IsOfObject fault → ⊥) }
+{
+    match announce(alloc, listener, out, asked.port) {
+        Ok(()) => {}
+        Err(fault) => return Err(fault),
+    }
+    match serve_connections(broker, listener, asked.connections) {
+        Ok(()) => Ok(()),
+        Err(interruption) => Err(ServeFault::from(interruption)),
+    }
 }
 
 /// Serves an object of a table's interface to connections that a listener has come, one after the
@@ -65,14 +92,7 @@ pub fn serve_at<'a, L: Listener, W: Write>(
         Ok(broker) => broker,
         Err(fault) => return Err(fault),
     };
-    match announce(alloc, listener, out, asked.port) {
-        Ok(()) => {}
-        Err(fault) => return Err(fault),
-    }
-    match serve_connections(&mut broker, listener, asked.connections) {
-        Ok(()) => Ok(()),
-        Err(interruption) => Err(ServeFault::from(interruption)),
-    }
+    serve_by(alloc, &mut broker, listener, out, asked)
 }
 
 /// The same on TCP, to connections to 127.0.0.1, which tell nothing of what they carry.
