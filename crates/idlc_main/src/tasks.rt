@@ -14,6 +14,7 @@ use crate::told::{Answer, Notice};
 use command_words::{Asked, AskedReference, Task};
 use compile_command::{Compiled, compile_file};
 use fault_texts::explanation;
+use position_checker::Accepted;
 use reference_commands::reference_line;
 use std::alloc::Global;
 use std::fs::Files;
@@ -63,15 +64,35 @@ fn explained<'a>(alloc: Global, number: u8) -> Result<Answer, Fault<'a>>
 fn check<'a, R: Files + AllocGlobal>(rt: &R, table: &'a str) -> Result<Answer, Fault<'a>>
     ensures told { IfErr result IsTold }
 {
-    let table = table_of(rt, table)?;
-    Ok(Answer::plain(accepted_line(rt.alloc(), &table)?))
+    let table = match table_of(rt, table) {
+        Ok(table) => table,
+        Err(fault) => return Err(fault),
+    };
+    counted(rt.alloc(), &table)
+}
+
+/// How many routines a table has.
+fn counted<'a>(alloc: Global, table: &Accepted) -> Result<Answer, Fault<'a>>
+    ensures told { IfErr result IsTold }
+{
+    Ok(Answer::plain(accepted_line(alloc, table)?))
 }
 
 fn show<'a, R: Files + AllocGlobal>(rt: &R, table: &'a str) -> Result<Answer, Fault<'a>>
     ensures told { IfErr result IsTold }
 {
-    let table = table_of(rt, table)?;
-    Ok(Answer::plain(listing(rt.alloc(), &table)?))
+    let table = match table_of(rt, table) {
+        Ok(table) => table,
+        Err(fault) => return Err(fault),
+    };
+    listed(rt.alloc(), &table)
+}
+
+/// What is in a table.
+fn listed<'a>(alloc: Global, table: &Accepted) -> Result<Answer, Fault<'a>>
+    ensures told { IfErr result IsTold }
+{
+    Ok(Answer::plain(listing(alloc, table)?))
 }
 
 /// The table anew, in the newest version, in another file; then how many routines it has.
@@ -82,9 +103,24 @@ fn upgrade<'a, R: Files + AllocGlobal>(
 ) -> Result<Answer, Fault<'a>>
     ensures told { IfErr result IsTold }
 {
-    let table = table_of(rt, table)?;
-    let octets = upgraded(rt.alloc(), &table)?;
-    let line = accepted_line(rt.alloc(), &table)?;
+    let table = match table_of(rt, table) {
+        Ok(table) => table,
+        Err(fault) => return Err(fault),
+    };
+    put_upgraded(rt, &table, output)
+}
+
+/// What is done with the table stands apart from the function that owns it, of which the prover would list all parts at each
+/// step.
+fn put_upgraded<'a, R: Files + AllocGlobal>(
+    rt: &R,
+    table: &Accepted,
+    output: &'a str,
+) -> Result<Answer, Fault<'a>>
+    ensures told { IfErr result IsTold }
+{
+    let octets = upgraded(rt.alloc(), table)?;
+    let line = accepted_line(rt.alloc(), table)?;
     put(rt, output, octets.as_slice())?;
     Ok(Answer::plain(line))
 }
