@@ -38,16 +38,28 @@ pub fn table_of<'a>(alloc: Global, parts: &[&str]) -> Result<Result<Accepted, Re
 
 /// What `check` tells of these octets.
 pub fn verdict(alloc: Global, parts: &[&str]) -> Result<String, Fail> {
-    match table_of(alloc, parts)? {
-        Ok(table) => Ok(accepted_line(alloc, &table)?),
-        Err(refusal) => Ok(refusal.to_string(alloc)?),
+    match table_of(alloc, parts) {
+        Ok(Ok(table)) => line_of(alloc, &table),
+        Ok(Err(refusal)) => Ok(refusal.to_string(alloc)?),
+        Err(fail) => Err(fail),
     }
+}
+
+fn line_of(alloc: Global, table: &Accepted) -> Result<String, Fail> {
+    Ok(accepted_line(alloc, table)?)
 }
 
 /// What `upgrade` makes of these octets.
 fn newest(alloc: Global, parts: &[&str]) -> Result<String, Fail> {
-    let table = table_of(alloc, parts)??;
-    let octets = upgraded(alloc, &table)?;
+    match table_of(alloc, parts) {
+        Ok(Ok(table)) => digits_of_newest(alloc, &table),
+        Ok(Err(refusal)) => Ok(refusal.to_string(alloc)?),
+        Err(fail) => Err(fail),
+    }
+}
+
+fn digits_of_newest(alloc: Global, table: &Accepted) -> Result<String, Fail> {
+    let octets = upgraded(alloc, table)?;
     Ok(hex::encode(alloc, octets.as_slice())?)
 }
 

@@ -18,11 +18,6 @@ const PLAIN: &str = "00000004\
     00000002ffffffffffffffffff000000000000000200040500000000\
     00000003ffffffffffffffffff00000001000000030b000000000b000000010b00000002";
 
-/// The table of the sample's plain program and one of one routine, which S uses.
-fn both(alloc: Global) -> Result<Accepted, Fail> {
-    Ok(table_of(alloc, &["49444c5402", SAMPLE, PLAIN, ROUTINE, CODE, "01"])??)
-}
-
 /// Both programs are judged, the first before the second and the names last.
 #[test]
 fn verdicts(rt: HostRuntime) -> Result<(), Fail> {
@@ -49,36 +44,6 @@ fn verdicts(rt: HostRuntime) -> Result<(), Fail> {
     Ok(())
 }
 
-#[test]
-fn two_programs_are_listed(rt: HostRuntime) -> Result<(), Fail> {
-    let alloc = rt.alloc();
-    let table = both(alloc)?;
-    let text = listing(alloc, &table)?;
-    let want = "name S node 3 program 1 routine 0\n\
-        program 0\n\
-        routine 0 node 0 entry ff rank 0\n\
-        \x20 0 Octets 1\n\
-        routine 1 node 1 entry ff rank 0\n\
-        \x20 0 Align 4\n\
-        \x20 1 Words 4 1\n\
-        routine 2 node 2 entry ff rank 0\n\
-        \x20 0 Align 4\n\
-        \x20 1 Text 0\n\
-        routine 3 node 3 entry ff rank 1\n\
-        \x20 0 Call 0\n\
-        \x20 1 Call 1\n\
-        \x20 2 Call 2\n\
-        program 1\n\
-        routine 0 node 3 entry ff rank 0\n\
-        \x20 0 Octets 1\n\
-        \x20 1 Align 4\n\
-        \x20 2 Words 4 1\n\
-        \x20 3 Align 4\n\
-        \x20 4 Text 0\n";
-    assert_eq!(rt; text.as_str(), want);
-    Ok(())
-}
-
 /// What a table answers of a name: its node, whether the second program serves it, the routine.
 fn answers(table: &Accepted, name: &str) -> Option<(u32, bool, u32)> {
     let node = table.node_of(name)?;
@@ -87,13 +52,13 @@ fn answers(table: &Accepted, name: &str) -> Option<(u32, bool, u32)> {
     Some((node, used == Use::Second, routine))
 }
 
-#[test]
-fn names_are_asked_for(rt: HostRuntime) -> Result<(), Fail> {
-    let table = both(rt.alloc())?;
-    assert_eq!(rt; answers(&table, "S"), Some((3, true, 0)));
-    assert_eq!(rt; answers(&table, "SS"), None);
-    assert_eq!(rt; [table.is_named(3), table.is_named(2)], [true, false]);
-    Ok(())
+fn answered(alloc: Global, table: &Accepted, name: &str) -> Result<String, Fail> {
+    match answers(table, name) {
+        Some((node, is_second, routine)) => {
+            Ok(format!(in alloc; "{name}: {node} {is_second} {routine}\n")?)
+        }
+        None => Ok(format!(in alloc; "{name}: none\n")?),
+    }
 }
 
 /// What is told of nodes of the first program, and then of one of the second.
@@ -102,25 +67,12 @@ fn served(alloc: Global, table: &Accepted, node: u32) -> Result<String, Fail> {
     let second = table.table().program(Use::Second);
     match check_names(&[(first, 2), (first, 3), (second, node)]) {
         Ok(()) => Ok(String::new(alloc)),
-        Err(fault) => Ok(fault.to_string(alloc)?),
+        Err(fault) => Ok(format!(in alloc; "{fault}\n")?),
     }
 }
 
-#[test]
-fn nodes_of_two_programs(rt: HostRuntime) -> Result<(), Fail> {
-    let alloc = rt.alloc();
-    let table = both(alloc)?;
-    let there = served(alloc, &table, 3)?;
-    let missing = served(alloc, &table, 2)?;
-    assert_eq!(rt; there.as_str(), "");
-    assert_eq!(rt; missing.as_str(), "84 NoRoutine node 2");
-    Ok(())
-}
-
-#[test]
-fn values_by_the_second_program(rt: HostRuntime) -> Result<(), Fail> {
-    let alloc = rt.alloc();
-    let table = both(alloc)?;
+/// The octets of a value in little order at position 3.
+fn octets_of_a_value(alloc: Global, table: &Accepted) -> Result<String, Fail> {
     let request = Request {
         way: Way::Encode,
         name: "S",
@@ -128,8 +80,62 @@ fn values_by_the_second_program(rt: HostRuntime) -> Result<(), Fail> {
         pos: 3,
         hex: "0700000001000000026869",
     };
-    let line = marshal(alloc, &table, &request)?;
-    assert_eq!(rt; line.as_str(), "070100000003000000686900\n");
+    Ok(marshal(alloc, table, &request)?)
+}
+
+/// All that a table tells: its listing, what it answers of names, which nodes are named and which not served, a value.
+fn told(alloc: Global, table: &Accepted) -> Result<String, Fail> {
+    let mut text = listing(alloc, table)?;
+    text.push_str(answered(alloc, table, "S")?.as_str())?;
+    text.push_str(answered(alloc, table, "SS")?.as_str())?;
+    let named = [table.is_named(3), table.is_named(2)];
+    text.push_str(format!(in alloc; "named: {} {}\n", named[0], named[1])?.as_str())?;
+    text.push_str(served(alloc, table, 3)?.as_str())?;
+    text.push_str(served(alloc, table, 2)?.as_str())?;
+    text.push_str(octets_of_a_value(alloc, table)?.as_str())?;
+    Ok(text)
+}
+
+/// The same of the table of the sample's plain program and one of one routine, which S uses.
+fn told_of_both(alloc: Global) -> Result<String, Fail> {
+    match table_of(alloc, &["49444c5402", SAMPLE, PLAIN, ROUTINE, CODE, "01"]) {
+        Ok(Ok(table)) => told(alloc, &table),
+        Ok(Err(refusal)) => Ok(refusal.to_string(alloc)?),
+        Err(fail) => Err(fail),
+    }
+}
+
+const TOLD: &str = "name S node 3 program 1 routine 0\n\
+    program 0\n\
+    routine 0 node 0 entry ff rank 0\n\
+    \x20 0 Octets 1\n\
+    routine 1 node 1 entry ff rank 0\n\
+    \x20 0 Align 4\n\
+    \x20 1 Words 4 1\n\
+    routine 2 node 2 entry ff rank 0\n\
+    \x20 0 Align 4\n\
+    \x20 1 Text 0\n\
+    routine 3 node 3 entry ff rank 1\n\
+    \x20 0 Call 0\n\
+    \x20 1 Call 1\n\
+    \x20 2 Call 2\n\
+    program 1\n\
+    routine 0 node 3 entry ff rank 0\n\
+    \x20 0 Octets 1\n\
+    \x20 1 Align 4\n\
+    \x20 2 Words 4 1\n\
+    \x20 3 Align 4\n\
+    \x20 4 Text 0\n\
+    S: 3 true 0\n\
+    SS: none\n\
+    named: true false\n\
+    84 NoRoutine node 2\n\
+    070100000003000000686900\n";
+
+#[test]
+fn a_table_of_two_programs(rt: HostRuntime) -> Result<(), Fail> {
+    let text = told_of_both(rt.alloc())?;
+    assert_eq!(rt; text.as_str(), TOLD);
     Ok(())
 }
 
