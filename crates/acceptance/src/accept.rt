@@ -2,7 +2,7 @@
 
 use crate::sketch::{Sketch, add, graph};
 use marshal_program::Program;
-use position_checker::{Accepted, CheckFault, check};
+use position_checker::{Accepted, CheckFault, Refused, check};
 use std::alloc::{AllocError, Global};
 use std::test::Fail;
 use table_file::{Table, Use};
@@ -50,14 +50,19 @@ fn table_of(alloc: Global, model: Model, program: Program) -> Option<Table> {
     }
 }
 
+/// The accepted table, or why it is refused.
+fn told(judged: Result<Accepted, Refused>) -> Result<Accepted, CheckFault> {
+    match judged {
+        Ok(accepted) => Ok(accepted),
+        Err(refused) => Err(refused.fault),
+    }
+}
+
 /// What the checker says of that table; want of memory where there is none.
 fn judged(alloc: Global, model: Model, program: Program) -> Result<Accepted, CheckFault> {
     match table_of(alloc, model, program) {
         None => Err(CheckFault::NoMemory),
-        Some(table) => match check(alloc, table) {
-            Ok(accepted) => Ok(accepted),
-            Err(refused) => Err(refused.fault),
-        },
+        Some(table) => told(check(alloc, table)),
     }
 }
 

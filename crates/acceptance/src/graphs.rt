@@ -145,17 +145,26 @@ fn labelled(alloc: Global, count: usize) -> Result<u32, AllocError> {
 }
 
 #[test]
-fn most_nodes_and_members(rt: HostRuntime) -> Result<(), Fail> {
+fn most_nodes(rt: HostRuntime) {
     let alloc = rt.alloc();
     assert_eq!(rt; fault_of(graph(alloc, &[])), 0);
     for (count, want) in [(4095, 0), (4096, 135)] {
         assert_eq!(rt; told(alloc, copies(alloc, count, Sketch::Octet)), want);
     }
+}
+
+#[test]
+fn most_members(rt: HostRuntime) {
+    let alloc = rt.alloc();
     for (count, members, want) in [(32, 1024, 0), (1, 1025, 235), (33, 1024, 335)] {
         assert_eq!(rt; told(alloc, wide(alloc, count, members)), want);
     }
+}
+
+#[test]
+fn most_labels(rt: HostRuntime) -> Result<(), Fail> {
     for (count, want) in [(1024, 0), (1025, 235)] {
-        assert_eq!(rt; labelled(alloc, count)?, want);
+        assert_eq!(rt; labelled(rt.alloc(), count)?, want);
     }
     Ok(())
 }

@@ -6,9 +6,10 @@ use crate::refusals::of;
 use crate::shapes::zeros;
 use crate::sketch::{Sketch, Step, add, graph};
 use crate::values::unpacks;
+use marshal_program::{GenFault, Program};
 use std::alloc::{AllocError, Global};
 use std::test::Fail;
-use type_graph::{GraphFault, Items, Width};
+use type_graph::{Graph, GraphFault, Items, Width};
 use type_model::{Model, Name};
 
 const MEBI: u32 = 1_048_576;
@@ -159,13 +160,28 @@ fn runs(rt: HostRuntime) {
     );
 }
 
+/// How many zeros the second node has.
+fn zeros_of(alloc: Global, graph: Result<Graph, GraphFault>) -> usize {
+    match graph {
+        Ok(graph) => zeros(alloc, &graph, 1),
+        Err(_) => 0,
+    }
+}
+
+fn routines_of(program: Result<Program, GenFault>) -> usize {
+    match program {
+        Ok(program) => program.routines().len(),
+        Err(_) => 0,
+    }
+}
+
 #[test]
 fn zeros_and_programs(rt: HostRuntime) -> Result<(), Fail> {
     let alloc = rt.alloc();
-    let graph = graph(alloc, &[Sketch::Octet, Sketch::Array(0, MEBI)])?;
-    assert_eq!(rt; zeros(alloc, &graph, 1), 1_048_576);
+    let array = [Sketch::Octet, Sketch::Array(0, MEBI)];
+    assert_eq!(rt; zeros_of(alloc, graph(alloc, &array)), 1_048_576);
     let nodes = vec![in alloc; Sketch::Octet; 4096]?;
-    assert_eq!(rt; program_of(alloc, &nodes)?.routines().len(), 4096);
+    assert_eq!(rt; routines_of(program_of(alloc, &nodes)), 4096);
     Ok(())
 }
 
@@ -190,13 +206,18 @@ fn model(alloc: Global) -> Result<Model, GraphFault> {
     }
 }
 
+/// How many names the model has, and the nodes of one that is there and of one that isn't.
+fn names_told(model: Result<Model, GraphFault>) -> (usize, [Option<u32>; 2]) {
+    match model {
+        Ok(model) => (
+            model.names().len(),
+            [model.node_of("N4095"), model.node_of("N4096")],
+        ),
+        Err(_) => (0, [None; 2]),
+    }
+}
+
 #[test]
-fn names_of_a_model(rt: HostRuntime) -> Result<(), Fail> {
-    let model = model(rt.alloc())?;
-    assert_eq!(rt; model.names().len(), 4096);
-    assert_eq!(rt;
-        [model.node_of("N4095"), model.node_of("N4096")],
-        [Some(0), None]
-    );
-    Ok(())
+fn names_of_a_model(rt: HostRuntime) {
+    assert_eq!(rt; names_told(model(rt.alloc())), (4096, [Some(0), None]));
 }

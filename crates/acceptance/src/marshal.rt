@@ -1,10 +1,10 @@
 //! Programs of graphs, and what runs of programs and tables give.
 
-use crate::accept::model_of;
+use crate::accept::{accepted, model_of};
 use crate::sketch::Sketch;
 use generator::{joined, plain};
 use marshal_program::{GenFault, Program};
-use position_checker::Accepted;
+use position_checker::{Accepted, CheckFault};
 use program_runner::{RunFault, read, write};
 use std::alloc::Global;
 use type_graph::Order;
@@ -14,6 +14,18 @@ pub fn program_of(alloc: Global, nodes: &[Sketch<'_>]) -> Result<Program, GenFau
     match model_of(alloc, nodes, &[]) {
         Ok(model) => plain(alloc, &model),
         Err(_) => Err(GenFault::Limit),
+    }
+}
+
+/// The table of these nodes and their plain program, as the checker judges it.
+pub fn plain_table(
+    alloc: Global,
+    nodes: &[Sketch<'_>],
+    named: &[u32],
+) -> Result<Accepted, CheckFault> {
+    match program_of(alloc, nodes) {
+        Ok(program) => accepted(alloc, nodes, program, named),
+        Err(_) => Err(CheckFault::NoMemory),
     }
 }
 
@@ -119,6 +131,20 @@ pub fn accepted_both_ways(
         told_write(written, octets),
         told_read(found, tape, octets.len()),
     ]
+}
+
+/// The same of a table that was judged. What owns a table does nothing else, as it is slow to prove.
+pub fn judged_both_ways(
+    alloc: Global,
+    table: Result<Accepted, CheckFault>,
+    at: At,
+    tape: &[u8],
+    octets: &[u8],
+) -> [u32; 2] {
+    match table {
+        Ok(accepted) => accepted_both_ways(alloc, &accepted, at, tape, octets),
+        Err(_) => [97; 2],
+    }
 }
 
 /// The number of the fault of reading the octets, 0 where there is none.

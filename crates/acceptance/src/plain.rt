@@ -1,8 +1,7 @@
 //! The plain and the joined programs of whole graphs.
 
-use crate::accept::accepted;
 use crate::listing::listing;
-use crate::marshal::{At, accepted_both_ways, both_ways, joined_of, program_of};
+use crate::marshal::{At, both_ways, joined_of, judged_both_ways, plain_table, program_of};
 use crate::sketch::Sketch;
 use std::alloc::{AllocError, Global};
 use std::test::Fail;
@@ -79,13 +78,8 @@ const RUNS: [(At, &[u8], &[u8]); 5] = [
 ];
 
 fn by_accepted(alloc: Global, at: At, tape: &[u8], octets: &[u8]) -> [u32; 2] {
-    let Ok(program) = program_of(alloc, &NODES) else {
-        return [98; 2];
-    };
-    match accepted(alloc, &NODES, program, &[13, 14, 16]) {
-        Ok(accepted) => accepted_both_ways(alloc, &accepted, at, tape, octets),
-        Err(_) => [97; 2],
-    }
+    let table = plain_table(alloc, &NODES, &[13, 14, 16]);
+    judged_both_ways(alloc, table, at, tape, octets)
 }
 
 #[test]

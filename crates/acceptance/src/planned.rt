@@ -2,7 +2,7 @@
 
 use crate::accept::{accepted, model_of};
 use crate::listing::listing;
-use crate::marshal::{At, accepted_both_ways, program_of};
+use crate::marshal::{At, judged_both_ways, program_of};
 use crate::sample;
 use crate::sketch::Sketch;
 use marshal_program::{GenFault, Program};
@@ -321,10 +321,7 @@ const RUNS: [(Types<'static>, At, &[u8], &[u8]); 4] = [
 ];
 
 fn by_types(alloc: Global, types: Types<'_>, at: At, tape: &[u8], octets: &[u8]) -> [u32; 2] {
-    match accepted_types(alloc, types) {
-        Ok(accepted) => accepted_both_ways(alloc, &accepted, at, tape, octets),
-        Err(_) => [98; 2],
-    }
+    judged_both_ways(alloc, accepted_types(alloc, types), at, tape, octets)
 }
 
 #[test]
@@ -414,15 +411,20 @@ fn shared<'a>(alloc: Global, parts: &'a [[u32; 3]]) -> Result<Vec<Sketch<'a>>, A
     Ok(nodes)
 }
 
+/// How many routines the program of a table has, none where it isn't accepted.
+fn routines_of(table: Result<Accepted, CheckFault>) -> usize {
+    match table {
+        Ok(accepted) => program_of_table(&accepted).routines().len(),
+        Err(_) => 0,
+    }
+}
+
 /// How many routines the planned program of all these nodes has.
 fn routines_of_shared(alloc: Global) -> Result<usize, AllocError> {
     let parts: Vec<[u32; 3]> = (14..4096).map(parts_at).collect(alloc)?;
     let named: Vec<u32> = (0..4096).collect(alloc)?;
     let nodes = shared(alloc, &parts)?;
-    Ok(match accepted_of(alloc, &nodes, &named) {
-        Ok(accepted) => program_of_table(&accepted).routines().len(),
-        Err(_) => 0,
-    })
+    Ok(routines_of(accepted_of(alloc, &nodes, &named)))
 }
 
 #[test]

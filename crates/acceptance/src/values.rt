@@ -81,13 +81,19 @@ const TAPES: [(u32, &[u8], u32); 19] = [
     (7, &[0, 0, 0, 1, 0], 41),
 ];
 
-#[test]
-fn tapes_to_values(rt: HostRuntime) -> Result<(), Fail> {
-    let graph = graph(rt.alloc(), &NODES)?;
-    for (node, tape, want) in TAPES {
-        assert_eq!(rt; unpacks(rt.alloc(), &graph, node, tape), want);
+/// The same of a node of these.
+fn unpacks_of(alloc: Global, nodes: &[Sketch<'_>], node: u32, tape: &[u8]) -> u32 {
+    match graph(alloc, nodes) {
+        Ok(graph) => unpacks(alloc, &graph, node, tape),
+        Err(_) => 98,
     }
-    Ok(())
+}
+
+#[test]
+fn tapes_to_values(rt: HostRuntime) {
+    for (node, tape, want) in TAPES {
+        assert_eq!(rt; unpacks_of(rt.alloc(), &NODES, node, tape), want);
+    }
 }
 
 /// A value as a table can hold it: numbers, and a text behind them.
@@ -143,16 +149,22 @@ const VALUES: [(u32, Told<'static>, &[u8], u32); 6] = [
     ),
 ];
 
+/// What a value gives that was made, if there was memory for it.
+fn packs_of(alloc: Global, node: u32, value: Result<Value, AllocError>, tape: &[u8]) -> u32 {
+    match (graph(alloc, &NODES), value) {
+        (Ok(graph), Ok(value)) => packs(alloc, &graph, node, &value, tape),
+        _ => 98,
+    }
+}
+
 #[test]
-fn values_to_tapes(rt: HostRuntime) -> Result<(), Fail> {
-    let graph = graph(rt.alloc(), &NODES)?;
+fn values_to_tapes(rt: HostRuntime) {
     for (node, told, tape, want) in VALUES {
         assert_eq!(rt;
-            packs(rt.alloc(), &graph, node, &value(rt.alloc(), told)?, tape),
+            packs_of(rt.alloc(), node, value(rt.alloc(), told), tape),
             want
         );
     }
-    Ok(())
 }
 
 /// An octet for each label from -512 to 511.
@@ -176,9 +188,8 @@ fn a_union_of_many_arms(rt: HostRuntime) -> Result<(), Fail> {
         Sketch::Signed(Width::Two),
         Sketch::Union(1, &arms, None),
     ];
-    let graph = graph(alloc, &nodes)?;
-    assert_eq!(rt; unpacks(alloc, &graph, 2, &[0xFE, 0, 9]), 0);
-    assert_eq!(rt; unpacks(alloc, &graph, 2, &[2, 0]), 0);
+    assert_eq!(rt; unpacks_of(alloc, &nodes, 2, &[0xFE, 0, 9]), 0);
+    assert_eq!(rt; unpacks_of(alloc, &nodes, 2, &[2, 0]), 0);
     Ok(())
 }
 
@@ -206,19 +217,18 @@ pub fn chain_tape(alloc: Global, length: u32) -> Result<Vec<u8>, AllocError> {
 }
 
 /// The faults of the value and of its tape.
-fn faults_of_chain(alloc: Global, graph: &Graph, length: u32) -> Result<[u32; 2], AllocError> {
+fn faults_of_chain(alloc: Global, length: u32) -> Result<[u32; 2], AllocError> {
     let tape = chain_tape(alloc, length)?;
-    let value = chain(alloc, length)?;
     Ok([
-        packs(alloc, graph, 11, &value, &tape),
-        unpacks(alloc, graph, 11, &tape),
+        packs_of(alloc, 11, chain(alloc, length), &tape),
+        unpacks_of(alloc, &NODES, 11, &tape),
     ])
 }
 
 #[test]
 fn sixty_four_sequences(rt: HostRuntime) -> Result<(), Fail> {
-    let graph = graph(rt.alloc(), &NODES)?;
-    assert_eq!(rt; faults_of_chain(rt.alloc(), &graph, 64)?, [0, 0]);
-    assert_eq!(rt; faults_of_chain(rt.alloc(), &graph, 65)?, [40, 41]);
+    for (length, want) in [(64, [0, 0]), (65, [40, 41])] {
+        assert_eq!(rt; faults_of_chain(rt.alloc(), length)?, want);
+    }
     Ok(())
 }

@@ -1,7 +1,8 @@
 //! Values worked out by hand from the rules of CDR, run by the plain programs of their types.
 
-use crate::accept::accepted;
-use crate::marshal::{At, accepted_both_ways, both_ways, faults, program_of, read_fault};
+use crate::marshal::{
+    At, both_ways, faults, judged_both_ways, plain_table, program_of, read_fault,
+};
 use crate::sample;
 use crate::sketch::Sketch;
 use crate::values::chain_tape;
@@ -29,13 +30,8 @@ const STRUCTURES: [(At, &[u8], &[u8]); 3] = [
 ];
 
 fn by_accepted(alloc: Global, at: At, tape: &[u8], octets: &[u8]) -> [u32; 2] {
-    let Ok(program) = program_of(alloc, &sample::NODES) else {
-        return [98; 2];
-    };
-    match accepted(alloc, &sample::NODES, program, &[3]) {
-        Ok(accepted) => accepted_both_ways(alloc, &accepted, at, tape, octets),
-        Err(_) => [97; 2],
-    }
+    let table = plain_table(alloc, &sample::NODES, &[3]);
+    judged_both_ways(alloc, table, at, tape, octets)
 }
 
 #[test]

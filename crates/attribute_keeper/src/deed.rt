@@ -2,7 +2,7 @@
 
 /// What an operation of an object does. Attributes are counted from 0, in the order of the
 /// interface's operations.
-#[derive(Clone, Copy, Debug)]
+#[derive(Clone, Copy)]
 pub enum Deed {
     /// It gets an attribute.
     Get(usize),

@@ -17,7 +17,7 @@ use type_graph::Items;
 /// replaces it by its argument. Of the other operations those are answered whose frames say how: an
 /// empty reply by an empty tape, and one of the same members as the request by the arguments. A
 /// contract sees what the operations of each object do, and the tapes.
-#[derive(Debug, Drop)]
+#[derive(Drop)]
 pub struct Keeper {
     deeds: Vec<Items<(u32, Deed)>>,
     kept: Vec<Kept>,

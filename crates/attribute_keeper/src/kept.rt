@@ -6,7 +6,7 @@ use std::marker::Model;
 use type_graph::Items;
 
 /// The tapes of an object's attributes. A contract sees the list.
-#[derive(Debug, Drop)]
+#[derive(Drop)]
 pub(crate) struct Kept {
     tapes: Vec<Items<u8>>,
 }

@@ -18,7 +18,7 @@ use tapes::split_octets;
 use type_model::{Interface, Operation};
 
 /// What a request asks for.
-#[derive(Debug, Drop)]
+#[derive(Drop)]
 pub(crate) enum Finding {
     /// Nothing that can be done.
     Refuses(SystemException),

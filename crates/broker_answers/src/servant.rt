@@ -6,7 +6,7 @@ ghost use Rattle.broker_answers.specs.Servants.{Call, Said, call_of, said_of};
 use std::alloc::{AllocError, Global};
 
 /// What a servant says to a call.
-#[derive(Debug, Drop)]
+#[derive(Drop)]
 pub enum Outcome {
     /// The tape of the reply frame: the result, then the `inout` and `out` parameters.
     Done(Vec<u8>),

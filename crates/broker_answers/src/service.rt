@@ -18,7 +18,7 @@ use type_model::Interface;
 
 /// The objects that are served, and the accepted types of their interfaces. A contract sees the
 /// model of these, and each object's key with the place of its interface.
-#[derive(Debug, Drop)]
+#[derive(Drop)]
 pub struct Service {
     pub(crate) types: GiopTypes,
     pub(crate) accepted: Accepted,

@@ -16,7 +16,7 @@ use giop_writing::write_message_error;
 use std::alloc::{AllocError, Global};
 
 /// The answer to a message, and whether the connection is closed then.
-#[derive(Debug, Drop)]
+#[derive(Drop)]
 pub struct Answer {
     pub octets: Vec<u8>,
     pub closes: bool,

@@ -5,7 +5,7 @@ ghost use Rattle.broker_answers.specs.Answering.{wanted_by};
 ghost use Rattle.broker_answers.specs.Replies.{wanted as wanted_of};
 
 /// Which answers a request wants.
-#[derive(Clone, Copy, Debug, PartialEq, Eq)]
+#[derive(Clone, Copy, PartialEq, Eq)]
 pub(crate) enum Wanted {
     /// All of the answer.
     AllOfIt,

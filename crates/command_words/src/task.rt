@@ -4,7 +4,7 @@ use reference_commands::Wanted;
 use table_commands::Request;
 
 /// A value of a table.
-#[derive(Clone, Copy, Debug)]
+#[derive(Clone, Copy)]
 pub struct Asked<'a> {
     /// The name of the table.
     pub table: &'a str,
@@ -12,7 +12,7 @@ pub struct Asked<'a> {
 }
 
 /// A reference to an object of a table's interface.
-#[derive(Clone, Copy, Debug)]
+#[derive(Clone, Copy)]
 pub struct AskedReference<'a> {
     /// The name of the table.
     pub table: &'a str,
@@ -20,7 +20,7 @@ pub struct AskedReference<'a> {
 }
 
 /// Calls to an object of a table's interface, that come by a socket.
-#[derive(Clone, Copy, Debug)]
+#[derive(Clone, Copy)]
 pub struct Service<'a> {
     /// The name of the table.
     pub table: &'a str,
@@ -32,7 +32,7 @@ pub struct Service<'a> {
 }
 
 /// What a run is asked to do.
-#[derive(Clone, Copy, Debug)]
+#[derive(Clone, Copy)]
 pub enum Task<'a> {
     Value(Asked<'a>),
     Reference(AskedReference<'a>),
@@ -46,7 +46,7 @@ pub enum Task<'a> {
 }
 
 /// What the words say.
-#[derive(Debug, Drop)]
+#[derive(Drop)]
 pub enum Said<'a> {
     /// The text of asked-for help.
     Help(String),

@@ -15,7 +15,7 @@ use std::str;
 use table_commands::{accepted_line, upgraded};
 
 /// The table file of an IDL file, and what is told of it.
-#[derive(Debug, Drop)]
+#[derive(Drop)]
 pub struct Compiled {
     /// The octets of the table file, of the newest version.
     pub octets: Vec<u8>,

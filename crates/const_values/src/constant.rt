@@ -14,7 +14,7 @@ use std::rc::RcSlice;
 
 /// The octets of a text, which all constants that are worth it share. A contract sees the list of
 /// the octets.
-#[derive(Debug, Drop)]
+#[derive(Drop)]
 pub struct Text {
     octets: RcSlice<u8>,
 }
@@ -69,7 +69,7 @@ impl Text {
 }
 
 /// What a constant is worth.
-#[derive(Debug, Drop)]
+#[derive(Drop)]
 pub enum Constant {
     /// A whole number.
     Whole(i128),

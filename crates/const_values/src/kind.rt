@@ -7,7 +7,7 @@ use crate::constant::Constant;
 use idl_tree::types::{Integer, IntegerSize};
 
 /// What the declared type of a constant is in the end, where its name was followed.
-#[derive(Clone, Copy, Debug, PartialEq, Eq)]
+#[derive(Clone, Copy, PartialEq, Eq)]
 pub enum ConstKind {
     Integer(Integer),
     Char,

@@ -15,7 +15,7 @@ use std::alloc::Global;
 use type_graph::Order;
 
 /// What stands at the front of a stream.
-#[derive(Debug, Drop)]
+#[derive(Drop)]
 pub enum Front<'b> {
     /// Not yet a whole message.
     More,

@@ -31,7 +31,7 @@ use std::marker::Model;
 use type_graph::Order;
 
 /// The types of GIOP at hand, by which messages are read and written. A contract sees their table.
-#[derive(Debug, Drop)]
+#[derive(Drop)]
 pub struct Giop {
     types: GiopTypes,
 }

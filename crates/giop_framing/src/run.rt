@@ -18,7 +18,7 @@ const FRAGMENT_HEAD_LEN: usize = 16;
 
 /// The pieces of a request that have come. A contract sees the request that they would be if
 /// nothing more came.
-#[derive(Debug, Drop)]
+#[derive(Drop)]
 pub struct Run {
     octets: Vec<u8>,
 }

@@ -6,7 +6,7 @@ ghost use Rattle.giop_messages.specs.Headers.{number_of};
 use type_graph::Order;
 
 /// A call of an operation of an object.
-#[derive(Debug, Drop)]
+#[derive(Drop)]
 pub struct Request<'b> {
     /// The number by which the caller knows the answer.
     pub id: u32,
@@ -24,7 +24,7 @@ pub struct Request<'b> {
 }
 
 /// The answer to a call.
-#[derive(Debug, Drop)]
+#[derive(Drop)]
 pub struct Reply<'b> {
     /// The number of the request.
     pub id: u32,
@@ -65,7 +65,7 @@ impl ReplyStatus {
 }
 
 /// The question whether an object is here.
-#[derive(Debug, Drop)]
+#[derive(Drop)]
 pub struct Locate {
     /// The number by which the asker knows the answer.
     pub id: u32,
@@ -75,7 +75,7 @@ pub struct Locate {
 }
 
 /// What a message says.
-#[derive(Debug, Drop)]
+#[derive(Drop)]
 pub enum Message<'b> {
     Request(Request<'b>),
     Reply(Reply<'b>),

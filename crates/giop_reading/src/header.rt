@@ -14,7 +14,7 @@ use std::alloc::Global;
 use tapes::{TapeFault, split_octets, split_u8, split_u32};
 
 /// The header of a request, without its service contexts.
-#[derive(Clone, Copy, Debug)]
+#[derive(Clone, Copy)]
 pub struct RequestHeader<'t> {
     pub id: u32,
     pub flags: u8,
@@ -23,14 +23,14 @@ pub struct RequestHeader<'t> {
 }
 
 /// The header of a reply, without its service contexts.
-#[derive(Clone, Copy, Debug)]
+#[derive(Clone, Copy)]
 pub struct ReplyHeader {
     pub id: u32,
     pub status: Status,
 }
 
 /// The header of a locate request.
-#[derive(Clone, Copy, Debug)]
+#[derive(Clone, Copy)]
 pub struct LocateHeader<'t> {
     pub id: u32,
     pub target: Target<'t>,

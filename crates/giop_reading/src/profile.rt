@@ -24,7 +24,7 @@ use type_graph::Order as ByteOrder;
 const IIOP: u32 = 0;
 
 /// What is needed of the body of a profile.
-#[derive(Clone, Copy, Debug)]
+#[derive(Clone, Copy)]
 pub struct BodyStart<'t> {
     pub major: u8,
     pub minor: u8,

@@ -12,7 +12,7 @@ use tapes::{
 };
 
 /// How a target tells the key of an object.
-#[derive(Clone, Copy, Debug)]
+#[derive(Clone, Copy)]
 pub enum Target<'t> {
     /// By the key itself.
     Key(&'t [u8]),

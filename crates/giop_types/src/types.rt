@@ -17,7 +17,7 @@ use type_graph::Order;
 
 /// The types of GIOP 1.2 and IIOP at hand: their accepted table, by which headers, bodies and
 /// profiles are read and written. A contract sees the table.
-#[derive(Debug, Drop)]
+#[derive(Drop)]
 pub struct GiopTypes {
     accepted: Accepted,
 }

@@ -11,5 +11,3 @@ mod parsing;
 mod reading;
 #[cfg(test)]
 mod table;
-#[cfg(test)]
-mod trees;

@@ -1,25 +1,9 @@
-//! Readers of trees: the texts that are printed, and large literals.
+//! Readers of trees: large literals, the identifiers of a name.
 
-use crate::table::printed;
 use idl_lexer::{Identifiers, Kind, Token, lex};
 use idl_tree::names::{Leaf, Listed};
 use std::alloc::Global;
 use std::test::Fail;
-
-const MODULES: &str =
-    "module M { interface I; module N { interface J; interface K; }; };\n#pragma prefix \"p\"";
-
-const PRINTED: &str =
-    "Spec { definitions: [Module(Module { identifier: M, definitions: [Interface(Ahead(I)), \
-                       Module(Module { identifier: N, definitions: [Interface(Ahead(J)), Interface(Ahead(K))] \
-                       })] }), Pragma(#pragma prefix \"p\")] }";
-
-#[test]
-fn specifications_are_printed(rt: HostRuntime) -> Result<(), Fail> {
-    let text = printed(rt.alloc(), MODULES)?;
-    assert_eq!(rt; text.as_str(), PRINTED);
-    Ok(())
-}
 
 /// How many octets two text literals are together.
 fn joined_len<'a>(alloc: Global, one: &'a Token<'a>, two: &'a Token<'a>) -> Result<usize, Fail> {

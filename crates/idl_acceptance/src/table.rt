@@ -45,18 +45,6 @@ pub fn shown(alloc: Global, tokens: &[Token<'_>]) -> Result<String, Fail> {
     Ok(out)
 }
 
-/// The tree of tokens, printed.
-fn printed_tree(alloc: Global, tokens: &[Token<'_>]) -> Result<String, Fail> {
-    let spec = parse(alloc, tokens)?;
-    Ok(format!(in alloc; "{spec:?}")?)
-}
-
-/// The tree of a source, printed.
-pub fn printed(alloc: Global, source: &str) -> Result<String, Fail> {
-    let tokens = lex(alloc, source)?;
-    printed_tree(alloc, &tokens)
-}
-
 /// The fault of tokens, if they are refused. What holds the tree of a file does nothing else, as it is slow to prove.
 pub fn fault_of_tokens(alloc: Global, tokens: &[Token<'_>]) -> Option<ParseFault> {
     parse(alloc, tokens).err()

@@ -7,7 +7,7 @@ use crate::octets::{is_word_octet, word_len};
 use crate::pragmas::ascii_text;
 
 /// The identifiers that are left of a name, each as it is written.
-#[derive(Clone, Copy, Debug, Drop)]
+#[derive(Clone, Copy, Drop)]
 pub struct Identifiers<'a> {
     rest: &'a [u8],
 }

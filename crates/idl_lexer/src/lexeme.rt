@@ -3,7 +3,7 @@
 use crate::token::Kind;
 
 /// A token of a kind, or with no kind something to skip; `len` is in octets.
-#[derive(Clone, Copy, Debug)]
+#[derive(Clone, Copy)]
 pub(crate) struct Lexeme {
     pub(crate) kind: Option<Kind>,
     pub(crate) len: usize,

@@ -1,6 +1,6 @@
 //! Why reading stops.
 
-#[derive(Clone, Copy, Debug)]
+#[derive(Clone, Copy)]
 pub(crate) enum Stop {
     /// The next token can't stand where it does.
     Unexpected,

@@ -7,7 +7,7 @@ use crate::expression::Expr;
 
 /// An expression whose operands and operators group by the levels of the IDL grammar, so that a
 /// multiplication binds tighter than an addition.
-#[derive(Debug, Drop)]
+#[derive(Drop)]
 pub struct ConstExpr<'a> {
     pub expr: Expr<'a>,
     ghost groups: { IsOfLevel true 0 expr },
@@ -15,7 +15,7 @@ pub struct ConstExpr<'a> {
 
 /// The same between the `<` and the `>` of a sequence or a string, where a right shift stands in
 /// parentheses only.
-#[derive(Debug, Drop)]
+#[derive(Drop)]
 pub struct Bound<'a> {
     pub expr: Expr<'a>,
     ghost groups: { IsOfLevel false 0 expr },

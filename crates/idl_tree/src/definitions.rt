@@ -15,7 +15,7 @@ use crate::types::{
 };
 
 /// A type that is declared.
-#[derive(Debug, Drop)]
+#[derive(Drop)]
 pub enum TypeDcl<'a> {
     Typedef {
         original: TypeSpec<'a>,
@@ -30,21 +30,21 @@ pub enum TypeDcl<'a> {
     UnionAhead(Leaf<'a>),
 }
 
-#[derive(Debug, Drop)]
+#[derive(Drop)]
 pub struct Const<'a> {
     pub const_type: ConstType<'a>,
     pub identifier: Leaf<'a>,
     pub value: ConstExpr<'a>,
 }
 
-#[derive(Debug, Drop)]
+#[derive(Drop)]
 pub struct Except<'a> {
     pub identifier: Leaf<'a>,
     pub members: Vec<Member<'a>>,
 }
 
 /// What modules and interfaces both declare.
-#[derive(Debug, Drop)]
+#[derive(Drop)]
 pub enum Declaration<'a> {
     TypeDcl(TypeDcl<'a>),
     Const(Const<'a>),
@@ -52,7 +52,7 @@ pub enum Declaration<'a> {
 }
 
 /// Attributes, and what they raise: only one that is declared alone raises something.
-#[derive(Debug, Drop)]
+#[derive(Drop)]
 pub enum Attributes<'a> {
     /// One or more that raise nothing.
     Silent {
@@ -78,27 +78,27 @@ pub enum Attributes<'a> {
 }
 
 /// Attributes of one type.
-#[derive(Debug, Drop)]
+#[derive(Drop)]
 pub struct Attribute<'a> {
     pub attribute_type: ParamType<'a>,
     pub declared: Attributes<'a>,
 }
 
-#[derive(Clone, Copy, Debug, PartialEq, Eq)]
+#[derive(Clone, Copy, PartialEq, Eq)]
 pub enum Direction {
     In,
     Out,
     InOut,
 }
 
-#[derive(Debug, Drop)]
+#[derive(Drop)]
 pub struct Param<'a> {
     pub direction: Direction,
     pub param_type: ParamType<'a>,
     pub identifier: Leaf<'a>,
 }
 
-#[derive(Debug, Drop)]
+#[derive(Drop)]
 pub struct Operation<'a> {
     pub is_oneway: bool,
     /// None is `void`.
@@ -109,7 +109,7 @@ pub struct Operation<'a> {
 }
 
 /// What stands in an interface.
-#[derive(Debug, Drop)]
+#[derive(Drop)]
 pub enum Export<'a> {
     Pragma(Leaf<'a>),
     Declaration(Declaration<'a>),
@@ -117,7 +117,7 @@ pub enum Export<'a> {
     Operation(Operation<'a>),
 }
 
-#[derive(Debug, Drop)]
+#[derive(Drop)]
 pub enum Interface<'a> {
     /// An interface that is declared ahead.
     Ahead(Leaf<'a>),

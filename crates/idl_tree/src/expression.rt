@@ -11,7 +11,7 @@ use crate::names::{Leaf, Listed, ScopedName};
 use std::alloc::{AllocError, Global};
 
 /// The operators between two operands.
-#[derive(Clone, Copy, Debug, PartialEq, Eq)]
+#[derive(Clone, Copy, PartialEq, Eq)]
 pub enum Operator {
     Or,
     Xor,
@@ -27,7 +27,7 @@ pub enum Operator {
 }
 
 /// The operators before an operand.
-#[derive(Clone, Copy, Debug, PartialEq, Eq)]
+#[derive(Clone, Copy, PartialEq, Eq)]
 pub enum Sign {
     Plus,
     Minus,
@@ -35,7 +35,7 @@ pub enum Sign {
 
 /// A constant expression.
 #[cycle(expression)]
-#[derive(Debug, Drop)]
+#[derive(Drop)]
 pub enum Expr<'a> {
     Name(ScopedName<'a>),
     Number(Leaf<'a>),
@@ -66,7 +66,7 @@ pub enum Expr<'a> {
 
 /// An operator and the operand behind it.
 #[cycle(expression)]
-#[derive(Debug, Drop)]
+#[derive(Drop)]
 pub struct Operand<'a> {
     pub operator: Operator,
     pub operand: Expr<'a>,

@@ -5,7 +5,6 @@
 
 pub mod const_expr;
 mod counts;
-mod debug;
 pub mod definitions;
 pub mod expression;
 pub mod lists;

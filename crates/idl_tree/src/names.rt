@@ -4,7 +4,6 @@ ghost use Rattle.std.specs.Prelude.{◌≡◌, ◌||◌, true, is_some, nat_lt, 
 ghost use Rattle.idl_lexer.specs.Words.{unescaped as unescaped_text};
 
 use idl_lexer::Token;
-use std::fmt;
 
 /// A token that the tree keeps. Its place in the tree tells its kind.
 #[derive(Clone, Copy)]
@@ -15,7 +14,7 @@ pub struct Leaf<'a> {
 }
 
 /// A name with a `::` in it.
-#[derive(Debug, Drop)]
+#[derive(Drop)]
 pub struct Path<'a> {
     /// The `::` that it begins with, if it does.
     pub root: Option<Leaf<'a>>,
@@ -27,7 +26,7 @@ pub struct Path<'a> {
 }
 
 /// A scoped name: identifiers with `::` between them, and maybe one before the first.
-#[derive(Debug, Drop)]
+#[derive(Drop)]
 pub enum ScopedName<'a> {
     /// An identifier alone.
     Plain(Leaf<'a>),
@@ -35,17 +34,10 @@ pub enum ScopedName<'a> {
 }
 
 /// One part or more, with commas or nothing between them.
-#[derive(Debug, Drop)]
+#[derive(Drop)]
 pub struct Listed<T> {
     pub first: T,
     pub rest: Vec<T>,
-}
-
-/// The text of the token.
-impl fmt::Debug for Leaf<'_> {
-    fn fmt<W: fmt::Write>(&self, f: &mut fmt::Formatter<W>) -> fmt::Result {
-        f.write_str(self.token.text)
-    }
 }
 
 impl<'a> Leaf<'a> {

@@ -12,7 +12,7 @@ use crate::const_expr::{Bound, ConstExpr};
 use crate::names::{Leaf, Listed, ScopedName};
 use std::alloc::{AllocError, Global};
 
-#[derive(Clone, Copy, Debug, PartialEq, Eq)]
+#[derive(Clone, Copy, PartialEq, Eq)]
 pub enum IntegerSize {
     Short,
     Long,
@@ -20,14 +20,14 @@ pub enum IntegerSize {
 }
 
 /// The integer types.
-#[derive(Clone, Copy, Debug, PartialEq, Eq)]
+#[derive(Clone, Copy, PartialEq, Eq)]
 pub enum Integer {
     Signed(IntegerSize),
     Unsigned(IntegerSize),
 }
 
 /// The types that a constant may have.
-#[derive(Debug, Drop)]
+#[derive(Drop)]
 pub enum ConstType<'a> {
     Integer(Integer),
     Char,
@@ -39,14 +39,14 @@ pub enum ConstType<'a> {
 }
 
 /// The types that parameters, results and attributes may have.
-#[derive(Debug, Drop)]
+#[derive(Drop)]
 pub enum ParamType<'a> {
     Plain(ConstType<'a>),
     Object,
 }
 
 /// A type that declares nothing.
-#[derive(Debug, Drop)]
+#[derive(Drop)]
 pub enum SimpleType<'a> {
     Plain(ParamType<'a>),
     Sequence {
@@ -56,20 +56,20 @@ pub enum SimpleType<'a> {
 }
 
 /// An identifier, and the sizes of an array of it.
-#[derive(Debug, Drop)]
+#[derive(Drop)]
 pub struct Declarator<'a> {
     pub identifier: Leaf<'a>,
     pub sizes: Vec<ConstExpr<'a>>,
 }
 
-#[derive(Debug, Drop)]
+#[derive(Drop)]
 pub struct EnumType<'a> {
     pub identifier: Leaf<'a>,
     pub enumerators: Listed<Leaf<'a>>,
 }
 
 /// The type of a union's discriminator.
-#[derive(Debug, Drop)]
+#[derive(Drop)]
 pub enum SwitchType<'a> {
     Integer(Integer),
     Char,
@@ -79,7 +79,7 @@ pub enum SwitchType<'a> {
 }
 
 /// A label of a union's case.
-#[derive(Debug, Drop)]
+#[derive(Drop)]
 pub enum Label<'a> {
     Case(ConstExpr<'a>),
     /// The keyword `default`.
@@ -87,7 +87,7 @@ pub enum Label<'a> {
 }
 
 #[cycle(types)]
-#[derive(Debug, Drop)]
+#[derive(Drop)]
 pub enum TypeSpec<'a> {
     Simple(SimpleType<'a>),
     Struct(StructType<'a>),
@@ -97,7 +97,7 @@ pub enum TypeSpec<'a> {
 
 /// A structure, which has one member or more.
 #[cycle(types)]
-#[derive(Debug, Drop)]
+#[derive(Drop)]
 pub struct StructType<'a> {
     pub identifier: Leaf<'a>,
     pub first: Box<Member<'a>>,
@@ -106,7 +106,7 @@ pub struct StructType<'a> {
 
 /// Members of one type: of a structure or an exception.
 #[cycle(types)]
-#[derive(Debug, Drop)]
+#[derive(Drop)]
 pub struct Member<'a> {
     pub member_type: TypeSpec<'a>,
     pub declarators: Listed<Declarator<'a>>,
@@ -114,7 +114,7 @@ pub struct Member<'a> {
 
 /// A union, which has one case or more.
 #[cycle(types)]
-#[derive(Debug, Drop)]
+#[derive(Drop)]
 pub struct UnionType<'a> {
     pub identifier: Leaf<'a>,
     pub switch: SwitchType<'a>,
@@ -124,7 +124,7 @@ pub struct UnionType<'a> {
 
 /// A member of a union, with one label or more.
 #[cycle(types)]
-#[derive(Debug, Drop)]
+#[derive(Drop)]
 pub struct Case<'a> {
     pub labels: Listed<Label<'a>>,
     pub member_type: TypeSpec<'a>,

@@ -1,7 +1,7 @@
 //! A value, apart from its type.
 
 /// What a type of a graph has as a value. Contracts see it as the value tree of the definitions.
-#[derive(Debug, Drop)]
+#[derive(Drop)]
 pub enum Value {
     /// An integer, octet, character, boolean or enumerator.
     Whole(i128),

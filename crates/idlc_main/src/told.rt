@@ -5,7 +5,7 @@ ghost use Rattle.std.specs.Prelude.{◌≡◌};
 use std::fmt::{self, Formatter};
 
 /// What else is told on standard error, as the line behind `idlc: `.
-#[derive(Clone, Copy, Debug)]
+#[derive(Clone, Copy)]
 pub enum Notice {
     /// A table was written whose names the planned program doesn't serve.
     PlanUnused,
@@ -20,7 +20,7 @@ impl fmt::Display for Notice {
 }
 
 /// The text for standard output, and what else is told.
-#[derive(Debug, Drop)]
+#[derive(Drop)]
 pub struct Answer {
     pub text: String,
     pub notice: Option<Notice>,

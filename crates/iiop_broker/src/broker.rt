@@ -20,7 +20,7 @@ use std::marker::Model;
 
 /// Objects, the servant of their operations, and the connections that are there. A contract sees
 /// what is served, the servant's state and the rest of each connection's stream.
-#[derive(Debug, Drop)]
+#[derive(Drop)]
 pub struct Broker<S> {
     alloc: Global,
     service: Service,

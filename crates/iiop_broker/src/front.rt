@@ -14,7 +14,7 @@ use giop_framing::{Head, Run};
 use std::alloc::{AllocError, Global};
 
 /// What becomes of a stream by what stands at its front.
-#[derive(Debug, Drop)]
+#[derive(Drop)]
 pub(crate) enum Turn {
     /// Nothing: more octets have to come.
     Waits(Option<Run>),

@@ -13,14 +13,14 @@ use giop_framing::Run;
 use std::alloc::{AllocError, Global};
 
 /// The answers, joined, and what is kept of the connection.
-#[derive(Debug, Drop)]
+#[derive(Drop)]
 pub(crate) struct Heard {
     pub(crate) answer: Vec<u8>,
     pub(crate) kept: Kept,
 }
 
 /// What is left of a stream.
-#[derive(Debug, Drop)]
+#[derive(Drop)]
 pub(crate) enum Left {
     /// So many octets are seen to.
     Open { run: Option<Run>, taken: usize },
@@ -28,7 +28,7 @@ pub(crate) enum Left {
 }
 
 /// The answers, joined, and what is left of the stream.
-#[derive(Debug, Drop)]
+#[derive(Drop)]
 struct Followed {
     answer: Vec<u8>,
     left: Left,

@@ -3,7 +3,7 @@
 use giop_framing::Run;
 
 /// What is kept of a connection.
-#[derive(Debug, Drop)]
+#[derive(Drop)]
 pub(crate) enum Kept {
     /// The request whose fragments are coming, and the octets that aren't a whole message yet.
     Open { run: Option<Run>, rest: Vec<u8> },

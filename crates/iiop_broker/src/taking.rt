@@ -12,7 +12,7 @@ use std::alloc::{AllocError, Global};
 use type_graph::Order;
 
 /// What is taken from the front of a stream.
-#[derive(Debug, Drop)]
+#[derive(Drop)]
 pub(crate) enum Taken {
     /// Nothing: no whole message is there.
     Nothing(Option<Run>),

@@ -6,7 +6,7 @@ use crate::ends::{Failed, Input, Output};
 use std::alloc::Global;
 
 /// Reads from a slice, and tells what is left of it.
-#[derive(Debug, Drop)]
+#[derive(Drop)]
 pub struct Source<'b> {
     left: &'b [u8],
 }
@@ -45,7 +45,7 @@ impl<'b> Input for Source<'b> {
 }
 
 /// Writes to a list, and tells what is in it.
-#[derive(Debug, Drop)]
+#[derive(Drop)]
 pub struct Sink {
     octets: Vec<u8>,
     failed: bool,

@@ -10,7 +10,7 @@ use crate::sending::send;
 use iiop_broker::{Broker, BrokerFault, Event, Servant};
 
 /// An answer that is written.
-#[derive(Debug, Drop)]
+#[derive(Drop)]
 pub(crate) struct Sent {
     /// How many octets it has.
     pub(crate) octets: usize,
@@ -19,7 +19,7 @@ pub(crate) struct Sent {
 }
 
 /// Why a piece isn't answered.
-#[derive(Debug, Drop)]
+#[derive(Drop)]
 pub(crate) enum Trouble {
     NoMemory,
     /// So many octets of the answer were written.

@@ -6,7 +6,7 @@ use crate::ends::{Failed, Input, Output};
 use std::io::{Read, Write};
 
 /// A stream of the standard library, which tells no octets.
-#[derive(Debug, Drop)]
+#[derive(Drop)]
 pub struct Wire<T> {
     stream: T,
     failed: bool,

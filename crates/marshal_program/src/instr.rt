@@ -37,7 +37,7 @@ impl Disc {
 /// One step of a routine: it relates a piece of a tape with octets at a position. A routine is
 /// named by its number in the program, a bound of 0 is none, and only `Align` and the `first` of
 /// a sequence stand for gaps (ISO/IEC 19500-2, CDR).
-#[derive(Debug, Drop, PartialEq)]
+#[derive(Drop, PartialEq)]
 pub enum Instr {
     /// The gap to the next multiple.
     Align {
@@ -113,7 +113,7 @@ fn is_other(otherwise: Option<u32>, other: Option<u32>) -> bool
 }
 
 /// The routines that an instruction names: those of labels, and one more.
-#[derive(Clone, Copy, Debug)]
+#[derive(Clone, Copy)]
 pub struct Named<'i> {
     pub arms: &'i [(i128, u32)],
     pub other: Option<u32>,
@@ -235,7 +235,7 @@ impl Instr {
 pub type Code = Items<Instr>;
 
 /// How the values of one node of a type graph are marshalled.
-#[derive(Debug, Drop, PartialEq)]
+#[derive(Drop, PartialEq)]
 pub struct Routine {
     /// The node's number.
     pub node: u32,

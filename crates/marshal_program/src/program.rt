@@ -10,7 +10,7 @@ use crate::rules::{MAX_ROUTINES, calls_lower, has_all_numbers, has_few_instrs, n
 use std::marker::Model;
 
 /// The routines, each named by its place in the list. A contract sees a program as that list.
-#[derive(Debug, Drop)]
+#[derive(Drop)]
 pub struct Program {
     routines: Vec<Routine>,
 }

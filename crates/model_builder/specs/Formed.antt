@@ -35,6 +35,9 @@ abbrev pub HasSmallNumbers : Node → Type 0
 HasSmallNumbers (Seq elem bound) = elem < none_such
 HasSmallNumbers (Array elem n) = elem < none_such
 HasSmallNumbers (Struct members) = All (λ n. n < none_such) members
-HasSmallNumbers (Union switch arms default) = (switch < none_such) × All (λ arm. arm.1 < none_such) arms × IfSome default (λ n. n < none_such)
+HasSmallNumbers (Union switch arms default) =
+    (switch < none_such)
+    × All (λ arm. arm.1 < none_such) arms
+    × IfSome default (λ n. n < none_such)
 HasSmallNumbers (Frame members) = All (λ n. n < none_such) members
 HasSmallNumbers node = Unit {0}

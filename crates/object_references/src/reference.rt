@@ -13,7 +13,7 @@ use tapes::{
 
 /// An object reference (ISO/IEC 19500-2, IOP: IOR). The nil reference has an empty id and no
 /// profiles.
-#[derive(Debug, Drop)]
+#[derive(Drop)]
 pub struct Ior {
     /// The repository id of the interface.
     pub type_id: Vec<u8>,

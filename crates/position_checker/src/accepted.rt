@@ -17,7 +17,7 @@ use table_file::{Table, Use};
 use type_graph::Order;
 
 /// A table whose routines are right. A contract sees the table's parts.
-#[derive(Debug, Drop)]
+#[derive(Drop)]
 pub struct Accepted {
     pub(crate) table: Table,
     /// By the number of its node, the routine that serves a name.

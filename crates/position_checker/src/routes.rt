@@ -14,7 +14,7 @@ use std::alloc::Global;
 use table_file::{Table, Use};
 
 /// Where the routine of a node stands: which of the two programs, and its number there.
-#[derive(Clone, Copy, Debug)]
+#[derive(Clone, Copy)]
 pub(crate) struct Route {
     pub program: Use,
     pub routine: u32,

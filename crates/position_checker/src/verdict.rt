@@ -17,7 +17,7 @@ use std::alloc::Global;
 use table_file::{Table, Use};
 
 /// A table that was refused, and why.
-#[derive(Debug, Drop)]
+#[derive(Drop)]
 pub struct Refused {
     pub fault: CheckFault,
     pub table: Table,

@@ -18,7 +18,7 @@ use std::alloc::{AllocError, Global};
 const IIOP: u32 = 0;
 
 /// A reference to print.
-#[derive(Clone, Copy, Debug)]
+#[derive(Clone, Copy)]
 pub struct Wanted<'a> {
     pub host: &'a str,
     pub port: u16,

@@ -16,7 +16,7 @@ use type_graph::{Node, Width};
 
 /// For each node how many of a kind it is made of, opened at most so many levels deep. It is 0
 /// where it isn't made of these alone, or of more than an instruction can take.
-#[derive(Debug, Drop)]
+#[derive(Drop)]
 pub struct Counts {
     pub levels: u32,
     pub numbers: Vec<u32>,
@@ -109,7 +109,7 @@ impl Counts {
 }
 
 /// Of the kinds that runs have.
-#[derive(Debug, Drop)]
+#[derive(Drop)]
 pub struct RunCounts {
     pub octets: Counts,
     pub booleans: Counts,

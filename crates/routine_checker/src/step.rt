@@ -31,7 +31,7 @@ fn wider(gap: Width, more: Width) -> Width
 
 /// How far a routine was followed: the work that is left, the positions that are possible in front
 /// of the gap that is made, and that gap.
-#[derive(Debug, Drop)]
+#[derive(Drop)]
 pub struct Progress<'g> {
     pub work: Work<'g>,
     pub places: u8,

@@ -13,7 +13,7 @@ use std::alloc::{AllocError, Global};
 use type_graph::Node;
 
 /// The nodes that an instruction of a program takes.
-#[derive(Clone, Copy, Debug)]
+#[derive(Clone, Copy)]
 pub struct Wanted<'g> {
     pub nodes: &'g [Node],
     pub program: &'g [Routine],
@@ -41,7 +41,7 @@ impl<'g> Wanted<'g> {
 }
 
 /// Nodes that follow one another.
-#[derive(Clone, Copy, Debug)]
+#[derive(Clone, Copy)]
 pub enum Item<'g> {
     Copies { number: u32, n: u32 },
     Numbers { numbers: &'g [u32] },
@@ -105,7 +105,7 @@ impl<'g> Wanted<'g> {
 }
 
 /// The nodes whose values are still to be related: what comes first stands last in the list.
-#[derive(Debug, Drop)]
+#[derive(Drop)]
 pub struct Work<'g> {
     pub items: Vec<Item<'g>>,
 }

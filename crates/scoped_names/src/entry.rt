@@ -25,7 +25,7 @@ pub enum EntryKind {
 }
 
 /// What an identifier is declared as.
-#[derive(Debug, Drop)]
+#[derive(Drop)]
 pub(crate) struct Meaning {
     /// The token from which it is found.
     pub token: usize,

@@ -12,13 +12,13 @@ ghost use Rattle.scoped_names.specs.Keys.{folded};
 use std::hash::{Hash, Hasher};
 
 /// A word. Words that differ only in the case of their letters are equal.
-#[derive(Clone, Copy, Debug)]
+#[derive(Clone, Copy)]
 pub(crate) struct Word<'a> {
     pub text: &'a str,
 }
 
 /// A word in a scope.
-#[derive(Clone, Copy, Debug, PartialEq, Eq, Hash)]
+#[derive(Clone, Copy, PartialEq, Eq, Hash)]
 pub(crate) struct Key<'a> {
     pub scope: usize,
     pub word: Word<'a>,

@@ -10,7 +10,7 @@ use const_values::{ConstKind, Constant};
 use indexmap::IndexMap;
 
 /// What several bases give for a name.
-#[derive(Clone, Copy, Debug)]
+#[derive(Clone, Copy)]
 pub(crate) struct Given {
     /// What the first base that gives the name gives.
     pub entry: usize,
@@ -22,7 +22,7 @@ pub(crate) struct Given {
 
 /// What an interface has from its bases. A name is sought as in the first base, but for those in
 /// `others`, of which a later base says something else.
-#[derive(Debug, Drop)]
+#[derive(Drop)]
 pub(crate) struct Heir<'a> {
     pub first: Base,
     pub later: Vec<Base>,
@@ -30,7 +30,7 @@ pub(crate) struct Heir<'a> {
 }
 
 /// An entry.
-#[derive(Debug, Drop)]
+#[derive(Drop)]
 pub(crate) struct Record<'a> {
     pub key: Key<'a>,
     /// The token from which it is found.

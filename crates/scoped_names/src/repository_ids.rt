@@ -17,7 +17,7 @@ use std::marker::Model;
 const SEPARATOR: &str = "/";
 
 /// What a pragma gives to a name.
-#[derive(Clone, Copy, Debug)]
+#[derive(Clone, Copy)]
 pub(crate) enum PragmaId<'a> {
     /// The whole id.
     Whole(&'a str),
@@ -26,14 +26,14 @@ pub(crate) enum PragmaId<'a> {
 }
 
 /// A prefix that is set, and the token of its pragma.
-#[derive(Clone, Copy, Debug)]
+#[derive(Clone, Copy)]
 pub(crate) struct Prefix<'a> {
     pub token: usize,
     pub text: &'a str,
 }
 
 /// What the pragmas of a specification say of repository ids.
-#[derive(Debug, Drop)]
+#[derive(Drop)]
 pub(crate) struct IdPragmas<'a> {
     prefixes: Vec<Prefix<'a>>,
     given: IndexMap<usize, PragmaId<'a>>,

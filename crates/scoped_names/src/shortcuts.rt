@@ -19,14 +19,14 @@ const WORDS_PER_ENTRY: usize = 64;
 
 /// A place in a search: what the bases of the scope give that are named before the token. Before
 /// the token 0 none is.
-#[derive(Clone, Copy, Debug)]
+#[derive(Clone, Copy)]
 pub(crate) struct Place {
     pub token: usize,
     pub scope: usize,
 }
 
 /// A way from a scope to a place further down.
-#[derive(Debug, Drop)]
+#[derive(Drop)]
 pub(crate) struct Shortcut<'a> {
     pub place: Place,
     /// It is for names behind this token.

@@ -13,7 +13,7 @@ use type_graph::Items;
 use type_model::Model;
 
 /// An accepted table, and whether the planned program serves its names.
-#[derive(Debug, Drop)]
+#[derive(Drop)]
 pub struct Settled {
     pub table: Accepted,
     pub is_planned: bool,

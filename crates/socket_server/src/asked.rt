@@ -1,7 +1,7 @@
 //! What is asked for.
 
 /// An object to serve, and how.
-#[derive(Clone, Copy, Debug)]
+#[derive(Clone, Copy)]
 pub struct Asked<'a> {
     /// The port of TCP, on 127.0.0.1.
     pub port: u16,

@@ -23,7 +23,7 @@ pub enum Way {
 }
 
 /// One value to marshal.
-#[derive(Clone, Copy, Debug)]
+#[derive(Clone, Copy)]
 pub struct Request<'a> {
     pub way: Way,
     /// The name of a type of the table.

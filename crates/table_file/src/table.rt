@@ -19,7 +19,7 @@ pub enum Use {
 }
 
 /// A model, two programs, and for each name of the model, in order, the program that serves it.
-#[derive(Debug, Drop)]
+#[derive(Drop)]
 pub struct Table {
     model: Model,
     first: Program,

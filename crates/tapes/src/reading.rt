@@ -11,7 +11,7 @@ use crate::fault::TapeFault;
 use std::alloc::Global;
 
 /// A tag with its octets: a profile, a component, a service context.
-#[derive(Clone, Copy, Debug)]
+#[derive(Clone, Copy)]
 pub struct Tagged<'t> {
     pub tag: u32,
     pub octets: &'t [u8],

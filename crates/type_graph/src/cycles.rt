@@ -4,7 +4,7 @@ use crate::node::Node;
 use std::alloc::{AllocError, Global};
 
 /// A node, and the place of one of the nodes that it holds.
-#[derive(Clone, Copy, Debug)]
+#[derive(Clone, Copy)]
 pub struct Held {
     pub node: usize,
     pub place: usize,

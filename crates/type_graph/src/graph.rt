@@ -21,7 +21,7 @@ use std::marker::Model;
 
 /// The types of a specification, each named by its place in the list of nodes. A contract sees a
 /// graph as that list.
-#[derive(Debug, Drop)]
+#[derive(Drop)]
 pub struct Graph {
     nodes: Vec<Node>,
     shapes: Vec<Shape>,

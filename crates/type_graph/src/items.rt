@@ -9,7 +9,7 @@ ghost use Rattle.type_graph.specs.Labels.{AreRising};
 use std::marker::Model;
 
 /// A list that keeps its order and length. A contract sees the plain list.
-#[derive(Debug, Drop)]
+#[derive(Drop)]
 pub struct Items<T> {
     items: Vec<T>,
 }

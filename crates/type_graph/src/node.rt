@@ -9,7 +9,7 @@ use crate::width::Width;
 
 /// One type of the graph (ISO/IEC 19500-1, type declarations). A number names the node at that
 /// place of the graph's list. A bound of 0 is none.
-#[derive(Debug, Drop, PartialEq)]
+#[derive(Drop, PartialEq)]
 pub enum Node {
     /// An integer type of 2, 4 or 8 octets.
     Whole {

@@ -12,7 +12,7 @@ use std::alloc::Global;
 use type_graph::{Graph, GraphFault, Items, Node};
 
 /// The types of a specification with their names, and what it declares beside types.
-#[derive(Debug, Drop)]
+#[derive(Drop)]
 pub struct Model {
     graph: Graph,
     names: NameTable,

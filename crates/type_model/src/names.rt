@@ -12,7 +12,7 @@ use std::marker::Model;
 use type_graph::{GraphFault, Items};
 
 /// A name or a repository id. A contract sees its octets.
-#[derive(Debug, Drop)]
+#[derive(Drop)]
 pub struct Name {
     text: String,
 }
@@ -50,7 +50,7 @@ impl Name {
 
 /// Names that differ, looked up by their text and told from their nodes. A contract sees the names
 /// in order of declaration.
-#[derive(Debug, Drop)]
+#[derive(Drop)]
 pub struct NameTable {
     nodes: IndexMap<String, u32>,
     /// True at the number of each node that has a name.

@@ -3,7 +3,7 @@
 use crate::names::Name;
 use type_graph::Items;
 
-#[derive(Debug, Drop)]
+#[derive(Drop)]
 pub struct Interface {
     pub name: Name,
     /// The repository id.
@@ -15,7 +15,7 @@ pub struct Interface {
 }
 
 /// An operation, or the getting or setting of an attribute.
-#[derive(Debug, Drop)]
+#[derive(Drop)]
 pub struct Operation {
     /// The name that a request carries.
     pub name: Name,
@@ -28,7 +28,7 @@ pub struct Operation {
     pub exceptions: Items<u32>,
 }
 
-#[derive(Debug, Drop)]
+#[derive(Drop)]
 pub struct Exception {
     pub name: Name,
     /// The repository id.

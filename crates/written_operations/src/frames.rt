@@ -16,7 +16,7 @@ use type_graph::Node;
 use written_types::{BuildFault, MemberList, NodeLines, TypeTable};
 
 /// The types that a request and its reply carry.
-#[derive(Debug, Drop)]
+#[derive(Drop)]
 pub(crate) struct Carried {
     pub request: MemberList,
     pub reply: MemberList,

@@ -14,7 +14,7 @@ pub enum Role {
 }
 
 /// An operation, or the getting or setting of an attribute.
-#[derive(Debug, Drop)]
+#[derive(Drop)]
 pub struct Signature {
     /// The entry of the operation or the attribute.
     pub entry: usize,
@@ -27,7 +27,7 @@ pub struct Signature {
 }
 
 /// What a defined interface has, with what it inherits.
-#[derive(Debug, Drop)]
+#[derive(Drop)]
 pub struct Offered {
     /// The places of its operations, those that it inherits first.
     pub operations: Items<u32>,

@@ -13,7 +13,7 @@ use written_types::{BuildFault, Place, TypeTable};
 
 /// The types and operations that are written so far. A contract sees them, and what each entry has
 /// that is a defined interface.
-#[derive(Debug, Drop)]
+#[derive(Drop)]
 pub struct OperationTable {
     pub(crate) types: TypeTable,
     pub(crate) operations: Vec<Signature>,

@@ -12,7 +12,7 @@ const MAX_MEMBERS: usize = 1024;
 
 /// The members of a structure or a frame, and the lines of their declarators. A contract sees the
 /// numbers of their types.
-#[derive(Debug, Drop)]
+#[derive(Drop)]
 pub struct MemberList {
     numbers: Vec<u32>,
     lines: Vec<usize>,
@@ -69,7 +69,7 @@ impl MemberList {
 
 /// The arms of a union in rising order of their labels, with the lines of their members. A contract
 /// sees the arms and what every other value chooses.
-#[derive(Debug, Drop)]
+#[derive(Drop)]
 pub(crate) struct ArmList {
     arms: Vec<(i128, u32)>,
     default: Option<u32>,

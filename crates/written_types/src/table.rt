@@ -19,7 +19,7 @@ const MAX_NODES: usize = 4096;
 const MAX_ALL_MEMBERS: usize = 32768;
 
 /// The lines of a node: its own, and those of what it holds, in order.
-#[derive(Debug, Drop)]
+#[derive(Drop)]
 pub struct NodeLines {
     pub line: usize,
     pub held: Vec<usize>,
@@ -27,7 +27,7 @@ pub struct NodeLines {
 
 /// The types that are written so far, and what the entries among the names have of them. A contract
 /// sees the nodes, what each entry has, and the exceptions.
-#[derive(Debug, Drop)]
+#[derive(Drop)]
 pub struct TypeTable {
     nodes: Vec<Node>,
     places: Vec<Option<Place>>,
