@@ -89,6 +89,17 @@ pub fn push_octets(out: &mut Vec<u8>, octets: &[u8]) -> Result<(), AllocError>
 /// Runs of up to so many octets are copied without a call.
 const SHORT_RUN: usize = 16;
 
+/// A few octets at the end, one by one.
+fn push_each(out: &mut Vec<u8>, octets: &[u8]) -> Result<(), AllocError>
+    ensures { OnOk result (out.new.items ≡ out.old.items ++ octets.now) }
+{
+    make_room(out, octets.len())?;
+    for octet in octets {
+        out.push(*octet)?;
+    }
+    Ok(())
+}
+
 /// So many octets of a front at the end: of a short one as many as a short run has are written, where they are there, and
 /// those too many are taken back.
 #[tactic(auto, using(crate::proofs::Gaps::front_kept))]
@@ -96,8 +107,11 @@ pub fn push_front(out: &mut Vec<u8>, octets: &[u8], n: usize) -> Result<(), Allo
     requires { n ≤ length octets.now }
     ensures { OnOk result (out.new.items ≡ out.old.items ++ take n octets.now) }
 {
-    if n > SHORT_RUN || octets.len() < SHORT_RUN {
+    if n > SHORT_RUN {
         return push_octets(out, &octets[..n]);
+    }
+    if octets.len() < SHORT_RUN {
+        return push_each(out, &octets[..n]);
     }
     let end = out.len() + n;
     push_few::<SHORT_RUN>(out, &octets[..SHORT_RUN])?;
