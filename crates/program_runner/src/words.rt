@@ -1,6 +1,6 @@
 //! Octets at the end of a list: zeros for a gap, numbers in a byte order.
 
-ghost use Rattle.std.specs.Prelude.{◌≡◌, ◌<◌, ◌≤◌, ◌+◌, ◌*◌, ◌++◌, length, take, drop, replicate, OnOk};
+ghost use Rattle.std.specs.Prelude.{◌≡◌, ◌<◌, ◌≤◌, ◌+◌, ◌*◌, ◌++◌, ◌∷◌, [], length, take, drop, replicate, OnOk};
 ghost use Rattle.type_graph.specs.declared.width.Width.TheVariants.{Four};
 ghost use Rattle.type_graph.specs.Words.{octets_in, plain_word, pad};
 ghost use Rattle.program_runner.specs.Steps.{turned, in_order};
@@ -45,7 +45,28 @@ pub fn make_room(out: &mut Vec<u8>, n: usize) -> Result<(), AllocError>
     Ok(())
 }
 
+/// An octet at the end, for which room has to be asked for.
+#[cold]
+#[inline(never)]
+pub fn push_in_new_room(out: &mut Vec<u8>, octet: u8) -> Result<(), AllocError>
+    ensures { OnOk result (out.new.items ≡ out.old.items ++ (octet ∷ [])) }
+{
+    ask_for_room(out, 1)?;
+    Ok(out.push(octet)?)
+}
+
+/// An octet at the end.
+pub fn push_octet(out: &mut Vec<u8>, octet: u8) -> Result<(), AllocError>
+    ensures { OnOk result (out.new.items ≡ out.old.items ++ (octet ∷ [])) }
+{
+    if !has_room(out, 1) {
+        return push_in_new_room(out, octet);
+    }
+    Ok(out.push(octet)?)
+}
+
 /// A run of so many octets at the end: a compiler that knows how many needs no call to copy them.
+#[inline(always)]
 pub fn push_few<const N: usize>(out: &mut Vec<u8>, octets: &[u8]) -> Result<(), AllocError>
     requires { length octets.now ≡ N }
     ensures { OnOk result (out.new.items ≡ out.old.items ++ octets.now) }
@@ -86,35 +107,19 @@ pub fn push_octets(out: &mut Vec<u8>, octets: &[u8]) -> Result<(), AllocError>
     push_many(out, octets)
 }
 
-/// Runs of up to so many octets are copied without a call.
-const SHORT_RUN: usize = 16;
-
-/// A few octets at the end, one by one.
-fn push_each(out: &mut Vec<u8>, octets: &[u8]) -> Result<(), AllocError>
-    ensures { OnOk result (out.new.items ≡ out.old.items ++ octets.now) }
-{
-    make_room(out, octets.len())?;
-    for octet in octets {
-        out.push(*octet)?;
-    }
-    Ok(())
-}
-
-/// So many octets of a front at the end: of a short one as many as a short run has are written, where they are there, and
-/// those too many are taken back.
+/// Up to `N` octets of a front at the end: `N` are written, by no call, and those too many are taken back.
 #[tactic(auto, using(crate::proofs::Gaps::front_kept))]
-pub fn push_front(out: &mut Vec<u8>, octets: &[u8], n: usize) -> Result<(), AllocError>
-    requires { n ≤ length octets.now }
+pub fn push_front<const N: usize>(
+    out: &mut Vec<u8>,
+    octets: &[u8],
+    n: usize,
+) -> Result<(), AllocError>
+    requires few { n ≤ N }
+    requires there { N ≤ length octets.now }
     ensures { OnOk result (out.new.items ≡ out.old.items ++ take n octets.now) }
 {
-    if n > SHORT_RUN {
-        return push_octets(out, &octets[..n]);
-    }
-    if octets.len() < SHORT_RUN {
-        return push_each(out, &octets[..n]);
-    }
     let end = out.len() + n;
-    push_few::<SHORT_RUN>(out, &octets[..SHORT_RUN])?;
+    push_few::<N>(out, &octets[..N])?;
     out.truncate(end);
     Ok(())
 }
@@ -174,6 +179,7 @@ pub fn push_words(
 }
 
 /// An unsigned long at the end.
+#[inline(always)]
 pub fn push_number(out: &mut Vec<u8>, order: Order, n: u32) -> Result<(), AllocError>
     ensures { OnOk result (out.new.items ≡ out.old.items ++ plain_word order Four n) }
 {
