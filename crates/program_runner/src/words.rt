@@ -21,13 +21,17 @@ pub fn gap_at(place: u64, to: Width) -> usize
 /// How many octets an output has room for at least once it has any, so that a small value asks for memory once.
 const FIRST_ROOM: usize = 64;
 
-/// Asks for room. It stands apart, so that what is inlined is the test alone.
+/// Asks for room, the first time for just as much as is said. It stands apart, so that what is inlined is the test alone.
 #[cold]
 #[inline(never)]
 fn ask_for_room(out: &mut Vec<u8>, n: usize) -> Result<(), AllocError>
     ensures { out.new.items ≡ out.old.items }
 {
-    out.reserve(n.max(FIRST_ROOM))
+    let n = n.max(FIRST_ROOM);
+    if out.capacity() == 0 {
+        return out.reserve_exact(n);
+    }
+    out.reserve(n)
 }
 
 /// Whether there is room for so many octets more at the end.
