@@ -62,7 +62,7 @@ fn heights(alloc: Global, graph: Result<Graph, GraphFault>) -> Vec<u32> {
 
 /// The heights of the sample's nodes, and numbers that are values of some nodes.
 #[test]
-fn heights_and_numbers(rt: HostRuntime) -> Result<(), Fail> {
+fn heights_and_numbers(rt: HostRuntime) {
     let sample = heights(rt.alloc(), graph(rt.alloc(), &sample::NODES));
     assert_eq!(rt; sample.as_slice(), [0, 0, 0, 1].as_slice());
     let long = Node::Whole {
@@ -78,5 +78,4 @@ fn heights_and_numbers(rt: HostRuntime) -> Result<(), Fail> {
         [short.has_number(-32768), short.has_number(32768)],
         [true, false]
     );
-    Ok(())
 }

@@ -9,7 +9,7 @@ ghost use Rattle.program_runner.specs.Steps.{Gives, number_at, disc_number};
 
 use crate::fault::RunFault;
 use crate::text::number_at_front;
-use crate::words::{make_room, push_number};
+use crate::words::{make_room, push_number, push_octet};
 use marshal_program::Disc;
 use std::alloc::AllocError;
 use type_graph::{Order, Width};
@@ -95,12 +95,6 @@ fn push_long_long(out: &mut Vec<u8>, order: Order, n: u64) -> Result<(), AllocEr
     out.extend_from_slice(&word)
 }
 
-fn push_octet(out: &mut Vec<u8>, order: Order, n: u8) -> Result<(), AllocError>
-    ensures { OnOk result (out.new.items ≡ out.old.items ++ plain_word order One n) }
-{
-    Ok(out.push(n)?)
-}
-
 /// An unsigned number of a width at the end.
 pub fn push_word(out: &mut Vec<u8>, order: Order, width: Width, n: u64) -> Result<(), AllocError>
     requires { n < words_of width }
@@ -108,7 +102,7 @@ pub fn push_word(out: &mut Vec<u8>, order: Order, width: Width, n: u64) -> Resul
 {
     make_room(out, width.octets())?;
     match width {
-        Width::One => push_octet(out, order, n as u8),
+        Width::One => push_octet(out, n as u8),
         Width::Two => push_short(out, order, n as u16),
         Width::Four => push_number(out, order, n as u32),
         Width::Eight => push_long_long(out, order, n),

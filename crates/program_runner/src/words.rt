@@ -1,6 +1,7 @@
 //! Octets at the end of a list: zeros for a gap, numbers in a byte order.
 
 ghost use Rattle.std.specs.Prelude.{◌≡◌, ◌<◌, ◌≤◌, ◌+◌, ◌*◌, ◌++◌, ◌∷◌, [], length, take, drop, replicate, OnOk};
+ghost use Rattle.type_graph.specs.declared.width.Order.TheVariants.{Big};
 ghost use Rattle.type_graph.specs.declared.width.Width.TheVariants.{Four};
 ghost use Rattle.type_graph.specs.Words.{octets_in, plain_word, pad};
 ghost use Rattle.program_runner.specs.Steps.{turned, in_order};
@@ -21,10 +22,8 @@ pub fn gap_at(place: u64, to: Width) -> usize
 /// How many octets an output has room for at least once it has any, so that a small value asks for memory once.
 const FIRST_ROOM: usize = 64;
 
-/// Asks for room, the first time for just as much as is said. It stands apart, so that what is inlined is the test alone.
-#[cold]
-#[inline(never)]
-fn ask_for_room(out: &mut Vec<u8>, n: usize) -> Result<(), AllocError>
+/// Asks for room, the first time for just as much as is said.
+pub fn ask_for_room(out: &mut Vec<u8>, n: usize) -> Result<(), AllocError>
     ensures { out.new.items ≡ out.old.items }
 {
     let n = n.max(FIRST_ROOM);
@@ -32,6 +31,15 @@ fn ask_for_room(out: &mut Vec<u8>, n: usize) -> Result<(), AllocError>
         return out.reserve_exact(n);
     }
     out.reserve(n)
+}
+
+/// The same by a call, so that what is inlined is the test alone.
+#[cold]
+#[inline(never)]
+fn call_for_room(out: &mut Vec<u8>, n: usize) -> Result<(), AllocError>
+    ensures { out.new.items ≡ out.old.items }
+{
+    ask_for_room(out, n)
 }
 
 /// Whether there is room for so many octets more at the end.
@@ -44,7 +52,7 @@ pub fn make_room(out: &mut Vec<u8>, n: usize) -> Result<(), AllocError>
     ensures { out.new.items ≡ out.old.items }
 {
     if !has_room(out, n) {
-        ask_for_room(out, n)?;
+        call_for_room(out, n)?;
     }
     Ok(())
 }
@@ -52,7 +60,7 @@ pub fn make_room(out: &mut Vec<u8>, n: usize) -> Result<(), AllocError>
 /// An octet at the end, for which room has to be asked for.
 #[cold]
 #[inline(never)]
-pub fn push_in_new_room(out: &mut Vec<u8>, octet: u8) -> Result<(), AllocError>
+fn push_in_new_room(out: &mut Vec<u8>, octet: u8) -> Result<(), AllocError>
     ensures { OnOk result (out.new.items ≡ out.old.items ++ (octet ∷ [])) }
 {
     ask_for_room(out, 1)?;
@@ -112,6 +120,7 @@ pub fn push_octets(out: &mut Vec<u8>, octets: &[u8]) -> Result<(), AllocError>
 }
 
 /// Up to `N` octets of a front at the end: `N` are written, by no call, and those too many are taken back.
+#[inline(always)]
 #[tactic(auto, using(crate::proofs::Gaps::front_kept))]
 pub fn push_front<const N: usize>(
     out: &mut Vec<u8>,
@@ -140,15 +149,22 @@ fn turn_words<const N: usize>(out: &mut Vec<u8>, start: usize, n: u32)
     }
 }
 
-/// One word turned round at the end.
-pub fn push_reversed<const N: usize>(out: &mut Vec<u8>, word: &[u8]) -> Result<(), AllocError>
-    requires { length word.now ≡ N }
-    ensures { OnOk result (out.new.items ≡ out.old.items ++ turned N 1 word.now) }
+/// One number at the end, between big order and another. It is turned round before it is copied.
+pub fn push_one<const N: usize>(
+    out: &mut Vec<u8>,
+    order: Order,
+    word: &[u8; N],
+) -> Result<(), AllocError>
+    ensures { OnOk result (out.new.items ≡ out.old.items ++ in_order order N 1 word.now) }
 {
-    let start = out.len();
-    push_few::<N>(out, word)?;
-    turn_words::<N>(out, start, 1);
-    Ok(())
+    let mut octets = *word;
+    match order {
+        Order::Big => push_few::<N>(out, &octets),
+        Order::Little => {
+            octets.reverse();
+            push_few::<N>(out, &octets)
+        }
+    }
 }
 
 /// Copies all words at once, so that room is made once, and then turns them where they lie.
@@ -182,13 +198,19 @@ pub fn push_words(
     }
 }
 
+/// The number that has in big order the octets of this one in an order.
+fn in_big_order(order: Order, n: u32) -> u32
+    ensures { plain_word Big Four result ≡ plain_word order Four n }
+{
+    match order {
+        Order::Big => n,
+        Order::Little => n.swap_bytes(),
+    }
+}
+
 /// An unsigned long at the end.
-#[inline(always)]
 pub fn push_number(out: &mut Vec<u8>, order: Order, n: u32) -> Result<(), AllocError>
     ensures { OnOk result (out.new.items ≡ out.old.items ++ plain_word order Four n) }
 {
-    match order {
-        Order::Big => push_few::<4>(out, &n.to_be_bytes()),
-        Order::Little => push_few::<4>(out, &n.to_le_bytes()),
-    }
+    push_few::<4>(out, &in_big_order(order, n).to_be_bytes())
 }
