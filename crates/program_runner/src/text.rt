@@ -45,8 +45,7 @@ pub fn length_read(bound: u32, said: u32) -> Result<u32, RunFault>
 
 /// How many octets a string has by the length on a tape, which doesn't.
 pub fn length_on_tape(bound: u32, said: u32) -> Result<u32, RunFault>
-    ensures value { Gives (λ n. n) result (tape_length bound said) }
-    ensures less { IfOk result (λ n. n < 4294967295) }
+    ensures { Gives (λ n. n) result (tape_length bound said) }
 {
     if said == u32::MAX {
         return Err(RunFault::BadLength);

@@ -1,6 +1,6 @@
 //! Octets at the end of a list: zeros for a gap, numbers in a byte order.
 
-ghost use Rattle.std.specs.Prelude.{◌≡◌, ◌<◌, ◌≤◌, ◌+◌, ◌-◌, ◌*◌, ◌++◌, ◌∷◌, [], length, take, drop, replicate, OnOk};
+ghost use Rattle.std.specs.Prelude.{◌≡◌, ◌<◌, ◌≤◌, ◌+◌, ◌*◌, ◌++◌, ◌∷◌, [], length, take, drop, replicate, OnOk};
 ghost use Rattle.type_graph.specs.declared.width.Order.TheVariants.{Big};
 ghost use Rattle.type_graph.specs.declared.width.Width.TheVariants.{Four};
 ghost use Rattle.type_graph.specs.Words.{octets_in, plain_word, pad};
@@ -213,45 +213,4 @@ pub fn push_number(out: &mut Vec<u8>, order: Order, n: u32) -> Result<(), AllocE
     ensures { OnOk result (out.new.items ≡ out.old.items ++ plain_word order Four n) }
 {
     push_few::<4>(out, &in_big_order(order, n).to_be_bytes())
-}
-
-/// Writes an unsigned long over the four octets at a place.
-fn put_number(out: &mut Vec<u8>, at: usize, order: Order, n: u32)
-    requires { at + 4 ≤ length out.old.items }
-    ensures { out.new.items ≡ take at out.old.items ++ (plain_word order Four n ++ drop (at + 4) out.old.items) }
-{
-    if let Some(word) = out.slice_mut(at..).first_chunk_mut::<4>() {
-        *word = in_big_order(order, n).to_be_bytes();
-    }
-}
-
-/// Writes an octet over the last.
-pub fn put_last(out: &mut Vec<u8>, octet: u8)
-    requires { 1 ≤ length out.old.items }
-    ensures { out.new.items ≡ take (length out.old.items - 1) out.old.items ++ (octet ∷ []) }
-{
-    if let Some(last) = out.last_mut() {
-        *last = octet;
-    }
-}
-
-/// An unsigned long, and `n` octets from behind the first four of a front: 32 of it are written at once, the number over
-/// the first four, and those too many are taken back.
-#[inline(always)]
-#[tactic(auto, using(crate::proofs::Gaps::number_over))]
-pub fn push_with_number(
-    out: &mut Vec<u8>,
-    order: Order,
-    number: u32,
-    octets: &[u8],
-    n: usize,
-) -> Result<(), AllocError>
-    requires few { n ≤ 28 }
-    requires there { 32 ≤ length octets.now }
-    ensures { OnOk result (out.new.items ≡ (out.old.items ++ plain_word order Four number) ++ take n (drop 4 octets.now)) }
-{
-    let start = out.len();
-    push_front::<32>(out, octets, n + 4)?;
-    put_number(out, start, order, number);
-    Ok(())
 }
