@@ -199,7 +199,7 @@ pub fn push_words(
 }
 
 /// The number that has in big order the octets of this one in an order.
-fn in_big_order(order: Order, n: u32) -> u32
+pub fn in_big_order(order: Order, n: u32) -> u32
     ensures { plain_word Big Four result ≡ plain_word order Four n }
 {
     match order {
