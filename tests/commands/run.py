@@ -1,0 +1,134 @@
+"""Runs the proved program on files: what it prints on both streams, its status, and what it writes.
+
+`./idlc` proves and builds what is missing of the program.
+"""
+from driver.suite import Count
+from driver.workspace import TOP
+
+PROGRAM = TOP / "crates" / "idlc_main" / "out" / "idlc_main"
+
+# an interface P, and a name without a routine
+P_TABLE = "49444c54010000000000000000000000010000000150000000094944" "4c3a503a312e300000000000000000000000000000000000000000"
+WRONG_TABLE = "49444c540100000001010000000100000001530000000000000000000000000000000000000000"
+REFERENCE = (
+    "IOR:000000000000000a49444c3a503a312e30000000000000010000000000000020"
+    "000102000000000a3132372e302e302e31000af9000000014b00000000000000"
+)
+
+SAMPLE = """#pragma prefix "acme.org"
+module M { struct S { octet a; unsigned long b; string c; }; };
+interface P { void ping(); };
+"""
+
+# how many refusals have a text
+EXPLAINED = 68
+
+# what a source is refused with
+REFUSED = [
+    (b"\xff", "1 BadChar line 0"),
+    (b"struct S { long a; };\nstruct T { S b; U c; };", "20 Unknown line 2"),
+    (b"const long X = 1 << 40;", "26 BadConstant line 1"),
+    (
+        b"union U switch(boolean) {\ncase TRUE: long a; case FALSE: long b;\ndefault: long c;};",
+        "33 DefaultNeedless line 3",
+    ),
+]
+
+
+class Runs:
+    """Runs of the program in a scratch folder, counted."""
+
+    def __init__(self, test):
+        self.test = test
+        self.folder = test.room / "files"
+        self.folder.mkdir()
+        self.count = Count(0, [])
+
+    def write(self, name, octets):
+        (self.folder / name).write_bytes(octets)
+
+    def run(self, *words):
+        return self.test.call([PROGRAM, *words], cwd=self.folder)
+
+    def expect(self, status, out, err, *words):
+        """A run with these words ends with the status, and each stream has one line, or none where it is empty."""
+        done = self.run(*words)
+        wanted = (status, out and f"{out}\n", err and f"{err}\n")
+        is_right = (done.status, done.out, done.err) == wanted
+        self.count.add(is_right, f"{' '.join(map(str, words))}: status {done.status}, {done.out}{done.err}")
+
+    def expect_same(self, one, other):
+        is_right = (self.folder / one).read_bytes() == (self.folder / other).read_bytes()
+        self.count.add(is_right, f"{one} and {other} differ")
+
+
+def references(runs):
+    at = ("--host", "127.0.0.1", "--port", "2809", "--object")
+    runs.write("p.table", bytes.fromhex(P_TABLE))
+    runs.write("wrong.table", bytes.fromhex(WRONG_TABLE))
+    runs.expect(0, REFERENCE, "", "ior", "p.table", *at, "K=P")
+    runs.expect(0, REFERENCE, "", "ior", "--object=K=P", "--port=02809", "p.table", "--host=127.0.0.1")
+    runs.expect(1, "", "idlc: no interface Q", "ior", "p.table", *at, "K=Q")
+    runs.expect(1, "", "idlc: no interface P=P", "ior", "p.table", *at, "K=P=P")
+    runs.expect(1, "", "idlc: bad object", "ior", "p.table", *at, "=P")
+    runs.expect(1, "", "idlc: 84 NoRoutine node 0", "ior", "wrong.table", *at, "P")
+    runs.expect(3, "", "idlc: cannot read none.table", "ior", "none.table", *at, "P")
+    runs.write("p.idl", b"interface P { void ping(); };")
+    runs.expect(0, "accepted 20", "", "compile", "p.idl", "-o", "p2.table")
+    runs.expect(0, REFERENCE, "", "ior", "p2.table", *at, "K=P")
+
+
+def compiled_files(runs):
+    """IDL files compiled, their tables checked, listed and upgraded, and a value both ways."""
+    runs.write("s.idl", SAMPLE.encode())
+    runs.expect(0, "accepted 22", "", "compile", "s.idl", "-o", "s.table")
+    runs.expect(0, "accepted 22", "", "check", "s.table")
+    runs.expect(0, "accepted 22", "", "upgrade", "s.table", "-o", "t.table")
+    runs.expect_same("s.table", "t.table")
+    octets, tape = "070000000000000100000003686900", "0700000001000000026869"
+    runs.expect(0, octets, "", "encode", "s.table", "M::S", "big", "0", tape)
+    runs.expect(0, f"15 {tape}", "", "decode", "s.table", "M::S", "big", "0", "07FFEEDD0000000100000003686900AABB")
+    listed = runs.run("show", "s.table").out
+    runs.count.add("\nname M::S node 14 program 1 routine " in f"\n{listed}", f"show s.table: {listed}")
+    runs.write("empty.idl", b"")
+    runs.expect(0, "accepted 14", "", "compile", "empty.idl", "-o", "empty.table")
+    runs.expect(0, "accepted 14", "", "compile", "empty.idl", "-o", "builtin")
+    runs.expect_same("empty.table", "builtin")
+    runs.expect(0, "accepted 20", "", "compile", TOP / "examples/idl/echo.idl", "-o", "echo.table")
+    made = runs.run("compile", TOP / "examples/idl/naming.idl", "-o", "naming.table").out
+    runs.expect(0, made.rstrip("\n"), "", "check", "naming.table")
+
+
+def refusals(runs):
+    """Each is told before anything is written."""
+    for source, line in REFUSED:
+        runs.write("refused.idl", source)
+        runs.expect(1, "", f"idlc: {line}", "compile", "refused.idl", "-o", "none.table")
+    events = TOP / "examples/idl/events.idl"
+    runs.expect(1, "", "idlc: 12 LeftOut line 6", "compile", events, "-o", "none.table")
+    runs.expect(3, "", "idlc: cannot read none.idl", "compile", "none.idl", "-o", "none.table")
+    runs.expect(3, "", "idlc: cannot write no/folder", "compile", "empty.idl", "-o", "no/folder")
+    runs.count.add(not (runs.folder / "none.table").exists(), "none.table was written")
+
+
+def explanations(runs):
+    texts = 0
+    for number in range(256):
+        done = runs.run("explain", number)
+        has_text = done.status == 0 and done.out.startswith(f"{number} ")
+        texts += has_text
+        has_none = (done.status, done.out, done.err) == (2, "", f"idlc: no refusal has the number {number}\n")
+        runs.count.add(has_text or has_none, f"explain {number}: status {done.status}, {done.out}{done.err}")
+    runs.count.add(texts == EXPLAINED, f"{texts} refusals have a text")
+
+
+def run(test):
+    built = test.call([TOP / "idlc", "check", "builtin"])
+    if built.status:
+        return Count(0, [built.out + built.err])
+    runs = Runs(test)
+    references(runs)
+    compiled_files(runs)
+    refusals(runs)
+    explanations(runs)
+    return runs.count

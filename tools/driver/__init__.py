@@ -1,0 +1,1 @@
+"""What `idlc`, `verify`, `package`, `tests/run` and `benchmark/run` share."""

@@ -1,0 +1,162 @@
+"""The proved program: whether it is that of the sources as they stand, and its proofs, several at a time."""
+import hashlib
+import os
+import re
+import shutil
+import subprocess
+import sys
+import tempfile
+import time
+
+from driver.workspace import PARTS, TOP, Workspace, crates_below, listed_crates
+
+CRATE = "idlc_main"
+PROGRAM = TOP / "crates" / CRATE / "out" / CRATE
+
+# the sum of the sources that the program was proved and built from
+STAMP = PROGRAM.with_name(f"{CRATE}.sources")
+
+
+def source_files():
+    """The files and folders that the program is made from."""
+    found = [TOP / "crates.txt", TOP / "HANDLES"]
+    for crate in crates_below(listed_crates(), [CRATE]):
+        for part in PARTS:
+            for folder, _, names in os.walk(TOP / "crates" / crate / part):
+                found += [folder, *(f"{folder}/{name}" for name in names)]
+    return found
+
+
+def source_sum():
+    """A sum of the sources' names and texts."""
+    found = hashlib.sha256()
+    for path in sorted(map(str, source_files())):
+        if os.path.isfile(path):
+            with open(path, "rb") as file:
+                found.update(os.path.relpath(path, TOP).encode() + b"\0" + hashlib.sha256(file.read()).digest())
+    return found.hexdigest()
+
+
+def is_current():
+    """Whether the program that is there was built from the sources as they stand."""
+    if not (PROGRAM.is_file() and STAMP.is_file()):
+        return False
+    built = STAMP.stat().st_mtime_ns
+    if all(os.stat(path).st_mtime_ns <= built for path in source_files()):
+        return True
+    if STAMP.read_text() != source_sum():
+        return False
+    os.utime(STAMP)
+    return True
+
+
+def note_current(sum_before):
+    """Notes that the program that is there was built from the sources with this sum, as they were before."""
+    STAMP.write_text(sum_before)
+
+
+def processors():
+    return len(os.sched_getaffinity(0))
+
+
+class Progress:
+    """A line on a terminal that tells how far the proofs are."""
+
+    def __init__(self, folder, crates):
+        self.folder = folder
+        self.crates = crates
+        self.listed = listed_crates()
+        self.minutes = minutes_of_docs()
+        self.done = set()
+        self.begun = {}
+        self.start = time.monotonic()
+
+    def hear(self, line):
+        """Takes a line that the gate said."""
+        said = re.match(r"rt: (\w+) (proved|is kept)", line)
+        if said:
+            self.done.add(said[1])
+
+    def under_way(self):
+        """The crates that are being proved: they have a folder for what is made, and weren't told of."""
+        for crate in self.crates:
+            if crate not in self.done and (self.folder / "crates" / crate / "out").is_dir():
+                self.begun.setdefault(crate, time.monotonic())
+        return [crate for crate in self.begun if crate not in self.done]
+
+    def minutes_left(self, crate):
+        if crate in self.done:
+            return 0.0
+        whole = self.minutes.get(crate, 1.0)
+        spent = (time.monotonic() - self.begun[crate]) / 60 if crate in self.begun else 0.0
+        return max(whole - spent, whole / 10)
+
+    def estimate(self):
+        """Minutes left: of all crates shared by the processors, or of the longest chain of them."""
+        chains = {}
+        for crate in self.crates:
+            below = [chains[name] for name in self.listed[crate] if name in chains]
+            chains[crate] = self.minutes_left(crate) + max(below, default=0.0)
+        shared = sum(map(self.minutes_left, self.crates)) / min(4, processors())
+        return max(shared, *chains.values())
+
+    def tell(self):
+        names = ", ".join(self.under_way()) or "the program"
+        seconds = time.monotonic() - self.start
+        return (
+            f"idlc: {len(self.done)} of {len(self.crates)} crates proved, now {names}; "
+            f"{seconds // 60:.0f}:{seconds % 60:02.0f} minutes so far, about {self.estimate():.0f} left"
+        )
+
+
+def minutes_of_docs():
+    """The minutes of processor time that a crate's proof takes, by the table of docs/GATE.md."""
+    rows = re.findall(r"^\| `?(\w+)`? \| ([\d.]+)", (TOP / "docs" / "GATE.md").read_text(), re.MULTILINE)
+    return {name: float(minutes) for name, minutes in rows}
+
+
+def prove(out):
+    """Proves the program's crates and builds it, as many crates at a time as there are processors.
+
+    It is the gate over these crates alone, without their edits: what it proves is kept on this machine, for the next
+    run and for the gate, also where it is stopped. Returns the gate's text where it fails.
+    """
+    sum_before = source_sum()
+    with tempfile.TemporaryDirectory(prefix="idlc-proofs-") as room:
+        workspace = Workspace(room)
+        workspace.copy_crates([CRATE])
+        progress = Progress(workspace.folder, workspace.copied)
+        said = run_gate(workspace.folder, progress, out)
+        if said is not None:
+            return said
+        PROGRAM.parent.mkdir(exist_ok=True)
+        shutil.copy(workspace.folder / "crates" / CRATE / "out" / CRATE, f"{PROGRAM}.new")
+    os.replace(f"{PROGRAM}.new", PROGRAM)
+    note_current(sum_before)
+    return None
+
+
+def run_gate(folder, progress, out):
+    """Runs the gate in a folder. Returns None where it passes, else what it said."""
+    log = open(folder / "log", "w+")
+    gate = subprocess.Popen(["rt", "ci"], cwd=folder, stdin=subprocess.DEVNULL, stdout=log, stderr=log)
+    heard = 0
+    try:
+        while gate.poll() is None:
+            time.sleep(1)
+            with open(folder / "log") as file:
+                file.seek(heard)
+                for line in file:
+                    progress.hear(line)
+                heard = file.tell()
+            if out.isatty():
+                width = shutil.get_terminal_size().columns - 1
+                print(f"\r\033[K{progress.tell()[:width]}", end="", file=out, flush=True)
+    finally:
+        if out.isatty():
+            print("\r\033[K", end="", file=out, flush=True)
+        if gate.poll() is None:
+            gate.terminate()
+            gate.wait()
+    log.seek(0)
+    return log.read() if gate.returncode else None

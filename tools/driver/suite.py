@@ -1,0 +1,162 @@
+"""The tests that stand beside the gate: each is a folder of tests/ with a file `about`.
+
+`about` has lines `KEY: VALUE`:
+
+    shows: what the test shows
+    minutes: the processor time that it takes, in minutes
+    seconds: how long one build of it may run, 300 where it isn't said
+    wants: TOOL, TOOL       what it needs beside the toolchain and Python 3
+    long: yes               it is run where it is named or asked for
+
+Where a folder has no `run.py`, its `*.rt.in` are the sources of a crate whose tests are run without a proof. Else
+`run.py` has a function `run(test)`, which makes what it needs by `test` and answers a `Count`.
+"""
+import concurrent.futures
+import dataclasses
+import importlib.util
+import os
+import pathlib
+import re
+import shutil
+import tempfile
+import time
+
+from driver.commands import Clock
+from driver.workspace import TOP, Workspace
+
+TESTS = TOP / "tests"
+
+
+@dataclasses.dataclass
+class Count:
+    """How many cases passed, and a text for each that failed."""
+
+    passed: int
+    failures: list
+
+    def add(self, is_right, failure):
+        """Counts a case, which failed with this text where it isn't right."""
+        if is_right:
+            self.passed += 1
+        else:
+            self.failures.append(failure)
+
+
+def read_about(folder):
+    rows = [line.partition(":") for line in (folder / "about").read_text().splitlines() if line]
+    return {key: value.strip() for key, _, value in rows}
+
+
+def missing_tools(about):
+    """The tools that an `about` wants and this machine hasn't."""
+    wanted = [tool.strip() for tool in about.get("wants", "").split(",") if tool]
+    return [tool for tool in wanted if not shutil.which(tool)]
+
+
+class Test:
+    """A test, and what it needs to run: a clock, copies of crates, a scratch folder."""
+
+    def __init__(self, folder, part=None):
+        about = read_about(folder)
+        self.folder = folder
+        self.name = folder.name
+        self.part = part
+        self.shows = about["shows"]
+        self.minutes = float(about["minutes"])
+        self.seconds = int(about.get("seconds", 300))
+        self.is_long = about.get("long") == "yes"
+        self.wants = about.get("wants", "")
+        self.lacking = missing_tools(about)
+        self.clock = Clock()
+        self.room = None
+
+    @property
+    def label(self):
+        return f"{self.name}/{self.part}" if self.part else self.name
+
+    def sources(self):
+        return sorted(self.folder.glob("*.rt.in"))
+
+    def workspace(self, name="work"):
+        return Workspace(self.room / name)
+
+    def call(self, words, **how):
+        return self.clock.call(words, **how)
+
+    def run(self, room):
+        """Runs the test in a folder of its own and returns its count."""
+        self.room = room
+        script = self.folder / "run.py"
+        if not script.is_file():
+            return self.try_tests(self.workspace().add_crate(f"test_{self.name}", self.sources()))
+        spec = importlib.util.spec_from_file_location(f"test_{self.name}", script)
+        module = importlib.util.module_from_spec(spec)
+        spec.loader.exec_module(module)
+        return module.run(self)
+
+    def try_tests(self, crate):
+        """Builds a crate's tests without a proof and runs them."""
+        done = self.call(["rt", "try", "--test", "--seconds", self.seconds], cwd=crate)
+        passed = len(re.findall(r"^test .* \.\.\. ok$", done.out + done.err, re.MULTILINE))
+        said = re.search(r"^test result: ok\. (\d+) passed; 0 failed", done.out + done.err, re.MULTILINE)
+        if done.status == 0 and said and int(said[1]) == passed > 0:
+            return Count(passed, [])
+        return Count(passed, [(done.out + done.err)[-4000:]])
+
+
+def all_tests():
+    return [Test(about.parent) for about in sorted(TESTS.glob("*/about"))]
+
+
+def tests_named(words):
+    """The tests of these names, each `NAME` or `NAME/PART`; a name that is none gives a KeyError."""
+    folders = {test.name: test.folder for test in all_tests()}
+    rows = [word.partition("/") for word in words]
+    return [Test(folders[name], part or None) for name, _, part in rows]
+
+
+def tell_list():
+    for test in sorted(all_tests(), key=lambda it: (it.is_long, it.name)):
+        notes = ["long"] * test.is_long + [f"wants {test.wants}"] * bool(test.wants)
+        print(f"{test.name:20} {test.minutes:5.1f} min  {test.shows}" + (f" ({', '.join(notes)})" if notes else ""))
+
+
+def run_one(test, work):
+    """Runs a test and tells of it, with the time by the clock and of processors. Returns its count."""
+    begun = time.monotonic()
+    room = pathlib.Path(tempfile.mkdtemp(prefix=f"{test.name}-", dir=work))
+    try:
+        count = test.run(room)
+    except Exception as error:  # a script that stops counts as a failure
+        count = Count(0, [f"{type(error).__name__}: {error}"])
+    shutil.rmtree(room, ignore_errors=True)
+    took = f"{time.monotonic() - begun:.0f} s, {test.clock.seconds:.0f} of processor time"
+    print(f"{test.label}: {count.passed} passed, {len(count.failures)} failed ({took})", flush=True)
+    for failure in count.failures[:20]:
+        print(f"  {failure}".replace("\n", "\n  "), flush=True)
+    return count, test.clock.seconds
+
+
+def run_tests(tests, jobs, is_all=False):
+    """Runs tests, up to so many at a time, the longest first. Returns how many cases passed and failed.
+
+    A test that wants a tool that isn't there is told and not run; with is_all it fails.
+    """
+    lacking = [test for test in tests if test.lacking]
+    ready = sorted((test for test in tests if not test.lacking), key=lambda it: -it.minutes)
+    begun = time.monotonic()
+    with tempfile.TemporaryDirectory(prefix="idlc-tests-") as work:
+        with concurrent.futures.ThreadPoolExecutor(max(1, jobs)) as pool:
+            counts = list(pool.map(lambda test: run_one(test, work), ready))
+    passed = sum(count.passed for count, _ in counts)
+    failed = sum(len(count.failures) for count, _ in counts) + (len(lacking) if is_all else 0)
+    seconds = sum(seconds for _, seconds in counts)
+    print(f"{len(ready)} tests: {(time.monotonic() - begun) / 60:.1f} minutes, {seconds / 60:.1f} of processor time")
+    for test in lacking:
+        print(f"not run: {test.name}, wants {', '.join(test.lacking)}")
+    return passed, failed
+
+
+def lanes():
+    """How many tests run at a time: as many as there are processors, and four at most."""
+    return min(4, len(os.sched_getaffinity(0)))

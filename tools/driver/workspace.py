@@ -1,0 +1,80 @@
+"""Copies of crates in a folder of their own, beside the repository: the gate takes any source in it for a part of it."""
+import pathlib
+import re
+import shutil
+
+TOP = pathlib.Path(__file__).resolve().parents[2]
+
+# the parts of a crate that its proof reads
+PARTS = ("src", "specs", "proofs")
+
+
+def listed_crates():
+    """The libraries that each crate of crates.txt names."""
+    lines = [line.partition("#")[0] for line in (TOP / "crates.txt").read_text().splitlines()]
+    rows = [line.partition(":") for line in lines if ":" in line]
+    return {name.split()[0]: below.split() for name, _, below in rows}
+
+
+def crates_below(listed, names):
+    """The crates of these names and those on which they stand, lowest first."""
+    found = []
+
+    def add(name):
+        if name in listed and name not in found:
+            for below in listed[name]:
+                add(below)
+            found.append(name)
+
+    for name in names:
+        add(name)
+    return found
+
+
+class Workspace:
+    """A folder that holds copies of crates, and crates of its own that stand on them."""
+
+    def __init__(self, folder):
+        self.folder = pathlib.Path(folder)
+        self.listed = listed_crates()
+        self.copied = []
+        (self.folder / "crates").mkdir(parents=True, exist_ok=True)
+        (self.folder / "crates.txt").write_text("")
+        shutil.copy(TOP / "HANDLES", self.folder)
+
+    def copy_crates(self, names):
+        """Copies the crates of these names and those below them, but for their edits; what was proved there stays."""
+        for name in crates_below(self.listed, names):
+            if name not in self.copied:
+                self._copy_crate(TOP / "crates" / name, self.folder / "crates" / name)
+                self._list(name, self.listed[name])
+                self.copied.append(name)
+
+    def _copy_crate(self, crate, copy):
+        for part in copy.glob("*"):
+            if part.name in PARTS:
+                shutil.rmtree(part)
+        shutil.copytree(crate, copy, ignore=shutil.ignore_patterns("out", "must-fail"), dirs_exist_ok=True)
+
+    def _list(self, name, below):
+        with open(self.folder / "crates.txt", "a") as file:
+            file.write(f"{name}: {' '.join(below)}\n")
+
+    def add_crate(self, name, sources):
+        """Makes a crate of files `NAME.rt.in`, with the crates that these name. Returns its folder."""
+        folder = self.folder / "crates" / name
+        shutil.rmtree(folder / "src", ignore_errors=True)
+        (folder / "src").mkdir(parents=True)
+        text = ""
+        for source in sources:
+            text += source.read_text()
+            shutil.copy(source, folder / "src" / source.name.removesuffix(".in"))
+        below = self.crates_named(text)
+        self.copy_crates(below)
+        self._list(name, below)
+        return folder
+
+    def crates_named(self, text):
+        """The libraries that a source names by a path, of the repository and of those that its crates use."""
+        known = {*self.listed, "anyhow", *(below for names in self.listed.values() for below in names)}
+        return [name for name in sorted(known) if re.search(rf"(?<![\w:]){name}::", text)]
