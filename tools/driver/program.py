@@ -1,10 +1,11 @@
 """The proved program: whether it is that of the sources as they stand, and its proofs, several at a time."""
+import contextlib
 import hashlib
 import os
 import re
 import shutil
+import signal
 import subprocess
-import sys
 import tempfile
 import time
 
@@ -102,17 +103,29 @@ class Progress:
 
     def tell(self):
         names = ", ".join(self.under_way()) or "the program"
-        seconds = time.monotonic() - self.start
-        return (
-            f"idlc: {len(self.done)} of {len(self.crates)} crates proved, now {names}; "
-            f"{seconds // 60:.0f}:{seconds % 60:02.0f} minutes so far, about {self.estimate():.0f} left"
-        )
+        minutes = (time.monotonic() - self.start) / 60
+        done = f"{len(self.done)} of {len(self.crates)} crates proved"
+        return f"idlc: {done}, {minutes:.0f} minutes so far, about {self.estimate():.0f} left: {names}"
 
 
 def minutes_of_docs():
     """The minutes of processor time that a crate's proof takes, by the table of docs/GATE.md."""
     rows = re.findall(r"^\| `?(\w+)`? \| ([\d.]+)", (TOP / "docs" / "GATE.md").read_text(), re.MULTILINE)
     return {name: float(minutes) for name, minutes in rows}
+
+
+@contextlib.contextmanager
+def scratch_folder():
+    """A folder that goes again, also where what was stopped still writes to it for a moment."""
+    room = tempfile.mkdtemp(prefix="idlc-proofs-")
+    try:
+        yield room
+    finally:
+        for _ in range(10):
+            shutil.rmtree(room, ignore_errors=True)
+            if not os.path.exists(room):
+                break
+            time.sleep(1)
 
 
 def prove(out):
@@ -122,7 +135,7 @@ def prove(out):
     run and for the gate, also where it is stopped. Returns the gate's text where it fails.
     """
     sum_before = source_sum()
-    with tempfile.TemporaryDirectory(prefix="idlc-proofs-") as room:
+    with scratch_folder() as room:
         workspace = Workspace(room)
         workspace.copy_crates([CRATE])
         progress = Progress(workspace.folder, workspace.copied)
@@ -136,27 +149,40 @@ def prove(out):
     return None
 
 
+def show(out, line):
+    """Shows the line alone on a terminal, in place of the one before. A terminal that is gone is no fault."""
+    if out.isatty():
+        with contextlib.suppress(OSError):
+            width = shutil.get_terminal_size().columns - 1
+            print(f"\r\033[K{line[:width]}", end="", file=out, flush=True)
+
+
+STOPS = (signal.SIGINT, signal.SIGTERM, signal.SIGHUP)
+
+
+def stop(*_signal):
+    """Ends the run once; what else comes while it ends is passed over."""
+    for number in STOPS:
+        signal.signal(number, signal.SIG_IGN)
+    raise KeyboardInterrupt
+
+
 def run_gate(folder, progress, out):
-    """Runs the gate in a folder. Returns None where it passes, else what it said."""
-    log = open(folder / "log", "w+")
-    gate = subprocess.Popen(["rt", "ci"], cwd=folder, stdin=subprocess.DEVNULL, stdout=log, stderr=log)
-    heard = 0
+    """Runs the gate in a folder. Returns None where it passes, else what it said. A signal to stop ends it too."""
+    for number in STOPS:
+        signal.signal(number, stop)
+    log = folder / "log"
+    with open(log, "w") as file:
+        gate = subprocess.Popen(["rt", "ci"], cwd=folder, stdin=subprocess.DEVNULL, stdout=file, stderr=file)
     try:
         while gate.poll() is None:
             time.sleep(1)
-            with open(folder / "log") as file:
-                file.seek(heard)
-                for line in file:
-                    progress.hear(line)
-                heard = file.tell()
-            if out.isatty():
-                width = shutil.get_terminal_size().columns - 1
-                print(f"\r\033[K{progress.tell()[:width]}", end="", file=out, flush=True)
+            for line in log.read_text(errors="replace").splitlines():
+                progress.hear(line)
+            show(out, progress.tell())
     finally:
-        if out.isatty():
-            print("\r\033[K", end="", file=out, flush=True)
         if gate.poll() is None:
             gate.terminate()
             gate.wait()
-    log.seek(0)
-    return log.read() if gate.returncode else None
+        show(out, "")
+    return log.read_text(errors="replace") if gate.returncode else None

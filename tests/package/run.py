@@ -1,0 +1,49 @@
+"""Makes the package, and tries what is in it in a folder and an environment that have nothing of the repository."""
+import hashlib
+import os
+import re
+import tarfile
+
+from driver.suite import Count
+from driver.workspace import TOP
+
+# the sample value: an octet 7, an unsigned long 1 and the string "hi"
+TAPE, OCTETS = "0700000001000000026869", "070000000000000100000003686900"
+
+
+def check_sums(top, count):
+    lines = (top / "SHA256SUMS").read_text().splitlines()
+    sums = {name: found for found, name in (line.split("  ") for line in lines)}
+    files = {str(path.relative_to(top)) for path in top.rglob("*") if path.is_file()}
+    count.add(files == {*sums, "SHA256SUMS"}, f"files without a sum, or sums without a file: {files ^ {*sums}}")
+    for name, wanted in sums.items():
+        count.add(hashlib.sha256((top / name).read_bytes()).hexdigest() == wanted, f"{name}: another sum")
+
+
+def run_program(test, top, count):
+    """Runs the program with no environment: nothing of the toolchain is on the path."""
+    files = test.room / "files"
+    files.mkdir()
+
+    def expect(line, *words):
+        done = test.call([top / "bin/idlc", *words], cwd=files, env={})
+        count.add((done.status, done.out) == (0, f"{line}\n"), f"{words}: {done}")
+
+    expect(OCTETS, "encode", "builtin", "S", "big", 0, TAPE)
+    expect("accepted 20", "compile", top / "examples/idl/echo.idl", "-o", "echo.table")
+    expect("accepted 20", "check", "echo.table")
+
+
+def run(test):
+    count = Count(0, [])
+    made = test.call([TOP / "package", "--folder", test.room])
+    if made.status:
+        return Count(0, [made.out + made.err])
+    with tarfile.open(made.out.strip()) as archive:
+        archive.extractall(test.room)
+    top = test.room / os.path.basename(made.out.strip()).removesuffix(".tar.gz")
+    check_sums(top, count)
+    run_program(test, top, count)
+    proved = (top / "PROVED").read_text()
+    count.add(re.search(r"commit [0-9a-f]{40}.* proved with rattle-kit-\w+ ", proved), proved)
+    return count
