@@ -25,6 +25,27 @@ pub group_five : (p v w x y z : List Piece) → p ++ (v ++ w ++ x ++ (y ++ z)) �
 group_five p v w x y z =
     group_two p (v ++ w ++ x) (y ++ z) ∙ group_two (p ++ (v ++ w ++ x)) y z ∙ ap (λ l. l ++ y ++ z) (group_three p v w x)
 
+-- what holds of a part that was read holds of it where it is handed on
+pub handed : {T E F : Type 0} (P : T → Type 0) (read : Result T E) (r : Result T F) → IfOk read P → IfOk r (λ p. read ≡ Ok p) → IfOk r P
+handed P read (Ok p) all same = subst (λ r. IfOk r P) same all
+handed P read (Err e) all same = tt
+
+-- ---- a node that was made
+
+pub made_spelled : {T E F : Type 0} (a c : List Seen) (yield : T → List Piece) (y : List Piece) (node : Result T E) (r : Result T F)
+    → IfOk node (λ n. yield n ≡ y) → IfOk r (λ n. node ≡ Ok n) → Parsed a y c → IfOk r (λ n. Parsed a (yield n) c)
+made_spelled a c yield y node (Ok n) is same read =
+    let spells : yield n ≡ y = subst (λ q. IfOk q (λ n. yield n ≡ y)) same is in
+    spelled_as (sym spells) read
+made_spelled a c yield y node (Err e) is same read = tt
+
+pub made_levels : {T E F : Type 0} (levels : T → ℕ) (most room : ℕ) (node : Result T E) (r : Result T F)
+    → IfOk node (λ n. levels n ≡ most) → IfOk r (λ n. node ≡ Ok n) → most ≤ room → IfOk r (λ n. levels n ≤ room)
+made_levels levels most room node (Ok n) is same few =
+    let levels_is : levels n ≡ most = subst (λ q. IfOk q (λ n. levels n ≡ most)) same is in
+    omega (arith, levels_is, few)
+made_levels levels most room node (Err e) is same few = tt
+
 -- ---- both parts
 
 pub both_read : {T U E : Type 0} {a b c : List Seen} (f : T → List Piece) (g : U → List Piece) (first : T) (second : Result U E) (p : T × U)
@@ -87,21 +108,46 @@ both_handed_under f g left first second (Ok p) front back same is =
     omega (arith, most)
 both_handed_under f g left first second (Err e) front back same is = tt
 
--- ---- a mark behind a part
+-- ---- a part behind pieces
 
-pub closed_part : {T E : Type 0} {a b : List Seen} (c : List Seen) (mark : List Piece) (f : T → List Piece) (part : T) (r : Result T E)
-    → Parsed a (f part) b → IfOk r (λ p. p ≡ part) → IfOk r (λ p. Parsed b mark c) → IfOk r (λ p. Parsed a (f p ++ mark) c)
-closed_part {a = a} c mark f part (Ok p) front same back =
-    subst (λ t. Parsed a (f t ++ mark) c) (sym same) (part_then front back)
-closed_part c mark f part (Err e) front same back = tt
+pub behind_part : {T E : Type 0} (a b c : List Seen) (front : List Piece) (f : T → List Piece) (read : Result T E)
+    → Parsed a front b → IfOk read (λ t. Parsed b (f t) c) → IfOk read (λ t. Parsed a (front ++ f t) c)
+behind_part a b c front f (Ok t) p q = part_then p q
+behind_part a b c front f (Err e) p q = tt
 
-pub closed_list : {T E : Type 0} {a b : List Seen} (c : List Seen) (mark : List Piece) (f : T → List Piece) (part : T) (r : Result T E)
-    → Continued a (f part) b → IfOk r (λ p. p ≡ part) → IfOk r (λ p. Parsed b mark c) → IfOk r (λ p. Parsed a (f p ++ mark) c)
-closed_list {a = a} c mark f part (Ok p) front same back =
-    subst (λ t. Parsed a (f t ++ mark) c) (sym same) (more_then_part front back)
-closed_list c mark f part (Err e) front same back = tt
+pub behind_list : {T E : Type 0} (a b c : List Seen) (front : List Piece) (f : T → List Piece) (read : Result T E)
+    → Parsed a front b → IfOk read (λ t. Continued b (f t) c) → IfOk read (λ t. Parsed a (front ++ f t) c)
+behind_list a b c front f (Ok t) p q = part_then_more p q
+behind_list a b c front f (Err e) p q = tt
 
-pub closed_levels : {T E : Type 0} (f : T → ℕ) (room : ℕ) (part : T) (r : Result T E)
-    → f part ≤ room → IfOk r (λ p. p ≡ part) → IfOk r (λ p. f p ≤ room)
-closed_levels f room part (Ok p) front same = subst (λ t. f t ≤ room) (sym same) front
-closed_levels f room part (Err e) front same = tt
+-- ---- a part that is read behind what was read
+
+pub pair_read : {T U E F : Type 0} (a b c : List Seen) (f : T → List Piece) (g : U → List Piece) (first : Result T E) (r : Result (T × U) F)
+    → IfOk first (λ t. Parsed a (f t) b) → IfOk r (λ p. first ≡ Ok p.0) → IfOk r (λ p. Parsed b (g p.1) c) → IfOk r (λ p. Parsed a (f p.0 ++ g p.1) c)
+pair_read a b c f g first (Ok p) front same back =
+    let one : Parsed a (f p.0) b = subst (λ q. IfOk q (λ t. Parsed a (f t) b)) same front in
+    part_then one back
+pair_read a b c f g first (Err e) front same back = tt
+
+pub pair_levels : {T U E F : Type 0} (f : T → ℕ) (g : U → ℕ) (room : ℕ) (first : Result T E) (r : Result (T × U) F)
+    → IfOk first (λ t. f t ≤ room) → IfOk r (λ p. first ≡ Ok p.0) → IfOk r (λ p. g p.1 ≤ room) → IfOk r (λ p. max (f p.0) (g p.1) ≤ room)
+pair_levels f g room first (Ok p) front same back =
+    let one : f p.0 ≤ room = subst (λ q. IfOk q (λ t. f t ≤ room)) same front in
+    omega (arith, one, back)
+pair_levels f g room first (Err e) front same back = tt
+
+-- ---- a mark behind what was read
+
+pub closed_part : {T E F : Type 0} (a b c : List Seen) (mark : List Piece) (f : T → List Piece) (read : Result T E) (r : Result T F)
+    → IfOk read (λ t. Parsed a (f t) b) → IfOk r (λ p. read ≡ Ok p) → IfOk r (λ p. Parsed b mark c) → IfOk r (λ p. Parsed a (f p ++ mark) c)
+closed_part a b c mark f read (Ok p) front same back =
+    let one : Parsed a (f p) b = subst (λ q. IfOk q (λ t. Parsed a (f t) b)) same front in
+    part_then one back
+closed_part a b c mark f read (Err e) front same back = tt
+
+pub closed_list : {T E F : Type 0} (a b c : List Seen) (mark : List Piece) (f : T → List Piece) (read : Result T E) (r : Result T F)
+    → IfOk read (λ t. Continued a (f t) b) → IfOk r (λ p. read ≡ Ok p) → IfOk r (λ p. Parsed b mark c) → IfOk r (λ p. Parsed a (f p ++ mark) c)
+closed_list a b c mark f read (Ok p) front same back =
+    let one : Continued a (f p) b = subst (λ q. IfOk q (λ t. Continued a (f t) b)) same front in
+    more_then_part one back
+closed_list a b c mark f read (Err e) front same back = tt

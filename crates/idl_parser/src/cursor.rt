@@ -3,7 +3,7 @@
 //! A contract sees a cursor as the list of the tokens that are left.
 #![tactic(auto, using(crate::proofs::Reading::past_append))]
 
-ghost use Rattle.std.specs.Prelude.{◌≡◌, ◌++◌, suc, [], IfOk, IfSome, IfNone, codes};
+ghost use Rattle.std.specs.Prelude.{◌≡◌, ◌++◌, suc, [], Ok, IfOk, IfSome, IfNone, codes};
 ghost use Rattle.std.specs.Bool.{OnTrue, OnFalse};
 ghost use Rattle.idl_parser.specs.Reading.{Parsed};
 ghost use Rattle.idl_tree.specs.Pieces.{piece, keyword, kept, mark, touching, leaf as leaf_yield, seen_from};
@@ -87,6 +87,14 @@ impl<'a> Cursor<'a> {
     /// Whether a keyword is the next token.
     pub(crate) fn is_keyword(&self, word: &str) -> bool {
         self.text(Kind::Keyword) == Some(word)
+    }
+
+    /// Whether one of these keywords is the next token.
+    pub(crate) fn is_one_of(&self, words: &[&str]) -> bool {
+        match self.text(Kind::Keyword) {
+            Some(text) => words.iter().any(|word| word.as_bytes() == text.as_bytes()),
+            None => false,
+        }
     }
 
     /// Whether a semicolon stands behind the next two tokens.
@@ -229,11 +237,12 @@ impl<'a> Cursor<'a> {
         }
     }
 
-    /// Takes the mark behind a part that is read, and hands the part on.
-    pub(crate) fn closed<T: Drop>(&mut self, part: T, text: &str) -> Result<T, Stop>
-        ensures same { IfOk result (λ p. p ≡ part) }
+    /// Takes the mark behind what was read, and hands that on.
+    pub(crate) fn closed<T: Drop>(&mut self, read: Result<T, Stop>, text: &str) -> Result<T, Stop>
+        ensures same { IfOk result (λ p. read ≡ Ok p) }
         ensures read { IfOk result (λ _. Parsed self.old (mark text.now) self.new) }
     {
+        let part = got!(read);
         if self.take_mark(text) {
             Ok(part)
         } else {

@@ -11,16 +11,6 @@ macro_rules! got {
     };
 }
 
-/// A node that was made.
-macro_rules! made {
-    ($node:expr) => {
-        match $node {
-            Ok(node) => Ok(node),
-            Err(_) => Err(Stop::NoMemory),
-        }
-    };
-}
-
 mod cursor;
 pub mod fault;
 mod left_out;

@@ -1,7 +1,7 @@
 //! The tree of a whole specification.
 #![tactic(auto, using(crate::proofs::Reading::past_append, crate::proofs::Reading::past_none))]
 
-ghost use Rattle.std.specs.Prelude.{◌≡◌, ◌++◌, ◌≤◌, IfOk};
+ghost use Rattle.std.specs.Prelude.{◌≡◌, ◌++◌, ◌≤◌, [], Ok, IfOk};
 ghost use Rattle.idl_tree.specs.Pieces.{Spell};
 ghost use Rattle.idl_tree.specs.DefinitionYields.{definitions_spelled};
 ghost use Rattle.idl_tree.specs.DefinitionLevels.{levels_of};
@@ -11,6 +11,7 @@ use crate::fault::ParseFault;
 use crate::read::definitions::read_definitions;
 use crate::stop::Stop;
 use idl_lexer::Token;
+use idl_tree::definitions::Definition;
 use idl_tree::spec::Spec;
 use std::alloc::Global;
 
@@ -26,6 +27,31 @@ fn told(cursor: &Cursor<'_>, stop: Stop) -> ParseFault {
     }
 }
 
+/// What is read where nothing stands behind it.
+fn whole<T: Drop>(cursor: &Cursor<'_>, read: Result<T, Stop>) -> Result<T, ParseFault>
+    ensures same { IfOk result (λ part. read ≡ Ok part) }
+    ensures ended { IfOk result (λ part. cursor.now ≡ []) }
+{
+    let part = match read {
+        Ok(part) => part,
+        Err(stop) => return Err(told(cursor, stop)),
+    };
+    if !cursor.is_at_end() {
+        return Err(cursor.fault());
+    }
+    Ok(part)
+}
+
+/// The definitions that tokens spell from the first to the last.
+fn read_all<'a>(alloc: Global, tokens: &'a [Token<'a>]) -> Result<Vec<Definition<'a>>, ParseFault>
+    ensures spells { IfOk result (λ d. Spell (definitions_spelled d.items) tokens.now) }
+    ensures levels { IfOk result (λ d. levels_of d.items ≤ 64) }
+{
+    let mut cursor = Cursor::new(alloc, tokens);
+    let read = read_definitions(&mut cursor, MAX_LEVELS);
+    whole(&cursor, read)
+}
+
 /// The tree of an IDL specification, given as its tokens (ISO/IEC 19500-1, IDL grammar).
 ///
 /// The tree spells the tokens again, from the first to the last; what it keeps of a token is that token, with its
@@ -39,16 +65,11 @@ pub fn parse<'a>(alloc: Global, tokens: &'a [Token<'a>]) -> Result<Spec<'a>, Par
     ensures spells { IfOk result (λ spec. Spell (definitions_spelled spec.definitions.items) tokens.now) }
     ensures levels { IfOk result (λ spec. levels_of spec.definitions.items ≤ 64) }
 {
-    let mut cursor = Cursor::new(alloc, tokens);
-    let definitions = match read_definitions(&mut cursor, MAX_LEVELS) {
-        Ok(definitions) => definitions,
-        Err(stop) => return Err(told(&cursor, stop)),
-    };
-    if !cursor.is_at_end() {
-        return Err(cursor.fault());
+    match read_all(alloc, tokens) {
+        Ok(definitions) => Ok(Spec {
+            tokens,
+            definitions,
+        }),
+        Err(fault) => Err(fault),
     }
-    Ok(Spec {
-        tokens,
-        definitions,
-    })
 }

@@ -5,15 +5,15 @@ ghost use Rattle.std.specs.Prelude.{◌≡◌, ◌++◌, ◌≤◌, ◌<◌, max
 ghost use Rattle.std.specs.List.{flat_map};
 ghost use Rattle.idl_parser.specs.Reading.{Parsed, Continued};
 ghost use Rattle.idl_tree.specs.Pieces.{keyword, mark};
-ghost use Rattle.idl_tree.specs.Yields.{identifier, in_order, listed};
+ghost use Rattle.idl_tree.specs.Yields.{identifier, in_order};
 ghost use Rattle.idl_tree.specs.TypeYields.{declarator_yield, label_yield, member_yield, case_yield, type_yield, struct_yield, union_yield};
 ghost use Rattle.idl_tree.specs.Levels.{highest, highest_listed};
 ghost use Rattle.idl_tree.specs.TypeLevels.{declarator_levels, label_levels, member_levels, case_levels, type_levels, struct_levels, union_levels};
 
 use crate::cursor::Cursor;
 use crate::read::expressions::read_expr;
-use crate::read::lists::{add, both, read_listed, read_opened};
-use crate::read::types::{read_declarator, read_enum, read_simple_type, read_switch};
+use crate::read::lists::{add_read, both, made, read_opened, then};
+use crate::read::types::{read_enum, read_simple_type, read_switch};
 use crate::stop::Stop;
 use idl_lexer::Kind;
 use idl_tree::names::{Leaf, Listed};
@@ -24,8 +24,8 @@ fn read_label<'a>(cursor: &mut Cursor<'a>, room: usize) -> Result<Label<'a>, Sto
     ensures levels { IfOk result (λ l. label_levels l ≤ room) }
 {
     if cursor.take_keyword("case") {
-        let value = got!(read_expr(cursor, room));
-        return Ok(Label::Case(got!(cursor.closed(value, ":"))));
+        let value = read_expr(cursor, room);
+        return cursor.closed(value, ":").map(Label::Case);
     }
     let Some(word) = cursor.take(Kind::Keyword, "default") else {
         return Err(Stop::Unexpected);
@@ -46,8 +46,7 @@ fn read_more_labels<'a>(cursor: &mut Cursor<'a>, room: usize) -> Result<Vec<Labe
 {
     let mut labels = Vec::new(cursor.alloc());
     'parts: while is_label(cursor) {
-        let label = got!(read_label(cursor, room));
-        got!(add(&mut labels, label));
+        got!(add_read(&mut labels, read_label(cursor, room)));
     }
     labels.shrink_to_fit();
     Ok(labels)
@@ -61,27 +60,6 @@ fn read_labels<'a>(cursor: &mut Cursor<'a>, room: usize) -> Result<Listed<Label<
     let first = got!(read_label(cursor, room));
     let rest = got!(read_more_labels(cursor, room));
     Ok(Listed { first, rest })
-}
-
-/// Reads the declarators of members, and the semicolon behind them.
-fn read_declarators<'a>(
-    cursor: &mut Cursor<'a>,
-    room: usize,
-) -> Result<Listed<Declarator<'a>>, Stop>
-    ensures spells { IfOk result (λ d. Parsed cursor.old (listed declarator_yield d ++ mark (codes ";")) cursor.new) }
-    ensures levels { IfOk result (λ d. highest_listed declarator_levels d ≤ room) }
-{
-    let declarators = got!(read_listed(cursor, room));
-    cursor.closed(declarators, ";")
-}
-
-/// Reads the declarator of a case, and the semicolon behind it.
-fn read_case_declarator<'a>(cursor: &mut Cursor<'a>, room: usize) -> Result<Declarator<'a>, Stop>
-    ensures spells { IfOk result (λ d. Parsed cursor.old (declarator_yield d ++ mark (codes ";")) cursor.new) }
-    ensures levels { IfOk result (λ d. declarator_levels d ≤ room) }
-{
-    let declarator = got!(read_declarator(cursor, room));
-    cursor.closed(declarator, ";")
 }
 
 /// What a type is that declares something, or another one.
@@ -109,10 +87,10 @@ pub(crate) fn read_type<'a>(cursor: &mut Cursor<'a>, room: usize) -> Result<Type
     ensures levels { IfOk result (λ t. type_levels t ≤ room) }
 {
     match next_shape(cursor) {
-        Shape::Struct => Ok(TypeSpec::Struct(got!(read_struct(cursor, room)))),
-        Shape::Union => Ok(TypeSpec::Union(got!(read_union(cursor, room)))),
-        Shape::Enum => Ok(TypeSpec::Enum(got!(read_enum(cursor, room)))),
-        Shape::Other => Ok(TypeSpec::Simple(got!(read_simple_type(cursor, room)))),
+        Shape::Struct => read_struct(cursor, room).map(TypeSpec::Struct),
+        Shape::Union => read_union(cursor, room).map(TypeSpec::Union),
+        Shape::Enum => read_enum(cursor, room).map(TypeSpec::Enum),
+        Shape::Other => read_simple_type(cursor, room).map(TypeSpec::Simple),
     }
 }
 
@@ -121,12 +99,14 @@ fn read_member<'a>(cursor: &mut Cursor<'a>, room: usize) -> Result<Member<'a>, S
     ensures spells { IfOk result (λ m. Parsed cursor.old (member_yield m) cursor.new) }
     ensures levels { IfOk result (λ m. member_levels m ≤ room) }
 {
-    let front = got!(read_type(cursor, room));
-    let (member_type, declarators) = got!(both(front, read_declarators(cursor, room)));
-    Ok(Member {
-        member_type,
-        declarators,
-    })
+    let read = then(read_type(cursor, room), cursor, room);
+    match cursor.closed(read, ";") {
+        Ok((member_type, declarators)) => Ok(Member {
+            member_type,
+            declarators,
+        }),
+        Err(stop) => Err(stop),
+    }
 }
 
 /// Reads members and the closing brace behind them.
@@ -141,11 +121,10 @@ pub(crate) fn read_members<'a>(
 {
     let mut members = Vec::new(cursor.alloc());
     'parts: while !cursor.is_mark("}") {
-        let member = got!(read_member(cursor, room));
-        got!(add(&mut members, member));
+        got!(add_read(&mut members, read_member(cursor, room)));
     }
     members.shrink_to_fit();
-    cursor.closed(members, "}")
+    cursor.closed(Ok(members), "}")
 }
 
 #[cycle(constructed)]
@@ -156,7 +135,7 @@ pub(crate) fn read_struct<'a>(cursor: &mut Cursor<'a>, room: usize) -> Result<St
     let (name, left) = got!(read_opened(cursor, "struct", room));
     let front = got!(read_member(cursor, left));
     let (first, rest) = got!(both(front, read_members(cursor, left)));
-    made!(StructType::new(cursor.alloc(), name, first, rest))
+    made(StructType::new(cursor.alloc(), name, first, rest))
 }
 
 /// Reads what stands behind the labels of a case.
@@ -166,11 +145,11 @@ fn read_element<'a>(
     room: usize,
 ) -> Result<(TypeSpec<'a>, Declarator<'a>), Stop>
     ensures spells { IfOk result (λ e. Parsed cursor.old
-        (type_yield e.0 ++ (declarator_yield e.1 ++ mark (codes ";"))) cursor.new) }
+        (type_yield e.0 ++ declarator_yield e.1 ++ mark (codes ";")) cursor.new) }
     ensures levels { IfOk result (λ e. max (type_levels e.0) (declarator_levels e.1) ≤ room) }
 {
-    let front = got!(read_type(cursor, room));
-    both(front, read_case_declarator(cursor, room))
+    let read = then(read_type(cursor, room), cursor, room);
+    cursor.closed(read, ";")
 }
 
 #[cycle(constructed)]
@@ -196,11 +175,10 @@ fn read_cases<'a>(cursor: &mut Cursor<'a>, room: usize) -> Result<Vec<Case<'a>>,
 {
     let mut cases = Vec::new(cursor.alloc());
     'parts: while !cursor.is_mark("}") {
-        let case = got!(read_case(cursor, room));
-        got!(add(&mut cases, case));
+        got!(add_read(&mut cases, read_case(cursor, room)));
     }
     cases.shrink_to_fit();
-    cursor.closed(cases, "}")
+    cursor.closed(Ok(cases), "}")
 }
 
 /// Reads what stands behind the type of a union's discriminator.
@@ -248,5 +226,5 @@ pub(crate) fn read_union<'a>(cursor: &mut Cursor<'a>, room: usize) -> Result<Uni
     // an enumeration here is declared inside the union
     let front = got!(read_switch(cursor, room.saturating_sub(1)));
     let (switch, (first, rest)) = got!(both(front, read_union_body(cursor, room)));
-    made!(UnionType::new(cursor.alloc(), name, switch, first, rest))
+    made(UnionType::new(cursor.alloc(), name, switch, first, rest))
 }

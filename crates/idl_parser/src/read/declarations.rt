@@ -14,20 +14,19 @@ use crate::read::constructed::{
     Shape, next_shape, read_members, read_struct, read_type, read_union,
 };
 use crate::read::expressions::read_expr;
-use crate::read::lists::{both, read_listed};
+use crate::read::lists::{both, then};
 use crate::read::types::{read_const_type, read_enum};
 use crate::stop::Stop;
-use idl_lexer::Kind;
 use idl_tree::const_expr::ConstExpr;
 use idl_tree::definitions::{Const, Declaration, Except, TypeDcl};
 use idl_tree::names::Leaf;
 
+/// The keywords with which types, constants and exceptions begin.
+const DECLARED: [&str; 6] = ["typedef", "struct", "union", "enum", "const", "exception"];
+
 /// Whether a type, a constant or an exception is next.
 pub(crate) fn is_declaration(cursor: &Cursor<'_>) -> bool {
-    matches!(
-        cursor.text(Kind::Keyword),
-        Some("typedef" | "struct" | "union" | "enum" | "const" | "exception")
-    )
+    cursor.is_one_of(&DECLARED)
 }
 
 fn read_typedef<'a>(cursor: &mut Cursor<'a>, room: usize) -> Result<TypeDcl<'a>, Stop>
@@ -35,12 +34,13 @@ fn read_typedef<'a>(cursor: &mut Cursor<'a>, room: usize) -> Result<TypeDcl<'a>,
     ensures levels { IfOk result (λ t. type_dcl_levels t ≤ room) }
 {
     got!(cursor.keyword("typedef"));
-    let front = got!(read_type(cursor, room));
-    let (original, declarators) = got!(both(front, read_listed(cursor, room)));
-    Ok(TypeDcl::Typedef {
-        original,
-        declarators,
-    })
+    match then(read_type(cursor, room), cursor, room) {
+        Ok((original, declarators)) => Ok(TypeDcl::Typedef {
+            original,
+            declarators,
+        }),
+        Err(stop) => Err(stop),
+    }
 }
 
 /// Reads a structure, or one that is declared ahead, which a semicolon tells.
@@ -49,10 +49,10 @@ fn read_struct_dcl<'a>(cursor: &mut Cursor<'a>, room: usize) -> Result<TypeDcl<'
     ensures levels { IfOk result (λ t. type_dcl_levels t ≤ room) }
 {
     if !cursor.is_ahead() {
-        return Ok(TypeDcl::Struct(got!(read_struct(cursor, room))));
+        return read_struct(cursor, room).map(TypeDcl::Struct);
     }
     got!(cursor.keyword("struct"));
-    Ok(TypeDcl::StructAhead(got!(cursor.identifier())))
+    cursor.identifier().map(TypeDcl::StructAhead)
 }
 
 /// Reads a union, or one that is declared ahead, which a semicolon tells.
@@ -61,10 +61,10 @@ fn read_union_dcl<'a>(cursor: &mut Cursor<'a>, room: usize) -> Result<TypeDcl<'a
     ensures levels { IfOk result (λ t. type_dcl_levels t ≤ room) }
 {
     if !cursor.is_ahead() {
-        return Ok(TypeDcl::Union(got!(read_union(cursor, room))));
+        return read_union(cursor, room).map(TypeDcl::Union);
     }
     got!(cursor.keyword("union"));
-    Ok(TypeDcl::UnionAhead(got!(cursor.identifier())))
+    cursor.identifier().map(TypeDcl::UnionAhead)
 }
 
 fn read_type_dcl<'a>(cursor: &mut Cursor<'a>, room: usize) -> Result<TypeDcl<'a>, Stop>
@@ -74,7 +74,7 @@ fn read_type_dcl<'a>(cursor: &mut Cursor<'a>, room: usize) -> Result<TypeDcl<'a>
     match next_shape(cursor) {
         Shape::Struct => read_struct_dcl(cursor, room),
         Shape::Union => read_union_dcl(cursor, room),
-        Shape::Enum => Ok(TypeDcl::Enum(got!(read_enum(cursor, room)))),
+        Shape::Enum => read_enum(cursor, room).map(TypeDcl::Enum),
         Shape::Other => read_typedef(cursor, room),
     }
 }
@@ -133,12 +133,12 @@ fn read_declaration<'a>(cursor: &mut Cursor<'a>, room: usize) -> Result<Declarat
     ensures levels { IfOk result (λ d. declaration_levels d ≤ room) }
 {
     if cursor.is_keyword("const") {
-        return Ok(Declaration::Const(got!(read_const(cursor, room))));
+        return read_const(cursor, room).map(Declaration::Const);
     }
     if cursor.is_keyword("exception") {
-        return Ok(Declaration::Except(got!(read_except(cursor, room))));
+        return read_except(cursor, room).map(Declaration::Except);
     }
-    Ok(Declaration::TypeDcl(got!(read_type_dcl(cursor, room))))
+    read_type_dcl(cursor, room).map(Declaration::TypeDcl)
 }
 
 /// Reads a declaration and the semicolon behind it.
@@ -149,6 +149,6 @@ pub(crate) fn read_ended_declaration<'a>(
     ensures spells { IfOk result (λ d. Parsed cursor.old (declaration_yield d ++ mark (codes ";")) cursor.new) }
     ensures levels { IfOk result (λ d. declaration_levels d ≤ room) }
 {
-    let declaration = got!(read_declaration(cursor, room));
-    cursor.closed(declaration, ";")
+    let read = read_declaration(cursor, room);
+    cursor.closed(read, ";")
 }

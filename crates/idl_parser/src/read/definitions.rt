@@ -4,7 +4,8 @@
 ghost use Rattle.std.specs.Prelude.{◌≡◌, ◌++◌, ◌≤◌, suc, max, IfOk, List, codes};
 ghost use Rattle.std.specs.List.{flat_map};
 ghost use Rattle.idl_parser.specs.Reading.{Parsed, Continued};
-ghost use Rattle.idl_tree.specs.Pieces.{mark};
+ghost use Rattle.idl_tree.specs.Pieces.{keyword, mark};
+ghost use Rattle.idl_tree.specs.Yields.{identifier};
 ghost use Rattle.idl_tree.specs.DefinitionYields.{definition_yield};
 ghost use Rattle.idl_tree.specs.Levels.{highest};
 ghost use Rattle.idl_tree.specs.DefinitionLevels.{definition_levels};
@@ -12,10 +13,11 @@ ghost use Rattle.idl_tree.specs.DefinitionLevels.{definition_levels};
 use crate::cursor::Cursor;
 use crate::read::declarations::{is_declaration, read_ended_declaration};
 use crate::read::interfaces::read_ended_interface;
-use crate::read::lists::{add, read_opened};
+use crate::read::lists::{add_read, read_opened};
 use crate::stop::Stop;
 use idl_lexer::Kind;
 use idl_tree::definitions::Definition;
+use idl_tree::names::Leaf;
 
 /// Reads a pragma, or a definition that holds no others.
 fn read_single<'a>(cursor: &mut Cursor<'a>, room: usize) -> Result<Definition<'a>, Stop>
@@ -26,10 +28,10 @@ fn read_single<'a>(cursor: &mut Cursor<'a>, room: usize) -> Result<Definition<'a
         return Ok(Definition::Pragma(pragma));
     }
     if cursor.is_keyword("interface") {
-        return Ok(Definition::Interface(got!(read_ended_interface(cursor, room))));
+        return read_ended_interface(cursor, room).map(Definition::Interface);
     }
     if is_declaration(cursor) {
-        return Ok(Definition::Declaration(got!(read_ended_declaration(cursor, room))));
+        return read_ended_declaration(cursor, room).map(Definition::Declaration);
     }
     Err(Stop::Unexpected)
 }
@@ -45,16 +47,32 @@ fn read_definition<'a>(cursor: &mut Cursor<'a>, room: usize) -> Result<Definitio
     read_single(cursor, room)
 }
 
+/// Reads the name of a module and its definitions.
+#[cycle(definitions)]
+fn read_named<'a>(
+    cursor: &mut Cursor<'a>,
+    room: usize,
+) -> Result<(Leaf<'a>, Vec<Definition<'a>>), Stop>
+    ensures spells { IfOk result (λ m. Parsed cursor.old (keyword (codes "module") ++ identifier m.0
+        ++ mark (codes "{") ++ flat_map definition_yield m.1.items ++ mark (codes "}") ++ mark (codes ";")) cursor.new) }
+    ensures levels { IfOk result (λ m. suc (highest definition_levels m.1.items) ≤ room) }
+{
+    let (name, left) = got!(read_opened(cursor, "module", room));
+    let read = read_definitions(cursor, left);
+    let read = cursor.closed(read, "}");
+    let definitions = got!(cursor.closed(read, ";"));
+    Ok((name, definitions))
+}
+
 #[cycle(definitions)]
 fn read_module<'a>(cursor: &mut Cursor<'a>, room: usize) -> Result<Definition<'a>, Stop>
     ensures spells { IfOk result (λ d. Parsed cursor.old (definition_yield d) cursor.new) }
     ensures levels { IfOk result (λ d. definition_levels d ≤ room) }
 {
-    let (name, left) = got!(read_opened(cursor, "module", room));
-    let definitions = got!(read_definitions(cursor, left));
-    got!(cursor.mark("}"));
-    got!(cursor.mark(";"));
-    Ok(Definition::new_module(name, definitions))
+    match read_named(cursor, room) {
+        Ok((name, definitions)) => Ok(Definition::new_module(name, definitions)),
+        Err(stop) => Err(stop),
+    }
 }
 
 /// Reads definitions up to a closing brace or the end.
@@ -68,8 +86,7 @@ pub(crate) fn read_definitions<'a>(
 {
     let mut definitions = Vec::new(cursor.alloc());
     'parts: while !cursor.is_at_end() && !cursor.is_mark("}") {
-        let definition = got!(read_definition(cursor, room));
-        got!(add(&mut definitions, definition));
+        got!(add_read(&mut definitions, read_definition(cursor, room)));
     }
     definitions.shrink_to_fit();
     Ok(definitions)

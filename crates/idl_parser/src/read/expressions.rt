@@ -1,17 +1,17 @@
 //! Constant expressions.
 #![tactic(auto, using(crate::proofs::Reading::past_append, crate::proofs::Reading::past_none))]
 
-ghost use Rattle.std.specs.Prelude.{◌≡◌, ◌++◌, ◌≤◌, Bool, true, IfOk, IfSome, IfNone, List, codes};
+ghost use Rattle.std.specs.Prelude.{◌≡◌, ◌++◌, ◌≤◌, ◌<◌, Bool, true, IfOk, IfSome, IfNone, List, codes};
 ghost use Rattle.std.specs.Bool.{OnTrue};
 ghost use Rattle.std.specs.List.{AllByRecursion, flat_map};
 ghost use Rattle.idl_parser.specs.Reading.{Parsed, Continued};
 ghost use Rattle.idl_tree.specs.Pieces.{kept_mark};
-ghost use Rattle.idl_tree.specs.Grouping.{level_of, is_operator_of, IsOfLevel};
-ghost use Rattle.idl_tree.specs.Levels.{expr_levels, const_expr_levels, bound_levels};
+ghost use Rattle.idl_tree.specs.Grouping.{level_of, is_operator_of, IsOfLevel, IsOperandOf};
+ghost use Rattle.idl_tree.specs.Levels.{highest, expr_levels, operand_levels, const_expr_levels, bound_levels};
 ghost use Rattle.idl_tree.specs.Yields.{operator_yield, sign_text, expr_yield, const_expr_yield, bound_yield, operand_yield, text_yield, in_order};
 
 use crate::cursor::{Cursor, inside};
-use crate::read::lists::{add, boxed};
+use crate::read::lists::{add, both, boxed, made};
 use crate::read::names::read_scoped_name;
 use crate::stop::Stop;
 use idl_lexer::Kind;
@@ -161,9 +161,11 @@ fn read_primary<'a>(cursor: &mut Cursor<'a>, room: usize) -> Result<Expr<'a>, St
         return read_atom(cursor);
     };
     let left = got!(inside(room, line));
-    let inner = got!(read_level(cursor, 0, true, left));
-    got!(cursor.mark(")"));
-    made!(Expr::new_parenthesized(cursor.alloc(), paren, inner))
+    let read = read_level(cursor, 0, true, left);
+    match cursor.closed(read, ")") {
+        Ok(inner) => made(Expr::new_parenthesized(cursor.alloc(), paren, inner)),
+        Err(stop) => Err(stop),
+    }
 }
 
 #[cycle(expressions)]
@@ -176,7 +178,30 @@ fn read_unary<'a>(cursor: &mut Cursor<'a>, room: usize) -> Result<Expr<'a>, Stop
         return read_primary(cursor, room);
     };
     let operand = got!(read_primary(cursor, room));
-    made!(Expr::new_signed(cursor.alloc(), mark, sign, operand))
+    made(Expr::new_signed(cursor.alloc(), mark, sign, operand))
+}
+
+/// Reads operators of the level, each with an operand of the tighter levels behind it.
+#[cycle(expressions)]
+fn read_operands<'a>(
+    cursor: &mut Cursor<'a>,
+    level: usize,
+    shifts: bool,
+    room: usize,
+) -> Result<Vec<Operand<'a>>, Stop>
+    requires { level < 6 }
+    ensures spells { IfOk result (λ rest. Continued cursor.old (flat_map operand_yield rest.items) cursor.new) }
+    ensures groups { IfOk result (λ rest. AllByRecursion (IsOperandOf shifts level) rest.items) }
+    ensures levels { IfOk result (λ rest. highest operand_levels rest.items ≤ room) }
+{
+    let mut rest = Vec::new(cursor.alloc());
+    'parts: while let Some(operator) = operator_of(cursor, level, shifts) {
+        got!(read_operator(cursor, operator));
+        let operand = got!(read_level(cursor, level + 1, shifts, room));
+        got!(add(&mut rest, Operand { operator, operand }));
+    }
+    rest.shrink_to_fit();
+    Ok(rest)
 }
 
 /// Reads operands of the tighter levels, with operators of the level between them.
@@ -195,14 +220,10 @@ fn read_level<'a>(
         return read_unary(cursor, room);
     }
     let first = got!(read_level(cursor, level + 1, shifts, room));
-    let mut rest = Vec::new(cursor.alloc());
-    'parts: while let Some(operator) = operator_of(cursor, level, shifts) {
-        got!(read_operator(cursor, operator));
-        let operand = got!(read_level(cursor, level + 1, shifts, room));
-        got!(add(&mut rest, Operand { operator, operand }));
+    match both(first, read_operands(cursor, level, shifts, room)) {
+        Ok((first, rest)) => made(Expr::new_chain(cursor.alloc(), first, rest)),
+        Err(stop) => Err(stop),
     }
-    rest.shrink_to_fit();
-    made!(Expr::new_chain(cursor.alloc(), first, rest))
 }
 
 /// Reads a constant expression.

@@ -14,7 +14,7 @@ ghost use Rattle.idl_tree.specs.DefinitionLevels.{attribute_levels, param_levels
 
 use crate::cursor::Cursor;
 use crate::read::declarations::{is_declaration, read_ended_declaration};
-use crate::read::lists::{Part, add, both, read_listed, read_rest};
+use crate::read::lists::{Part, add_read, both, read_listed, read_rest, then};
 use crate::read::types::read_param_type;
 use crate::stop::Stop;
 use idl_lexer::Kind;
@@ -38,8 +38,8 @@ fn read_raises<'a>(
         return Ok(None);
     }
     got!(cursor.mark("("));
-    let names = got!(read_listed(cursor, 0));
-    Ok(Some(got!(cursor.closed(names, ")"))))
+    let names = read_listed(cursor, 0);
+    cursor.closed(names, ")").map(Some)
 }
 
 /// Takes `readonly`, if it is next.
@@ -128,13 +128,14 @@ impl<'a> Part<'a> for Param<'a> {
 
     fn read(cursor: &mut Cursor<'a>, room: usize) -> Result<Self, Stop> {
         let direction = got!(read_direction(cursor));
-        let front = got!(read_param_type(cursor, room));
-        let (param_type, identifier) = got!(both(front, cursor.identifier()));
-        Ok(Param {
-            direction,
-            param_type,
-            identifier,
-        })
+        match then(read_param_type(cursor, room), cursor, room) {
+            Ok((param_type, identifier)) => Ok(Param {
+                direction,
+                param_type,
+                identifier,
+            }),
+            Err(stop) => Err(stop),
+        }
     }
 }
 
@@ -146,7 +147,7 @@ fn read_params<'a>(cursor: &mut Cursor<'a>, room: usize) -> Result<Option<Listed
     if cursor.is_mark(")") {
         return Ok(None);
     }
-    Ok(Some(got!(read_listed(cursor, room))))
+    read_listed(cursor, room).map(Some)
 }
 
 /// Takes `oneway`, if it is next.
@@ -164,7 +165,7 @@ fn read_result<'a>(cursor: &mut Cursor<'a>, room: usize) -> Result<Option<ParamT
     if cursor.take_keyword("void") {
         return Ok(None);
     }
-    Ok(Some(got!(read_param_type(cursor, room))))
+    read_param_type(cursor, room).map(Some)
 }
 
 /// Reads the parameters of an operation and what it raises.
@@ -174,8 +175,8 @@ fn read_signature<'a>(cursor: &mut Cursor<'a>, room: usize) -> Result<Signature<
     ensures levels { IfOk result (λ s. optional_levels (highest_listed param_levels) s.0 ≤ room) }
 {
     got!(cursor.mark("("));
-    let front = got!(read_params(cursor, room));
-    let params = got!(cursor.closed(front, ")"));
+    let read = read_params(cursor, room);
+    let params = got!(cursor.closed(read, ")"));
     both(params, read_raises(cursor, "raises"))
 }
 
@@ -201,8 +202,8 @@ fn read_ended_attribute<'a>(cursor: &mut Cursor<'a>, room: usize) -> Result<Attr
     ensures spells { IfOk result (λ a. Parsed cursor.old (attribute_yield a ++ mark (codes ";")) cursor.new) }
     ensures levels { IfOk result (λ a. attribute_levels a ≤ room) }
 {
-    let attribute = got!(read_attribute(cursor, room));
-    cursor.closed(attribute, ";")
+    let read = read_attribute(cursor, room);
+    cursor.closed(read, ";")
 }
 
 /// Reads an operation and the semicolon behind it.
@@ -210,8 +211,8 @@ fn read_ended_operation<'a>(cursor: &mut Cursor<'a>, room: usize) -> Result<Oper
     ensures spells { IfOk result (λ o. Parsed cursor.old (operation_yield o ++ mark (codes ";")) cursor.new) }
     ensures levels { IfOk result (λ o. operation_levels o ≤ room) }
 {
-    let operation = got!(read_operation(cursor, room));
-    cursor.closed(operation, ";")
+    let read = read_operation(cursor, room);
+    cursor.closed(read, ";")
 }
 
 fn read_export<'a>(cursor: &mut Cursor<'a>, room: usize) -> Result<Export<'a>, Stop>
@@ -222,12 +223,12 @@ fn read_export<'a>(cursor: &mut Cursor<'a>, room: usize) -> Result<Export<'a>, S
         return Ok(Export::Pragma(pragma));
     }
     if is_declaration(cursor) {
-        return Ok(Export::Declaration(got!(read_ended_declaration(cursor, room))));
+        return read_ended_declaration(cursor, room).map(Export::Declaration);
     }
     if cursor.is_keyword("readonly") || cursor.is_keyword("attribute") {
-        return Ok(Export::Attribute(got!(read_ended_attribute(cursor, room))));
+        return read_ended_attribute(cursor, room).map(Export::Attribute);
     }
-    Ok(Export::Operation(got!(read_ended_operation(cursor, room))))
+    read_ended_operation(cursor, room).map(Export::Operation)
 }
 
 /// Reads exports between braces.
@@ -239,11 +240,10 @@ fn read_exports<'a>(cursor: &mut Cursor<'a>, room: usize) -> Result<Vec<Export<'
     got!(cursor.mark("{"));
     let mut exports = Vec::new(cursor.alloc());
     'parts: while !cursor.is_mark("}") {
-        let export = got!(read_export(cursor, room));
-        got!(add(&mut exports, export));
+        got!(add_read(&mut exports, read_export(cursor, room)));
     }
     exports.shrink_to_fit();
-    cursor.closed(exports, "}")
+    cursor.closed(Ok(exports), "}")
 }
 
 /// Reads the bases of an interface, if it has any.
@@ -253,7 +253,7 @@ fn read_bases<'a>(cursor: &mut Cursor<'a>) -> Result<Option<Listed<ScopedName<'a
     if !cursor.take_mark(":") {
         return Ok(None);
     }
-    Ok(Some(got!(read_listed(cursor, 0))))
+    read_listed(cursor, 0).map(Some)
 }
 
 /// Reads an interface, or one that is declared ahead, which a semicolon tells.
@@ -283,6 +283,6 @@ pub(crate) fn read_ended_interface<'a>(
     ensures spells { IfOk result (λ i. Parsed cursor.old (interface_yield i ++ mark (codes ";")) cursor.new) }
     ensures levels { IfOk result (λ i. interface_levels i ≤ room) }
 {
-    let interface = got!(read_interface(cursor, room));
-    cursor.closed(interface, ";")
+    let read = read_interface(cursor, room);
+    cursor.closed(read, ";")
 }

@@ -1,7 +1,7 @@
 //! Lists with commas, and parts one behind another.
 #![tactic(auto, using(crate::proofs::Reading::past_append, crate::proofs::Reading::past_none))]
 
-ghost use Rattle.std.specs.Prelude.{◌≡◌, ◌++◌, ◌≤◌, ◌∷◌, [], ℕ, suc, List, Ok, IfOk, codes};
+ghost use Rattle.std.specs.Prelude.{◌≡◌, ◌++◌, ◌≤◌, ◌∷◌, [], ℕ, suc, List, Ok, IfOk, IsOkAnd, codes};
 ghost use Rattle.std.specs.List.{flat_map};
 ghost use Rattle.idl_parser.specs.Reading.{Parsed, Continued};
 ghost use Rattle.idl_tree.specs.Pieces.{Piece, keyword, mark};
@@ -11,7 +11,7 @@ ghost use Rattle.idl_tree.specs.Levels.{highest, highest_listed};
 use crate::cursor::Cursor;
 use crate::stop::Stop;
 use idl_tree::names::{Leaf, Listed};
-use std::alloc::Global;
+use std::alloc::{AllocError, Global};
 
 /// What stands between commas.
 pub(crate) trait Part<'a>: Sized + Drop {
@@ -34,12 +34,32 @@ pub(crate) fn add<T: Drop>(list: &mut Vec<T>, part: T) -> Result<(), Stop>
     }
 }
 
+/// Adds what was read to a list.
+pub(crate) fn add_read<T: Drop>(list: &mut Vec<T>, read: Result<T, Stop>) -> Result<(), Stop>
+    ensures { IfOk result (λ _. IsOkAnd read (λ part. list.new.items ≡ list.old.items ++ part ∷ [])) }
+{
+    match read {
+        Ok(part) => add(list, part),
+        Err(stop) => Err(stop),
+    }
+}
+
 /// A part in a box.
 pub(crate) fn boxed<T: Drop>(alloc: Global, part: T) -> Result<Box<T>, Stop>
     ensures { IfOk result (λ b. b.value ≡ part) }
 {
     match Box::new(alloc, part) {
         Ok(part) => Ok(part),
+        Err(_) => Err(Stop::NoMemory),
+    }
+}
+
+/// A node that was made.
+pub(crate) fn made<T: Drop>(node: Result<T, AllocError>) -> Result<T, Stop>
+    ensures { IfOk result (λ n. node ≡ Ok n) }
+{
+    match node {
+        Ok(node) => Ok(node),
         Err(_) => Err(Stop::NoMemory),
     }
 }
@@ -71,6 +91,21 @@ pub(crate) fn both<T: Drop, U: Drop>(first: T, second: Result<U, Stop>) -> Resul
     }
 }
 
+/// What was read, and the part that is read behind it.
+pub(crate) fn then<'a, T: Drop, U: Part<'a>>(
+    first: Result<T, Stop>,
+    cursor: &mut Cursor<'a>,
+    room: usize,
+) -> Result<(T, U), Stop>
+    ensures first { IfOk result (λ both. first ≡ Ok both.0) }
+    ensures spells { IfOk result (λ both. Parsed cursor.old (U.yield_of both.1) cursor.new) }
+    ensures levels { IfOk result (λ both. U.levels_of both.1 ≤ room) }
+{
+    let first = got!(first);
+    let second = got!(U::read(cursor, room));
+    Ok((first, second))
+}
+
 /// Reads further parts, each behind a comma.
 pub(crate) fn read_rest<'a, T: Part<'a>>(
     cursor: &mut Cursor<'a>,
@@ -83,8 +118,7 @@ pub(crate) fn read_rest<'a, T: Part<'a>>(
     let mut rest = Vec::new(cursor.alloc());
     'parts: while cursor.is_mark(",") {
         got!(cursor.mark(","));
-        let part = got!(T::read(cursor, room));
-        got!(add(&mut rest, part));
+        got!(add_read(&mut rest, T::read(cursor, room)));
     }
     rest.shrink_to_fit();
     Ok(rest)
@@ -101,4 +135,17 @@ pub(crate) fn read_listed<'a, T: Part<'a>>(
     let first = got!(T::read(cursor, room));
     let rest = got!(read_rest(cursor, room));
     Ok(Listed { first, rest })
+}
+
+impl<'a, T: Part<'a>> Part<'a> for Listed<T> {
+    ghost use Rattle.idl_tree.specs.Yields.{listed};
+    ghost use Rattle.idl_tree.specs.Levels.{highest_listed};
+
+    ghost yield_of = { listed T.yield_of };
+
+    ghost levels_of = { highest_listed T.levels_of };
+
+    fn read(cursor: &mut Cursor<'a>, room: usize) -> Result<Self, Stop> {
+        read_listed(cursor, room)
+    }
 }

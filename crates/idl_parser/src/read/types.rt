@@ -12,7 +12,7 @@ ghost use Rattle.idl_tree.specs.TypeLevels.{const_type_levels, param_type_levels
 
 use crate::cursor::Cursor;
 use crate::read::expressions::{read_bound, read_expr};
-use crate::read::lists::{Part, add, read_listed, read_opened};
+use crate::read::lists::{Part, add_read, both, made, read_listed, read_opened};
 use crate::read::names::read_scoped_name;
 use crate::stop::Stop;
 use idl_lexer::Kind;
@@ -52,8 +52,8 @@ fn read_string_bound<'a>(cursor: &mut Cursor<'a>, room: usize) -> Result<Option<
     if !cursor.take_mark("<") {
         return Ok(None);
     }
-    let bound = got!(read_bound(cursor, room));
-    Ok(Some(got!(cursor.closed(bound, ">"))))
+    let bound = read_bound(cursor, room);
+    cursor.closed(bound, ">").map(Some)
 }
 
 /// What begins a type that is a word alone, a string or a name.
@@ -67,15 +67,23 @@ enum Word {
     Other,
 }
 
+/// The keywords with which integer types begin.
+const INTEGERS: [&str; 3] = ["short", "long", "unsigned"];
+
 /// Which of these is next.
 fn next_word(cursor: &Cursor<'_>) -> Word {
-    match cursor.text(Kind::Keyword) {
-        Some("short" | "long" | "unsigned") => Word::Integer,
-        Some("char") => Word::Char,
-        Some("boolean") => Word::Boolean,
-        Some("octet") => Word::Octet,
-        Some("string") => Word::String,
-        _ => Word::Other,
+    if cursor.is_one_of(&INTEGERS) {
+        Word::Integer
+    } else if cursor.is_keyword("char") {
+        Word::Char
+    } else if cursor.is_keyword("boolean") {
+        Word::Boolean
+    } else if cursor.is_keyword("octet") {
+        Word::Octet
+    } else if cursor.is_keyword("string") {
+        Word::String
+    } else {
+        Word::Other
     }
 }
 
@@ -119,7 +127,7 @@ pub(crate) fn read_param_type<'a>(
     if cursor.take_keyword("Object") {
         return Ok(ParamType::Object);
     }
-    Ok(ParamType::Plain(got!(read_const_type(cursor, room))))
+    read_const_type(cursor, room).map(ParamType::Plain)
 }
 
 /// Reads the bound of a sequence, if it has one.
@@ -130,7 +138,7 @@ fn read_sequence_bound<'a>(cursor: &mut Cursor<'a>, room: usize) -> Result<Optio
     if !cursor.take_mark(",") {
         return Ok(None);
     }
-    Ok(Some(got!(read_bound(cursor, room))))
+    read_bound(cursor, room).map(Some)
 }
 
 pub(crate) fn read_simple_type<'a>(
@@ -141,13 +149,15 @@ pub(crate) fn read_simple_type<'a>(
     ensures levels { IfOk result (λ t. simple_type_levels t ≤ room) }
 {
     if !cursor.take_keyword("sequence") {
-        return Ok(SimpleType::Plain(got!(read_param_type(cursor, room))));
+        return read_param_type(cursor, room).map(SimpleType::Plain);
     }
     let left = got!(cursor.open("<", room));
     let element = got!(read_simple_type(cursor, left));
-    let bound = got!(read_sequence_bound(cursor, left));
-    got!(cursor.mark(">"));
-    made!(SimpleType::new_sequence(cursor.alloc(), element, bound))
+    let read = both(element, read_sequence_bound(cursor, left));
+    match cursor.closed(read, ">") {
+        Ok((element, bound)) => made(SimpleType::new_sequence(cursor.alloc(), element, bound)),
+        Err(stop) => Err(stop),
+    }
 }
 
 fn read_size<'a>(cursor: &mut Cursor<'a>, room: usize) -> Result<ConstExpr<'a>, Stop>
@@ -155,7 +165,7 @@ fn read_size<'a>(cursor: &mut Cursor<'a>, room: usize) -> Result<ConstExpr<'a>, 
     ensures levels { IfOk result (λ size. const_expr_levels size ≤ room) }
 {
     got!(cursor.mark("["));
-    let size = got!(read_expr(cursor, room));
+    let size = read_expr(cursor, room);
     cursor.closed(size, "]")
 }
 
@@ -166,8 +176,7 @@ fn read_sizes<'a>(cursor: &mut Cursor<'a>, room: usize) -> Result<Vec<ConstExpr<
 {
     let mut sizes = Vec::new(cursor.alloc());
     'parts: while cursor.is_mark("[") {
-        let size = got!(read_size(cursor, room));
-        got!(add(&mut sizes, size));
+        got!(add_read(&mut sizes, read_size(cursor, room)));
     }
     sizes.shrink_to_fit();
     Ok(sizes)

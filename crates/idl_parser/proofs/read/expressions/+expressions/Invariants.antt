@@ -16,13 +16,15 @@ decreases-read_primary l = 10 * length l.cursor.now + 1
 abbrev pub decreases-read_unary : goal.decreases-read_unary
 decreases-read_unary l = 10 * length l.cursor.now + 2
 
-abbrev pub invariant-read_level-parts : goal.invariant-read_level-parts
-invariant-read_level-parts l = record {
-  same : l.first ≡ l.initial.first;
+abbrev pub decreases-read_operands : goal.decreases-read_operands
+decreases-read_operands l = 10 * length l.cursor.now
+
+abbrev pub invariant-read_operands-parts : goal.invariant-read_operands-parts
+invariant-read_operands-parts l = record {
   spells : Continued l.initial.cursor (flat_map operand_yield l.rest.items) l.cursor;
   operands : AllByRecursion (IsOperandOf l.shifts l.level) l.rest.items;
   levels : highest operand_levels l.rest.items ≤ l.room;
 }
 
-abbrev pub decreases-read_level-parts : goal.decreases-read_level-parts
-decreases-read_level-parts l = length l.cursor
+abbrev pub decreases-read_operands-parts : goal.decreases-read_operands-parts
+decreases-read_operands-parts l = length l.cursor

@@ -1,12 +1,13 @@
+use Rattle.std.proofs.Common.{◌≤◌}
 use Rattle.idl_tree.specs.DefinitionYields.{interface_yield}
 use Rattle.idl_tree.specs.DefinitionLevels.{interface_levels}
-use Rattle.idl_parser.proofs.Pairs.{closed_part, closed_levels}
+use Rattle.idl_parser.proofs.Pairs.{closed_part, handed}
 use Rattle.idl_parser.proofs.read.interfaces.read_ended_interface.Goals as goal
 
 pub returns-clause-spells : goal.returns-clause-spells
 returns-clause-spells c =
-    closed_part _ _ interface_yield c.in-Ok.part c.closed.result c.in-Ok.ensures.spells c.closed.ensures.same c.closed.ensures.read
+    closed_part _ _ _ _ interface_yield c.read_interface-read.result c.closed.result c.read_interface-read.ensures.spells c.closed.ensures.same c.closed.ensures.read
 
 pub returns-clause-levels : goal.returns-clause-levels
 returns-clause-levels c =
-    closed_levels interface_levels c.args.room c.in-Ok.part c.closed.result c.in-Ok.ensures.levels c.closed.ensures.same
+    handed (λ p. interface_levels p ≤ c.args.room) c.read_interface-read.result c.closed.result c.read_interface-read.ensures.levels c.closed.ensures.same
