@@ -2,7 +2,7 @@
 use Rattle.std.proofs.Common.{◌≡◌, ◌∙◌, ◌++◌, ℕ, ◌+◌, zero, suc, ◌<◌, ◌≤◌, Bool, true, false, cond, nat_eq, List, [], ◌∷◌, Option, Some, None, drop, get_or, length, append_assoc, refl, sym, ap, arith}
 use Rattle.std.specs.List.{flat_map}
 use Rattle.std.proofs.Math.Seq.{drop-cons}
-use Rattle.idl_tree.specs.declared.definitions.Definition.{Definition, Module}
+use Rattle.idl_tree.specs.declared.definitions.Definition.{Module}
 use Rattle.idl_tree.specs.declared.definitions.Module.{Module as ModuleRecord}
 use Rattle.idl_tree.proofs.Rows.{module_walk}
 use Rattle.scoped_names.specs.Entry.{Entry}

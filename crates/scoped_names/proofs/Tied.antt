@@ -205,3 +205,16 @@ scope_fresh es e h =
     let is : is_named e.scope e.name e ≡ true = ap (λ b. b && same_but_for_case e.name e.name) (eq-eqb e.scope e.scope refl) ∙ same_itself e.name in
     let next : length es + 1 ≡ suc (length es) = omega arith in
     next ∙ sym (ap scope_number (named_push es e e.scope e.name ∙ ap (λ o. or_place o (cond (is_named e.scope e.name e) (Some (length es)) None)) h ∙ ap (λ b. cond b (Some (length es)) None) is))
+
+-- what was declared has a scope of its own
+pub scope_there : (es : List Entry) (e : Entry) → 1 ≤ scope_number (named (with_entry es e) e.scope e.name)
+scope_there es e = by (named es e.scope e.name) refl
+  where
+    by : (o : Option ℕ) → named es e.scope e.name ≡ o → 1 ≤ scope_number (named (with_entry es e) e.scope e.name)
+    by (Some k) is =
+        let there : 1 ≤ scope_number (named es e.scope e.name) = subst (λ o. 1 ≤ scope_number o) (sym is) (omega arith) in
+        subst (λ xs. 1 ≤ scope_number (named xs e.scope e.name)) (again es e k is) there
+    by None is =
+        let place = scope_fresh es e is in
+        let there : 1 ≤ scope_number (named (es ++ e ∷ []) e.scope e.name) = omega arith in
+        subst (λ xs. 1 ≤ scope_number (named xs e.scope e.name)) (fresh es e is) there

@@ -8,6 +8,7 @@ ghost use Rattle.scoped_names.specs.Entries.{declared, each, declarator_entries,
 
 use crate::entry::{Base, EntryKind, Meaning};
 use crate::fault::NameFault;
+use crate::reader::Reader;
 use crate::table::Table;
 use const_values::ConstKind;
 use idl_tree::definitions::{
@@ -19,6 +20,44 @@ use idl_tree::types::Declarator;
 use std::alloc::Global;
 
 impl<'a> Table<'a> {
+    /// Names of exceptions.
+    fn bind_raises(&self, scope: usize, names: &Listed<ScopedName<'a>>) -> Result<(), NameFault>
+        requires { scope ≤ length self.now }
+    {
+        for name in names.iter() {
+            let entry = self.resolve(scope, name)?;
+            if self.kind(entry) != EntryKind::Exception {
+                let line = name.start().token.line;
+                return Err(NameFault::NotAType { line });
+            }
+        }
+        Ok(())
+    }
+
+    /// What attributes raise.
+    fn bind_attributes_raise(
+        &self,
+        scope: usize,
+        attributes: &Attributes<'a>,
+    ) -> Result<(), NameFault>
+        requires { scope ≤ length self.now }
+    {
+        match attributes {
+            Attributes::Silent { .. } => Ok(()),
+            Attributes::Readonly { raises, .. } => self.bind_raises(scope, raises),
+            Attributes::Get { get, set, .. } => {
+                self.bind_raises(scope, get)?;
+                match set {
+                    Some(set) => self.bind_raises(scope, set),
+                    None => Ok(()),
+                }
+            }
+            Attributes::Set { set, .. } => self.bind_raises(scope, set),
+        }
+    }
+}
+
+impl<'a> Reader<'a> {
     /// A name for a type that is in the end of the kind, if it is a type of constants.
     fn declare_typedef(
         &mut self,
@@ -40,7 +79,8 @@ impl<'a> Table<'a> {
             stands_for: if is_array { None } else { kind },
         };
         self.declare_as(alloc, scope, identifier, meaning)?;
-        self.bind_sizes(alloc, scope, declarator.sizes.as_slice())
+        self.table
+            .bind_sizes(alloc, scope, declarator.sizes.as_slice())
     }
 
     fn bind_declarators(
@@ -99,9 +139,9 @@ impl<'a> Table<'a> {
         ensures told { OnOk result (self.new ≡ const_entries self.old scope c.now) }
         ensures longer { length self.old ≤ length self.new }
     {
-        let kind = self.bind_const_type(alloc, scope, &c.const_type)?;
+        let kind = self.table.bind_const_type(alloc, scope, &c.const_type)?;
         self.is_new(scope, c.identifier)?;
-        let worth = self.value_of_kind(alloc, scope, kind, &c.value.expr)?;
+        let worth = self.table.value_of_kind(alloc, scope, kind, &c.value.expr)?;
         let behind = c.value.expr.token_count() + 2;
         let Some(token) = c.identifier.number.checked_add(behind) else {
             return Err(NameFault::NoMemory);
@@ -147,20 +187,6 @@ impl<'a> Table<'a> {
         }
     }
 
-    /// Names of exceptions.
-    fn bind_raises(&self, scope: usize, names: &Listed<ScopedName<'a>>) -> Result<(), NameFault>
-        requires { scope ≤ length self.now }
-    {
-        for name in names.iter() {
-            let entry = self.resolve(scope, name)?;
-            if self.kind(entry) != EntryKind::Exception {
-                let line = name.start().token.line;
-                return Err(NameFault::NotAType { line });
-            }
-        }
-        Ok(())
-    }
-
     /// An operation or attribute, which may not repeat an inherited one.
     fn bind_feature(
         &mut self,
@@ -179,28 +205,6 @@ impl<'a> Table<'a> {
         }
         let inner = self.declare(alloc, scope, identifier, kind)?;
         Ok(inner)
-    }
-
-    /// What attributes raise.
-    fn bind_attributes_raise(
-        &self,
-        scope: usize,
-        attributes: &Attributes<'a>,
-    ) -> Result<(), NameFault>
-        requires { scope ≤ length self.now }
-    {
-        match attributes {
-            Attributes::Silent { .. } => Ok(()),
-            Attributes::Readonly { raises, .. } => self.bind_raises(scope, raises),
-            Attributes::Get { get, set, .. } => {
-                self.bind_raises(scope, get)?;
-                match set {
-                    Some(set) => self.bind_raises(scope, set),
-                    None => Ok(()),
-                }
-            }
-            Attributes::Set { set, .. } => self.bind_raises(scope, set),
-        }
     }
 
     fn bind_silent(
@@ -252,7 +256,7 @@ impl<'a> Table<'a> {
         ensures { self.new ≡ self.old }
     {
         for param in params.iter() {
-            self.bind_param_type(alloc, scope, &param.param_type)?;
+            self.table.bind_param_type(alloc, scope, &param.param_type)?;
             self.add_member(inner, param.identifier)?;
         }
         Ok(())
@@ -269,14 +273,14 @@ impl<'a> Table<'a> {
         ensures longer { length self.old ≤ length self.new }
     {
         if let Some(t) = &o.result_type {
-            self.bind_param_type(alloc, scope, t)?;
+            self.table.bind_param_type(alloc, scope, t)?;
         }
         let inner = self.bind_feature(alloc, scope, o.identifier, EntryKind::Operation)?;
         if let Some(params) = &o.params {
             self.bind_params(alloc, scope, inner, params)?;
         }
         match &o.raises {
-            Some(names) => self.bind_raises(scope, names),
+            Some(names) => self.table.bind_raises(scope, names),
             None => Ok(()),
         }
     }
@@ -291,9 +295,9 @@ impl<'a> Table<'a> {
         ensures told { OnOk result (self.new ≡ each (declared EntryKind.Attribute) self.old scope (attribute_identifiers a.now.declared)) }
         ensures longer { length self.old ≤ length self.new }
     {
-        self.bind_param_type(alloc, scope, &a.attribute_type)?;
+        self.table.bind_param_type(alloc, scope, &a.attribute_type)?;
         self.bind_attributes(alloc, scope, &a.declared)?;
-        self.bind_attributes_raise(scope, &a.declared)
+        self.table.bind_attributes_raise(scope, &a.declared)
     }
 
     fn bind_export(
@@ -329,13 +333,12 @@ impl<'a> Table<'a> {
         ensures longer { length self.old ≤ length self.new }
     {
         for name in names.iter() {
-            let entry = self.resolve(scope, name)?;
+            let entry = self.table.resolve(scope, name)?;
             let start = name.start();
             let base = Base {
                 token: start.number,
                 entry,
             };
-            self.shorten(alloc, entry.saturating_add(1))?;
             self.add_base(alloc, inner, base, start.token.line)?;
         }
         Ok(())

@@ -10,6 +10,7 @@ mod key;
 pub mod laws;
 pub mod names;
 mod pragmas;
+mod reader;
 mod record;
 mod repository_ids;
 mod search;

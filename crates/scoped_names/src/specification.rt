@@ -6,8 +6,8 @@ ghost use Rattle.scoped_names.specs.Whole.{AreNames};
 
 use crate::fault::NameFault;
 use crate::names::Names;
+use crate::reader::Reader;
 use crate::repository_ids::IdPragmas;
-use crate::table::Table;
 use idl_tree::spec::Spec;
 use std::alloc::Global;
 
@@ -27,8 +27,10 @@ pub fn bind<'a>(alloc: Global, spec: &Spec<'a>) -> Result<Names<'a>, NameFault>
         return Err(NameFault::NoMemory);
     }
     let definitions = spec.definitions.as_slice();
-    let mut table = Table::new(alloc)?;
-    let bound = table.bind_definitions(alloc, 0, definitions);
+    let mut reader = Reader::new(alloc)?;
+    let bound = reader.bind_definitions(alloc, 0, definitions);
+    let ahead = reader.all_defined();
+    let table = reader.into_table();
     let mut ids = IdPragmas::new(alloc);
     let read = ids.read_file(&table, definitions);
     match (bound, read) {
@@ -36,6 +38,6 @@ pub fn bind<'a>(alloc: Global, spec: &Spec<'a>) -> Result<Names<'a>, NameFault>
         (Err(fault), Ok(())) | (Ok(()), Err(fault)) => return Err(fault),
         (Err(fault), Err(other)) => return Err(fault.or_earlier(other)),
     }
-    table.all_defined()?;
+    ahead?;
     Ok(Names { table, ids })
 }

@@ -9,10 +9,10 @@ ghost use Rattle.scoped_names.specs.RepositoryIds.{name_in, path as path_of, rep
 ghost use Rattle.scoped_names.specs.IdPragmas.{begins_at_root, identifiers_find};
 ghost use Rattle.idl_lexer.specs.Identifiers.{words};
 ghost use Rattle.idl_lexer.specs.Words.{unescaped as unescaped_word};
-ghost use Rattle.scoped_names.specs.Entries.{declared, declared_as, scope_of, with_base};
+ghost use Rattle.scoped_names.specs.Entries.{scope_of, with_base, with_entry};
 ghost use Rattle.scoped_names.specs.Records.{heir_of as heir_in_records, entry_of, words_at, HasWord, is_word};
 
-use crate::entry::{Base, EntryKind, Meaning};
+use crate::entry::{Base, EntryKind};
 use crate::fault::NameFault;
 use crate::key::{Key, Word};
 use crate::record::{Heir, Record};
@@ -20,7 +20,7 @@ use crate::repository_ids::{IdPragmas, path_to};
 use crate::search::Found;
 use crate::shortcuts::{Place, Shortcut, Step};
 use const_values::{ConstKind, Constant};
-use idl_lexer::{Identifiers, Kind, Pragma, is_rooted};
+use idl_lexer::{Identifiers, is_rooted};
 use idl_tree::names::{Leaf, ScopedName};
 use indexmap::{IndexMap, IndexSet};
 use std::alloc::{AllocError, Global};
@@ -35,12 +35,6 @@ pub(crate) struct Table<'a> {
     pub(crate) words: Vec<Vec<Word<'a>>>,
     /// The token of the last base.
     pub(crate) latest: usize,
-    /// The members and parameters that each scope has; no search finds them.
-    members: IndexSet<Key<'a>>,
-    /// The entries of which a definition was read.
-    defined: IndexSet<usize>,
-    /// The prefix of repository ids that is set.
-    prefix: &'a str,
     /// Ways from scopes over several bases at once.
     pub(crate) shortcuts: IndexMap<usize, Shortcut<'a>>,
     /// How many words the ways have.
@@ -105,9 +99,6 @@ impl<'a> Table<'a> {
             records: Vec::new(alloc),
             words,
             latest: 0,
-            members: IndexSet::new(alloc),
-            defined: IndexSet::new(alloc),
-            prefix: "",
             shortcuts: IndexMap::new(alloc),
             noted: 0,
         })
@@ -284,6 +275,39 @@ impl<'a> Table<'a> {
         self.records[entry].stands_for
     }
 
+    /// The prefix of repository ids at an entry's first declaration.
+    pub(crate) fn prefix(&self, entry: usize) -> &'a str
+        requires { entry < length self.now }
+    {
+        self.records[entry].prefix
+    }
+
+    pub(crate) fn is_feature(&self, entry: usize) -> bool {
+        match self.records.get(entry) {
+            Some(record) => {
+                record.kind == EntryKind::Operation || record.kind == EntryKind::Attribute
+            }
+            None => false,
+        }
+    }
+
+    /// Whether it is the name of the scope itself, which can't be declared in it. The scope of an
+    /// operation has no name.
+    pub(crate) fn is_own_name(&self, key: &Key<'a>) -> bool {
+        let Some(entry) = key.scope.checked_sub(1) else {
+            return false;
+        };
+        match self.records.get(entry) {
+            Some(record) => { record.kind != EntryKind::Operation && record.key.word == key.word }
+            None => false,
+        }
+    }
+
+    /// Whether the bases of a scope that are named before the token give something.
+    pub(crate) fn inherits(&self, token: usize, scope: usize, text: &'a str) -> bool {
+        self.inherited(token, scope, text) != Found::Nothing
+    }
+
     pub(crate) fn line(&self, entry: usize) -> usize
         requires { entry < length self.now }
     {
@@ -364,18 +388,6 @@ impl<'a> Table<'a> {
         path_to(alloc, self.records.as_slice(), entry)
     }
 
-    /// Whether the scope has a member of the word, or has the word for its own name.
-    fn is_taken(&self, key: &Key<'a>) -> bool {
-        let own = match key.scope.checked_sub(1) {
-            Some(entry) => match self.records.get(entry) {
-                Some(record) => record.key.word == key.word,
-                None => false,
-            },
-            None => false,
-        };
-        own || self.members.contains(key)
-    }
-
     /// Puts an entry behind the others.
     fn push(&mut self, alloc: Global, declared: Record<'a>) -> Result<(), NameFault>
         requires scope { declared.key.scope ≤ length self.old }
@@ -402,28 +414,21 @@ impl<'a> Table<'a> {
         }
     }
 
-    /// Whether an entry may appear again as what it appears here.
-    fn appears_again(
-        &self,
-        number: usize,
-        text: &str,
-        kind: EntryKind,
-        line: usize,
-    ) -> Result<(), NameFault> {
-        let Some(record) = self.records.get(number) else {
-            return Ok(());
-        };
-        let can_reappear = match kind {
-            EntryKind::Module | EntryKind::Interface | EntryKind::Struct | EntryKind::Union => true,
-            _ => false,
-        };
-        if !can_reappear || kind != record.kind || text != record.key.word.text {
-            return Err(NameFault::Collides { line });
+    /// Puts an entry behind the others, unless its scope has its name already.
+    ///
+    /// # Errors
+    ///
+    /// `NoMemory`.
+    pub(crate) fn add(&mut self, alloc: Global, declared: Record<'a>) -> Result<(), NameFault>
+        requires scope { declared.key.scope ≤ length self.old }
+        requires plain { declared.heir ≡ None }
+        ensures told { OnOk result (self.new ≡ with_entry self.old (entry_of declared.entry)) }
+        ensures err { OnErr result (self.new ≡ self.old) }
+    {
+        match self.keys.get_index_of(&declared.key) {
+            Some(_) => Ok(()),
+            None => self.push(alloc, declared),
         }
-        if kind != EntryKind::Module && self.prefix.as_bytes() != record.prefix.as_bytes() {
-            return Err(NameFault::PrefixDiffers { line });
-        }
-        Ok(())
     }
 
     /// How many entries there are.
@@ -432,151 +437,6 @@ impl<'a> Table<'a> {
         ensures distinct { AreDistinct self.now }
     {
         self.keys.len()
-    }
-
-    /// Declares an identifier in a scope as what is meant. Gives the scope that the declaration has.
-    ///
-    /// # Errors
-    ///
-    /// `Collides` or `PrefixDiffers`, with the identifier's line, or `NoMemory`.
-    pub(crate) fn declare_as(
-        &mut self,
-        alloc: Global,
-        scope: usize,
-        identifier: Leaf<'a>,
-        meaning: Meaning,
-    ) -> Result<usize, NameFault>
-        requires { scope ≤ length self.old }
-        ensures told { OnOk result (self.new ≡ declared_as meaning self.old scope identifier.entry) }
-        ensures inner { IfOk result (λ r. r ≡ scope_of self.new scope identifier.entry) }
-        ensures within { IfOk result (λ r. (r ≤ length self.new) × (1 ≤ r)) }
-        ensures longer { length self.old ≤ length self.new }
-    {
-        let line = identifier.token.line;
-        let word = Word {
-            text: identifier.name(),
-        };
-        let key = Key { scope, word };
-        if self.is_taken(&key) {
-            return Err(NameFault::Collides { line });
-        }
-        match self.keys.get_index_of(&key) {
-            Some(number) => {
-                self.appears_again(number, word.text, meaning.kind, line)?;
-                Ok(number + 1)
-            }
-            None => {
-                let number = self.records.len();
-                let prefix = self.prefix;
-                self.push(
-                    alloc,
-                    Record {
-                        key,
-                        token: meaning.token,
-                        line,
-                        kind: meaning.kind,
-                        worth: meaning.worth,
-                        stands_for: meaning.stands_for,
-                        prefix,
-                        heir: None,
-                    },
-                )?;
-                Ok(number + 1)
-            }
-        }
-    }
-
-    /// Declares an identifier as something that is found behind it.
-    ///
-    /// # Errors
-    ///
-    /// As `declare_as`.
-    pub(crate) fn declare(
-        &mut self,
-        alloc: Global,
-        scope: usize,
-        identifier: Leaf<'a>,
-        kind: EntryKind,
-    ) -> Result<usize, NameFault>
-        requires { scope ≤ length self.old }
-        ensures told { OnOk result (self.new ≡ declared kind self.old scope identifier.entry) }
-        ensures inner { IfOk result (λ r. r ≡ scope_of self.new scope identifier.entry) }
-        ensures within { IfOk result (λ r. (r ≤ length self.new) × (1 ≤ r)) }
-        ensures longer { length self.old ≤ length self.new }
-    {
-        self.declare_as(
-            alloc,
-            scope,
-            identifier,
-            Meaning::plain(identifier.number, kind),
-        )
-    }
-
-    /// That a scope has no such name yet.
-    ///
-    /// # Errors
-    ///
-    /// `Collides`, with the identifier's line.
-    pub(crate) fn is_new(&self, scope: usize, identifier: Leaf<'a>) -> Result<(), NameFault> {
-        let word = Word {
-            text: identifier.name(),
-        };
-        let key = Key { scope, word };
-        if self.is_taken(&key) || self.keys.contains(&key) {
-            let line = identifier.token.line;
-            return Err(NameFault::Collides { line });
-        }
-        Ok(())
-    }
-
-    /// Notes that a scope is defined here.
-    ///
-    /// # Errors
-    ///
-    /// `Collides` where it was defined before, or `NoMemory`.
-    pub(crate) fn define(&mut self, scope: usize, line: usize) -> Result<(), NameFault>
-        ensures { self.new ≡ self.old }
-    {
-        if self.defined.insert(scope)? {
-            Ok(())
-        } else {
-            Err(NameFault::Collides { line })
-        }
-    }
-
-    /// Notes a member of a scope, which no search finds.
-    ///
-    /// # Errors
-    ///
-    /// `Collides` where the scope has the name already, or `NoMemory`.
-    pub(crate) fn add_member(&mut self, scope: usize, identifier: Leaf<'a>) -> Result<(), NameFault>
-        ensures { self.new ≡ self.old }
-    {
-        self.is_new(scope, identifier)?;
-        let word = Word {
-            text: identifier.name(),
-        };
-        let key = Key { scope, word };
-        self.members.insert(key)?;
-        Ok(())
-    }
-
-    /// Whether the bases of a scope give an operation or attribute of the name.
-    pub(crate) fn inherits_feature(&self, scope: usize, identifier: Leaf<'a>) -> bool {
-        match self.inherited(identifier.number, scope, identifier.name()) {
-            Found::One(entry) => self.is_feature(entry),
-            Found::Nothing => false,
-            Found::Several => true,
-        }
-    }
-
-    pub(crate) fn is_feature(&self, entry: usize) -> bool {
-        match self.records.get(entry) {
-            Some(record) => {
-                record.kind == EntryKind::Operation || record.kind == EntryKind::Attribute
-            }
-            None => false,
-        }
     }
 
     /// The scope of what an identifier was declared as; the file's where it was declared as nothing.
@@ -633,24 +493,8 @@ impl<'a> Table<'a> {
         (found, found != sought)
     }
 
-    /// A prefix that holds from here on, if a pragma in the file's scope sets one.
-    pub(crate) fn bind_pragma(&mut self, scope: usize, leaf: &Leaf<'a>)
-        ensures { self.new ≡ self.old }
-    {
-        if scope > 0 {
-            return;
-        }
-        match leaf.token.kind {
-            Kind::Pragma => {
-                if let Pragma::Prefix { text } = leaf.pragma() {
-                    self.prefix = text;
-                }
-            }
-            _ => {}
-        }
-    }
-
-    /// Gives an interface one more base, which has to be an interface that was defined.
+    /// Gives an interface one more base, which has to be new and to have no other operation or
+    /// attribute of a name of those before.
     ///
     /// # Errors
     ///
@@ -665,46 +509,18 @@ impl<'a> Table<'a> {
         requires inner { inner ≤ length self.old }
         requires placed { base.entry < length self.old }
         ensures told { OnOk result (self.new ≡ with_base self.old inner base) }
-        ensures longer { length self.old ≤ length self.new }
+        ensures count { length self.new ≡ length self.old }
     {
         let Some(number) = inner.checked_sub(1) else {
             return Err(NameFault::BadBase { line });
         };
         let has_heirs = self.shortcuts.contains_key(&inner);
-        if base.token <= self.latest || !self.may_be_base(base.entry) || has_heirs {
+        if base.token <= self.latest || has_heirs {
             return Err(NameFault::BadBase { line });
         }
         let heir = self.heir_for(alloc, inner, base, line)?;
         self.records[number].heir = Some(heir);
         self.latest = base.token;
-        Ok(())
-    }
-
-    /// An interface that was defined.
-    fn may_be_base(&self, entry: usize) -> bool {
-        match self.records.get(entry) {
-            Some(record) => {
-                record.kind == EntryKind::Interface && self.defined.contains(&(entry + 1))
-            }
-            None => false,
-        }
-    }
-
-    /// That each structure and union that is declared ahead is defined.
-    ///
-    /// # Errors
-    ///
-    /// `Unknown` with the line of the first declaration.
-    pub(crate) fn all_defined(&self) -> Result<(), NameFault>
-        ensures distinct { AreDistinct self.now }
-    {
-        for number in 0..self.len() {
-            let record = &self.records[number];
-            let has_body = record.kind == EntryKind::Struct || record.kind == EntryKind::Union;
-            if has_body && !self.defined.contains(&(number + 1)) {
-                return Err(NameFault::Unknown { line: record.line });
-            }
-        }
         Ok(())
     }
 }

@@ -8,6 +8,7 @@ ghost use Rattle.scoped_names.specs.Entries.{type_kind, enumerator_entries, enum
 
 use crate::entry::{EntryKind, Meaning};
 use crate::fault::NameFault;
+use crate::reader::Reader;
 use crate::table::Table;
 use const_values::{ConstKind, Constant};
 use idl_tree::names::{Leaf, Listed, ScopedName};
@@ -18,54 +19,6 @@ use idl_tree::types::{
 use std::alloc::Global;
 
 impl<'a> Table<'a> {
-    /// An enumeration and its enumerators.
-    pub(crate) fn bind_enum(
-        &mut self,
-        alloc: Global,
-        scope: usize,
-        e: &EnumType<'a>,
-    ) -> Result<(), NameFault>
-        requires { scope ≤ length self.old }
-        ensures told { OnOk result (self.new ≡ enum_entries self.old scope e.now) }
-        ensures longer { length self.old ≤ length self.new }
-    {
-        let owner = self.len();
-        let meaning = Meaning {
-            token: e.identifier.number,
-            kind: EntryKind::Enum,
-            worth: None,
-            stands_for: Some(ConstKind::Enum(owner)),
-        };
-        self.declare_as(alloc, scope, e.identifier, meaning)?;
-        for enumerator in e.enumerators.iter() {
-            self.declare_enumerator(alloc, scope, *enumerator, owner)?;
-        }
-        Ok(())
-    }
-
-    /// An enumerator of the enumeration that is the entry `owner`.
-    fn declare_enumerator(
-        &mut self,
-        alloc: Global,
-        scope: usize,
-        identifier: Leaf<'a>,
-        owner: usize,
-    ) -> Result<(), NameFault>
-        requires { scope ≤ length self.old }
-        ensures told { OnOk result (self.new ≡ enumerator_entries owner self.old scope identifier.entry) }
-        ensures longer { length self.old ≤ length self.new }
-    {
-        let enumerator = self.len();
-        let meaning = Meaning {
-            token: identifier.number,
-            kind: EntryKind::Enumerator,
-            worth: Some(Constant::Enumerator { enumerator, owner }),
-            stands_for: None,
-        };
-        self.declare_as(alloc, scope, identifier, meaning)?;
-        Ok(())
-    }
-
     /// A name that stands for a type.
     fn bind_type_name(&self, scope: usize, name: &ScopedName<'a>) -> Result<usize, NameFault>
         requires { scope ≤ length self.now }
@@ -150,6 +103,73 @@ impl<'a> Table<'a> {
         }
     }
 
+    /// The labels of a case.
+    fn bind_labels(
+        &self,
+        alloc: Global,
+        scope: usize,
+        labels: &Listed<Label<'a>>,
+    ) -> Result<(), NameFault>
+        requires { scope ≤ length self.now }
+    {
+        for label in labels.iter() {
+            if let Label::Case(value) = label {
+                self.value(alloc, scope, &value.expr)?;
+            }
+        }
+        Ok(())
+    }
+}
+
+impl<'a> Reader<'a> {
+    /// An enumeration and its enumerators.
+    pub(crate) fn bind_enum(
+        &mut self,
+        alloc: Global,
+        scope: usize,
+        e: &EnumType<'a>,
+    ) -> Result<(), NameFault>
+        requires { scope ≤ length self.old }
+        ensures told { OnOk result (self.new ≡ enum_entries self.old scope e.now) }
+        ensures longer { length self.old ≤ length self.new }
+    {
+        let owner = self.table.len();
+        let meaning = Meaning {
+            token: e.identifier.number,
+            kind: EntryKind::Enum,
+            worth: None,
+            stands_for: Some(ConstKind::Enum(owner)),
+        };
+        self.declare_as(alloc, scope, e.identifier, meaning)?;
+        for enumerator in e.enumerators.iter() {
+            self.declare_enumerator(alloc, scope, *enumerator, owner)?;
+        }
+        Ok(())
+    }
+
+    /// An enumerator of the enumeration that is the entry `owner`.
+    fn declare_enumerator(
+        &mut self,
+        alloc: Global,
+        scope: usize,
+        identifier: Leaf<'a>,
+        owner: usize,
+    ) -> Result<(), NameFault>
+        requires { scope ≤ length self.old }
+        ensures told { OnOk result (self.new ≡ enumerator_entries owner self.old scope identifier.entry) }
+        ensures longer { length self.old ≤ length self.new }
+    {
+        let enumerator = self.table.len();
+        let meaning = Meaning {
+            token: identifier.number,
+            kind: EntryKind::Enumerator,
+            worth: Some(Constant::Enumerator { enumerator, owner }),
+            stands_for: None,
+        };
+        self.declare_as(alloc, scope, identifier, meaning)?;
+        Ok(())
+    }
+
     fn bind_switch(
         &mut self,
         alloc: Global,
@@ -163,7 +183,7 @@ impl<'a> Table<'a> {
         match switch {
             SwitchType::Enum(e) => self.bind_enum(alloc, scope, e),
             SwitchType::Name(name) => {
-                self.bind_type_name(scope, name)?;
+                self.table.bind_type_name(scope, name)?;
                 Ok(())
             }
             SwitchType::Integer(_) | SwitchType::Char | SwitchType::Boolean => Ok(()),
@@ -181,24 +201,8 @@ impl<'a> Table<'a> {
         ensures { self.new ≡ self.old }
     {
         self.add_member(scope, declarator.identifier)?;
-        self.bind_sizes(alloc, scope, declarator.sizes.as_slice())
-    }
-
-    /// The labels of a case.
-    fn bind_labels(
-        &self,
-        alloc: Global,
-        scope: usize,
-        labels: &Listed<Label<'a>>,
-    ) -> Result<(), NameFault>
-        requires { scope ≤ length self.now }
-    {
-        for label in labels.iter() {
-            if let Label::Case(value) = label {
-                self.value(alloc, scope, &value.expr)?;
-            }
-        }
-        Ok(())
+        self.table
+            .bind_sizes(alloc, scope, declarator.sizes.as_slice())
     }
 
     /// The declarators of members.
@@ -231,7 +235,7 @@ impl<'a> Table<'a> {
         ensures longer { length self.old ≤ length self.new }
     {
         match t {
-            TypeSpec::Simple(simple) => self.bind_simple(alloc, scope, simple),
+            TypeSpec::Simple(simple) => self.table.bind_simple(alloc, scope, simple),
             TypeSpec::Struct(s) => {
                 self.bind_struct(alloc, scope, s)?;
                 Ok(None)
@@ -241,7 +245,7 @@ impl<'a> Table<'a> {
                 Ok(None)
             }
             TypeSpec::Enum(e) => {
-                let kind = ConstKind::Enum(self.len());
+                let kind = ConstKind::Enum(self.table.len());
                 self.bind_enum(alloc, scope, e)?;
                 Ok(Some(kind))
             }
@@ -290,7 +294,7 @@ impl<'a> Table<'a> {
         ensures told { OnOk result (self.new ≡ case_entries self.old scope case.now) }
         ensures longer { length self.old ≤ length self.new }
     {
-        self.bind_labels(alloc, scope, &case.labels)?;
+        self.table.bind_labels(alloc, scope, &case.labels)?;
         self.bind_type(alloc, scope, &case.member_type)?;
         self.bind_declarator(alloc, scope, &case.declarator)
     }

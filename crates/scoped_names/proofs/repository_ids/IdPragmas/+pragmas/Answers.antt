@@ -1,4 +1,4 @@
-use Rattle.std.proofs.Common.{◌≡◌, ◌∙◌, ◌++◌, ◌<◌, OnOk, ap, sym, subst, drop, length, arith}
+use Rattle.std.proofs.Common.{◌∙◌, ◌++◌, OnOk, ap, sym, subst, drop, arith}
 use Rattle.std.specs.List.{flat_map}
 use Rattle.scoped_names.specs.IdPragmas.{definition_ids}
 use Rattle.scoped_names.specs.Whole.{AreBehind}

@@ -1,4 +1,4 @@
-use Rattle.std.proofs.Common.{◌≡◌, ◌∙◌, ◌++◌, ◌<◌, drop, length, arith}
+use Rattle.std.proofs.Common.{◌∙◌, ◌++◌, drop, arith}
 use Rattle.std.specs.List.{flat_map}
 use Rattle.scoped_names.specs.IdPragmas.{export_ids}
 use Rattle.scoped_names.proofs.GivenBehind.{drop_none, given_all, given_from}

@@ -1,4 +1,4 @@
-use Rattle.std.proofs.Common.{◌≡◌, ◌∙◌, ◌++◌, ◌+◌, ◌<◌, append_assoc, ap, sym, drop, length, arith}
+use Rattle.std.proofs.Common.{◌∙◌, ◌++◌, ◌+◌, append_assoc, ap, sym, drop, arith}
 use Rattle.std.specs.List.{flat_map}
 use Rattle.scoped_names.specs.IdPragmas.{definition_ids, definition_prefixes}
 use Rattle.scoped_names.proofs.GivenBehind.{drop_none, given_all, given_from, parts_from}

@@ -1,4 +1,4 @@
-use Rattle.std.proofs.Common.{◌≡◌, ◌∙◌, OnOk, ap, sym, subst}
+use Rattle.std.proofs.Common.{◌∙◌, OnOk, ap, sym, subst}
 use Rattle.std.specs.List.{flat_map}
 use Rattle.scoped_names.specs.IdPragmas.{export_ids, interface_ids}
 use Rattle.scoped_names.specs.Whole.{AreBehind}

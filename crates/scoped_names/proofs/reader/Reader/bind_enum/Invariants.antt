@@ -1,7 +1,7 @@
 use Rattle.std.proofs.Common.{◌≡◌, ◌≤◌, length}
 use Rattle.idl_tree.specs.PartsLeft.{parts_left}
 use Rattle.scoped_names.specs.Entries.{each, enum_entries, enumerator_entries}
-use Rattle.scoped_names.proofs.table.Table.bind_enum.Given as goal
+use Rattle.scoped_names.proofs.reader.Reader.bind_enum.Given as goal
 
 abbrev pub invariant-loop-enumerator : goal.invariant-loop-enumerator
 invariant-loop-enumerator l = record {

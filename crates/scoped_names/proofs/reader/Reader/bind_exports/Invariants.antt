@@ -1,6 +1,6 @@
 use Rattle.std.proofs.Common.{◌≡◌, ◌≤◌, drop, length}
 use Rattle.scoped_names.specs.Entries.{each, export_entries}
-use Rattle.scoped_names.proofs.table.Table.bind_exports.Given as goal
+use Rattle.scoped_names.proofs.reader.Reader.bind_exports.Given as goal
 
 abbrev pub invariant-loop-export : goal.invariant-loop-export
 invariant-loop-export l = record {

@@ -2,7 +2,7 @@ use Rattle.std.proofs.Common.{◌≡◌, ◌≤◌, length}
 use Rattle.idl_tree.specs.Lists.{parts}
 use Rattle.idl_tree.specs.PartsLeft.{parts_left}
 use Rattle.scoped_names.specs.Entries.{inheriting}
-use Rattle.scoped_names.proofs.table.Table.bind_bases.Given as goal
+use Rattle.scoped_names.proofs.reader.Reader.bind_bases.Given as goal
 
 abbrev pub invariant-loop-name : goal.invariant-loop-name
 invariant-loop-name l = record {

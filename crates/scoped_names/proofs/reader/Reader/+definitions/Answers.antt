@@ -2,7 +2,7 @@ use Rattle.std.proofs.Common.{◌≡◌, length, ap, arith}
 use Rattle.std.specs.List.{flat_map}
 use Rattle.idl_tree.specs.DefinitionYields.{definition_yield}
 use Rattle.scoped_names.proofs.Walks.{module_length, module_start, part_length}
-use Rattle.scoped_names.proofs.table.Table.+definitions.Goals as goal
+use Rattle.scoped_names.proofs.reader.Reader.+definitions.Goals as goal
 
 pub bind_definition-bind_definitions-requires : goal.bind_definition-bind_definitions-requires
 bind_definition-bind_definitions-requires t c =

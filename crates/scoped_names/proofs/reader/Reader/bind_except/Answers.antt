@@ -1,7 +1,7 @@
 use Rattle.std.proofs.Common.{◌+◌, ◌∙◌, drop, ap, arith}
 use Rattle.scoped_names.specs.Entries.{each, member_entries}
 use Rattle.scoped_names.proofs.Walks.{each_from, except_start}
-use Rattle.scoped_names.proofs.table.Table.bind_except.Goals as goal
+use Rattle.scoped_names.proofs.reader.Reader.bind_except.Goals as goal
 
 pub loop-member-init : goal.loop-member-init
 loop-member-init c =

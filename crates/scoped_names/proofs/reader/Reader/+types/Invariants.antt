@@ -1,6 +1,6 @@
 use Rattle.std.proofs.Common.{◌≡◌, ◌≤◌, drop, length}
 use Rattle.scoped_names.specs.Entries.{case_entries, each, member_entries, struct_entries, union_entries}
-use Rattle.scoped_names.proofs.table.Table.+types.Given as goal
+use Rattle.scoped_names.proofs.reader.Reader.+types.Given as goal
 
 abbrev pub invariant-bind_struct-loop-member : goal.invariant-bind_struct-loop-member
 invariant-bind_struct-loop-member l = record {

@@ -1,6 +1,6 @@
 use Rattle.std.proofs.Common.{◌≡◌, ◌≤◌, drop, length}
 use Rattle.scoped_names.specs.Entries.{each, except_entries, member_entries}
-use Rattle.scoped_names.proofs.table.Table.bind_except.Given as goal
+use Rattle.scoped_names.proofs.reader.Reader.bind_except.Given as goal
 
 abbrev pub invariant-loop-member : goal.invariant-loop-member
 invariant-loop-member l = record {

@@ -3,7 +3,7 @@ use Rattle.idl_tree.specs.Lists.{parts}
 use Rattle.idl_tree.specs.PartsLeft.{parts_left}
 use Rattle.scoped_names.specs.declared.entry.EntryKind.TheVariants.{Attribute}
 use Rattle.scoped_names.specs.Entries.{declared, each}
-use Rattle.scoped_names.proofs.table.Table.bind_silent.Given as goal
+use Rattle.scoped_names.proofs.reader.Reader.bind_silent.Given as goal
 
 abbrev pub invariant-loop-identifier : goal.invariant-loop-identifier
 invariant-loop-identifier l = record {

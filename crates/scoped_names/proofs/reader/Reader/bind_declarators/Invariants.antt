@@ -2,7 +2,7 @@ use Rattle.std.proofs.Common.{◌≡◌, ◌≤◌, length}
 use Rattle.idl_tree.specs.Lists.{parts}
 use Rattle.idl_tree.specs.PartsLeft.{parts_left}
 use Rattle.scoped_names.specs.Entries.{declarator_entries, each}
-use Rattle.scoped_names.proofs.table.Table.bind_declarators.Given as goal
+use Rattle.scoped_names.proofs.reader.Reader.bind_declarators.Given as goal
 
 abbrev pub invariant-loop-declarator : goal.invariant-loop-declarator
 invariant-loop-declarator l = record {

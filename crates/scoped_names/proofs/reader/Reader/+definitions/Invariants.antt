@@ -2,7 +2,7 @@ use Rattle.std.proofs.Common.{◌≡◌, ◌≤◌, ◌+◌, ◌*◌, drop, leng
 use Rattle.std.specs.List.{flat_map}
 use Rattle.idl_tree.specs.DefinitionYields.{definition_yield}
 use Rattle.scoped_names.specs.Entries.{each, definition_entries}
-use Rattle.scoped_names.proofs.table.Table.+definitions.Given as goal
+use Rattle.scoped_names.proofs.reader.Reader.+definitions.Given as goal
 
 abbrev pub invariant-bind_definitions-loop-definition : goal.invariant-bind_definitions-loop-definition
 invariant-bind_definitions-loop-definition l = record {

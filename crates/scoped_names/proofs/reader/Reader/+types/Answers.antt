@@ -1,7 +1,7 @@
 use Rattle.std.proofs.Common.{◌≡◌, ◌+◌, ◌∙◌, drop, ap, length, arith}
 use Rattle.scoped_names.specs.Entries.{case_entries, each, member_entries}
 use Rattle.scoped_names.proofs.Walks.{each_from, struct_start, union_start}
-use Rattle.scoped_names.proofs.table.Table.+types.Goals as goal
+use Rattle.scoped_names.proofs.reader.Reader.+types.Goals as goal
 
 pub bind_struct-loop-member-init : goal.bind_struct-loop-member-init
 bind_struct-loop-member-init t c =
