@@ -1,14 +1,13 @@
-"""Shows that no public call passes with a body that always wants memory.
+"""Shows that no public call passes with a body that always answers want of memory.
 
-Each contract allows want of memory at any time, so a body that always answers it is proved, and only a test tells it
-from the right one. `calls` lists the public calls that may answer it, and for each a test that fails where its body
-begins with
+Each contract allows want of memory at any time, so such a body is proved, and only a test tells it from the right one.
+`calls` lists the public calls that may answer it, and for each a test that fails where its body begins with
 
     if planted::is_planted(17) && CONDITION { return Err(FAULT); }
 
-The named tests of a folder are built once, with such a line in each call that they show, in copies of the crates. A test
-stands there once more for each of its calls, under a name that ends in the call's number, which `is_planted` finds among
-the words that the program was started with. So one build shows both that a test passes and that it fails.
+The named tests of a folder are built once, with such a line in each call that they show, in copies of the crates. A
+test stands there once more for each of its calls, under a name that ends in the call's number, which `is_planted` finds
+among the words that the program was started with. So one build shows both that a test passes and that it fails.
 
 A public call that may answer want of memory and isn't in the list fails as well. A part is CRATE, CRATE.FUNCTION or
 CRATE.TYPE.FUNCTION: these calls alone.
@@ -23,10 +22,10 @@ from driver.workspace import TOP, listed_crates
 
 PLANTED = TESTS / "no_memory" / "planted"
 
-# a test of a file: the comment above it, and its text behind the mark in parts
+# a test: the comment above it, its mark with `fn`, the blanks before these, its name, the rest
 TEST = re.compile(r"((?: *///.*\n)*)(( *)#\[test\]\n *fn )(\w+)(\(.*\{\n(?s:.*?)^\3\}\n)", re.MULTILINE)
 
-# what a body answers where memory is wanted; for others the error's NoMemory
+# how these errors tell of want of memory; the others have a variant NoMemory
 FAULTS = {"AllocError": "std::alloc::AllocError", "Failed": "Failed", "fmt::Error": "fmt::Error"}
 
 
@@ -98,7 +97,7 @@ def missing_calls(calls):
 
 
 def plant(workspace, calls):
-    """Writes the bodies' first lines into the copies of the crates, and has these use the crate that chooses."""
+    """Writes the first lines of the bodies into the copies of the crates, and has these use the crate that chooses."""
     for path in {call.function.path for call in calls}:
         lines = path.read_text().splitlines(keepends=True)
         for call in calls:
@@ -129,7 +128,8 @@ def crate_of_tests(workspace, folder, calls):
         workspace.copy_crates([folder])
         crate = workspace.folder / "crates" / folder
     for path in (crate / "src").glob("*.rt"):
-        repeat_tests(path, [call for call in calls if call.module in (path.stem, "tests" if path.stem == "lib" else "")])
+        module = "tests" if path.stem == "lib" else path.stem
+        repeat_tests(path, [call for call in calls if call.module == module])
     return crate
 
 

@@ -6,6 +6,7 @@ import re
 
 from driver.workspace import TOP, listed_crates
 
+# the parameters of an implementation, as `<'a, T: Read>`
 GENERICS = r"(?:<(?:[^<>]|<[^<>]*>)*>)?"
 
 
@@ -103,6 +104,7 @@ class Reader:
         return at if self.lines[at].endswith("{") else None
 
 
+@functools.cache
 def functions_of(crate):
     """The functions of a crate, in the order of its files."""
     return [it for path in sorted(source_folder(crate).rglob("*.rt")) for it in Reader(crate, path).functions()]
@@ -110,8 +112,8 @@ def functions_of(crate):
 
 @functools.cache
 def errors_of_memory():
-    """The names of the errors that can tell of want of memory."""
-    found = {"AllocError", "Failed", "fmt::Error"}
+    """The names of the errors that can tell of want of memory: by a variant NoMemory, or as these do."""
+    found = {"AllocError", "Failed", "Refused", "fmt::Error"}
     for crate in listed_crates():
         for path in source_folder(crate).rglob("*.rt"):
             text = path.read_text()
@@ -123,4 +125,4 @@ def errors_of_memory():
 
 def calls_that_take_memory(crate):
     """The functions of a crate that others can call and that may tell of want of memory."""
-    return [it for it in functions_of(crate) if it.is_public and it.error in errors_of_memory() | {"Refused"}]
+    return [it for it in functions_of(crate) if it.is_public and it.error in errors_of_memory()]

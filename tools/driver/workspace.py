@@ -1,4 +1,4 @@
-"""Copies of crates in a folder of their own, beside the repository: the gate takes any source in it for a part of it."""
+"""Copies of crates in a folder of their own, outside the repository: the gate takes any source in that for a part."""
 import pathlib
 import re
 import shutil
