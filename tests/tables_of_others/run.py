@@ -29,7 +29,7 @@ def own_tables(test, crate, count):
 
 
 def random_tables(test, crate, count):
-    tables, _, seed = (test.part or "10000").partition("-")
+    tables, _, seed = (test.part or "3000").partition("-")
     script = [sys.executable, "-B", EXAMPLES / "random_tables.py"]
     folder = test.room / "random"
     made = test.call([*script, "write", folder, tables, seed or 0])

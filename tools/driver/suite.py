@@ -54,7 +54,8 @@ def missing_tools(about):
 
 
 class Test:
-    """A test, and what it needs to run: a clock, copies of crates, a scratch folder."""
+    """A test, and what it needs to run: a clock, copies of crates, a scratch folder; how many commands it may run at
+    a time."""
 
     def __init__(self, folder, part=None):
         about = read_about(folder)
@@ -68,6 +69,7 @@ class Test:
         self.wants = about.get("wants", "")
         self.lacking = missing_tools(about)
         self.clock = Clock()
+        self.lanes = 1
         self.room = None
 
     @property
@@ -144,6 +146,8 @@ def run_tests(tests, jobs, is_all=False):
     """
     lacking = [test for test in tests if test.lacking]
     ready = sorted((test for test in tests if not test.lacking), key=lambda it: -it.minutes)
+    for test in ready:
+        test.lanes = max(1, jobs // len(ready))
     begun = time.monotonic()
     with tempfile.TemporaryDirectory(prefix="idlc-tests-") as work:
         with concurrent.futures.ThreadPoolExecutor(max(1, jobs)) as pool:

@@ -1,4 +1,4 @@
-"""Copies of crates in a folder of their own, beside the repository: the gate takes any source in it for a part of it."""
+"""Copies of crates in a folder of their own, outside the repository: the gate takes any source in that for a part."""
 import pathlib
 import re
 import shutil
@@ -38,8 +38,9 @@ class Workspace:
         self.folder = pathlib.Path(folder)
         self.listed = listed_crates()
         self.copied = []
+        self.rows = {}
         (self.folder / "crates").mkdir(parents=True, exist_ok=True)
-        (self.folder / "crates.txt").write_text("")
+        self._list({})
         shutil.copy(TOP / "HANDLES", self.folder)
 
     def copy_crates(self, names):
@@ -47,8 +48,12 @@ class Workspace:
         for name in crates_below(self.listed, names):
             if name not in self.copied:
                 self._copy_crate(TOP / "crates" / name, self.folder / "crates" / name)
-                self._list(name, self.listed[name])
+                self._list({name: self.listed[name]})
                 self.copied.append(name)
+
+    def use_in(self, names, library):
+        """Has copies of crates use one library more."""
+        self._list({name: [*self.rows[name], library] for name in names})
 
     def _copy_crate(self, crate, copy):
         for part in copy.glob("*"):
@@ -56,9 +61,11 @@ class Workspace:
                 shutil.rmtree(part)
         shutil.copytree(crate, copy, ignore=shutil.ignore_patterns("out", "must-fail"), dirs_exist_ok=True)
 
-    def _list(self, name, below):
-        with open(self.folder / "crates.txt", "a") as file:
-            file.write(f"{name}: {' '.join(below)}\n")
+    def _list(self, rows):
+        """Writes the list of crates, with these."""
+        self.rows.update(rows)
+        text = "".join(f"{name}: {' '.join(below)}\n" for name, below in self.rows.items())
+        (self.folder / "crates.txt").write_text(text)
 
     def add_crate(self, name, sources):
         """Makes a crate of files `NAME.rt.in`, with the crates that these name. Returns its folder."""
@@ -71,10 +78,10 @@ class Workspace:
             shutil.copy(source, folder / "src" / source.name.removesuffix(".in"))
         below = self.crates_named(text)
         self.copy_crates(below)
-        self._list(name, below)
+        self._list({name: below})
         return folder
 
     def crates_named(self, text):
         """The libraries that a source names by a path, of the repository and of those that its crates use."""
-        known = {*self.listed, "anyhow", *(below for names in self.listed.values() for below in names)}
+        known = {*self.listed, "anyhow", "os", *(below for names in self.listed.values() for below in names)}
         return [name for name in sorted(known) if re.search(rf"(?<![\w:]){name}::", text)]
