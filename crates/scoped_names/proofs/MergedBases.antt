@@ -1,5 +1,5 @@
 -- What is kept of names where an interface gets one more base, name by name.
-use Rattle.std.proofs.Common.{◌≡◌, ◌∙◌, ℕ, zero, suc, ◌<◌, ◌≤◌, ◌+◌, ◌⊎◌, inl, inr, Bool, true, false, cond, nat_eq, ◌&&◌, List, [], ◌∷◌, ◌++◌, drop, get_or, map, length, slice_get, Option, Some, None, Vec, Global, Result, Ok, Err, IfOk, IfSome, refl, sym, ap, subst, arith}
+use Rattle.std.proofs.Common.{◌≡◌, ◌∙◌, ℕ, zero, suc, ◌<◌, ◌≤◌, ◌+◌, ◌⊎◌, inl, inr, Bool, true, false, cond, nat_eq, ◌&&◌, List, [], ◌∷◌, ◌++◌, drop, get_or, map, length, slice_get, position, Option, Some, None, Vec, Global, Result, Ok, Err, IfOk, IfSome, refl, sym, ap, subst, arith}
 use Rattle.std.specs.Prelude.{nat_lt}
 use Rattle.std.specs.List.{AllZip}
 use Rattle.std.specs.Map.{lookup}
@@ -9,7 +9,8 @@ use Rattle.std.proofs.Math.Dec.{leb}
 use Rattle.std.proofs.Math.Seq.{drop-cons}
 use Rattle.std.proofs.lemmas.Bool.{le-ltb, leb-false, leb-true, lt-ltb, ltb-true}
 use Rattle.std.proofs.lemmas.Slice.Eq.{bytes_eq-Decides}
-use Rattle.indexmap.specs.IndexMap.{get_by, insert_entry}
+use Rattle.indexmap.specs.IndexMap.{IndexMap, get_by, insert_entry}
+use Rattle.idl_lexer.specs.Words.{same_but_for_case}
 use Rattle.scoped_names.specs.declared.entry.Base.{Base}
 use Rattle.scoped_names.specs.declared.key.Word.{Word}
 use Rattle.scoped_names.specs.declared.record.Given.{Given}
@@ -24,11 +25,11 @@ use Rattle.scoped_names.specs.Records.{AreListed, HasWord, entries_in, words_at,
 use Rattle.scoped_names.specs.SeveralBases.{HasNoneFrom, IsDone, IsKept, IsRight, Merges, SaysNothingNew, given_then, with_more}
 use Rattle.scoped_names.proofs.Lookups.{position_same}
 use Rattle.scoped_names.proofs.Tied.{HasWord_last, HasWord_push}
-use Rattle.scoped_names.proofs.Stability.{constant, nothing_earlier}
+use Rattle.scoped_names.proofs.Stability.{both_nothing, constant, nothing_earlier}
 
 -- ---- searches don't look at the case of letters
 
-abbrev lower : List ℕ → List ℕ
+abbrev pub lower : List ℕ → List ℕ
 lower w = map to_ascii_lowercase w
 
 module _ (es : List Entry) (w v : List ℕ) (like : lower w ≡ lower v) where
@@ -38,7 +39,7 @@ module _ (es : List Entry) (w v : List ℕ) (like : lower w ≡ lower v) where
   own_case : (n s : ℕ) → own es n s w ≡ own es n s v
   own_case n s = ap (declared_before es n) (named_case s)
 
-  inherited_case : (t s : ℕ) → inherited es t s w ≡ inherited es t s v
+  pub inherited_case : (t s : ℕ) → inherited es t s w ≡ inherited es t s v
   inherited_case zero s = refl
   inherited_case (suc m) s =
       ap (λ x. both x (from_base (λ b. or_else (own es m b w) (inherited es m b w)) (base_at (bases_of es s) m))) (inherited_case m s)
@@ -49,7 +50,7 @@ module _ (es : List Entry) (w v : List ℕ) (like : lower w ≡ lower v) where
       by m same None = refl
       by m same (Some b) = ap (λ x. or_else x (inherited es m (suc b) w)) (own_case m (suc b)) ∙ ap (or_else (own es m (suc b) v)) (same (suc b))
 
-  within_case : (t s : ℕ) → within es t s w ≡ within es t s v
+  pub within_case : (t s : ℕ) → within es t s w ≡ within es t s v
   within_case t s = ap (λ x. or_else x (inherited es t s w)) (own_case t s) ∙ ap (or_else (own es t s v)) (inherited_case t s)
 
   both_case : (scope : ℕ) (base : Base) → both (inherited es base.token scope w) (within es base.token (suc base.entry) w) ≡ both (inherited es base.token scope v) (within es base.token (suc base.entry) v)
@@ -65,7 +66,7 @@ module _ (es : List Entry) (w v : List ℕ) (like : lower w ≡ lower v) where
   nothing_new_case : (scope : ℕ) (base : Base) → SaysNothingNew es scope base v → SaysNothingNew es scope base w
   nothing_new_case scope base h = both_case scope base ∙ h ∙ sym (inherited_case base.token scope)
 
-like_of : (w : List ℕ) (k : Word) → is_word w k ≡ true → lower w ≡ folded k
+pub like_of : (w : List ℕ) (k : Word) → is_word w k ≡ true → lower w ≡ folded k
 like_of w k h = (bytes_eq-Decides (lower w) (folded k)).0 h
 
 -- ---- a name that the bases before give, from a token on
