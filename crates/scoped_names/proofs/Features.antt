@@ -1,5 +1,5 @@
 -- Whether a base gives another entry of some name than the bases before, by the words that are looked at.
-use Rattle.std.proofs.Common.{◌≡◌, ◌∙◌, ℕ, zero, suc, ◌+◌, ◌<◌, ◌≤◌, ◌⊎◌, inl, inr, Bool, true, false, not, cond, nat_eq, ◌&&◌, List, [], ◌∷◌, drop, get_or, length, slice_get, position, Option, Some, None, refl, sym, ap, subst, arith}
+use Rattle.std.proofs.Common.{◌≡◌, ◌∙◌, ℕ, zero, suc, ◌+◌, ◌<◌, ◌⊎◌, inl, inr, Bool, true, false, not, cond, nat_eq, List, [], ◌∷◌, drop, get_or, length, slice_get, Option, Some, None, refl, sym, ap, subst, arith}
 use Rattle.std.specs.Prelude.{◌||◌, nat_lt}
 use Rattle.std.specs.List.{list_any}
 use Rattle.std.proofs.Math.Seq.{drop-cons}
@@ -15,7 +15,7 @@ use Rattle.scoped_names.specs.declared.search.Found.{Found}
 use Rattle.scoped_names.specs.declared.search.Found.TheVariants.{Nothing, One, Several}
 use Rattle.scoped_names.specs.Entry.{Entry, bases_of, is_named, named}
 use Rattle.scoped_names.specs.Faults.{differ, differ_in, is_one_other}
-use Rattle.scoped_names.specs.Records.{HasWord, is_word}
+use Rattle.scoped_names.specs.Records.{HasWord}
 use Rattle.scoped_names.specs.Search.{base_at, before, both, declared_before, from_base, inherited, or_else, own, within}
 use Rattle.scoped_names.specs.SeveralBases.{SaysNothingNew}
 use Rattle.scoped_names.proofs.MergedBases.{inherited_case, like_of, lower, within_case}

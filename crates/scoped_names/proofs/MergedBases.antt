@@ -1,5 +1,5 @@
 -- What is kept of names where an interface gets one more base, name by name.
-use Rattle.std.proofs.Common.{◌≡◌, ◌∙◌, ℕ, zero, suc, ◌<◌, ◌≤◌, ◌+◌, ◌⊎◌, inl, inr, Bool, true, false, cond, nat_eq, ◌&&◌, List, [], ◌∷◌, ◌++◌, drop, get_or, map, length, slice_get, position, Option, Some, None, Vec, Global, Result, Ok, Err, IfOk, IfSome, refl, sym, ap, subst, arith}
+use Rattle.std.proofs.Common.{◌≡◌, ◌∙◌, ℕ, zero, suc, ◌<◌, ◌≤◌, ◌+◌, ◌⊎◌, inl, inr, Bool, true, false, cond, nat_eq, ◌&&◌, List, [], ◌∷◌, ◌++◌, drop, get_or, map, length, slice_get, Option, Some, None, Vec, Global, Result, Ok, Err, IfOk, IfSome, refl, sym, ap, subst, arith}
 use Rattle.std.specs.Prelude.{nat_lt}
 use Rattle.std.specs.List.{AllZip}
 use Rattle.std.specs.Map.{lookup}
@@ -9,8 +9,7 @@ use Rattle.std.proofs.Math.Dec.{leb}
 use Rattle.std.proofs.Math.Seq.{drop-cons}
 use Rattle.std.proofs.lemmas.Bool.{le-ltb, leb-false, leb-true, lt-ltb, ltb-true}
 use Rattle.std.proofs.lemmas.Slice.Eq.{bytes_eq-Decides}
-use Rattle.indexmap.specs.IndexMap.{IndexMap, get_by, insert_entry}
-use Rattle.idl_lexer.specs.Words.{same_but_for_case}
+use Rattle.indexmap.specs.IndexMap.{get_by, insert_entry}
 use Rattle.scoped_names.specs.declared.entry.Base.{Base}
 use Rattle.scoped_names.specs.declared.key.Word.{Word}
 use Rattle.scoped_names.specs.declared.record.Given.{Given}
@@ -25,7 +24,7 @@ use Rattle.scoped_names.specs.Records.{AreListed, HasWord, entries_in, words_at,
 use Rattle.scoped_names.specs.SeveralBases.{HasNoneFrom, IsDone, IsKept, IsRight, Merges, SaysNothingNew, given_then, with_more}
 use Rattle.scoped_names.proofs.Lookups.{position_same}
 use Rattle.scoped_names.proofs.Tied.{HasWord_last, HasWord_push}
-use Rattle.scoped_names.proofs.Stability.{both_nothing, constant, nothing_earlier}
+use Rattle.scoped_names.proofs.Stability.{constant, nothing_earlier}
 
 -- ---- searches don't look at the case of letters
 

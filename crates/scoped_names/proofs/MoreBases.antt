@@ -6,7 +6,7 @@ use Rattle.std.proofs.Math.Dec.{leb}
 use Rattle.std.proofs.lemmas.Bool.{eq-eqb, eqb-true, le-ltb, leb-false, leb-true, lt-ltb}
 use Rattle.std.proofs.lemmas.List.{length-set}
 use Rattle.std.proofs.lemmas.Option.{slice_get-map}
-use Rattle.indexmap.specs.IndexMap.{IndexMap, get_by}
+use Rattle.indexmap.specs.IndexMap.{get_by}
 use Rattle.std.specs.Map.{lookup}
 use Rattle.scoped_names.specs.declared.entry.Base.{Base}
 use Rattle.scoped_names.specs.declared.key.Key.{Key}
@@ -14,8 +14,7 @@ use Rattle.scoped_names.specs.declared.key.Word.{Word}
 use Rattle.scoped_names.specs.declared.record.Given.{Given}
 use Rattle.scoped_names.specs.declared.record.Heir.{Heir}
 use Rattle.scoped_names.specs.declared.record.Record.{Record}
-use Rattle.scoped_names.specs.declared.search.Found.{Found}
-use Rattle.scoped_names.specs.declared.search.Found.TheVariants.{Nothing, One, Several}
+use Rattle.scoped_names.specs.declared.search.Found.TheVariants.{Nothing}
 use Rattle.scoped_names.specs.Entry.{Entry, bases_of, is_named, named}
 use Rattle.scoped_names.specs.Search.{base_at, before, both, declared_before, from_base, inherited, or_else, own, within}
 use Rattle.scoped_names.specs.Entries.{entry_with_base, with_base}
@@ -26,7 +25,7 @@ use Rattle.scoped_names.proofs.Lookups.{named_keys}
 use Rattle.scoped_names.specs.declared.shortcuts.Shortcut.{Shortcut}
 use Rattle.scoped_names.specs.Shortcuts.{AreShort}
 use Rattle.scoped_names.proofs.WaysKept.{ways_like}
-use Rattle.scoped_names.proofs.Stability.{agree, both_nothing, constant}
+use Rattle.scoped_names.proofs.Stability.{agree, constant}
 
 -- ---- one element that is changed
 

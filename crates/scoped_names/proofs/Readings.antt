@@ -9,8 +9,6 @@ use Rattle.idl_tree.specs.declared.names.Listed.{Listed}
 use Rattle.idl_tree.specs.declared.names.ScopedName.{ScopedName}
 use Rattle.idl_tree.specs.declared.expression.Expr.{Expr, Chain}
 use Rattle.idl_tree.specs.declared.expression.Operand.{Operand}
-use Rattle.idl_tree.specs.declared.types.Member.{Member}
-use Rattle.idl_tree.specs.declared.types.Case.{Case}
 use Rattle.idl_tree.specs.declared.types.StructType.{StructType, out-StructType}
 use Rattle.idl_tree.specs.declared.types.UnionType.{UnionType, out-UnionType}
 use Rattle.idl_tree.specs.declared.definitions.Definition.{Definition, Module}

@@ -1,11 +1,9 @@
 -- What is seen where a name is sought, and what it finds.
-use Rattle.std.proofs.Common.{◌≡◌, ℕ, Ok, Err, None, refl}
+use Rattle.std.proofs.Common.{◌≡◌, ℕ, Ok}
 use Rattle.std.specs.Prelude.{◌↔◌}
-use Rattle.scoped_names.specs.declared.fault.NameFault.{NameFault}
-use Rattle.scoped_names.specs.declared.search.Found.TheVariants.{Nothing, One, Several}
+use Rattle.scoped_names.specs.declared.search.Found.TheVariants.{One}
 use Rattle.scoped_names.specs.declared.search.Sight.{Sight}
 use Rattle.scoped_names.specs.declared.search.Sight.TheVariants.{Unseen, OtherCase, Unclear, Seen}
-use Rattle.scoped_names.specs.Constants.{worth_found}
 use Rattle.scoped_names.specs.Search.{found_by}
 use Rattle.scoped_names.specs.Tests.{found_at}
 

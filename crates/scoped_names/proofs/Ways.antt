@@ -1,12 +1,11 @@
 -- Ways over several bases at once stay what they are.
-use Rattle.std.proofs.Common.{◌≡◌, ◌∙◌, ℕ, zero, suc, ◌+◌, ◌<◌, ◌≤◌, ◌⊎◌, inl, inr, Bool, true, false, ◌||◌, cond, nat_eq, List, [], ◌∷◌, ◌++◌, drop, slice_get, Option, Some, None, Result, Ok, Err, IfOk, OnOk, refl, sym, ap, subst, arith}
+use Rattle.std.proofs.Common.{◌≡◌, ◌∙◌, ℕ, zero, suc, ◌<◌, ◌≤◌, ◌⊎◌, inl, inr, Bool, true, false, ◌||◌, cond, nat_eq, List, [], ◌∷◌, ◌++◌, slice_get, Some, None, Result, Ok, Err, IfOk, OnOk, refl, sym, ap, subst, arith}
 use Rattle.std.specs.List.{list_any}
 use Rattle.std.specs.Map.{lookup}
 use Rattle.std.proofs.lemmas.Bool.{eqb-true, eq-eqb, le-ltb, lt-ltb}
 use Rattle.indexmap.specs.IndexMap.{get_by}
 use Rattle.scoped_names.specs.declared.entry.Base.{Base}
 use Rattle.scoped_names.specs.declared.key.Word.{Word}
-use Rattle.scoped_names.specs.declared.record.Given.{Given}
 use Rattle.scoped_names.specs.declared.record.Heir.{Heir}
 use Rattle.scoped_names.specs.declared.search.Found.{Found}
 use Rattle.scoped_names.specs.declared.search.Found.TheVariants.{Nothing, One, Several}

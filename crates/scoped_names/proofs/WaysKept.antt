@@ -1,5 +1,5 @@
 -- Ways over several bases where searches give what they gave.
-use Rattle.std.proofs.Common.{◌≡◌, ◌∙◌, ℕ, ◌<◌, ◌≤◌, ◌⊎◌, inl, inr, nat_eq, List, [], None, Some, sym, arith}
+use Rattle.std.proofs.Common.{◌≡◌, ◌∙◌, ℕ, ◌≤◌, ◌⊎◌, inl, inr, nat_eq, List, [], None, Some, sym, arith}
 use Rattle.std.specs.Map.{lookup}
 use Rattle.scoped_names.specs.declared.shortcuts.Shortcut.{Shortcut}
 use Rattle.scoped_names.specs.Entry.{Entry}

@@ -3,12 +3,20 @@ use Rattle.std.proofs.Common.{◌≡◌, ℕ, List, [], ◌∷◌, codes, None, 
 use Rattle.scoped_names.specs.declared.entry.EntryKind.{EntryKind}
 use Rattle.scoped_names.specs.declared.entry.EntryKind.TheVariants.{Module, Interface, Struct}
 use Rattle.scoped_names.specs.Entry.{Entry}
-use Rattle.scoped_names.specs.RepositoryIds.{IdPragma, WholeId, VersionOf, repository_id}
+use Rattle.scoped_names.specs.RepositoryIds.{WholeId, VersionOf, repository_id}
 use Rattle.scoped_names.specs.IdPragmas.{said, SetsPrefix, Gives}
 
 abbrev entry : ℕ → List ℕ → List ℕ → ℕ → EntryKind → Entry
 entry scope name prefix token kind = record {
-  scope = scope; name = name; token = token; kind = kind; bases = []; worth = None; stands_for = None; line = 1; prefix = prefix;
+  scope = scope;
+  name = name;
+  token = token;
+  kind = kind;
+  bases = [];
+  worth = None;
+  stands_for = None;
+  line = 1;
+  prefix = prefix;
 }
 
 -- module M { struct A {..}; interface I { struct B {..}; }; };, where a prefix is set before it and another before B

@@ -1,4 +1,4 @@
-use Rattle.std.proofs.Common.{◌≡◌, ◌∙◌, ◌+◌, ◌∷◌, ◌++◌, [], ℕ, List, suc, Some, None, drop, slice_get, true, false, refl, ap, sym, subst, arith}
+use Rattle.std.proofs.Common.{◌≡◌, ◌∙◌, ◌+◌, ◌∷◌, suc, Some, drop, slice_get, true, false, ap, sym, subst, arith}
 use Rattle.scoped_names.specs.Records.{HasWord}
 use Rattle.scoped_names.proofs.Tied.{HasWord_push}
 use Rattle.scoped_names.proofs.MergedBases.{drop_at, entry_listed, is_listed}

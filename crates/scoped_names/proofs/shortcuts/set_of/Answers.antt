@@ -1,4 +1,4 @@
-use Rattle.std.proofs.Common.{◌≡◌, ◌∙◌, ◌∷◌, [], suc, get_or, inl, inr, ◌+◌, drop, ap, arith}
+use Rattle.std.proofs.Common.{◌≡◌, ◌∙◌, ◌∷◌, [], suc, get_or, inr, ◌+◌, drop, ap, arith}
 use Rattle.std.proofs.Math.Seq.{drop-cons}
 use Rattle.scoped_names.specs.declared.key.Word.{Word}
 use Rattle.scoped_names.proofs.GivenBehind.{drop_none}

@@ -1,8 +1,8 @@
-use Rattle.std.proofs.Common.{◌≡◌, ◌∙◌, ◌++◌, ◌∷◌, [], List, false, Ok, map, refl, subst, sym, ap}
+use Rattle.std.proofs.Common.{◌≡◌, ◌∙◌, ◌++◌, ◌∷◌, [], Ok, map, refl, subst, sym, ap}
 use Rattle.scoped_names.specs.Search.{word}
 use Rattle.scoped_names.specs.StateKept.{member_of}
 use Rattle.scoped_names.specs.Faults.{has_member}
-use Rattle.scoped_names.specs.Reading.{Member, Reading, State, ◌>>◌}
+use Rattle.scoped_names.specs.Reading.{Reading, State, ◌>>◌}
 use Rattle.scoped_names.proofs.Members.{member_behind, members_kept, new_is_free}
 use Rattle.scoped_names.proofs.reader.Reader.add_member.Goals as goal
 

@@ -1,4 +1,4 @@
-use Rattle.std.proofs.Common.{◌≡◌, ◌∙◌, ◌<◌, inr, ap, length, slice_get, IfSome, subst, sym, arith}
+use Rattle.std.proofs.Common.{◌≡◌, ◌∙◌, inr, ap, length, slice_get, IfSome, subst, sym, arith}
 use Rattle.scoped_names.proofs.Readings.{left_open, not_left_open}
 use Rattle.scoped_names.proofs.reader.Reader.all_defined.Goals as goal
 

@@ -1,8 +1,6 @@
-use Rattle.std.proofs.Common.{◌≡◌, ◌∙◌, false, nat_eq, ◌&&◌, ap, map, refl, sym}
+use Rattle.std.proofs.Common.{◌≡◌, ◌∙◌, false, ap, map, refl, sym}
 use Rattle.std.specs.Prelude.{◌||◌}
-use Rattle.std.specs.List.{list_any}
-use Rattle.idl_lexer.specs.Words.{same_but_for_case}
-use Rattle.scoped_names.specs.Faults.{has_member, is_own_name, is_taken}
+use Rattle.scoped_names.specs.Faults.{has_member, is_own_name}
 use Rattle.scoped_names.specs.StateKept.{member_of}
 use Rattle.scoped_names.proofs.Members.{members_kept}
 use Rattle.scoped_names.proofs.reader.Reader.is_taken.Goals as goal

@@ -1,4 +1,4 @@
-use Rattle.std.proofs.Common.{◌≡◌, ◌∙◌, Ok, map, subst, sym, ap}
+use Rattle.std.proofs.Common.{◌≡◌, Ok, map, subst, sym, ap}
 use Rattle.scoped_names.specs.StateKept.{member_of}
 use Rattle.scoped_names.specs.Faults.{with_defined}
 use Rattle.scoped_names.specs.Reading.{Reading, State}

@@ -1,6 +1,5 @@
-use Rattle.std.proofs.Common.{rules, ◌∙◌, ◌<◌, Option, Some, length, FitsSigned, to_z, of_z, to_z-of_z, sym, ap, subst, arith}
+use Rattle.std.proofs.Common.{rules, ◌∙◌, ◌<◌, Option, Some, length, FitsSigned, to_z, of_z, to_z-of_z, sym, ap, arith}
 use Rattle.std.specs.Int.{w128}
-use Rattle.std.specs.List.{flat_map}
 use Rattle.std.proofs.lemmas.Result.{err_from_is_err_and}
 use Rattle.const_values.specs.Worth.{worth, whole_number, operator_applied}
 use Rattle.scoped_names.specs.Constants.{named_worth}

@@ -1,13 +1,13 @@
-use Rattle.std.proofs.Common.{◌≡◌, ◌∙◌, ◌++◌, ◌∷◌, [], ℕ, suc, length, slice_get, nat_eq, false, Some, None, refl, ap, subst, sym, arith}
+use Rattle.std.proofs.Common.{◌≡◌, ◌∙◌, ◌++◌, ◌∷◌, [], suc, length, slice_get, nat_eq, false, Some, refl, ap, subst, sym, arith}
 use Rattle.std.proofs.lemmas.List.{length-map}
 use Rattle.std.proofs.lemmas.Option.{slice_get_read}
 use Rattle.std.specs.Map.{lookup}
 use Rattle.scoped_names.specs.Entry.{bases_of}
 use Rattle.scoped_names.specs.Entries.{with_base}
-use Rattle.scoped_names.specs.Records.{entries_in, entry_of, heir_of}
-use Rattle.scoped_names.specs.SeveralBases.{HasNoneFrom, Merges}
-use Rattle.scoped_names.proofs.Inheriting.{bases_kept, heir_list}
-use Rattle.scoped_names.proofs.MoreBases.{none_from, tied_more, told_more, ways_more, free}
+use Rattle.scoped_names.specs.Records.{entries_in, entry_of}
+use Rattle.scoped_names.specs.SeveralBases.{Merges}
+use Rattle.scoped_names.proofs.Inheriting.{bases_kept}
+use Rattle.scoped_names.proofs.MoreBases.{tied_more, told_more, ways_more, free}
 use Rattle.scoped_names.proofs.table.Table.add_base.Goals as goal
 
 pub invariant_of-self : goal.invariant_of-self

@@ -1,4 +1,4 @@
-use Rattle.std.proofs.Common.{◌≡◌, ◌∙◌, refl, sym, ap}
+use Rattle.std.proofs.Common.{◌∙◌, refl, sym, ap}
 use Rattle.scoped_names.specs.Entry.{named}
 use Rattle.scoped_names.proofs.Lookups.{named_is}
 use Rattle.scoped_names.proofs.table.Table.declared.Goals as goal

@@ -1,7 +1,4 @@
-use Rattle.std.proofs.Common.{◌≡◌, ◌∙◌, ◌⊎◌, ◌+◌, inl, inr, suc, ap, sym, subst, arith}
-use Rattle.scoped_names.specs.Records.{HasWord}
-use Rattle.scoped_names.specs.Search.{inherited, or_else, own, within}
-use Rattle.scoped_names.specs.declared.search.Found.TheVariants.{Nothing}
+use Rattle.std.proofs.Common.{◌+◌, suc, arith}
 use Rattle.scoped_names.proofs.Ways.{entered}
 use Rattle.scoped_names.proofs.table.Table.enter.Goals as goal
 

@@ -1,10 +1,9 @@
-use Rattle.std.proofs.Common.{◌≡◌, ◌∙◌, ◌+◌, ℕ, suc, Some, None, Option, refl, ap, sym, subst, arith}
+use Rattle.std.proofs.Common.{◌≡◌, ◌∙◌, ◌+◌, ℕ, suc, refl, ap, subst, arith}
 use Rattle.indexmap.specs.IndexMap.{get_by}
-use Rattle.scoped_names.specs.declared.record.Given.{Given}
 use Rattle.scoped_names.specs.Records.{given_before, is_word}
-use Rattle.scoped_names.specs.Search.{inherited, within}
+use Rattle.scoped_names.specs.Search.{within}
 use Rattle.scoped_names.specs.SeveralBases.{given_then}
-use Rattle.scoped_names.proofs.MergedBases.{begins_before, first_of, given_is, some_both}
+use Rattle.scoped_names.proofs.MergedBases.{first_of, given_is, some_both}
 use Rattle.scoped_names.proofs.table.Table.given_with.Goals as goal
 use Rattle.scoped_names.proofs.table.Table.given_with.Goals.{in-Some, in-None}
 

@@ -1,4 +1,4 @@
-use Rattle.std.proofs.Common.{◌≡◌, ◌∙◌, [], refl, ap, sym, subst}
+use Rattle.std.proofs.Common.{[], refl, ap, sym, subst}
 use Rattle.scoped_names.specs.declared.record.Heir.{Heir}
 use Rattle.scoped_names.specs.SeveralBases.{IsDone}
 use Rattle.scoped_names.proofs.MergedBases.{done_all}

@@ -1,4 +1,4 @@
-use Rattle.std.proofs.Common.{◌≡◌, ◌∙◌, refl, length, ap, sym, subst}
+use Rattle.std.proofs.Common.{◌∙◌, refl, length, ap, sym, subst}
 use Rattle.std.specs.List.{IsDistinct}
 use Rattle.std.proofs.lemmas.List.{length-map}
 use Rattle.scoped_names.specs.Entry.{AreDistinct}

@@ -1,4 +1,4 @@
-use Rattle.std.proofs.Common.{◌≡◌, ◌∙◌, ◌++◌, ◌⊎◌, ℕ, List, Some, None, ap, sym, subst, arith}
+use Rattle.std.proofs.Common.{◌≡◌, ◌∙◌, ◌++◌, ◌⊎◌, ap, sym, subst, arith}
 use Rattle.scoped_names.specs.Records.{HasWord, words_at}
 use Rattle.scoped_names.specs.Search.{own}
 use Rattle.scoped_names.specs.declared.search.Found.TheVariants.{Nothing}

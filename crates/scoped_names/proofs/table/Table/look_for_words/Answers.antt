@@ -1,4 +1,4 @@
-use Rattle.std.proofs.Common.{sym, ap, ◌∙◌, ◌≡◌, ◌<◌, ◌+◌, suc, ◌∷◌, map, arith}
+use Rattle.std.proofs.Common.{sym, ap, ◌∙◌, ◌≡◌, ◌+◌, suc, map, arith}
 use Rattle.idl_lexer.specs.Words.{unescaped}
 use Rattle.idl_lexer.specs.IdentifiersLeft.{words_left}
 use Rattle.scoped_names.specs.declared.search.Sight.TheVariants.{Seen}

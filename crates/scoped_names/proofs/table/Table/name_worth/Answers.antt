@@ -1,4 +1,4 @@
-use Rattle.std.proofs.Common.{◌≡◌, ◌∙◌, inr, refl, sym}
+use Rattle.std.proofs.Common.{◌∙◌, inr, refl, sym}
 use Rattle.idl_tree.specs.Starts.{name_start}
 use Rattle.scoped_names.specs.Search.{sees}
 use Rattle.scoped_names.specs.Tests.{line}

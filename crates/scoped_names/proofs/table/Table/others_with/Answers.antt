@@ -1,9 +1,9 @@
-use Rattle.std.proofs.Common.{◌≡◌, ◌∙◌, ◌+◌, ℕ, List, [], ◌∷◌, suc, drop, get_or, length, Some, None, refl, ap, sym, subst, arith}
+use Rattle.std.proofs.Common.{◌≡◌, ◌∙◌, ◌+◌, [], ◌∷◌, suc, drop, get_or, refl, ap, sym, subst, arith}
 use Rattle.std.proofs.Math.Seq.{drop-cons}
 use Rattle.scoped_names.specs.declared.key.Word.{Word}
-use Rattle.scoped_names.specs.SeveralBases.{IsDone, SaysNothingNew}
+use Rattle.scoped_names.specs.SeveralBases.{IsDone}
 use Rattle.scoped_names.proofs.GivenBehind.{drop_none}
-use Rattle.scoped_names.proofs.MergedBases.{cloned, done_given, done_nothing, done_start, split_at}
+use Rattle.scoped_names.proofs.MergedBases.{cloned, done_given, done_nothing, done_start}
 use Rattle.scoped_names.proofs.table.Table.others_with.Goals as goal
 use Rattle.scoped_names.proofs.table.Table.others_with.Goals.{in-Some+in_ok-insert, in_default}
 

@@ -1,5 +1,4 @@
-use Rattle.std.proofs.Common.{◌≡◌, ◌≤◌, ℕ, Some, IfSome, nat_eq, sym, subst}
-use Rattle.std.specs.Map.{lookup}
+use Rattle.std.proofs.Common.{IfSome, sym, subst}
 use Rattle.scoped_names.specs.Records.{entries_in}
 use Rattle.scoped_names.specs.Shortcuts.{AreShort, IsShort}
 use Rattle.scoped_names.proofs.Ways.{ways_insert}

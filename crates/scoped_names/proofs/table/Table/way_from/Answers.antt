@@ -1,4 +1,4 @@
-use Rattle.std.proofs.Common.{◌≡◌, ◌∙◌, ◌≤◌, nat_eq, false, Some, sym, subst, arith}
+use Rattle.std.proofs.Common.{◌≡◌, nat_eq, false, Some, sym, subst, arith}
 use Rattle.scoped_names.specs.Shortcuts.{IsShort}
 use Rattle.std.specs.Map.{lookup}
 use Rattle.scoped_names.proofs.Ways.{not_any, way_is}

@@ -1,4 +1,3 @@
-use Rattle.std.proofs.Common.{sym}
 use Rattle.scoped_names.proofs.Ways.{or_more, or_then}
 use Rattle.scoped_names.proofs.table.Table.words_apart.Goals as goal
 
