@@ -16,14 +16,19 @@ MEMBERS = ["long first", "unsigned short second", "string third", "octet fourth"
 
 def run_once(source, table):
     """Seconds that a run takes, seconds of a processor, and KiB that it holds at most."""
+    # a process counts what it held before its program began, so a small one starts it
+    words = ["time", "-f", "%M", PROGRAM, "compile", source, "-o", table]
     start = time.perf_counter()
-    process = subprocess.Popen([PROGRAM, "compile", source, "-o", table], stdout=subprocess.DEVNULL)
-    _, status, used = os.wait4(process.pid, 0)
-    wall = time.perf_counter() - start
-    process.returncode = os.waitstatus_to_exitcode(status)
+    with tempfile.TemporaryFile("w+") as said:
+        process = subprocess.Popen(words, stdout=subprocess.DEVNULL, stderr=said)
+        _, status, used = os.wait4(process.pid, 0)
+        wall = time.perf_counter() - start
+        process.returncode = os.waitstatus_to_exitcode(status)
+        said.seek(0)
+        text = said.read()
     if process.returncode:
-        raise SystemExit(f"idlc compile ended with status {process.returncode}")
-    return wall, used.ru_utime + used.ru_stime, used.ru_maxrss
+        raise SystemExit(text)
+    return wall, used.ru_utime + used.ru_stime, int(text)
 
 
 def source_of(count):
