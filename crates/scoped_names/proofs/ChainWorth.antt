@@ -1,5 +1,5 @@
 -- What a chain of operands is worth, by the list of its `Vec`.
-use Rattle.std.proofs.Common.{◌≡◌, ◌∙◌, ℕ, ◌+◌, suc, ◌<◌, inl, inr, List, [], ◌∷◌, Option, Some, None, Vec, Global, length, drop, get_or, refl, ap, sym, arith, drop-cons}
+use Rattle.std.proofs.Common.{◌≡◌, ◌∙◌, ℕ, ◌+◌, suc, ◌<◌, inl, inr, List, [], ◌∷◌, Option, Some, None, Err, Vec, Global, length, drop, get_or, refl, ap, sym, arith, drop-cons}
 use Rattle.std.specs.Prelude.{Box, ℤ}
 use Rattle.idl_tree.specs.declared.expression.Expr.{Expr, Chain}
 use Rattle.idl_tree.specs.declared.expression.Operand.{Operand}
@@ -9,8 +9,10 @@ use Rattle.const_values.specs.declared.constant.Constant.{Constant}
 use Rattle.const_values.specs.Worth.{NamesWorth, worth, chain_worth, whole_number, whole_constant, operator_applied}
 use Rattle.scoped_names.specs.declared.fault.NameFault.{NameFault}
 use Rattle.scoped_names.specs.Entry.{Entry}
-use Rattle.scoped_names.specs.declared.search.Found.{Found}
-use Rattle.scoped_names.specs.declared.search.Found.TheVariants.{Nothing, One, Several}
+use Rattle.scoped_names.specs.declared.search.Sight.{Sight}
+use Rattle.scoped_names.specs.declared.search.Sight.TheVariants.{Unseen, OtherCase, Unclear, Seen}
+use Rattle.scoped_names.specs.Search.{found_by}
+use Rattle.scoped_names.specs.Tests.{found_at}
 use Rattle.scoped_names.specs.Constants.{Explains, worth_found}
 
 -- what operators and operands make of what stands before them, by a list
@@ -77,12 +79,13 @@ pub applied_to_none : (o : Operator) (z : ℤ) (w : Option Constant) → w ≡ N
 applied_to_none o z w none = ap (λ v. operator_applied o (Some z) (whole_number v)) none
 
 -- what explains that there is no worth explains it of what has none then
-pub explained : {T U : Type 0} (w : Option T) (v : Option U) (e : NameFault) → (w ≡ None → v ≡ None) → Explains w e → Explains v e
-explained w v e less (inl memory) = inl memory
-explained w v e less (inr none) = inr (less none)
+pub explained : {T U : Type 0} (at : ℕ) (w : Option T) (v : Option U) (e : NameFault) → (w ≡ None → v ≡ None) → Explains at w e → Explains at v e
+explained at w v e less (inl memory) = inl memory
+explained at w v e less (inr (none, is)) = inr (less none, is)
 
 -- what finds no entry alone is worth nothing
-pub not_found : (es : List Entry) (found : Found) → ((e : ℕ) → found ≡ One e → ⊥) → worth_found es found ≡ None
-not_found es Nothing none = refl
-not_found es (One e) none = absurd (none e refl)
-not_found es Several none = refl
+pub not_found : (es : List Entry) (at : ℕ) (seen : Sight) (fault : NameFault) → found_at at seen ≡ Err fault → worth_found es (found_by seen) ≡ None
+not_found es at Unseen fault is = refl
+not_found es at OtherCase fault is = refl
+not_found es at Unclear fault is = refl
+not_found es at (Seen e) fault is = absurd cc

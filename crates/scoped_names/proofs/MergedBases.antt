@@ -28,7 +28,7 @@ use Rattle.scoped_names.proofs.Stability.{constant, nothing_earlier}
 
 -- ---- searches don't look at the case of letters
 
-abbrev lower : List ℕ → List ℕ
+abbrev pub lower : List ℕ → List ℕ
 lower w = map to_ascii_lowercase w
 
 module _ (es : List Entry) (w v : List ℕ) (like : lower w ≡ lower v) where
@@ -38,7 +38,7 @@ module _ (es : List Entry) (w v : List ℕ) (like : lower w ≡ lower v) where
   own_case : (n s : ℕ) → own es n s w ≡ own es n s v
   own_case n s = ap (declared_before es n) (named_case s)
 
-  inherited_case : (t s : ℕ) → inherited es t s w ≡ inherited es t s v
+  pub inherited_case : (t s : ℕ) → inherited es t s w ≡ inherited es t s v
   inherited_case zero s = refl
   inherited_case (suc m) s =
       ap (λ x. both x (from_base (λ b. or_else (own es m b w) (inherited es m b w)) (base_at (bases_of es s) m))) (inherited_case m s)
@@ -49,7 +49,7 @@ module _ (es : List Entry) (w v : List ℕ) (like : lower w ≡ lower v) where
       by m same None = refl
       by m same (Some b) = ap (λ x. or_else x (inherited es m (suc b) w)) (own_case m (suc b)) ∙ ap (or_else (own es m (suc b) v)) (same (suc b))
 
-  within_case : (t s : ℕ) → within es t s w ≡ within es t s v
+  pub within_case : (t s : ℕ) → within es t s w ≡ within es t s v
   within_case t s = ap (λ x. or_else x (inherited es t s w)) (own_case t s) ∙ ap (or_else (own es t s v)) (inherited_case t s)
 
   both_case : (scope : ℕ) (base : Base) → both (inherited es base.token scope w) (within es base.token (suc base.entry) w) ≡ both (inherited es base.token scope v) (within es base.token (suc base.entry) v)
@@ -65,7 +65,7 @@ module _ (es : List Entry) (w v : List ℕ) (like : lower w ≡ lower v) where
   nothing_new_case : (scope : ℕ) (base : Base) → SaysNothingNew es scope base v → SaysNothingNew es scope base w
   nothing_new_case scope base h = both_case scope base ∙ h ∙ sym (inherited_case base.token scope)
 
-like_of : (w : List ℕ) (k : Word) → is_word w k ≡ true → lower w ≡ folded k
+pub like_of : (w : List ℕ) (k : Word) → is_word w k ≡ true → lower w ≡ folded k
 like_of w k h = (bytes_eq-Decides (lower w) (folded k)).0 h
 
 -- ---- a name that the bases before give, from a token on

@@ -8,11 +8,11 @@ use Rattle.scoped_names.specs.declared.search.Found.TheVariants.{Nothing, One, S
 use Rattle.scoped_names.specs.Search.{finds_words}
 
 abbrev entry : ℕ → List ℕ → ℕ → EntryKind → Entry
-entry scope name token kind = record { scope = scope; name = name; token = token; kind = kind; bases = []; worth = None; stands_for = None }
+entry scope name token kind = record { scope = scope; name = name; token = token; kind = kind; bases = []; worth = None; stands_for = None; line = 1; prefix = [] }
 
 abbrev interface : ℕ → List ℕ → ℕ → List Base → Entry
 interface scope name token bases =
-    record { scope = scope; name = name; token = token; kind = Interface; bases = bases; worth = None; stands_for = None }
+    record { scope = scope; name = name; token = token; kind = Interface; bases = bases; worth = None; stands_for = None; line = 1; prefix = [] }
 
 abbrev base : ℕ → ℕ → Base
 base token entry = record { token = token; entry = entry }

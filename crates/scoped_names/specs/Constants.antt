@@ -16,7 +16,7 @@ use Rattle.const_values.specs.Kinds.{of_kind}
 use Rattle.const_values.specs.Worth.{worth, whole_number, positive}
 use Rattle.scoped_names.specs.Entry.{Entry, worth_in, meant_in}
 use Rattle.scoped_names.specs.declared.fault.NameFault.{NameFault}
-use Rattle.scoped_names.specs.declared.fault.NameFault.TheVariants.{NoMemory}
+use Rattle.scoped_names.specs.declared.fault.NameFault.TheVariants.{NoMemory, BadConstant}
 use Rattle.scoped_names.specs.declared.search.Found.{Found}
 use Rattle.scoped_names.specs.declared.search.Found.TheVariants.{Nothing, One, Several}
 use Rattle.scoped_names.specs.Search.{finds}
@@ -38,9 +38,9 @@ worth_in_scope es scope e = worth (named_worth es scope) e
 abbrev pub size_in_scope : List Entry → ℕ → Expr → Option ℕ
 size_in_scope es scope e = positive (whole_number (worth_in_scope es scope e))
 
--- why there is none: memory was refused, or there is none
-abbrev pub Explains : {T : Type 0} → Option T → NameFault → Type 0
-Explains w fault = (fault ≡ NoMemory) ⊎ (w ≡ None)
+-- why there is none: memory was refused, or there is none, which is told of the line
+abbrev pub Explains : {T : Type 0} → ℕ → Option T → NameFault → Type 0
+Explains at w fault = (fault ≡ NoMemory) ⊎ ((w ≡ None) × (fault ≡ BadConstant at))
 
 -- ---- types of constants
 

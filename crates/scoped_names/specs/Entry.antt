@@ -9,7 +9,8 @@ use Rattle.scoped_names.specs.declared.entry.EntryKind.{EntryKind}
 use Rattle.scoped_names.specs.declared.entry.Base.{Base}
 
 -- a name that is declared in a scope, and found by names behind the token; the bases of an interface in order; what a
--- constant or an enumerator is worth; the type of constants for which the name of a type stands in the end, if it does
+-- constant or an enumerator is worth; the type of constants for which the name of a type stands in the end, if it does;
+-- of its first declaration the line and the prefix of repository ids
 pub record Entry : Type 0 where
   pub scope : ℕ
   pub name : List ℕ
@@ -18,6 +19,8 @@ pub record Entry : Type 0 where
   pub bases : List Base
   pub worth : Option Constant
   pub stands_for : Option ConstKind
+  pub line : ℕ
+  pub prefix : List ℕ
 
 -- the entry is the scope's of that name, whatever the case of its letters
 abbrev pub is_named : ℕ → List ℕ → Entry → Bool

@@ -1,12 +1,8 @@
 -- What is kept of the pragmas for repository ids, as contracts see it.
 use Rattle.std.specs.Prelude.{ℕ}
-use Rattle.scoped_names.specs.declared.repository_ids.Prefix.{Prefix}
 use Rattle.scoped_names.specs.declared.repository_ids.PragmaId.{PragmaId}
 use Rattle.scoped_names.specs.declared.repository_ids.PragmaId.TheVariants.{Whole, Version}
-use Rattle.scoped_names.specs.RepositoryIds.{PrefixSet, IdPragma, GivenId, WholeId, VersionOf}
-
-abbrev pub prefix_of : Prefix → PrefixSet
-prefix_of p = record { token = p.token; text = p.text.now }
+use Rattle.scoped_names.specs.RepositoryIds.{IdPragma, GivenId, WholeId, VersionOf}
 
 abbrev pub given_of : PragmaId → GivenId
 given_of (Whole text) = WholeId text.now

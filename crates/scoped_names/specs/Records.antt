@@ -27,6 +27,8 @@ entry_of r = record {
   bases = heir_bases r.heir;
   worth = r.worth;
   stands_for = r.stands_for;
+  line = r.line;
+  prefix = r.prefix.now;
 }
 
 abbrev pub entries_in : List Record → List Entry

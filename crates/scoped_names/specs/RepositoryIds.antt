@@ -1,14 +1,9 @@
 -- Repository ids of the OMG IDL format (ISO/IEC 19500-1, repository identifiers, and pragma directives for repository
 -- ids): `IDL:`, the prefix and `/` where a prefix is set, the names from the outermost scope inwards with `/` between
 -- them, and behind the last colon a version, which is 1.0 where no pragma gives another.
-use Rattle.std.specs.Prelude.{◌≡◌, ◌≢◌, ℕ, zero, suc, cond, nat_eq, nat_lt, List, [], ◌∷◌, ◌++◌, Option, Some, None, slice_get, codes}
+use Rattle.std.specs.Prelude.{ℕ, zero, suc, cond, nat_eq, List, [], ◌∷◌, ◌++◌, Option, Some, None, slice_get, codes}
 use Rattle.std.specs.List.{flat_map}
 use Rattle.scoped_names.specs.Entry.{Entry, around}
-
--- a prefix that is set, and the number of the pragma's token
-pub record PrefixSet : Type 0 where
-  pub token : ℕ
-  pub text : List ℕ
 
 -- what a pragma gives to a name: its whole id, or its version
 pub data GivenId : Type 0 where
@@ -20,16 +15,6 @@ pub record IdPragma : Type 0 where
   pub entry : ℕ
   pub given : GivenId
 
--- what pragmas say, each list in order
-pub record IdRules : Type 0 where
-  pub prefixes : List PrefixSet
-  pub pragmas : List IdPragma
-
--- the prefix before the token: the last that is set, or else the one here
-abbrev pub prefix_from : List ℕ → List PrefixSet → ℕ → List ℕ
-prefix_from text [] token = text
-prefix_from text (p ∷ ps) token = prefix_from (cond (nat_lt p.token token) p.text text) ps token
-
 -- an empty prefix is none
 abbrev pub prefix_part : List ℕ → List ℕ
 prefix_part [] = []
@@ -39,9 +24,9 @@ abbrev pub name_in : Option Entry → List ℕ
 name_in None = []
 name_in (Some e) = e.name
 
-abbrev pub token_in : Option Entry → ℕ
-token_in None = 0
-token_in (Some e) = e.token
+abbrev pub prefix_in : Option Entry → List ℕ
+prefix_in None = []
+prefix_in (Some e) = e.prefix
 
 -- the names from the outermost scope to this one; there are no more than the number of the scope
 abbrev pub names_to : List Entry → ℕ → ℕ → List (List ℕ)
@@ -62,29 +47,16 @@ abbrev pub idl_format : List ℕ → List (List ℕ) → List ℕ → List ℕ
 idl_format prefix names version =
     codes "IDL:" ++ prefix_part prefix ++ with_slashes names ++ codes ":" ++ version
 
--- what is given to the entry first; what is given to it later is the same
+-- what is given to the entry, to which one thing is given at most
 abbrev pub given_to : List IdPragma → ℕ → Option GivenId
 given_to [] e = None
 given_to (p ∷ ps) e = cond (nat_eq e p.entry) (Some p.given) (given_to ps e)
-
--- what is given after a pragma is as if it stood behind the others
-abbrev pub AreWith : IdPragma → List IdPragma → List IdPragma → Type 0
-AreWith p before after = (e : ℕ) → given_to after e ≡ given_to (before ++ p ∷ []) e
-
--- all that was given to the pragma's entry is what the pragma gives
-abbrev pub IsAlike : IdPragma → List IdPragma → Type 0
-IsAlike p before = (g : GivenId) → given_to before p.entry ≡ Some g → g ≡ p.given
-
--- something else was given to it
-abbrev pub IsTwice : IdPragma → List IdPragma → Type 0
-IsTwice p before = (g : GivenId) × (given_to before p.entry ≡ Some g) × (g ≢ p.given)
 
 abbrev pub id_by : Option GivenId → List ℕ → List (List ℕ) → List ℕ
 id_by None prefix names = idl_format prefix names (codes "1.0")
 id_by (Some (WholeId text)) prefix names = text
 id_by (Some (VersionOf number)) prefix names = idl_format prefix names number
 
--- the id of an entry: by the prefix that is set where it is declared first
-abbrev pub repository_id : List Entry → IdRules → ℕ → List ℕ
-repository_id entries rules e =
-    id_by (given_to rules.pragmas e) (prefix_from [] rules.prefixes (token_in (slice_get entries e))) (path entries e)
+-- the id of an entry: by what a pragma gives to it, and by the prefix that is set where it is declared first
+abbrev pub repository_id : List Entry → List IdPragma → ℕ → List ℕ
+repository_id entries given e = id_by (given_to given e) (prefix_in (slice_get entries e)) (path entries e)

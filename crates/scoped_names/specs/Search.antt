@@ -10,6 +10,8 @@ use Rattle.idl_tree.specs.Starts.{is_rooted, name_first, name_rest, name_start}
 use Rattle.scoped_names.specs.declared.entry.Base.{Base}
 use Rattle.scoped_names.specs.declared.search.Found.{Found}
 use Rattle.scoped_names.specs.declared.search.Found.TheVariants.{Nothing, One, Several}
+use Rattle.scoped_names.specs.declared.search.Sight.{Sight}
+use Rattle.scoped_names.specs.declared.search.Sight.TheVariants.{Unseen, OtherCase, Unclear, Seen}
 use Rattle.scoped_names.specs.Entry.{Entry, named, bases_of, around}
 
 -- what two ways give together: one entry by two ways is one
@@ -81,33 +83,49 @@ abbrev pub is_spelled : List ℕ → Option Entry → Bool
 is_spelled name None = false
 is_spelled name (Some e) = bytes_eq name e.name
 
--- an entry that is declared in another case than the name has is none
-abbrev pub in_its_case : List Entry → List ℕ → Found → Found
-in_its_case entries name Nothing = Nothing
-in_its_case entries name (One e) = cond (is_spelled name (slice_get entries e)) (One e) Nothing
-in_its_case entries name Several = Several
+-- an entry that is declared in another case than the name has isn't what the name finds
+abbrev pub sight : List Entry → List ℕ → Found → Sight
+sight entries name Nothing = Unseen
+sight entries name (One e) = cond (is_spelled name (slice_get entries e)) (Seen e) OtherCase
+sight entries name Several = Unclear
 
 -- what words find one inside another
-abbrev pub inside : List Entry → ℕ → Found → List (List ℕ) → Found
-inside entries n found [] = found
-inside entries n Nothing (w ∷ ws) = Nothing
-inside entries n (One e) (w ∷ ws) = inside entries n (in_its_case entries w (within entries n (suc e) w)) ws
-inside entries n Several (w ∷ ws) = Several
+abbrev pub inside : List Entry → ℕ → Sight → List (List ℕ) → Sight
+inside entries n seen [] = seen
+inside entries n Unseen (w ∷ ws) = Unseen
+inside entries n OtherCase (w ∷ ws) = OtherCase
+inside entries n Unclear (w ∷ ws) = Unclear
+inside entries n (Seen e) (w ∷ ws) = inside entries n (sight entries w (within entries n (suc e) w)) ws
 
--- what words with `::` between them, and maybe before the first, find before the token n from the scope
+-- what is seen where words with `::` between them, and maybe before the first, are sought before the token n from the
+-- scope
+abbrev pub sees_words : List Entry → ℕ → ℕ → Bool → List ℕ → List (List ℕ) → Sight
+sees_words entries n scope rooted first rest =
+    inside entries n (sight entries first (within_first entries n (sought_in entries scope rooted) first)) rest
+
+abbrev pub found_by : Sight → Found
+found_by Unseen = Nothing
+found_by OtherCase = Nothing
+found_by Unclear = Several
+found_by (Seen e) = One e
+
+-- what they find
 abbrev pub finds_words : List Entry → ℕ → ℕ → Bool → List ℕ → List (List ℕ) → Found
-finds_words entries n scope rooted first rest =
-    inside entries n (in_its_case entries first (within_first entries n (sought_in entries scope rooted) first)) rest
+finds_words entries n scope rooted first rest = found_by (sees_words entries n scope rooted first rest)
 
 -- the name of an identifier
 abbrev pub word : Leaf → List ℕ
 word l = unescaped l.token.now.text.now
 
+-- what is seen where a name is sought that stands in the scope
+abbrev pub sees : List Entry → ℕ → ScopedName → Sight
+sees entries scope name =
+    sees_words entries (name_start name).number scope (is_rooted name) (word (name_first name))
+    (map word (name_rest name))
+
 -- what a name finds that stands in the scope
 abbrev pub finds : List Entry → ℕ → ScopedName → Found
-finds entries scope name =
-    finds_words entries (name_start name).number scope (is_rooted name) (word (name_first name))
-    (map word (name_rest name))
+finds entries scope name = found_by (sees entries scope name)
 
 -- the name finds the entry, and no other
 abbrev pub Finds : List Entry → ℕ → ScopedName → ℕ → Type 0

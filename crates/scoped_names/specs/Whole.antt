@@ -1,24 +1,23 @@
 -- The names of a whole specification: what it declares, and what its pragmas say of repository ids.
-use Rattle.std.specs.Prelude.{◌≡◌, ℕ, List, ◌++◌}
+use Rattle.std.specs.Prelude.{◌≡◌, List, Result, Ok}
 use Rattle.idl_tree.specs.declared.definitions.Definition.{Definition}
+use Rattle.scoped_names.specs.declared.fault.NameFault.{NameFault}
 use Rattle.scoped_names.specs.Entry.{Entry}
-use Rattle.scoped_names.specs.Entries.{AreEntries}
-use Rattle.scoped_names.specs.RepositoryIds.{IdPragma, IdRules, given_to}
-use Rattle.scoped_names.specs.IdPragmas.{ids_of, prefixes_of}
+use Rattle.scoped_names.specs.Faults.{specification_read}
+use Rattle.scoped_names.specs.Reading.{State, ◌>>◌}
+use Rattle.scoped_names.specs.RepositoryIds.{IdPragma}
 
+-- the entries in order of declaration, and what pragmas give to each
 pub record Whole : Type 0 where
   pub entries : List Entry
-  pub rules : IdRules
+  pub rules : List IdPragma
 
--- behind the pragmas of which `before` was kept and then more, what is given to each entry is what is kept now
-abbrev pub AreBehind : List IdPragma → List IdPragma → List IdPragma → Type 0
-AreBehind before more after = (e : ℕ) → given_to after e ≡ given_to (before ++ more) e
+abbrev pub whole : State → Whole
+whole st = record { entries = st.entries; rules = st.given }
 
--- the prefixes that are set, in order; what is given to each entry
-pub record AreRules (definitions : List Definition) (entries : List Entry) (rules : IdRules) : Type 0 where
-  pub prefixes : rules.prefixes ≡ prefixes_of definitions
-  pub given : (e : ℕ) → given_to rules.pragmas e ≡ given_to (ids_of entries definitions) e
+-- the names of a specification, or its first fault
+abbrev pub names_of : List Definition → Result Whole NameFault
+names_of definitions = specification_read definitions >> λ st. Ok (whole st)
 
-pub record AreNames (definitions : List Definition) (names : Whole) : Type 0 where
-  pub entries : AreEntries definitions names.entries
-  pub rules : AreRules definitions names.entries names.rules
+abbrev pub AreNames : List Definition → Whole → Type 0
+AreNames definitions names = names_of definitions ≡ Ok names

@@ -1,8 +1,11 @@
 //! Interfaces with several bases.
 
-ghost use Rattle.std.specs.Prelude.{◌≡◌, ◌<◌, ◌≤◌, ◌⊎◌, ℕ, suc, ◌++◌, ◌∷◌, [], List, None, Some, IfOk, IfSome, OnOk, length};
+ghost use Rattle.std.specs.Prelude.{◌≡◌, ◌<◌, ◌≤◌, ◌⊎◌, ℕ, suc, ◌++◌, ◌∷◌, [], List, None, Some, IfOk, IfErr, IfSome, OnOk, length, nat_eq};
+ghost use Rattle.std.specs.List.{list_any};
+ghost use Rattle.scoped_names.specs.Faults.{differ, differ_in, is_one_other};
 ghost use Rattle.indexmap.specs.IndexMap.{get_by};
 ghost use Rattle.scoped_names.specs.declared.search.Found.{Found};
+ghost use Rattle.scoped_names.specs.declared.fault.NameFault.TheVariants.{NoMemory};
 ghost use Rattle.scoped_names.specs.Entry.{bases_of};
 ghost use Rattle.scoped_names.specs.Search.{both as what_both_give, own as own_of, inherited as inherited_by, within as within_of};
 ghost use Rattle.scoped_names.specs.Records.{given_before, heir_of as heir_in_records, is_word, HasWord};
@@ -61,9 +64,32 @@ pub(crate) fn list_given<'a>(words: &mut Vec<Word<'a>>, heir: &Heir<'a>) -> Resu
     Ok(())
 }
 
-/// Whether an entry is a base already.
-fn has_base(heir: &Heir<'_>, entry: usize) -> bool {
-    heir.first.entry == entry || heir.later.iter().any(|base| base.entry == entry)
+/// Whether an entry is one of the bases.
+fn is_among(bases: &[Base], entry: usize) -> bool
+    ensures { result ≡ list_any (λ b. nat_eq b.entry entry) bases.now }
+{
+    for base in bases {
+        if base.entry == entry {
+            return true;
+        }
+    }
+    false
+}
+
+fn is_base_of(heir: &Heir<'_>, entry: usize) -> bool
+    ensures { result ≡ list_any (λ b. nat_eq b.entry entry) (heir.now.first ∷ heir.now.later.items) }
+{
+    heir.first.entry == entry || is_among(heir.later.as_slice(), entry)
+}
+
+/// Whether two ways give two entries that differ.
+fn is_one_other(old: Found, new: Found) -> bool
+    ensures { result ≡ is_one_other old new }
+{
+    match (old, new) {
+        (Found::One(one), Found::One(other)) => one != other,
+        _ => false,
+    }
 }
 
 /// What is kept of an interface that gets its first base.
@@ -191,38 +217,72 @@ impl<'a> Table<'a> {
         )?)
     }
 
-    /// Whether the base and those before it have different operations or attributes of one name.
-    fn features_differ(&self, inner: usize, base: Base, words: &[Word<'a>]) -> bool
+    /// Whether an entry is a base already.
+    pub(crate) fn has_base(&self, inner: usize, entry: usize) -> bool
+        ensures { result ≡ list_any (λ b. nat_eq b.entry entry) (bases_of self.now inner) }
+    {
+        match heir_of(self.records.as_slice(), inner) {
+            Some(heir) => is_base_of(heir, entry),
+            None => false,
+        }
+    }
+
+    /// Whether a base gives another entry of the name than those before.
+    fn differ_in(&self, inner: usize, base: Base, word: Word<'a>) -> bool
         requires { base.entry < length self.now }
+        ensures { result ≡ differ_in self.now inner base word.entry.text.now }
     {
         let count = self.len();
         prove!(base.entry < count);
+        let old = self.inherited(base.token, inner, word.text);
+        let new = self.within(base.token, base.entry + 1, word.text);
+        is_one_other(old, new)
+    }
+
+    /// Of one of the words.
+    fn differ_in_some(&self, inner: usize, base: Base, words: &[Word<'a>]) -> bool
+        requires { base.entry < length self.now }
+        ensures { result ≡ list_any (λ w. differ_in self.now inner base w.text.now) words.now }
+    {
         for word in words {
-            let old = self.inherited(base.token, inner, word.text);
-            let new = self.within(base.token, base.entry + 1, word.text);
-            if let (Found::One(one), Found::One(other)) = (old, new) {
-                if one != other && self.is_feature(one) && self.is_feature(other) {
-                    return true;
-                }
+            if self.differ_in(inner, base, *word) {
+                return true;
             }
         }
         false
     }
 
-    /// What is kept of an interface that gets one more base, which has to be new and to have no
-    /// other operation or attribute of a name of theirs.
+    /// Whether a base, which is named behind all others, gives another entry of some name than those
+    /// before.
     ///
     /// # Errors
     ///
-    /// `BadBase` with the line, or `NoMemory`.
+    /// `NoMemory`.
+    pub(crate) fn differ(&self, alloc: Global, inner: usize, base: Base) -> Result<bool, NameFault>
+        requires { base.entry < length self.now }
+        ensures told { IfOk result (λ r. r ≡ differ self.now inner base) }
+        ensures memory { IfErr result (λ fault. fault ≡ NoMemory) }
+    {
+        if base.token <= self.latest {
+            return Err(NameFault::NoMemory);
+        }
+        match heir_of(self.records.as_slice(), inner) {
+            Some(heir) => {
+                let words = self.words_to_merge(alloc, inner, heir, base)?;
+                Ok(self.differ_in_some(inner, base, words.as_slice()))
+            }
+            None => Ok(false),
+        }
+    }
+
+    /// What is kept of an interface that gets one more base.
     fn next_heir(
         &self,
         alloc: Global,
         inner: usize,
         heir: &Heir<'a>,
         base: Base,
-        line: usize,
-    ) -> Result<Box<Heir<'a>>, NameFault>
+    ) -> Result<Box<Heir<'a>>, AllocError>
         requires kept { IsKept self.now inner heir.now }
         requires last { HasNoneFrom self.now inner base.token }
         requires placed { base.entry < length self.now }
@@ -232,28 +292,17 @@ impl<'a> Table<'a> {
         ensures later { IfOk result (λ h. h.value.later.items ≡ heir.now.later.items ++ base ∷ []) }
         ensures merges { IfOk result (λ h. Merges self.now inner base h.value) }
     {
-        if has_base(heir, base.entry) {
-            return Err(NameFault::BadBase { line });
-        }
         let words = self.words_to_merge(alloc, inner, heir, base)?;
-        if self.features_differ(inner, base, words.as_slice()) {
-            return Err(NameFault::BadBase { line });
-        }
-        Ok(self.heir_with(alloc, inner, heir, base, words.as_slice())?)
+        self.heir_with(alloc, inner, heir, base, words.as_slice())
     }
 
     /// What is kept of an interface that gets one more base.
-    ///
-    /// # Errors
-    ///
-    /// `BadBase` with the line, or `NoMemory`.
     pub(crate) fn heir_for(
         &self,
         alloc: Global,
         inner: usize,
         base: Base,
-        line: usize,
-    ) -> Result<Box<Heir<'a>>, NameFault>
+    ) -> Result<Box<Heir<'a>>, AllocError>
         requires last { HasNoneFrom self.now inner base.token }
         requires placed { base.entry < length self.now }
         ensures with_it { IfOk result (λ h. h.value.first ∷ h.value.later.items ≡ bases_of self.now inner ++ base ∷ []) }
@@ -261,7 +310,7 @@ impl<'a> Table<'a> {
         ensures merges { IfOk result (λ h. Merges self.now inner base h.value) }
     {
         match heir_of(self.records.as_slice(), inner) {
-            Some(old) => self.next_heir(alloc, inner, old, base, line),
+            Some(old) => self.next_heir(alloc, inner, old, base),
             None => Ok(first_heir(alloc, base)?),
         }
     }

@@ -1,10 +1,13 @@
 //! What modules and interfaces declare.
 
-ghost use Rattle.std.specs.Prelude.{◌≡◌, ◌≤◌, ◌<◌, ◌^◌, length, OnOk};
+ghost use Rattle.std.specs.Prelude.{◌≡◌, ◌≤◌, ◌<◌, ◌^◌, length, IfOk};
 ghost use Rattle.std.specs.List.{flat_map};
 ghost use Rattle.idl_tree.specs.Lists.{parts};
 ghost use Rattle.idl_tree.specs.DefinitionYields.{const_yield, declaration_yield, export_yield, interface_yield, definition_yield};
-ghost use Rattle.scoped_names.specs.Entries.{declared, each, declarator_entries, type_dcl_entries, const_entries, except_entries, declaration_entries, export_entries, attribute_identifiers, inheriting, base_names, interface_entries, definition_entries};
+ghost use Rattle.scoped_names.specs.Entries.{attribute_identifiers, optional_parts, scope_of};
+ghost use Rattle.scoped_names.specs.Faults.{attribute_read, base_read, const_read, declaration_read, definition_read, except_read, export_read, feature_read, interface_read, operation_read, param_read, type_dcl_read, typedef_read};
+ghost use Rattle.scoped_names.specs.Reading.{Checks, Tells, each};
+ghost use Rattle.scoped_names.specs.Tests.{attributes_test, optional_test, param_type_test, raised_test, raises_test};
 
 use crate::entry::{Base, EntryKind, Meaning};
 use crate::fault::NameFault;
@@ -16,20 +19,61 @@ use idl_tree::definitions::{
     Param, TypeDcl,
 };
 use idl_tree::names::{Leaf, Listed, ScopedName};
-use idl_tree::types::Declarator;
+use idl_tree::types::{Declarator, ParamType};
 use std::alloc::Global;
 
 impl<'a> Table<'a> {
+    /// The name of an exception.
+    fn bind_raised(&self, scope: usize, name: &ScopedName<'a>) -> Result<(), NameFault>
+        requires { scope ≤ length self.now }
+        ensures { Checks result (raised_test self.now scope name.now) }
+    {
+        let entry = self.resolve(scope, name)?;
+        match self.kind(entry) {
+            EntryKind::Exception => Ok(()),
+            _ => Err(NameFault::NotAType {
+                line: name.start().token.line,
+            }),
+        }
+    }
+
     /// Names of exceptions.
     fn bind_raises(&self, scope: usize, names: &Listed<ScopedName<'a>>) -> Result<(), NameFault>
         requires { scope ≤ length self.now }
+        ensures { Checks result (raises_test self.now scope (parts names.now)) }
     {
         for name in names.iter() {
-            let entry = self.resolve(scope, name)?;
-            if self.kind(entry) != EntryKind::Exception {
-                let line = name.start().token.line;
-                return Err(NameFault::NotAType { line });
-            }
+            self.bind_raised(scope, name)?;
+        }
+        Ok(())
+    }
+
+    fn bind_optional_raises(
+        &self,
+        scope: usize,
+        names: &Option<Listed<ScopedName<'a>>>,
+    ) -> Result<(), NameFault>
+        requires { scope ≤ length self.now }
+        ensures { Checks result (raises_test self.now scope (optional_parts names.now)) }
+    {
+        match names {
+            Some(names) => self.bind_raises(scope, names),
+            None => Ok(()),
+        }
+    }
+
+    /// The type of a result, if there is one.
+    fn bind_result_type(
+        &self,
+        alloc: Global,
+        scope: usize,
+        t: &Option<ParamType<'a>>,
+    ) -> Result<(), NameFault>
+        requires { scope ≤ length self.now }
+        ensures { Checks result (optional_test (param_type_test self.now scope) t.now) }
+    {
+        if let Some(t) = t {
+            self.bind_param_type(alloc, scope, t)?;
         }
         Ok(())
     }
@@ -41,16 +85,14 @@ impl<'a> Table<'a> {
         attributes: &Attributes<'a>,
     ) -> Result<(), NameFault>
         requires { scope ≤ length self.now }
+        ensures { Checks result (attributes_test self.now scope attributes.now) }
     {
         match attributes {
             Attributes::Silent { .. } => Ok(()),
             Attributes::Readonly { raises, .. } => self.bind_raises(scope, raises),
             Attributes::Get { get, set, .. } => {
                 self.bind_raises(scope, get)?;
-                match set {
-                    Some(set) => self.bind_raises(scope, set),
-                    None => Ok(()),
-                }
+                self.bind_optional_raises(scope, set)
             }
             Attributes::Set { set, .. } => self.bind_raises(scope, set),
         }
@@ -66,9 +108,9 @@ impl<'a> Reader<'a> {
         kind: Option<ConstKind>,
         declarator: &Declarator<'a>,
     ) -> Result<(), NameFault>
-        requires { scope ≤ length self.old }
-        ensures told { OnOk result (self.new ≡ declarator_entries kind self.old scope declarator.now) }
-        ensures longer { length self.old ≤ length self.new }
+        requires { scope ≤ length self.old.entries }
+        ensures told { Tells result self.new (typedef_read kind self.old scope declarator.now) }
+        ensures longer { length self.old.entries ≤ length self.new.entries }
     {
         let identifier = declarator.identifier;
         let is_array = declarator.sizes.len() > 0;
@@ -90,9 +132,9 @@ impl<'a> Reader<'a> {
         kind: Option<ConstKind>,
         declarators: &Listed<Declarator<'a>>,
     ) -> Result<(), NameFault>
-        requires { scope ≤ length self.old }
-        ensures told { OnOk result (self.new ≡ each (declarator_entries kind) self.old scope (parts declarators.now)) }
-        ensures longer { length self.old ≤ length self.new }
+        requires { scope ≤ length self.old.entries }
+        ensures told { Tells result self.new (each (typedef_read kind) self.old scope (parts declarators.now)) }
+        ensures longer { length self.old.entries ≤ length self.new.entries }
     {
         for declarator in declarators.iter() {
             self.declare_typedef(alloc, scope, kind, declarator)?;
@@ -106,9 +148,9 @@ impl<'a> Reader<'a> {
         scope: usize,
         t: &TypeDcl<'a>,
     ) -> Result<(), NameFault>
-        requires { scope ≤ length self.old }
-        ensures told { OnOk result (self.new ≡ type_dcl_entries self.old scope t.now) }
-        ensures longer { length self.old ≤ length self.new }
+        requires { scope ≤ length self.old.entries }
+        ensures told { Tells result self.new (type_dcl_read self.old scope t.now) }
+        ensures longer { length self.old.entries ≤ length self.new.entries }
     {
         match t {
             TypeDcl::Typedef {
@@ -134,10 +176,10 @@ impl<'a> Reader<'a> {
 
     /// A constant, which is found from its end on.
     fn bind_const(&mut self, alloc: Global, scope: usize, c: &Const<'a>) -> Result<(), NameFault>
-        requires scope { scope ≤ length self.old }
+        requires scope { scope ≤ length self.old.entries }
         requires small { length (const_yield c.now) < 2 ^ 63 }
-        ensures told { OnOk result (self.new ≡ const_entries self.old scope c.now) }
-        ensures longer { length self.old ≤ length self.new }
+        ensures told { Tells result self.new (const_read self.old scope c.now) }
+        ensures longer { length self.old.entries ≤ length self.new.entries }
     {
         let kind = self.table.bind_const_type(alloc, scope, &c.const_type)?;
         self.is_new(scope, c.identifier)?;
@@ -157,9 +199,9 @@ impl<'a> Reader<'a> {
     }
 
     fn bind_except(&mut self, alloc: Global, scope: usize, e: &Except<'a>) -> Result<(), NameFault>
-        requires { scope ≤ length self.old }
-        ensures told { OnOk result (self.new ≡ except_entries self.old scope e.now) }
-        ensures longer { length self.old ≤ length self.new }
+        requires { scope ≤ length self.old.entries }
+        ensures told { Tells result self.new (except_read self.old scope e.now) }
+        ensures longer { length self.old.entries ≤ length self.new.entries }
     {
         let identifier = e.identifier;
         let inner = self.declare(alloc, scope, identifier, EntryKind::Exception)?;
@@ -175,10 +217,10 @@ impl<'a> Reader<'a> {
         scope: usize,
         d: &Declaration<'a>,
     ) -> Result<(), NameFault>
-        requires scope { scope ≤ length self.old }
+        requires scope { scope ≤ length self.old.entries }
         requires small { length (declaration_yield d.now) < 2 ^ 63 }
-        ensures told { OnOk result (self.new ≡ declaration_entries self.old scope d.now) }
-        ensures longer { length self.old ≤ length self.new }
+        ensures told { Tells result self.new (declaration_read self.old scope d.now) }
+        ensures longer { length self.old.entries ≤ length self.new.entries }
     {
         match d {
             Declaration::TypeDcl(t) => self.bind_type_dcl(alloc, scope, t),
@@ -195,16 +237,16 @@ impl<'a> Reader<'a> {
         identifier: Leaf<'a>,
         kind: EntryKind,
     ) -> Result<usize, NameFault>
-        requires { scope ≤ length self.old }
-        ensures told { OnOk result (self.new ≡ declared kind self.old scope identifier.entry) }
-        ensures longer { length self.old ≤ length self.new }
+        requires { scope ≤ length self.old.entries }
+        ensures told { Tells result self.new (feature_read kind self.old scope identifier.entry) }
+        ensures inner { IfOk result (λ r. r ≡ scope_of self.new.entries scope identifier.entry) }
+        ensures longer { length self.old.entries ≤ length self.new.entries }
     {
         if self.inherits_feature(scope, identifier) {
             let line = identifier.token.line;
             return Err(NameFault::Collides { line });
         }
-        let inner = self.declare(alloc, scope, identifier, kind)?;
-        Ok(inner)
+        self.declare(alloc, scope, identifier, kind)
     }
 
     fn bind_silent(
@@ -213,9 +255,9 @@ impl<'a> Reader<'a> {
         scope: usize,
         identifiers: &Listed<Leaf<'a>>,
     ) -> Result<(), NameFault>
-        requires { scope ≤ length self.old }
-        ensures told { OnOk result (self.new ≡ each (declared EntryKind.Attribute) self.old scope (parts identifiers.now)) }
-        ensures longer { length self.old ≤ length self.new }
+        requires { scope ≤ length self.old.entries }
+        ensures told { Tells result self.new (each (feature_read EntryKind.Attribute) self.old scope (parts identifiers.now)) }
+        ensures longer { length self.old.entries ≤ length self.new.entries }
     {
         for identifier in identifiers.iter() {
             self.bind_feature(alloc, scope, *identifier, EntryKind::Attribute)?;
@@ -230,9 +272,9 @@ impl<'a> Reader<'a> {
         scope: usize,
         attributes: &Attributes<'a>,
     ) -> Result<(), NameFault>
-        requires { scope ≤ length self.old }
-        ensures told { OnOk result (self.new ≡ each (declared EntryKind.Attribute) self.old scope (attribute_identifiers attributes.now)) }
-        ensures longer { length self.old ≤ length self.new }
+        requires { scope ≤ length self.old.entries }
+        ensures told { Tells result self.new (each (feature_read EntryKind.Attribute) self.old scope (attribute_identifiers attributes.now)) }
+        ensures longer { length self.old.entries ≤ length self.new.entries }
     {
         match attributes {
             Attributes::Silent { identifiers, .. } => self.bind_silent(alloc, scope, identifiers),
@@ -252,8 +294,9 @@ impl<'a> Reader<'a> {
         inner: usize,
         params: &Listed<Param<'a>>,
     ) -> Result<(), NameFault>
-        requires { scope ≤ length self.old }
-        ensures { self.new ≡ self.old }
+        requires { scope ≤ length self.old.entries }
+        ensures told { Tells result self.new (each (param_read inner) self.old scope (parts params.now)) }
+        ensures longer { length self.old.entries ≤ length self.new.entries }
     {
         for param in params.iter() {
             self.table.bind_param_type(alloc, scope, &param.param_type)?;
@@ -262,27 +305,37 @@ impl<'a> Reader<'a> {
         Ok(())
     }
 
+    fn bind_optional_params(
+        &mut self,
+        alloc: Global,
+        scope: usize,
+        inner: usize,
+        params: &Option<Listed<Param<'a>>>,
+    ) -> Result<(), NameFault>
+        requires { scope ≤ length self.old.entries }
+        ensures told { Tells result self.new (each (param_read inner) self.old scope (optional_parts params.now)) }
+        ensures longer { length self.old.entries ≤ length self.new.entries }
+    {
+        match params {
+            Some(params) => self.bind_params(alloc, scope, inner, params),
+            None => Ok(()),
+        }
+    }
+
     fn bind_operation(
         &mut self,
         alloc: Global,
         scope: usize,
         o: &Operation<'a>,
     ) -> Result<(), NameFault>
-        requires { scope ≤ length self.old }
-        ensures told { OnOk result (self.new ≡ declared EntryKind.Operation self.old scope o.now.identifier) }
-        ensures longer { length self.old ≤ length self.new }
+        requires { scope ≤ length self.old.entries }
+        ensures told { Tells result self.new (operation_read self.old scope o.now) }
+        ensures longer { length self.old.entries ≤ length self.new.entries }
     {
-        if let Some(t) = &o.result_type {
-            self.table.bind_param_type(alloc, scope, t)?;
-        }
+        self.table.bind_result_type(alloc, scope, &o.result_type)?;
         let inner = self.bind_feature(alloc, scope, o.identifier, EntryKind::Operation)?;
-        if let Some(params) = &o.params {
-            self.bind_params(alloc, scope, inner, params)?;
-        }
-        match &o.raises {
-            Some(names) => self.table.bind_raises(scope, names),
-            None => Ok(()),
-        }
+        self.bind_optional_params(alloc, scope, inner, &o.params)?;
+        self.table.bind_optional_raises(scope, &o.raises)
     }
 
     fn bind_attribute(
@@ -291,9 +344,9 @@ impl<'a> Reader<'a> {
         scope: usize,
         a: &Attribute<'a>,
     ) -> Result<(), NameFault>
-        requires { scope ≤ length self.old }
-        ensures told { OnOk result (self.new ≡ each (declared EntryKind.Attribute) self.old scope (attribute_identifiers a.now.declared)) }
-        ensures longer { length self.old ≤ length self.new }
+        requires { scope ≤ length self.old.entries }
+        ensures told { Tells result self.new (attribute_read self.old scope a.now) }
+        ensures longer { length self.old.entries ≤ length self.new.entries }
     {
         self.table.bind_param_type(alloc, scope, &a.attribute_type)?;
         self.bind_attributes(alloc, scope, &a.declared)?;
@@ -306,13 +359,13 @@ impl<'a> Reader<'a> {
         scope: usize,
         export: &Export<'a>,
     ) -> Result<(), NameFault>
-        requires scope { scope ≤ length self.old }
+        requires scope { scope ≤ length self.old.entries }
         requires small { length (export_yield export.now) < 2 ^ 63 }
-        ensures told { OnOk result (self.new ≡ export_entries self.old scope export.now) }
-        ensures longer { length self.old ≤ length self.new }
+        ensures told { Tells result self.new (export_read self.old scope export.now) }
+        ensures longer { length self.old.entries ≤ length self.new.entries }
     {
         match export {
-            Export::Pragma(_) => Ok(()),
+            Export::Pragma(leaf) => self.bind_pragma(scope, leaf),
             Export::Declaration(d) => self.bind_declaration(alloc, scope, d),
             Export::Attribute(a) => self.bind_attribute(alloc, scope, a),
             Export::Operation(o) => self.bind_operation(alloc, scope, o),
@@ -327,10 +380,10 @@ impl<'a> Reader<'a> {
         inner: usize,
         names: &Listed<ScopedName<'a>>,
     ) -> Result<(), NameFault>
-        requires scope { scope ≤ length self.old }
-        requires inner { inner ≤ length self.old }
-        ensures told { OnOk result (self.new ≡ inheriting self.old scope inner (parts names.now)) }
-        ensures longer { length self.old ≤ length self.new }
+        requires scope { scope ≤ length self.old.entries }
+        requires inner { inner ≤ length self.old.entries }
+        ensures told { Tells result self.new (each (base_read inner) self.old scope (parts names.now)) }
+        ensures longer { length self.old.entries ≤ length self.new.entries }
     {
         for name in names.iter() {
             let entry = self.table.resolve(scope, name)?;
@@ -344,16 +397,34 @@ impl<'a> Reader<'a> {
         Ok(())
     }
 
+    fn bind_optional_bases(
+        &mut self,
+        alloc: Global,
+        scope: usize,
+        inner: usize,
+        names: &Option<Listed<ScopedName<'a>>>,
+    ) -> Result<(), NameFault>
+        requires scope { scope ≤ length self.old.entries }
+        requires inner { inner ≤ length self.old.entries }
+        ensures told { Tells result self.new (each (base_read inner) self.old scope (optional_parts names.now)) }
+        ensures longer { length self.old.entries ≤ length self.new.entries }
+    {
+        match names {
+            Some(names) => self.bind_bases(alloc, scope, inner, names),
+            None => Ok(()),
+        }
+    }
+
     fn bind_exports(
         &mut self,
         alloc: Global,
         scope: usize,
         exports: &[Export<'a>],
     ) -> Result<(), NameFault>
-        requires scope { scope ≤ length self.old }
+        requires scope { scope ≤ length self.old.entries }
         requires small { length (flat_map export_yield exports.now) < 2 ^ 63 }
-        ensures told { OnOk result (self.new ≡ each export_entries self.old scope exports.now) }
-        ensures longer { length self.old ≤ length self.new }
+        ensures told { Tells result self.new (each export_read self.old scope exports.now) }
+        ensures longer { length self.old.entries ≤ length self.new.entries }
     {
         for export in exports {
             self.bind_export(alloc, scope, export)?;
@@ -367,10 +438,10 @@ impl<'a> Reader<'a> {
         scope: usize,
         interface: &Interface<'a>,
     ) -> Result<(), NameFault>
-        requires scope { scope ≤ length self.old }
+        requires scope { scope ≤ length self.old.entries }
         requires small { length (interface_yield interface.now) < 2 ^ 63 }
-        ensures told { OnOk result (self.new ≡ interface_entries self.old scope interface.now) }
-        ensures longer { length self.old ≤ length self.new }
+        ensures told { Tells result self.new (interface_read self.old scope interface.now) }
+        ensures longer { length self.old.entries ≤ length self.new.entries }
     {
         match interface {
             Interface::Ahead(identifier) => {
@@ -383,10 +454,9 @@ impl<'a> Reader<'a> {
                 exports,
             } => {
                 let inner = self.declare(alloc, scope, *identifier, EntryKind::Interface)?;
-                if let Some(names) = bases {
-                    self.bind_bases(alloc, scope, inner, names)?;
-                }
-                self.define(inner, identifier.token.line)?;
+                self.is_undefined(inner, identifier.token.line)?;
+                self.bind_optional_bases(alloc, scope, inner, bases)?;
+                self.mark_defined(inner)?;
                 self.bind_exports(alloc, inner, exports.as_slice())
             }
         }
@@ -399,16 +469,13 @@ impl<'a> Reader<'a> {
         scope: usize,
         definition: &Definition<'a>,
     ) -> Result<(), NameFault>
-        requires scope { scope ≤ length self.old }
+        requires scope { scope ≤ length self.old.entries }
         requires small { length (definition_yield definition.now) < 2 ^ 63 }
-        ensures told { OnOk result (self.new ≡ definition_entries self.old scope definition.now) }
-        ensures longer { length self.old ≤ length self.new }
+        ensures told { Tells result self.new (definition_read self.old scope definition.now) }
+        ensures longer { length self.old.entries ≤ length self.new.entries }
     {
         match definition {
-            Definition::Pragma(pragma) => {
-                self.bind_pragma(scope, pragma);
-                Ok(())
-            }
+            Definition::Pragma(leaf) => self.bind_pragma(scope, leaf),
             Definition::Declaration(d) => self.bind_declaration(alloc, scope, d),
             Definition::Interface(interface) => self.bind_interface(alloc, scope, interface),
             Definition::Module(m) => {
@@ -428,10 +495,10 @@ impl<'a> Reader<'a> {
         scope: usize,
         definitions: &[Definition<'a>],
     ) -> Result<(), NameFault>
-        requires scope { scope ≤ length self.old }
+        requires scope { scope ≤ length self.old.entries }
         requires small { length (flat_map definition_yield definitions.now) < 2 ^ 63 }
-        ensures told { OnOk result (self.new ≡ each definition_entries self.old scope definitions.now) }
-        ensures longer { length self.old ≤ length self.new }
+        ensures told { Tells result self.new (each definition_read self.old scope definitions.now) }
+        ensures longer { length self.old.entries ≤ length self.new.entries }
     {
         for definition in definitions {
             self.bind_definition(alloc, scope, definition)?;

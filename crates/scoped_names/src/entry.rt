@@ -2,6 +2,7 @@
 
 ghost use Rattle.std.specs.Prelude.{◌≡◌};
 ghost use Rattle.scoped_names.specs.Entries.{plain as plain_meaning};
+ghost use Rattle.scoped_names.specs.Faults.{as_feature, keeps_its_name};
 
 use const_values::{ConstKind, Constant};
 
@@ -22,6 +23,19 @@ pub enum EntryKind {
     Exception,
     Operation,
     Attribute,
+}
+
+impl EntryKind {
+    /// Whether the name of what has a scope isn't declared directly in it. A parameter may have the
+    /// name of its operation.
+    pub(crate) fn keeps_its_name(self) -> bool
+        ensures { result ≡ keeps_its_name self }
+    {
+        match self {
+            EntryKind::Operation => false,
+            _ => true,
+        }
+    }
 }
 
 /// What an identifier is declared as.
@@ -47,6 +61,18 @@ impl Meaning {
             worth: None,
             stands_for: None,
         }
+    }
+
+    /// The same of what is found among operations and attributes alone: of no other name is the
+    /// token ever behind it.
+    pub fn as_feature(&self) -> Self
+        ensures { result ≡ as_feature self.now }
+    {
+        let token = match self.kind {
+            EntryKind::Operation | EntryKind::Attribute => self.token,
+            _ => usize::MAX,
+        };
+        Meaning::plain(token, self.kind)
     }
 }
 

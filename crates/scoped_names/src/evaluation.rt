@@ -2,7 +2,9 @@
 
 ghost use Rattle.std.specs.Prelude.{◌≡◌, ◌≤◌, ◌<◌, length, Some, IfOk, IfErr};
 ghost use Rattle.const_values.specs.Worth.{worth, whole_number, operator_applied};
-ghost use Rattle.scoped_names.specs.Constants.{Explains, named_worth, of_type, size_in_scope, worth_in_scope};
+ghost use Rattle.scoped_names.specs.Constants.{Explains, named_worth};
+ghost use Rattle.scoped_names.specs.Reading.{Checks, Gives, all};
+ghost use Rattle.scoped_names.specs.Tests.{constant_test, names_test, size_read, size_test, value_of_type, value_read};
 
 use crate::fault::NameFault;
 use crate::table::Table;
@@ -15,7 +17,7 @@ use std::alloc::Global;
 /// The number, if the constant is a whole one.
 fn whole(constant: Constant, line: usize) -> Result<i128, NameFault>
     ensures ok { IfOk result (λ z. whole_number (Some constant) ≡ Some z) }
-    ensures err { IfErr result (Explains (whole_number (Some constant))) }
+    ensures err { IfErr result (Explains line (whole_number (Some constant))) }
 {
     match constant {
         Constant::Whole(value) => Ok(value),
@@ -25,7 +27,7 @@ fn whole(constant: Constant, line: usize) -> Result<i128, NameFault>
 
 fn some_or_bad(value: Option<i128>, line: usize) -> Result<i128, NameFault>
     ensures ok { IfOk result (λ z. value ≡ Some z) }
-    ensures err { IfErr result (Explains value) }
+    ensures err { IfErr result (Explains line value) }
 {
     match value {
         Some(value) => Ok(value),
@@ -35,7 +37,7 @@ fn some_or_bad(value: Option<i128>, line: usize) -> Result<i128, NameFault>
 
 fn constant_or_bad(value: Option<Constant>, line: usize) -> Result<Constant, NameFault>
     ensures ok { IfOk result (λ c. value ≡ Some c) }
-    ensures err { IfErr result (Explains value) }
+    ensures err { IfErr result (Explains line value) }
 {
     match value {
         Some(value) => Ok(value),
@@ -46,7 +48,7 @@ fn constant_or_bad(value: Option<Constant>, line: usize) -> Result<Constant, Nam
 /// An operator between a number and the constant behind it.
 fn joined(operator: Operator, left: i128, right: Constant, line: usize) -> Result<i128, NameFault>
     ensures ok { IfOk result (λ z. operator_applied operator (Some left) (whole_number (Some right)) ≡ Some z) }
-    ensures err { IfErr result (Explains
+    ensures err { IfErr result (Explains line
         (operator_applied operator (Some left) (whole_number (Some right)))) }
 {
     match right {
@@ -56,20 +58,57 @@ fn joined(operator: Operator, left: i128, right: Constant, line: usize) -> Resul
 }
 
 impl<'a> Table<'a> {
+    /// That a name finds a constant or an enumerator.
+    fn test_constant(&self, scope: usize, name: &ScopedName<'a>) -> Result<(), NameFault>
+        requires { scope ≤ length self.now }
+        ensures { Checks result (constant_test self.now scope name.now) }
+    {
+        let entry = self.resolve(scope, name)?;
+        match self.constant(entry) {
+            Some(_) => Ok(()),
+            None => Err(NameFault::BadConstant {
+                line: name.start().token.line,
+            }),
+        }
+    }
+
+    /// That each name in an expression does, in the order of reading.
+    fn test_names(&self, scope: usize, expr: &Expr<'a>) -> Result<(), NameFault>
+        requires { scope ≤ length self.now }
+        ensures { Checks result (names_test self.now scope expr.now) }
+    {
+        match expr {
+            Expr::Name(name) => self.test_constant(scope, name),
+            Expr::Number(_) | Expr::Character(_) | Expr::Text(_) | Expr::Boolean { .. } => Ok(()),
+            Expr::Parenthesized { inner, .. } => self.test_names(scope, inner),
+            Expr::Signed { operand, .. } => self.test_names(scope, operand),
+            Expr::Chain { first, rest } => {
+                self.test_names(scope, first)?;
+                for part in rest {
+                    self.test_names(scope, &part.operand)?;
+                }
+                Ok(())
+            }
+        }
+    }
+
     /// What a name is worth.
-    fn name_worth(&self, scope: usize, name: &ScopedName<'a>) -> Result<Constant, NameFault>
+    fn name_worth(
+        &self,
+        scope: usize,
+        name: &ScopedName<'a>,
+        line: usize,
+    ) -> Result<Constant, NameFault>
         requires { scope ≤ length self.now }
         ensures ok { IfOk result (λ c. named_worth self.now scope name.now ≡ Some c) }
-        ensures err { IfErr result (Explains (named_worth self.now scope name.now)) }
+        ensures err { IfErr result (Explains line (named_worth self.now scope name.now)) }
     {
         match self.resolve(scope, name) {
             Ok(entry) => match self.constant(entry) {
                 Some(constant) => Ok(constant.shared()?),
-                None => Err(NameFault::BadConstant {
-                    line: name.start().token.line,
-                }),
+                None => Err(NameFault::BadConstant { line }),
             },
-            Err(fault) => Err(fault),
+            Err(_) => Err(NameFault::BadConstant { line }),
         }
     }
 
@@ -82,10 +121,10 @@ impl<'a> Table<'a> {
     ) -> Result<Constant, NameFault>
         requires { scope ≤ length self.now }
         ensures ok { IfOk result (λ c. worth (named_worth self.now scope) expr.now ≡ Some c) }
-        ensures err { IfErr result (Explains (worth (named_worth self.now scope) expr.now)) }
+        ensures err { IfErr result (Explains line (worth (named_worth self.now scope) expr.now)) }
     {
         match expr {
-            Expr::Name(name) => self.name_worth(scope, name),
+            Expr::Name(name) => self.name_worth(scope, name, line),
             Expr::Number(leaf) | Expr::Character(leaf) => {
                 constant_or_bad(literal_constant(leaf), line)
             }
@@ -107,7 +146,7 @@ impl<'a> Table<'a> {
         }
     }
 
-    /// What an expression is worth that stands in the scope.
+    /// What an expression is worth that stands in the scope. Its names are judged first.
     ///
     /// # Errors
     ///
@@ -119,9 +158,9 @@ impl<'a> Table<'a> {
         expr: &Expr<'a>,
     ) -> Result<Constant, NameFault>
         requires { scope ≤ length self.now }
-        ensures ok { IfOk result (λ c. worth_in_scope self.now scope expr.now ≡ Some c) }
-        ensures err { IfErr result (Explains (worth_in_scope self.now scope expr.now)) }
+        ensures { Gives result (value_read self.now scope expr.now) }
     {
+        self.test_names(scope, expr)?;
         self.worth_at(alloc, scope, expr, expr.start().token.line)
     }
 
@@ -137,8 +176,7 @@ impl<'a> Table<'a> {
         expr: &Expr<'a>,
     ) -> Result<u128, NameFault>
         requires { scope ≤ length self.now }
-        ensures ok { IfOk result (λ n. size_in_scope self.now scope expr.now ≡ Some n) }
-        ensures err { IfErr result (Explains (size_in_scope self.now scope expr.now)) }
+        ensures { Gives result (size_read self.now scope expr.now) }
     {
         match self.value(alloc, scope, expr)? {
             Constant::Whole(value) if value > 0 => Ok(value.unsigned_abs()),
@@ -156,6 +194,7 @@ impl<'a> Table<'a> {
         sizes: &[ConstExpr<'a>],
     ) -> Result<(), NameFault>
         requires { scope ≤ length self.now }
+        ensures { Checks result (all (size_test self.now scope) sizes.now) }
     {
         for size in sizes {
             self.size(alloc, scope, &size.expr)?;
@@ -172,17 +211,14 @@ impl<'a> Table<'a> {
         expr: &Expr<'a>,
     ) -> Result<Constant, NameFault>
         requires { scope ≤ length self.now }
-        ensures { IfOk result (λ v. of_type kind (worth_in_scope self.now scope expr.now) ≡ Some v) }
+        ensures { Gives result (value_of_type kind self.now scope expr.now) }
     {
-        let line = expr.start().token.line;
-        let Some(kind) = kind else {
-            return Err(NameFault::BadConstant { line });
-        };
         let constant = self.value(alloc, scope, expr)?;
-        if kind.admits(&constant) {
-            Ok(constant)
-        } else {
-            Err(NameFault::BadConstant { line })
+        match kind {
+            Some(kind) if kind.admits(&constant) => Ok(constant),
+            _ => Err(NameFault::BadConstant {
+                line: expr.start().token.line,
+            }),
         }
     }
 }

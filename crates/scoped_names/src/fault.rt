@@ -64,15 +64,6 @@ impl NameFault {
             NameFault::NoMemory => 0,
         }
     }
-
-    /// The one with the lower line. A pragma has its line to itself.
-    pub(crate) fn or_earlier(self, other: NameFault) -> NameFault {
-        if other.line() < self.line() {
-            other
-        } else {
-            self
-        }
-    }
 }
 
 impl From<AllocError> for NameFault {

@@ -1,8 +1,10 @@
 //! The names of a whole specification.
 
-ghost use Rattle.std.specs.Prelude.{◌≡◌, ◌<◌, ◌≤◌, ◌↔◌, ℕ, length, map, option_copied, slice_get, Some, Ok, IfOk, IfErr, IfSome};
+ghost use Rattle.std.specs.Prelude.{◌≡◌, ◌<◌, ◌≤◌, ◌↔◌, ℕ, length, map, option_copied, slice_get, Ok, Some, IfOk, IfSome};
 ghost use Rattle.std.specs.String.{string_bytes};
-ghost use Rattle.scoped_names.specs.Constants.{Explains, size_in_scope, worth_in_scope};
+ghost use Rattle.scoped_names.specs.Constants.{size_in_scope, worth_in_scope};
+ghost use Rattle.scoped_names.specs.Reading.{Gives};
+ghost use Rattle.scoped_names.specs.Tests.{resolved, size_read, value_read};
 ghost use Rattle.scoped_names.specs.Entry.{AreDistinct, bases_in, meant_in, named, worth_in};
 ghost use Rattle.scoped_names.specs.RepositoryIds.{name_in, path as path_of, repository_id};
 ghost use Rattle.scoped_names.specs.Search.{Finds, word};
@@ -42,6 +44,7 @@ impl<'a> Names<'a> {
     /// `Unknown`, `CaseDiffers` or `Ambiguous`, with the line of the name's first token.
     pub fn resolve(&self, scope: usize, name: &ScopedName<'a>) -> Result<usize, NameFault>
         requires { scope ≤ length self.now.entries }
+        ensures told { result ≡ resolved self.now.entries scope name.now }
         ensures finds { (entry : ℕ) → (result ≡ Ok entry) ↔ Finds self.now.entries scope name.now entry }
         ensures placed { IfOk result (λ entry. entry < length self.now.entries) }
     {
@@ -143,8 +146,8 @@ impl<'a> Names<'a> {
     /// The fault of a name in it, `BadConstant` where it has no worth, `NoMemory`.
     pub fn value(&self, alloc: Global, scope: usize, expr: &Expr<'a>) -> Result<Constant, NameFault>
         requires { scope ≤ length self.now.entries }
+        ensures told { Gives result (value_read self.now.entries scope expr.now) }
         ensures ok { IfOk result (λ c. worth_in_scope self.now.entries scope expr.now ≡ Some c) }
-        ensures err { IfErr result (Explains (worth_in_scope self.now.entries scope expr.now)) }
     {
         self.table.value(alloc, scope, expr)
     }
@@ -156,8 +159,8 @@ impl<'a> Names<'a> {
     /// As `value`, and `BadConstant` where the worth is no such number.
     pub fn size(&self, alloc: Global, scope: usize, expr: &Expr<'a>) -> Result<u128, NameFault>
         requires { scope ≤ length self.now.entries }
+        ensures told { Gives result (size_read self.now.entries scope expr.now) }
         ensures ok { IfOk result (λ n. size_in_scope self.now.entries scope expr.now ≡ Some n) }
-        ensures err { IfErr result (Explains (size_in_scope self.now.entries scope expr.now)) }
     {
         self.table.size(alloc, scope, expr)
     }

@@ -1,15 +1,24 @@
 //! The walk over a specification: what was read so far.
 
-ghost use Rattle.std.specs.Prelude.{◌≡◌, ◌≤◌, ◌<◌, length, IfOk, OnOk, []};
+ghost use Rattle.std.specs.Prelude.{◌≡◌, ◌≤◌, ◌<◌, ◌^◌, length, slice_get, IfOk, IfErr, IfSome, Ok};
+ghost use Rattle.scoped_names.specs.declared.fault.NameFault.TheVariants.{NoMemory};
+ghost use Rattle.std.specs.List.{flat_map};
+ghost use Rattle.idl_tree.specs.DefinitionYields.{definition_yield};
+ghost use Rattle.scoped_names.specs.Entries.{scope_of};
+ghost use Rattle.scoped_names.specs.Search.{inherited, word};
+ghost use Rattle.scoped_names.specs.Faults.{all_read, base_added, declared, declared_as, defined, defined_from, has_body, is_defined_interface, is_interface, is_left_open, is_something, is_taken, keeps_prefix, may_be_base, may_reappear, member_added, new_test, nothing_yet, prefix_read, reappears, undefined_test, with_declared, with_defined};
+ghost use Rattle.scoped_names.specs.Reading.{Checks, Tells};
 ghost use Rattle.scoped_names.specs.Entry.{AreDistinct};
-ghost use Rattle.scoped_names.specs.Entries.{declared, declared_as, scope_of, with_base};
+ghost use Rattle.scoped_names.specs.Whole.{whole};
 
 use crate::entry::{Base, EntryKind, Meaning};
 use crate::fault::NameFault;
 use crate::key::{Key, Word};
+use crate::names::Names;
 use crate::record::Record;
+use crate::repository_ids::IdPragmas;
 use crate::table::Table;
-use idl_lexer::{Kind, Pragma};
+use idl_tree::definitions::Definition;
 use idl_tree::names::Leaf;
 use indexmap::IndexSet;
 use std::alloc::Global;
@@ -27,27 +36,59 @@ pub(crate) struct Reader<'a> {
     defined: IndexSet<usize>,
     /// The prefix of repository ids that is set.
     prefix: &'a str,
+    /// What pragmas give to entries.
+    pub ids: IdPragmas<'a>,
 }
 
 impl<'a> Model for Reader<'a> {
-    ghost use Rattle.std.specs.Prelude.{List};
-    ghost use Rattle.scoped_names.specs.Entry.{Entry};
+    ghost use Rattle.std.specs.Prelude.{map};
+    ghost use Rattle.scoped_names.specs.Reading.{State};
+    ghost use Rattle.scoped_names.specs.StateKept.{member_of};
 
-    ghost Value = { List Entry };
+    ghost Value = { State };
 
-    ghost view = { λ r. r.table };
+    ghost view = { λ r. record { entries = r.table; features = r.features; members = map member_of r.members.keys; defined = r.defined.keys; prefix = r.prefix.now; given = r.ids } };
 }
 
 impl EntryKind {
-    /// What an interface inherits and may not repeat.
-    fn is_feature(self) -> bool {
-        self == EntryKind::Operation || self == EntryKind::Attribute
+    /// Whether what was declared as this may be declared again as that.
+    fn may_reappear(self, other: EntryKind) -> bool
+        ensures { result ≡ may_reappear self other }
+    {
+        match (self, other) {
+            (EntryKind::Module, EntryKind::Module)
+            | (EntryKind::Interface, EntryKind::Interface)
+            | (EntryKind::Struct, EntryKind::Struct)
+            | (EntryKind::Union, EntryKind::Union) => true,
+            _ => false,
+        }
     }
 
-    /// What may be declared again in its scope.
-    fn can_reappear(self) -> bool {
+    /// Whether its prefix is that of its first declaration.
+    fn keeps_prefix(self) -> bool
+        ensures { result ≡ keeps_prefix self }
+    {
         match self {
-            EntryKind::Module | EntryKind::Interface | EntryKind::Struct | EntryKind::Union => true,
+            EntryKind::Module => false,
+            _ => true,
+        }
+    }
+
+    /// A structure or a union.
+    fn has_body(self) -> bool
+        ensures { result ≡ has_body self }
+    {
+        match self {
+            EntryKind::Struct | EntryKind::Union => true,
+            _ => false,
+        }
+    }
+
+    fn is_interface(self) -> bool
+        ensures { result ≡ is_interface self }
+    {
+        match self {
+            EntryKind::Interface => true,
             _ => false,
         }
     }
@@ -56,7 +97,8 @@ impl EntryKind {
 impl<'a> Reader<'a> {
     /// Nothing yet.
     pub fn new(alloc: Global) -> Result<Self, NameFault>
-        ensures { IfOk result (λ reader. reader ≡ []) }
+        ensures empty { IfOk result (λ reader. reader ≡ nothing_yet) }
+        ensures memory { IfErr result (λ fault. fault ≡ NoMemory) }
     {
         Ok(Reader {
             table: Table::new(alloc)?,
@@ -64,31 +106,35 @@ impl<'a> Reader<'a> {
             members: IndexSet::new(alloc),
             defined: IndexSet::new(alloc),
             prefix: "",
+            ids: IdPragmas::new(alloc),
         })
     }
 
     /// Whether the scope has a member of the word, or has the word for its own name. An operation's
     /// name may be that of a parameter.
-    fn is_taken(&self, key: &Key<'a>) -> bool {
+    fn is_taken(&self, key: &Key<'a>) -> bool
+        ensures { result ≡ is_taken self.now key.now.scope key.now.word.text.now }
+    {
         self.table.is_own_name(key) || self.members.contains(key)
     }
 
-    /// Whether an entry may appear again as what it appears here.
+    /// That an entry may appear again as what it appears here.
     fn appears_again(
         &self,
         number: usize,
-        text: &str,
+        identifier: Leaf<'a>,
         kind: EntryKind,
-        line: usize,
     ) -> Result<(), NameFault>
-        requires { number < length self.now }
+        requires { number < length self.now.entries }
+        ensures { Tells result self.now (reappears kind self.now identifier.entry (slice_get self.now.entries number)) }
     {
-        let is_same = kind == self.table.kind(number) && text == self.table.name(number);
-        if !kind.can_reappear() || !is_same {
+        let line = identifier.token.line;
+        let is_same = identifier.name().as_bytes() == self.table.name(number).as_bytes();
+        if !(kind.may_reappear(self.table.kind(number)) && is_same) {
             return Err(NameFault::Collides { line });
         }
-        let prefix = self.table.prefix(number);
-        if kind != EntryKind::Module && self.prefix.as_bytes() != prefix.as_bytes() {
+        let has_prefix = self.prefix.as_bytes() == self.table.prefix(number).as_bytes();
+        if kind.keeps_prefix() && !has_prefix {
             return Err(NameFault::PrefixDiffers { line });
         }
         Ok(())
@@ -102,51 +148,20 @@ impl<'a> Reader<'a> {
         identifier: Leaf<'a>,
         meaning: Meaning,
     ) -> Result<(), NameFault>
-        requires { scope ≤ length self.old }
-        ensures told { OnOk result (self.new ≡ declared_as meaning self.old scope identifier.entry) }
-        ensures longer { length self.old ≤ length self.new }
+        requires { scope ≤ length self.old.entries }
+        ensures told { Tells result self.new (Ok (with_declared meaning self.old scope identifier.entry)) }
+        ensures longer { length self.old.entries ≤ length self.new.entries }
     {
-        let text = identifier.name();
-        let key = Key {
-            scope,
-            word: Word { text },
-        };
-        let line = identifier.token.line;
         // the tables are of one length
         if scope > self.features.len() {
             return Err(NameFault::NoMemory);
         }
-        let token = if meaning.kind.is_feature() {
-            meaning.token
-        } else {
-            usize::MAX
-        };
-        self.features.add(
-            alloc,
-            Record {
-                key,
-                token,
-                line,
-                kind: meaning.kind,
-                worth: None,
-                stands_for: None,
-                prefix: self.prefix,
-                heir: None,
-            },
-        )?;
-        self.table.add(
-            alloc,
-            Record {
-                key,
-                token: meaning.token,
-                line,
-                kind: meaning.kind,
-                worth: meaning.worth,
-                stands_for: meaning.stands_for,
-                prefix: self.prefix,
-                heir: None,
-            },
-        )
+        let prefix = self.prefix;
+        let feature = meaning.as_feature();
+        self.features
+            .add(alloc, Record::new(prefix, scope, identifier, feature))?;
+        self.table
+            .add(alloc, Record::new(prefix, scope, identifier, meaning))
     }
 
     /// Declares an identifier in a scope as what is meant. Gives the scope that the declaration has.
@@ -161,11 +176,11 @@ impl<'a> Reader<'a> {
         identifier: Leaf<'a>,
         meaning: Meaning,
     ) -> Result<usize, NameFault>
-        requires { scope ≤ length self.old }
-        ensures told { OnOk result (self.new ≡ declared_as meaning self.old scope identifier.entry) }
-        ensures inner { IfOk result (λ r. r ≡ scope_of self.new scope identifier.entry) }
-        ensures within { IfOk result (λ r. (r ≤ length self.new) × (1 ≤ r)) }
-        ensures longer { length self.old ≤ length self.new }
+        requires { scope ≤ length self.old.entries }
+        ensures told { Tells result self.new (declared_as meaning self.old scope identifier.entry) }
+        ensures inner { IfOk result (λ r. r ≡ scope_of self.new.entries scope identifier.entry) }
+        ensures within { IfOk result (λ r. (r ≤ length self.new.entries) × (1 ≤ r)) }
+        ensures longer { length self.old.entries ≤ length self.new.entries }
     {
         let line = identifier.token.line;
         let word = Word {
@@ -177,7 +192,7 @@ impl<'a> Reader<'a> {
         }
         match self.table.declared(scope, identifier) {
             Some(number) => {
-                self.appears_again(number, word.text, meaning.kind, line)?;
+                self.appears_again(number, identifier, meaning.kind)?;
                 Ok(number + 1)
             }
             None => {
@@ -199,11 +214,11 @@ impl<'a> Reader<'a> {
         identifier: Leaf<'a>,
         kind: EntryKind,
     ) -> Result<usize, NameFault>
-        requires { scope ≤ length self.old }
-        ensures told { OnOk result (self.new ≡ declared kind self.old scope identifier.entry) }
-        ensures inner { IfOk result (λ r. r ≡ scope_of self.new scope identifier.entry) }
-        ensures within { IfOk result (λ r. (r ≤ length self.new) × (1 ≤ r)) }
-        ensures longer { length self.old ≤ length self.new }
+        requires { scope ≤ length self.old.entries }
+        ensures told { Tells result self.new (declared kind self.old scope identifier.entry) }
+        ensures inner { IfOk result (λ r. r ≡ scope_of self.new.entries scope identifier.entry) }
+        ensures within { IfOk result (λ r. (r ≤ length self.new.entries) × (1 ≤ r)) }
+        ensures longer { length self.old.entries ≤ length self.new.entries }
     {
         self.declare_as(
             alloc,
@@ -218,7 +233,9 @@ impl<'a> Reader<'a> {
     /// # Errors
     ///
     /// `Collides`, with the identifier's line.
-    pub fn is_new(&self, scope: usize, identifier: Leaf<'a>) -> Result<(), NameFault> {
+    pub fn is_new(&self, scope: usize, identifier: Leaf<'a>) -> Result<(), NameFault>
+        ensures { Checks result (new_test self.now scope identifier.entry) }
+    {
         let word = Word {
             text: identifier.name(),
         };
@@ -230,19 +247,44 @@ impl<'a> Reader<'a> {
         Ok(())
     }
 
-    /// Notes that a scope is defined here.
+    /// That a scope has no definition yet.
+    ///
+    /// # Errors
+    ///
+    /// `Collides`, with the line.
+    pub fn is_undefined(&self, scope: usize, line: usize) -> Result<(), NameFault>
+        ensures { Checks result (undefined_test self.now scope line) }
+    {
+        if self.defined.contains(&scope) {
+            return Err(NameFault::Collides { line });
+        }
+        Ok(())
+    }
+
+    /// Notes that a scope is defined.
+    ///
+    /// # Errors
+    ///
+    /// `NoMemory`.
+    pub fn mark_defined(&mut self, scope: usize) -> Result<(), NameFault>
+        ensures told { Tells result self.new (Ok (with_defined self.old scope)) }
+        ensures same { self.new.entries ≡ self.old.entries }
+    {
+        self.defined.insert(scope)?;
+        Ok(())
+    }
+
+    /// Notes the definition of a scope.
     ///
     /// # Errors
     ///
     /// `Collides` where it was defined before, or `NoMemory`.
     pub fn define(&mut self, scope: usize, line: usize) -> Result<(), NameFault>
-        ensures { self.new ≡ self.old }
+        ensures told { Tells result self.new (defined self.old scope line) }
+        ensures same { self.new.entries ≡ self.old.entries }
     {
-        if self.defined.insert(scope)? {
-            Ok(())
-        } else {
-            Err(NameFault::Collides { line })
-        }
+        self.is_undefined(scope, line)?;
+        self.mark_defined(scope)
     }
 
     /// Notes a member of a scope, which no search finds.
@@ -251,7 +293,8 @@ impl<'a> Reader<'a> {
     ///
     /// `Collides` where the scope has the name already, or `NoMemory`.
     pub fn add_member(&mut self, scope: usize, identifier: Leaf<'a>) -> Result<(), NameFault>
-        ensures { self.new ≡ self.old }
+        ensures told { Tells result self.new (member_added self.old scope identifier.entry) }
+        ensures same { self.new.entries ≡ self.old.entries }
     {
         self.is_new(scope, identifier)?;
         let word = Word {
@@ -263,26 +306,27 @@ impl<'a> Reader<'a> {
     }
 
     /// Whether a scope inherits an operation or attribute of the name.
-    pub fn inherits_feature(&self, scope: usize, identifier: Leaf<'a>) -> bool {
+    pub fn inherits_feature(&self, scope: usize, identifier: Leaf<'a>) -> bool
+        ensures { result ≡ is_something (inherited self.now.features identifier.entry.number scope (word identifier.entry)) }
+    {
         self.features
             .inherits(identifier.number, scope, identifier.name())
     }
 
-    /// A prefix that holds from here on, if a pragma in the file's scope sets one.
-    pub fn bind_pragma(&mut self, scope: usize, leaf: &Leaf<'a>)
-        ensures { self.new ≡ self.old }
+    /// A prefix that holds from here on, in the file's scope.
+    ///
+    /// # Errors
+    ///
+    /// `PrefixInScope`, with the line, in another scope.
+    pub fn set_prefix(&mut self, scope: usize, text: &'a str, line: usize) -> Result<(), NameFault>
+        ensures told { Tells result self.new (prefix_read self.old scope text.entry.now line) }
+        ensures same { self.new.entries ≡ self.old.entries }
     {
         if scope > 0 {
-            return;
+            return Err(NameFault::PrefixInScope { line });
         }
-        match leaf.token.kind {
-            Kind::Pragma => {
-                if let Pragma::Prefix { text } = leaf.pragma() {
-                    self.prefix = text;
-                }
-            }
-            _ => {}
-        }
+        self.prefix = text;
+        Ok(())
     }
 
     /// Gives an interface one more base, which has to be an interface that was defined, and to have
@@ -298,30 +342,53 @@ impl<'a> Reader<'a> {
         base: Base,
         line: usize,
     ) -> Result<(), NameFault>
-        requires inner { inner ≤ length self.old }
-        requires placed { base.entry < length self.old }
-        ensures told { OnOk result (self.new ≡ with_base self.old inner base) }
-        ensures longer { length self.old ≤ length self.new }
+        requires inner { inner ≤ length self.old.entries }
+        requires placed { base.entry < length self.old.entries }
+        ensures told { Tells result self.new (base_added self.old inner base line) }
+        ensures longer { length self.old.entries ≤ length self.new.entries }
     {
-        if !self.may_be_base(base.entry) {
-            return Err(NameFault::BadBase { line });
-        }
         // the tables are of one length
         if inner > self.features.len() || base.entry >= self.features.len() {
             return Err(NameFault::NoMemory);
         }
+        if !self.may_be_base(alloc, inner, base)? {
+            return Err(NameFault::BadBase { line });
+        }
         self.features.shorten(alloc, base.entry.saturating_add(1))?;
-        self.features.add_base(alloc, inner, base, line)?;
+        self.features.add_base(alloc, inner, base)?;
         self.table.shorten(alloc, base.entry.saturating_add(1))?;
-        self.table.add_base(alloc, inner, base, line)
+        self.table.add_base(alloc, inner, base)
     }
 
-    /// An interface that was defined.
-    fn may_be_base(&self, entry: usize) -> bool
-        requires { entry < length self.now }
+    /// Whether an interface that is defined is no base yet, and has no other operation or attribute
+    /// of a name of those before.
+    fn may_be_base(&self, alloc: Global, inner: usize, base: Base) -> Result<bool, NameFault>
+        requires placed { base.entry < length self.now.entries }
+        requires feature { base.entry < length self.now.features }
+        ensures told { IfOk result (λ r. r ≡ may_be_base self.now inner base) }
+        ensures memory { IfErr result (λ fault. fault ≡ NoMemory) }
     {
-        self.table.kind(entry) == EntryKind::Interface
-            && self.defined.contains(&entry.saturating_add(1))
+        if !self.is_defined_interface(base.entry) || self.table.has_base(inner, base.entry) {
+            return Ok(false);
+        }
+        Ok(!self.features.differ(alloc, inner, base)?)
+    }
+
+    fn is_defined_interface(&self, entry: usize) -> bool
+        requires { entry < length self.now.entries }
+        ensures { result ≡ is_defined_interface self.now entry }
+    {
+        let _count = self.table.len();
+        self.table.kind(entry).is_interface() && self.defined.contains(&(entry + 1))
+    }
+
+    /// Whether it is a structure or a union that was declared ahead and isn't defined.
+    fn is_left_open(&self, number: usize) -> bool
+        requires { number < length self.now.entries }
+        ensures { IfSome (slice_get self.now.entries number) (λ e. result ≡ is_left_open self.now number e) }
+    {
+        let _count = self.table.len();
+        self.table.kind(number).has_body() && !self.defined.contains(&(number + 1))
     }
 
     /// That each structure and union that is declared ahead is defined.
@@ -329,11 +396,11 @@ impl<'a> Reader<'a> {
     /// # Errors
     ///
     /// `Unknown` with the line of the first declaration.
-    pub fn all_defined(&self) -> Result<(), NameFault> {
+    pub fn all_defined(&self) -> Result<(), NameFault>
+        ensures { Checks result (defined_from self.now 0 self.now.entries) }
+    {
         for number in 0..self.table.len() {
-            let kind = self.table.kind(number);
-            let has_body = kind == EntryKind::Struct || kind == EntryKind::Union;
-            if has_body && !self.defined.contains(&number.saturating_add(1)) {
+            if self.is_left_open(number) {
                 return Err(NameFault::Unknown {
                     line: self.table.line(number),
                 });
@@ -342,13 +409,26 @@ impl<'a> Reader<'a> {
         Ok(())
     }
 
-    /// The table of the entries.
-    pub fn into_table(self) -> Table<'a>
-        ensures is { result ≡ self.entry }
-        ensures distinct { AreDistinct result }
+    /// A whole specification.
+    ///
+    /// # Errors
+    ///
+    /// The first fault; what was declared ahead and never defined comes last.
+    pub fn read(&mut self, alloc: Global, definitions: &[Definition<'a>]) -> Result<(), NameFault>
+        requires { length (flat_map definition_yield definitions.now) < 2 ^ 63 }
+        ensures { Tells result self.new (all_read self.old definitions.now) }
     {
-        let Reader { table, .. } = self;
+        self.bind_definitions(alloc, 0, definitions)?;
+        self.all_defined()
+    }
+
+    /// The names that were read.
+    pub fn names(self) -> Names<'a>
+        ensures is { result ≡ whole self.entry }
+        ensures distinct { AreDistinct result.entries }
+    {
+        let Reader { table, ids, .. } = self;
         let _count = table.len();
-        table
+        Names { table, ids }
     }
 }

@@ -1,12 +1,15 @@
 //! What is kept of each entry.
 
-ghost use Rattle.std.specs.Prelude.{◌≡◌};
-ghost use Rattle.scoped_names.specs.Records.{given_before};
+ghost use Rattle.std.specs.Prelude.{◌≡◌, None, Some};
+ghost use Rattle.scoped_names.specs.Faults.{is_named_so};
+ghost use Rattle.scoped_names.specs.Entries.{entry_declared};
+ghost use Rattle.scoped_names.specs.Records.{entry_of, given_before};
 
-use crate::entry::{Base, EntryKind};
+use crate::entry::{Base, EntryKind, Meaning};
 use crate::key::{Key, Word};
 use crate::search::Found;
 use const_values::{ConstKind, Constant};
+use idl_tree::names::Leaf;
 use indexmap::IndexMap;
 
 /// What several bases give for a name.
@@ -60,5 +63,37 @@ impl Given {
             Some(clash) if clash < token => Found::Several,
             _ => Found::One(self.entry),
         }
+    }
+}
+
+impl<'a> Record<'a> {
+    /// Of an identifier that is declared in the scope as what is meant, where the prefix is set.
+    pub fn new(prefix: &'a str, scope: usize, identifier: Leaf<'a>, meaning: Meaning) -> Self
+        ensures entry { entry_of result ≡ entry_declared meaning prefix.entry.now scope identifier.entry }
+        ensures scope { result.key.scope ≡ scope }
+        ensures plain { result.heir ≡ None }
+    {
+        Record {
+            key: Key {
+                scope,
+                word: Word {
+                    text: identifier.name(),
+                },
+            },
+            token: meaning.token,
+            line: identifier.token.line,
+            kind: meaning.kind,
+            worth: meaning.worth,
+            stands_for: meaning.stands_for,
+            prefix,
+            heir: None,
+        }
+    }
+
+    /// Whether it has the name, which can't be declared in its scope.
+    pub fn is_named_so(&self, word: &Word<'a>) -> bool
+        ensures { result ≡ is_named_so word.now.text.now (Some (entry_of self.now)) }
+    {
+        self.kind.keeps_its_name() && self.key.word == *word
     }
 }

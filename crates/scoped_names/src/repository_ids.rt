@@ -1,12 +1,13 @@
 //! Repository ids (ISO/IEC 19500-1, repository identifiers, and pragma directives for repository ids).
 
-ghost use Rattle.std.specs.Prelude.{◌≡◌, ◌++◌, ◌<◌, ◌≤◌, ◌↔◌, ◌⊎◌, ℕ, [], ◌∷◌, length, map, slice_get, Some, IfOk, OnOk, IfErr, OnErr, IsTrue};
-ghost use Rattle.std.specs.List.Sorted.{IsNonDecreasingBy};
+ghost use Rattle.std.specs.Prelude.{◌≡◌, ◌++◌, ◌<◌, ◌≤◌, ◌↔◌, ℕ, [], ◌∷◌, length, map, IfOk, OnOk};
 ghost use Rattle.std.specs.String.{string_bytes};
 ghost use Rattle.scoped_names.specs.Records.{AreNested, entries_in};
-ghost use Rattle.scoped_names.specs.RepositoryIds.{path, with_slashes, idl_format, prefix_from, repository_id, AreWith, IsAlike, IsTwice, PrefixSet};
-ghost use Rattle.scoped_names.specs.IdsKept.{given_of, prefix_of, pragma_of};
-ghost use Rattle.scoped_names.specs.declared.fault.NameFault.TheVariants.{NoMemory, IdTwice};
+ghost use Rattle.scoped_names.specs.RepositoryIds.{given_to, path, with_slashes, idl_format, repository_id};
+ghost use Rattle.scoped_names.specs.IdsKept.{given_of};
+ghost use Rattle.scoped_names.specs.Faults.{given_once};
+ghost use Rattle.scoped_names.specs.Reading.{Tells};
+ghost use Rattle.scoped_names.specs.IdPragmas.{is_same_given};
 
 use crate::fault::NameFault;
 use crate::record::Record;
@@ -25,31 +26,20 @@ pub(crate) enum PragmaId<'a> {
     Version(&'a str),
 }
 
-/// A prefix that is set, and the token of its pragma.
-#[derive(Clone, Copy)]
-pub(crate) struct Prefix<'a> {
-    pub token: usize,
-    pub text: &'a str,
-}
-
 /// What the pragmas of a specification say of repository ids.
 #[derive(Drop)]
 pub(crate) struct IdPragmas<'a> {
-    prefixes: Vec<Prefix<'a>>,
     given: IndexMap<usize, PragmaId<'a>>,
 }
 
 impl<'a> Model for IdPragmas<'a> {
-    ghost use Rattle.std.specs.Prelude.{map};
-    ghost use Rattle.std.specs.List.Sorted.{IsNonDecreasingBy};
-    ghost use Rattle.scoped_names.specs.RepositoryIds.{IdRules};
-    ghost use Rattle.scoped_names.specs.IdsKept.{prefix_of, pragma_of};
+    ghost use Rattle.std.specs.Prelude.{List, map};
+    ghost use Rattle.scoped_names.specs.RepositoryIds.{IdPragma};
+    ghost use Rattle.scoped_names.specs.IdsKept.{pragma_of};
 
-    ghost Value = { IdRules };
+    ghost Value = { List IdPragma };
 
-    ghost view = { λ p. record { prefixes = map prefix_of p.prefixes.items; pragmas = map pragma_of p.given.entries } };
-
-    ghost invariant = { λ p. IsNonDecreasingBy (λ x. x.token) p.prefixes.items };
+    ghost view = { λ p. map pragma_of p.given.entries };
 }
 
 /// The names from the outermost scope to an entry's, its own the last.
@@ -107,7 +97,7 @@ fn id_text(alloc: Global, prefix: &str, names: &[&str], version: &str) -> Result
 
 /// Whether two pragmas give the same.
 fn is_same(one: PragmaId<'_>, other: PragmaId<'_>) -> bool
-    ensures { IsTrue result ↔ (given_of one.entry ≡ given_of other.entry) }
+    ensures { result ≡ is_same_given (given_of one.entry) (given_of other.entry) }
 {
     match (one, other) {
         (PragmaId::Whole(one), PragmaId::Whole(other)) => one.as_bytes() == other.as_bytes(),
@@ -116,46 +106,13 @@ fn is_same(one: PragmaId<'_>, other: PragmaId<'_>) -> bool
     }
 }
 
-/// The prefix before a token.
-fn prefix_before<'a>(prefixes: &[Prefix<'a>], token: usize) -> &'a str
-    requires { IsNonDecreasingBy (λ x. x.token) prefixes.now }
-    ensures { result.now ≡ prefix_from [] (map prefix_of prefixes.now) token }
-{
-    let behind = prefixes.partition_point(|prefix| prefix.token < token);
-    if behind == 0 {
-        ""
-    } else {
-        prefixes[behind - 1].text
-    }
-}
-
 impl<'a> IdPragmas<'a> {
     /// No pragmas. Takes no memory.
     pub fn new(alloc: Global) -> Self
-        ensures { result ≡ record { prefixes = []; pragmas = [] } }
+        ensures { result ≡ [] }
     {
         IdPragmas {
-            prefixes: Vec::new(alloc),
             given: IndexMap::new(alloc),
-        }
-    }
-
-    /// Sets a prefix from a token on, which no other that is set stands behind.
-    ///
-    /// # Errors
-    ///
-    /// `PrefixInScope` with the line where one stands behind it, `NoMemory`; then nothing changed.
-    pub fn set_prefix(&mut self, token: usize, text: &'a str, line: usize) -> Result<(), NameFault>
-        ensures ok { OnOk result (self.new ≡
-            record self.old { prefixes = self.old.prefixes ++ record { token = token; text = text.entry.now } ∷ [] }) }
-        ensures err { OnErr result (self.new ≡ self.old) }
-    {
-        match self.prefixes.last() {
-            Some(last) if token < last.token => Err(NameFault::PrefixInScope { line }),
-            _ => {
-                self.prefixes.push(Prefix { token, text })?;
-                Ok(())
-            }
         }
     }
 
@@ -163,14 +120,9 @@ impl<'a> IdPragmas<'a> {
     ///
     /// # Errors
     ///
-    /// `IdTwice` with the line where the entry has another, `NoMemory`; then nothing changed.
+    /// `IdTwice` with the line where the entry has another, `NoMemory`.
     pub fn give(&mut self, entry: usize, given: PragmaId<'a>, line: usize) -> Result<(), NameFault>
-        ensures given { OnOk result (AreWith (pragma_of (entry, given.entry)) self.old.pragmas self.new.pragmas) }
-        ensures alike { OnOk result (IsAlike (pragma_of (entry, given.entry)) self.old.pragmas) }
-        ensures prefixes { self.new.prefixes ≡ self.old.prefixes }
-        ensures err { OnErr result (self.new ≡ self.old) }
-        ensures refused { IfErr result (λ fault. (fault ≡ NoMemory)
-            ⊎ ((fault ≡ IdTwice line) × IsTwice (pragma_of (entry, given.entry)) self.old.pragmas)) }
+        ensures { Tells result self.new (given_once self.old entry (given_of given.entry) line (given_to self.old entry)) }
     {
         match self.given.get(&entry) {
             Some(other) if is_same(*other, given) => Ok(()),
@@ -202,7 +154,7 @@ impl<'a> IdPragmas<'a> {
             Some(PragmaId::Version(number)) => *number,
             None => "1.0",
         };
-        let prefix = prefix_before(self.prefixes.as_slice(), records[entry].token);
+        let prefix = records[entry].prefix;
         let path = path_to(alloc, records, entry)?;
         id_text(alloc, prefix, path.as_slice(), version)
     }

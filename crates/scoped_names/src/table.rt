@@ -1,12 +1,15 @@
 //! What a specification declares, and what names find.
 
-ghost use Rattle.std.specs.Prelude.{◌≡◌, ◌<◌, ◌≤◌, ◌^◌, ◌↔◌, ℕ, length, map, option_copied, IfOk, IfSome, OnOk, OnErr, ◌≢◌, ◌+◌, ◌++◌, ◌∷◌, [], None, List, true, slice_get};
+ghost use Rattle.std.specs.Prelude.{◌≡◌, ◌<◌, ◌≤◌, ◌^◌, ◌↔◌, ℕ, length, map, option_copied, IfOk, IfSome, OnOk, OnErr, IfErr, ◌≢◌, ◌+◌, ◌++◌, ◌∷◌, [], None, List, true, slice_get};
 ghost use Rattle.idl_tree.specs.Starts.{name_start, name_first, is_rooted};
-ghost use Rattle.scoped_names.specs.Search.{own as own_of, inherited as inherited_by, within as within_of, within_first, outwards as outwards_from, sought_in, word, in_its_case as found_in_its_case, finds, Finds};
+ghost use Rattle.scoped_names.specs.Search.{own as own_of, inherited as inherited_by, within as within_of, within_first, outwards as outwards_from, sought_in, sight as sight_of, sees, word};
+ghost use Rattle.scoped_names.specs.declared.fault.NameFault.TheVariants.{NoMemory};
 ghost use Rattle.scoped_names.specs.Entry.{AreDistinct, bases_in, worth_in, meant_in, named};
 ghost use Rattle.std.specs.String.{string_bytes};
-ghost use Rattle.scoped_names.specs.RepositoryIds.{name_in, path as path_of, repository_id as id_of};
-ghost use Rattle.scoped_names.specs.IdPragmas.{begins_at_root, identifiers_find};
+ghost use Rattle.scoped_names.specs.RepositoryIds.{name_in, path as path_of, prefix_in, repository_id as id_of};
+ghost use Rattle.scoped_names.specs.IdPragmas.{begins_at_root, identifiers_see};
+ghost use Rattle.scoped_names.specs.Tests.{resolved};
+ghost use Rattle.scoped_names.specs.Faults.{is_own_name as own_name_of, is_something};
 ghost use Rattle.idl_lexer.specs.Identifiers.{words};
 ghost use Rattle.idl_lexer.specs.Words.{unescaped as unescaped_word};
 ghost use Rattle.scoped_names.specs.Entries.{scope_of, with_base, with_entry};
@@ -17,7 +20,7 @@ use crate::fault::NameFault;
 use crate::key::{Key, Word};
 use crate::record::{Heir, Record};
 use crate::repository_ids::{IdPragmas, path_to};
-use crate::search::Found;
+use crate::search::{Found, Sight};
 use crate::shortcuts::{Place, Shortcut, Step};
 use const_values::{ConstKind, Constant};
 use idl_lexer::{Identifiers, is_rooted};
@@ -90,7 +93,8 @@ fn unescaped(word: &str) -> &str
 impl<'a> Table<'a> {
     /// No names yet.
     pub(crate) fn new(alloc: Global) -> Result<Self, NameFault>
-        ensures { IfOk result (λ names. names ≡ []) }
+        ensures empty { IfOk result (λ names. names ≡ []) }
+        ensures memory { IfErr result (λ fault. fault ≡ NoMemory) }
     {
         let mut words = Vec::new(alloc);
         words.push(Vec::new(alloc))?;
@@ -159,18 +163,19 @@ impl<'a> Table<'a> {
         }
     }
 
-    /// Nothing in place of an entry that is declared in another case than the name.
-    fn in_its_case(&self, found: Found, text: &str) -> Found
-        ensures kept { result ≡ found_in_its_case self.now text.now found }
-        ensures placed { (e : ℕ) → result ≡ Found.One e → e < length self.now }
-        ensures small { (e : ℕ) → result ≡ Found.One e → e < 2 ^ 63 }
+    /// What is seen of a name where it finds this.
+    fn sight(&self, found: Found, text: &str) -> Sight
+        ensures kept { result ≡ sight_of self.now text.now found }
+        ensures placed { (e : ℕ) → result ≡ Sight.Seen e → e < length self.now }
+        ensures small { (e : ℕ) → result ≡ Sight.Seen e → e < 2 ^ 63 }
     {
         match found {
+            Found::Nothing => Sight::Unseen,
+            Found::Several => Sight::Unclear,
             Found::One(entry) => match self.records.get(entry) {
-                Some(record) if text == record.key.word.text => found,
-                _ => Found::Nothing,
+                Some(record) if text == record.key.word.text => Sight::Seen(entry),
+                _ => Sight::OtherCase,
             },
-            _ => found,
         }
     }
 
@@ -188,44 +193,24 @@ impl<'a> Table<'a> {
         }
     }
 
-    /// What a name finds that stands in the scope.
-    fn find(&self, scope: usize, name: &ScopedName<'a>) -> Found
+    /// What is seen where a name is sought that stands in the scope.
+    fn look(&self, scope: usize, name: &ScopedName<'a>) -> Sight
         requires { scope ≤ length self.now }
-        ensures found { result ≡ finds self.now scope name.now }
-        ensures placed { (e : ℕ) → result ≡ Found.One e → e < length self.now }
+        ensures seen { result ≡ sees self.now scope name.now }
+        ensures placed { (e : ℕ) → result ≡ Sight.Seen e → e < length self.now }
     {
         let token = name.start().number;
-        let mut found = self.in_its_case(self.find_first(scope, name), name.first().name());
+        let mut seen = self.sight(self.find_first(scope, name), name.first().name());
         for identifier in name.rest() {
-            match found {
-                Found::One(entry) => {
+            match seen {
+                Sight::Seen(entry) => {
                     let text = identifier.name();
-                    found = self.in_its_case(self.within(token, entry + 1, text), text);
+                    seen = self.sight(self.within(token, entry + 1, text), text);
                 }
-                _ => return found,
+                _ => return seen,
             }
         }
-        found
-    }
-
-    /// Whether a name that finds nothing would find something in another case.
-    fn differs_in_case(&self, scope: usize, name: &ScopedName<'a>) -> bool
-        requires { scope ≤ length self.now }
-    {
-        let token = name.start().number;
-        let mut found = self.find_first(scope, name);
-        let mut kept = self.in_its_case(found, name.first().name());
-        for identifier in name.rest() {
-            match kept {
-                Found::One(entry) => {
-                    let text = identifier.name();
-                    found = self.within(token, entry + 1, text);
-                    kept = self.in_its_case(found, text);
-                }
-                _ => return found != kept,
-            }
-        }
-        found != kept
+        seen
     }
 
     /// The entry that a name finds that stands in the scope: 0 for the file, else one more than the
@@ -236,19 +221,10 @@ impl<'a> Table<'a> {
     /// `Unknown`, `CaseDiffers` or `Ambiguous`, with the line of the name's first token.
     pub(crate) fn resolve(&self, scope: usize, name: &ScopedName<'a>) -> Result<usize, NameFault>
         requires { scope ≤ length self.now }
-        ensures finds { (entry : ℕ) → (result ≡ Ok entry) ↔ Finds self.now scope name.now entry }
-        ensures found { IfOk result (λ entry. finds self.now scope name.now ≡ Found.One entry) }
+        ensures told { result ≡ resolved self.now scope name.now }
         ensures placed { IfOk result (λ entry. entry < length self.now) }
     {
-        let line = name.start().token.line;
-        match self.find(scope, name) {
-            Found::One(entry) => Ok(entry),
-            Found::Several => Err(NameFault::Ambiguous { line }),
-            Found::Nothing if self.differs_in_case(scope, name) => {
-                Err(NameFault::CaseDiffers { line })
-            }
-            Found::Nothing => Err(NameFault::Unknown { line }),
-        }
+        self.look(scope, name).found_at(name.start().token.line)
     }
 
     /// What an entry was declared as.
@@ -278,38 +254,38 @@ impl<'a> Table<'a> {
     /// The prefix of repository ids at an entry's first declaration.
     pub(crate) fn prefix(&self, entry: usize) -> &'a str
         requires { entry < length self.now }
+        ensures { result.now ≡ prefix_in (slice_get self.now entry) }
     {
         self.records[entry].prefix
     }
 
-    pub(crate) fn is_feature(&self, entry: usize) -> bool {
-        match self.records.get(entry) {
-            Some(record) => {
-                record.kind == EntryKind::Operation || record.kind == EntryKind::Attribute
-            }
-            None => false,
-        }
-    }
-
     /// Whether it is the name of the scope itself, which can't be declared in it. The scope of an
     /// operation has no name.
-    pub(crate) fn is_own_name(&self, key: &Key<'a>) -> bool {
-        let Some(entry) = key.scope.checked_sub(1) else {
+    pub(crate) fn is_own_name(&self, key: &Key<'a>) -> bool
+        ensures { result ≡ own_name_of self.now key.now.scope key.now.word.text.now }
+    {
+        let Some(number) = key.scope.checked_sub(1) else {
             return false;
         };
-        match self.records.get(entry) {
-            Some(record) => { record.kind != EntryKind::Operation && record.key.word == key.word }
+        match self.records.get(number) {
+            Some(record) => record.is_named_so(&key.word),
             None => false,
         }
     }
 
     /// Whether the bases of a scope that are named before the token give something.
-    pub(crate) fn inherits(&self, token: usize, scope: usize, text: &'a str) -> bool {
-        self.inherited(token, scope, text) != Found::Nothing
+    pub(crate) fn inherits(&self, token: usize, scope: usize, text: &'a str) -> bool
+        ensures { result ≡ is_something (inherited_by self.now token scope text.now) }
+    {
+        match self.inherited(token, scope, text) {
+            Found::Nothing => false,
+            Found::One(_) | Found::Several => true,
+        }
     }
 
     pub(crate) fn line(&self, entry: usize) -> usize
         requires { entry < length self.now }
+        ensures { IfSome (slice_get self.now entry) (λ e. result ≡ e.line) }
     {
         self.records[entry].line
     }
@@ -388,16 +364,17 @@ impl<'a> Table<'a> {
         path_to(alloc, self.records.as_slice(), entry)
     }
 
-    /// Puts an entry behind the others.
+    /// Puts an entry behind the others, of a name that is new in its scope.
     fn push(&mut self, alloc: Global, declared: Record<'a>) -> Result<(), NameFault>
         requires scope { declared.key.scope ≤ length self.old }
         requires plain { declared.heir ≡ None }
         ensures pushed { OnOk result (self.new ≡ self.old ++ entry_of declared.entry ∷ []) }
         ensures err { OnErr result (self.new ≡ self.old) }
+        ensures memory { IfErr result (λ fault. fault ≡ NoMemory) }
     {
-        let (key, line, count) = (declared.key, declared.line, self.records.len());
+        let (key, count) = (declared.key, self.records.len());
         if declared.token < self.latest {
-            return Err(NameFault::Unknown { line });
+            return Err(NameFault::NoMemory);
         }
         list_word(alloc, &mut self.words, key.scope, key.word)?;
         self.records.push(declared)?;
@@ -405,7 +382,7 @@ impl<'a> Table<'a> {
             Ok(true) => Ok(()),
             Ok(false) => {
                 self.records.truncate(count);
-                Err(NameFault::Collides { line })
+                Err(NameFault::NoMemory)
             }
             Err(_) => {
                 self.records.truncate(count);
@@ -424,6 +401,7 @@ impl<'a> Table<'a> {
         requires plain { declared.heir ≡ None }
         ensures told { OnOk result (self.new ≡ with_entry self.old (entry_of declared.entry)) }
         ensures err { OnErr result (self.new ≡ self.old) }
+        ensures memory { IfErr result (λ fault. fault ≡ NoMemory) }
     {
         match self.keys.get_index_of(&declared.key) {
             Some(_) => Ok(()),
@@ -463,62 +441,59 @@ impl<'a> Table<'a> {
         })
     }
 
-    /// What the name of a pragma finds that stands in a scope, and whether it would find something
-    /// else in another case.
-    pub(crate) fn find_words(&self, token: usize, scope: usize, name: &'a str) -> (Found, bool)
+    /// What is seen where the name of a pragma is sought that stands in a scope.
+    pub(crate) fn look_for_words(&self, token: usize, scope: usize, name: &'a str) -> Sight
         requires { scope ≤ length self.now }
-        ensures { result.0 ≡ identifiers_find self.now token scope (begins_at_root name.now) (words name.now) }
+        ensures { result ≡ identifiers_see self.now token scope (begins_at_root name.now) (words name.now) }
     {
         let mut words = Identifiers::new(name);
         let Some(first) = words.next() else {
-            return (Found::Nothing, false);
+            return Sight::Unseen;
         };
         let text = unescaped(first);
-        let mut sought = if is_rooted(name) {
+        let found = if is_rooted(name) {
             self.within(token, 0, text)
         } else {
             self.outwards(token, scope, text)
         };
-        let mut found = self.in_its_case(sought, text);
+        let mut seen = self.sight(found, text);
         for word in words {
-            match found {
-                Found::One(entry) => {
+            match seen {
+                Sight::Seen(entry) => {
                     let text = unescaped(word);
-                    sought = self.within(token, entry + 1, text);
-                    found = self.in_its_case(sought, text);
+                    seen = self.sight(self.within(token, entry + 1, text), text);
                 }
-                _ => return (found, found != sought),
+                _ => return seen,
             }
         }
-        (found, found != sought)
+        seen
     }
 
-    /// Gives an interface one more base, which has to be new and to have no other operation or
-    /// attribute of a name of those before.
+    /// Gives an interface one more base, which is named behind all others.
     ///
     /// # Errors
     ///
-    /// `BadBase` with the line, or `NoMemory`.
+    /// `NoMemory`.
     pub(crate) fn add_base(
         &mut self,
         alloc: Global,
         inner: usize,
         base: Base,
-        line: usize,
     ) -> Result<(), NameFault>
         requires inner { inner ≤ length self.old }
         requires placed { base.entry < length self.old }
         ensures told { OnOk result (self.new ≡ with_base self.old inner base) }
+        ensures err { IfErr result (λ fault. fault ≡ NoMemory) }
         ensures count { length self.new ≡ length self.old }
     {
         let Some(number) = inner.checked_sub(1) else {
-            return Err(NameFault::BadBase { line });
+            return Ok(());
         };
         let has_heirs = self.shortcuts.contains_key(&inner);
         if base.token <= self.latest || has_heirs {
-            return Err(NameFault::BadBase { line });
+            return Err(NameFault::NoMemory);
         }
-        let heir = self.heir_for(alloc, inner, base, line)?;
+        let heir = self.heir_for(alloc, inner, base)?;
         self.records[number].heir = Some(heir);
         self.latest = base.token;
         Ok(())

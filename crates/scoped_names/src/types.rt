@@ -1,10 +1,13 @@
 //! What types declare.
 
-ghost use Rattle.std.specs.Prelude.{◌≡◌, ◌<◌, ◌≤◌, length, OnOk, IfOk};
+ghost use Rattle.std.specs.Prelude.{◌≡◌, ◌<◌, ◌≤◌, length, IfOk};
+ghost use Rattle.idl_tree.specs.Lists.{parts};
 ghost use Rattle.scoped_names.specs.Constants.{const_type_kind, param_type_kind, simple_type_kind};
-ghost use Rattle.scoped_names.specs.Search.{finds};
-ghost use Rattle.scoped_names.specs.declared.search.Found.{Found};
-ghost use Rattle.scoped_names.specs.Entries.{type_kind, enumerator_entries, enum_entries, switch_entries, type_entries, struct_entries, union_entries, member_entries, case_entries};
+ghost use Rattle.scoped_names.specs.Search.{sees};
+ghost use Rattle.scoped_names.specs.declared.search.Sight.{Sight};
+ghost use Rattle.scoped_names.specs.Faults.{case_read, declarator_read, enum_read, enumerator_read, member_read, struct_read, switch_read, type_kind, type_read, union_read};
+ghost use Rattle.scoped_names.specs.Reading.{Checks, Gives, Tells, all, each};
+ghost use Rattle.scoped_names.specs.Tests.{const_type_test, found_of, is_type, label_test, param_type_test, simple_type_test};
 
 use crate::entry::{EntryKind, Meaning};
 use crate::fault::NameFault;
@@ -22,7 +25,8 @@ impl<'a> Table<'a> {
     /// A name that stands for a type.
     fn bind_type_name(&self, scope: usize, name: &ScopedName<'a>) -> Result<usize, NameFault>
         requires { scope ≤ length self.now }
-        ensures found { IfOk result (λ entry. finds self.now scope name.now ≡ Found.One entry) }
+        ensures told { Gives result (found_of is_type self.now scope name.now) }
+        ensures found { IfOk result (λ entry. sees self.now scope name.now ≡ Sight.Seen entry) }
         ensures placed { IfOk result (λ entry. entry < length self.now) }
     {
         let entry = self.resolve(scope, name)?;
@@ -47,7 +51,8 @@ impl<'a> Table<'a> {
         t: &ConstType<'a>,
     ) -> Result<Option<ConstKind>, NameFault>
         requires { scope ≤ length self.now }
-        ensures { IfOk result (λ kind. kind ≡ const_type_kind self.now scope t.now) }
+        ensures told { Checks result (const_type_test self.now scope t.now) }
+        ensures kind { IfOk result (λ kind. kind ≡ const_type_kind self.now scope t.now) }
     {
         Ok(match t {
             ConstType::Integer(integer) => Some(ConstKind::Integer(*integer)),
@@ -73,7 +78,8 @@ impl<'a> Table<'a> {
         t: &ParamType<'a>,
     ) -> Result<Option<ConstKind>, NameFault>
         requires { scope ≤ length self.now }
-        ensures { IfOk result (λ kind. kind ≡ param_type_kind self.now scope t.now) }
+        ensures told { Checks result (param_type_test self.now scope t.now) }
+        ensures kind { IfOk result (λ kind. kind ≡ param_type_kind self.now scope t.now) }
     {
         match t {
             ParamType::Plain(plain) => self.bind_const_type(alloc, scope, plain),
@@ -89,7 +95,8 @@ impl<'a> Table<'a> {
         t: &SimpleType<'a>,
     ) -> Result<Option<ConstKind>, NameFault>
         requires { scope ≤ length self.now }
-        ensures { IfOk result (λ kind. kind ≡ simple_type_kind self.now scope t.now) }
+        ensures told { Checks result (simple_type_test self.now scope t.now) }
+        ensures kind { IfOk result (λ kind. kind ≡ simple_type_kind self.now scope t.now) }
     {
         match t {
             SimpleType::Plain(plain) => self.bind_param_type(alloc, scope, plain),
@@ -111,6 +118,7 @@ impl<'a> Table<'a> {
         labels: &Listed<Label<'a>>,
     ) -> Result<(), NameFault>
         requires { scope ≤ length self.now }
+        ensures { Checks result (all (label_test self.now scope) (parts labels.now)) }
     {
         for label in labels.iter() {
             if let Label::Case(value) = label {
@@ -129,9 +137,9 @@ impl<'a> Reader<'a> {
         scope: usize,
         e: &EnumType<'a>,
     ) -> Result<(), NameFault>
-        requires { scope ≤ length self.old }
-        ensures told { OnOk result (self.new ≡ enum_entries self.old scope e.now) }
-        ensures longer { length self.old ≤ length self.new }
+        requires { scope ≤ length self.old.entries }
+        ensures told { Tells result self.new (enum_read self.old scope e.now) }
+        ensures longer { length self.old.entries ≤ length self.new.entries }
     {
         let owner = self.table.len();
         let meaning = Meaning {
@@ -155,9 +163,9 @@ impl<'a> Reader<'a> {
         identifier: Leaf<'a>,
         owner: usize,
     ) -> Result<(), NameFault>
-        requires { scope ≤ length self.old }
-        ensures told { OnOk result (self.new ≡ enumerator_entries owner self.old scope identifier.entry) }
-        ensures longer { length self.old ≤ length self.new }
+        requires { scope ≤ length self.old.entries }
+        ensures told { Tells result self.new (enumerator_read owner self.old scope identifier.entry) }
+        ensures longer { length self.old.entries ≤ length self.new.entries }
     {
         let enumerator = self.table.len();
         let meaning = Meaning {
@@ -176,9 +184,9 @@ impl<'a> Reader<'a> {
         scope: usize,
         switch: &SwitchType<'a>,
     ) -> Result<(), NameFault>
-        requires { scope ≤ length self.old }
-        ensures told { OnOk result (self.new ≡ switch_entries self.old scope switch.now) }
-        ensures longer { length self.old ≤ length self.new }
+        requires { scope ≤ length self.old.entries }
+        ensures told { Tells result self.new (switch_read self.old scope switch.now) }
+        ensures longer { length self.old.entries ≤ length self.new.entries }
     {
         match switch {
             SwitchType::Enum(e) => self.bind_enum(alloc, scope, e),
@@ -197,8 +205,9 @@ impl<'a> Reader<'a> {
         scope: usize,
         declarator: &Declarator<'a>,
     ) -> Result<(), NameFault>
-        requires { scope ≤ length self.old }
-        ensures { self.new ≡ self.old }
+        requires { scope ≤ length self.old.entries }
+        ensures told { Tells result self.new (declarator_read self.old scope declarator.now) }
+        ensures longer { length self.old.entries ≤ length self.new.entries }
     {
         self.add_member(scope, declarator.identifier)?;
         self.table
@@ -212,8 +221,9 @@ impl<'a> Reader<'a> {
         scope: usize,
         declarators: &Listed<Declarator<'a>>,
     ) -> Result<(), NameFault>
-        requires { scope ≤ length self.old }
-        ensures { self.new ≡ self.old }
+        requires { scope ≤ length self.old.entries }
+        ensures told { Tells result self.new (each declarator_read self.old scope (parts declarators.now)) }
+        ensures longer { length self.old.entries ≤ length self.new.entries }
     {
         for declarator in declarators.iter() {
             self.bind_declarator(alloc, scope, declarator)?;
@@ -229,10 +239,10 @@ impl<'a> Reader<'a> {
         scope: usize,
         t: &TypeSpec<'a>,
     ) -> Result<Option<ConstKind>, NameFault>
-        requires { scope ≤ length self.old }
-        ensures told { OnOk result (self.new ≡ type_entries self.old scope t.now) }
+        requires { scope ≤ length self.old.entries }
+        ensures told { Tells result self.new (type_read self.old scope t.now) }
         ensures kind { IfOk result (λ kind. kind ≡ type_kind self.old scope t.now) }
-        ensures longer { length self.old ≤ length self.new }
+        ensures longer { length self.old.entries ≤ length self.new.entries }
     {
         match t {
             TypeSpec::Simple(simple) => self.table.bind_simple(alloc, scope, simple),
@@ -260,9 +270,9 @@ impl<'a> Reader<'a> {
         scope: usize,
         member: &Member<'a>,
     ) -> Result<(), NameFault>
-        requires { scope ≤ length self.old }
-        ensures told { OnOk result (self.new ≡ member_entries self.old scope member.now) }
-        ensures longer { length self.old ≤ length self.new }
+        requires { scope ≤ length self.old.entries }
+        ensures told { Tells result self.new (member_read self.old scope member.now) }
+        ensures longer { length self.old.entries ≤ length self.new.entries }
     {
         self.bind_type(alloc, scope, &member.member_type)?;
         self.bind_members(alloc, scope, &member.declarators)
@@ -275,9 +285,9 @@ impl<'a> Reader<'a> {
         scope: usize,
         s: &StructType<'a>,
     ) -> Result<(), NameFault>
-        requires { scope ≤ length self.old }
-        ensures told { OnOk result (self.new ≡ struct_entries self.old scope s.now) }
-        ensures longer { length self.old ≤ length self.new }
+        requires { scope ≤ length self.old.entries }
+        ensures told { Tells result self.new (struct_read self.old scope s.now) }
+        ensures longer { length self.old.entries ≤ length self.new.entries }
     {
         let inner = self.declare(alloc, scope, s.identifier, EntryKind::Struct)?;
         self.define(inner, s.identifier.token.line)?;
@@ -290,9 +300,9 @@ impl<'a> Reader<'a> {
 
     #[cycle(types)]
     fn bind_case(&mut self, alloc: Global, scope: usize, case: &Case<'a>) -> Result<(), NameFault>
-        requires { scope ≤ length self.old }
-        ensures told { OnOk result (self.new ≡ case_entries self.old scope case.now) }
-        ensures longer { length self.old ≤ length self.new }
+        requires { scope ≤ length self.old.entries }
+        ensures told { Tells result self.new (case_read self.old scope case.now) }
+        ensures longer { length self.old.entries ≤ length self.new.entries }
     {
         self.table.bind_labels(alloc, scope, &case.labels)?;
         self.bind_type(alloc, scope, &case.member_type)?;
@@ -306,9 +316,9 @@ impl<'a> Reader<'a> {
         scope: usize,
         u: &UnionType<'a>,
     ) -> Result<(), NameFault>
-        requires { scope ≤ length self.old }
-        ensures told { OnOk result (self.new ≡ union_entries self.old scope u.now) }
-        ensures longer { length self.old ≤ length self.new }
+        requires { scope ≤ length self.old.entries }
+        ensures told { Tells result self.new (union_read self.old scope u.now) }
+        ensures longer { length self.old.entries ≤ length self.new.entries }
     {
         let inner = self.declare(alloc, scope, u.identifier, EntryKind::Union)?;
         self.define(inner, u.identifier.token.line)?;

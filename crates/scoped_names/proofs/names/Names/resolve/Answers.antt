@@ -1,8 +1,16 @@
-use Rattle.std.proofs.Common.{◌≡◌, ℕ, Ok, ap, subst}
-use Rattle.scoped_names.specs.Search.{Finds}
+use Rattle.std.proofs.Common.{◌≡◌, ◌∙◌, ap, sym}
+use Rattle.idl_tree.specs.Starts.{name_start}
+use Rattle.scoped_names.specs.Search.{sees}
+use Rattle.scoped_names.specs.Tests.{line, resolved}
+use Rattle.scoped_names.proofs.Sights.{found_finds}
 use Rattle.scoped_names.proofs.names.Names.resolve.Goals as goal
 
 pub returns-clause-finds : goal.returns-clause-finds
-returns-clause-finds c =
-    subst (λ es. (entry : ℕ) → (c.resolve.result ≡ Ok entry → Finds es c.args.scope c.args.name.now entry) × (Finds es c.args.scope c.args.name.now entry → c.resolve.result ≡ Ok entry))
-    (ap (λ w. w.entries) c.self.view_is) c.resolve.ensures.finds
+returns-clause-finds c = λ entry.
+    let es = c.args.self.now.entries in
+    let scope = c.args.scope in
+    let name = c.args.name.now in
+    let told : c.resolve.result ≡ resolved es scope name =
+    c.resolve.ensures.told ∙ ap (λ n. resolved n.entries scope name) c.self.view_is in
+    let both = found_finds (line (name_start name)) (sees es scope name) entry in
+    (λ is. both.0 (sym told ∙ is), λ is. told ∙ both.1 is)

@@ -1,7 +1,8 @@
 use Rattle.std.proofs.Common.{◌≡◌, length, ap, arith}
 use Rattle.std.specs.List.{flat_map}
+use Rattle.std.proofs.lemmas.Result.{err_from_is_err_and}
 use Rattle.idl_tree.specs.DefinitionYields.{definition_yield}
-use Rattle.scoped_names.proofs.Walks.{module_length, module_start, part_length}
+use Rattle.scoped_names.proofs.Readings.{module_begun, module_length, or_told, part_length}
 use Rattle.scoped_names.proofs.reader.Reader.+definitions.Goals as goal
 
 pub bind_definition-bind_definitions-requires : goal.bind_definition-bind_definitions-requires
@@ -21,7 +22,14 @@ bind_definitions-bind_definition-requires t c =
     let small = c.requires.small in
     (omega (arith, c.decreases), (c.loop-definition.invariant.inside, omega arith))
 
+pub bind_definition-returns-in_err-bind_definitions-in-Module-clause-told : goal.bind_definition-returns-in_err-bind_definitions-in-Module-clause-told
+bind_definition-returns-in_err-bind_definitions-in-Module-clause-told t c =
+    let p = err_from_is_err_and c.from_residual-in_err-bind_definitions-in-Module.result c.from_residual-in_err-bind_definitions-in-Module.ensures.1 in
+    rw (p.1, p.2) (or_told c.in_err-bind_definitions-in-Module.ensures.told (λ is.
+    module_begun c.args.self.now c.declare.new.self c.args.scope c.in_ok-inner-in-Module.inner c.in-Module.m c.args.definition.now c.as_slice.result.now _
+    c.in_ok-inner-in-Module.ensures.told c.in_ok-inner-in-Module.ensures.inner c.as_slice.ensures.value c.in-Module.is is))
+
 pub bind_definition-returns-in_ok-bind_definitions-in-Module-clause-told : goal.bind_definition-returns-in_ok-bind_definitions-in-Module-clause-told
 bind_definition-returns-in_ok-bind_definitions-in-Module-clause-told t c =
-    module_start c.args.self.now c.declare.new.self c.bind_definitions.new.self c.args.scope c.in_ok-inner-in-Module.inner c.in-Module.m c.args.definition.now c.as_slice.result.now
+    module_begun c.args.self.now c.declare.new.self c.args.scope c.in_ok-inner-in-Module.inner c.in-Module.m c.args.definition.now c.as_slice.result.now _
     c.in_ok-inner-in-Module.ensures.told c.in_ok-inner-in-Module.ensures.inner c.as_slice.ensures.value c.in-Module.is c.in_ok-bind_definitions-in-Module.ensures.told

@@ -1,11 +1,29 @@
-use Rattle.std.proofs.Common.{◌≡◌, ◌+◌, ◌∙◌, drop, ap, length, arith}
-use Rattle.scoped_names.specs.Entries.{case_entries, each, member_entries}
-use Rattle.scoped_names.proofs.Walks.{each_from, struct_start, union_start}
+use Rattle.std.proofs.Common.{◌≡◌, ◌∙◌, Ok, sym, ap, length, arith}
+use Rattle.std.proofs.lemmas.Result.{err_from_is_err_and}
+use Rattle.scoped_names.specs.Faults.{case_read, member_read}
+use Rattle.scoped_names.specs.Reading.{each}
+use Rattle.scoped_names.proofs.Readings.{or_told, struct_declared, struct_defined, struct_first, union_declared, union_defined, union_first, union_switch}
 use Rattle.scoped_names.proofs.reader.Reader.+types.Goals as goal
+
+pub bind_struct-returns-in_err-inner-clause-told : goal.bind_struct-returns-in_err-inner-clause-told
+bind_struct-returns-in_err-inner-clause-told t c =
+    let p = err_from_is_err_and c.from_residual.result c.from_residual.ensures.1 in
+    rw (p.1, p.2) (or_told c.in_err-inner.ensures.told (λ is. struct_declared c.args.self.now c.args.scope c.args.s.now _ is))
+
+pub bind_struct-returns-in_err-define-clause-told : goal.bind_struct-returns-in_err-define-clause-told
+bind_struct-returns-in_err-define-clause-told t c =
+    let p = err_from_is_err_and c.from_residual-in_err-define.result c.from_residual-in_err-define.ensures.1 in
+    rw (p.1, p.2) (or_told c.in_err-define.ensures.told (λ is. struct_defined c.args.self.now c.declare.new.self c.args.scope c.in_ok-inner.inner c.args.s.now _ c.in_ok-inner.ensures.told c.in_ok-inner.ensures.inner is))
+
+pub bind_struct-returns-in_err-bind_member-clause-told : goal.bind_struct-returns-in_err-bind_member-clause-told
+bind_struct-returns-in_err-bind_member-clause-told t c =
+    let p = err_from_is_err_and c.from_residual-in_err-bind_member.result c.from_residual-in_err-bind_member.ensures.1 in
+    rw (p.1, p.2) (or_told c.in_err-bind_member.ensures.told (λ is. struct_first c.args.self.now c.declare.new.self c.define.new.self c.args.scope c.in_ok-inner.inner c.args.s.now _ c.in_ok-inner.ensures.told c.in_ok-inner.ensures.inner c.in_ok-define.ensures.told
+    (sym (ap (member_read c.define.new.self c.in_ok-inner.inner) c.deref.ensures) ∙ is)))
 
 pub bind_struct-loop-member-init : goal.bind_struct-loop-member-init
 bind_struct-loop-member-init t c =
-    let defined : length c.define.new.self ≡ length c.declare.new.self = ap length c.in_ok-define.ensures in
+    let defined : length c.define.new.self.entries ≡ length c.declare.new.self.entries = ap length c.in_ok-define.ensures.same in
     let opened = c.in_ok-inner.ensures.longer in
     let within = c.in_ok-inner.ensures.within in
     let low = within.0 in
@@ -14,27 +32,35 @@ bind_struct-loop-member-init t c =
       inside = omega arith;
       longer = omega arith;
       told =
-          struct_start c.args.self.now c.declare.new.self c.define.new.self c.bind_member.new.self c.args.scope c.in_ok-inner.inner c.args.s.now c.deref-member-items.result.now
-          c.in_ok-inner.ensures.told c.in_ok-inner.ensures.inner c.in_ok-define.ensures
-          (c.in_ok-bind_member.ensures.told ∙ ap (member_entries c.define.new.self c.in_ok-inner.inner) c.deref.ensures) c.deref-member-items.ensures.value;
+          ap (each member_read c.bind_member.new.self c.in_ok-inner.inner) c.deref-member-items.ensures.value
+          ∙ sym (struct_first c.args.self.now c.declare.new.self c.define.new.self c.args.scope c.in_ok-inner.inner c.args.s.now (Ok c.bind_member.new.self) c.in_ok-inner.ensures.told c.in_ok-inner.ensures.inner c.in_ok-define.ensures.told
+          (sym (ap (member_read c.define.new.self c.in_ok-inner.inner) c.deref.ensures) ∙ c.in_ok-bind_member.ensures.told));
     }
 
-pub bind_struct-loop-member-preserved : goal.bind_struct-loop-member-preserved
-bind_struct-loop-member-preserved t c =
-    let items = c.deref-member-items.result.now in
-    let k = c.loop-member.member-index in
-    record {
-      inside = omega arith;
-      longer = omega arith;
-      told =
-          ap (λ es. each member_entries es c.in_ok-inner.inner (drop (k + 1) items)) c.in_ok-bind_member-2.ensures.told
-          ∙ each_from member_entries c.loop-member.self c.in_ok-inner.inner items k c.member-item.result (omega arith) c.member-item.is
-          ∙ c.loop-member.invariant.told;
-    }
+pub bind_union-returns-in_err-inner-clause-told : goal.bind_union-returns-in_err-inner-clause-told
+bind_union-returns-in_err-inner-clause-told t c =
+    let p = err_from_is_err_and c.from_residual.result c.from_residual.ensures.1 in
+    rw (p.1, p.2) (or_told c.in_err-inner.ensures.told (λ is. union_declared c.args.self.now c.args.scope c.args.u.now _ is))
+
+pub bind_union-returns-in_err-define-clause-told : goal.bind_union-returns-in_err-define-clause-told
+bind_union-returns-in_err-define-clause-told t c =
+    let p = err_from_is_err_and c.from_residual-in_err-define.result c.from_residual-in_err-define.ensures.1 in
+    rw (p.1, p.2) (or_told c.in_err-define.ensures.told (λ is. union_defined c.args.self.now c.declare.new.self c.args.scope c.in_ok-inner.inner c.args.u.now _ c.in_ok-inner.ensures.told c.in_ok-inner.ensures.inner is))
+
+pub bind_union-returns-in_err-bind_switch-clause-told : goal.bind_union-returns-in_err-bind_switch-clause-told
+bind_union-returns-in_err-bind_switch-clause-told t c =
+    let p = err_from_is_err_and c.from_residual-in_err-bind_switch.result c.from_residual-in_err-bind_switch.ensures.1 in
+    rw (p.1, p.2) (or_told c.in_err-bind_switch.ensures.told (λ is. union_switch c.args.self.now c.declare.new.self c.define.new.self c.args.scope c.in_ok-inner.inner c.args.u.now _ c.in_ok-inner.ensures.told c.in_ok-inner.ensures.inner c.in_ok-define.ensures.told is))
+
+pub bind_union-returns-in_err-bind_case-clause-told : goal.bind_union-returns-in_err-bind_case-clause-told
+bind_union-returns-in_err-bind_case-clause-told t c =
+    let p = err_from_is_err_and c.from_residual-in_err-bind_case.result c.from_residual-in_err-bind_case.ensures.1 in
+    rw (p.1, p.2) (or_told c.in_err-bind_case.ensures.told (λ is. union_first c.args.self.now c.declare.new.self c.define.new.self c.bind_switch.new.self c.args.scope c.in_ok-inner.inner c.args.u.now _ c.in_ok-inner.ensures.told c.in_ok-inner.ensures.inner c.in_ok-define.ensures.told c.in_ok-bind_switch.ensures.told
+    (sym (ap (case_read c.bind_switch.new.self c.in_ok-inner.inner) c.deref.ensures) ∙ is)))
 
 pub bind_union-loop-case-init : goal.bind_union-loop-case-init
 bind_union-loop-case-init t c =
-    let defined : length c.define.new.self ≡ length c.declare.new.self = ap length c.in_ok-define.ensures in
+    let defined : length c.define.new.self.entries ≡ length c.declare.new.self.entries = ap length c.in_ok-define.ensures.same in
     let opened = c.in_ok-inner.ensures.longer in
     let within = c.in_ok-inner.ensures.within in
     let low = within.0 in
@@ -44,20 +70,7 @@ bind_union-loop-case-init t c =
       inside = omega arith;
       longer = omega arith;
       told =
-          union_start c.args.self.now c.declare.new.self c.define.new.self c.bind_switch.new.self c.bind_case.new.self c.args.scope c.in_ok-inner.inner c.args.u.now c.deref-case-items.result.now
-          c.in_ok-inner.ensures.told c.in_ok-inner.ensures.inner c.in_ok-define.ensures c.in_ok-bind_switch.ensures.told
-          (c.in_ok-bind_case.ensures.told ∙ ap (case_entries c.bind_switch.new.self c.in_ok-inner.inner) c.deref.ensures) c.deref-case-items.ensures.value;
-    }
-
-pub bind_union-loop-case-preserved : goal.bind_union-loop-case-preserved
-bind_union-loop-case-preserved t c =
-    let items = c.deref-case-items.result.now in
-    let k = c.loop-case.case-index in
-    record {
-      inside = omega arith;
-      longer = omega arith;
-      told =
-          ap (λ es. each case_entries es c.in_ok-inner.inner (drop (k + 1) items)) c.in_ok-bind_case-2.ensures.told
-          ∙ each_from case_entries c.loop-case.self c.in_ok-inner.inner items k c.case-item.result (omega arith) c.case-item.is
-          ∙ c.loop-case.invariant.told;
+          ap (each case_read c.bind_case.new.self c.in_ok-inner.inner) c.deref-case-items.ensures.value
+          ∙ sym (union_first c.args.self.now c.declare.new.self c.define.new.self c.bind_switch.new.self c.args.scope c.in_ok-inner.inner c.args.u.now (Ok c.bind_case.new.self) c.in_ok-inner.ensures.told c.in_ok-inner.ensures.inner c.in_ok-define.ensures.told c.in_ok-bind_switch.ensures.told
+          (sym (ap (case_read c.bind_switch.new.self c.in_ok-inner.inner) c.deref.ensures) ∙ c.in_ok-bind_case.ensures.told));
     }

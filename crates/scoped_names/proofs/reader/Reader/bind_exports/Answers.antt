@@ -1,6 +1,6 @@
 use Rattle.std.proofs.Common.{arith}
 use Rattle.idl_tree.specs.DefinitionYields.{export_yield}
-use Rattle.scoped_names.proofs.Walks.{part_length}
+use Rattle.scoped_names.proofs.Readings.{part_length}
 use Rattle.scoped_names.proofs.reader.Reader.bind_exports.Goals as goal
 
 pub bind_export-requires-clause-small : goal.bind_export-requires-clause-small

@@ -1,5 +1,13 @@
-use Rattle.std.proofs.Common.{◌≡◌}
+use Rattle.std.proofs.Common.{◌≡◌, ◌≤◌, length}
+use Rattle.idl_tree.specs.Lists.{parts}
+use Rattle.idl_tree.specs.PartsLeft.{parts_left}
+use Rattle.scoped_names.specs.Faults.{declarator_read}
+use Rattle.scoped_names.specs.Reading.{each}
 use Rattle.scoped_names.proofs.reader.Reader.bind_members.Given as goal
 
 abbrev pub invariant-loop-declarator : goal.invariant-loop-declarator
-invariant-loop-declarator l = l.self ≡ l.fn.self
+invariant-loop-declarator l = record {
+  inside : l.scope ≤ length l.self.entries;
+  longer : length l.fn.self.entries ≤ length l.self.entries;
+  told : each declarator_read l.self l.scope (parts_left l.declarator-iterator) ≡ each declarator_read l.fn.self l.scope (parts l.declarators);
+}

@@ -33,7 +33,7 @@ pub returns-in_err-worth_at-in-Chain-clause-err : goal.returns-in_err-worth_at-i
 returns-in_err-worth_at-in-Chain-clause-err t c =
     let p = err_from_is_err_and c.from_residual-in_err-worth_at-in-Chain.result c.from_residual-in_err-worth_at-in-Chain.ensures.1 in
     let names = named_worth c.args.self.now c.args.scope in
-    rw (p.1, p.2) (explained _ (worth names c.args.expr.now) _
+    rw (p.1, p.2) (explained c.args.line _ (worth names c.args.expr.now) _
     (λ none. first_is_none names c.in-Chain.first c.in-Chain.rest c.args.expr.now c.deref-in-Chain.result.now c.in-Chain.is c.deref-in-Chain.ensures (ap whole_number none))
     c.in_err-worth_at-in-Chain.ensures.err)
 
@@ -42,7 +42,7 @@ returns-in_err-value-in-Chain-clause-err t c =
     let p = err_from_is_err_and c.from_residual-in_err-value-in-Chain.result c.from_residual-in_err-value-in-Chain.ensures.1 in
     let first = c.in_ok-worth_at-in-Chain.ensures.ok in
     let names = named_worth c.args.self.now c.args.scope in
-    rw (p.1, p.2) (explained _ (worth names c.args.expr.now) _
+    rw (p.1, p.2) (explained c.args.line _ (worth names c.args.expr.now) _
     (λ none. first_is_none names c.in-Chain.first c.in-Chain.rest c.args.expr.now c.deref-in-Chain.result.now c.in-Chain.is c.deref-in-Chain.ensures (ap whole_number first ∙ none))
     c.in_err-value-in-Chain.ensures.err)
 
@@ -73,7 +73,7 @@ returns-in_err-operand-in-Chain-clause-err t c =
     let lt : c.loop-part.part-index < length c.deref-part-items.result.now = omega arith in
     let whole : Option Constant = worth names c.args.expr.now in
     let part : Option Constant = worth names x.operand in
-    rw (p.1, p.2) (explained part whole _
+    rw (p.1, p.2) (explained c.args.line part whole _
     (λ none. operand_is_none names c.deref-part-items.result.now c.loop-part.part-index x (Some before) whole lt (sym c.part-item.is) c.loop-part.invariant
     (applied_to_none x.operator before part none))
     c.in_err-operand-in-Chain.ensures.err)
@@ -87,7 +87,7 @@ returns-in_err-value-in-Chain-2-clause-err t c =
     let lt : c.loop-part.part-index < length c.deref-part-items.result.now = omega arith in
     let whole : Option Constant = worth names c.args.expr.now in
     let given = ap (λ v. operator_applied x.operator (Some before) (whole_number v)) c.in_ok-operand-in-Chain.ensures.ok in
-    rw (p.1, p.2) (explained (operator_applied x.operator (Some before) (whole_number (Some c.in_ok-operand-in-Chain.operand))) whole _
+    rw (p.1, p.2) (explained c.args.line (operator_applied x.operator (Some before) (whole_number (Some c.in_ok-operand-in-Chain.operand))) whole _
     (λ none. operand_is_none names c.deref-part-items.result.now c.loop-part.part-index x (Some before) whole lt (sym c.part-item.is) c.loop-part.invariant (given ∙ none))
     c.in_err-value-in-Chain-2.ensures.err)
 

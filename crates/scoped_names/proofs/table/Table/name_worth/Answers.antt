@@ -1,11 +1,11 @@
-use Rattle.std.proofs.Common.{◌≡◌, ◌∙◌, inr, Ok, Err, sym}
-use Rattle.scoped_names.specs.Search.{finds}
+use Rattle.std.proofs.Common.{◌∙◌, inr, refl, sym}
+use Rattle.idl_tree.specs.Starts.{name_start}
+use Rattle.scoped_names.specs.Search.{sees}
+use Rattle.scoped_names.specs.Tests.{line}
 use Rattle.scoped_names.proofs.ChainWorth.{not_found}
 use Rattle.scoped_names.proofs.table.Table.name_worth.Goals as goal
 
 pub returns-in-Err-clause-err : goal.returns-in-Err-clause-err
 returns-in-Err-clause-err c =
-    let es = c.args.self.now in
-    inr (not_found es (finds es c.args.scope c.args.name.now) (λ e found.
-    let both : Ok e ≡ Err c.in-Err.fault = sym ((c.resolve.ensures.finds e).1 found) ∙ c.in-Err.is in
-    cc))
+    let name = c.args.name.now in
+    inr (not_found c.args.self.now (line (name_start name)) (sees c.args.self.now c.args.scope name) _ (sym c.resolve.ensures.told ∙ c.in-Err.is), refl)

@@ -1,0 +1,106 @@
+-- Specifications worked out by hand that have a fault: which it is, and its line.
+use Rattle.std.proofs.Common.{◌≡◌, ◌∙◌, ℕ, List, [], ◌∷◌, codes, Result, Ok, Err, Vec, Global, refl, ap}
+use Rattle.idl_lexer.specs.declared.token.Kind.{Kind}
+use Rattle.idl_lexer.specs.declared.token.Kind.TheVariants.{Ident, Pragma as PragmaToken}
+use Rattle.idl_lexer.specs.Forms.{HasForm}
+use Rattle.idl_tree.specs.declared.names.Leaf.{Leaf}
+use Rattle.idl_tree.specs.declared.definitions.TypeDcl.TheVariants.{StructAhead, UnionAhead}
+use Rattle.idl_tree.specs.declared.definitions.Declaration.TheVariants.{TypeDcl}
+use Rattle.idl_tree.specs.declared.definitions.Interface.TheVariants.{Ahead}
+use Rattle.idl_tree.specs.declared.definitions.Definition.{Definition, Pragma, Declaration, Interface, Module}
+use Rattle.idl_tree.specs.declared.definitions.Module.{Module as ModuleRecord}
+use Rattle.scoped_names.specs.declared.fault.NameFault.TheVariants.{Unknown, Collides, IdTwice, PrefixDiffers, PrefixInScope}
+use Rattle.scoped_names.specs.declared.fault.NameFault.{NameFault}
+use Rattle.scoped_names.specs.declared.entry.EntryKind.TheVariants.{Module as ModuleKind}
+use Rattle.scoped_names.specs.Entries.{scope_of}
+use Rattle.scoped_names.specs.Faults.{declared, defined_from, definition_read, nothing_yet, passed}
+use Rattle.scoped_names.specs.Reading.{Reading, each, ◌>>◌}
+use Rattle.scoped_names.specs.Whole.{Whole, names_of, whole}
+use Rattle.scoped_names.proofs.Readings.{module_told}
+
+-- any leaf, with this token in its place
+abbrev leaf : Leaf → (k : Kind) → (text : List ℕ) → HasForm k text → ℕ → ℕ → Leaf
+leaf l k text form number at = record {
+  token = record l.token {
+    now = record { kind = k; text = record l.token.now.text { now = text }; start = l.token.now.start; «end» = l.token.now.«end»; line = at; form = form };
+  };
+  number = number;
+}
+
+abbrev struct : Leaf → (n : List ℕ) → HasForm Ident n → ℕ → ℕ → Definition
+struct l n form number at = Declaration (TypeDcl (StructAhead (leaf l Ident n form number at)))
+
+abbrev union : Leaf → (n : List ℕ) → HasForm Ident n → ℕ → ℕ → Definition
+union l n form number at = Declaration (TypeDcl (UnionAhead (leaf l Ident n form number at)))
+
+abbrev interface : Leaf → (n : List ℕ) → HasForm Ident n → ℕ → ℕ → Definition
+interface l n form number at = Interface (Ahead (leaf l Ident n form number at))
+
+abbrev pragma : Leaf → (n : List ℕ) → HasForm PragmaToken n → ℕ → ℕ → Definition
+pragma l n form number at = Pragma (leaf l PragmaToken n form number at)
+
+abbrev finished : Reading → Result Whole NameFault
+finished r = ((r >> λ st. Ok st) >> λ st. passed st (defined_from st 0 st.entries)) >> λ st. Ok (whole st)
+
+-- struct S;
+-- union S;
+another_kind : (l : Leaf) (s : HasForm Ident (codes "S")) → names_of (struct l (codes "S") s 1 1 ∷ union l (codes "S") s 4 2 ∷ []) ≡ Err (Collides 2)
+another_kind l s = refl
+
+-- interface I;
+-- interface i;
+another_case : (l : Leaf) (big : HasForm Ident (codes "I")) (small : HasForm Ident (codes "i"))
+    → names_of (interface l (codes "I") big 1 1 ∷ interface l (codes "i") small 4 2 ∷ []) ≡ Err (Collides 2)
+another_case l big small = refl
+
+-- what is read of a module alone
+of_module : (m : ModuleRecord) (ds : List Definition) → m.definitions.items ≡ ds
+    → names_of (Module m ∷ []) ≡ finished (declared ModuleKind nothing_yet 0 m.identifier >> λ st. each definition_read st (scope_of st.entries 0 m.identifier) ds)
+of_module m ds is =
+    ap finished (module_told nothing_yet 0 m ∙ ap (λ xs. declared ModuleKind nothing_yet 0 m.identifier >> λ st. each definition_read st (scope_of st.entries 0 m.identifier) xs) is)
+
+-- module M {
+-- struct m; };
+own_name : (l : Leaf) (big : HasForm Ident (codes "M")) (small : HasForm Ident (codes "m")) (ds : Vec Definition Global) → ds.items ≡ struct l (codes "m") small 4 2 ∷ []
+    → names_of (Module (record { identifier = leaf l Ident (codes "M") big 1 1; definitions = ds }) ∷ []) ≡ Err (Collides 2)
+own_name l big small ds is = of_module (record { identifier = leaf l Ident (codes "M") big 1 1; definitions = ds }) (struct l (codes "m") small 4 2 ∷ []) is
+
+-- interface I;
+-- struct S;
+never_defined : (l : Leaf) (i : HasForm Ident (codes "I")) (s : HasForm Ident (codes "S"))
+    → names_of (interface l (codes "I") i 1 1 ∷ struct l (codes "S") s 4 2 ∷ []) ≡ Err (Unknown 2)
+never_defined l i s = refl
+
+-- struct S;
+-- union S;
+-- interface S;
+-- the first clash is told, and not the second, nor what is never defined
+first_of_two : (l : Leaf) (s : HasForm Ident (codes "S"))
+    → names_of (struct l (codes "S") s 1 1 ∷ union l (codes "S") s 4 2 ∷ interface l (codes "S") s 7 3 ∷ []) ≡ Err (Collides 2)
+first_of_two l s = refl
+
+-- interface I;
+-- #pragma prefix "p"
+-- interface I;
+another_prefix : (l : Leaf) (i : HasForm Ident (codes "I")) (p : HasForm PragmaToken (codes "#pragma prefix \"p\""))
+    → names_of (interface l (codes "I") i 1 1 ∷ pragma l (codes "#pragma prefix \"p\"") p 3 2 ∷ interface l (codes "I") i 5 3 ∷ []) ≡ Err (PrefixDiffers 3)
+another_prefix l i p = refl
+
+-- module M {
+-- #pragma prefix "p"
+-- };
+prefix_inside : (l : Leaf) (m : HasForm Ident (codes "M")) (p : HasForm PragmaToken (codes "#pragma prefix \"p\"")) (ds : Vec Definition Global)
+    → ds.items ≡ pragma l (codes "#pragma prefix \"p\"") p 3 2 ∷ []
+    → names_of (Module (record { identifier = leaf l Ident (codes "M") m 1 1; definitions = ds }) ∷ []) ≡ Err (PrefixInScope 2)
+prefix_inside l m p ds is = of_module (record { identifier = leaf l Ident (codes "M") m 1 1; definitions = ds }) (pragma l (codes "#pragma prefix \"p\"") p 3 2 ∷ []) is
+
+-- interface I;
+-- #pragma ID I "x"
+-- #pragma ID I "y"
+another_id : (l : Leaf) (i : HasForm Ident (codes "I")) (x : HasForm PragmaToken (codes "#pragma ID I \"x\"")) (y : HasForm PragmaToken (codes "#pragma ID I \"y\""))
+    → names_of (interface l (codes "I") i 1 1 ∷ pragma l (codes "#pragma ID I \"x\"") x 3 2 ∷ pragma l (codes "#pragma ID I \"y\"") y 4 3 ∷ []) ≡ Err (IdTwice 3)
+another_id l i x y = refl
+
+-- #pragma ID I "x"
+nothing_named : (l : Leaf) (x : HasForm PragmaToken (codes "#pragma ID I \"x\"")) → names_of (pragma l (codes "#pragma ID I \"x\"") x 0 1 ∷ []) ≡ Err (Unknown 1)
+nothing_named l x = refl

@@ -1,0 +1,62 @@
+-- What reading a part of a specification gives: what is known behind the part, or the first fault in it.
+use Rattle.std.specs.Prelude.{◌≡◌, ◌⊎◌, ℕ, List, [], ◌∷◌, Result, Ok, Err, MatchResult}
+use Rattle.scoped_names.specs.Entry.{Entry}
+use Rattle.scoped_names.specs.RepositoryIds.{IdPragma}
+use Rattle.scoped_names.specs.declared.fault.NameFault.{NameFault}
+use Rattle.scoped_names.specs.declared.fault.NameFault.TheVariants.{NoMemory}
+
+-- a member or a parameter of a scope
+pub record Member : Type 0 where
+  pub scope : ℕ
+  pub name : List ℕ
+
+-- what is known at a place of a specification
+pub record State : Type 0 where
+  pub entries : List Entry
+  -- the same entries, of which only operations and attributes are ever found
+  pub features : List Entry
+  -- the members and parameters that scopes have, which no search finds
+  pub members : List Member
+  -- the scopes of which a definition was read
+  pub defined : List ℕ
+  -- the prefix of repository ids that is set
+  pub prefix : List ℕ
+  -- what pragmas give to entries
+  pub given : List IdPragma
+
+abbrev pub Reading : Type 0
+Reading = Result State NameFault
+
+-- a test that changes nothing
+abbrev pub Test : Type 0
+Test = Result (Unit {0}) NameFault
+
+-- one thing, and then another where the first is without a fault
+infixl 10 ◌>>◌
+abbrev pub ◌>>◌ : {A B : Type 0} → Result A NameFault → (A → Result B NameFault) → Result B NameFault
+(Ok x) >> next = next x
+(Err fault) >> next = Err fault
+
+-- one part behind another
+abbrev pub each : {T : Type 0} → (State → ℕ → T → Reading) → State → ℕ → List T → Reading
+each part st scope [] = Ok st
+each part st scope (x ∷ xs) = part st scope x >> λ next. each part next scope xs
+
+abbrev pub all : {T : Type 0} → (T → Test) → List T → Test
+all test [] = Ok tt
+all test (x ∷ xs) = test x >> λ u. all test xs
+
+-- what is known behind is what reading gives; a fault is the one that it gives, or memory was refused
+abbrev pub Tells : {T S : Type 0} → Result T NameFault → S → Result S NameFault → Type 0
+Tells result new reading =
+    MatchResult result (λ x. reading ≡ Ok new) (λ fault. (fault ≡ NoMemory) ⊎ (reading ≡ Err fault))
+
+-- the same of a value
+abbrev pub Gives : {T : Type 0} → Result T NameFault → Result T NameFault → Type 0
+Gives result reading =
+    MatchResult result (λ x. reading ≡ Ok x) (λ fault. (fault ≡ NoMemory) ⊎ (reading ≡ Err fault))
+
+-- the same of a test
+abbrev pub Checks : {T : Type 0} → Result T NameFault → Test → Type 0
+Checks result test =
+    MatchResult result (λ x. test ≡ Ok tt) (λ fault. (fault ≡ NoMemory) ⊎ (test ≡ Err fault))
