@@ -67,13 +67,13 @@ both_ways false false f g = refl
 
 -- ---- what searches give has the name
 
-abbrev HasName : List Entry → ℕ → List ℕ → Type 0
+abbrev pub HasName : List Entry → ℕ → List ℕ → Type 0
 HasName es k w = (e : Entry) × (slice_get es k ≡ Some e) × (same_but_for_case w e.name ≡ true)
 
 blank : Entry
 blank = record { scope = 0; name = []; token = 0; kind = Module; bases = []; worth = None; stands_for = None; line = 0; prefix = [] }
 
-named_at : (es : List Entry) (s : ℕ) (w : List ℕ) (k : ℕ) → named es s w ≡ Some k → HasName es k w
+pub named_at : (es : List Entry) (s : ℕ) (w : List ℕ) (k : ℕ) → named es s w ≡ Some k → HasName es k w
 named_at es s w k at =
     let p = position-Some (is_named s w) es k blank at in
     let e = get_or es k blank in

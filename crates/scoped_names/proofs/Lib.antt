@@ -17,6 +17,8 @@ pub mod Sights
 pub mod IdFormats
 pub mod IdsGiven
 pub mod Members
+pub mod Introducing
+pub mod Introduced
 pub mod Features
 pub mod WorkedIds
 pub mod WorkedFaults

@@ -32,7 +32,7 @@ abbrev pub lower : List ℕ → List ℕ
 lower w = map to_ascii_lowercase w
 
 module _ (es : List Entry) (w v : List ℕ) (like : lower w ≡ lower v) where
-  named_case : (s : ℕ) → named es s w ≡ named es s v
+  pub named_case : (s : ℕ) → named es s w ≡ named es s v
   named_case s = position_same (is_named s w) (is_named s v) (λ e. ap (λ x. nat_eq s e.scope && bytes_eq x (lower e.name)) like) es
 
   own_case : (n s : ℕ) → own es n s w ≡ own es n s v

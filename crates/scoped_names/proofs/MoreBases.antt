@@ -48,7 +48,7 @@ get_like f (z ∷ zs) zero x y (suc k) h same = refl
 get_like f (z ∷ zs) (suc e) x y zero h same = refl
 get_like f (z ∷ zs) (suc e) x y (suc k) h same = get_like f zs e x y k h same
 
-map_like : {X Y : Type 0} (f : X → Y) (xs : List X) (e : ℕ) (x y : X) → slice_get xs e ≡ Some x → f y ≡ f x → map f (slice_set xs e y) ≡ map f xs
+pub map_like : {X Y : Type 0} (f : X → Y) (xs : List X) (e : ℕ) (x y : X) → slice_get xs e ≡ Some x → f y ≡ f x → map f (slice_set xs e y) ≡ map f xs
 map_like f [] e x y h same = cc
 map_like f (z ∷ zs) zero x y h same = let is : z ≡ x = cc in ap (λ r. r ∷ map f zs) (same ∙ sym (ap f is))
 map_like f (z ∷ zs) (suc e) x y h same = ap (λ r. f z ∷ r) (map_like f zs e x y h same)

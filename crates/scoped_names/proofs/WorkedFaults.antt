@@ -1,5 +1,7 @@
 -- Specifications worked out by hand that have a fault: which it is, and its line.
 use Rattle.std.proofs.Common.{◌≡◌, ◌∙◌, ℕ, List, [], ◌∷◌, codes, Result, Ok, Err, Vec, Global, refl, ap}
+use Rattle.std.specs.List.{IsDistinct}
+use Rattle.std.proofs.lemmas.Map.Keys.{IsDistinct-head}
 use Rattle.idl_lexer.specs.declared.token.Kind.{Kind}
 use Rattle.idl_lexer.specs.declared.token.Kind.TheVariants.{Ident, Pragma as PragmaToken}
 use Rattle.idl_lexer.specs.Forms.{HasForm}
@@ -14,6 +16,8 @@ use Rattle.scoped_names.specs.declared.fault.NameFault.{NameFault}
 use Rattle.scoped_names.specs.declared.entry.EntryKind.TheVariants.{Module as ModuleKind}
 use Rattle.scoped_names.specs.Entries.{scope_of}
 use Rattle.scoped_names.specs.Faults.{declared, defined_from, definition_read, nothing_yet, passed}
+use Rattle.scoped_names.specs.Entry.{Entry}
+use Rattle.scoped_names.specs.Introductions.{clashes, introduced}
 use Rattle.scoped_names.specs.Reading.{Reading, each, ◌>>◌}
 use Rattle.scoped_names.specs.Whole.{Whole, names_of, whole}
 use Rattle.scoped_names.proofs.Readings.{module_told}
@@ -47,11 +51,20 @@ finished r = ((r >> λ st. Ok st) >> λ st. passed st (defined_from st 0 st.entr
 another_kind : (l : Leaf) (s : HasForm Ident (codes "S")) → names_of (struct l (codes "S") s 1 1 ∷ union l (codes "S") s 4 2 ∷ []) ≡ Err (Collides 2)
 another_kind l s = refl
 
+-- whatever the entries are, the second stands where the first does
+another_kind_clashes : (l : Leaf) (s : HasForm Ident (codes "S")) (es : List Entry)
+    → IsDistinct clashes (introduced es (struct l (codes "S") s 1 1 ∷ union l (codes "S") s 4 2 ∷ [])) → ⊥
+another_kind_clashes l s es h = let first = (IsDistinct-head clashes _ _ h).0 in cc
+
 -- interface I;
 -- interface i;
 another_case : (l : Leaf) (big : HasForm Ident (codes "I")) (small : HasForm Ident (codes "i"))
     → names_of (interface l (codes "I") big 1 1 ∷ interface l (codes "i") small 4 2 ∷ []) ≡ Err (Collides 2)
 another_case l big small = refl
+
+another_case_clashes : (l : Leaf) (big : HasForm Ident (codes "I")) (small : HasForm Ident (codes "i")) (es : List Entry)
+    → IsDistinct clashes (introduced es (interface l (codes "I") big 1 1 ∷ interface l (codes "i") small 4 2 ∷ [])) → ⊥
+another_case_clashes l big small es h = let first = (IsDistinct-head clashes _ _ h).0 in cc
 
 -- what is read of a module alone
 of_module : (m : ModuleRecord) (ds : List Definition) → m.definitions.items ≡ ds

@@ -6,6 +6,7 @@ pub mod Entries
 pub mod Reading
 pub mod Tests
 pub mod Faults
+pub mod Introductions
 pub mod RepositoryIds
 pub mod IdPragmas
 pub mod Keys

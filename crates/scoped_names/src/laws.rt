@@ -1,11 +1,24 @@
 //! Laws over the definitions. The functions do nothing: each contract is the law.
 
 ghost use Rattle.std.specs.Prelude.{◌≡◌, ℕ, List};
+ghost use Rattle.std.specs.List.{AllByRecursion, IsDistinct};
 ghost use Rattle.idl_tree.specs.declared.definitions.Definition.{Definition};
-ghost use Rattle.scoped_names.specs.RepositoryIds.{repository_id};
+ghost use Rattle.scoped_names.specs.Introductions.{IsEntry, clashes, introduced};
 ghost use Rattle.scoped_names.specs.Whole.{Whole, AreNames};
 
 /// A specification has one list of entries, and what pragmas say of each is one thing.
 pub fn names_are_one()
     ensures { (definitions : List Definition) (one other : Whole) → AreNames definitions one → AreNames definitions other → one ≡ other }
+{}
+
+/// Where a specification has no fault of names, each identifier that it declares is the entry that
+/// stands at its scope and name, of its kind and spelling.
+pub fn identifiers_are_entries()
+    ensures { (definitions : List Definition) (names : Whole) → AreNames definitions names → AllByRecursion (IsEntry names.entries) (introduced names.entries definitions) }
+{}
+
+/// Where a specification has no fault of names, nothing that it introduces clashes with what stands
+/// before it: each name, member, parameter and body stands once, but for what may appear again.
+pub fn nothing_clashes()
+    ensures { (definitions : List Definition) (names : Whole) → AreNames definitions names → IsDistinct clashes (introduced names.entries definitions) }
 {}
