@@ -41,7 +41,7 @@ use Rattle.scoped_names.specs.declared.fault.NameFault.TheVariants.{BadBase, Col
 use Rattle.scoped_names.specs.Entry.{Entry, named}
 use Rattle.scoped_names.specs.Constants.{const_type_kind}
 use Rattle.scoped_names.specs.Entries.{attribute_identifiers, const_meant, enum_meant, enumerator_meant, optional_parts, plain, scope_number, scope_of, typedef_meant, with_base}
-use Rattle.scoped_names.specs.Faults.{attribute_read, base_added, base_read, cases_read, const_read, declaration_read, declarator_read, declared, declared_as, defined, defined_from, definition_read, definitions_read, enum_read, enumerator_read, except_read, export_read, feature_read, given_once, interface_read, is_defined, is_something, may_be_base, member_added, member_read, members_read, new_test, nothing_yet, operation_read, param_read, passed, pragma_read, prefix_read, said_read, specification_read, struct_read, switch_read, type_dcl_read, type_kind, type_read, typedef_read, undefined_test, union_read, with_defined}
+use Rattle.scoped_names.specs.Faults.{attribute_read, base_added, base_read, cases_read, const_read, declaration_read, declarator_read, based, declared, declared_as, defined, defined_from, definition_read, definitions_read, enum_read, enumerator_read, except_read, export_read, feature_read, features_of, given_once, interface_read, is_defined, is_something, may_be_base, member_added, member_read, members_read, new_test, nothing_yet, operation_read, param_read, passed, pragma_read, prefix_read, said_read, specification_read, struct_read, switch_read, type_dcl_read, type_kind, type_read, typedef_read, undefined_test, union_read, with_defined}
 use Rattle.scoped_names.specs.IdPragmas.{Said, SetsPrefix, Gives, begins_at_root, identifiers_see, said_by}
 use Rattle.scoped_names.specs.Introductions.{Introduction, Stands, Has, Body, IsEntry, attribute_introduced, cases_introduced, clashes, declaration_introduced, declarator_introduced, definition_introduced, definitions_introduced, enum_introduced, enumerator_introduced, except_introduced, export_introduced, interface_introduced, introduced, member_introduced, members_introduced, operation_introduced, param_introduced, struct_introduced, switch_introduced, type_dcl_introduced, type_introduced, typedef_introduced, union_introduced}
 use Rattle.scoped_names.specs.Reading.{Reading, State, Test, all, each, ◌>>◌}
@@ -226,7 +226,7 @@ declaration_adds es st next scope (Declarations.Except e) h later = except_adds 
 -- ---- operations and attributes
 
 feature_adds : (kind : EntryKind) (st next : State) (scope : ℕ) (l : Leaf) → feature_read kind st scope l ≡ Ok next → declared kind st scope l ≡ Ok next
-feature_adds kind st next scope l h = by (is_something (inherited st.features l.number scope (word l))) h
+feature_adds kind st next scope l h = by (is_something (inherited (features_of st.entries) l.number scope (word l))) h
   where
     by : (b : Bool) → (let r : Reading = if b then Err (Collides (line l)) else declared kind st scope l in r) ≡ Ok next → declared kind st scope l ≡ Ok next
     by true h = absurd cc
@@ -294,10 +294,10 @@ base_adds inner st next scope name h =
     by : (base : Base) → base_added st inner base (line (name_start name)) ≡ Ok next → (Grows st next) × (next.defined ≡ st.defined)
     by base h = test (may_be_base st inner base) h
       where
-        test : (b : Bool) → (let r : Reading = if b then Ok (record st { entries = with_base st.entries inner base; features = with_base st.features inner base }) else Err (BadBase (line (name_start name))) in r) ≡ Ok next
+        test : (b : Bool) → (let r : Reading = if b then Ok (based st inner base) else Err (BadBase (line (name_start name))) in r) ≡ Ok next
             → (Grows st next) × (next.defined ≡ st.defined)
         test true h =
-            let is : record st { entries = with_base st.entries inner base; features = with_base st.features inner base } ≡ next = cc in
+            let is : based st inner base ≡ next = cc in
             let entries : next.entries ≡ with_base st.entries inner base = sym (ap (λ s. s.entries) is) in
             let members : next.members ≡ st.members = sym (ap (λ s. s.members) is) in
             let defined : next.defined ≡ st.defined = sym (ap (λ s. s.defined) is) in

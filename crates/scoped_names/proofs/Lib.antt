@@ -17,6 +17,7 @@ pub mod Sights
 pub mod IdFormats
 pub mod IdsGiven
 pub mod Members
+pub mod FeatureTables
 pub mod Introducing
 pub mod Introduced
 pub mod Features

@@ -19,7 +19,7 @@ members_kept [] scope name test same = refl
 members_kept (k ∷ ks) scope name test same =
     ap (λ b. b || has_member (map member_of ks) scope name) (same k) ∙ ap (λ b. test k || b) (members_kept ks scope name test same)
 
-map_behind : {X Y : Type 0} (f : X → Y) (xs : List X) (y : X) → map f (xs ++ y ∷ []) ≡ map f xs ++ f y ∷ []
+pub map_behind : {X Y : Type 0} (f : X → Y) (xs : List X) (y : X) → map f (xs ++ y ∷ []) ≡ map f xs ++ f y ∷ []
 map_behind f [] y = refl
 map_behind f (x ∷ xs) y = ap (λ r. f x ∷ r) (map_behind f xs y)
 

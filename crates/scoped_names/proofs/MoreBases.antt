@@ -53,7 +53,7 @@ map_like f [] e x y h same = cc
 map_like f (z ∷ zs) zero x y h same = let is : z ≡ x = cc in ap (λ r. r ∷ map f zs) (same ∙ sym (ap f is))
 map_like f (z ∷ zs) (suc e) x y h same = ap (λ r. f z ∷ r) (map_like f zs e x y h same)
 
-map_changed : {X Y : Type 0} (f : X → Y) (xs : List X) (e : ℕ) (y : X) → map f (slice_set xs e y) ≡ slice_set (map f xs) e (f y)
+pub map_changed : {X Y : Type 0} (f : X → Y) (xs : List X) (e : ℕ) (y : X) → map f (slice_set xs e y) ≡ slice_set (map f xs) e (f y)
 map_changed f [] e y = refl
 map_changed f (z ∷ zs) zero y = refl
 map_changed f (z ∷ zs) (suc e) y = ap (λ r. f z ∷ r) (map_changed f zs e y)

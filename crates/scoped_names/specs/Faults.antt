@@ -1,7 +1,7 @@
 -- The faults of a specification's names (ISO/IEC 19500-1, names and scoping, and pragma directives for repository ids):
 -- each part of the tree, where `st` is what is known before it and `scope` the scope that it stands in, gives what is
 -- known behind it, or its first fault. A fault of a declared name comes at its identifier, before those of what follows.
-use Rattle.std.specs.Prelude.{ℕ, zero, suc, Bool, true, false, not, ◌&&◌, ◌||◌, if◌then◌else◌, nat_eq, List, [], ◌∷◌, ◌++◌, Option, Some, None, Result, Ok, Err, length, slice_get}
+use Rattle.std.specs.Prelude.{ℕ, zero, suc, Bool, true, false, not, ◌&&◌, ◌||◌, if◌then◌else◌, nat_eq, List, [], ◌∷◌, ◌++◌, Option, Some, None, Result, Ok, Err, length, map, slice_get}
 use Rattle.std.specs.Str.{bytes_eq}
 use Rattle.std.specs.List.{list_any}
 use Rattle.idl_lexer.specs.Words.{same_but_for_case}
@@ -114,18 +114,8 @@ reappears kind st l (Some e) =
 
 -- ---- declarations
 
--- of the features nothing but operations and attributes is found: no name stands behind all tokens
-abbrev pub feature_token : Meaning → ℕ
-feature_token m = (if is_feature m.kind then m.token else 18446744073709551615)
-
-abbrev pub as_feature : Meaning → Meaning
-as_feature m = record { token = feature_token m; kind = m.kind; worth = None; stands_for = None }
-
 abbrev pub with_declared : Meaning → State → ℕ → Leaf → State
-with_declared m st scope l = record st {
-  entries = with_entry st.entries (entry_declared m st.prefix scope l);
-  features = with_entry st.features (entry_declared (as_feature m) st.prefix scope l);
-}
+with_declared m st scope l = record st { entries = with_entry st.entries (entry_declared m st.prefix scope l) }
 
 abbrev pub declares : Meaning → State → ℕ → Leaf → Option ℕ → Reading
 declares m st scope l None = Ok (with_declared m st scope l)
@@ -276,6 +266,17 @@ declaration_read st scope (Declarations.Except e) = except_read st scope e
 
 -- ---- operations and attributes
 
+-- of the features nothing but operations and attributes is found: no name stands behind all tokens
+abbrev pub feature_token : Entry → ℕ
+feature_token e = (if is_feature e.kind then e.token else 18446744073709551615)
+
+abbrev pub as_feature : Entry → Entry
+as_feature e = record e { token = feature_token e; worth = None; stands_for = None }
+
+-- the entries, of which no type hides an operation or attribute
+abbrev pub features_of : List Entry → List Entry
+features_of es = map as_feature es
+
 abbrev pub is_something : Found → Bool
 is_something Nothing = false
 is_something (One e) = true
@@ -284,7 +285,7 @@ is_something Several = true
 -- an operation or attribute, whose name isn't that of one that the interface inherits
 abbrev pub feature_read : EntryKind → State → ℕ → Leaf → Reading
 feature_read kind st scope l =
-    (if is_something (inherited st.features l.number scope (word l)) then Err (Collides (line l))
+    (if is_something (inherited (features_of st.entries) l.number scope (word l)) then Err (Collides (line l))
     else declared kind st scope l)
 
 abbrev pub attribute_read : State → ℕ → Attribute → Reading
@@ -332,15 +333,13 @@ is_defined_interface st e = is_of is_interface (slice_get st.entries e) && is_de
 abbrev pub may_be_base : State → ℕ → Base → Bool
 may_be_base st inner base = is_defined_interface st base.entry
     && not (list_any (λ b. nat_eq b.entry base.entry) (bases_of st.entries inner))
-    && not (differ st.features inner base)
+    && not (differ (features_of st.entries) inner base)
+
+abbrev pub based : State → ℕ → Base → State
+based st inner base = record st { entries = with_base st.entries inner base }
 
 abbrev pub base_added : State → ℕ → Base → ℕ → Reading
-base_added st inner base at =
-    (if may_be_base st inner base then Ok (record st {
-      entries = with_base st.entries inner base;
-      features = with_base st.features inner base;
-    })
-    else Err (BadBase at))
+base_added st inner base at = (if may_be_base st inner base then Ok (based st inner base) else Err (BadBase at))
 
 -- a base of the interface that has the scope `inner`
 abbrev pub base_read : ℕ → State → ℕ → ScopedName → Reading
@@ -420,7 +419,6 @@ defined_from st place (e ∷ es) =
 abbrev pub nothing_yet : State
 nothing_yet = record {
   entries = [];
-  features = [];
   members = [];
   defined = [];
   prefix = [];

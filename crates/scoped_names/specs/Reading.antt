@@ -13,8 +13,6 @@ pub record Member : Type 0 where
 -- what is known at a place of a specification
 pub record State : Type 0 where
   pub entries : List Entry
-  -- the same entries, of which only operations and attributes are ever found
-  pub features : List Entry
   -- the members and parameters that scopes have, which no search finds
   pub members : List Member
   -- the scopes of which a definition was read

@@ -242,7 +242,7 @@ impl<'a> Reader<'a> {
         ensures inner { IfOk result (λ r. r ≡ scope_of self.new.entries scope identifier.entry) }
         ensures longer { length self.old.entries ≤ length self.new.entries }
     {
-        if self.inherits_feature(scope, identifier) {
+        if self.inherits_feature(scope, identifier)? {
             let line = identifier.token.line;
             return Err(NameFault::Collides { line });
         }

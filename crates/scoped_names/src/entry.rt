@@ -2,7 +2,8 @@
 
 ghost use Rattle.std.specs.Prelude.{◌≡◌};
 ghost use Rattle.scoped_names.specs.Entries.{plain as plain_meaning};
-ghost use Rattle.scoped_names.specs.Faults.{as_feature, keeps_its_name};
+ghost use Rattle.scoped_names.specs.Faults.{keeps_its_name};
+ghost use Rattle.scoped_names.specs.StateKept.{feature_meant};
 
 use const_values::{ConstKind, Constant};
 
@@ -66,7 +67,7 @@ impl Meaning {
     /// The same of what is found among operations and attributes alone: of no other name is the
     /// token ever behind it.
     pub fn as_feature(&self) -> Self
-        ensures { result ≡ as_feature self.now }
+        ensures { result ≡ feature_meant self.now }
     {
         let token = match self.kind {
             EntryKind::Operation | EntryKind::Attribute => self.token,

@@ -6,7 +6,7 @@ ghost use Rattle.std.specs.List.{flat_map};
 ghost use Rattle.idl_tree.specs.DefinitionYields.{definition_yield};
 ghost use Rattle.scoped_names.specs.Entries.{scope_of};
 ghost use Rattle.scoped_names.specs.Search.{inherited, word};
-ghost use Rattle.scoped_names.specs.Faults.{all_read, base_added, declared, declared_as, defined, defined_from, has_body, is_defined_interface, is_interface, is_left_open, is_something, is_taken, keeps_prefix, may_be_base, may_reappear, member_added, new_test, nothing_yet, prefix_read, reappears, undefined_test, with_declared, with_defined};
+ghost use Rattle.scoped_names.specs.Faults.{all_read, base_added, based, declared, declared_as, defined, defined_from, features_of, has_body, is_defined_interface, is_interface, is_left_open, is_something, is_taken, keeps_prefix, may_be_base, may_reappear, member_added, new_test, nothing_yet, prefix_read, reappears, undefined_test, with_declared, with_defined};
 ghost use Rattle.scoped_names.specs.Reading.{Checks, Tells};
 ghost use Rattle.scoped_names.specs.Entry.{AreDistinct};
 ghost use Rattle.scoped_names.specs.Whole.{whole};
@@ -30,6 +30,8 @@ pub(crate) struct Reader<'a> {
     pub table: Table<'a>,
     /// The same entries, of which only operations and attributes are ever found: no type hides one.
     features: Table<'a>,
+    /// Memory was refused in the midst of a change, and the two tables may be out of step.
+    is_spoilt: bool,
     /// The members and parameters that each scope has; no search finds them.
     members: IndexSet<Key<'a>>,
     /// The scopes of which a definition was read.
@@ -45,9 +47,14 @@ impl<'a> Model for Reader<'a> {
     ghost use Rattle.scoped_names.specs.Reading.{State};
     ghost use Rattle.scoped_names.specs.StateKept.{member_of};
 
+    ghost use Rattle.std.specs.Prelude.{◌≡◌, false};
+    ghost use Rattle.scoped_names.specs.Faults.{features_of};
+
     ghost Value = { State };
 
-    ghost view = { λ r. record { entries = r.table; features = r.features; members = map member_of r.members.keys; defined = r.defined.keys; prefix = r.prefix.now; given = r.ids } };
+    ghost view = { λ r. record { entries = r.table; members = map member_of r.members.keys; defined = r.defined.keys; prefix = r.prefix.now; given = r.ids } };
+
+    ghost invariant = { λ r. r.is_spoilt ≡ false → r.features ≡ features_of r.table };
 }
 
 impl EntryKind {
@@ -103,6 +110,7 @@ impl<'a> Reader<'a> {
         Ok(Reader {
             table: Table::new(alloc)?,
             features: Table::new(alloc)?,
+            is_spoilt: false,
             members: IndexSet::new(alloc),
             defined: IndexSet::new(alloc),
             prefix: "",
@@ -152,16 +160,18 @@ impl<'a> Reader<'a> {
         ensures told { Tells result self.new (Ok (with_declared meaning self.old scope identifier.entry)) }
         ensures longer { length self.old.entries ≤ length self.new.entries }
     {
-        // the tables are of one length
-        if scope > self.features.len() {
+        if self.is_spoilt {
             return Err(NameFault::NoMemory);
         }
+        self.is_spoilt = true;
         let prefix = self.prefix;
         let feature = meaning.as_feature();
         self.features
             .add(alloc, Record::new(prefix, scope, identifier, feature))?;
         self.table
-            .add(alloc, Record::new(prefix, scope, identifier, meaning))
+            .add(alloc, Record::new(prefix, scope, identifier, meaning))?;
+        self.is_spoilt = false;
+        Ok(())
     }
 
     /// Declares an identifier in a scope as what is meant. Gives the scope that the declaration has.
@@ -306,11 +316,19 @@ impl<'a> Reader<'a> {
     }
 
     /// Whether a scope inherits an operation or attribute of the name.
-    pub fn inherits_feature(&self, scope: usize, identifier: Leaf<'a>) -> bool
-        ensures { result ≡ is_something (inherited self.now.features identifier.entry.number scope (word identifier.entry)) }
+    ///
+    /// # Errors
+    ///
+    /// `NoMemory` where it was refused before.
+    pub fn inherits_feature(&self, scope: usize, identifier: Leaf<'a>) -> Result<bool, NameFault>
+        ensures told { IfOk result (λ r. r ≡ is_something (inherited (features_of self.now.entries) identifier.entry.number scope (word identifier.entry))) }
+        ensures memory { IfErr result (λ fault. fault ≡ NoMemory) }
     {
-        self.features
-            .inherits(identifier.number, scope, identifier.name())
+        if self.is_spoilt {
+            return Err(NameFault::NoMemory);
+        }
+        let token = identifier.number;
+        Ok(self.features.inherits(token, scope, identifier.name()))
     }
 
     /// A prefix that holds from here on, in the file's scope.
@@ -347,27 +365,42 @@ impl<'a> Reader<'a> {
         ensures told { Tells result self.new (base_added self.old inner base line) }
         ensures longer { length self.old.entries ≤ length self.new.entries }
     {
-        // the tables are of one length
-        if inner > self.features.len() || base.entry >= self.features.len() {
-            return Err(NameFault::NoMemory);
-        }
         if !self.may_be_base(alloc, inner, base)? {
             return Err(NameFault::BadBase { line });
         }
-        self.features.shorten(alloc, base.entry.saturating_add(1))?;
+        self.push_base(alloc, inner, base)
+    }
+
+    /// Puts a base behind those that an interface has.
+    fn push_base(&mut self, alloc: Global, inner: usize, base: Base) -> Result<(), NameFault>
+        requires inner { inner ≤ length self.old.entries }
+        requires placed { base.entry < length self.old.entries }
+        ensures told { Tells result self.new (Ok (based self.old inner base)) }
+        ensures longer { length self.old.entries ≤ length self.new.entries }
+    {
+        if self.is_spoilt {
+            return Err(NameFault::NoMemory);
+        }
+        self.is_spoilt = true;
+        let scope = base.entry.saturating_add(1);
+        self.features.shorten(alloc, scope)?;
         self.features.add_base(alloc, inner, base)?;
-        self.table.shorten(alloc, base.entry.saturating_add(1))?;
-        self.table.add_base(alloc, inner, base)
+        self.table.shorten(alloc, scope)?;
+        self.table.add_base(alloc, inner, base)?;
+        self.is_spoilt = false;
+        Ok(())
     }
 
     /// Whether an interface that is defined is no base yet, and has no other operation or attribute
     /// of a name of those before.
     fn may_be_base(&self, alloc: Global, inner: usize, base: Base) -> Result<bool, NameFault>
-        requires placed { base.entry < length self.now.entries }
-        requires feature { base.entry < length self.now.features }
+        requires { base.entry < length self.now.entries }
         ensures told { IfOk result (λ r. r ≡ may_be_base self.now inner base) }
         ensures memory { IfErr result (λ fault. fault ≡ NoMemory) }
     {
+        if self.is_spoilt {
+            return Err(NameFault::NoMemory);
+        }
         if !self.is_defined_interface(base.entry) || self.table.has_base(inner, base.entry) {
             return Ok(false);
         }

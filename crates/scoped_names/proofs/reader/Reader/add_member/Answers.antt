@@ -13,7 +13,7 @@ returns-clause-told c =
     let scope = c.args.scope in
     let id = c.args.identifier in
     let keys = r.members.keys in
-    let st : State = record { entries = r.table; features = r.features; members = map member_of keys; defined = r.defined.keys; prefix = r.prefix.now; given = r.ids } in
+    let st : State = record { entries = r.table; members = map member_of keys; defined = r.defined.keys; prefix = r.prefix.now; given = r.ids } in
     let new : State = record st { members = map member_of c.insert.new.self.keys } in
     let added : State → Reading = λ x. Ok (record x { members = x.members ++ record { scope = scope; name = word id } ∷ [] }) in
     let P : State → Type 0 = λ x. (let b : Reading = Ok new in added x ≡ b) in

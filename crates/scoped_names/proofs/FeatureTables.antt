@@ -1,0 +1,43 @@
+-- The table of operations and attributes in step with that of all entries.
+use Rattle.std.proofs.Common.{◌≡◌, ◌∙◌, ℕ, zero, suc, cond, List, [], ◌∷◌, ◌++◌, map, length, slice_get, position, Option, Some, None, refl, sym, ap}
+use Rattle.std.specs.Prelude.{is_some, slice_set}
+use Rattle.std.specs.Option.{option_map}
+use Rattle.std.proofs.lemmas.List.{length-map}
+use Rattle.std.proofs.lemmas.Option.{slice_get-map}
+use Rattle.scoped_names.specs.declared.entry.Base.{Base}
+use Rattle.scoped_names.specs.Entry.{Entry, is_named, named}
+use Rattle.scoped_names.specs.Entries.{entry_with_base, with_base, with_entry}
+use Rattle.scoped_names.specs.Faults.{as_feature, features_of}
+use Rattle.scoped_names.proofs.Lookups.{position_map}
+use Rattle.scoped_names.proofs.Members.{map_behind}
+use Rattle.scoped_names.proofs.MoreBases.{map_changed}
+
+named_features : (es : List Entry) (s : ℕ) (w : List ℕ) → named (features_of es) s w ≡ named es s w
+named_features es s w = position_map (is_named s w) as_feature es
+
+-- one entry more
+pub features_more : (es : List Entry) (e : Entry) → features_of (with_entry es e) ≡ with_entry (features_of es) (as_feature e)
+features_more es e = by (named es e.scope e.name) refl
+  where
+    there : (o : Option ℕ) → named es e.scope e.name ≡ o → cond (is_some o) (features_of es) (features_of es ++ as_feature e ∷ []) ≡ with_entry (features_of es) (as_feature e)
+    there o is = sym (ap (λ o. cond (is_some o) (features_of es) (features_of es ++ as_feature e ∷ [])) (named_features es e.scope e.name ∙ is))
+
+    by : (o : Option ℕ) → named es e.scope e.name ≡ o → features_of (with_entry es e) ≡ with_entry (features_of es) (as_feature e)
+    by (Some k) is = ap (λ o. features_of (cond (is_some o) es (es ++ e ∷ []))) is ∙ there (Some k) is
+    by None is = ap (λ o. features_of (cond (is_some o) es (es ++ e ∷ []))) is ∙ map_behind as_feature es e ∙ there None is
+
+-- one base more
+pub features_based : (es : List Entry) (inner : ℕ) (base : Base) → features_of (with_base es inner base) ≡ with_base (features_of es) inner base
+features_based es zero base = refl
+features_based es (suc e) base = by (slice_get es e) refl
+  where
+    there : (o : Option Entry) → slice_get es e ≡ o → entry_with_base (features_of es) e base (option_map as_feature o) ≡ with_base (features_of es) (suc e) base
+    there o is = sym (ap (entry_with_base (features_of es) e base) (slice_get-map as_feature es e ∙ ap (option_map as_feature) is))
+
+    by : (o : Option Entry) → slice_get es e ≡ o → features_of (with_base es (suc e) base) ≡ with_base (features_of es) (suc e) base
+    by None is = ap (λ o. features_of (entry_with_base es e base o)) is ∙ there None is
+    by (Some x) is =
+        ap (λ o. features_of (entry_with_base es e base o)) is ∙ map_changed as_feature es e (record x { bases = x.bases ++ base ∷ [] }) ∙ there (Some x) is
+
+pub as_many : (es : List Entry) → length (features_of es) ≡ length es
+as_many es = length-map es as_feature
