@@ -88,7 +88,7 @@ enum_adds : (es : List Entry) (st next : State) (scope : ℕ) (e : EnumType) →
 enum_adds es st next scope e h later =
     let (mid, is, rest) = then_ok (declared_as (enum_meant (length st.entries) e.identifier) st scope e.identifier)
     (λ next. each (enumerator_read (length st.entries)) next scope (parts e.enumerators)) next h in
-    let behind = each_adds (enumerator_read (length st.entries)) enumerator_introduced es (λ st next scope l is later. enumerator_adds (length st.entries) st next scope l is) mid next scope (parts e.enumerators) rest later in
+    let behind = each_adds (enumerator_read (length st.entries)) enumerator_introduced es (λ s n i l is later. enumerator_adds (length st.entries) s n i l is) mid next scope (parts e.enumerators) rest later in
     joined st mid next (Stands scope e.identifier Entries.Enum ∷ []) _ (declares_adds (enum_meant (length st.entries) e.identifier) st mid scope e.identifier is) behind
 
 switch_adds : (es : List Entry) (st next : State) (scope : ℕ) (s : SwitchType) → switch_read st scope s ≡ Ok next → Keeps next.entries es → Adds st (switch_introduced scope s) next
@@ -194,7 +194,7 @@ member_adds_all es st next scope m h later =
 type_dcl_adds : (es : List Entry) (st next : State) (scope : ℕ) (t : TypeDcl) → type_dcl_read st scope t ≡ Ok next → Keeps next.entries es → Adds st (type_dcl_introduced es scope t) next
 type_dcl_adds es st next scope (TypeDcls.Typedef t declarators) h later =
     let (mid, is, rest) = then_ok (type_read st scope t) (λ next. each (typedef_read (type_kind st scope t)) next scope (parts declarators)) next h in
-    let names = each_adds (typedef_read (type_kind st scope t)) typedef_introduced es (λ s n scope d is later. typedef_adds (type_kind st scope t) s n scope d is) mid next scope (parts declarators) rest later in
+    let names = each_adds (typedef_read (type_kind st scope t)) typedef_introduced es (λ s n i d is later. typedef_adds (type_kind st scope t) s n i d is) mid next scope (parts declarators) rest later in
     joined st mid next _ _ (type_adds es st mid scope t is (keeps_on mid.entries next.entries es names.grows.names later)) names
 type_dcl_adds es st next scope (TypeDcls.Struct s) h later = struct_adds es st next scope s h later
 type_dcl_adds es st next scope (TypeDcls.Union u) h later = union_adds es st next scope u h later
@@ -260,7 +260,7 @@ operation_adds es st next scope o h later =
     let (mid, params, rest) = then_ok (each (param_read inner) opened scope (optional_parts o.params)) (λ st. passed st (raises_test st.entries scope (optional_parts o.raises))) next h2 in
     let same = passed_same mid (raises_test mid.entries scope (optional_parts o.raises)) next rest in
     let from_params : Keeps mid.entries es = subst (λ s. Keeps s.entries es) (sym same) later in
-    let behind = each_adds (param_read inner) (λ scope p. param_introduced inner p) es (λ st next scope p is later. param_adds inner st next scope p is) opened mid scope (optional_parts o.params) params from_params in
+    let behind = each_adds (param_read inner) (λ i p. param_introduced inner p) es (λ s n i p is later. param_adds inner s n i p is) opened mid scope (optional_parts o.params) params from_params in
     let to_next = subst (Adds opened (flat_map (param_introduced inner) (optional_parts o.params))) same behind in
     inside es (plain o.identifier.number Entries.Operation) st opened next scope o.identifier (λ i. flat_map (param_introduced i) (optional_parts o.params))
     (feature_adds Entries.Operation st opened scope o.identifier opens) later to_next

@@ -1,5 +1,5 @@
 -- What reading introduces: what was known stays, what is introduced holds behind it, and clashes with nothing before.
-use Rattle.std.proofs.Common.{◌≡◌, ◌∙◌, ℕ, ◌<◌, Bool, true, false, not, cond, nat_eq, ◌&&◌, List, [], ◌∷◌, ◌++◌, length, map, position, slice_get, Option, Some, None, Result, Ok, Err, refl, sym, ap, subst}
+use Rattle.std.proofs.Common.{◌≡◌, ◌∙◌, ℕ, zero, suc, ◌<◌, Bool, true, false, not, cond, nat_eq, ◌&&◌, List, [], ◌∷◌, ◌++◌, length, map, position, slice_get, Option, Some, None, Result, Ok, Err, refl, sym, ap, subst}
 use Rattle.std.specs.Prelude.{◌||◌, if◌then◌else◌, is_some, slice_set}
 use Rattle.std.specs.List.{AllByRecursion, IsDistinct, flat_map, list_any}
 use Rattle.std.specs.Option.{option_map}
@@ -376,7 +376,7 @@ any_last (x ∷ xs) s same = by (nat_eq s x) (any_last xs s same)
     by true rest = refl
     by false rest = rest
 
-undefined_is : (st : State) (inner at : ℕ) → undefined_test st inner at ≡ Ok tt → is_defined st inner ≡ false
+pub undefined_is : (st : State) (inner at : ℕ) → undefined_test st inner at ≡ Ok tt → is_defined st inner ≡ false
 undefined_is st inner at passes = by (is_defined st inner) passes
   where
     by : (b : Bool) → (let t : Test = if b then Err (Collides at) else Ok tt in t) ≡ Ok tt → b ≡ false
@@ -444,7 +444,9 @@ based_grows st next inner base is members defined = record {
             sym (slice_get-map bare (with_base st.entries i base) n) ∙ ap (λ xs. slice_get xs n) (bare_like i) ∙ slice_get-map bare st.entries n ∙ ap (option_map bare) h
 
         by : (o : Option Entry) → slice_get (with_base st.entries i base) n ≡ o → Stays (with_base st.entries i base) n e
-        by None is = absurd (let none : option_map bare (slice_get (with_base st.entries i base) n) ≡ None = ap (option_map bare) is in cc)
+        by None is = let there = same in let none : option_map bare (slice_get (with_base st.entries i base) n) ≡ None = ap (option_map bare) is in absurd cc
         by (Some f) is =
-            let like : bare f ≡ bare e = (let some : option_map bare (slice_get (with_base st.entries i base) n) ≡ Some (bare f) = ap (option_map bare) is in cc) in
+            let there = same in
+            let some : option_map bare (slice_get (with_base st.entries i base) n) ≡ Some (bare f) = ap (option_map bare) is in
+            let like : bare f ≡ bare e = cc in
             (f, is, ap (λ x. x.kind) like, ap (λ x. x.name) like)
