@@ -1,5 +1,5 @@
 -- What reading the parts of a specification introduces is what the specification says.
-use Rattle.std.proofs.Common.{◌≡◌, ◌∙◌, ℕ, zero, suc, nat_eq, length, Bool, true, false, List, [], ◌∷◌, ◌++◌, slice_get, Option, Some, None, Ok, Err, refl, sym, ap, subst}
+use Rattle.std.proofs.Common.{◌≡◌, ◌∙◌, ℕ, zero, suc, nat_eq, length, Bool, true, false, List, [], ◌∷◌, ◌++◌, Option, Some, None, Ok, Err, refl, sym, ap, subst}
 use Rattle.std.specs.Prelude.{if◌then◌else◌}
 use Rattle.std.specs.List.{AllByRecursion, IsDistinct, flat_map, list_any}
 use Rattle.idl_tree.specs.declared.names.Leaf.{Leaf}
@@ -12,8 +12,6 @@ use Rattle.idl_tree.specs.declared.types.TypeSpec.{TypeSpec, Simple, Struct as S
 use Rattle.idl_tree.specs.declared.types.StructType.{StructType, StructType', Row_of-Member, end_of-Member, more_of-Member}
 use Rattle.idl_tree.specs.declared.types.UnionType.{UnionType, UnionType', Row_of-Case, end_of-Case, more_of-Case}
 use Rattle.idl_tree.specs.declared.types.Member.{Member}
-use Rattle.idl_tree.specs.declared.types.Label.{Label}
-use Rattle.idl_tree.specs.declared.names.Listed.{Listed}
 use Rattle.idl_tree.specs.declared.definitions.TypeDcl.{TypeDcl}
 use Rattle.idl_tree.specs.declared.definitions.TypeDcl.TheVariants as TypeDcls
 use Rattle.idl_tree.specs.declared.definitions.Const.{Const}
@@ -30,7 +28,6 @@ use Rattle.idl_tree.specs.declared.definitions.Interface.TheVariants.{Ahead, Def
 use Rattle.idl_tree.specs.declared.definitions.Definition.{Definition, Pragma, Declaration as Declared, Interface as InterfaceDcl, Module', Row_of-Definition, end_of-Definition, more_of-Definition}
 use Rattle.idl_tree.specs.Lists.{parts}
 use Rattle.idl_tree.specs.Starts.{name_start}
-use Rattle.const_values.specs.declared.constant.Constant.{Constant}
 use Rattle.const_values.specs.declared.kind.ConstKind.{ConstKind}
 use Rattle.idl_lexer.specs.Identifiers.{words}
 use Rattle.scoped_names.specs.declared.entry.Base.{Base}
@@ -44,12 +41,12 @@ use Rattle.scoped_names.specs.Entries.{attribute_identifiers, const_meant, enum_
 use Rattle.scoped_names.specs.Faults.{attribute_read, base_added, base_read, cases_read, const_read, declaration_read, declarator_read, based, declared, declared_as, defined, defined_from, definition_read, definitions_read, enum_read, enumerator_read, except_read, export_read, feature_read, features_of, given_once, interface_read, is_defined, is_something, may_be_base, member_added, member_read, members_read, new_test, nothing_yet, operation_read, param_read, passed, pragma_read, prefix_read, said_read, specification_read, struct_read, switch_read, type_dcl_read, type_kind, type_read, typedef_read, undefined_test, union_read, with_defined}
 use Rattle.scoped_names.specs.IdPragmas.{Said, SetsPrefix, Gives, begins_at_root, identifiers_see, said_by}
 use Rattle.scoped_names.specs.Introductions.{Introduction, Stands, Has, Body, IsEntry, attribute_introduced, cases_introduced, clashes, declaration_introduced, declarator_introduced, definition_introduced, definitions_introduced, enum_introduced, enumerator_introduced, except_introduced, export_introduced, interface_introduced, introduced, member_introduced, members_introduced, operation_introduced, param_introduced, struct_introduced, switch_introduced, type_dcl_introduced, type_introduced, typedef_introduced, union_introduced}
-use Rattle.scoped_names.specs.Reading.{Reading, State, Test, all, each, ◌>>◌}
+use Rattle.scoped_names.specs.Reading.{Reading, State, all, each, ◌>>◌}
 use Rattle.scoped_names.specs.RepositoryIds.{given_to}
 use Rattle.scoped_names.specs.Search.{inherited, word}
 use Rattle.scoped_names.specs.Tests.{attributes_test, const_type_test, found_at, label_test, line, optional_test, param_type_test, raises_test, resolved, simple_type_test, size_test, type_name_test, value_of_type}
-use Rattle.scoped_names.specs.Whole.{AreNames, Whole, names_of, whole}
-use Rattle.scoped_names.proofs.Introducing.{Adds, Grows, Holds, Keeps, adds_grown, adds_none, adds_same, based_grows, body_adds, declares_adds, defined_adds, each_adds, each_nothing, joined, keeps_on, member_adds, passed_same, then_ok, undefined_is}
+use Rattle.scoped_names.specs.Whole.{AreNames, Whole, whole}
+use Rattle.scoped_names.proofs.Introducing.{Adds, Grows, Holds, Keeps, adds_grown, adds_same, based_grows, body_adds, declares_adds, defined_adds, each_adds, joined, keeps_on, member_adds, passed_same, then_ok, undefined_is}
 
 -- ---- what has a scope of its own
 

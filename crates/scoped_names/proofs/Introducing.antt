@@ -1,11 +1,10 @@
 -- What reading introduces: what was known stays, what is introduced holds behind it, and clashes with nothing before.
-use Rattle.std.proofs.Common.{◌≡◌, ◌∙◌, ℕ, zero, suc, ◌<◌, Bool, true, false, not, cond, nat_eq, ◌&&◌, List, [], ◌∷◌, ◌++◌, length, map, position, slice_get, Option, Some, None, Result, Ok, Err, refl, sym, ap, subst}
-use Rattle.std.specs.Prelude.{◌||◌, if◌then◌else◌, is_some, slice_set}
+use Rattle.std.proofs.Common.{◌≡◌, ◌∙◌, ℕ, zero, suc, Bool, true, false, not, cond, nat_eq, ◌&&◌, List, [], ◌∷◌, ◌++◌, length, map, position, slice_get, Option, Some, None, Result, Ok, Err, refl, sym, ap, subst}
+use Rattle.std.specs.Prelude.{◌||◌, if◌then◌else◌}
 use Rattle.std.specs.List.{AllByRecursion, IsDistinct, flat_map, list_any}
 use Rattle.std.specs.Option.{option_map}
 use Rattle.std.specs.Str.{bytes_eq}
 use Rattle.std.proofs.lemmas.Bool.{and_parts, eq-eqb, eqb-true}
-use Rattle.std.proofs.lemmas.Map.Keys.{IsDistinct-cons, IsDistinct-head}
 use Rattle.std.proofs.lemmas.Option.{slice_get-map, slice_get_within}
 use Rattle.std.proofs.lemmas.Slice.Eq.{bytes_eq-Decides}
 use Rattle.idl_lexer.specs.Words.{same_but_for_case}
@@ -17,7 +16,7 @@ use Rattle.scoped_names.specs.declared.entry.Meaning.{Meaning}
 use Rattle.scoped_names.specs.declared.fault.NameFault.{NameFault}
 use Rattle.scoped_names.specs.declared.fault.NameFault.TheVariants.{Collides, PrefixDiffers}
 use Rattle.scoped_names.specs.Entry.{Entry, is_named, named}
-use Rattle.scoped_names.specs.Entries.{entry_declared, entry_with_base, scope_number, scope_of, with_base, with_entry}
+use Rattle.scoped_names.specs.Entries.{entry_declared, entry_with_base, with_base, with_entry}
 use Rattle.scoped_names.specs.Faults.{declared_as, declares, defined, has_member, is_defined, is_own_name, is_taken, is_there, keeps_prefix, may_reappear, member_added, new_test, passed, reappears, undefined_test, with_declared, with_defined}
 use Rattle.scoped_names.specs.Introductions.{Introduction, Stands, Has, Body, IsEntry, clashes, is_one_name}
 use Rattle.scoped_names.specs.Reading.{Member, Reading, State, Test, each, ◌>>◌}
@@ -27,7 +26,7 @@ use Rattle.scoped_names.proofs.Features.{named_at}
 use Rattle.scoped_names.proofs.Lookups.{position_map}
 use Rattle.scoped_names.proofs.MergedBases.{lower, named_case}
 use Rattle.scoped_names.proofs.MoreBases.{map_like}
-use Rattle.scoped_names.proofs.Stability.{get_push_last, get_push_low, named_push, or_place, position_low}
+use Rattle.scoped_names.proofs.Stability.{get_push_last, get_push_low, named_push, or_place}
 use Rattle.scoped_names.proofs.Tied.{fresh}
 
 -- ---- lists

@@ -11,6 +11,8 @@ use Rattle.idl_tree.specs.declared.expression.Expr.{Expr, Chain}
 use Rattle.idl_tree.specs.declared.expression.Operand.{Operand}
 use Rattle.idl_tree.specs.declared.types.StructType.{StructType, out-StructType}
 use Rattle.idl_tree.specs.declared.types.UnionType.{UnionType, out-UnionType}
+use Rattle.idl_tree.specs.declared.types.Case.{Case}
+use Rattle.idl_tree.specs.Lists.{parts}
 use Rattle.idl_tree.specs.declared.definitions.Definition.{Definition, Module}
 use Rattle.idl_tree.specs.declared.definitions.Module.{Module as ModuleRecord}
 use Rattle.idl_tree.specs.declared.definitions.Export.{Export}
@@ -28,9 +30,9 @@ use Rattle.scoped_names.specs.declared.fault.NameFault.TheVariants.{NoMemory, Co
 use Rattle.scoped_names.specs.Search.{word}
 use Rattle.scoped_names.specs.Entry.{Entry, named}
 use Rattle.scoped_names.specs.Entries.{scope_of}
-use Rattle.scoped_names.specs.Faults.{case_read, cases_read, declared, declared_as, declares, defined, defined_from, is_left_open, is_taken, reappears, with_declared, definition_read, definitions_read, member_read, members_read, struct_read, switch_read, union_read}
+use Rattle.scoped_names.specs.Faults.{case_read, cases_read, declarator_read, type_read, declared, declared_as, declares, defined, defined_from, is_left_open, is_taken, reappears, with_declared, definition_read, definitions_read, member_read, members_read, struct_read, switch_read, union_read}
 use Rattle.scoped_names.specs.Reading.{Reading, State, Tells, Test, all, each, ◌>>◌}
-use Rattle.scoped_names.specs.Tests.{line, names_test, operand_test, operands_test}
+use Rattle.scoped_names.specs.Tests.{label_test, line, names_test, operand_test, operands_test}
 
 -- ---- parts one behind another
 
@@ -157,6 +159,13 @@ pub struct_first : (st opened begun : State) (scope inner : ℕ) (s : StructType
     → struct_read st scope s ≡ (r >> λ st. each member_read st inner t.rest.items)
 struct_first st opened begun scope inner s r opens there defines is = let t = out-StructType s in
     struct_defined st opened scope inner s (Ok begun) opens there defines ∙ ap (λ r. r >> λ st. each member_read st inner t.rest.items) is
+
+-- a fault of its labels is that of a case
+pub case_labels : (st : State) (es : List Entry) (scope : ℕ) (c : Case) (fault : NameFault) → es ≡ st.entries → all (label_test es scope) (parts c.labels) ≡ Err fault
+    → case_read st scope c ≡ Err fault
+case_labels st es scope c fault here is =
+    ap (λ r. r >> λ u. type_read st scope c.member_type >> λ st. declarator_read st scope c.declarator)
+    (sym (ap (λ xs. all (label_test xs scope) (parts c.labels)) here) ∙ is)
 
 -- behind the switch of a union, its cases
 abbrev pub union_cases : UnionType → ℕ → State → Reading

@@ -15,11 +15,9 @@ use Rattle.idl_tree.specs.declared.types.UnionType.{UnionType, UnionType', Row_o
 use Rattle.idl_tree.specs.declared.types.Member.{Member}
 use Rattle.idl_tree.specs.declared.definitions.TypeDcl.{TypeDcl}
 use Rattle.idl_tree.specs.declared.definitions.TypeDcl.TheVariants as TypeDcls
-use Rattle.idl_tree.specs.declared.definitions.Const.{Const}
 use Rattle.idl_tree.specs.declared.definitions.Except.{Except}
 use Rattle.idl_tree.specs.declared.definitions.Declaration.{Declaration}
 use Rattle.idl_tree.specs.declared.definitions.Declaration.TheVariants as Declarations
-use Rattle.idl_tree.specs.declared.definitions.Attribute.{Attribute}
 use Rattle.idl_tree.specs.declared.definitions.Operation.{Operation}
 use Rattle.idl_tree.specs.declared.definitions.Param.{Param}
 use Rattle.idl_tree.specs.declared.definitions.Export.{Export}

@@ -46,7 +46,6 @@ impl<'a> Model for Reader<'a> {
     ghost use Rattle.std.specs.Prelude.{map};
     ghost use Rattle.scoped_names.specs.Reading.{State};
     ghost use Rattle.scoped_names.specs.StateKept.{member_of};
-
     ghost use Rattle.std.specs.Prelude.{◌≡◌, false};
     ghost use Rattle.scoped_names.specs.Faults.{features_of};
 

@@ -2,7 +2,7 @@ use Rattle.std.proofs.Common.{◌≡◌, ◌∙◌, Ok, sym, ap, length, arith}
 use Rattle.std.proofs.lemmas.Result.{err_from_is_err_and}
 use Rattle.scoped_names.specs.Faults.{case_read, member_read}
 use Rattle.scoped_names.specs.Reading.{each}
-use Rattle.scoped_names.proofs.Readings.{or_told, struct_declared, struct_defined, struct_first, union_declared, union_defined, union_first, union_switch}
+use Rattle.scoped_names.proofs.Readings.{case_labels, or_told, struct_declared, struct_defined, struct_first, union_declared, union_defined, union_first, union_switch}
 use Rattle.scoped_names.proofs.reader.Reader.+types.Goals as goal
 
 pub bind_struct-returns-in_err-inner-clause-told : goal.bind_struct-returns-in_err-inner-clause-told
@@ -74,3 +74,9 @@ bind_union-loop-case-init t c =
           ∙ sym (union_first c.args.self.now c.declare.new.self c.define.new.self c.bind_switch.new.self c.args.scope c.in_ok-inner.inner c.args.u.now (Ok c.bind_case.new.self) c.in_ok-inner.ensures.told c.in_ok-inner.ensures.inner c.in_ok-define.ensures.told c.in_ok-bind_switch.ensures.told
           (sym (ap (case_read c.bind_switch.new.self c.in_ok-inner.inner) c.deref.ensures) ∙ c.in_ok-bind_case.ensures.told));
     }
+
+pub bind_case-returns-in_err-bind_labels-clause-told : goal.bind_case-returns-in_err-bind_labels-clause-told
+bind_case-returns-in_err-bind_labels-clause-told t c =
+    let p = err_from_is_err_and c.from_residual.result c.from_residual.ensures.1 in
+    rw (p.1, p.2) (or_told c.in_err-bind_labels.ensures (λ is.
+    case_labels c.args.self.now c.self.inside.table c.args.scope c.args.case.now _ (ap (λ s. s.entries) c.self.view_is) is))

@@ -1,4 +1,4 @@
-use Rattle.std.proofs.Common.{◌≡◌, ◌∙◌, sym, ap}
+use Rattle.std.proofs.Common.{◌∙◌, sym, ap}
 use Rattle.scoped_names.specs.Entries.{with_base}
 use Rattle.scoped_names.specs.Faults.{features_of}
 use Rattle.scoped_names.proofs.FeatureTables.{features_based}
