@@ -1,5 +1,6 @@
 -- The verdict on a table: its first fault, or none.
 use Rattle.std.specs.Prelude.{ℕ, zero, suc, List, length, Option, Some, None, option_map, slice_get}
+use Rattle.std.specs.Option.{option_or}
 use Rattle.routine_checker.specs.declared.fault.RoutineFault.{RoutineFault}
 use Rattle.routine_checker.specs.declared.fault.RoutineFault.TheVariants as routines
 use Rattle.routine_checker.specs.Steps.{program_fault, name_fault}
@@ -24,11 +25,6 @@ told_of program (routines.NoRoutine node) = faults.NoRoutine node
 told_of program (routines.NamedEntryNotFull node) = faults.NamedEntryNotFull node
 told_of program routines.NoMemory = faults.NoMemory
 
--- the first of two, where there is one
-abbrev pub or_else : Option CheckFault → Option CheckFault → Option CheckFault
-or_else None other = other
-or_else (Some fault) other = Some fault
-
 -- of the routines of a program
 abbrev pub routines_fault : TableParts → Use → Option CheckFault
 routines_fault table program = option_map (told_of program) (program_fault table.model.graph (program_at table program))
@@ -43,9 +39,9 @@ named_fault table (Some name) (Some program) = option_map (told_of program) (nam
 abbrev pub names_fault : TableParts → ℕ → Option CheckFault
 names_fault table zero = None
 names_fault table (suc n) =
-    or_else (names_fault table n) (named_fault table (slice_get table.model.names n) (slice_get table.uses n))
+    option_or (names_fault table n) (named_fault table (slice_get table.model.names n) (slice_get table.uses n))
 
 -- the routines of the first program are judged first, then those of the second, then the names in order
 unfoldable pub table_fault : TableParts → Option CheckFault
 table_fault table =
-    or_else (or_else (routines_fault table First) (routines_fault table Second)) (names_fault table (length table.uses))
+    option_or (option_or (routines_fault table First) (routines_fault table Second)) (names_fault table (length table.uses))

@@ -1,11 +1,9 @@
-use Rattle.std.proofs.Common.{arith, ◌≡◌, ◌<◌, ◌∙◌, ℕ, List, Some, None, slice_get, ap, sym, subst, length, option_map, get_or}
+use Rattle.std.proofs.Common.{arith, ◌≡◌, ◌<◌, ◌∙◌, ℕ, List, Some, slice_get, ap, sym, subst, length, option_map, get_or}
 use Rattle.std.proofs.lemmas.List.{length-map}
 use Rattle.std.proofs.lemmas.Option.{slice_get-get_or}
 use Rattle.type_model.specs.ModelRules.{Parts as Model}
 use Rattle.table_file.specs.declared.table.Use.{Use}
 use Rattle.table_file.specs.declared.table.Use.TheVariants.{First}
-use Rattle.table_file.specs.Table.{program_at}
-use Rattle.routine_checker.specs.Steps.{name_fault}
 use Rattle.position_checker.specs.Verdict.{told_of, names_fault}
 use Rattle.position_checker.proofs.RouteLaws.{routes_next, routes_done, lone_refused, all_served}
 use Rattle.position_checker.proofs.VerdictLaws.{names_next, names_first, only_if_holds}
@@ -39,10 +37,11 @@ loop-place-preserved c =
     let names : c.names.result.now ≡ table.model.names = c.names.ensures.value ∙ ap (λ (m : Model). m.names) c.model-in-loop-place.ensures.value in
     let named : slice_get table.model.names c.loop-place.place ≡ Some (c.pair-node.result.0.now, node) =
     subst (λ (ns : List (List ℕ × ℕ)). slice_get ns c.loop-place.place ≡ Some (c.pair-node.result.0.now, node)) names c.pair-node.ensures.value in
-    let program = c.in-Ok.route.program in
-    (routes_next table c.uses-place-end.ensures.rules c.loop-place.place c.pair-node.result.0.now node c.loop-place.routes.items c.in-Ok.route named c.in-Ok.ensures.used c.in-Ok.ensures.served c.loop-place.invariant.0,
-     names_next table c.loop-place.place c.pair-node.result.0.now node program named c.in-Ok.ensures.used c.loop-place.invariant.1
-     ∙ ap (option_map (told_of program)) (c.in-Ok.ensures.accepted program c.in-Ok.ensures.used))
+    let program = c.in-Ok.route.program in (
+      routes_next table c.uses-place-end.ensures.rules c.loop-place.place c.pair-node.result.0.now node c.loop-place.routes.items c.in-Ok.route named c.in-Ok.ensures.used c.in-Ok.ensures.served c.loop-place.invariant.0,
+      names_next table c.loop-place.place c.pair-node.result.0.now node program named c.in-Ok.ensures.used c.loop-place.invariant.1
+          ∙ ap (option_map (told_of program)) (c.in-Ok.ensures.accepted program c.in-Ok.ensures.used),
+    )
 
 pub returns-clause-routes : goal.returns-clause-routes
 returns-clause-routes c =
