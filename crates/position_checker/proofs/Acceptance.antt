@@ -1,5 +1,5 @@
 -- What an accepted table answers.
-use Rattle.std.proofs.Common.{◌≡◌, ◌↔◌, ℕ, Bool, true, false, ◌&&◌, ◌==◌, List, [], ◌++◌, ◌<◌, get_or, Some, slice_get, Result, Ok, Err, refl, sym, subst, IfOk, take}
+use Rattle.std.proofs.Common.{◌≡◌, ◌↔◌, ℕ, Bool, true, false, ◌&&◌, ◌==◌, List, [], ◌++◌, get_or, Some, slice_get, Result, Ok, Err, refl, sym, subst, IfOk}
 use Rattle.std.specs.Prelude.{IfErr}
 use Rattle.std.proofs.lemmas.Bool.{eqb-true}
 use Rattle.std.proofs.lemmas.Option.{slice_get-get_or}

@@ -1,3 +1,4 @@
 pub mod Acceptance
 pub mod RouteLaws
 pub mod Lone
+pub mod VerdictLaws

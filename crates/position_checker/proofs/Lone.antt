@@ -1,9 +1,6 @@
 -- Tables with nothing but the plain or the joined program of their model.
-use Rattle.std.proofs.Common.{◌≡◌, ◌≢◌, ◌<◌, ℕ, List, [], length, Option, Some, slice_get, get_or, All, IsSome, is_some, refl, sym, ap, subst, ◌∙◌, inl, inr}
-use Rattle.std.proofs.lemmas.Option.{slice_get_within, get_or_from_slice_get}
+use Rattle.std.proofs.Common.{◌≡◌, ◌<◌, ℕ, List, [], length, Some, slice_get, IsSome, is_some, sym, ap, subst, ◌∙◌, inl, inr}
 use Rattle.marshal_program.specs.declared.instr.Routine.{Routine}
-use Rattle.marshal_program.specs.Plain.{plain_program}
-use Rattle.marshal_program.specs.Joined.{joined_program}
 use Rattle.marshal_program.specs.Served.{served_by}
 use Rattle.marshal_program.proofs.PlainPlaces.{plain_serves}
 use Rattle.marshal_program.proofs.JoinedPlaces.{joined_serves}

@@ -1,5 +1,5 @@
 -- The routes of the nodes that have names.
-use Rattle.std.proofs.Common.{◌≡◌, ◌<◌, ◌≤◌, ◌+◌, ◌≢◌, ℕ, true, false, List, length, map, take, take_all, get_or, set, Option, Some, None, is_some, IfSome, All, Contains, refl, sym, ap, subst, ◌∙◌, inl, inr, arith, slice_get, option_map, IsSome}
+use Rattle.std.proofs.Common.{◌≡◌, ◌<◌, ◌+◌, ◌≢◌, ℕ, true, false, List, length, map, take, take_all, get_or, set, Option, Some, None, is_some, IfSome, All, Contains, refl, sym, ap, subst, ◌∙◌, inl, inr, arith, slice_get, option_map, IsSome}
 use Rattle.std.proofs.lemmas.Bool.{cases_eq, cases_lt}
 use Rattle.std.proofs.lemmas.List.{get_or-set_same, get_or-set_other, length-set, length-map}
 use Rattle.std.proofs.Math.ListN.{get_or-eq_default}

@@ -1,3 +1,4 @@
 pub mod Acceptance
 pub mod Refusal
 pub mod Routes
+pub mod Verdict

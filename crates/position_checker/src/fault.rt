@@ -67,9 +67,12 @@ impl From<AllocError> for CheckFault {
 }
 
 impl CheckFault {
+    ghost use Rattle.position_checker.specs.Verdict.{told_of};
+
     /// The fault of a table one of whose programs has a fault of its routines.
     pub(crate) fn of(of: Use, fault: RoutineFault) -> CheckFault
-        ensures { (result ≡ NoMemory) ↔ (fault ≡ NoMemoryOfRoutines) }
+        ensures told { result ≡ told_of of fault }
+        ensures memory { (result ≡ NoMemory) ↔ (fault ≡ NoMemoryOfRoutines) }
     {
         let program = match of {
             Use::First => 0,

@@ -1,12 +1,14 @@
 //! The routines that serve the nodes of names.
 
-ghost use Rattle.std.specs.Prelude.{◌≡◌, ◌<◌, ℕ, length, slice_get, IfOk, IfErr, OnOk, IsSome, Some};
+ghost use Rattle.std.specs.Prelude.{◌≡◌, ◌<◌, ℕ, length, slice_get, option_map, IfOk, IfErr, OnOk, IsSome, Some, None};
+ghost use Rattle.routine_checker.specs.Steps.{name_fault};
 ghost use Rattle.marshal_program.specs.Served.{served_by};
 ghost use Rattle.table_file.specs.declared.table.Use.{Use};
 ghost use Rattle.table_file.specs.Table.{program_at};
 ghost use Rattle.position_checker.specs.Acceptance.{IsLone, Uses};
 ghost use Rattle.position_checker.specs.Refusal.{OnlyIf};
 ghost use Rattle.position_checker.specs.Routes.{AreRoutes};
+ghost use Rattle.position_checker.specs.Verdict.{told_of, names_fault};
 
 use crate::fault::CheckFault;
 use routine_checker::check_name;
@@ -25,6 +27,8 @@ fn found(table: &Table, program: Use, node: u32) -> Result<Route, CheckFault>
     ensures program { IfOk result (λ route. route.program ≡ program) }
     ensures served { IfOk result (λ route. served_by (program_at table.now program) node ≡ Some route.routine) }
     ensures refused { IfErr result (λ fault. OnlyIf fault (IsSome (served_by (program_at table.now program) node) → ⊥)) }
+    ensures accepted { OnOk result (name_fault (program_at table.now program) node ≡ None) }
+    ensures fault { IfErr result (λ fault. option_map (told_of program) (name_fault (program_at table.now program) node) ≡ Some fault) }
 {
     let routines = table.program(program);
     match check_name(routines, node) {
@@ -43,6 +47,8 @@ fn named(table: &Table, place: usize, node: u32) -> Result<Route, CheckFault>
     ensures used { IfOk result (λ route. slice_get table.now.uses place ≡ Some route.program) }
     ensures served { IfOk result (λ route. served_by (program_at table.now route.program) node ≡ Some route.routine) }
     ensures refused { IfErr result (λ fault. OnlyIf fault ((program : Use) → slice_get table.now.uses place ≡ Some program → IsSome (served_by (program_at table.now program) node) → ⊥)) }
+    ensures accepted { OnOk result ((program : Use) → slice_get table.now.uses place ≡ Some program → name_fault (program_at table.now program) node ≡ None) }
+    ensures fault { IfErr result (λ fault. (program : Use) → slice_get table.now.uses place ≡ Some program → option_map (told_of program) (name_fault (program_at table.now program) node) ≡ Some fault) }
 {
     match table.uses().get(place) {
         Some(program) => found(table, *program, node),
@@ -55,6 +61,8 @@ pub(crate) fn routes_of(alloc: Global, table: &Table) -> Result<Vec<Option<Route
     ensures routes { IfOk result (λ routes. AreRoutes table.now routes.items) }
     ensures served { OnOk result ((node : ℕ) (program : Use) → Uses table.now node program → IsSome (served_by (program_at table.now program) node)) }
     ensures refused { IfErr result (λ fault. OnlyIf fault (IsLone table.now → ⊥)) }
+    ensures accepted { OnOk result (names_fault table.now (length table.now.uses) ≡ None) }
+    ensures fault { IfErr result (λ fault. OnlyIf fault (names_fault table.now (length table.now.uses) ≡ Some fault)) }
 {
     let mut routes = vec![in alloc; None; table.model().graph().nodes().len()]?;
     for place in 0..table.uses().len() {

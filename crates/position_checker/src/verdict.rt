@@ -1,6 +1,6 @@
 //! Tables, judged.
 
-ghost use Rattle.std.specs.Prelude.{◌≡◌, ◌≢◌, [], IfOk, IfErr, OnOk};
+ghost use Rattle.std.specs.Prelude.{◌≡◌, ◌≢◌, [], None, Some, IfOk, IfErr, OnOk};
 ghost use Rattle.marshal_program.specs.Plain.{plain_program};
 ghost use Rattle.marshal_program.specs.Joined.{joined_program};
 ghost use Rattle.routine_checker.specs.Right.{AreRight};
@@ -8,6 +8,7 @@ ghost use Rattle.table_file.specs.Table.{program_at};
 ghost use Rattle.position_checker.specs.Acceptance.{IsLone, IsRight};
 ghost use Rattle.position_checker.specs.Refusal.{OnlyIf};
 ghost use Rattle.position_checker.specs.Routes.{AreRoutes};
+ghost use Rattle.position_checker.specs.Verdict.{routines_fault, table_fault};
 
 use crate::accepted::Accepted;
 use crate::fault::CheckFault;
@@ -29,6 +30,8 @@ fn check_program(alloc: Global, table: &Table, of: Use) -> Result<(), CheckFault
     ensures empty { IfErr result (λ fault. OnlyIf fault (program_at table.now of ≢ [])) }
     ensures plain { IfErr result (λ fault. OnlyIf fault (program_at table.now of ≢ plain_program table.now.model.graph)) }
     ensures joined { IfErr result (λ fault. OnlyIf fault (program_at table.now of ≢ joined_program table.now.model.graph)) }
+    ensures accepted { OnOk result (routines_fault table.now of ≡ None) }
+    ensures fault { IfErr result (λ fault. OnlyIf fault (routines_fault table.now of ≡ Some fault)) }
 {
     let program = table.program(of);
     if program.routines().is_empty() {
@@ -44,6 +47,8 @@ fn judge(alloc: Global, table: &Table) -> Result<Vec<Option<Route>>, CheckFault>
     ensures right { OnOk result (IsRight table.now) }
     ensures routes { IfOk result (λ routes. AreRoutes table.now routes.items) }
     ensures lone { IfErr result (λ fault. OnlyIf fault (IsLone table.now → ⊥)) }
+    ensures accepted { OnOk result (table_fault table.now ≡ None) }
+    ensures fault { IfErr result (λ fault. OnlyIf fault (table_fault table.now ≡ Some fault)) }
 {
     match check_program(alloc, table, Use::First) {
         Ok(()) => (),
@@ -70,6 +75,8 @@ pub fn check(alloc: Global, table: Table) -> Result<Accepted, Refused>
     ensures right { IfOk result IsRight }
     ensures handed_back { IfErr result (λ refused. refused.table ≡ table) }
     ensures lone { IfErr result (λ refused. OnlyIf refused.fault (IsLone table → ⊥)) }
+    ensures accepted { OnOk result (table_fault table ≡ None) }
+    ensures fault { IfErr result (λ refused. OnlyIf refused.fault (table_fault table ≡ Some refused.fault)) }
 {
     match judge(alloc, &table) {
         Ok(routes) => Ok(Accepted { table, routes }),

@@ -3,7 +3,7 @@
 ghost use Rattle.std.specs.Prelude.{◌≡◌, ◌≢◌, ◌≤◌, ◌<◌, length, IfErr, OnOk, Some, None, Ok, Err};
 ghost use Rattle.marshal_program.specs.Plain.{plain_program};
 ghost use Rattle.marshal_program.specs.Joined.{joined_program};
-ghost use Rattle.routine_checker.specs.Steps.{followed, ended, entry_fault, routine_fault};
+ghost use Rattle.routine_checker.specs.Steps.{followed, ended, entry_fault, routine_fault, program_fault};
 ghost use Rattle.routine_checker.specs.Counts.{AreRunCounts};
 ghost use Rattle.routine_checker.specs.Progress.{state_of};
 ghost use Rattle.routine_checker.specs.Refusal.{OnlyIf};
@@ -144,6 +144,8 @@ pub fn check_routines(alloc: Global, graph: &Graph, program: &Program) -> Result
     ensures right { OnOk result (AreRight graph.now program.now) }
     ensures plain { IfErr result (λ fault. OnlyIf fault (program.now ≢ plain_program graph.now)) }
     ensures joined { IfErr result (λ fault. OnlyIf fault (program.now ≢ joined_program graph.now)) }
+    ensures accepted { OnOk result (program_fault graph.now program.now ≡ None) }
+    ensures fault { IfErr result (λ fault. OnlyIf fault (program_fault graph.now program.now ≡ Some fault)) }
 {
     let nodes = graph.nodes().len();
     let routines = program.routines();

@@ -1,6 +1,6 @@
 //! The nodes that are asked for by name.
 
-ghost use Rattle.std.specs.Prelude.{◌≡◌, All, IfErr, OnOk, OnErr, IsSome, Some};
+ghost use Rattle.std.specs.Prelude.{◌≡◌, All, IfErr, OnOk, OnErr, IsSome, Some, None};
 ghost use Rattle.marshal_program.specs.Served.{served_by};
 ghost use Rattle.routine_checker.specs.Steps.{name_fault, has_routine};
 
@@ -20,6 +20,7 @@ fn has_routine(program: &[Routine], node: u32) -> bool
 pub fn check_name(program: &Program, node: u32) -> Result<(), RoutineFault>
     ensures ok { OnOk result (IsSome (served_by program.now node)) }
     ensures refused { OnErr result (IsSome (served_by program.now node) → ⊥) }
+    ensures accepted { OnOk result (name_fault program.now node ≡ None) }
     ensures fault { IfErr result (λ fault. name_fault program.now node ≡ Some fault) }
 {
     if program.serving(node).is_some() {

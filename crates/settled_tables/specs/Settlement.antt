@@ -1,5 +1,5 @@
 -- Which table is handed out for a model.
-use Rattle.std.specs.Prelude.{◌≡◌, false, cond, List, [], length, replicate, Result, Ok, Err}
+use Rattle.std.specs.Prelude.{◌≡◌, false, cond, is_none, List, [], length, replicate, Result, Ok, Err}
 use Rattle.marshal_program.specs.declared.fault.GenFault.{GenFault}
 use Rattle.marshal_program.specs.declared.fault.GenFault.TheVariants.{NoMemory, Limit}
 use Rattle.marshal_program.specs.declared.instr.Routine.{Routine}
@@ -7,6 +7,7 @@ use Rattle.marshal_program.specs.Plain.{plain_program}
 use Rattle.type_model.specs.ModelRules.{Parts}
 use Rattle.table_file.specs.declared.table.Use.TheVariants.{First, Second}
 use Rattle.table_file.specs.Table.{TableParts, table_of}
+use Rattle.position_checker.specs.Verdict.{table_fault}
 use Rattle.settled_tables.specs.declared.choice.Settled.{Settled}
 
 -- with the plain program alone
@@ -18,9 +19,11 @@ abbrev pub planned_table : Parts → List Routine → TableParts
 planned_table model planned =
     table_of model (plain_program model.graph) planned (replicate (length model.names) Second)
 
--- where there is a planned program, it says whether that is used; want of memory of its planner is handed on
+-- A planned program is used exactly where the checker finds no fault in its table. Want of memory of the planner is
+-- handed on.
 abbrev pub IsSettled : Parts → Result (List Routine) GenFault → Settled → Type 0
 IsSettled model (Ok planned) settled =
-    settled.table ≡ cond settled.is_planned (planned_table model planned) (plain_table model)
+    (settled.is_planned ≡ is_none (table_fault (planned_table model planned)))
+    × (settled.table ≡ cond settled.is_planned (planned_table model planned) (plain_table model))
 IsSettled model (Err NoMemory) settled = ⊥
 IsSettled model (Err Limit) settled = (settled.is_planned ≡ false) × (settled.table ≡ plain_table model)

@@ -39,3 +39,15 @@ returns-clause-right c =
     let program = c.args.program.now in
     let past : length program ≤ c.loop-number.number = subst (λ (routines : List Routine). length routines ≤ c.loop-number.number) c.routines-routines.ensures.value c.loop-number-test.false in
     sound graph program c.nodes-nodes.ensures.rules c.routines-routines.ensures.rules (c.loop-number.invariant ∙ routines_all graph program c.loop-number.number past)
+
+pub returns-in-Err-clause-fault : goal.returns-in-Err-clause-fault
+returns-in-Err-clause-fault c =
+    let fault = c.in-Err.fault in
+    only_if fault (routine_fault c.args.graph.now c.routines-routines.result.now c.loop-number.number c.index-routines-number.result ≡ Some fault) (program_fault c.args.graph.now c.args.program.now ≡ Some fault)
+    (refused c) c.in-Err.ensures.refused
+
+pub returns-clause-accepted : goal.returns-clause-accepted
+returns-clause-accepted c =
+    let program = c.args.program.now in
+    let past : length program ≤ c.loop-number.number = subst (λ (routines : List Routine). length routines ≤ c.loop-number.number) c.routines-routines.ensures.value c.loop-number-test.false in
+    c.loop-number.invariant ∙ routines_all c.args.graph.now program c.loop-number.number past

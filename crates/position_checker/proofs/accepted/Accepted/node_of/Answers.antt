@@ -1,5 +1,4 @@
-use Rattle.std.proofs.Common.{◌≡◌, ◌≢◌, ◌↔◌, ◌∙◌, ap, ℕ, List, Contains, IfNone, IfSome, All, Option, Some, subst, refl}
-use Rattle.type_model.specs.Names.{IsNamed}
+use Rattle.std.proofs.Common.{◌≡◌, ◌↔◌, ◌∙◌, ap, ℕ, List, Contains, Some, subst}
 use Rattle.type_model.specs.ModelRules.{Parts as Model}
 use Rattle.table_file.specs.Table.{TableParts}
 use Rattle.position_checker.proofs.RouteLaws.{has_name}

@@ -1,4 +1,4 @@
-use Rattle.std.proofs.Common.{◌≡◌, refl, Some, sym, subst, ◌∙◌}
+use Rattle.std.proofs.Common.{refl, subst}
 use Rattle.position_checker.specs.Acceptance.{Uses}
 use Rattle.position_checker.proofs.RouteLaws.{same_node, not_missing}
 use Rattle.position_checker.proofs.accepted.Accepted.program_of.Goals as goal

@@ -1,4 +1,4 @@
-use Rattle.std.proofs.Common.{◌≡◌, refl, Some, sym, subst, ◌∙◌}
+use Rattle.std.proofs.Common.{◌≡◌, refl, sym, subst}
 use Rattle.position_checker.specs.Acceptance.{Uses, Serves}
 use Rattle.position_checker.proofs.RouteLaws.{same_node, not_missing}
 use Rattle.position_checker.proofs.accepted.Accepted.routine_of.Goals as goal

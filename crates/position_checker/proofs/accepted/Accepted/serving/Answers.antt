@@ -1,4 +1,4 @@
-use Rattle.std.proofs.Common.{arith, ◌≡◌, ap, sym, subst, ◌∙◌, is_some, get_or, Option, Some, None, IfSome, slice_index_or, false, true}
+use Rattle.std.proofs.Common.{arith, ◌≡◌, ap, sym, subst, ◌∙◌, is_some, get_or, Option, Some, None, IfSome, false, true}
 use Rattle.std.proofs.lemmas.List.{get_or_default}
 use Rattle.type_model.specs.Names.{IsNamed}
 use Rattle.table_file.specs.Table.{TableParts}
