@@ -18,9 +18,8 @@ group_three p x y z = group_two p (x ++ y) z ∙ ap (λ l. l ++ z) (group_two p 
 pub group_four : (p w x y z : List Piece) → p ++ (w ++ x ++ y ++ z) ≡ p ++ w ++ x ++ y ++ z
 group_four p w x y z = group_two p (w ++ x ++ y) z ∙ ap (λ l. l ++ z) (group_three p w x y)
 
-pub group_five : (p v w x y z : List Piece) → p ++ (v ++ w ++ x ++ (y ++ z)) ≡ p ++ v ++ w ++ x ++ y ++ z
-group_five p v w x y z =
-    group_two p (v ++ w ++ x) (y ++ z) ∙ group_two (p ++ (v ++ w ++ x)) y z ∙ ap (λ l. l ++ y ++ z) (group_three p v w x)
+pub group_five : (p v w x y z : List Piece) → p ++ (v ++ w ++ x ++ y ++ z) ≡ p ++ v ++ w ++ x ++ y ++ z
+group_five p v w x y z = group_two p (v ++ w ++ x ++ y) z ∙ ap (λ l. l ++ z) (group_four p v w x y)
 
 -- what holds of a part that was read holds of it where it is handed on
 pub handed : {T E F : Type 0} (P : T → Type 0) (read : Result T E) (r : Result T F) → IfOk read P → IfOk r (λ p. read ≡ Ok p) → IfOk r P

@@ -19,15 +19,6 @@ use std::alloc::Global;
 /// How many modules, types and parentheses may stand one inside another.
 const MAX_LEVELS: usize = 64;
 
-/// What a reader's stop means at the place where it stopped.
-fn told(cursor: &Cursor<'_>, stop: Stop) -> ParseFault {
-    match stop {
-        Stop::Unexpected => cursor.fault(),
-        Stop::TooDeep { line } => ParseFault::TooDeep { line },
-        Stop::NoMemory => ParseFault::NoMemory,
-    }
-}
-
 /// What was read, where nothing stands behind it.
 fn whole<T: Drop>(cursor: &Cursor<'_>, read: Result<T, Stop>) -> Result<T, Stop>
     ensures same { IfOk result (λ part. read ≡ Ok part) }
@@ -68,6 +59,6 @@ pub fn parse<'a>(alloc: Global, tokens: &'a [Token<'a>]) -> Result<Spec<'a>, Par
             tokens,
             definitions,
         }),
-        Err(stop) => Err(told(&cursor, stop)),
+        Err(stop) => Err(cursor.fault(stop)),
     }
 }
