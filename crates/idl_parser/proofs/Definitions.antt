@@ -1,5 +1,5 @@
 -- How definitions are read from their parts.
-use Rattle.std.proofs.Common.{◌≡◌, ℕ, ◌≤◌, List, [], ◌∷◌, ◌++◌, Some, sym, subst, arith}
+use Rattle.std.proofs.Common.{◌≡◌, ℕ, List, [], ◌∷◌, ◌++◌, sym, subst, arith}
 use Rattle.std.specs.Prelude.{Result, Ok, Err, IfOk, IsOkAnd, codes}
 use Rattle.idl_lexer.specs.declared.token.Kind.TheVariants.{Pragma as PragmaToken}
 use Rattle.idl_tree.specs.declared.names.Leaf.{Leaf}

@@ -1,11 +1,7 @@
-use Rattle.std.proofs.Common.{◌≡◌, ℕ, List, ◌++◌, ◌≤◌, sym, subst, arith}
+use Rattle.std.proofs.Common.{ℕ, List, ◌++◌, ◌≤◌, arith}
 use Rattle.std.specs.Prelude.{Ok, codes}
 use Rattle.std.specs.List.{flat_map}
 use Rattle.std.proofs.lemmas.Result.{IfOk-at_ok}
-use Rattle.idl_tree.specs.declared.names.Listed.{Listed}
-use Rattle.idl_tree.specs.declared.types.Label.{Label}
-use Rattle.idl_tree.specs.declared.types.Member.{Member}
-use Rattle.idl_tree.specs.declared.types.SwitchType.{SwitchType}
 use Rattle.idl_tree.specs.Pieces.{Seen, keyword, mark}
 use Rattle.idl_tree.specs.Yields.{identifier, in_order}
 use Rattle.idl_tree.specs.TypeYields.{type_yield, switch_yield, label_yield, declarator_yield, case_yield, struct_yield, union_yield}
