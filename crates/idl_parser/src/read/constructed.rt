@@ -98,10 +98,7 @@ pub(crate) type Declared<'a> = (TypeSpec<'a>, Listed<Declarator<'a>>);
 
 /// Reads a type and its declarators.
 #[cycle(constructed)]
-pub(crate) fn read_declared<'a>(
-    cursor: &mut Cursor<'a>,
-    room: usize,
-) -> Result<Declared<'a>, Stop>
+pub(crate) fn read_declared<'a>(cursor: &mut Cursor<'a>, room: usize) -> Result<Declared<'a>, Stop>
     ensures { IfOk result (λ d. DeclaredRead room cursor.old d cursor.new) }
 {
     then(read_type(cursor, room), cursor, room)
