@@ -3,9 +3,3 @@ pub mod Parts
 pub mod Operands
 pub mod Skips
 pub mod Pairs
-pub mod Handed
-pub mod Types
-pub mod Definitions
-pub mod Exports
-pub mod Declarations
-pub mod Same

@@ -105,24 +105,20 @@ impl<'a> Cursor<'a> {
         }
     }
 
-    /// What a reader's stop means where it stopped: the fault of the next token, if that can't stand there.
-    pub(crate) fn fault(&self, stop: Stop) -> ParseFault {
-        match stop {
-            Stop::TooDeep { line } => ParseFault::TooDeep { line },
-            Stop::NoMemory => ParseFault::NoMemory,
-            Stop::Unexpected => match self.rest.first() {
-                None => ParseFault::EndOfFile {
-                    line: self.last_line,
+    /// Why the next token can't stand where it does.
+    pub(crate) fn fault(&self) -> ParseFault {
+        match self.rest.first() {
+            None => ParseFault::EndOfFile {
+                line: self.last_line,
+            },
+            Some(token) => match left_out(token) {
+                Some(what) => ParseFault::LeftOut {
+                    what,
+                    line: token.line,
                 },
-                Some(token) => match left_out(token) {
-                    Some(what) => ParseFault::LeftOut {
-                        what,
-                        line: token.line,
-                    },
-                    None => ParseFault::Unexpected {
-                        at: self.number,
-                        line: token.line,
-                    },
+                None => ParseFault::Unexpected {
+                    at: self.number,
+                    line: token.line,
                 },
             },
         }

@@ -3,7 +3,6 @@
 
 ghost use Rattle.std.specs.Prelude.{◌≡◌, ◌++◌, ◌≤◌, [], Ok, IfOk};
 ghost use Rattle.idl_tree.specs.Pieces.{Spell};
-ghost use Rattle.idl_parser.specs.Reading.{Whole};
 ghost use Rattle.idl_tree.specs.DefinitionYields.{definitions_spelled};
 ghost use Rattle.idl_tree.specs.DefinitionLevels.{levels_of};
 
@@ -19,25 +18,38 @@ use std::alloc::Global;
 /// How many modules, types and parentheses may stand one inside another.
 const MAX_LEVELS: usize = 64;
 
-/// What was read, where nothing stands behind it.
-fn whole<T: Drop>(cursor: &Cursor<'_>, read: Result<T, Stop>) -> Result<T, Stop>
-    ensures same { IfOk result (λ part. read ≡ Ok part) }
-    ensures ended { IfOk result (λ part. cursor.now ≡ []) }
-{
-    let part = got!(read);
-    if cursor.is_at_end() {
-        Ok(part)
-    } else {
-        Err(Stop::Unexpected)
+/// What a reader's stop means at the place where it stopped.
+fn told(cursor: &Cursor<'_>, stop: Stop) -> ParseFault {
+    match stop {
+        Stop::Unexpected => cursor.fault(),
+        Stop::TooDeep { line } => ParseFault::TooDeep { line },
+        Stop::NoMemory => ParseFault::NoMemory,
     }
 }
 
-/// Reads definitions to the end.
-fn read_all<'a>(cursor: &mut Cursor<'a>) -> Result<Vec<Definition<'a>>, Stop>
-    ensures { IfOk result (λ d. Whole cursor.old d.items) }
+/// What is read where nothing stands behind it.
+fn whole<T: Drop>(cursor: &Cursor<'_>, read: Result<T, Stop>) -> Result<T, ParseFault>
+    ensures same { IfOk result (λ part. read ≡ Ok part) }
+    ensures ended { IfOk result (λ part. cursor.now ≡ []) }
 {
-    let read = read_definitions(cursor, MAX_LEVELS);
-    whole(cursor, read)
+    let part = match read {
+        Ok(part) => part,
+        Err(stop) => return Err(told(cursor, stop)),
+    };
+    if !cursor.is_at_end() {
+        return Err(cursor.fault());
+    }
+    Ok(part)
+}
+
+/// The definitions that tokens spell from the first to the last.
+fn read_all<'a>(alloc: Global, tokens: &'a [Token<'a>]) -> Result<Vec<Definition<'a>>, ParseFault>
+    ensures spells { IfOk result (λ d. Spell (definitions_spelled d.items) tokens.now) }
+    ensures levels { IfOk result (λ d. levels_of d.items ≤ 64) }
+{
+    let mut cursor = Cursor::new(alloc, tokens);
+    let read = read_definitions(&mut cursor, MAX_LEVELS);
+    whole(&cursor, read)
 }
 
 /// The tree of an IDL specification, given as its tokens (ISO/IEC 19500-1, IDL grammar).
@@ -53,12 +65,11 @@ pub fn parse<'a>(alloc: Global, tokens: &'a [Token<'a>]) -> Result<Spec<'a>, Par
     ensures spells { IfOk result (λ spec. Spell (definitions_spelled spec.definitions.items) tokens.now) }
     ensures levels { IfOk result (λ spec. levels_of spec.definitions.items ≤ 64) }
 {
-    let mut cursor = Cursor::new(alloc, tokens);
-    match read_all(&mut cursor) {
+    match read_all(alloc, tokens) {
         Ok(definitions) => Ok(Spec {
             tokens,
             definitions,
         }),
-        Err(stop) => Err(cursor.fault(stop)),
+        Err(fault) => Err(fault),
     }
 }

@@ -1,14 +1,14 @@
 //! Structures and unions, whose members may declare further types.
 #![tactic(auto, using(crate::proofs::Reading::past_append, crate::proofs::Reading::past_none))]
 
-ghost use Rattle.std.specs.Prelude.{◌≡◌, ◌++◌, ◌≤◌, ℕ, suc, IfOk, List, codes};
+ghost use Rattle.std.specs.Prelude.{◌≡◌, ◌++◌, ◌≤◌, ◌<◌, max, suc, IfOk, List, codes};
 ghost use Rattle.std.specs.List.{flat_map};
-ghost use Rattle.idl_parser.specs.Reading.{Parsed, Continued, Closed, TypeRead, DeclaredRead, MemberRead, MembersRead, StructRead, ElementRead, CaseRead, CasesRead, BodyRead, UnionRead};
-ghost use Rattle.idl_tree.specs.Pieces.{Seen, keyword, mark};
+ghost use Rattle.idl_parser.specs.Reading.{Parsed, Continued};
+ghost use Rattle.idl_tree.specs.Pieces.{keyword, mark};
 ghost use Rattle.idl_tree.specs.Yields.{identifier, in_order};
-ghost use Rattle.idl_tree.specs.TypeYields.{label_yield};
+ghost use Rattle.idl_tree.specs.TypeYields.{declarator_yield, label_yield, member_yield, case_yield, type_yield, struct_yield, union_yield};
 ghost use Rattle.idl_tree.specs.Levels.{highest, highest_listed};
-ghost use Rattle.idl_tree.specs.TypeLevels.{label_levels};
+ghost use Rattle.idl_tree.specs.TypeLevels.{declarator_levels, label_levels, member_levels, case_levels, type_levels, struct_levels, union_levels};
 
 use crate::cursor::Cursor;
 use crate::read::expressions::read_expr;
@@ -83,7 +83,8 @@ pub(crate) fn next_shape(cursor: &Cursor<'_>) -> Shape {
 
 #[cycle(constructed)]
 pub(crate) fn read_type<'a>(cursor: &mut Cursor<'a>, room: usize) -> Result<TypeSpec<'a>, Stop>
-    ensures { IfOk result (λ t. TypeRead room cursor.old t cursor.new) }
+    ensures spells { IfOk result (λ t. Parsed cursor.old (type_yield t) cursor.new) }
+    ensures levels { IfOk result (λ t. type_levels t ≤ room) }
 {
     match next_shape(cursor) {
         Shape::Struct => read_struct(cursor, room).map(TypeSpec::Struct),
@@ -93,35 +94,19 @@ pub(crate) fn read_type<'a>(cursor: &mut Cursor<'a>, room: usize) -> Result<Type
     }
 }
 
-/// A type, and what it is the type of.
-pub(crate) type Declared<'a> = (TypeSpec<'a>, Listed<Declarator<'a>>);
-
-/// Reads a type and its declarators.
-#[cycle(constructed)]
-pub(crate) fn read_declared<'a>(cursor: &mut Cursor<'a>, room: usize) -> Result<Declared<'a>, Stop>
-    ensures { IfOk result (λ d. DeclaredRead room cursor.old d cursor.new) }
-{
-    then(read_type(cursor, room), cursor, room)
-}
-
-/// Members of a type and declarators.
-fn member<'a>(declared: Declared<'a>) -> Member<'a>
-    ensures { (room : ℕ) (tokens left : List Seen) →
-        Closed (codes ";") DeclaredRead room tokens declared.entry left → MemberRead room tokens result left }
-{
-    let (member_type, declarators) = declared;
-    Member {
-        member_type,
-        declarators,
-    }
-}
-
 #[cycle(constructed)]
 fn read_member<'a>(cursor: &mut Cursor<'a>, room: usize) -> Result<Member<'a>, Stop>
-    ensures { IfOk result (λ m. MemberRead room cursor.old m cursor.new) }
+    ensures spells { IfOk result (λ m. Parsed cursor.old (member_yield m) cursor.new) }
+    ensures levels { IfOk result (λ m. member_levels m ≤ room) }
 {
-    let read = read_declared(cursor, room);
-    cursor.closed(read, ";").map(member)
+    let read = then(read_type(cursor, room), cursor, room);
+    match cursor.closed(read, ";") {
+        Ok((member_type, declarators)) => Ok(Member {
+            member_type,
+            declarators,
+        }),
+        Err(stop) => Err(stop),
+    }
 }
 
 /// Reads members and the closing brace behind them.
@@ -130,7 +115,9 @@ pub(crate) fn read_members<'a>(
     cursor: &mut Cursor<'a>,
     room: usize,
 ) -> Result<Vec<Member<'a>>, Stop>
-    ensures { IfOk result (λ m. Closed (codes "}") MembersRead room cursor.old m.items cursor.new) }
+    ensures spells { IfOk result (λ m. Parsed cursor.old
+        (flat_map member_yield m.items ++ mark (codes "}")) cursor.new) }
+    ensures levels { IfOk result (λ m. highest member_levels m.items ≤ room) }
 {
     let mut members = Vec::new(cursor.alloc());
     'parts: while !cursor.is_mark("}") {
@@ -142,7 +129,8 @@ pub(crate) fn read_members<'a>(
 
 #[cycle(constructed)]
 pub(crate) fn read_struct<'a>(cursor: &mut Cursor<'a>, room: usize) -> Result<StructType<'a>, Stop>
-    ensures { IfOk result (λ s. StructRead room cursor.old s cursor.new) }
+    ensures spells { IfOk result (λ s. Parsed cursor.old (struct_yield s) cursor.new) }
+    ensures levels { IfOk result (λ s. struct_levels s ≤ room) }
 {
     let (name, left) = got!(read_opened(cursor, "struct", room));
     let front = got!(read_member(cursor, left));
@@ -156,7 +144,9 @@ fn read_element<'a>(
     cursor: &mut Cursor<'a>,
     room: usize,
 ) -> Result<(TypeSpec<'a>, Declarator<'a>), Stop>
-    ensures { IfOk result (λ e. Closed (codes ";") ElementRead room cursor.old e cursor.new) }
+    ensures spells { IfOk result (λ e. Parsed cursor.old
+        (type_yield e.0 ++ declarator_yield e.1 ++ mark (codes ";")) cursor.new) }
+    ensures levels { IfOk result (λ e. max (type_levels e.0) (declarator_levels e.1) ≤ room) }
 {
     let read = then(read_type(cursor, room), cursor, room);
     cursor.closed(read, ";")
@@ -164,7 +154,8 @@ fn read_element<'a>(
 
 #[cycle(constructed)]
 fn read_case<'a>(cursor: &mut Cursor<'a>, room: usize) -> Result<Case<'a>, Stop>
-    ensures { IfOk result (λ c. CaseRead room cursor.old c cursor.new) }
+    ensures spells { IfOk result (λ c. Parsed cursor.old (case_yield c) cursor.new) }
+    ensures levels { IfOk result (λ c. case_levels c ≤ room) }
 {
     let front = got!(read_labels(cursor, room));
     let (labels, (member_type, declarator)) = got!(both(front, read_element(cursor, room)));
@@ -178,7 +169,9 @@ fn read_case<'a>(cursor: &mut Cursor<'a>, room: usize) -> Result<Case<'a>, Stop>
 /// Reads cases and the closing brace behind them.
 #[cycle(constructed)]
 fn read_cases<'a>(cursor: &mut Cursor<'a>, room: usize) -> Result<Vec<Case<'a>>, Stop>
-    ensures { IfOk result (λ c. Closed (codes "}") CasesRead room cursor.old c.items cursor.new) }
+    ensures spells { IfOk result (λ c. Parsed cursor.old
+        (flat_map case_yield c.items ++ mark (codes "}")) cursor.new) }
+    ensures levels { IfOk result (λ c. highest case_levels c.items ≤ room) }
 {
     let mut cases = Vec::new(cursor.alloc());
     'parts: while !cursor.is_mark("}") {
@@ -194,7 +187,9 @@ fn read_union_body<'a>(
     cursor: &mut Cursor<'a>,
     room: usize,
 ) -> Result<(Case<'a>, Vec<Case<'a>>), Stop>
-    ensures { IfOk result (λ b. BodyRead room cursor.old b.0 b.1.items cursor.new) }
+    ensures spells { IfOk result (λ b. Parsed cursor.old (mark (codes ")") ++ mark (codes "{")
+        ++ case_yield b.0 ++ (flat_map case_yield b.1.items ++ mark (codes "}"))) cursor.new) }
+    ensures levels { IfOk result (λ b. max (case_levels b.0) (highest case_levels b.1.items) < room) }
 {
     let left = got!(read_cases_front(cursor, room));
     let first = got!(read_case(cursor, left));
@@ -224,7 +219,8 @@ fn read_cases_front(cursor: &mut Cursor<'_>, room: usize) -> Result<usize, Stop>
 
 #[cycle(constructed)]
 pub(crate) fn read_union<'a>(cursor: &mut Cursor<'a>, room: usize) -> Result<UnionType<'a>, Stop>
-    ensures { IfOk result (λ u. UnionRead room cursor.old u cursor.new) }
+    ensures spells { IfOk result (λ u. Parsed cursor.old (union_yield u) cursor.new) }
+    ensures levels { IfOk result (λ u. union_levels u ≤ room) }
 {
     let name = got!(read_union_name(cursor));
     // an enumeration here is declared inside the union

@@ -1,19 +1,20 @@
 //! What both modules and interfaces declare: types, constants and exceptions.
 #![tactic(auto, using(crate::proofs::Reading::past_append, crate::proofs::Reading::past_none))]
 
-ghost use Rattle.std.specs.Prelude.{◌≡◌, ◌++◌, ◌≤◌, IfOk, List, codes};
-ghost use Rattle.idl_parser.specs.Reading.{Parsed, Closed, TypeDclRead, ConstRead, ExceptRead, DeclarationRead};
+ghost use Rattle.std.specs.Prelude.{◌≡◌, ◌++◌, ◌≤◌, max, IfOk, List, codes};
+ghost use Rattle.idl_parser.specs.Reading.{Parsed};
 ghost use Rattle.idl_tree.specs.Pieces.{keyword, mark};
 ghost use Rattle.idl_tree.specs.Yields.{identifier as identifier_yield, const_expr_yield};
 ghost use Rattle.idl_tree.specs.Levels.{const_expr_levels};
-ghost use Rattle.idl_tree.specs.declared.definitions.TypeDcl.TheVariants.{Typedef};
+ghost use Rattle.idl_tree.specs.DefinitionYields.{type_dcl_yield, const_yield, except_yield, declaration_yield};
+ghost use Rattle.idl_tree.specs.DefinitionLevels.{type_dcl_levels, const_levels, except_levels, declaration_levels};
 
 use crate::cursor::Cursor;
 use crate::read::constructed::{
-    Declared, Shape, next_shape, read_declared, read_members, read_struct, read_union,
+    Shape, next_shape, read_members, read_struct, read_type, read_union,
 };
 use crate::read::expressions::read_expr;
-use crate::read::lists::both;
+use crate::read::lists::{both, then};
 use crate::read::types::{read_const_type, read_enum};
 use crate::stop::Stop;
 use idl_tree::const_expr::ConstExpr;
@@ -28,27 +29,24 @@ pub(crate) fn is_declaration(cursor: &Cursor<'_>) -> bool {
     cursor.is_one_of(&DECLARED)
 }
 
-/// A type definition of a type and its declarators.
-fn typedef<'a>(declared: Declared<'a>) -> TypeDcl<'a>
-    ensures { result ≡ Typedef declared.entry.0 declared.entry.1 }
-{
-    let (original, declarators) = declared;
-    TypeDcl::Typedef {
-        original,
-        declarators,
-    }
-}
-
 fn read_typedef<'a>(cursor: &mut Cursor<'a>, room: usize) -> Result<TypeDcl<'a>, Stop>
-    ensures { IfOk result (λ t. TypeDclRead room cursor.old t cursor.new) }
+    ensures spells { IfOk result (λ t. Parsed cursor.old (type_dcl_yield t) cursor.new) }
+    ensures levels { IfOk result (λ t. type_dcl_levels t ≤ room) }
 {
     got!(cursor.keyword("typedef"));
-    read_declared(cursor, room).map(typedef)
+    match then(read_type(cursor, room), cursor, room) {
+        Ok((original, declarators)) => Ok(TypeDcl::Typedef {
+            original,
+            declarators,
+        }),
+        Err(stop) => Err(stop),
+    }
 }
 
 /// Reads a structure, or one that is declared ahead, which a semicolon tells.
 fn read_struct_dcl<'a>(cursor: &mut Cursor<'a>, room: usize) -> Result<TypeDcl<'a>, Stop>
-    ensures { IfOk result (λ t. TypeDclRead room cursor.old t cursor.new) }
+    ensures spells { IfOk result (λ t. Parsed cursor.old (type_dcl_yield t) cursor.new) }
+    ensures levels { IfOk result (λ t. type_dcl_levels t ≤ room) }
 {
     if !cursor.is_ahead() {
         return read_struct(cursor, room).map(TypeDcl::Struct);
@@ -59,7 +57,8 @@ fn read_struct_dcl<'a>(cursor: &mut Cursor<'a>, room: usize) -> Result<TypeDcl<'
 
 /// Reads a union, or one that is declared ahead, which a semicolon tells.
 fn read_union_dcl<'a>(cursor: &mut Cursor<'a>, room: usize) -> Result<TypeDcl<'a>, Stop>
-    ensures { IfOk result (λ t. TypeDclRead room cursor.old t cursor.new) }
+    ensures spells { IfOk result (λ t. Parsed cursor.old (type_dcl_yield t) cursor.new) }
+    ensures levels { IfOk result (λ t. type_dcl_levels t ≤ room) }
 {
     if !cursor.is_ahead() {
         return read_union(cursor, room).map(TypeDcl::Union);
@@ -69,7 +68,8 @@ fn read_union_dcl<'a>(cursor: &mut Cursor<'a>, room: usize) -> Result<TypeDcl<'a
 }
 
 fn read_type_dcl<'a>(cursor: &mut Cursor<'a>, room: usize) -> Result<TypeDcl<'a>, Stop>
-    ensures { IfOk result (λ t. TypeDclRead room cursor.old t cursor.new) }
+    ensures spells { IfOk result (λ t. Parsed cursor.old (type_dcl_yield t) cursor.new) }
+    ensures levels { IfOk result (λ t. type_dcl_levels t ≤ room) }
 {
     match next_shape(cursor) {
         Shape::Struct => read_struct_dcl(cursor, room),
@@ -92,7 +92,8 @@ fn read_value<'a>(cursor: &mut Cursor<'a>, room: usize) -> Result<(Leaf<'a>, Con
 }
 
 fn read_const<'a>(cursor: &mut Cursor<'a>, room: usize) -> Result<Const<'a>, Stop>
-    ensures { IfOk result (λ c. ConstRead room cursor.old c cursor.new) }
+    ensures spells { IfOk result (λ c. Parsed cursor.old (const_yield c) cursor.new) }
+    ensures levels { IfOk result (λ c. const_levels c ≤ room) }
 {
     got!(cursor.keyword("const"));
     let front = got!(read_const_type(cursor, room));
@@ -116,7 +117,8 @@ fn read_except_name<'a>(cursor: &mut Cursor<'a>) -> Result<Leaf<'a>, Stop>
 }
 
 fn read_except<'a>(cursor: &mut Cursor<'a>, room: usize) -> Result<Except<'a>, Stop>
-    ensures { IfOk result (λ e. ExceptRead room cursor.old e cursor.new) }
+    ensures spells { IfOk result (λ e. Parsed cursor.old (except_yield e) cursor.new) }
+    ensures levels { IfOk result (λ e. except_levels e ≤ room) }
 {
     let identifier = got!(read_except_name(cursor));
     let members = got!(read_members(cursor, room));
@@ -127,7 +129,8 @@ fn read_except<'a>(cursor: &mut Cursor<'a>, room: usize) -> Result<Except<'a>, S
 }
 
 fn read_declaration<'a>(cursor: &mut Cursor<'a>, room: usize) -> Result<Declaration<'a>, Stop>
-    ensures { IfOk result (λ d. DeclarationRead room cursor.old d cursor.new) }
+    ensures spells { IfOk result (λ d. Parsed cursor.old (declaration_yield d) cursor.new) }
+    ensures levels { IfOk result (λ d. declaration_levels d ≤ room) }
 {
     if cursor.is_keyword("const") {
         return read_const(cursor, room).map(Declaration::Const);
@@ -143,7 +146,8 @@ pub(crate) fn read_ended_declaration<'a>(
     cursor: &mut Cursor<'a>,
     room: usize,
 ) -> Result<Declaration<'a>, Stop>
-    ensures { IfOk result (λ d. Closed (codes ";") DeclarationRead room cursor.old d cursor.new) }
+    ensures spells { IfOk result (λ d. Parsed cursor.old (declaration_yield d ++ mark (codes ";")) cursor.new) }
+    ensures levels { IfOk result (λ d. declaration_levels d ≤ room) }
 {
     let read = read_declaration(cursor, room);
     cursor.closed(read, ";")

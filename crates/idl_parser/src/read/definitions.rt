@@ -1,9 +1,14 @@
 //! Definitions and modules.
-#![tactic(auto)]
+#![tactic(auto, using(crate::proofs::Reading::past_append, crate::proofs::Reading::past_none))]
 
-ghost use Rattle.std.specs.Prelude.{IfOk, ℕ, List};
-ghost use Rattle.idl_parser.specs.Reading.{DefinitionRead, DefinitionsRead, ModuleRead};
-ghost use Rattle.idl_tree.specs.Pieces.{Seen};
+ghost use Rattle.std.specs.Prelude.{◌≡◌, ◌++◌, ◌≤◌, suc, max, IfOk, List, codes};
+ghost use Rattle.std.specs.List.{flat_map};
+ghost use Rattle.idl_parser.specs.Reading.{Parsed, Continued};
+ghost use Rattle.idl_tree.specs.Pieces.{keyword, mark};
+ghost use Rattle.idl_tree.specs.Yields.{identifier};
+ghost use Rattle.idl_tree.specs.DefinitionYields.{definition_yield};
+ghost use Rattle.idl_tree.specs.Levels.{highest};
+ghost use Rattle.idl_tree.specs.DefinitionLevels.{definition_levels};
 
 use crate::cursor::Cursor;
 use crate::read::declarations::{is_declaration, read_ended_declaration};
@@ -16,10 +21,11 @@ use idl_tree::names::Leaf;
 
 /// Reads a pragma, or a definition that holds no others.
 fn read_single<'a>(cursor: &mut Cursor<'a>, room: usize) -> Result<Definition<'a>, Stop>
-    ensures { IfOk result (λ d. DefinitionRead room cursor.old d cursor.new) }
+    ensures spells { IfOk result (λ d. Parsed cursor.old (definition_yield d) cursor.new) }
+    ensures levels { IfOk result (λ d. definition_levels d ≤ room) }
 {
-    if let Some(Kind::Pragma) = cursor.kind() {
-        return cursor.leaf(Kind::Pragma).map(Definition::Pragma);
+    if let Some(pragma) = cursor.take_leaf(Kind::Pragma) {
+        return Ok(Definition::Pragma(pragma));
     }
     if cursor.is_keyword("interface") {
         return read_ended_interface(cursor, room).map(Definition::Interface);
@@ -32,7 +38,8 @@ fn read_single<'a>(cursor: &mut Cursor<'a>, room: usize) -> Result<Definition<'a
 
 #[cycle(definitions)]
 fn read_definition<'a>(cursor: &mut Cursor<'a>, room: usize) -> Result<Definition<'a>, Stop>
-    ensures { IfOk result (λ d. DefinitionRead room cursor.old d cursor.new) }
+    ensures spells { IfOk result (λ d. Parsed cursor.old (definition_yield d) cursor.new) }
+    ensures levels { IfOk result (λ d. definition_levels d ≤ room) }
 {
     if cursor.is_keyword("module") {
         return read_module(cursor, room);
@@ -46,7 +53,9 @@ fn read_named<'a>(
     cursor: &mut Cursor<'a>,
     room: usize,
 ) -> Result<(Leaf<'a>, Vec<Definition<'a>>), Stop>
-    ensures { IfOk result (λ m. ModuleRead room cursor.old m.0 m.1.items cursor.new) }
+    ensures spells { IfOk result (λ m. Parsed cursor.old (keyword (codes "module") ++ identifier m.0
+        ++ mark (codes "{") ++ flat_map definition_yield m.1.items ++ mark (codes "}") ++ mark (codes ";")) cursor.new) }
+    ensures levels { IfOk result (λ m. suc (highest definition_levels m.1.items) ≤ room) }
 {
     let (name, left) = got!(read_opened(cursor, "module", room));
     let read = read_definitions(cursor, left);
@@ -55,20 +64,15 @@ fn read_named<'a>(
     Ok((name, definitions))
 }
 
-/// The module of a name and definitions.
-fn module<'a>(parts: (Leaf<'a>, Vec<Definition<'a>>)) -> Definition<'a>
-    ensures { (room : ℕ) (tokens left : List Seen) →
-        ModuleRead room tokens parts.entry.0 parts.entry.1.items left → DefinitionRead room tokens result left }
-{
-    let (name, definitions) = parts;
-    Definition::new_module(name, definitions)
-}
-
 #[cycle(definitions)]
 fn read_module<'a>(cursor: &mut Cursor<'a>, room: usize) -> Result<Definition<'a>, Stop>
-    ensures { IfOk result (λ d. DefinitionRead room cursor.old d cursor.new) }
+    ensures spells { IfOk result (λ d. Parsed cursor.old (definition_yield d) cursor.new) }
+    ensures levels { IfOk result (λ d. definition_levels d ≤ room) }
 {
-    read_named(cursor, room).map(module)
+    match read_named(cursor, room) {
+        Ok((name, definitions)) => Ok(Definition::new_module(name, definitions)),
+        Err(stop) => Err(stop),
+    }
 }
 
 /// Reads definitions up to a closing brace or the end.
@@ -77,7 +81,8 @@ pub(crate) fn read_definitions<'a>(
     cursor: &mut Cursor<'a>,
     room: usize,
 ) -> Result<Vec<Definition<'a>>, Stop>
-    ensures { IfOk result (λ d. DefinitionsRead room cursor.old d.items cursor.new) }
+    ensures spells { IfOk result (λ d. Continued cursor.old (flat_map definition_yield d.items) cursor.new) }
+    ensures levels { IfOk result (λ d. highest definition_levels d.items ≤ room) }
 {
     let mut definitions = Vec::new(cursor.alloc());
     'parts: while !cursor.is_at_end() && !cursor.is_mark("}") {

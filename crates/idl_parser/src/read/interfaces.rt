@@ -1,15 +1,16 @@
 //! Interfaces, their operations and attributes.
 #![tactic(auto, using(crate::proofs::Reading::past_append, crate::proofs::Reading::past_none))]
 
-ghost use Rattle.std.specs.Prelude.{◌≡◌, ◌++◌, ◌≤◌, ℕ, Bool, IfOk, List, codes};
-ghost use Rattle.idl_parser.specs.Reading.{Parsed, Continued, Closed, AttributeRead, OperationRead, ExportRead, BlockRead, InterfaceRead};
+ghost use Rattle.std.specs.Prelude.{◌≡◌, ◌++◌, ◌≤◌, ℕ, Bool, max, IfOk, List, codes};
+ghost use Rattle.std.specs.List.{flat_map};
+ghost use Rattle.idl_parser.specs.Reading.{Parsed, Continued};
 ghost use Rattle.idl_tree.specs.Pieces.{mark};
 ghost use Rattle.idl_tree.specs.Yields.{optional, listed};
-ghost use Rattle.idl_tree.specs.Levels.{highest_listed, optional_levels};
+ghost use Rattle.idl_tree.specs.Levels.{highest, highest_listed, optional_levels};
 ghost use Rattle.idl_tree.specs.TypeLevels.{param_type_levels};
-ghost use Rattle.idl_tree.specs.DefinitionYields.{raises_yield, readonly_yield, is_readonly as attributes_are_readonly, attributes_yield, direction_yield, param_yield, oneway_yield, result_yield, bases_yield};
+ghost use Rattle.idl_tree.specs.DefinitionYields.{raises_yield, readonly_yield, is_readonly as attributes_are_readonly, attributes_yield, attribute_yield, direction_yield, param_yield, oneway_yield, result_yield, operation_yield, export_yield, bases_yield, interface_yield};
 ghost use Rattle.idl_tree.specs.declared.definitions.Attributes.TheVariants.{Silent};
-ghost use Rattle.idl_tree.specs.DefinitionLevels.{param_levels};
+ghost use Rattle.idl_tree.specs.DefinitionLevels.{attribute_levels, param_levels, operation_levels, export_levels, interface_levels};
 
 use crate::cursor::Cursor;
 use crate::read::declarations::{is_declaration, read_ended_declaration};
@@ -91,7 +92,8 @@ fn read_attributes<'a>(cursor: &mut Cursor<'a>, is_readonly: bool) -> Result<Att
 }
 
 fn read_attribute<'a>(cursor: &mut Cursor<'a>, room: usize) -> Result<Attribute<'a>, Stop>
-    ensures { IfOk result (λ a. AttributeRead room cursor.old a cursor.new) }
+    ensures spells { IfOk result (λ a. Parsed cursor.old (attribute_yield a) cursor.new) }
+    ensures levels { IfOk result (λ a. attribute_levels a ≤ room) }
 {
     let is_readonly = take_readonly(cursor);
     got!(cursor.keyword("attribute"));
@@ -179,7 +181,8 @@ fn read_signature<'a>(cursor: &mut Cursor<'a>, room: usize) -> Result<Signature<
 }
 
 fn read_operation<'a>(cursor: &mut Cursor<'a>, room: usize) -> Result<Operation<'a>, Stop>
-    ensures { IfOk result (λ o. OperationRead room cursor.old o cursor.new) }
+    ensures spells { IfOk result (λ o. Parsed cursor.old (operation_yield o) cursor.new) }
+    ensures levels { IfOk result (λ o. operation_levels o ≤ room) }
 {
     let is_oneway = take_oneway(cursor);
     let returned = got!(read_result(cursor, room));
@@ -196,7 +199,8 @@ fn read_operation<'a>(cursor: &mut Cursor<'a>, room: usize) -> Result<Operation<
 
 /// Reads attributes and the semicolon behind them.
 fn read_ended_attribute<'a>(cursor: &mut Cursor<'a>, room: usize) -> Result<Attribute<'a>, Stop>
-    ensures { IfOk result (λ a. Closed (codes ";") AttributeRead room cursor.old a cursor.new) }
+    ensures spells { IfOk result (λ a. Parsed cursor.old (attribute_yield a ++ mark (codes ";")) cursor.new) }
+    ensures levels { IfOk result (λ a. attribute_levels a ≤ room) }
 {
     let read = read_attribute(cursor, room);
     cursor.closed(read, ";")
@@ -204,17 +208,19 @@ fn read_ended_attribute<'a>(cursor: &mut Cursor<'a>, room: usize) -> Result<Attr
 
 /// Reads an operation and the semicolon behind it.
 fn read_ended_operation<'a>(cursor: &mut Cursor<'a>, room: usize) -> Result<Operation<'a>, Stop>
-    ensures { IfOk result (λ o. Closed (codes ";") OperationRead room cursor.old o cursor.new) }
+    ensures spells { IfOk result (λ o. Parsed cursor.old (operation_yield o ++ mark (codes ";")) cursor.new) }
+    ensures levels { IfOk result (λ o. operation_levels o ≤ room) }
 {
     let read = read_operation(cursor, room);
     cursor.closed(read, ";")
 }
 
 fn read_export<'a>(cursor: &mut Cursor<'a>, room: usize) -> Result<Export<'a>, Stop>
-    ensures { IfOk result (λ e. ExportRead room cursor.old e cursor.new) }
+    ensures spells { IfOk result (λ e. Parsed cursor.old (export_yield e) cursor.new) }
+    ensures levels { IfOk result (λ e. export_levels e ≤ room) }
 {
-    if let Some(Kind::Pragma) = cursor.kind() {
-        return cursor.leaf(Kind::Pragma).map(Export::Pragma);
+    if let Some(pragma) = cursor.take_leaf(Kind::Pragma) {
+        return Ok(Export::Pragma(pragma));
     }
     if is_declaration(cursor) {
         return read_ended_declaration(cursor, room).map(Export::Declaration);
@@ -227,7 +233,9 @@ fn read_export<'a>(cursor: &mut Cursor<'a>, room: usize) -> Result<Export<'a>, S
 
 /// Reads exports between braces.
 fn read_exports<'a>(cursor: &mut Cursor<'a>, room: usize) -> Result<Vec<Export<'a>>, Stop>
-    ensures { IfOk result (λ e. BlockRead room cursor.old e.items cursor.new) }
+    ensures spells { IfOk result (λ e. Parsed cursor.old
+        (mark (codes "{") ++ flat_map export_yield e.items ++ mark (codes "}")) cursor.new) }
+    ensures levels { IfOk result (λ e. highest export_levels e.items ≤ room) }
 {
     got!(cursor.mark("{"));
     let mut exports = Vec::new(cursor.alloc());
@@ -250,7 +258,8 @@ fn read_bases<'a>(cursor: &mut Cursor<'a>) -> Result<Option<Listed<ScopedName<'a
 
 /// Reads an interface, or one that is declared ahead, which a semicolon tells.
 fn read_interface<'a>(cursor: &mut Cursor<'a>, room: usize) -> Result<Interface<'a>, Stop>
-    ensures { IfOk result (λ i. InterfaceRead room cursor.old i cursor.new) }
+    ensures spells { IfOk result (λ i. Parsed cursor.old (interface_yield i) cursor.new) }
+    ensures levels { IfOk result (λ i. interface_levels i ≤ room) }
 {
     got!(cursor.keyword("interface"));
     let identifier = got!(cursor.identifier());
@@ -271,7 +280,8 @@ pub(crate) fn read_ended_interface<'a>(
     cursor: &mut Cursor<'a>,
     room: usize,
 ) -> Result<Interface<'a>, Stop>
-    ensures { IfOk result (λ i. Closed (codes ";") InterfaceRead room cursor.old i cursor.new) }
+    ensures spells { IfOk result (λ i. Parsed cursor.old (interface_yield i ++ mark (codes ";")) cursor.new) }
+    ensures levels { IfOk result (λ i. interface_levels i ≤ room) }
 {
     let read = read_interface(cursor, room);
     cursor.closed(read, ";")

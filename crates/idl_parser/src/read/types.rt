@@ -3,12 +3,12 @@
 
 ghost use Rattle.std.specs.Prelude.{◌≡◌, ◌++◌, ◌≤◌, suc, ℕ, IfOk, List, codes};
 ghost use Rattle.std.specs.List.{flat_map};
-ghost use Rattle.idl_parser.specs.Reading.{Parsed, Continued, SimpleRead, EnumRead};
+ghost use Rattle.idl_parser.specs.Reading.{Parsed, Continued};
 ghost use Rattle.idl_tree.specs.Pieces.{keyword, mark};
 ghost use Rattle.idl_tree.specs.Yields.{optional};
-ghost use Rattle.idl_tree.specs.TypeYields.{integer_size_yield, integer_yield, string_bound_yield, const_type_yield, param_type_yield, sequence_bound_yield, declarator_yield, size_yield, switch_yield};
+ghost use Rattle.idl_tree.specs.TypeYields.{integer_size_yield, integer_yield, string_bound_yield, const_type_yield, param_type_yield, sequence_bound_yield, simple_type_yield, declarator_yield, size_yield, enum_yield, switch_yield};
 ghost use Rattle.idl_tree.specs.Levels.{highest, optional_levels, const_expr_levels, bound_levels};
-ghost use Rattle.idl_tree.specs.TypeLevels.{const_type_levels, param_type_levels, declarator_levels, switch_levels};
+ghost use Rattle.idl_tree.specs.TypeLevels.{const_type_levels, param_type_levels, simple_type_levels, declarator_levels, switch_levels};
 
 use crate::cursor::Cursor;
 use crate::read::expressions::{read_bound, read_expr};
@@ -145,7 +145,8 @@ pub(crate) fn read_simple_type<'a>(
     cursor: &mut Cursor<'a>,
     room: usize,
 ) -> Result<SimpleType<'a>, Stop>
-    ensures { IfOk result (λ t. SimpleRead room cursor.old t cursor.new) }
+    ensures spells { IfOk result (λ t. Parsed cursor.old (simple_type_yield t) cursor.new) }
+    ensures levels { IfOk result (λ t. simple_type_levels t ≤ room) }
 {
     if !cursor.take_keyword("sequence") {
         return read_param_type(cursor, room).map(SimpleType::Plain);
@@ -208,7 +209,8 @@ pub(crate) fn read_declarator<'a>(
 
 /// Reads an enumeration, which is a level.
 pub(crate) fn read_enum<'a>(cursor: &mut Cursor<'a>, room: usize) -> Result<EnumType<'a>, Stop>
-    ensures { IfOk result (λ e. EnumRead room cursor.old e cursor.new) }
+    ensures spells { IfOk result (λ e. Parsed cursor.old (enum_yield e) cursor.new) }
+    ensures levels { IfOk result (λ e. 1 ≤ room) }
 {
     let (identifier, left) = got!(read_opened(cursor, "enum", room));
     let enumerators = got!(read_listed(cursor, left));

@@ -1,21 +1,22 @@
-use Rattle.std.proofs.Common.{◌+◌, ◌*◌, length}
-use Rattle.idl_parser.specs.Reading.{MembersRead, CasesRead}
+use Rattle.std.proofs.Common.{◌+◌, ◌*◌, ◌≤◌, length}
+use Rattle.std.specs.List.{flat_map}
+use Rattle.idl_parser.specs.Reading.{Continued}
+use Rattle.idl_tree.specs.Levels.{highest}
+use Rattle.idl_tree.specs.TypeYields.{member_yield, case_yield}
+use Rattle.idl_tree.specs.TypeLevels.{member_levels, case_levels}
 use Rattle.idl_parser.proofs.read.constructed.+constructed.Given as goal
 
 abbrev pub decreases-read_members : goal.decreases-read_members
-decreases-read_members l = 10 * length l.cursor.now + 6
+decreases-read_members l = 10 * length l.cursor.now + 5
 
 abbrev pub decreases-read_cases : goal.decreases-read_cases
-decreases-read_cases l = 10 * length l.cursor.now + 6
+decreases-read_cases l = 10 * length l.cursor.now + 5
 
 abbrev pub decreases-read_member : goal.decreases-read_member
-decreases-read_member l = 10 * length l.cursor.now + 5
-
-abbrev pub decreases-read_declared : goal.decreases-read_declared
-decreases-read_declared l = 10 * length l.cursor.now + 4
+decreases-read_member l = 10 * length l.cursor.now + 4
 
 abbrev pub decreases-read_case : goal.decreases-read_case
-decreases-read_case l = 10 * length l.cursor.now + 5
+decreases-read_case l = 10 * length l.cursor.now + 4
 
 abbrev pub decreases-read_element : goal.decreases-read_element
 decreases-read_element l = 10 * length l.cursor.now + 4
@@ -33,13 +34,19 @@ abbrev pub decreases-read_union : goal.decreases-read_union
 decreases-read_union l = 10 * length l.cursor.now + 2
 
 abbrev pub invariant-read_members-parts : goal.invariant-read_members-parts
-invariant-read_members-parts l = MembersRead l.room l.initial.cursor l.members.items l.cursor
+invariant-read_members-parts l = record {
+  spells : Continued l.initial.cursor (flat_map member_yield l.members.items) l.cursor;
+  levels : highest member_levels l.members.items ≤ l.room;
+}
 
 abbrev pub decreases-read_members-parts : goal.decreases-read_members-parts
 decreases-read_members-parts l = length l.cursor
 
 abbrev pub invariant-read_cases-parts : goal.invariant-read_cases-parts
-invariant-read_cases-parts l = CasesRead l.room l.initial.cursor l.cases.items l.cursor
+invariant-read_cases-parts l = record {
+  spells : Continued l.initial.cursor (flat_map case_yield l.cases.items) l.cursor;
+  levels : highest case_levels l.cases.items ≤ l.room;
+}
 
 abbrev pub decreases-read_cases-parts : goal.decreases-read_cases-parts
 decreases-read_cases-parts l = length l.cursor

@@ -1,7 +1,6 @@
 use Rattle.idl_tree.specs.TypeYields.{label_yield}
 use Rattle.idl_tree.specs.TypeLevels.{label_levels}
 use Rattle.idl_parser.proofs.Reading.{one_read, one_read_level}
-use Rattle.idl_parser.proofs.Parts.{none_more, none_high}
 use Rattle.idl_parser.proofs.read.constructed.read_more_labels.Goals as goal
 
 pub parts-preserved : goal.parts-preserved
@@ -9,6 +8,3 @@ parts-preserved c = record {
   spells = one_read label_yield _ _ _ _ _ c.read_label.result c.parts.invariant.spells c.read_label.ensures.spells c.in-Ok.ensures;
   levels = one_read_level label_levels _ _ _ c.read_label.result c.parts.invariant.levels c.read_label.ensures.levels c.in-Ok.ensures;
 }
-
-pub parts-init : goal.parts-init
-parts-init c = record { spells = none_more label_yield _ _ c.new-labels.ensures.items; levels = none_high label_levels _ _ c.new-labels.ensures.items }

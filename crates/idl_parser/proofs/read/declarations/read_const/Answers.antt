@@ -9,14 +9,16 @@ use Rattle.idl_parser.proofs.Parts.{part_then}
 use Rattle.idl_parser.proofs.Pairs.{spelled_as, group_three, both_read, both_levels}
 use Rattle.idl_parser.proofs.read.declarations.read_const.Goals as goal
 
-pub returns : goal.returns
-returns c =
+pub returns-clause-spells : goal.returns-clause-spells
+returns-clause-spells c =
     let p = c.in-Ok-both in
-    record {
-      spells = spelled_as (group_three (keyword (codes "const") ++ const_type_yield p.part.0) (identifier p.part.1.0) (mark (codes "=")) (const_expr_yield p.part.1.1))
-          (both_read (λ t. keyword (codes "const") ++ const_type_yield t) (λ v. identifier v.0 ++ mark (codes "=") ++ const_expr_yield v.1)
-          c.in-Ok-read_const_type.part c.read_value.result p.part
-          (part_then c.in-Ok.ensures c.in-Ok-read_const_type.ensures.spells) c.read_value.ensures.spells p.ensures.first p.ensures.second);
-      levels = both_levels const_type_levels (λ v. const_expr_levels v.1) c.args.room c.in-Ok-read_const_type.part c.read_value.result
-          p.part c.in-Ok-read_const_type.ensures.levels c.read_value.ensures.levels p.ensures.first p.ensures.second;
-    }
+    spelled_as (group_three (keyword (codes "const") ++ const_type_yield p.part.0) (identifier p.part.1.0) (mark (codes "=")) (const_expr_yield p.part.1.1))
+    (both_read (λ t. keyword (codes "const") ++ const_type_yield t) (λ v. identifier v.0 ++ mark (codes "=") ++ const_expr_yield v.1)
+    c.in-Ok-read_const_type.part c.read_value.result p.part
+    (part_then c.in-Ok.ensures c.in-Ok-read_const_type.ensures.spells) c.read_value.ensures.spells p.ensures.first p.ensures.second)
+
+pub returns-clause-levels : goal.returns-clause-levels
+returns-clause-levels c =
+    let p = c.in-Ok-both in
+    both_levels const_type_levels (λ v. const_expr_levels v.1) c.args.room c.in-Ok-read_const_type.part c.read_value.result
+    p.part c.in-Ok-read_const_type.ensures.levels c.read_value.ensures.levels p.ensures.first p.ensures.second

@@ -1,7 +1,15 @@
-use Rattle.idl_parser.proofs.Parts.{part_then, part_then_more}
+use Rattle.std.proofs.Common.{◌++◌}
+use Rattle.std.specs.Prelude.{codes}
+use Rattle.std.specs.List.{flat_map}
+use Rattle.idl_tree.specs.Pieces.{keyword, mark}
+use Rattle.idl_tree.specs.Yields.{identifier}
+use Rattle.idl_tree.specs.TypeYields.{member_yield}
+use Rattle.idl_parser.proofs.Parts.{part_then}
+use Rattle.idl_parser.proofs.Pairs.{spelled_as, group_two}
 use Rattle.idl_parser.proofs.read.declarations.read_except.Goals as goal
 
-pub returns : goal.returns
-returns c =
-    let members = c.in-Ok-read_members.ensures in
-    record { spells = part_then (part_then_more c.in-Ok.ensures members.read.spells) members.closed; levels = members.read.levels }
+pub returns-clause-spells : goal.returns-clause-spells
+returns-clause-spells c =
+    spelled_as (group_two (keyword (codes "exception") ++ identifier c.in-Ok.part ++ mark (codes "{"))
+    (flat_map member_yield c.in-Ok-read_members.part.items) (mark (codes "}")))
+    (part_then c.in-Ok.ensures c.in-Ok-read_members.ensures.spells)

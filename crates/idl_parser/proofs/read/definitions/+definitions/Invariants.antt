@@ -1,5 +1,9 @@
-use Rattle.std.proofs.Common.{◌+◌, ◌*◌, length}
-use Rattle.idl_parser.specs.Reading.{DefinitionsRead}
+use Rattle.std.proofs.Common.{◌+◌, ◌*◌, ◌≤◌, length}
+use Rattle.std.specs.List.{flat_map}
+use Rattle.idl_parser.specs.Reading.{Continued}
+use Rattle.idl_tree.specs.Levels.{highest}
+use Rattle.idl_tree.specs.DefinitionYields.{definition_yield}
+use Rattle.idl_tree.specs.DefinitionLevels.{definition_levels}
 use Rattle.idl_parser.proofs.read.definitions.+definitions.Given as goal
 
 abbrev pub decreases-read_definitions : goal.decreases-read_definitions
@@ -15,7 +19,10 @@ abbrev pub decreases-read_named : goal.decreases-read_named
 decreases-read_named l = 4 * length l.cursor.now
 
 abbrev pub invariant-read_definitions-parts : goal.invariant-read_definitions-parts
-invariant-read_definitions-parts l = DefinitionsRead l.room l.initial.cursor l.definitions.items l.cursor
+invariant-read_definitions-parts l = record {
+  spells : Continued l.initial.cursor (flat_map definition_yield l.definitions.items) l.cursor;
+  levels : highest definition_levels l.definitions.items ≤ l.room;
+}
 
 abbrev pub decreases-read_definitions-parts : goal.decreases-read_definitions-parts
 decreases-read_definitions-parts l = length l.cursor

@@ -1,10 +1,6 @@
 use Rattle.idl_tree.specs.Yields.{text_yield}
 use Rattle.idl_parser.proofs.Reading.{one_more}
-use Rattle.idl_parser.proofs.Parts.{none_more}
 use Rattle.idl_parser.proofs.read.expressions.read_texts.Goals as goal
 
 pub parts-preserved : goal.parts-preserved
 parts-preserved c = one_more text_yield _ _ _ _ _ _ c.parts.invariant c.in-Some.ensures.read c.in-Ok.ensures
-
-pub parts-init : goal.parts-init
-parts-init c = none_more text_yield _ _ c.new-rest.ensures.items

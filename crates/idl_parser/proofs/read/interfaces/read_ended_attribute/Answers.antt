@@ -1,8 +1,13 @@
-use Rattle.std.specs.Prelude.{codes}
-use Rattle.idl_parser.specs.Reading.{AttributeRead}
-use Rattle.idl_parser.proofs.Handed.{closed_behind}
+use Rattle.std.proofs.Common.{◌≤◌}
+use Rattle.idl_tree.specs.DefinitionYields.{attribute_yield}
+use Rattle.idl_tree.specs.DefinitionLevels.{attribute_levels}
+use Rattle.idl_parser.proofs.Pairs.{closed_part, handed}
 use Rattle.idl_parser.proofs.read.interfaces.read_ended_attribute.Goals as goal
 
-pub returns : goal.returns
-returns c =
-    closed_behind (codes ";") AttributeRead (λ p. p) _ _ _ _ c.read_attribute-read.result c.closed.result c.read_attribute-read.ensures c.closed.ensures.same c.closed.ensures.read
+pub returns-clause-spells : goal.returns-clause-spells
+returns-clause-spells c =
+    closed_part _ _ _ _ attribute_yield c.read_attribute-read.result c.closed.result c.read_attribute-read.ensures.spells c.closed.ensures.same c.closed.ensures.read
+
+pub returns-clause-levels : goal.returns-clause-levels
+returns-clause-levels c =
+    handed (λ p. attribute_levels p ≤ c.args.room) c.read_attribute-read.result c.closed.result c.read_attribute-read.ensures.levels c.closed.ensures.same

@@ -1,8 +1,13 @@
-use Rattle.std.specs.Prelude.{codes}
-use Rattle.idl_parser.specs.Reading.{InterfaceRead}
-use Rattle.idl_parser.proofs.Handed.{closed_behind}
+use Rattle.std.proofs.Common.{◌≤◌}
+use Rattle.idl_tree.specs.DefinitionYields.{interface_yield}
+use Rattle.idl_tree.specs.DefinitionLevels.{interface_levels}
+use Rattle.idl_parser.proofs.Pairs.{closed_part, handed}
 use Rattle.idl_parser.proofs.read.interfaces.read_ended_interface.Goals as goal
 
-pub returns : goal.returns
-returns c =
-    closed_behind (codes ";") InterfaceRead (λ p. p) _ _ _ _ c.read_interface-read.result c.closed.result c.read_interface-read.ensures c.closed.ensures.same c.closed.ensures.read
+pub returns-clause-spells : goal.returns-clause-spells
+returns-clause-spells c =
+    closed_part _ _ _ _ interface_yield c.read_interface-read.result c.closed.result c.read_interface-read.ensures.spells c.closed.ensures.same c.closed.ensures.read
+
+pub returns-clause-levels : goal.returns-clause-levels
+returns-clause-levels c =
+    handed (λ p. interface_levels p ≤ c.args.room) c.read_interface-read.result c.closed.result c.read_interface-read.ensures.levels c.closed.ensures.same

@@ -1,14 +1,27 @@
-use Rattle.std.specs.Prelude.{Ok}
-use Rattle.idl_parser.proofs.Exports.{no_exports, one_export, block_read}
+use Rattle.std.proofs.Common.{◌++◌, ◌≤◌}
+use Rattle.std.specs.Prelude.{Ok, codes}
+use Rattle.std.specs.List.{flat_map}
+use Rattle.idl_tree.specs.Pieces.{mark}
+use Rattle.idl_parser.proofs.Parts.{part_then_more}
+use Rattle.idl_tree.specs.DefinitionYields.{export_yield}
+use Rattle.idl_tree.specs.DefinitionLevels.{export_levels}
+use Rattle.idl_tree.specs.Levels.{highest}
+use Rattle.idl_parser.proofs.Pairs.{closed_part, handed}
+use Rattle.idl_parser.proofs.Reading.{one_read, one_read_level}
 use Rattle.idl_parser.proofs.read.interfaces.read_exports.Goals as goal
 
-pub parts-init : goal.parts-init
-parts-init c = no_exports _ _ _ c.new-exports.ensures.items
-
 pub parts-preserved : goal.parts-preserved
-parts-preserved c = one_export _ _ _ _ _ _ c.read_export.result c.parts.invariant c.read_export.ensures c.in-Ok-add_read.ensures
+parts-preserved c = record {
+  spells = one_read export_yield _ _ _ _ _ c.read_export.result c.parts.invariant.spells c.read_export.ensures.spells c.in-Ok-add_read.ensures;
+  levels = one_read_level export_levels _ _ _ c.read_export.result c.parts.invariant.levels c.read_export.ensures.levels c.in-Ok-add_read.ensures;
+}
 
-pub returns : goal.returns
-returns c =
-    block_read (λ e. e.items) _ _ _ _ _ (Ok c.shrink_to_fit.new.self) c.closed.result c.in-Ok.ensures
-    (rw c.shrink_to_fit.ensures.items c.parts.invariant) c.closed.ensures.same c.closed.ensures.read
+pub returns-clause-spells : goal.returns-clause-spells
+returns-clause-spells c =
+    closed_part _ _ _ _ (λ e. mark (codes "{") ++ flat_map export_yield e.items) (Ok c.shrink_to_fit.new.self) c.closed.result
+    (rw c.shrink_to_fit.ensures.items (part_then_more c.in-Ok.ensures c.parts.invariant.spells)) c.closed.ensures.same c.closed.ensures.read
+
+pub returns-clause-levels : goal.returns-clause-levels
+returns-clause-levels c =
+    handed (λ m. highest export_levels m.items ≤ c.args.room) (Ok c.shrink_to_fit.new.self) c.closed.result
+    (rw c.shrink_to_fit.ensures.items c.parts.invariant.levels) c.closed.ensures.same

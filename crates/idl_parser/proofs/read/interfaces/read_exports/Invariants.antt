@@ -1,9 +1,16 @@
-use Rattle.std.proofs.Common.{length}
-use Rattle.idl_parser.specs.Reading.{ExportsRead}
+use Rattle.std.proofs.Common.{◌≤◌, length}
+use Rattle.std.specs.List.{flat_map}
+use Rattle.idl_parser.specs.Reading.{Continued}
+use Rattle.idl_tree.specs.Levels.{highest}
+use Rattle.idl_tree.specs.DefinitionYields.{export_yield}
+use Rattle.idl_tree.specs.DefinitionLevels.{export_levels}
 use Rattle.idl_parser.proofs.read.interfaces.read_exports.Given as goal
 
 abbrev pub invariant-parts : goal.invariant-parts
-invariant-parts l = ExportsRead l.room l.initial.cursor l.exports.items l.cursor
+invariant-parts l = record {
+  spells : Continued l.initial.cursor (flat_map export_yield l.exports.items) l.cursor;
+  levels : highest export_levels l.exports.items ≤ l.room;
+}
 
 abbrev pub decreases-parts : goal.decreases-parts
 decreases-parts l = length l.cursor

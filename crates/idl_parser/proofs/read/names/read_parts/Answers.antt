@@ -3,13 +3,9 @@ use Rattle.std.specs.Prelude.{codes}
 use Rattle.idl_tree.specs.Pieces.{mark}
 use Rattle.idl_tree.specs.Yields.{identifier}
 use Rattle.idl_parser.proofs.Reading.{one_more, then_read}
-use Rattle.idl_parser.proofs.Parts.{none_more}
 use Rattle.idl_parser.proofs.read.names.read_parts.Goals as goal
 
 pub parts-preserved : goal.parts-preserved
 parts-preserved c =
     one_more (λ x. mark (codes "::") ++ identifier x) _ _ _ _ _ _ c.parts.invariant
     (then_read _ _ _ _ _ c.in-Ok.ensures c.in-Ok-identifier.ensures) c.in-Ok-add.ensures
-
-pub parts-init : goal.parts-init
-parts-init c = none_more (λ x. mark (codes "::") ++ identifier x) _ _ c.new-rest.ensures.items

@@ -1,9 +1,5 @@
-use Rattle.std.proofs.Common.{arith}
 use Rattle.idl_parser.proofs.Parts.{part_then}
 use Rattle.idl_parser.proofs.read.types.read_enum.Goals as goal
 
-pub returns : goal.returns
-returns c = record {
-  spells = part_then (part_then c.in-Ok.ensures.spells c.in-Ok-read_listed.ensures.spells) c.in-Ok-mark.ensures;
-  levels = omega (arith, c.in-Ok.ensures.levels);
-}
+pub returns-clause-spells : goal.returns-clause-spells
+returns-clause-spells c = part_then (part_then c.in-Ok.ensures.spells c.in-Ok-read_listed.ensures.spells) c.in-Ok-mark.ensures

@@ -1,7 +1,6 @@
 use Rattle.idl_tree.specs.Levels.{const_expr_levels}
 use Rattle.idl_tree.specs.TypeYields.{size_yield}
 use Rattle.idl_parser.proofs.Reading.{one_read, one_read_level}
-use Rattle.idl_parser.proofs.Parts.{none_more, none_high}
 use Rattle.idl_parser.proofs.read.types.read_sizes.Goals as goal
 
 pub parts-preserved : goal.parts-preserved
@@ -9,6 +8,3 @@ parts-preserved c = record {
   spells = one_read size_yield _ _ _ _ _ c.read_size.result c.parts.invariant.spells c.read_size.ensures.spells c.in-Ok.ensures;
   levels = one_read_level const_expr_levels _ _ _ c.read_size.result c.parts.invariant.levels c.read_size.ensures.levels c.in-Ok.ensures;
 }
-
-pub parts-init : goal.parts-init
-parts-init c = record { spells = none_more size_yield _ _ c.new-sizes.ensures.items; levels = none_high const_expr_levels _ _ c.new-sizes.ensures.items }

@@ -1,5 +1,0 @@
-use Rattle.idl_parser.proofs.Parts.{part_then}
-use Rattle.idl_parser.proofs.read.declarations.read_except_name.Goals as goal
-
-pub returns : goal.returns
-returns c = part_then (part_then c.in-Ok.ensures c.in-Ok-identifier.ensures) c.in-Ok-mark.ensures

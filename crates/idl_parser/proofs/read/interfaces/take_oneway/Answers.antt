@@ -1,7 +1,0 @@
-use Rattle.std.proofs.Common.{refl}
-use Rattle.idl_tree.specs.DefinitionYields.{oneway_yield}
-use Rattle.idl_parser.proofs.Parts.{word_or_not}
-use Rattle.idl_parser.proofs.read.interfaces.take_oneway.Goals as goal
-
-pub returns : goal.returns
-returns c = word_or_not oneway_yield _ _ c.take_keyword.result refl c.take_keyword.ensures.missing c.take_keyword.ensures.read
