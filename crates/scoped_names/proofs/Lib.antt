@@ -20,3 +20,5 @@ pub mod Members
 pub mod Features
 pub mod WorkedIds
 pub mod WorkedFaults
+pub mod Orders
+pub mod Numbers

@@ -8,6 +8,7 @@ pub mod Tests
 pub mod Faults
 pub mod RepositoryIds
 pub mod IdPragmas
+pub mod Codes
 pub mod Keys
 pub mod Records
 pub mod IdsKept
