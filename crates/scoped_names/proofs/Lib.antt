@@ -18,6 +18,7 @@ pub mod IdFormats
 pub mod IdsGiven
 pub mod Members
 pub mod FeatureTables
+pub mod Rising
 pub mod Introducing
 pub mod Introduced
 pub mod Features

@@ -7,6 +7,7 @@ pub mod Reading
 pub mod Tests
 pub mod Faults
 pub mod Introductions
+pub mod Rising
 pub mod RepositoryIds
 pub mod IdPragmas
 pub mod Keys
