@@ -2,24 +2,20 @@
 use Rattle.std.specs.Prelude.{◌≡◌, ◌⊎◌, ℕ, nat_lt, cond, length, List, Option, Some, None, slice_get}
 use Rattle.idl_tree.specs.declared.names.ScopedName.{ScopedName}
 use Rattle.idl_tree.specs.declared.expression.Expr.{Expr}
-use Rattle.idl_tree.specs.declared.const_expr.Bound.{Bound}
-use Rattle.idl_tree.specs.declared.types.ConstType.{ConstType}
-use Rattle.idl_tree.specs.declared.types.ConstType.TheVariants as ConstTypes
-use Rattle.idl_tree.specs.declared.types.ParamType.{ParamType}
-use Rattle.idl_tree.specs.declared.types.ParamType.TheVariants as ParamTypes
-use Rattle.idl_tree.specs.declared.types.SimpleType.{SimpleType, Plain, Sequence'}
 use Rattle.idl_tree.specs.declared.types.Declarator.{Declarator}
 use Rattle.const_values.specs.declared.constant.Constant.{Constant}
 use Rattle.const_values.specs.declared.kind.ConstKind.{ConstKind}
 use Rattle.const_values.specs.declared.kind.ConstKind.TheVariants as Kinds
 use Rattle.const_values.specs.Kinds.{of_kind}
 use Rattle.const_values.specs.Worth.{worth, whole_number, positive}
-use Rattle.scoped_names.specs.Entry.{Entry, worth_in, meant_in}
+use Rattle.name_table.specs.Entry.{Entry, worth_in, meant_in}
+use Rattle.scoped_names.specs.declared.fault.At.{At}
+use Rattle.scoped_names.specs.declared.fault.Flaw.TheVariants.{NoWorth}
 use Rattle.scoped_names.specs.declared.fault.NameFault.{NameFault}
 use Rattle.scoped_names.specs.declared.fault.NameFault.TheVariants.{NoMemory, BadConstant}
-use Rattle.scoped_names.specs.declared.search.Found.{Found}
-use Rattle.scoped_names.specs.declared.search.Found.TheVariants.{Nothing, One, Several}
-use Rattle.scoped_names.specs.Search.{finds}
+use Rattle.name_table.specs.declared.search.Found.{Found}
+use Rattle.name_table.specs.declared.search.Found.TheVariants.{Nothing, One, Several}
+use Rattle.name_table.specs.Search.{finds}
 
 abbrev pub worth_found : List Entry → Found → Option Constant
 worth_found es Nothing = None
@@ -38,9 +34,9 @@ worth_in_scope es scope e = worth (named_worth es scope) e
 abbrev pub size_in_scope : List Entry → ℕ → Expr → Option ℕ
 size_in_scope es scope e = positive (whole_number (worth_in_scope es scope e))
 
--- why there is none: memory was refused, or there is none, which is told of the line
-abbrev pub Explains : {T : Type 0} → ℕ → Option T → NameFault → Type 0
-Explains at w fault = (fault ≡ NoMemory) ⊎ ((w ≡ None) × (fault ≡ BadConstant at))
+-- why there is none: memory was refused, or there is none, which is told of the place
+abbrev pub Explains : {T : Type 0} → At → Option T → NameFault → Type 0
+Explains here w fault = (fault ≡ NoMemory) ⊎ ((w ≡ None) × (fault ≡ BadConstant here NoWorth))
 
 -- ---- types of constants
 
@@ -48,27 +44,6 @@ abbrev pub meant_found : List Entry → Found → Option ConstKind
 meant_found es Nothing = None
 meant_found es (One e) = meant_in (slice_get es e)
 meant_found es Several = None
-
-abbrev pub string_kind : List Entry → ℕ → Option Bound → ConstKind
-string_kind es scope None = Kinds.String None
-string_kind es scope (Some bound) = Kinds.String (size_in_scope es scope bound.expr)
-
--- the type of constants that a type is in the end
-abbrev pub const_type_kind : List Entry → ℕ → ConstType → Option ConstKind
-const_type_kind es scope (ConstTypes.Integer i) = Some (Kinds.Integer i)
-const_type_kind es scope ConstTypes.Char = Some Kinds.Char
-const_type_kind es scope ConstTypes.Boolean = Some Kinds.Boolean
-const_type_kind es scope ConstTypes.Octet = Some Kinds.Octet
-const_type_kind es scope (ConstTypes.String bound) = Some (string_kind es scope bound)
-const_type_kind es scope (ConstTypes.Name name) = meant_found es (finds es scope name)
-
-abbrev pub param_type_kind : List Entry → ℕ → ParamType → Option ConstKind
-param_type_kind es scope (ParamTypes.Plain t) = const_type_kind es scope t
-param_type_kind es scope ParamTypes.Object = None
-
-abbrev pub simple_type_kind : List Entry → ℕ → SimpleType → Option ConstKind
-simple_type_kind es scope (Plain t) = param_type_kind es scope t
-simple_type_kind es scope (Sequence' element shape bound) = None
 
 -- an array is none
 abbrev pub declarator_kind : Option ConstKind → Declarator → Option ConstKind

@@ -1,14 +1,16 @@
--- What reading a part of a specification gives: what is known behind the part, or the first fault in it.
-use Rattle.std.specs.Prelude.{◌≡◌, ◌⊎◌, ℕ, List, [], ◌∷◌, Result, Ok, Err, MatchResult}
-use Rattle.scoped_names.specs.Entry.{Entry}
+-- What reading a specification gives: what is known behind a part of it, or the first fault in it.
+use Rattle.std.specs.Prelude.{◌≡◌, ◌⊎◌, ℕ, List, Result, Ok, Err, MatchResult}
+use Rattle.name_table.specs.Entry.{Entry}
 use Rattle.scoped_names.specs.RepositoryIds.{IdPragma}
+use Rattle.scoped_names.specs.declared.fault.At.{At}
 use Rattle.scoped_names.specs.declared.fault.NameFault.{NameFault}
 use Rattle.scoped_names.specs.declared.fault.NameFault.TheVariants.{NoMemory}
 
--- a member or a parameter of a scope
+-- a member or a parameter of a scope, and where it is declared
 pub record Member : Type 0 where
   pub scope : ℕ
   pub name : List ℕ
+  pub at : At
 
 -- what is known at a place of a specification
 pub record State : Type 0 where
@@ -21,6 +23,10 @@ pub record State : Type 0 where
   pub prefix : List ℕ
   -- what pragmas give to entries
   pub given : List IdPragma
+  -- the scope that was entered last
+  pub scope : ℕ
+  -- the entry of the last enumeration
+  pub enumeration : ℕ
 
 abbrev pub Reading : Type 0
 Reading = Result State NameFault
@@ -31,18 +37,13 @@ Test = Result (Unit {0}) NameFault
 
 -- one thing, and then another where the first is without a fault
 infixl 10 ◌>>◌
-abbrev pub ◌>>◌ : {A B : Type 0} → Result A NameFault → (A → Result B NameFault) → Result B NameFault
+abbrev pub ◌>>◌ : {A B E : Type 0} → Result A E → (A → Result B E) → Result B E
 (Ok x) >> next = next x
 (Err fault) >> next = Err fault
 
--- one part behind another
-abbrev pub each : {T : Type 0} → (State → ℕ → T → Reading) → State → ℕ → List T → Reading
-each part st scope [] = Ok st
-each part st scope (x ∷ xs) = part st scope x >> λ next. each part next scope xs
-
-abbrev pub all : {T : Type 0} → (T → Test) → List T → Test
-all test [] = Ok tt
-all test (x ∷ xs) = test x >> λ u. all test xs
+-- a test before what follows, which changes nothing
+abbrev pub passed : State → Test → Reading
+passed st test = test >> λ u. Ok st
 
 -- what is known behind is what reading gives; a fault is the one that it gives, or memory was refused
 abbrev pub Tells : {T S : Type 0} → Result T NameFault → S → Result S NameFault → Type 0

@@ -1,18 +1,13 @@
 -- What is kept of the members of scopes, as contracts see it.
-use Rattle.scoped_names.specs.declared.key.Key.{Key}
-use Rattle.std.specs.Prelude.{None, if◌then◌else◌}
-use Rattle.scoped_names.specs.declared.entry.Meaning.{Meaning}
-use Rattle.scoped_names.specs.Entries.{is_feature}
+use Rattle.std.specs.Prelude.{List, [], ◌∷◌}
+use Rattle.name_table.specs.declared.key.Key.{Key}
+use Rattle.scoped_names.specs.declared.fault.At.{At}
 use Rattle.scoped_names.specs.Reading.{Member}
 
-abbrev pub member_of : Key → Member
-member_of k = record { scope = k.scope; name = k.word.text.now }
+abbrev pub member_of : Key → At → Member
+member_of k at = record { scope = k.scope; name = k.word.text.now; at = at }
 
--- what is meant, among operations and attributes alone
-abbrev pub feature_meant : Meaning → Meaning
-feature_meant m = record {
-  token = (if is_feature m.kind then m.token else 18446744073709551615);
-  kind = m.kind;
-  worth = None;
-  stands_for = None;
-}
+abbrev pub members_of : List Key → List At → List Member
+members_of [] places = []
+members_of (k ∷ ks) [] = []
+members_of (k ∷ ks) (at ∷ places) = member_of k at ∷ members_of ks places

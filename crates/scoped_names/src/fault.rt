@@ -1,67 +1,131 @@
 //! Why the names of a specification mean nothing.
 
 ghost use Rattle.std.specs.Prelude.{◌≡◌};
+ghost use Rattle.scoped_names.specs.Tests.{at as at_leaf};
 ghost use Rattle.scoped_names.specs.declared.fault.NameFault.TheVariants.{NoMemory};
 
+use idl_tree::names::Leaf;
+use name_table::EntryKind;
 use std::alloc::{AllocError, AllocFailed};
+use std::fmt::{self, Display, Formatter};
 use thiserror::Error;
 
-/// The first fault in the order of reading. The line is that of a name's first token, or of the
-/// identifier that is declared, or of an expression's first token.
+/// Where a token stands. What is printed is the line.
+#[derive(Clone, Copy, Debug, PartialEq, Eq)]
+pub struct At {
+    /// The number of the token, counted from 0.
+    pub token: usize,
+    pub line: usize,
+}
+
+impl At {
+    /// Where a leaf of the tree stands.
+    pub fn leaf(leaf: &Leaf<'_>) -> At
+        ensures { result ≡ at_leaf leaf.now }
+    {
+        At {
+            token: leaf.number,
+            line: leaf.token.line,
+        }
+    }
+}
+
+impl Display for At {
+    fn fmt(&self, f: &mut Formatter<'_>) -> fmt::Result {
+        write!(f, "{}", self.line)
+    }
+}
+
+/// Why an expression isn't what has to stand in its place.
+#[derive(Clone, Copy, Debug, PartialEq, Eq)]
+pub enum Flaw {
+    /// A name in it is that of no constant and no enumerator.
+    NoConstant,
+    /// It has no worth: a division by zero, a number that is too large, an operator between what
+    /// are no whole numbers.
+    NoWorth,
+    /// Its worth is none of the constant's type.
+    NotOfType,
+    /// A bound or a size has to be a whole number of at least 1.
+    NotPositive,
+}
+
+/// Why an entry can't be a base.
+#[derive(Clone, Copy, Debug, PartialEq, Eq)]
+pub enum Unfit {
+    /// It is no interface that was defined before.
+    NotDefined,
+    /// It is a base already.
+    NamedTwice,
+    /// It has an operation or attribute of the name of another base's.
+    FeatureTwice,
+}
+
+/// The first fault in the order of reading. It is told where a name begins, or an expression, or at
+/// the identifier that is declared.
 #[derive(Clone, Copy, Debug, PartialEq, Eq, Drop, Error)]
 pub enum NameFault {
     /// Nothing of the name is declared before it, or a type that was declared ahead is never
     /// defined.
-    #[error("20 Unknown line {line}")]
-    Unknown { line: usize },
-    /// The scope has another declaration of the name, or the name is that of the scope itself.
-    #[error("21 Collides line {line}")]
-    Collides { line: usize },
+    #[error("20 Unknown line {at}")]
+    Unknown { at: At },
+    /// The scope has another declaration of the name, or the name is that of the scope itself, or a
+    /// second definition. The other declaration is told where it is one.
+    #[error("21 Collides line {at}")]
+    Collides { at: At, other: Option<At> },
     /// The name is declared in another case.
-    #[error("22 CaseDiffers line {line}")]
-    CaseDiffers { line: usize },
+    #[error("22 CaseDiffers line {at}")]
+    CaseDiffers { at: At, other: Option<At> },
     /// Two bases of an interface give different entries.
-    #[error("23 Ambiguous line {line}")]
-    Ambiguous { line: usize },
+    #[error("23 Ambiguous line {at}")]
+    Ambiguous { at: At },
     /// The name is that of no type, or of no exception where one has to stand.
-    #[error("24 NotAType line {line}")]
-    NotAType { line: usize },
+    #[error("24 NotAType line {at}")]
+    NotAType { at: At, found: Option<EntryKind> },
     /// Two pragmas give a name different ids or versions.
-    #[error("25 IdTwice line {line}")]
-    IdTwice { line: usize },
-    /// A constant expression has no value, or none that its type has.
-    #[error("26 BadConstant line {line}")]
-    BadConstant { line: usize },
+    #[error("25 IdTwice line {at}")]
+    IdTwice { at: At },
+    /// A constant expression has no value, or none that its place allows.
+    #[error("26 BadConstant line {at}")]
+    BadConstant { at: At, why: Flaw },
     /// A base is no interface that was defined before, or is listed twice, or has an operation or
     /// attribute of the name of another base's.
-    #[error("27 BadBase line {line}")]
-    BadBase { line: usize },
+    #[error("27 BadBase line {at}")]
+    BadBase { at: At, why: Unfit },
     /// A prefix stands in a scope other than the file's.
-    #[error("28 PrefixInScope line {line}")]
-    PrefixInScope { line: usize },
+    #[error("28 PrefixInScope line {at}")]
+    PrefixInScope { at: At },
     /// A type that was declared ahead appears again under another prefix.
-    #[error("29 PrefixDiffers line {line}")]
-    PrefixDiffers { line: usize },
+    #[error("29 PrefixDiffers line {at}")]
+    PrefixDiffers { at: At, other: Option<At> },
     /// Memory was refused.
     #[error("no memory")]
     NoMemory,
 }
 
 impl NameFault {
+    /// Where the fault is told, unless memory was refused.
+    pub fn at(self) -> Option<At> {
+        match self {
+            NameFault::Unknown { at }
+            | NameFault::Collides { at, .. }
+            | NameFault::CaseDiffers { at, .. }
+            | NameFault::Ambiguous { at }
+            | NameFault::NotAType { at, .. }
+            | NameFault::IdTwice { at }
+            | NameFault::BadConstant { at, .. }
+            | NameFault::BadBase { at, .. }
+            | NameFault::PrefixInScope { at }
+            | NameFault::PrefixDiffers { at, .. } => Some(at),
+            NameFault::NoMemory => None,
+        }
+    }
+
     /// The line of the fault, 0 where memory was refused.
     pub fn line(self) -> usize {
-        match self {
-            NameFault::Unknown { line }
-            | NameFault::Collides { line }
-            | NameFault::CaseDiffers { line }
-            | NameFault::Ambiguous { line }
-            | NameFault::NotAType { line }
-            | NameFault::IdTwice { line }
-            | NameFault::BadConstant { line }
-            | NameFault::BadBase { line }
-            | NameFault::PrefixInScope { line }
-            | NameFault::PrefixDiffers { line } => line,
-            NameFault::NoMemory => 0,
+        match self.at() {
+            Some(at) => at.line,
+            None => 0,
         }
     }
 }

@@ -1,102 +1,106 @@
-//! The walk over a specification: what was read so far.
+//! What is known at a place of a specification.
 
-ghost use Rattle.std.specs.Prelude.{◌≡◌, ◌≤◌, ◌<◌, ◌^◌, length, slice_get, IfOk, IfErr, IfSome, Ok};
-ghost use Rattle.scoped_names.specs.declared.fault.NameFault.TheVariants.{NoMemory};
-ghost use Rattle.std.specs.List.{flat_map};
-ghost use Rattle.idl_tree.specs.DefinitionYields.{definition_yield};
-ghost use Rattle.scoped_names.specs.Entries.{scope_of};
-ghost use Rattle.scoped_names.specs.Search.{inherited, word};
-ghost use Rattle.scoped_names.specs.Faults.{all_read, base_added, based, declared, declared_as, defined, defined_from, features_of, has_body, is_defined_interface, is_interface, is_left_open, is_something, is_taken, keeps_prefix, may_be_base, may_reappear, member_added, new_test, nothing_yet, prefix_read, reappears, undefined_test, with_declared, with_defined};
-ghost use Rattle.scoped_names.specs.Reading.{Checks, Tells};
-ghost use Rattle.scoped_names.specs.Entry.{AreDistinct};
+ghost use Rattle.std.specs.Prelude.{◌≡◌, ◌<◌, ◌≤◌, Ok, length, IfErr, IfOk, IfSome, slice_get};
+ghost use Rattle.name_table.specs.Entries.{latest, scope_of};
+ghost use Rattle.scoped_names.specs.Faults.{base_test, based, declared as declared_by, declared_as, defined_here, free_of, free_test, has_body, is_defined, is_defined_interface, is_interface, is_left_open, keeps_prefix, left_open, may_reappear, member_added, never_defined, new_test, nothing_yet, prefix_set, reappears, taken_by as taken_by_name, undefined_test};
+ghost use Rattle.scoped_names.specs.Reading.{Checks, Tells, ◌>>◌};
 ghost use Rattle.scoped_names.specs.Whole.{whole};
+ghost use Rattle.scoped_names.specs.declared.fault.NameFault.TheVariants.{NoMemory};
+ghost use Rattle.name_table.specs.Entry.{AreDistinct, around as around_of};
+ghost use Rattle.name_table.specs.Features.{features_of};
+ghost use Rattle.name_table.specs.Search.{inherited, word};
 
-use crate::entry::{Base, EntryKind, Meaning};
-use crate::fault::NameFault;
-use crate::key::{Key, Word};
+use crate::evaluation::declared_at;
+use crate::fault::{At, NameFault, Unfit};
+use crate::members::Members;
 use crate::names::Names;
-use crate::record::Record;
 use crate::repository_ids::IdPragmas;
-use crate::table::Table;
-use idl_tree::definitions::Definition;
+use crate::tables::Tables;
 use idl_tree::names::Leaf;
 use indexmap::IndexSet;
+use name_table::{Base, EntryKind, Found, Key, Meaning, Table, Word};
 use std::alloc::Global;
 use std::marker::Model;
 
-/// What was read of a specification. A contract sees the entries in order of declaration.
+/// What is known at a place of a specification, which is read from its first step to its last.
 #[derive(Drop)]
 pub(crate) struct Reader<'a> {
-    pub table: Table<'a>,
-    /// The same entries, of which only operations and attributes are ever found: no type hides one.
-    features: Table<'a>,
-    /// Memory was refused in the midst of a change, and the two tables may be out of step.
-    is_spoilt: bool,
-    /// The members and parameters that each scope has; no search finds them.
-    members: IndexSet<Key<'a>>,
+    tables: Tables<'a>,
+    members: Members<'a>,
     /// The scopes of which a definition was read.
     defined: IndexSet<usize>,
     /// The prefix of repository ids that is set.
     prefix: &'a str,
-    /// What pragmas give to entries.
-    pub ids: IdPragmas<'a>,
+    pub(crate) ids: IdPragmas<'a>,
+    /// The scope that was entered last and not left yet.
+    scope: usize,
+    /// The entry of the last enumeration.
+    enumeration: usize,
 }
 
 impl<'a> Model for Reader<'a> {
-    ghost use Rattle.std.specs.Prelude.{map};
+    ghost use Rattle.std.specs.Prelude.{◌≤◌, length};
     ghost use Rattle.scoped_names.specs.Reading.{State};
-    ghost use Rattle.scoped_names.specs.StateKept.{member_of};
-    ghost use Rattle.std.specs.Prelude.{◌≡◌, false};
-    ghost use Rattle.scoped_names.specs.Faults.{features_of};
 
     ghost Value = { State };
 
-    ghost view = { λ r. record { entries = r.table; members = map member_of r.members.keys; defined = r.defined.keys; prefix = r.prefix.now; given = r.ids } };
+    ghost view = { λ r. record { entries = r.tables; members = r.members; defined = r.defined.keys; prefix = r.prefix.now; given = r.ids; scope = r.scope; enumeration = r.enumeration } };
 
-    ghost invariant = { λ r. r.is_spoilt ≡ false → r.features ≡ features_of r.table };
+    ghost invariant = { λ r. r.scope ≤ length r.tables };
 }
 
-impl EntryKind {
-    /// Whether what was declared as this may be declared again as that.
-    fn may_reappear(self, other: EntryKind) -> bool
-        ensures { result ≡ may_reappear self other }
-    {
-        match (self, other) {
-            (EntryKind::Module, EntryKind::Module)
-            | (EntryKind::Interface, EntryKind::Interface)
-            | (EntryKind::Struct, EntryKind::Struct)
-            | (EntryKind::Union, EntryKind::Union) => true,
-            _ => false,
-        }
+/// Whether what was declared as this may be declared again as that.
+fn may_reappear(kind: EntryKind, other: EntryKind) -> bool
+    ensures { result ≡ may_reappear kind other }
+{
+    match (kind, other) {
+        (EntryKind::Module, EntryKind::Module)
+        | (EntryKind::Interface, EntryKind::Interface)
+        | (EntryKind::Struct, EntryKind::Struct)
+        | (EntryKind::Union, EntryKind::Union) => true,
+        _ => false,
     }
+}
 
-    /// Whether its prefix is that of its first declaration.
-    fn keeps_prefix(self) -> bool
-        ensures { result ≡ keeps_prefix self }
-    {
-        match self {
-            EntryKind::Module => false,
-            _ => true,
-        }
+/// Whether its prefix is that of its first declaration.
+fn keeps_prefix(kind: EntryKind) -> bool
+    ensures { result ≡ keeps_prefix kind }
+{
+    match kind {
+        EntryKind::Module => false,
+        _ => true,
     }
+}
 
-    /// A structure or a union.
-    fn has_body(self) -> bool
-        ensures { result ≡ has_body self }
-    {
-        match self {
-            EntryKind::Struct | EntryKind::Union => true,
-            _ => false,
-        }
+/// A structure or a union.
+fn has_body(kind: EntryKind) -> bool
+    ensures { result ≡ has_body kind }
+{
+    match kind {
+        EntryKind::Struct | EntryKind::Union => true,
+        _ => false,
     }
+}
 
-    fn is_interface(self) -> bool
-        ensures { result ≡ is_interface self }
-    {
-        match self {
-            EntryKind::Interface => true,
-            _ => false,
-        }
+fn is_interface(kind: EntryKind) -> bool
+    ensures { result ≡ is_interface kind }
+{
+    match kind {
+        EntryKind::Interface => true,
+        _ => false,
+    }
+}
+
+/// That nothing has the name of the identifier.
+fn free(identifier: Leaf<'_>, other: Option<At>) -> Result<(), NameFault>
+    ensures { Checks result (free_test identifier.entry other) }
+{
+    match other {
+        Some(_) => Err(NameFault::Collides {
+            at: At::leaf(&identifier),
+            other,
+        }),
+        None => Ok(()),
     }
 }
 
@@ -107,22 +111,54 @@ impl<'a> Reader<'a> {
         ensures memory { IfErr result (λ fault. fault ≡ NoMemory) }
     {
         Ok(Reader {
-            table: Table::new(alloc)?,
-            features: Table::new(alloc)?,
-            is_spoilt: false,
-            members: IndexSet::new(alloc),
+            tables: Tables::new(alloc)?,
+            members: Members::new(alloc),
             defined: IndexSet::new(alloc),
             prefix: "",
             ids: IdPragmas::new(alloc),
+            scope: 0,
+            enumeration: 0,
         })
     }
 
-    /// Whether the scope has a member of the word, or has the word for its own name. An operation's
-    /// name may be that of a parameter.
-    fn is_taken(&self, key: &Key<'a>) -> bool
-        ensures { result ≡ is_taken self.now key.now.scope key.now.word.text.now }
+    /// What is declared so far.
+    pub fn table(&self) -> &Table<'a>
+        ensures { result.now ≡ self.now.entries }
     {
-        self.table.is_own_name(key) || self.members.contains(key)
+        self.tables.all()
+    }
+
+    /// The scope that was entered last and not left yet.
+    pub fn scope(&self) -> usize
+        ensures is { result ≡ self.now.scope }
+        ensures there { result ≤ length self.now.entries }
+    {
+        self.scope
+    }
+
+    /// The entry of the last enumeration.
+    pub fn enumeration(&self) -> usize
+        ensures { result ≡ self.now.enumeration }
+    {
+        self.enumeration
+    }
+
+    /// What the scope itself has of the name: its own, or a member's. An operation's name may be that
+    /// of a parameter.
+    fn taken_by(&self, word: Word<'a>) -> Option<At>
+        ensures { result ≡ taken_by_name self.now word.entry.text.now }
+    {
+        let key = Key {
+            scope: self.scope,
+            word,
+        };
+        if self.table().is_own_name(&key) {
+            return match self.scope.checked_sub(1) {
+                Some(number) => declared_at(self.table(), number),
+                None => None,
+            };
+        }
+        self.members.at(&key)
     }
 
     /// That an entry may appear again as what it appears here.
@@ -133,80 +169,42 @@ impl<'a> Reader<'a> {
         kind: EntryKind,
     ) -> Result<(), NameFault>
         requires { number < length self.now.entries }
-        ensures { Tells result self.now (reappears kind self.now identifier.entry (slice_get self.now.entries number)) }
+        ensures { IfSome (slice_get self.now.entries number) (λ e. Tells result self.now (reappears kind self.now identifier.entry e)) }
     {
-        let line = identifier.token.line;
-        let is_same = identifier.name().as_bytes() == self.table.name(number).as_bytes();
-        if !(kind.may_reappear(self.table.kind(number)) && is_same) {
-            return Err(NameFault::Collides { line });
+        let table = self.table();
+        let (at, other) = (At::leaf(&identifier), declared_at(table, number));
+        let is_same = identifier.name().as_bytes() == table.name(number).as_bytes();
+        if !(may_reappear(kind, table.kind(number)) && is_same) {
+            return Err(NameFault::Collides { at, other });
         }
-        let has_prefix = self.prefix.as_bytes() == self.table.prefix(number).as_bytes();
-        if kind.keeps_prefix() && !has_prefix {
-            return Err(NameFault::PrefixDiffers { line });
+        let has_prefix = self.prefix.as_bytes() == table.prefix(number).as_bytes();
+        if keeps_prefix(kind) && !has_prefix {
+            return Err(NameFault::PrefixDiffers { at, other });
         }
         Ok(())
     }
 
-    /// Puts an entry behind the others.
-    fn push(
-        &mut self,
-        alloc: Global,
-        scope: usize,
-        identifier: Leaf<'a>,
-        meaning: Meaning,
-    ) -> Result<(), NameFault>
-        requires { scope ≤ length self.old.entries }
-        ensures told { Tells result self.new (Ok (with_declared meaning self.old scope identifier.entry)) }
-        ensures longer { length self.old.entries ≤ length self.new.entries }
-    {
-        if self.is_spoilt {
-            return Err(NameFault::NoMemory);
-        }
-        self.is_spoilt = true;
-        let prefix = self.prefix;
-        let feature = meaning.as_feature();
-        self.features
-            .add(alloc, Record::new(prefix, scope, identifier, feature))?;
-        self.table
-            .add(alloc, Record::new(prefix, scope, identifier, meaning))?;
-        self.is_spoilt = false;
-        Ok(())
-    }
-
-    /// Declares an identifier in a scope as what is meant. Gives the scope that the declaration has.
+    /// Declares an identifier as what is meant.
     ///
     /// # Errors
     ///
-    /// `Collides` or `PrefixDiffers`, with the identifier's line, or `NoMemory`.
+    /// `Collides` or `PrefixDiffers`, at the identifier, or `NoMemory`.
     pub fn declare_as(
         &mut self,
         alloc: Global,
-        scope: usize,
         identifier: Leaf<'a>,
         meaning: Meaning,
-    ) -> Result<usize, NameFault>
-        requires { scope ≤ length self.old.entries }
-        ensures told { Tells result self.new (declared_as meaning self.old scope identifier.entry) }
-        ensures inner { IfOk result (λ r. r ≡ scope_of self.new.entries scope identifier.entry) }
-        ensures within { IfOk result (λ r. (r ≤ length self.new.entries) × (1 ≤ r)) }
-        ensures longer { length self.old.entries ≤ length self.new.entries }
+    ) -> Result<(), NameFault>
+        requires { latest self.old.entries ≤ meaning.token }
+        ensures { Tells result self.new (declared_as meaning self.old identifier.entry) }
     {
-        let line = identifier.token.line;
-        let word = Word {
-            text: identifier.name(),
-        };
-        let key = Key { scope, word };
-        if self.is_taken(&key) {
-            return Err(NameFault::Collides { line });
-        }
-        match self.table.declared(scope, identifier) {
-            Some(number) => {
-                self.appears_again(number, identifier, meaning.kind)?;
-                Ok(number + 1)
-            }
+        free(identifier, self.taken_by(Word::new(identifier.name())))?;
+        match self.table().declared(self.scope, identifier) {
+            Some(number) => self.appears_again(number, identifier, meaning.kind),
             None => {
-                self.push(alloc, scope, identifier, meaning)?;
-                Ok(self.table.scope_of(scope, identifier))
+                let (prefix, scope) = (self.prefix, self.scope);
+                self.tables.add(alloc, prefix, scope, identifier, meaning)?;
+                Ok(())
             }
         }
     }
@@ -219,199 +217,192 @@ impl<'a> Reader<'a> {
     pub fn declare(
         &mut self,
         alloc: Global,
-        scope: usize,
         identifier: Leaf<'a>,
         kind: EntryKind,
-    ) -> Result<usize, NameFault>
-        requires { scope ≤ length self.old.entries }
-        ensures told { Tells result self.new (declared kind self.old scope identifier.entry) }
-        ensures inner { IfOk result (λ r. r ≡ scope_of self.new.entries scope identifier.entry) }
-        ensures within { IfOk result (λ r. (r ≤ length self.new.entries) × (1 ≤ r)) }
-        ensures longer { length self.old.entries ≤ length self.new.entries }
+    ) -> Result<(), NameFault>
+        requires { latest self.old.entries ≤ identifier.number }
+        ensures { Tells result self.new (declared_by kind self.old identifier.entry) }
     {
-        self.declare_as(
-            alloc,
-            scope,
-            identifier,
-            Meaning::plain(identifier.number, kind),
-        )
+        self.declare_as(alloc, identifier, Meaning::plain(identifier.number, kind))
     }
 
-    /// That a scope has no such name yet.
+    /// The entry of an enumeration whose enumerators follow.
+    pub fn begin_enumeration(&mut self, number: usize)
+        ensures { self.new ≡ record self.old { enumeration = number } }
+    {
+        self.enumeration = number;
+    }
+
+    /// That the scope has no such name yet.
     ///
     /// # Errors
     ///
-    /// `Collides`, with the identifier's line.
-    pub fn is_new(&self, scope: usize, identifier: Leaf<'a>) -> Result<(), NameFault>
-        ensures { Checks result (new_test self.now scope identifier.entry) }
+    /// `Collides`, at the identifier.
+    pub fn is_new(&self, identifier: Leaf<'a>) -> Result<(), NameFault>
+        ensures { Checks result (new_test self.now identifier.entry) }
     {
-        let word = Word {
-            text: identifier.name(),
-        };
-        let key = Key { scope, word };
-        if self.is_taken(&key) || self.table.declared(scope, identifier).is_some() {
-            let line = identifier.token.line;
-            return Err(NameFault::Collides { line });
+        free(identifier, self.taken_by(Word::new(identifier.name())))?;
+        match self.table().declared(self.scope, identifier) {
+            Some(number) => free(identifier, declared_at(self.table(), number)),
+            None => Ok(()),
         }
-        Ok(())
+    }
+
+    /// The scope of what an identifier was declared as.
+    pub fn scope_of(&self, identifier: Leaf<'a>) -> usize
+        ensures is { result ≡ scope_of self.now.entries self.now.scope identifier.entry }
+        ensures there { result ≤ length self.now.entries }
+    {
+        self.table().scope_of(self.scope, identifier)
+    }
+
+    /// Enters the scope of what an identifier was declared as.
+    pub fn enter(&mut self, identifier: Leaf<'a>)
+        ensures { self.new ≡ record self.old { scope = scope_of self.old.entries self.old.scope identifier.entry } }
+    {
+        self.scope = self.scope_of(identifier);
+    }
+
+    /// Leaves the scope for the one around it.
+    pub fn leave(&mut self)
+        ensures { self.new ≡ record self.old { scope = around_of self.old.entries self.old.scope } }
+    {
+        self.scope = self.table().around(self.scope);
     }
 
     /// That a scope has no definition yet.
     ///
     /// # Errors
     ///
-    /// `Collides`, with the line.
-    pub fn is_undefined(&self, scope: usize, line: usize) -> Result<(), NameFault>
-        ensures { Checks result (undefined_test self.now scope line) }
+    /// `Collides`, at the identifier of the definition.
+    pub fn is_undefined(&self, scope: usize, identifier: Leaf<'a>) -> Result<(), NameFault>
+        ensures { Checks result (undefined_test self.now scope identifier.entry) }
     {
-        if self.defined.contains(&scope) {
-            return Err(NameFault::Collides { line });
+        if !self.defined.contains(&scope) {
+            return Ok(());
         }
-        Ok(())
+        Err(NameFault::Collides {
+            at: At::leaf(&identifier),
+            other: match scope.checked_sub(1) {
+                Some(number) => declared_at(self.table(), number),
+                None => None,
+            },
+        })
     }
 
-    /// Notes that a scope is defined.
-    ///
-    /// # Errors
-    ///
-    /// `NoMemory`.
-    pub fn mark_defined(&mut self, scope: usize) -> Result<(), NameFault>
-        ensures told { Tells result self.new (Ok (with_defined self.old scope)) }
-        ensures same { self.new.entries ≡ self.old.entries }
-    {
-        self.defined.insert(scope)?;
-        Ok(())
-    }
-
-    /// Notes the definition of a scope.
+    /// Notes the definition of the scope.
     ///
     /// # Errors
     ///
     /// `Collides` where it was defined before, or `NoMemory`.
-    pub fn define(&mut self, scope: usize, line: usize) -> Result<(), NameFault>
-        ensures told { Tells result self.new (defined self.old scope line) }
-        ensures same { self.new.entries ≡ self.old.entries }
+    pub fn define(&mut self, identifier: Leaf<'a>) -> Result<(), NameFault>
+        ensures { Tells result self.new (defined_here self.old identifier.entry) }
     {
-        self.is_undefined(scope, line)?;
-        self.mark_defined(scope)
+        self.is_undefined(self.scope, identifier)?;
+        self.defined.insert(self.scope)?;
+        Ok(())
     }
 
-    /// Notes a member of a scope, which no search finds.
+    /// Notes a member of the scope, which no search finds.
     ///
     /// # Errors
     ///
     /// `Collides` where the scope has the name already, or `NoMemory`.
-    pub fn add_member(&mut self, scope: usize, identifier: Leaf<'a>) -> Result<(), NameFault>
-        ensures told { Tells result self.new (member_added self.old scope identifier.entry) }
-        ensures same { self.new.entries ≡ self.old.entries }
+    pub fn add_member(&mut self, identifier: Leaf<'a>) -> Result<(), NameFault>
+        ensures { Tells result self.new (member_added self.old identifier.entry) }
     {
-        self.is_new(scope, identifier)?;
-        let word = Word {
-            text: identifier.name(),
+        self.is_new(identifier)?;
+        let key = Key {
+            scope: self.scope,
+            word: Word::new(identifier.name()),
         };
-        let key = Key { scope, word };
-        self.members.insert(key)?;
+        self.members.push(key, At::leaf(&identifier))?;
         Ok(())
     }
 
-    /// Whether a scope inherits an operation or attribute of the name.
+    /// That the scope inherits no operation or attribute of the name.
     ///
     /// # Errors
     ///
-    /// `NoMemory` where it was refused before.
-    pub fn inherits_feature(&self, scope: usize, identifier: Leaf<'a>) -> Result<bool, NameFault>
-        ensures told { IfOk result (λ r. r ≡ is_something (inherited (features_of self.now.entries) identifier.entry.number scope (word identifier.entry))) }
-        ensures memory { IfErr result (λ fault. fault ≡ NoMemory) }
+    /// `Collides`, at the identifier, or `NoMemory`.
+    pub fn inherits_none(&self, identifier: Leaf<'a>) -> Result<(), NameFault>
+        ensures { Checks result (free_of self.now.entries identifier.entry
+            (inherited (features_of self.now.entries) identifier.entry.number self.now.scope (word identifier.entry))) }
     {
-        if self.is_spoilt {
-            return Err(NameFault::NoMemory);
+        let word = Word::new(identifier.name());
+        let at = At::leaf(&identifier);
+        match self.tables.inherited(identifier.number, self.scope, word)? {
+            Found::Nothing => Ok(()),
+            Found::One(entry) => Err(NameFault::Collides {
+                at,
+                other: declared_at(self.table(), entry),
+            }),
+            Found::Several => Err(NameFault::Collides { at, other: None }),
         }
-        let token = identifier.number;
-        Ok(self.features.inherits(token, scope, identifier.name()))
     }
 
     /// A prefix that holds from here on, in the file's scope.
     ///
     /// # Errors
     ///
-    /// `PrefixInScope`, with the line, in another scope.
-    pub fn set_prefix(&mut self, scope: usize, text: &'a str, line: usize) -> Result<(), NameFault>
-        ensures told { Tells result self.new (prefix_read self.old scope text.entry.now line) }
-        ensures same { self.new.entries ≡ self.old.entries }
+    /// `PrefixInScope`, at the pragma, in another scope.
+    pub fn set_prefix(&mut self, text: &'a str, at: At) -> Result<(), NameFault>
+        ensures { Tells result self.new (prefix_set self.old self.old.scope text.entry.now at) }
     {
-        if scope > 0 {
-            return Err(NameFault::PrefixInScope { line });
+        if self.scope > 0 {
+            return Err(NameFault::PrefixInScope { at });
         }
         self.prefix = text;
         Ok(())
-    }
-
-    /// Gives an interface one more base, which has to be an interface that was defined, and to have
-    /// no other operation or attribute of a name of those before.
-    ///
-    /// # Errors
-    ///
-    /// `BadBase` with the line, or `NoMemory`.
-    pub fn add_base(
-        &mut self,
-        alloc: Global,
-        inner: usize,
-        base: Base,
-        line: usize,
-    ) -> Result<(), NameFault>
-        requires inner { inner ≤ length self.old.entries }
-        requires placed { base.entry < length self.old.entries }
-        ensures told { Tells result self.new (base_added self.old inner base line) }
-        ensures longer { length self.old.entries ≤ length self.new.entries }
-    {
-        if !self.may_be_base(alloc, inner, base)? {
-            return Err(NameFault::BadBase { line });
-        }
-        self.push_base(alloc, inner, base)
-    }
-
-    /// Puts a base behind those that an interface has.
-    fn push_base(&mut self, alloc: Global, inner: usize, base: Base) -> Result<(), NameFault>
-        requires inner { inner ≤ length self.old.entries }
-        requires placed { base.entry < length self.old.entries }
-        ensures told { Tells result self.new (Ok (based self.old inner base)) }
-        ensures longer { length self.old.entries ≤ length self.new.entries }
-    {
-        if self.is_spoilt {
-            return Err(NameFault::NoMemory);
-        }
-        self.is_spoilt = true;
-        let scope = base.entry.saturating_add(1);
-        self.features.shorten(alloc, scope)?;
-        self.features.add_base(alloc, inner, base)?;
-        self.table.shorten(alloc, scope)?;
-        self.table.add_base(alloc, inner, base)?;
-        self.is_spoilt = false;
-        Ok(())
-    }
-
-    /// Whether an interface that is defined is no base yet, and has no other operation or attribute
-    /// of a name of those before.
-    fn may_be_base(&self, alloc: Global, inner: usize, base: Base) -> Result<bool, NameFault>
-        requires { base.entry < length self.now.entries }
-        ensures told { IfOk result (λ r. r ≡ may_be_base self.now inner base) }
-        ensures memory { IfErr result (λ fault. fault ≡ NoMemory) }
-    {
-        if self.is_spoilt {
-            return Err(NameFault::NoMemory);
-        }
-        if !self.is_defined_interface(base.entry) || self.table.has_base(inner, base.entry) {
-            return Ok(false);
-        }
-        Ok(!self.features.differ(alloc, inner, base)?)
     }
 
     fn is_defined_interface(&self, entry: usize) -> bool
         requires { entry < length self.now.entries }
         ensures { result ≡ is_defined_interface self.now entry }
     {
-        let _count = self.table.len();
-        self.table.kind(entry).is_interface() && self.defined.contains(&(entry + 1))
+        let _count = self.table().len();
+        is_interface(self.table().kind(entry)) && self.defined.contains(&(entry + 1))
+    }
+
+    /// That an entry is an interface that is defined, is no base yet, and has no other operation or
+    /// attribute of a name of those before.
+    fn may_be_base(&self, alloc: Global, inner: usize, base: Base, at: At) -> Result<(), NameFault>
+        requires placed { base.entry < length self.now.entries }
+        requires late { latest self.now.entries < base.token }
+        ensures { Checks result (base_test self.now inner base at) }
+    {
+        let why = if !self.is_defined_interface(base.entry) {
+            Unfit::NotDefined
+        } else if self.table().has_base(inner, base.entry) {
+            Unfit::NamedTwice
+        } else if self.tables.differ(alloc, inner, base)? {
+            Unfit::FeatureTwice
+        } else {
+            return Ok(());
+        };
+        Err(NameFault::BadBase { at, why })
+    }
+
+    /// Gives an interface one more base.
+    ///
+    /// # Errors
+    ///
+    /// `BadBase` at the base's name, or `NoMemory`.
+    pub fn add_base(
+        &mut self,
+        alloc: Global,
+        inner: usize,
+        base: Base,
+        at: At,
+    ) -> Result<(), NameFault>
+        requires inner { inner ≤ length self.old.entries }
+        requires placed { base.entry < length self.old.entries }
+        requires late { latest self.old.entries < base.token }
+        ensures { Tells result self.new (base_test self.old inner base at >> λ u. Ok (based self.old inner base)) }
+    {
+        self.may_be_base(alloc, inner, base, at)?;
+        self.tables.add_base(alloc, inner, base)?;
+        Ok(())
     }
 
     /// Whether it is a structure or a union that was declared ahead and isn't defined.
@@ -419,39 +410,27 @@ impl<'a> Reader<'a> {
         requires { number < length self.now.entries }
         ensures { IfSome (slice_get self.now.entries number) (λ e. result ≡ is_left_open self.now number e) }
     {
-        let _count = self.table.len();
-        self.table.kind(number).has_body() && !self.defined.contains(&(number + 1))
+        let _count = self.table().len();
+        has_body(self.table().kind(number)) && !self.defined.contains(&(number + 1))
     }
 
     /// That each structure and union that is declared ahead is defined.
     ///
     /// # Errors
     ///
-    /// `Unknown` with the line of the first declaration.
+    /// `Unknown` at the first declaration.
     pub fn all_defined(&self) -> Result<(), NameFault>
-        ensures { Checks result (defined_from self.now 0 self.now.entries) }
+        ensures { Checks result (never_defined (left_open self.now 0 self.now.entries)) }
     {
-        for number in 0..self.table.len() {
+        for number in 0..self.table().len() {
             if self.is_left_open(number) {
-                return Err(NameFault::Unknown {
-                    line: self.table.line(number),
-                });
+                return match declared_at(self.table(), number) {
+                    Some(at) => Err(NameFault::Unknown { at }),
+                    None => Ok(()),
+                };
             }
         }
         Ok(())
-    }
-
-    /// A whole specification.
-    ///
-    /// # Errors
-    ///
-    /// The first fault; what was declared ahead and never defined comes last.
-    pub fn read(&mut self, alloc: Global, definitions: &[Definition<'a>]) -> Result<(), NameFault>
-        requires { length (flat_map definition_yield definitions.now) < 2 ^ 63 }
-        ensures { Tells result self.new (all_read self.old definitions.now) }
-    {
-        self.bind_definitions(alloc, 0, definitions)?;
-        self.all_defined()
     }
 
     /// The names that were read.
@@ -459,7 +438,8 @@ impl<'a> Reader<'a> {
         ensures is { result ≡ whole self.entry }
         ensures distinct { AreDistinct result.entries }
     {
-        let Reader { table, ids, .. } = self;
+        let Reader { tables, ids, .. } = self;
+        let table = tables.into_all();
         let _count = table.len();
         Names { table, ids }
     }

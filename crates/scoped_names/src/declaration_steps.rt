@@ -1,0 +1,286 @@
+//! The steps of declarations, operations, interfaces and modules.
+
+ghost use Rattle.std.specs.Prelude.{◌≡◌, ◌++◌, ◌∷◌, map, OnOk};
+ghost use Rattle.std.specs.List.{flat_map};
+ghost use Rattle.idl_tree.specs.Lists.{parts};
+ghost use Rattle.scoped_names.specs.Steps.{attribute_steps, attributes_steps, const_steps, declaration_steps, definition_steps, except_steps, export_steps, interface_steps, operation_steps, optional_parts, param_steps, raises_steps, result_steps, steps_of, type_dcl_steps, typedef_steps, DeclaresFeature as FeatureStep, HasBase as BaseStep};
+
+use crate::step::{Step, Steps};
+use idl_tree::definitions::{
+    Attribute, Attributes, Const, Declaration, Definition, Except, Export, Interface, Operation,
+    Param, TypeDcl,
+};
+use idl_tree::names::{Leaf, Listed, ScopedName};
+use idl_tree::types::{Declarator, ParamType, TypeSpec};
+use name_table::EntryKind;
+use std::alloc::AllocError;
+
+impl<'t, 'a> Steps<'t, 'a> {
+    fn add_typedef(
+        &mut self,
+        original: &'t TypeSpec<'a>,
+        declarator: &'t Declarator<'a>,
+    ) -> Result<(), AllocError>
+        ensures { OnOk result (self.new ≡ self.old ++ typedef_steps original.now declarator.now) }
+    {
+        self.push(Step::DeclaresTypedef(original, declarator))?;
+        self.add_sizes(declarator.sizes.as_slice())
+    }
+
+    fn add_typedefs(
+        &mut self,
+        original: &'t TypeSpec<'a>,
+        declarators: &'t Listed<Declarator<'a>>,
+    ) -> Result<(), AllocError>
+        ensures { OnOk result (self.new ≡ self.old ++ flat_map (typedef_steps original.now) (parts declarators.now)) }
+    {
+        for declarator in declarators.iter() {
+            self.add_typedef(original, declarator)?;
+        }
+        Ok(())
+    }
+
+    fn add_type_dcl(&mut self, t: &'t TypeDcl<'a>) -> Result<(), AllocError>
+        ensures { OnOk result (self.new ≡ self.old ++ type_dcl_steps t.now) }
+    {
+        match t {
+            TypeDcl::Typedef {
+                original,
+                declarators,
+            } => {
+                self.add_type(original)?;
+                self.add_typedefs(original, declarators)
+            }
+            TypeDcl::Struct(s) => self.add_struct(s),
+            TypeDcl::Union(u) => self.add_union(u),
+            TypeDcl::Enum(e) => self.add_enum(e),
+            TypeDcl::StructAhead(id) => self.push(Step::Declares(EntryKind::Struct, *id)),
+            TypeDcl::UnionAhead(id) => self.push(Step::Declares(EntryKind::Union, *id)),
+        }
+    }
+
+    fn add_const(&mut self, c: &'t Const<'a>) -> Result<(), AllocError>
+        ensures { OnOk result (self.new ≡ self.old ++ const_steps c.now) }
+    {
+        self.add_const_type(&c.const_type)?;
+        self.push(Step::IsNew(c.identifier))?;
+        self.push(Step::DeclaresConst(c))
+    }
+
+    fn add_except(&mut self, e: &'t Except<'a>) -> Result<(), AllocError>
+        ensures { OnOk result (self.new ≡ self.old ++ except_steps e.now) }
+    {
+        self.push(Step::Declares(EntryKind::Exception, e.identifier))?;
+        self.push(Step::Enters(e.identifier))?;
+        for member in &e.members {
+            self.add_member(member)?;
+        }
+        self.push(Step::Leaves)
+    }
+
+    fn add_declaration(&mut self, d: &'t Declaration<'a>) -> Result<(), AllocError>
+        ensures { OnOk result (self.new ≡ self.old ++ declaration_steps d.now) }
+    {
+        match d {
+            Declaration::TypeDcl(t) => self.add_type_dcl(t),
+            Declaration::Const(c) => self.add_const(c),
+            Declaration::Except(e) => self.add_except(e),
+        }
+    }
+
+    fn add_raises(&mut self, names: &'t Listed<ScopedName<'a>>) -> Result<(), AllocError>
+        ensures { OnOk result (self.new ≡ self.old ++ raises_steps (parts names.now)) }
+    {
+        for name in names.iter() {
+            self.push(Step::NamesException(name))?;
+        }
+        Ok(())
+    }
+
+    fn add_optional_raises(
+        &mut self,
+        names: &'t Option<Listed<ScopedName<'a>>>,
+    ) -> Result<(), AllocError>
+        ensures { OnOk result (self.new ≡ self.old ++ raises_steps (optional_parts names.now)) }
+    {
+        match names {
+            Some(names) => self.add_raises(names),
+            None => Ok(()),
+        }
+    }
+
+    /// Attributes that raise nothing.
+    fn add_silent(&mut self, identifiers: &'t Listed<Leaf<'a>>) -> Result<(), AllocError>
+        ensures { OnOk result (self.new ≡ self.old ++ map (FeatureStep EntryKind.Attribute) (parts identifiers.now)) }
+    {
+        for identifier in identifiers.iter() {
+            self.push(Step::DeclaresFeature(EntryKind::Attribute, *identifier))?;
+        }
+        Ok(())
+    }
+
+    fn add_attributes(&mut self, attributes: &'t Attributes<'a>) -> Result<(), AllocError>
+        ensures { OnOk result (self.new ≡ self.old ++ attributes_steps attributes.now) }
+    {
+        match attributes {
+            Attributes::Silent { identifiers, .. } => self.add_silent(identifiers),
+            Attributes::Readonly {
+                identifier,
+                raises: names,
+            }
+            | Attributes::Set {
+                identifier,
+                set: names,
+            } => {
+                self.push(Step::DeclaresFeature(EntryKind::Attribute, *identifier))?;
+                self.add_raises(names)
+            }
+            Attributes::Get {
+                identifier,
+                get,
+                set,
+            } => {
+                self.push(Step::DeclaresFeature(EntryKind::Attribute, *identifier))?;
+                self.add_raises(get)?;
+                self.add_optional_raises(set)
+            }
+        }
+    }
+
+    fn add_attribute(&mut self, a: &'t Attribute<'a>) -> Result<(), AllocError>
+        ensures { OnOk result (self.new ≡ self.old ++ attribute_steps a.now) }
+    {
+        self.add_param_type(&a.attribute_type)?;
+        self.add_attributes(&a.declared)
+    }
+
+    /// A parameter of the operation that has the identifier.
+    fn add_param(&mut self, identifier: Leaf<'a>, param: &'t Param<'a>) -> Result<(), AllocError>
+        ensures { OnOk result (self.new ≡ self.old ++ param_steps identifier param.now) }
+    {
+        self.add_param_type(&param.param_type)?;
+        self.push(Step::Enters(identifier))?;
+        self.push(Step::HasMember(param.identifier))?;
+        self.push(Step::Leaves)
+    }
+
+    fn add_params(
+        &mut self,
+        identifier: Leaf<'a>,
+        params: &'t Option<Listed<Param<'a>>>,
+    ) -> Result<(), AllocError>
+        ensures { OnOk result (self.new ≡ self.old ++ flat_map (param_steps identifier) (optional_parts params.now)) }
+    {
+        let Some(params) = params else {
+            return Ok(());
+        };
+        for param in params.iter() {
+            self.add_param(identifier, param)?;
+        }
+        Ok(())
+    }
+
+    fn add_result(&mut self, t: &'t Option<ParamType<'a>>) -> Result<(), AllocError>
+        ensures { OnOk result (self.new ≡ self.old ++ result_steps t.now) }
+    {
+        match t {
+            Some(t) => self.add_param_type(t),
+            None => Ok(()),
+        }
+    }
+
+    fn add_operation(&mut self, o: &'t Operation<'a>) -> Result<(), AllocError>
+        ensures { OnOk result (self.new ≡ self.old ++ operation_steps o.now) }
+    {
+        self.add_result(&o.result_type)?;
+        self.push(Step::DeclaresFeature(EntryKind::Operation, o.identifier))?;
+        self.add_params(o.identifier, &o.params)?;
+        self.add_optional_raises(&o.raises)
+    }
+
+    fn add_export(&mut self, export: &'t Export<'a>) -> Result<(), AllocError>
+        ensures { OnOk result (self.new ≡ self.old ++ export_steps export.now) }
+    {
+        match export {
+            Export::Pragma(leaf) => self.push(Step::Says(*leaf)),
+            Export::Declaration(d) => self.add_declaration(d),
+            Export::Attribute(a) => self.add_attribute(a),
+            Export::Operation(o) => self.add_operation(o),
+        }
+    }
+
+    /// The bases of the interface that has the identifier.
+    fn add_bases(
+        &mut self,
+        identifier: Leaf<'a>,
+        names: &'t Option<Listed<ScopedName<'a>>>,
+    ) -> Result<(), AllocError>
+        ensures { OnOk result (self.new ≡ self.old ++ map (BaseStep identifier) (optional_parts names.now)) }
+    {
+        let Some(names) = names else {
+            return Ok(());
+        };
+        for name in names.iter() {
+            self.push(Step::HasBase(identifier, name))?;
+        }
+        Ok(())
+    }
+
+    fn add_exports(&mut self, exports: &'t [Export<'a>]) -> Result<(), AllocError>
+        ensures { OnOk result (self.new ≡ self.old ++ flat_map export_steps exports.now) }
+    {
+        for export in exports {
+            self.add_export(export)?;
+        }
+        Ok(())
+    }
+
+    fn add_interface(&mut self, i: &'t Interface<'a>) -> Result<(), AllocError>
+        ensures { OnOk result (self.new ≡ self.old ++ interface_steps i.now) }
+    {
+        match i {
+            Interface::Ahead(id) => self.push(Step::Declares(EntryKind::Interface, *id)),
+            Interface::Defined {
+                identifier,
+                bases,
+                exports,
+            } => {
+                self.push(Step::Declares(EntryKind::Interface, *identifier))?;
+                self.push(Step::IsUndefined(*identifier))?;
+                self.add_bases(*identifier, bases)?;
+                self.push(Step::Enters(*identifier))?;
+                self.push(Step::Defines(*identifier))?;
+                self.add_exports(exports.as_slice())?;
+                self.push(Step::Leaves)
+            }
+        }
+    }
+
+    #[cycle(definitions)]
+    fn add_definition(&mut self, d: &'t Definition<'a>) -> Result<(), AllocError>
+        ensures { OnOk result (self.new ≡ self.old ++ definition_steps d.now) }
+    {
+        match d {
+            Definition::Pragma(leaf) => self.push(Step::Says(*leaf)),
+            Definition::Declaration(d) => self.add_declaration(d),
+            Definition::Interface(i) => self.add_interface(i),
+            Definition::Module(m) => {
+                self.push(Step::Declares(EntryKind::Module, m.identifier))?;
+                self.push(Step::Enters(m.identifier))?;
+                self.add_definitions(m.definitions.as_slice())?;
+                self.push(Step::Leaves)
+            }
+        }
+    }
+
+    /// Definitions one behind another.
+    #[cycle(definitions)]
+    pub fn add_definitions(&mut self, definitions: &'t [Definition<'a>]) -> Result<(), AllocError>
+        ensures { OnOk result (self.new ≡ self.old ++ steps_of definitions.now) }
+    {
+        for definition in definitions {
+            self.add_definition(definition)?;
+        }
+        Ok(())
+    }
+}

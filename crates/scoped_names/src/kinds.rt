@@ -1,0 +1,98 @@
+//! The types of constants that types are in the end.
+
+ghost use Rattle.std.specs.Prelude.{◌≡◌, ◌≤◌, length, IfErr, IfOk};
+ghost use Rattle.scoped_names.specs.TypeKinds.{const_type_kind as const_kind_of, param_type_kind as param_kind_of, simple_type_kind as simple_kind_of, string_kind as string_kind_of};
+ghost use Rattle.scoped_names.specs.declared.fault.NameFault.TheVariants.{NoMemory};
+
+use crate::evaluation::{resolve, size};
+use crate::fault::NameFault;
+use const_values::ConstKind;
+use idl_tree::const_expr::Bound;
+use idl_tree::types::{ConstType, ParamType, SimpleType};
+use name_table::Table;
+use std::alloc::Global;
+
+fn string_kind<'a>(
+    table: &Table<'a>,
+    alloc: Global,
+    scope: usize,
+    bound: &Option<Bound<'a>>,
+) -> Result<ConstKind, NameFault>
+    requires { scope ≤ length table.now }
+    ensures kind { IfOk result (λ kind. kind ≡ string_kind_of table.now scope bound.now) }
+    ensures memory { IfErr result (λ fault. fault ≡ NoMemory) }
+{
+    let Some(bound) = bound else {
+        return Ok(ConstKind::String(None));
+    };
+    match size(table, alloc, scope, &bound.expr) {
+        Ok(most) => Ok(ConstKind::String(Some(most))),
+        Err(NameFault::NoMemory) => Err(NameFault::NoMemory),
+        Err(_) => Ok(ConstKind::String(None)),
+    }
+}
+
+/// The type of constants that the type of a constant is in the end.
+///
+/// # Errors
+///
+/// `NoMemory`.
+pub(crate) fn const_type_kind<'a>(
+    table: &Table<'a>,
+    alloc: Global,
+    scope: usize,
+    t: &ConstType<'a>,
+) -> Result<Option<ConstKind>, NameFault>
+    requires { scope ≤ length table.now }
+    ensures kind { IfOk result (λ kind. kind ≡ const_kind_of table.now scope t.now) }
+    ensures memory { IfErr result (λ fault. fault ≡ NoMemory) }
+{
+    Ok(match t {
+        ConstType::Integer(integer) => Some(ConstKind::Integer(*integer)),
+        ConstType::Char => Some(ConstKind::Char),
+        ConstType::Boolean => Some(ConstKind::Boolean),
+        ConstType::Octet => Some(ConstKind::Octet),
+        ConstType::String(bound) => Some(string_kind(table, alloc, scope, bound)?),
+        ConstType::Name(name) => match resolve(table, scope, name) {
+            Ok(entry) => table.stands_for(entry),
+            Err(_) => None,
+        },
+    })
+}
+
+fn param_type_kind<'a>(
+    table: &Table<'a>,
+    alloc: Global,
+    scope: usize,
+    t: &ParamType<'a>,
+) -> Result<Option<ConstKind>, NameFault>
+    requires { scope ≤ length table.now }
+    ensures kind { IfOk result (λ kind. kind ≡ param_kind_of table.now scope t.now) }
+    ensures memory { IfErr result (λ fault. fault ≡ NoMemory) }
+{
+    match t {
+        ParamType::Plain(plain) => const_type_kind(table, alloc, scope, plain),
+        ParamType::Object => Ok(None),
+    }
+}
+
+/// The same of a type that declares nothing.
+///
+/// # Errors
+///
+/// `NoMemory`.
+pub(crate) fn simple_type_kind<'a>(
+    table: &Table<'a>,
+    alloc: Global,
+    scope: usize,
+    t: &SimpleType<'a>,
+) -> Result<Option<ConstKind>, NameFault>
+    requires { scope ≤ length table.now }
+    ensures kind { IfOk result (λ kind. kind ≡ simple_kind_of table.now scope t.now) }
+    ensures memory { IfErr result (λ fault. fault ≡ NoMemory) }
+{
+    match t {
+        SimpleType::Plain(plain) => param_type_kind(table, alloc, scope, plain),
+        SimpleType::Sequence { .. } => Ok(None),
+    }
+}

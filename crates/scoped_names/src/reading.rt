@@ -1,0 +1,295 @@
+//! Reading a specification step by step.
+
+ghost use Rattle.std.specs.Prelude.{◌≡◌, ◌<◌, ◌≤◌, ◌^◌, length, map, IfErr, IfOk, Some, Ok};
+ghost use Rattle.name_table.specs.Entries.{latest};
+ghost use Rattle.scoped_names.specs.Faults.{base_added, const_declared, enum_declared, enumerator_declared, feature_declared, said_read, step_read, steps_read, test_of, type_kind, typedef_declared};
+ghost use Rattle.scoped_names.specs.IdPragmas.{Gives as GivesTo, said_by};
+ghost use Rattle.scoped_names.specs.IdsKept.{given_of};
+ghost use Rattle.scoped_names.specs.Meanings.{const_end};
+ghost use Rattle.scoped_names.specs.Reading.{Checks, Tells};
+ghost use Rattle.scoped_names.specs.Rising.{Follows, Rises};
+ghost use Rattle.scoped_names.specs.StepsKept.{step_of};
+ghost use Rattle.scoped_names.specs.Tests.{is_exception, is_type, raised_test, type_name_test};
+ghost use Rattle.scoped_names.specs.declared.fault.NameFault.TheVariants.{NoMemory};
+ghost use Rattle.idl_tree.specs.Starts.{name_start};
+
+use crate::evaluation::{found_at, resolve, size, value, value_of_kind};
+use crate::fault::{At, NameFault};
+use crate::kinds::{const_type_kind, simple_type_kind};
+use crate::reader::Reader;
+use crate::repository_ids::PragmaId;
+use crate::step::Step;
+use const_values::{ConstKind, Constant};
+use idl_lexer::{Kind, Pragma};
+use idl_tree::definitions::Const;
+use idl_tree::names::{Leaf, ScopedName};
+use idl_tree::types::{Declarator, TypeSpec};
+use name_table::{Base, EntryKind, Meaning};
+use std::alloc::Global;
+
+/// What may stand for a type.
+fn is_type(kind: EntryKind) -> bool
+    ensures { result ≡ is_type kind }
+{
+    match kind {
+        EntryKind::Interface
+        | EntryKind::Struct
+        | EntryKind::Union
+        | EntryKind::Enum
+        | EntryKind::Typedef => true,
+        _ => false,
+    }
+}
+
+fn is_exception(kind: EntryKind) -> bool
+    ensures { result ≡ is_exception kind }
+{
+    match kind {
+        EntryKind::Exception => true,
+        _ => false,
+    }
+}
+
+impl<'a> Reader<'a> {
+    fn declare_enum(&mut self, alloc: Global, identifier: Leaf<'a>) -> Result<(), NameFault>
+        requires { latest self.old.entries ≤ identifier.number }
+        ensures { Tells result self.new (enum_declared self.old identifier.entry) }
+    {
+        let number = self.table().len();
+        let meaning = Meaning {
+            token: identifier.number,
+            kind: EntryKind::Enum,
+            worth: None,
+            stands_for: Some(ConstKind::Enum(number)),
+        };
+        self.declare_as(alloc, identifier, meaning)?;
+        self.begin_enumeration(number);
+        Ok(())
+    }
+
+    fn declare_enumerator(&mut self, alloc: Global, identifier: Leaf<'a>) -> Result<(), NameFault>
+        requires { latest self.old.entries ≤ identifier.number }
+        ensures { Tells result self.new (enumerator_declared self.old identifier.entry) }
+    {
+        let meaning = Meaning {
+            token: identifier.number,
+            kind: EntryKind::Enumerator,
+            worth: Some(Constant::Enumerator {
+                enumerator: self.table().len(),
+                owner: self.enumeration(),
+            }),
+            stands_for: None,
+        };
+        self.declare_as(alloc, identifier, meaning)
+    }
+
+    /// The type of constants that a type is in the end that was read, if it is one.
+    fn type_kind(&self, alloc: Global, t: &TypeSpec<'a>) -> Result<Option<ConstKind>, NameFault>
+        ensures told { IfOk result (λ kind. kind ≡ type_kind self.now t.now) }
+        ensures memory { IfErr result (λ fault. fault ≡ NoMemory) }
+    {
+        match t {
+            TypeSpec::Simple(simple) => simple_type_kind(self.table(), alloc, self.scope(), simple),
+            TypeSpec::Struct(_) | TypeSpec::Union(_) => Ok(None),
+            TypeSpec::Enum(_) => Ok(Some(ConstKind::Enum(self.enumeration()))),
+        }
+    }
+
+    fn declare_typedef(
+        &mut self,
+        alloc: Global,
+        original: &TypeSpec<'a>,
+        declarator: &Declarator<'a>,
+    ) -> Result<(), NameFault>
+        requires { latest self.old.entries ≤ declarator.now.identifier.number }
+        ensures { Tells result self.new (typedef_declared self.old original.now declarator.now) }
+    {
+        let kind = self.type_kind(alloc, original)?;
+        let is_array = declarator.sizes.len() > 0;
+        let meaning = Meaning {
+            token: declarator.identifier.number,
+            kind: EntryKind::Typedef,
+            worth: None,
+            stands_for: if is_array { None } else { kind },
+        };
+        self.declare_as(alloc, declarator.identifier, meaning)
+    }
+
+    /// A constant, which is found from its end on.
+    fn declare_const(&mut self, alloc: Global, c: &Const<'a>) -> Result<(), NameFault>
+        requires late { latest self.old.entries ≤ c.now.identifier.number }
+        requires small { const_end c.now < 2 ^ 63 }
+        ensures { Tells result self.new (const_declared self.old c.now) }
+    {
+        let kind = const_type_kind(self.table(), alloc, self.scope(), &c.const_type)?;
+        let worth = value_of_kind(self.table(), alloc, self.scope(), kind, &c.value.expr)?;
+        let meaning = Meaning {
+            token: c.identifier.number + 2 + c.value.expr.token_count(),
+            kind: EntryKind::Const,
+            worth: Some(worth),
+            stands_for: None,
+        };
+        self.declare_as(alloc, c.identifier, meaning)
+    }
+
+    /// An operation or attribute, which may not repeat an inherited one.
+    fn declare_feature(
+        &mut self,
+        alloc: Global,
+        identifier: Leaf<'a>,
+        kind: EntryKind,
+    ) -> Result<(), NameFault>
+        requires { latest self.old.entries ≤ identifier.number }
+        ensures { Tells result self.new (feature_declared kind self.old identifier.entry) }
+    {
+        self.inherits_none(identifier)?;
+        self.declare(alloc, identifier, kind)
+    }
+
+    /// A base of the interface that has the scope.
+    fn read_base(
+        &mut self,
+        alloc: Global,
+        inner: usize,
+        name: &ScopedName<'a>,
+    ) -> Result<(), NameFault>
+        requires inner { inner ≤ length self.old.entries }
+        requires late { latest self.old.entries < (name_start name.now).number }
+        ensures { Tells result self.new (base_added self.old inner name.now) }
+    {
+        let entry = resolve(self.table(), self.scope(), name)?;
+        let start = name.start();
+        let base = Base {
+            token: start.number,
+            entry,
+        };
+        self.add_base(alloc, inner, base, At::leaf(&start))
+    }
+
+    /// That a name is one of a type.
+    fn names_type(&self, name: &ScopedName<'a>) -> Result<(), NameFault>
+        ensures { Checks result (type_name_test self.now.entries self.now.scope name.now) }
+    {
+        let entry = resolve(self.table(), self.scope(), name)?;
+        let kind = self.table().kind(entry);
+        if is_type(kind) {
+            return Ok(());
+        }
+        Err(NameFault::NotAType {
+            at: At::leaf(&name.start()),
+            found: Some(kind),
+        })
+    }
+
+    /// That a name is one of an exception.
+    fn names_exception(&self, name: &ScopedName<'a>) -> Result<(), NameFault>
+        ensures { Checks result (raised_test self.now.entries self.now.scope name.now) }
+    {
+        let entry = resolve(self.table(), self.scope(), name)?;
+        let kind = self.table().kind(entry);
+        if is_exception(kind) {
+            return Ok(());
+        }
+        Err(NameFault::NotAType {
+            at: At::leaf(&name.start()),
+            found: Some(kind),
+        })
+    }
+
+    /// Gives an id or a version to what a name finds in the pragma of the leaf.
+    fn give_name(
+        &mut self,
+        leaf: &Leaf<'a>,
+        name: &'a str,
+        given: PragmaId<'a>,
+    ) -> Result<(), NameFault>
+        ensures { Tells result self.new (said_read self.old leaf.now (Some (GivesTo name.entry.now (given_of given.entry)))) }
+    {
+        let at = At::leaf(leaf);
+        let seen = self.table().look_for_words(leaf.number, self.scope(), name);
+        let entry = found_at(self.table(), at, seen)?;
+        self.ids.give(entry, given, at)
+    }
+
+    /// A pragma. A prefix is set in the file's scope alone.
+    fn read_pragma(&mut self, leaf: &Leaf<'a>) -> Result<(), NameFault>
+        ensures { Tells result self.new (said_read self.old leaf.now (said_by leaf.now)) }
+    {
+        match leaf.token.kind {
+            Kind::Pragma => match leaf.pragma() {
+                Pragma::Prefix { text } => self.set_prefix(text, At::leaf(leaf)),
+                Pragma::Id { name, text } => self.give_name(leaf, name, PragmaId::Whole(text)),
+                Pragma::Version { name, number } => {
+                    self.give_name(leaf, name, PragmaId::Version(number))
+                }
+            },
+            _ => Ok(()),
+        }
+    }
+
+    /// A step that asks something of what is known.
+    fn read_test(&self, alloc: Global, step: Step<'_, 'a>) -> Result<(), NameFault>
+        ensures { Checks result (test_of self.now (step_of step)) }
+    {
+        let (table, scope) = (self.table(), self.scope());
+        match step {
+            Step::IsNew(identifier) => self.is_new(identifier),
+            Step::IsUndefined(identifier) => {
+                self.is_undefined(self.scope_of(identifier), identifier)
+            }
+            Step::NamesType(name) => self.names_type(name),
+            Step::NamesException(name) => self.names_exception(name),
+            Step::HasWorth(expr) => {
+                value(table, alloc, scope, expr)?;
+                Ok(())
+            }
+            Step::IsSize(expr) => {
+                size(table, alloc, scope, expr)?;
+                Ok(())
+            }
+            _ => Ok(()),
+        }
+    }
+
+    /// One step.
+    fn read_step(&mut self, alloc: Global, step: Step<'_, 'a>) -> Result<(), NameFault>
+        requires { Follows (latest self.old.entries) (step_of step) }
+        ensures { Tells result self.new (step_read self.old (step_of step)) }
+    {
+        match step {
+            Step::Declares(kind, identifier) => self.declare(alloc, identifier, kind),
+            Step::DeclaresEnum(identifier) => self.declare_enum(alloc, identifier),
+            Step::DeclaresEnumerator(identifier) => self.declare_enumerator(alloc, identifier),
+            Step::DeclaresTypedef(original, d) => self.declare_typedef(alloc, original, d),
+            Step::DeclaresConst(c) => self.declare_const(alloc, c),
+            Step::DeclaresFeature(kind, id) => self.declare_feature(alloc, id, kind),
+            Step::HasMember(identifier) => self.add_member(identifier),
+            Step::HasBase(identifier, name) => {
+                let inner = self.scope_of(identifier);
+                self.read_base(alloc, inner, name)
+            }
+            Step::Defines(identifier) => self.define(identifier),
+            Step::Says(leaf) => self.read_pragma(&leaf),
+            Step::Enters(identifier) => {
+                self.enter(identifier);
+                Ok(())
+            }
+            Step::Leaves => {
+                self.leave();
+                Ok(())
+            }
+            test => self.read_test(alloc, test),
+        }
+    }
+
+    /// Steps one behind another.
+    pub fn read_steps(&mut self, alloc: Global, steps: &[Step<'_, 'a>]) -> Result<(), NameFault>
+        requires { Rises (latest self.old.entries) (map step_of steps.now) }
+        ensures { Tells result self.new (steps_read self.old (map step_of steps.now)) }
+    {
+        for step in steps {
+            self.read_step(alloc, *step)?;
+        }
+        Ok(())
+    }
+}

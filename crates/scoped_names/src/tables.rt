@@ -1,0 +1,132 @@
+//! What a specification declares, and apart from it the operations and attributes alone.
+
+ghost use Rattle.std.specs.Prelude.{◌≡◌, ◌<◌, ◌≤◌, ◌++◌, ◌∷◌, [], None, length, IfOk, OnOk};
+ghost use Rattle.name_table.specs.Entry.{named};
+ghost use Rattle.name_table.specs.Entries.{entry_declared, latest, with_base};
+ghost use Rattle.name_table.specs.Features.{differ as differ_by, features_of};
+ghost use Rattle.name_table.specs.Search.{inherited as inherited_by, word};
+
+use idl_tree::names::Leaf;
+use name_table::{Base, Found, Meaning, Record, Table, Word};
+use std::alloc::{AllocError, Global};
+use std::marker::Model;
+
+/// The entries, and the same entries once more, among which nothing but operations and attributes is
+/// found, so that no type hides one. A contract sees the entries.
+#[derive(Drop)]
+pub(crate) struct Tables<'a> {
+    all: Table<'a>,
+    features: Table<'a>,
+    /// Memory was refused between the two: they answer no more.
+    is_spoilt: bool,
+}
+
+impl<'a> Model for Tables<'a> {
+    ghost use Rattle.std.specs.Prelude.{List, ◌≡◌, false};
+    ghost use Rattle.name_table.specs.Entry.{Entry};
+    ghost use Rattle.name_table.specs.Features.{features_of};
+
+    ghost Value = { List Entry };
+
+    ghost view = { λ t. t.all };
+
+    ghost invariant = { λ t. t.is_spoilt ≡ false → t.features ≡ features_of t.all };
+}
+
+impl<'a> Tables<'a> {
+    /// No entries yet.
+    pub fn new(alloc: Global) -> Result<Self, AllocError>
+        ensures { IfOk result (λ t. t ≡ []) }
+    {
+        Ok(Tables {
+            all: Table::new(alloc)?,
+            features: Table::new(alloc)?,
+            is_spoilt: false,
+        })
+    }
+
+    /// All entries.
+    pub fn all(&self) -> &Table<'a>
+        ensures { result.now ≡ self.now }
+    {
+        &self.all
+    }
+
+    /// Gives all entries. Takes no memory.
+    pub fn into_all(self) -> Table<'a>
+        ensures { result ≡ self }
+    {
+        self.all
+    }
+
+    /// That memory was refused to neither so far.
+    fn whole(&self) -> Result<(), AllocError> {
+        if self.is_spoilt {
+            return Err(AllocError);
+        }
+        Ok(())
+    }
+
+    /// One entry more, of a name that is new in its scope.
+    pub fn add(
+        &mut self,
+        alloc: Global,
+        prefix: &'a str,
+        scope: usize,
+        identifier: Leaf<'a>,
+        meaning: Meaning,
+    ) -> Result<(), AllocError>
+        requires scope { scope ≤ length self.old }
+        requires new { named self.old scope (word identifier) ≡ None }
+        requires late { latest self.old ≤ meaning.token }
+        ensures { OnOk result (self.new ≡ self.old ++ entry_declared meaning prefix.entry.now scope identifier.entry ∷ []) }
+    {
+        self.whole()?;
+        self.is_spoilt = true;
+        let feature = meaning.as_feature();
+        self.features
+            .add(alloc, Record::new(prefix, scope, identifier, feature))?;
+        self.all
+            .add(alloc, Record::new(prefix, scope, identifier, meaning))?;
+        self.is_spoilt = false;
+        Ok(())
+    }
+
+    /// Puts a base behind those that an interface has.
+    pub fn add_base(&mut self, alloc: Global, inner: usize, base: Base) -> Result<(), AllocError>
+        requires inner { inner ≤ length self.old }
+        requires placed { base.entry < length self.old }
+        requires late { latest self.old < base.token }
+        ensures told { OnOk result (self.new ≡ with_base self.old inner base) }
+        ensures count { length self.new ≡ length self.old }
+    {
+        self.whole()?;
+        self.is_spoilt = true;
+        let scope = base.entry.saturating_add(1);
+        self.features.shorten(alloc, scope)?;
+        self.features.add_base(alloc, inner, base)?;
+        self.all.shorten(alloc, scope)?;
+        self.all.add_base(alloc, inner, base)?;
+        self.is_spoilt = false;
+        Ok(())
+    }
+
+    /// Which operation or attribute of the word a scope inherits.
+    pub fn inherited(&self, token: usize, scope: usize, word: Word<'a>) -> Result<Found, AllocError>
+        ensures { IfOk result (λ found. found ≡ inherited_by (features_of self.now) token scope word.entry.text.now) }
+    {
+        self.whole()?;
+        Ok(self.features.inherited(token, scope, word))
+    }
+
+    /// Whether a base that is named behind all others has another operation or attribute of some name
+    /// than those before.
+    pub fn differ(&self, alloc: Global, inner: usize, base: Base) -> Result<bool, AllocError>
+        requires placed { base.entry < length self.now }
+        requires late { latest self.now < base.token }
+        ensures { IfOk result (λ r. r ≡ differ_by (features_of self.now) inner base) }
+    {
+        self.whole()?;
+        self.features.differ(alloc, inner, base)
+    }
+}
