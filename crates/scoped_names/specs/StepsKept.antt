@@ -1,5 +1,7 @@
 -- The steps that are kept, as contracts see them.
+use Rattle.std.specs.Prelude.{List, map}
 use Rattle.scoped_names.specs.declared.step.Step.{Step}
+use Rattle.scoped_names.specs.declared.step.Steps.{Steps}
 use Rattle.scoped_names.specs.declared.step.Step.TheVariants as Kept
 use Rattle.scoped_names.specs.Steps.{Step as TreeStep, Declares, DeclaresEnum, DeclaresEnumerator, DeclaresTypedef, IsNew, DeclaresConst, DeclaresFeature, HasMember, IsUndefined, HasBase, Enters, Defines, Leaves, NamesType, NamesException, HasWorth, IsSize, Says}
 
@@ -22,3 +24,7 @@ step_of (Kept.NamesException name) = NamesException name.now
 step_of (Kept.HasWorth e) = HasWorth e.now
 step_of (Kept.IsSize e) = IsSize e.now
 step_of (Kept.Says l) = Says l
+
+-- the steps in order
+abbrev pub steps_in : Steps → List TreeStep
+steps_in steps = map step_of steps.list.items

@@ -3,6 +3,7 @@
 ghost use Rattle.std.specs.Prelude.{◌≡◌, ◌++◌, ◌∷◌, map, OnOk};
 ghost use Rattle.std.specs.List.{flat_map};
 ghost use Rattle.idl_tree.specs.Lists.{parts};
+ghost use Rattle.scoped_names.specs.StepsKept.{steps_in};
 ghost use Rattle.scoped_names.specs.Steps.{attribute_steps, attributes_steps, const_steps, declaration_steps, definition_steps, except_steps, export_steps, interface_steps, operation_steps, optional_parts, param_steps, raises_steps, result_steps, steps_of, type_dcl_steps, typedef_steps, DeclaresFeature as FeatureStep, HasBase as BaseStep};
 
 use crate::step::{Step, Steps};
@@ -21,7 +22,7 @@ impl<'t, 'a> Steps<'t, 'a> {
         original: &'t TypeSpec<'a>,
         declarator: &'t Declarator<'a>,
     ) -> Result<(), AllocError>
-        ensures { OnOk result (self.new ≡ self.old ++ typedef_steps original.now declarator.now) }
+        ensures { OnOk result (steps_in self.new ≡ steps_in self.old ++ typedef_steps original.now declarator.now) }
     {
         self.push(Step::DeclaresTypedef(original, declarator))?;
         self.add_sizes(declarator.sizes.as_slice())
@@ -32,7 +33,7 @@ impl<'t, 'a> Steps<'t, 'a> {
         original: &'t TypeSpec<'a>,
         declarators: &'t Listed<Declarator<'a>>,
     ) -> Result<(), AllocError>
-        ensures { OnOk result (self.new ≡ self.old ++ flat_map (typedef_steps original.now) (parts declarators.now)) }
+        ensures { OnOk result (steps_in self.new ≡ steps_in self.old ++ flat_map (typedef_steps original.now) (parts declarators.now)) }
     {
         for declarator in declarators.iter() {
             self.add_typedef(original, declarator)?;
@@ -41,7 +42,7 @@ impl<'t, 'a> Steps<'t, 'a> {
     }
 
     fn add_type_dcl(&mut self, t: &'t TypeDcl<'a>) -> Result<(), AllocError>
-        ensures { OnOk result (self.new ≡ self.old ++ type_dcl_steps t.now) }
+        ensures { OnOk result (steps_in self.new ≡ steps_in self.old ++ type_dcl_steps t.now) }
     {
         match t {
             TypeDcl::Typedef {
@@ -60,7 +61,7 @@ impl<'t, 'a> Steps<'t, 'a> {
     }
 
     fn add_const(&mut self, c: &'t Const<'a>) -> Result<(), AllocError>
-        ensures { OnOk result (self.new ≡ self.old ++ const_steps c.now) }
+        ensures { OnOk result (steps_in self.new ≡ steps_in self.old ++ const_steps c.now) }
     {
         self.add_const_type(&c.const_type)?;
         self.push(Step::IsNew(c.identifier))?;
@@ -68,7 +69,7 @@ impl<'t, 'a> Steps<'t, 'a> {
     }
 
     fn add_except(&mut self, e: &'t Except<'a>) -> Result<(), AllocError>
-        ensures { OnOk result (self.new ≡ self.old ++ except_steps e.now) }
+        ensures { OnOk result (steps_in self.new ≡ steps_in self.old ++ except_steps e.now) }
     {
         self.push(Step::Declares(EntryKind::Exception, e.identifier))?;
         self.push(Step::Enters(e.identifier))?;
@@ -79,7 +80,7 @@ impl<'t, 'a> Steps<'t, 'a> {
     }
 
     fn add_declaration(&mut self, d: &'t Declaration<'a>) -> Result<(), AllocError>
-        ensures { OnOk result (self.new ≡ self.old ++ declaration_steps d.now) }
+        ensures { OnOk result (steps_in self.new ≡ steps_in self.old ++ declaration_steps d.now) }
     {
         match d {
             Declaration::TypeDcl(t) => self.add_type_dcl(t),
@@ -89,7 +90,7 @@ impl<'t, 'a> Steps<'t, 'a> {
     }
 
     fn add_raises(&mut self, names: &'t Listed<ScopedName<'a>>) -> Result<(), AllocError>
-        ensures { OnOk result (self.new ≡ self.old ++ raises_steps (parts names.now)) }
+        ensures { OnOk result (steps_in self.new ≡ steps_in self.old ++ raises_steps (parts names.now)) }
     {
         for name in names.iter() {
             self.push(Step::NamesException(name))?;
@@ -101,7 +102,7 @@ impl<'t, 'a> Steps<'t, 'a> {
         &mut self,
         names: &'t Option<Listed<ScopedName<'a>>>,
     ) -> Result<(), AllocError>
-        ensures { OnOk result (self.new ≡ self.old ++ raises_steps (optional_parts names.now)) }
+        ensures { OnOk result (steps_in self.new ≡ steps_in self.old ++ raises_steps (optional_parts names.now)) }
     {
         match names {
             Some(names) => self.add_raises(names),
@@ -111,7 +112,7 @@ impl<'t, 'a> Steps<'t, 'a> {
 
     /// Attributes that raise nothing.
     fn add_silent(&mut self, identifiers: &'t Listed<Leaf<'a>>) -> Result<(), AllocError>
-        ensures { OnOk result (self.new ≡ self.old ++ map (FeatureStep EntryKind.Attribute) (parts identifiers.now)) }
+        ensures { OnOk result (steps_in self.new ≡ steps_in self.old ++ map (FeatureStep EntryKind.Attribute) (parts identifiers.now)) }
     {
         for identifier in identifiers.iter() {
             self.push(Step::DeclaresFeature(EntryKind::Attribute, *identifier))?;
@@ -120,7 +121,7 @@ impl<'t, 'a> Steps<'t, 'a> {
     }
 
     fn add_attributes(&mut self, attributes: &'t Attributes<'a>) -> Result<(), AllocError>
-        ensures { OnOk result (self.new ≡ self.old ++ attributes_steps attributes.now) }
+        ensures { OnOk result (steps_in self.new ≡ steps_in self.old ++ attributes_steps attributes.now) }
     {
         match attributes {
             Attributes::Silent { identifiers, .. } => self.add_silent(identifiers),
@@ -148,7 +149,7 @@ impl<'t, 'a> Steps<'t, 'a> {
     }
 
     fn add_attribute(&mut self, a: &'t Attribute<'a>) -> Result<(), AllocError>
-        ensures { OnOk result (self.new ≡ self.old ++ attribute_steps a.now) }
+        ensures { OnOk result (steps_in self.new ≡ steps_in self.old ++ attribute_steps a.now) }
     {
         self.add_param_type(&a.attribute_type)?;
         self.add_attributes(&a.declared)
@@ -156,7 +157,7 @@ impl<'t, 'a> Steps<'t, 'a> {
 
     /// A parameter of the operation that has the identifier.
     fn add_param(&mut self, identifier: Leaf<'a>, param: &'t Param<'a>) -> Result<(), AllocError>
-        ensures { OnOk result (self.new ≡ self.old ++ param_steps identifier param.now) }
+        ensures { OnOk result (steps_in self.new ≡ steps_in self.old ++ param_steps identifier.entry param.now) }
     {
         self.add_param_type(&param.param_type)?;
         self.push(Step::Enters(identifier))?;
@@ -169,7 +170,7 @@ impl<'t, 'a> Steps<'t, 'a> {
         identifier: Leaf<'a>,
         params: &'t Option<Listed<Param<'a>>>,
     ) -> Result<(), AllocError>
-        ensures { OnOk result (self.new ≡ self.old ++ flat_map (param_steps identifier) (optional_parts params.now)) }
+        ensures { OnOk result (steps_in self.new ≡ steps_in self.old ++ flat_map (param_steps identifier.entry) (optional_parts params.now)) }
     {
         let Some(params) = params else {
             return Ok(());
@@ -181,7 +182,7 @@ impl<'t, 'a> Steps<'t, 'a> {
     }
 
     fn add_result(&mut self, t: &'t Option<ParamType<'a>>) -> Result<(), AllocError>
-        ensures { OnOk result (self.new ≡ self.old ++ result_steps t.now) }
+        ensures { OnOk result (steps_in self.new ≡ steps_in self.old ++ result_steps t.now) }
     {
         match t {
             Some(t) => self.add_param_type(t),
@@ -190,7 +191,7 @@ impl<'t, 'a> Steps<'t, 'a> {
     }
 
     fn add_operation(&mut self, o: &'t Operation<'a>) -> Result<(), AllocError>
-        ensures { OnOk result (self.new ≡ self.old ++ operation_steps o.now) }
+        ensures { OnOk result (steps_in self.new ≡ steps_in self.old ++ operation_steps o.now) }
     {
         self.add_result(&o.result_type)?;
         self.push(Step::DeclaresFeature(EntryKind::Operation, o.identifier))?;
@@ -199,7 +200,7 @@ impl<'t, 'a> Steps<'t, 'a> {
     }
 
     fn add_export(&mut self, export: &'t Export<'a>) -> Result<(), AllocError>
-        ensures { OnOk result (self.new ≡ self.old ++ export_steps export.now) }
+        ensures { OnOk result (steps_in self.new ≡ steps_in self.old ++ export_steps export.now) }
     {
         match export {
             Export::Pragma(leaf) => self.push(Step::Says(*leaf)),
@@ -215,7 +216,7 @@ impl<'t, 'a> Steps<'t, 'a> {
         identifier: Leaf<'a>,
         names: &'t Option<Listed<ScopedName<'a>>>,
     ) -> Result<(), AllocError>
-        ensures { OnOk result (self.new ≡ self.old ++ map (BaseStep identifier) (optional_parts names.now)) }
+        ensures { OnOk result (steps_in self.new ≡ steps_in self.old ++ map (BaseStep identifier.entry) (optional_parts names.now)) }
     {
         let Some(names) = names else {
             return Ok(());
@@ -227,7 +228,7 @@ impl<'t, 'a> Steps<'t, 'a> {
     }
 
     fn add_exports(&mut self, exports: &'t [Export<'a>]) -> Result<(), AllocError>
-        ensures { OnOk result (self.new ≡ self.old ++ flat_map export_steps exports.now) }
+        ensures { OnOk result (steps_in self.new ≡ steps_in self.old ++ flat_map export_steps exports.now) }
     {
         for export in exports {
             self.add_export(export)?;
@@ -236,7 +237,7 @@ impl<'t, 'a> Steps<'t, 'a> {
     }
 
     fn add_interface(&mut self, i: &'t Interface<'a>) -> Result<(), AllocError>
-        ensures { OnOk result (self.new ≡ self.old ++ interface_steps i.now) }
+        ensures { OnOk result (steps_in self.new ≡ steps_in self.old ++ interface_steps i.now) }
     {
         match i {
             Interface::Ahead(id) => self.push(Step::Declares(EntryKind::Interface, *id)),
@@ -250,15 +251,14 @@ impl<'t, 'a> Steps<'t, 'a> {
                 self.add_bases(*identifier, bases)?;
                 self.push(Step::Enters(*identifier))?;
                 self.push(Step::Defines(*identifier))?;
-                self.add_exports(exports.as_slice())?;
+                self.add_exports(&exports[..])?;
                 self.push(Step::Leaves)
             }
         }
     }
 
-    #[cycle(definitions)]
     fn add_definition(&mut self, d: &'t Definition<'a>) -> Result<(), AllocError>
-        ensures { OnOk result (self.new ≡ self.old ++ definition_steps d.now) }
+        ensures { OnOk result (steps_in self.new ≡ steps_in self.old ++ definition_steps d.now) }
     {
         match d {
             Definition::Pragma(leaf) => self.push(Step::Says(*leaf)),
@@ -267,16 +267,17 @@ impl<'t, 'a> Steps<'t, 'a> {
             Definition::Module(m) => {
                 self.push(Step::Declares(EntryKind::Module, m.identifier))?;
                 self.push(Step::Enters(m.identifier))?;
-                self.add_definitions(m.definitions.as_slice())?;
+                for inner in &m.definitions[..] {
+                    self.add_definition(inner)?;
+                }
                 self.push(Step::Leaves)
             }
         }
     }
 
     /// Definitions one behind another.
-    #[cycle(definitions)]
     pub fn add_definitions(&mut self, definitions: &'t [Definition<'a>]) -> Result<(), AllocError>
-        ensures { OnOk result (self.new ≡ self.old ++ steps_of definitions.now) }
+        ensures { OnOk result (steps_in self.new ≡ steps_in self.old ++ steps_of definitions.now) }
     {
         for definition in definitions {
             self.add_definition(definition)?;

@@ -1,25 +1,22 @@
 //! What the names of an IDL specification mean (ISO/IEC 19500-1, names and scoping).
 #![tactic(auto)]
 
-mod bases;
-mod declarations;
-pub mod entry;
+mod declaration_steps;
 mod evaluation;
 pub mod fault;
-mod key;
+mod kinds;
 pub mod laws;
+mod members;
 pub mod names;
-mod pragmas;
 mod reader;
-mod record;
+mod reading;
 mod repository_ids;
-mod search;
-mod shortcuts;
 mod specification;
-mod table;
-mod types;
+mod step;
+mod tables;
+mod type_steps;
 
-pub use entry::{Base, EntryKind};
-pub use fault::NameFault;
+pub use fault::{At, Flaw, NameFault, Unfit};
+pub use name_table::{Base, EntryKind};
 pub use names::Names;
 pub use specification::bind;

@@ -1,13 +1,14 @@
 //! The names of a whole specification.
 
 ghost use Rattle.std.specs.Prelude.{IfOk};
-ghost use Rattle.scoped_names.specs.Entry.{AreDistinct};
+ghost use Rattle.name_table.specs.Entry.{AreDistinct};
 ghost use Rattle.scoped_names.specs.Reading.{Gives};
 ghost use Rattle.scoped_names.specs.Whole.{names_of};
 
 use crate::fault::NameFault;
 use crate::names::Names;
 use crate::reader::Reader;
+use crate::step::Steps;
 use idl_tree::spec::Spec;
 use std::alloc::Global;
 
@@ -16,19 +17,16 @@ use std::alloc::Global;
 ///
 /// # Errors
 ///
-/// The first fault in the order of reading, with its line; a type that was declared ahead and is
+/// The first fault in the order of reading, with its place; a type that was declared ahead and is
 /// never defined comes last.
 pub fn bind<'a>(alloc: Global, spec: &Spec<'a>) -> Result<Names<'a>, NameFault>
     ensures told { Gives result (names_of spec.now.definitions.items) }
     ensures distinct { IfOk result (λ names. AreDistinct names.entries) }
 {
-    // no list of tokens is so long
-    if spec.tokens.len() >= usize::MAX / 2 {
-        return Err(NameFault::NoMemory);
-    }
+    let mut steps = Steps::new(alloc);
+    steps.add_definitions(spec.definitions.as_slice())?;
     let mut reader = Reader::new(alloc)?;
-    match reader.read(alloc, spec.definitions.as_slice()) {
-        Ok(()) => Ok(reader.names()),
-        Err(fault) => Err(fault),
-    }
+    reader.read_steps(alloc, steps.as_slice())?;
+    reader.all_defined()?;
+    Ok(reader.names())
 }

@@ -1,7 +1,7 @@
 //! What a specification asks of its names, step by step.
 
-ghost use Rattle.std.specs.Prelude.{◌≡◌, ◌++◌, ◌∷◌, [], OnOk};
-ghost use Rattle.scoped_names.specs.StepsKept.{step_of};
+ghost use Rattle.std.specs.Prelude.{◌≡◌, ◌++◌, ◌∷◌, [], map, OnOk};
+ghost use Rattle.scoped_names.specs.StepsKept.{step_of, steps_in};
 
 use idl_tree::definitions::Const;
 use idl_tree::expression::Expr;
@@ -9,7 +9,6 @@ use idl_tree::names::{Leaf, ScopedName};
 use idl_tree::types::{Declarator, TypeSpec};
 use name_table::EntryKind;
 use std::alloc::{AllocError, Global};
-use std::marker::Model;
 
 /// One thing that is asked, in the scope that was entered last and not left yet. `'t` is the tree's.
 #[derive(Clone, Copy)]
@@ -46,23 +45,13 @@ pub(crate) enum Step<'t, 'a> {
 /// Steps in order. A contract sees them as steps of the tree.
 #[derive(Drop)]
 pub(crate) struct Steps<'t, 'a> {
-    list: Vec<Step<'t, 'a>>,
-}
-
-impl<'t, 'a> Model for Steps<'t, 'a> {
-    ghost use Rattle.std.specs.Prelude.{List, map};
-    ghost use Rattle.scoped_names.specs.Steps.{Step as TreeStep};
-    ghost use Rattle.scoped_names.specs.StepsKept.{step_of};
-
-    ghost Value = { List TreeStep };
-
-    ghost view = { λ s. map step_of s.list.items };
+    pub list: Vec<Step<'t, 'a>>,
 }
 
 impl<'t, 'a> Steps<'t, 'a> {
     /// No steps. Takes no memory.
     pub fn new(alloc: Global) -> Self
-        ensures { result ≡ [] }
+        ensures { steps_in result ≡ [] }
     {
         Steps {
             list: Vec::new(alloc),
@@ -71,7 +60,7 @@ impl<'t, 'a> Steps<'t, 'a> {
 
     /// One step more.
     pub fn push(&mut self, step: Step<'t, 'a>) -> Result<(), AllocError>
-        ensures { OnOk result (self.new ≡ self.old ++ step_of step ∷ []) }
+        ensures { OnOk result (steps_in self.new ≡ steps_in self.old ++ step_of step.entry ∷ []) }
     {
         self.list.push(step)?;
         Ok(())
@@ -79,7 +68,7 @@ impl<'t, 'a> Steps<'t, 'a> {
 
     /// The steps in order.
     pub fn as_slice(&self) -> &[Step<'t, 'a>]
-        ensures { map step_of result.now ≡ self.now }
+        ensures { map step_of result.now ≡ steps_in self.now }
     {
         self.list.as_slice()
     }

@@ -3,6 +3,7 @@
 ghost use Rattle.std.specs.Prelude.{◌≡◌, ◌++◌, map, OnOk};
 ghost use Rattle.std.specs.List.{flat_map};
 ghost use Rattle.idl_tree.specs.Lists.{parts};
+ghost use Rattle.scoped_names.specs.StepsKept.{steps_in};
 ghost use Rattle.scoped_names.specs.Steps.{bound_steps, case_steps, const_type_steps, declarator_steps, enum_steps, label_steps, member_steps, opening, param_type_steps, simple_type_steps, size_step, struct_steps, switch_steps, type_steps, union_steps, DeclaresEnumerator as EnumeratorStep};
 
 use crate::step::{Step, Steps};
@@ -17,7 +18,7 @@ use std::alloc::AllocError;
 
 impl<'t, 'a> Steps<'t, 'a> {
     fn add_bound(&mut self, bound: &'t Option<Bound<'a>>) -> Result<(), AllocError>
-        ensures { OnOk result (self.new ≡ self.old ++ bound_steps bound.now) }
+        ensures { OnOk result (steps_in self.new ≡ steps_in self.old ++ bound_steps bound.now) }
     {
         match bound {
             Some(bound) => self.push(Step::IsSize(&bound.expr)),
@@ -27,7 +28,7 @@ impl<'t, 'a> Steps<'t, 'a> {
 
     /// The type of a constant.
     pub fn add_const_type(&mut self, t: &'t ConstType<'a>) -> Result<(), AllocError>
-        ensures { OnOk result (self.new ≡ self.old ++ const_type_steps t.now) }
+        ensures { OnOk result (steps_in self.new ≡ steps_in self.old ++ const_type_steps t.now) }
     {
         match t {
             ConstType::Integer(_) | ConstType::Char | ConstType::Boolean | ConstType::Octet => {
@@ -40,7 +41,7 @@ impl<'t, 'a> Steps<'t, 'a> {
 
     /// The type of a parameter, a result or an attribute.
     pub fn add_param_type(&mut self, t: &'t ParamType<'a>) -> Result<(), AllocError>
-        ensures { OnOk result (self.new ≡ self.old ++ param_type_steps t.now) }
+        ensures { OnOk result (steps_in self.new ≡ steps_in self.old ++ param_type_steps t.now) }
     {
         match t {
             ParamType::Plain(plain) => self.add_const_type(plain),
@@ -49,7 +50,7 @@ impl<'t, 'a> Steps<'t, 'a> {
     }
 
     fn add_simple_type(&mut self, t: &'t SimpleType<'a>) -> Result<(), AllocError>
-        ensures { OnOk result (self.new ≡ self.old ++ simple_type_steps t.now) }
+        ensures { OnOk result (steps_in self.new ≡ steps_in self.old ++ simple_type_steps t.now) }
     {
         match t {
             SimpleType::Plain(plain) => self.add_param_type(plain),
@@ -62,7 +63,7 @@ impl<'t, 'a> Steps<'t, 'a> {
 
     /// The sizes of an array.
     pub fn add_sizes(&mut self, sizes: &'t [ConstExpr<'a>]) -> Result<(), AllocError>
-        ensures { OnOk result (self.new ≡ self.old ++ map size_step sizes.now) }
+        ensures { OnOk result (steps_in self.new ≡ steps_in self.old ++ map size_step sizes.now) }
     {
         for size in sizes {
             self.push(Step::IsSize(&size.expr))?;
@@ -72,14 +73,14 @@ impl<'t, 'a> Steps<'t, 'a> {
 
     /// The declarator of a member.
     fn add_declarator(&mut self, d: &'t Declarator<'a>) -> Result<(), AllocError>
-        ensures { OnOk result (self.new ≡ self.old ++ declarator_steps d.now) }
+        ensures { OnOk result (steps_in self.new ≡ steps_in self.old ++ declarator_steps d.now) }
     {
         self.push(Step::HasMember(d.identifier))?;
         self.add_sizes(d.sizes.as_slice())
     }
 
     fn add_declarators(&mut self, list: &'t Listed<Declarator<'a>>) -> Result<(), AllocError>
-        ensures { OnOk result (self.new ≡ self.old ++ flat_map declarator_steps (parts list.now)) }
+        ensures { OnOk result (steps_in self.new ≡ steps_in self.old ++ flat_map declarator_steps (parts list.now)) }
     {
         for declarator in list.iter() {
             self.add_declarator(declarator)?;
@@ -88,7 +89,7 @@ impl<'t, 'a> Steps<'t, 'a> {
     }
 
     fn add_label(&mut self, label: &'t Label<'a>) -> Result<(), AllocError>
-        ensures { OnOk result (self.new ≡ self.old ++ label_steps label.now) }
+        ensures { OnOk result (steps_in self.new ≡ steps_in self.old ++ label_steps label.now) }
     {
         match label {
             Label::Case(value) => self.push(Step::HasWorth(&value.expr)),
@@ -97,7 +98,7 @@ impl<'t, 'a> Steps<'t, 'a> {
     }
 
     fn add_labels(&mut self, labels: &'t Listed<Label<'a>>) -> Result<(), AllocError>
-        ensures { OnOk result (self.new ≡ self.old ++ flat_map label_steps (parts labels.now)) }
+        ensures { OnOk result (steps_in self.new ≡ steps_in self.old ++ flat_map label_steps (parts labels.now)) }
     {
         for label in labels.iter() {
             self.add_label(label)?;
@@ -106,7 +107,7 @@ impl<'t, 'a> Steps<'t, 'a> {
     }
 
     fn add_enumerators(&mut self, list: &'t Listed<Leaf<'a>>) -> Result<(), AllocError>
-        ensures { OnOk result (self.new ≡ self.old ++ map EnumeratorStep (parts list.now)) }
+        ensures { OnOk result (steps_in self.new ≡ steps_in self.old ++ map EnumeratorStep (parts list.now)) }
     {
         for identifier in list.iter() {
             self.push(Step::DeclaresEnumerator(*identifier))?;
@@ -115,14 +116,14 @@ impl<'t, 'a> Steps<'t, 'a> {
     }
 
     pub fn add_enum(&mut self, e: &'t EnumType<'a>) -> Result<(), AllocError>
-        ensures { OnOk result (self.new ≡ self.old ++ enum_steps e.now) }
+        ensures { OnOk result (steps_in self.new ≡ steps_in self.old ++ enum_steps e.now) }
     {
         self.push(Step::DeclaresEnum(e.identifier))?;
         self.add_enumerators(&e.enumerators)
     }
 
     fn add_switch(&mut self, switch: &'t SwitchType<'a>) -> Result<(), AllocError>
-        ensures { OnOk result (self.new ≡ self.old ++ switch_steps switch.now) }
+        ensures { OnOk result (steps_in self.new ≡ steps_in self.old ++ switch_steps switch.now) }
     {
         match switch {
             SwitchType::Enum(e) => self.add_enum(e),
@@ -133,7 +134,7 @@ impl<'t, 'a> Steps<'t, 'a> {
 
     /// The declaration of a structure or a union, and the beginning of its body.
     fn open(&mut self, kind: EntryKind, identifier: Leaf<'a>) -> Result<(), AllocError>
-        ensures { OnOk result (self.new ≡ self.old ++ opening kind identifier) }
+        ensures { OnOk result (steps_in self.new ≡ steps_in self.old ++ opening kind identifier.entry) }
     {
         self.push(Step::Declares(kind, identifier))?;
         self.push(Step::Enters(identifier))?;
@@ -142,7 +143,7 @@ impl<'t, 'a> Steps<'t, 'a> {
 
     #[cycle(types)]
     pub fn add_type(&mut self, t: &'t TypeSpec<'a>) -> Result<(), AllocError>
-        ensures { OnOk result (self.new ≡ self.old ++ type_steps t.now) }
+        ensures { OnOk result (steps_in self.new ≡ steps_in self.old ++ type_steps t.now) }
     {
         match t {
             TypeSpec::Simple(simple) => self.add_simple_type(simple),
@@ -155,7 +156,7 @@ impl<'t, 'a> Steps<'t, 'a> {
     /// Members of one type.
     #[cycle(types)]
     pub fn add_member(&mut self, member: &'t Member<'a>) -> Result<(), AllocError>
-        ensures { OnOk result (self.new ≡ self.old ++ member_steps member.now) }
+        ensures { OnOk result (steps_in self.new ≡ steps_in self.old ++ member_steps member.now) }
     {
         self.add_type(&member.member_type)?;
         self.add_declarators(&member.declarators)
@@ -163,7 +164,7 @@ impl<'t, 'a> Steps<'t, 'a> {
 
     #[cycle(types)]
     pub fn add_struct(&mut self, s: &'t StructType<'a>) -> Result<(), AllocError>
-        ensures { OnOk result (self.new ≡ self.old ++ struct_steps s.now) }
+        ensures { OnOk result (steps_in self.new ≡ steps_in self.old ++ struct_steps s.now) }
     {
         self.open(EntryKind::Struct, s.identifier)?;
         self.add_member(&s.first)?;
@@ -175,7 +176,7 @@ impl<'t, 'a> Steps<'t, 'a> {
 
     #[cycle(types)]
     fn add_case(&mut self, case: &'t Case<'a>) -> Result<(), AllocError>
-        ensures { OnOk result (self.new ≡ self.old ++ case_steps case.now) }
+        ensures { OnOk result (steps_in self.new ≡ steps_in self.old ++ case_steps case.now) }
     {
         self.add_labels(&case.labels)?;
         self.add_type(&case.member_type)?;
@@ -184,7 +185,7 @@ impl<'t, 'a> Steps<'t, 'a> {
 
     #[cycle(types)]
     pub fn add_union(&mut self, u: &'t UnionType<'a>) -> Result<(), AllocError>
-        ensures { OnOk result (self.new ≡ self.old ++ union_steps u.now) }
+        ensures { OnOk result (steps_in self.new ≡ steps_in self.old ++ union_steps u.now) }
     {
         self.open(EntryKind::Union, u.identifier)?;
         self.add_switch(&u.switch)?;
