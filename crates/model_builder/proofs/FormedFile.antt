@@ -23,9 +23,9 @@ use Rattle.idl_tree.specs.Lists.{parts}
 use Rattle.type_graph.specs.declared.node.Node.{Node}
 use Rattle.type_graph.specs.declared.node.Node.TheVariants.{Frame}
 use Rattle.basic_types.specs.BasicNodes.{basic_nodes}
-use Rattle.scoped_names.specs.Entry.{Entry, bases_of, named}
-use Rattle.scoped_names.specs.Entries.{attribute_identifiers, scope_number, scope_of}
-use Rattle.scoped_names.specs.Search.{word}
+use Rattle.name_table.specs.Entry.{Entry, bases_of, named}
+use Rattle.name_table.specs.Entries.{scope_number, scope_of}
+use Rattle.name_table.specs.Search.{word}
 use Rattle.written_types.specs.declared.place.Place.TheVariants.{Typed, Raised, Called, Got, GotAndSet}
 use Rattle.written_types.specs.Written.{Written, already, next, unwritten, with_node, with_place}
 use Rattle.written_types.specs.SimpleTypes.{arrays, param_type}
@@ -34,7 +34,7 @@ use Rattle.written_types.specs.Declarations.{declaration, except, except_members
 use Rattle.written_operations.specs.declared.signature.Offered.{Offered}
 use Rattle.written_operations.specs.Oneway.{parts_of}
 use Rattle.written_operations.specs.Frames.{Carrying, all_carried, carrying, nothing_carried, result_carried, with_carried, with_frames, with_param}
-use Rattle.written_operations.specs.Operations.{Defined, attribute, get_raises, is_set, operation, raised, set_raises, undefined_yet, with_access, with_attribute, with_operation, with_types}
+use Rattle.written_operations.specs.Operations.{attribute_identifiers, Defined, attribute, get_raises, is_set, operation, raised, set_raises, undefined_yet, with_access, with_attribute, with_operation, with_types}
 use Rattle.written_operations.specs.Interfaces.{all_bases, as_reference, export, exports_of, from_on, identifier_of, inherited, interface_as, offering, with_interface}
 use Rattle.written_operations.specs.Definitions.{defined_by, definition, definitions_after}
 use Rattle.model_builder.specs.Formed.{AreFormed, IsFormed, IsPartOrNone}

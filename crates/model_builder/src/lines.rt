@@ -9,7 +9,6 @@ ghost use Rattle.written_types.specs.declared.fault.BuildFault.TheVariants.{NoMe
 ghost use Rattle.model_builder.specs.Formed.{AreFormed, HasSmallNumbers};
 ghost use Rattle.model_builder.specs.Refusal.{OnlyIf};
 
-use scoped_names::NameFault;
 use std::alloc::Global;
 use type_graph::{Graph, GraphFault, GraphLimit, Node, NodeRule, RuleFault, find_fault};
 use written_types::{BuildFault, TypeFault, TypeTable};
@@ -93,16 +92,16 @@ fn see_parts(node: &Node)
 }
 
 /// What is told where a node breaks a rule that has no name of its own, as only a structure does that was declared ahead
-/// alone: as all that a file writes is well formed else.
+/// alone, which the names of the file don't allow: as all that a file writes is well formed else.
 #[tactic(auto, using(crate::proofs::WellFormed::well_formed))]
-fn fault_of_names(types: &TypeTable, node: usize, line: usize) -> BuildFault
+fn fault_of_names(types: &TypeTable, node: usize) -> BuildFault
     requires formed { AreFormed types.now.nodes }
     requires there { node < length types.now.nodes }
     requires broken { IsWellFormed types.now.nodes (node_at types.now.nodes node) → ⊥ }
     ensures { result ≢ NoMemory }
 {
     match types.nodes().get(node) {
-        Some(node) if is_undefined(node) => BuildFault::Names(NameFault::Unknown { line }),
+        Some(node) if is_undefined(node) => BuildFault::OtherNames,
         Some(node) => {
             see_parts(node);
             unreachable!()
@@ -124,7 +123,7 @@ fn fault_in_node(types: &TypeTable, node: usize, rule: NodeRule, line: usize) ->
         NodeRule::DefaultNeedless => TypeFault::DefaultNeedless { line },
         NodeRule::BadSwitch => TypeFault::BadSwitch { line },
         NodeRule::Limit { which } => TypeFault::Limit { which, line },
-        NodeRule::BadNode => return fault_of_names(types, node, line),
+        NodeRule::BadNode => return fault_of_names(types, node),
     })
 }
 

@@ -71,7 +71,7 @@ abbrev pub HasName : List Entry → ℕ → List ℕ → Type 0
 HasName es k w = (e : Entry) × (slice_get es k ≡ Some e) × (same_but_for_case w e.name ≡ true)
 
 blank : Entry
-blank = record { scope = 0; name = []; token = 0; kind = Module; bases = []; worth = None; stands_for = None; line = 0; prefix = [] }
+blank = record { scope = 0; name = []; token = 0; kind = Module; bases = []; worth = None; stands_for = None; line = 0; identifier = 0; prefix = [] }
 
 pub named_at : (es : List Entry) (s : ℕ) (w : List ℕ) (k : ℕ) → named es s w ≡ Some k → HasName es k w
 named_at es s w k at =

@@ -13,7 +13,7 @@ use Rattle.name_table.specs.declared.search.Found.{Found}
 use Rattle.name_table.specs.declared.search.Found.TheVariants.{Nothing, One, Several}
 use Rattle.name_table.specs.Entry.{Entry, bases_in, bases_of, around, scope_in}
 use Rattle.name_table.specs.Search.{base_at, or_else, own, inherited, within, within_first, outwards}
-use Rattle.name_table.specs.Records.{AreNested, ArePlaced, AreSearched, entries_in, entry_of, by_first, by_given, by_heir, given_before, heir_bases, heir_in, heir_of, is_word, unboxed}
+use Rattle.name_table.specs.Records.{AreNestedRecords, ArePlaced, AreSearched, entries_in, entry_of, by_first, by_given, by_heir, given_before, heir_bases, heir_in, heir_of, is_word, unboxed}
 
 -- ---- bases
 
@@ -79,7 +79,7 @@ or_else_found Several b h = refl
 
 -- ---- scopes around
 
-nested_within : (records : List Record) → AreNested records → (e : ℕ) → around (entries_in records) (suc e) ≤ e
+nested_within : (records : List Record) → AreNestedRecords records → (e : ℕ) → around (entries_in records) (suc e) ≤ e
 nested_within records nested e =
     subst (λ x. scope_in x ≤ e) (sym (slice_get-map entry_of records e)) (by (slice_get records e) refl)
   where
@@ -99,7 +99,7 @@ fuel es low (suc bound) (suc k) (suc e) kb sk =
     ap (λ xs. suc e ∷ xs) (fuel es low bound k next (omega arith) (omega arith) ∙ sym (fuel es low bound e next (omega arith) nearer))
 
 -- one scope further outwards
-pub next_scope : (records : List Record) (es : List Entry) → entries_in records ≡ es → AreNested records → (token e : ℕ) (name : List ℕ) (r : Record) → slice_get records e ≡ Some r
+pub next_scope : (records : List Record) (es : List Entry) → entries_in records ≡ es → AreNestedRecords records → (token e : ℕ) (name : List ℕ) (r : Record) → slice_get records e ≡ Some r
     → within_first es token (outwards es (suc e) (suc e)) name ≡ or_else (within es token (suc e) name) (within_first es token (outwards es r.key.scope r.key.scope) name)
 next_scope records es is nested token e name r there =
     let low : (k : ℕ) → around es (suc k) ≤ k = λ k. subst (λ xs. around xs (suc k) ≤ k) is (nested_within records nested k) in
@@ -107,7 +107,7 @@ next_scope records es is nested token e name r there =
     ap (λ xs. or_else (within es token (suc e) name) (within_first es token xs name))
     (fuel es low e e (around es (suc e)) (omega arith) (low e) ∙ ap (λ s. outwards es s s) here)
 
-pub scope_behind : (records : List Record) → AreNested records → (e : ℕ) (r : Record) → slice_get records e ≡ Some r → r.key.scope ≤ e
+pub scope_behind : (records : List Record) → AreNestedRecords records → (e : ℕ) (r : Record) → slice_get records e ≡ Some r → r.key.scope ≤ e
 scope_behind records nested e r there = nested e r there
 
 pub or_else_nothing : (a : Found) → or_else a Nothing ≡ a

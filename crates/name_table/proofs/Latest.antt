@@ -1,9 +1,10 @@
 -- The token of the last base, where entries are declared or get bases.
-use Rattle.std.proofs.Common.{◌≡◌, ◌∙◌, ◌<◌, ◌≤◌, ℕ, zero, suc, max, cond, nat_eq, Bool, true, false, List, [], ◌∷◌, ◌++◌, slice_get, slice_set, Option, Some, None, refl, ap, arith, eqb-true}
+use Rattle.std.proofs.Common.{◌≡◌, ◌∙◌, ◌<◌, ◌≤◌, ℕ, zero, suc, max, cond, nat_eq, Bool, true, false, List, [], ◌∷◌, ◌++◌, slice_get, slice_set, Option, Some, None, refl, ap, sym, subst, arith, eqb-true}
 use Rattle.name_table.specs.declared.entry.Base.{Base}
 use Rattle.name_table.specs.declared.record.Record.{Record}
 use Rattle.name_table.specs.Entry.{Entry, bases_of}
 use Rattle.name_table.specs.Entries.{entry_with_base, last_of, latest, with_base}
+use Rattle.name_table.specs.Features.{features_of}
 use Rattle.name_table.specs.Records.{entries_in, entry_of, heir_bases}
 use Rattle.name_table.specs.Search.{base_at}
 
@@ -48,3 +49,16 @@ latest_set (y ∷ ys) (suc e) x base there low = let rest = latest_set ys e x ba
 -- a base that is named behind all others is the last
 pub latest_based : (es : List Entry) (e : ℕ) (x : Entry) (base : Base) → slice_get es e ≡ Some x → latest es ≤ base.token → latest (with_base es (suc e) base) ≡ base.token
 latest_based es e x base there low = ap (λ o. latest (entry_with_base es e base o)) there ∙ latest_set es e x base there low
+
+pub latest_with : (es : List Entry) (inner : ℕ) (base : Base) → latest es ≤ base.token → latest (with_base es inner base) ≤ base.token
+latest_with es zero base low = low
+latest_with es (suc e) base low = by (slice_get es e) refl
+  where
+    by : (o : Option Entry) → slice_get es e ≡ o → latest (with_base es (suc e) base) ≤ base.token
+    by None is = subst (λ xs. latest xs ≤ base.token) (sym (ap (entry_with_base es e base) is)) low
+    by (Some x) is = let same = latest_based es e x base is low in omega arith
+
+-- operations and attributes alone have the same bases
+pub latest_features : (es : List Entry) → latest (features_of es) ≡ latest es
+latest_features [] = refl
+latest_features (e ∷ es) = ap (max (last_of e.bases)) (latest_features es)

@@ -11,3 +11,4 @@ pub mod MergedBases
 pub mod Ways
 pub mod WaysKept
 pub mod Features
+pub mod Worked

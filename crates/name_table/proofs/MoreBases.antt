@@ -17,7 +17,7 @@ use Rattle.name_table.specs.declared.search.Found.TheVariants.{Nothing}
 use Rattle.name_table.specs.Entry.{Entry, bases_of, is_named, named}
 use Rattle.name_table.specs.Search.{base_at, before, both, declared_before, from_base, inherited, or_else, own, within}
 use Rattle.name_table.specs.Entries.{entry_with_base, latest, with_base}
-use Rattle.name_table.specs.Records.{AreNested, ArePlaced, AreSearched, AreTied, by_first, by_given, by_heir, entries_in, entry_of, heir_bases, heir_in, heir_of, is_word, key_of, unboxed}
+use Rattle.name_table.specs.Records.{AreNestedRecords, ArePlaced, AreSearched, AreTied, by_first, by_given, by_heir, entries_in, entry_of, heir_bases, heir_in, heir_of, is_word, key_of, unboxed}
 use Rattle.name_table.specs.SeveralBases.{HasNoneFrom, IsKept, Merges, with_more}
 use Rattle.name_table.proofs.Inheriting.{bases_kept, first_base, heir_list}
 use Rattle.name_table.proofs.Latest.{bases_low, latest_based}
@@ -250,7 +250,7 @@ module _ (keys : List Key) (records : List Record) (words : List (Vec Word Globa
           let same = count in
           omega arith
 
-  nested_after : AreNested after
+  nested_after : AreNestedRecords after
   nested_after k x h = by (same_or k e)
     where
       by : (k ≡ e) ⊎ (k ≡ e → ⊥) → x.key.scope ≤ k

@@ -5,7 +5,8 @@ use Rattle.std.proofs.lemmas.Bool.{and_parts, eq-eqb, eqb-true}
 use Rattle.std.specs.Char.{to_ascii_lowercase}
 use Rattle.std.proofs.lemmas.Slice.Eq.{bytes_eq-Decides}
 use Rattle.name_table.specs.Entries.{latest, scope_number, with_entry}
-use Rattle.std.proofs.lemmas.Option.{slice_get_read, slice_get_within}
+use Rattle.std.proofs.lemmas.Option.{slice_get-map, slice_get_read, slice_get_within}
+use Rattle.std.specs.Option.{option_map}
 use Rattle.std.specs.Map.{lookup}
 use Rattle.idl_lexer.specs.Words.{same_but_for_case}
 use Rattle.name_table.specs.declared.key.Key.{Key}
@@ -13,10 +14,10 @@ use Rattle.name_table.specs.declared.key.Word.{Word}
 use Rattle.name_table.specs.declared.record.Given.{Given}
 use Rattle.name_table.specs.declared.record.Heir.{Heir}
 use Rattle.name_table.specs.declared.record.Record.{Record}
-use Rattle.name_table.specs.Entry.{Entry, bases_of, is_named, named}
+use Rattle.name_table.specs.Entry.{AreNested, Entry, bases_of, is_named, named}
 use Rattle.name_table.specs.Search.{base_at, inherited}
 use Rattle.name_table.specs.declared.search.Found.TheVariants.{Nothing}
-use Rattle.name_table.specs.Records.{AreListed, ArePlaced, AreSearched, AreTied, HasWord, by_given, by_heir, entries_in, entry_of, heir_bases, heir_in, heir_of, is_word, key_of, unboxed, words_at, words_in}
+use Rattle.name_table.specs.Records.{AreListed, ArePlaced, AreSearched, AreNestedRecords, AreTied, HasWord, by_given, by_heir, entries_in, entry_of, heir_bases, heir_in, heir_of, is_word, key_of, unboxed, words_at, words_in}
 use Rattle.name_table.specs.declared.shortcuts.Shortcut.{Shortcut}
 use Rattle.name_table.specs.Shortcuts.{AreShort}
 use Rattle.name_table.proofs.WaysKept.{ways_like}
@@ -158,6 +159,16 @@ module _ (keys : List Key) (records : List Record) (words : List (Vec Word Globa
       (ways_like (entries_in records) (entries_in records ++ entry_of r ∷ []) ways (omega arith) kept
       (λ q way at t w. inherited_push (entries_in records) (entry_of r) no_bases last bounded late t q w)
       (λ t q w h. inherited_push (entries_in records) (entry_of r) no_bases last bounded late t q w))
+
+pub nested_entries : (records : List Record) → AreNestedRecords records → AreNested (entries_in records)
+nested_entries records nested k x at = by (slice_get records k) refl
+  where
+    by : (r : Option Record) → slice_get records k ≡ r → x.scope ≤ k
+    by None is = let wrong : None ≡ Some x = sym (slice_get-map entry_of records k ∙ ap (option_map entry_of) is) ∙ at in cc
+    by (Some r) is =
+        let found : Some (entry_of r) ≡ Some x = sym (slice_get-map entry_of records k ∙ ap (option_map entry_of) is) ∙ at in
+        let same : entry_of r ≡ x = cc in
+        subst (λ y. y.scope ≤ k) same (nested k r is)
 
 -- ---- none yet
 

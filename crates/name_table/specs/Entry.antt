@@ -1,7 +1,7 @@
 -- A declared name as contracts see it, and scopes. Entries have numbers from 0, in order of declaration. A scope is 0
 -- for the whole file, else one more than the number of the entry whose scope it is.
 use Rattle.std.specs.List.{IsDistinct}
-use Rattle.std.specs.Prelude.{ℕ, zero, suc, Bool, ◌&&◌, nat_eq, List, [], position, slice_get, Option, Some, None}
+use Rattle.std.specs.Prelude.{◌≡◌, ◌≤◌, ℕ, zero, suc, Bool, ◌&&◌, nat_eq, List, [], position, slice_get, Option, Some, None}
 use Rattle.idl_lexer.specs.Words.{same_but_for_case}
 use Rattle.const_values.specs.declared.constant.Constant.{Constant}
 use Rattle.const_values.specs.declared.kind.ConstKind.{ConstKind}
@@ -60,6 +60,10 @@ around entries (suc e) = scope_in (slice_get entries e)
 -- no entry has the name of another of its scope, whatever the case
 abbrev pub AreDistinct : List Entry → Type 0
 AreDistinct entries = IsDistinct (λ one other. is_named one.scope one.name other) entries
+
+-- the scope of an entry is the file's, or that of an earlier one
+abbrev pub AreNested : List Entry → Type 0
+AreNested entries = (place : ℕ) (e : Entry) → slice_get entries place ≡ Some e → e.scope ≤ place
 
 abbrev pub name_in : Option Entry → List ℕ
 name_in None = []

@@ -82,8 +82,8 @@ ArePlaced records = (scope token base : ℕ) →
     base_at (bases_of (entries_in records) scope) token ≡ Some base → base < length records
 
 -- the scope of an entry is that of an earlier one
-abbrev pub AreNested : List Record → Type 0
-AreNested records = (k : ℕ) (r : Record) → slice_get records k ≡ Some r → r.key.scope ≤ k
+abbrev pub AreNestedRecords : List Record → Type 0
+AreNestedRecords records = (k : ℕ) (r : Record) → slice_get records k ≡ Some r → r.key.scope ≤ k
 
 -- some of the words is the name, whatever its case
 abbrev pub HasWord : List Word → List ℕ → Type 0
@@ -107,7 +107,7 @@ key_of r = r.key
 -- what is kept of entries, in step with their keys
 pub record AreTied (keys : List Key) (records : List Record) (words : List (Vec Word Global)) : Type 0 where
   pub keyed : keys ≡ map key_of records
-  pub nested : AreNested records
+  pub nested : AreNestedRecords records
   pub placed : ArePlaced records
   pub scopes : suc (length records) ≤ length words
   pub listed : AreListed records words

@@ -3,7 +3,7 @@
 ghost use Rattle.std.specs.Prelude.{◌≡◌, ◌<◌, ◌≤◌, ◌^◌, ◌↔◌, ℕ, length, map, option_copied, IfOk, IfSome, OnOk, OnErr, IfErr, ◌≢◌, ◌+◌, ◌++◌, ◌∷◌, [], None, List, true, slice_get};
 ghost use Rattle.idl_tree.specs.Starts.{name_start, name_first, is_rooted};
 ghost use Rattle.name_table.specs.Search.{own as own_of, inherited as inherited_by, within as within_of, within_first, outwards as outwards_from, sought_in, sight as sight_of, sees, word, begins_at_root, identifiers_see};
-ghost use Rattle.name_table.specs.Entry.{AreDistinct, bases_in, worth_in, meant_in, named, name_in, prefix_in};
+ghost use Rattle.name_table.specs.Entry.{AreDistinct, AreNested, bases_in, worth_in, meant_in, named, name_in, prefix_in};
 ghost use Rattle.name_table.specs.OwnNames.{is_own_name as own_name_of};
 ghost use Rattle.name_table.specs.Features.{is_something};
 ghost use Rattle.idl_lexer.specs.Identifiers.{words};
@@ -109,7 +109,7 @@ impl<'a> Table<'a> {
     }
 
     /// What the bases that are named before the token give.
-    pub(crate) fn inherited(&self, token: usize, scope: usize, word: Word<'a>) -> Found
+    pub fn inherited(&self, token: usize, scope: usize, word: Word<'a>) -> Found
         ensures { result ≡ inherited_by self.now token scope word.entry.text.now }
     {
         let mut place = Place { token, scope };
@@ -181,7 +181,7 @@ impl<'a> Table<'a> {
     }
 
     /// What is seen where a name is sought that stands in the scope.
-    fn look(&self, scope: usize, name: &ScopedName<'a>) -> Sight
+    pub fn look(&self, scope: usize, name: &ScopedName<'a>) -> Sight
         requires { scope ≤ length self.now }
         ensures seen { result ≡ sees self.now scope name.now }
         ensures placed { (e : ℕ) → result ≡ Sight.Seen e → e < length self.now }
@@ -280,11 +280,10 @@ impl<'a> Table<'a> {
         self.records[entry].key.word.text
     }
 
-    /// The scope that an entry is declared in, which is the file's or that of an earlier one.
+    /// The scope that an entry is declared in.
     pub fn scope(&self, entry: usize) -> usize
         requires { entry < length self.now }
-        ensures is { IfSome (slice_get self.now entry) (λ e. result ≡ e.scope) }
-        ensures earlier { result ≤ entry }
+        ensures { IfSome (slice_get self.now entry) (λ e. result ≡ e.scope) }
     {
         self.records[entry].key.scope
     }
@@ -342,10 +341,12 @@ impl<'a> Table<'a> {
         Ok(())
     }
 
-    /// How many entries there are.
+    /// How many entries there are. Scopes stand inside earlier ones, and no two entries of one have
+    /// names that differ in case at most.
     pub fn len(&self) -> usize
         ensures count { result ≡ length self.now }
         ensures distinct { AreDistinct self.now }
+        ensures nested { AreNested self.now }
     {
         self.keys.len()
     }

@@ -7,11 +7,12 @@ use Rattle.idl_tree.proofs.Rows.{chain_walk}
 use Rattle.idl_tree.specs.declared.expression.Operator.{Operator}
 use Rattle.const_values.specs.declared.constant.Constant.{Constant}
 use Rattle.const_values.specs.Worth.{NamesWorth, worth, chain_worth, whole_number, whole_constant, operator_applied}
+use Rattle.scoped_names.specs.declared.fault.At.{At}
 use Rattle.scoped_names.specs.declared.fault.NameFault.{NameFault}
-use Rattle.scoped_names.specs.Entry.{Entry}
-use Rattle.scoped_names.specs.declared.search.Sight.{Sight}
-use Rattle.scoped_names.specs.declared.search.Sight.TheVariants.{Unseen, OtherCase, Unclear, Seen}
-use Rattle.scoped_names.specs.Search.{found_by}
+use Rattle.name_table.specs.Entry.{Entry}
+use Rattle.name_table.specs.declared.search.Sight.{Sight}
+use Rattle.name_table.specs.declared.search.Sight.TheVariants.{Unseen, OtherCase, Unclear, Seen}
+use Rattle.name_table.specs.Search.{found_by}
 use Rattle.scoped_names.specs.Tests.{found_at}
 use Rattle.scoped_names.specs.Constants.{Explains, worth_found}
 
@@ -79,13 +80,13 @@ pub applied_to_none : (o : Operator) (z : ℤ) (w : Option Constant) → w ≡ N
 applied_to_none o z w none = ap (λ v. operator_applied o (Some z) (whole_number v)) none
 
 -- what explains that there is no worth explains it of what has none then
-pub explained : {T U : Type 0} (at : ℕ) (w : Option T) (v : Option U) (e : NameFault) → (w ≡ None → v ≡ None) → Explains at w e → Explains at v e
+pub explained : {T U : Type 0} (at : At) (w : Option T) (v : Option U) (e : NameFault) → (w ≡ None → v ≡ None) → Explains at w e → Explains at v e
 explained at w v e less (inl memory) = inl memory
 explained at w v e less (inr (none, is)) = inr (less none, is)
 
 -- what finds no entry alone is worth nothing
-pub not_found : (es : List Entry) (at : ℕ) (seen : Sight) (fault : NameFault) → found_at at seen ≡ Err fault → worth_found es (found_by seen) ≡ None
+pub not_found : (es : List Entry) (at : At) (seen : Sight) (fault : NameFault) → found_at es at seen ≡ Err fault → worth_found es (found_by seen) ≡ None
 not_found es at Unseen fault is = refl
-not_found es at OtherCase fault is = refl
+not_found es at (OtherCase e) fault is = refl
 not_found es at Unclear fault is = refl
 not_found es at (Seen e) fault is = absurd cc

@@ -1,11 +1,20 @@
--- What reading the parts of a specification introduces is what the specification says.
-use Rattle.std.proofs.Common.{◌≡◌, ◌∙◌, ℕ, zero, suc, nat_eq, length, Bool, true, false, List, [], ◌∷◌, ◌++◌, Option, Some, None, Ok, Err, refl, sym, ap, subst}
-use Rattle.std.specs.Prelude.{if◌then◌else◌}
-use Rattle.std.specs.List.{AllByRecursion, IsDistinct, flat_map, list_any}
+-- What reading the steps of a specification introduces is what the specification says.
+use Rattle.std.proofs.Common.{◌≡◌, ◌∙◌, ℕ, zero, suc, List, [], ◌∷◌, ◌++◌, length, Option, Some, None, Result, Ok, append-nil, append_assoc, refl, sym, ap, subst}
+use Rattle.std.specs.Prelude.{map}
+use Rattle.std.specs.List.{AllByRecursion, IsDistinct, flat_map}
+use Rattle.idl_lexer.specs.Identifiers.{words}
 use Rattle.idl_tree.specs.declared.names.Leaf.{Leaf}
 use Rattle.idl_tree.specs.declared.names.ScopedName.{ScopedName}
+use Rattle.idl_tree.specs.declared.const_expr.Bound.{Bound}
+use Rattle.idl_tree.specs.declared.types.ConstType.{ConstType}
+use Rattle.idl_tree.specs.declared.types.ConstType.TheVariants as ConstTypes
+use Rattle.idl_tree.specs.declared.types.ParamType.{ParamType}
+use Rattle.idl_tree.specs.declared.types.ParamType.TheVariants as ParamTypes
+use Rattle.idl_tree.specs.declared.types.SimpleType.{SimpleType, Plain, Sequence'}
 use Rattle.idl_tree.specs.declared.types.Declarator.{Declarator}
 use Rattle.idl_tree.specs.declared.types.EnumType.{EnumType}
+use Rattle.idl_tree.specs.declared.types.Label.{Label}
+use Rattle.idl_tree.specs.declared.types.Label.TheVariants as Labels
 use Rattle.idl_tree.specs.declared.types.SwitchType.{SwitchType}
 use Rattle.idl_tree.specs.declared.types.SwitchType.TheVariants as SwitchTypes
 use Rattle.idl_tree.specs.declared.types.TypeSpec.{TypeSpec, Simple, Struct as StructSpec, Union as UnionSpec, Enum as EnumSpec}
@@ -15,10 +24,10 @@ use Rattle.idl_tree.specs.declared.types.Member.{Member}
 use Rattle.idl_tree.specs.declared.definitions.TypeDcl.{TypeDcl}
 use Rattle.idl_tree.specs.declared.definitions.TypeDcl.TheVariants as TypeDcls
 use Rattle.idl_tree.specs.declared.definitions.Const.{Const}
-use Rattle.idl_tree.specs.declared.definitions.Except.{Except}
 use Rattle.idl_tree.specs.declared.definitions.Declaration.{Declaration}
 use Rattle.idl_tree.specs.declared.definitions.Declaration.TheVariants as Declarations
-use Rattle.idl_tree.specs.declared.definitions.Attribute.{Attribute}
+use Rattle.idl_tree.specs.declared.definitions.Attributes.{Attributes}
+use Rattle.idl_tree.specs.declared.definitions.Attributes.TheVariants.{Silent, Readonly, Get, Set}
 use Rattle.idl_tree.specs.declared.definitions.Operation.{Operation}
 use Rattle.idl_tree.specs.declared.definitions.Param.{Param}
 use Rattle.idl_tree.specs.declared.definitions.Export.{Export}
@@ -27,357 +36,422 @@ use Rattle.idl_tree.specs.declared.definitions.Interface.{Interface}
 use Rattle.idl_tree.specs.declared.definitions.Interface.TheVariants.{Ahead, Defined}
 use Rattle.idl_tree.specs.declared.definitions.Definition.{Definition, Pragma, Declaration as Declared, Interface as InterfaceDcl, Module', Row_of-Definition, end_of-Definition, more_of-Definition}
 use Rattle.idl_tree.specs.Lists.{parts}
-use Rattle.idl_tree.specs.Starts.{name_start}
-use Rattle.const_values.specs.declared.kind.ConstKind.{ConstKind}
-use Rattle.idl_lexer.specs.Identifiers.{words}
-use Rattle.scoped_names.specs.declared.entry.Base.{Base}
-use Rattle.scoped_names.specs.declared.entry.EntryKind.{EntryKind}
-use Rattle.scoped_names.specs.declared.entry.EntryKind.TheVariants as Entries
-use Rattle.scoped_names.specs.declared.entry.Meaning.{Meaning}
-use Rattle.scoped_names.specs.declared.fault.NameFault.TheVariants.{BadBase, Collides}
-use Rattle.scoped_names.specs.Entry.{Entry, named}
-use Rattle.scoped_names.specs.Constants.{const_type_kind}
-use Rattle.scoped_names.specs.Entries.{attribute_identifiers, const_meant, enum_meant, enumerator_meant, optional_parts, plain, scope_number, scope_of, typedef_meant, with_base}
-use Rattle.scoped_names.specs.Faults.{attribute_read, base_added, base_read, cases_read, const_read, declaration_read, declarator_read, based, declared, declared_as, defined, defined_from, definition_read, definitions_read, enum_read, enumerator_read, except_read, export_read, feature_read, features_of, given_once, interface_read, is_defined, is_something, may_be_base, member_added, member_read, members_read, new_test, nothing_yet, operation_read, param_read, passed, pragma_read, prefix_read, said_read, specification_read, struct_read, switch_read, type_dcl_read, type_kind, type_read, typedef_read, undefined_test, union_read, with_defined}
+use Rattle.name_table.specs.declared.entry.EntryKind.{EntryKind}
+use Rattle.name_table.specs.declared.entry.EntryKind.TheVariants as Kinds
+use Rattle.scoped_names.specs.declared.fault.At.{At}
+use Rattle.scoped_names.specs.declared.fault.NameFault.{NameFault}
+use Rattle.name_table.specs.Entry.{Entry, around, named, scope_in}
+use Rattle.name_table.specs.Entries.{plain, scope_number, scope_of}
+use Rattle.name_table.specs.Search.{inherited, word}
+use Rattle.name_table.specs.Features.{features_of}
+use Rattle.scoped_names.specs.Faults.{declared, declared_as, free_of, given_once, left_open, never_defined, nothing_yet, prefix_set, said_read, specification_read, step_read, steps_read, test_of, type_kind}
 use Rattle.scoped_names.specs.IdPragmas.{Said, SetsPrefix, Gives, begins_at_root, identifiers_see, said_by}
-use Rattle.scoped_names.specs.Introductions.{Introduction, Stands, Has, Body, IsEntry, attribute_introduced, cases_introduced, clashes, declaration_introduced, declarator_introduced, definition_introduced, definitions_introduced, enum_introduced, enumerator_introduced, except_introduced, export_introduced, interface_introduced, introduced, member_introduced, members_introduced, operation_introduced, param_introduced, struct_introduced, switch_introduced, type_dcl_introduced, type_introduced, typedef_introduced, union_introduced}
-use Rattle.scoped_names.specs.Reading.{Reading, State, all, each, ◌>>◌}
+use Rattle.scoped_names.specs.Introductions.{Introduction, Stands, Has, Body, IsEntry, clashes, introduced, introduced_by, scope_behind}
+use Rattle.scoped_names.specs.Meanings.{const_meant, enum_meant, enumerator_meant, typedef_meant}
+use Rattle.scoped_names.specs.Reading.{Reading, State, ◌>>◌, passed}
 use Rattle.scoped_names.specs.RepositoryIds.{given_to}
-use Rattle.scoped_names.specs.Search.{inherited, word}
-use Rattle.scoped_names.specs.Tests.{attributes_test, const_type_test, found_at, label_test, line, optional_test, param_type_test, raises_test, resolved, simple_type_test, size_test, type_name_test, value_of_type}
+use Rattle.scoped_names.specs.Steps.{Step, Declares, DeclaresEnum, DeclaresEnumerator, DeclaresTypedef, IsNew, DeclaresConst, DeclaresFeature, HasMember, IsUndefined, HasBase, Enters, Defines, Leaves, NamesType, NamesException, HasWorth, IsSize, Says, attributes_steps, bound_steps, cases_steps, const_steps, const_type_steps, declaration_steps, declarator_steps, definition_steps, definitions_steps, enum_steps, export_steps, interface_steps, label_steps, member_steps, members_steps, operation_steps, optional_parts, param_steps, param_type_steps, raises_steps, result_steps, simple_type_steps, size_step, steps_of, struct_steps, switch_steps, type_dcl_steps, type_steps, typedef_steps, union_steps}
+use Rattle.scoped_names.specs.Tests.{at, found_at, value_of_type}
+use Rattle.scoped_names.specs.TypeKinds.{const_type_kind}
 use Rattle.scoped_names.specs.Whole.{AreNames, Whole, whole}
-use Rattle.scoped_names.proofs.Introducing.{Adds, Grows, Holds, Keeps, adds_grown, adds_same, based_grows, body_adds, declares_adds, defined_adds, each_adds, joined, keeps_on, member_adds, passed_same, then_ok, undefined_is}
+use Rattle.scoped_names.proofs.Introducing.{Adds, Does, Grows, Holds, Keeps, Known, adds_both, adds_none, all_map, base_does, declared_does, defined_does, does_none, grows_none, grows_on, keeps_on, known, member_does, named_entry, passed_same, then_ok}
 
--- ---- what has a scope of its own
+-- ---- pragmas
 
--- the number of its scope is that of the whole
-scope_kept : (es : List Entry) (st : State) (scope : ℕ) (l : Leaf) (kind : EntryKind) → Holds st (Stands scope l kind) → Keeps st.entries es → scope_of st.entries scope l ≡ scope_of es scope l
-scope_kept es st scope l kind (n, e, there, at, kind_is, name_is) later =
-    ap scope_number there ∙ sym (ap scope_number (later scope (word l) n there))
+prefix_does : (st next : State) (scope : ℕ) (text : List ℕ) (here : At) → prefix_set st scope text here ≡ Ok next → Does st [] next
+prefix_does st next zero text here h =
+    let set : State = record st { prefix = text } in
+    let is : set ≡ next = cc in
+    subst (Does st []) is (record { adds = adds_none (known st); scope = refl })
+prefix_does st next (suc e) text here h = absurd cc
 
--- a declaration, and then what is introduced inside it
-inside : (es : List Entry) (m : Meaning) (st opened next : State) (scope : ℕ) (l : Leaf) (inner : ℕ → List Introduction) → declared_as m st scope l ≡ Ok opened → Keeps next.entries es
-    → Adds opened (inner (scope_of opened.entries scope l)) next → Adds st (Stands scope l m.kind ∷ inner (scope_of es scope l)) next
-inside es m st opened next scope l inner opens later behind =
-    let first = declares_adds m st opened scope l opens in
-    let same = scope_kept es opened scope l m.kind first.holds.0 (keeps_on opened.entries next.entries es behind.grows.names later) in
-    subst (λ i. Adds st (Stands scope l m.kind ∷ inner i) next) same
-    (joined st opened next (Stands scope l m.kind ∷ []) (inner (scope_of opened.entries scope l)) first behind)
+said_does : (st next : State) (l : Leaf) (o : Option Said) → said_read st l o ≡ Ok next → Does st [] next
+said_does st next l None h = does_none st next cc
+said_does st next l (Some (SetsPrefix text)) h = prefix_does st next st.scope text (at l) h
+said_does st next l (Some (Gives name given)) h =
+    let (e, finds, h1) = then_ok (found_at st.entries (at l) (identifiers_see st.entries l.number st.scope (begins_at_root name) (words name)))
+    (λ e. given_once st.given e given (at l) (given_to st.given e) >> λ ps. let r : Reading = Ok (record st { given = ps }) in r) next h in
+    let (ps, gives, h2) = then_ok (given_once st.given e given (at l) (given_to st.given e)) (λ ps. let r : Reading = Ok (record st { given = ps }) in r) next h1 in
+    let more : State = record st { given = ps } in
+    let is : more ≡ next = cc in
+    subst (Does st []) is (record { adds = adds_none (known st); scope = refl })
+
+-- ---- steps
+
+-- all but those that enter and leave scopes
+abbrev IsFlat : Step → Type 0
+IsFlat (Enters l) = ⊥
+IsFlat Leaves = ⊥
+IsFlat _ = Unit {0}
+
+enum_does : (st next : State) (l : Leaf) → step_read st (DeclaresEnum l) ≡ Ok next → Does st (Stands st.scope l Kinds.Enum ∷ []) next
+enum_does st next l h =
+    let m = enum_meant (length st.entries) l in
+    let (mid, declares, rest) = then_ok (declared_as m st l) (λ next. let r : Reading = Ok (record next { enumeration = length st.entries }) in r) next h in
+    let does = declared_does m st mid l declares in
+    let last : State = record mid { enumeration = length st.entries } in
+    let is : last ≡ next = cc in
+    subst (Does st (Stands st.scope l Kinds.Enum ∷ [])) is (record { adds = does.adds; scope = does.scope })
+
+flat_does : (st next : State) (s : Step) → IsFlat s → step_read st s ≡ Ok next → Does st (introduced_by st.scope s) next
+flat_does st next (Declares kind l) flat h = declared_does (plain l.number kind) st next l h
+flat_does st next (DeclaresEnum l) flat h = enum_does st next l h
+flat_does st next (DeclaresEnumerator l) flat h = declared_does (enumerator_meant st.enumeration (length st.entries) l) st next l h
+flat_does st next (DeclaresTypedef t d) flat h = declared_does (typedef_meant (type_kind st t) d) st next d.identifier h
+flat_does st next (DeclaresConst c) flat h =
+    let (worth, is, rest) = then_ok (value_of_type (const_type_kind st.entries st.scope c.const_type) st.entries st.scope c.value.expr)
+    (λ worth. declared_as (const_meant c worth) st c.identifier) next h in
+    declared_does (const_meant c worth) st next c.identifier rest
+flat_does st next (DeclaresFeature kind l) flat h =
+    let (u, free, rest) = then_ok (free_of st.entries l (inherited (features_of st.entries) l.number st.scope (word l))) (λ u. declared kind st l) next h in
+    declared_does (plain l.number kind) st next l rest
+flat_does st next (HasMember l) flat h = member_does st next l h
+flat_does st next (HasBase l name) flat h = base_does st next (scope_of st.entries st.scope l) name h
+flat_does st next (Enters l) flat h = absurd flat
+flat_does st next (Defines l) flat h = defined_does st next l h
+flat_does st next Leaves flat h = absurd flat
+flat_does st next (Says l) flat h = said_does st next l (said_by l) h
+flat_does st next s flat h = does_none st next (passed_same st (test_of st s) next h)
+
+flat_behind : (es : List Entry) (scope : ℕ) (s : Step) → IsFlat s → scope_behind es scope s ≡ scope
+flat_behind es scope (Enters l) flat = absurd flat
+flat_behind es scope Leaves flat = absurd flat
+flat_behind es scope s flat = refl
+
+step_grows : (st next : State) (s : Step) → step_read st s ≡ Ok next → Grows (known st) (known next)
+step_grows st next (Enters l) h =
+    let inside : State = record st { scope = scope_of st.entries st.scope l } in
+    let is : inside ≡ next = cc in
+    subst (λ x. Grows (known st) (known x)) is (grows_none (known st))
+step_grows st next Leaves h =
+    let outside : State = record st { scope = around st.entries st.scope } in
+    let is : outside ≡ next = cc in
+    subst (λ x. Grows (known st) (known x)) is (grows_none (known st))
+step_grows st next s h = let does = flat_does st next s tt h in does.adds.grows
+
+-- ---- steps one behind another
+
+steps_grow : (st next : State) (steps : List Step) → steps_read st steps ≡ Ok next → Grows (known st) (known next)
+steps_grow st next [] h = let is : st ≡ next = cc in subst (λ x. Grows (known st) (known x)) is (grows_none (known st))
+steps_grow st next (s ∷ steps) h =
+    let (mid, first, rest) = then_ok (step_read st s) (λ x. steps_read x steps) next h in
+    grows_on (known st) (known mid) (known next) (step_grows st mid s first) (steps_grow mid next steps rest)
+
+read_append : (st next : State) (xs ys : List Step) → steps_read st (xs ++ ys) ≡ Ok next → (mid : State) × (steps_read st xs ≡ Ok mid) × (steps_read mid ys ≡ Ok next)
+read_append st next [] ys h = (st, refl, h)
+read_append st next (x ∷ xs) ys h =
+    let (one, first, rest) = then_ok (step_read st x) (λ s. steps_read s (xs ++ ys)) next h in
+    let (mid, before, behind) = read_append one next xs ys rest in
+    (mid, ap (λ r. r >> λ s. steps_read s xs) first ∙ before, behind)
+
+-- reading steps that leave what they enter adds what they introduce; `es` are the entries of the whole
+record Reads (es : List Entry) (st : State) (xs : List Step) (next : State) : Type 0 where
+  adds : Adds (known st) (introduced es st.scope xs) (known next)
+  scope : next.scope ≡ st.scope
+  walks : (rest : List Step) → introduced es st.scope (xs ++ rest) ≡ introduced es st.scope xs ++ introduced es st.scope rest
+
+one_reads : (es : List Entry) (st next : State) (s : Step) → IsFlat s → step_read st s ≡ Ok next → Reads es st (s ∷ []) next
+one_reads es st next s flat h =
+    let does = flat_does st next s flat h in
+    let none = append-nil (introduced_by st.scope s) in
+    record {
+      adds = subst (λ zs. Adds (known st) zs (known next)) (sym none) does.adds;
+      scope = does.scope;
+      walks = λ rest.
+          ap (λ k. introduced_by st.scope s ++ introduced es k rest) (flat_behind es st.scope s flat)
+          ∙ ap (λ zs. zs ++ introduced es st.scope rest) (sym none);
+    }
+
+both_read : (es : List Entry) (st mid next : State) (xs ys : List Step) → Reads es st xs mid → Reads es mid ys next → Reads es st (xs ++ ys) next
+both_read es st mid next xs ys a b =
+    let of_first = introduced es st.scope xs in
+    let behind = subst (λ k. Adds (known mid) (introduced es k ys) (known next)) a.scope b.adds in
+    let walks = subst (λ k. (rest : List Step) → introduced es k (ys ++ rest) ≡ introduced es k ys ++ introduced es k rest) a.scope b.walks in
+    record {
+      adds = subst (λ zs. Adds (known st) zs (known next)) (sym (a.walks ys)) (adds_both (known st) (known mid) (known next) of_first (introduced es st.scope ys) a.adds behind);
+      scope = b.scope ∙ a.scope;
+      walks = λ rest.
+          ap (introduced es st.scope) (append_assoc xs ys rest) ∙ a.walks (ys ++ rest) ∙ ap (λ zs. of_first ++ zs) (walks rest)
+          ∙ sym (append_assoc of_first (introduced es st.scope ys) (introduced es st.scope rest))
+          ∙ ap (λ zs. zs ++ introduced es st.scope rest) (sym (a.walks ys));
+    }
+
+-- ---- steps that leave what they enter
+
+-- the scope has an entry of the name
+abbrev IsThere : State → Leaf → Type 0
+IsThere st l = (n : ℕ) × (named st.entries st.scope (word l) ≡ Some n)
+
+-- where the identifiers are there, the steps enter only what is there, and leave it
+record Closed (ls : List Leaf) (xs : List Step) : Type 0 where
+  go : (es : List Entry) (st next : State) → steps_read st xs ≡ Ok next → Keeps next.entries es → AllByRecursion (IsThere st) ls → Reads es st xs next
+
+still_there : (st mid : State) → Grows (known st) (known mid) → mid.scope ≡ st.scope → (l : Leaf) → IsThere st l → IsThere mid l
+still_there st mid grows scope l (n, is) = (n, ap (λ k. named mid.entries k (word l)) scope ∙ grows.names st.scope (word l) n is)
+
+none : {ls : List Leaf} → Closed ls []
+none = record {
+  go = λ es st next h later there.
+      let is : st ≡ next = cc in
+      subst (Reads es st []) is (record { adds = adds_none (known st); scope = refl; walks = λ rest. refl });
+}
+
+joined : {ls : List Leaf} {xs ys : List Step} → Closed ls xs → Closed ls ys → Closed ls (xs ++ ys)
+joined {ls} {xs} {ys} a b = record {
+  go = λ es st next h later there.
+      let (mid, before, behind) = read_append st next xs ys h in
+      let from_mid = keeps_on mid.entries next.entries es (steps_grow mid next ys behind).names later in
+      let first = a.go es st mid before from_mid there in
+      let still = all_map (IsThere st) (IsThere mid) (still_there st mid first.adds.grows first.scope) ls there in
+      both_read es st mid next xs ys first (b.go es mid next behind later still);
+}
+
+one : {ls : List Leaf} (s : Step) → IsFlat s → Closed ls (s ∷ [])
+one s flat = record {
+  go = λ es st next h later there.
+      let (mid, first, rest) = then_ok (step_read st s) (λ x. steps_read x []) next h in
+      let is : mid ≡ next = cc in
+      subst (Reads es st (s ∷ [])) is (one_reads es st mid s flat first);
+}
+
+-- steps behind a declaration
+declaring : {ls : List Leaf} {ys : List Step} (s : Step) (l : Leaf) (kind : EntryKind) → IsFlat s → ((scope : ℕ) → introduced_by scope s ≡ Stands scope l kind ∷ [])
+    → Closed (l ∷ ls) ys → Closed ls (s ∷ ys)
+declaring {ls} {ys} s l kind flat stands b = record {
+  go = λ es st next h later there.
+      let (mid, first, rest) = then_ok (step_read st s) (λ x. steps_read x ys) next h in
+      let does = flat_does st mid s flat first in
+      let (n, e, is, at_n, kind_is, name_is) = (subst (AllByRecursion (Holds (known mid))) (stands st.scope) does.adds.holds).0 in
+      let still = all_map (IsThere st) (IsThere mid) (still_there st mid does.adds.grows does.scope) ls there in
+      let behind = b.go es mid next rest later ((n, ap (λ k. named mid.entries k (word l)) does.scope ∙ is), still) in
+      both_read es st mid next (s ∷ []) ys (one_reads es st mid s flat first) behind;
+}
+
+around_named : (es : List Entry) (scope : ℕ) (name : List ℕ) (n : ℕ) → named es scope name ≡ Some n → around es (suc n) ≡ scope
+around_named es scope name n h = let (e, here, in_scope) = named_entry es scope name n h in ap scope_in here ∙ sym in_scope
+
+-- steps inside the scope of what is there
+within : {ls : List Leaf} {ys : List Step} (l : Leaf) → Closed [] ys → Closed (l ∷ ls) (Enters l ∷ (ys ++ Leaves ∷ []))
+within {ls} {ys} l b = record {
+  go = λ es st next h later there.
+      let inner = scope_of st.entries st.scope l in
+      let entered : State = record st { scope = inner } in
+      let (last, before, behind) = read_append entered next ys (Leaves ∷ []) h in
+      let left : State = record last { scope = around last.entries last.scope } in
+      let is : left ≡ next = cc in
+      let from_last = subst (λ s. Keeps s.entries es) (sym is) later in
+      let body = b.go es entered last before from_last tt in
+      let (n, first) = there.0 in
+      let in_last = body.adds.grows.names st.scope (word l) n first in
+      let in_whole = from_last st.scope (word l) n in_last in
+      let inner_is : inner ≡ suc n = ap scope_number first in
+      let inner_of : scope_of es st.scope l ≡ inner = ap scope_number in_whole ∙ sym inner_is in
+      let none_behind = append-nil (introduced es inner ys) in
+      let inside : introduced es (scope_of es st.scope l) (ys ++ Leaves ∷ []) ≡ introduced es inner ys =
+      ap (λ k. introduced es k (ys ++ Leaves ∷ [])) inner_of ∙ body.walks (Leaves ∷ []) ∙ none_behind in
+      let outer : around es inner ≡ st.scope = ap (around es) inner_is ∙ around_named es st.scope (word l) n in_whole in
+      subst (Reads es st (Enters l ∷ (ys ++ Leaves ∷ []))) is (record {
+        adds = subst (λ zs. Adds (known st) zs (known left)) (sym inside) body.adds;
+        scope = ap (around last.entries) (body.scope ∙ inner_is) ∙ around_named last.entries st.scope (word l) n in_last;
+        walks = λ rest.
+            ap (λ k. introduced es k ((ys ++ Leaves ∷ []) ++ rest)) inner_of ∙ ap (introduced es inner) (append_assoc ys (Leaves ∷ []) rest)
+            ∙ body.walks (Leaves ∷ rest) ∙ ap (λ k. introduced es inner ys ++ introduced es k rest) outer
+            ∙ ap (λ zs. zs ++ introduced es st.scope rest) (sym inside);
+      });
+}
+
+-- ---- the parts of the tree
+
+flat_each : {ls : List Leaf} {T : Type 0} (step : T → Step) → ((x : T) → IsFlat (step x)) → (xs : List T) → Closed ls (map step xs)
+flat_each step flat [] = none
+flat_each step flat (x ∷ xs) = joined (one (step x) (flat x)) (flat_each step flat xs)
+
+each_part : {ls : List Leaf} {T : Type 0} (steps : T → List Step) → ((x : T) → Closed ls (steps x)) → (xs : List T) → Closed ls (flat_map steps xs)
+each_part steps part [] = none
+each_part steps part (x ∷ xs) = joined (part x) (each_part steps part xs)
 
 -- ---- types
 
-typedef_adds : (kind : Option ConstKind) (st next : State) (scope : ℕ) (d : Declarator) → typedef_read kind st scope d ≡ Ok next → Adds st (typedef_introduced scope d) next
-typedef_adds kind st next scope d h =
-    let (mid, is, rest) = then_ok (declared_as (typedef_meant kind d) st scope d.identifier) (λ st. passed st (all (size_test st.entries scope) d.sizes.items)) next h in
-    subst (Adds st (typedef_introduced scope d)) (passed_same mid (all (size_test mid.entries scope) d.sizes.items) next rest)
-    (declares_adds (typedef_meant kind d) st mid scope d.identifier is)
+bound_closed : {ls : List Leaf} (b : Option Bound) → Closed ls (bound_steps b)
+bound_closed None = none
+bound_closed (Some b) = one (IsSize b.expr) tt
 
-declarator_adds : (st next : State) (scope : ℕ) (d : Declarator) → declarator_read st scope d ≡ Ok next → Adds st (declarator_introduced scope d) next
-declarator_adds st next scope d h =
-    let (mid, is, rest) = then_ok (member_added st scope d.identifier) (λ st. passed st (all (size_test st.entries scope) d.sizes.items)) next h in
-    subst (Adds st (declarator_introduced scope d)) (passed_same mid (all (size_test mid.entries scope) d.sizes.items) next rest)
-    (member_adds st mid scope d.identifier is)
+const_type_closed : {ls : List Leaf} (t : ConstType) → Closed ls (const_type_steps t)
+const_type_closed (ConstTypes.Integer i) = none
+const_type_closed ConstTypes.Char = none
+const_type_closed ConstTypes.Boolean = none
+const_type_closed ConstTypes.Octet = none
+const_type_closed (ConstTypes.String b) = bound_closed b
+const_type_closed (ConstTypes.Name name) = one (NamesType name) tt
 
-enumerator_adds : (owner : ℕ) (st next : State) (scope : ℕ) (l : Leaf) → enumerator_read owner st scope l ≡ Ok next → Adds st (enumerator_introduced scope l) next
-enumerator_adds owner st next scope l h = declares_adds (enumerator_meant owner (length st.entries) l) st next scope l h
+param_type_closed : {ls : List Leaf} (t : ParamType) → Closed ls (param_type_steps t)
+param_type_closed (ParamTypes.Plain t) = const_type_closed t
+param_type_closed ParamTypes.Object = none
 
-enum_adds : (es : List Entry) (st next : State) (scope : ℕ) (e : EnumType) → enum_read st scope e ≡ Ok next → Keeps next.entries es → Adds st (enum_introduced scope e) next
-enum_adds es st next scope e h later =
-    let (mid, is, rest) = then_ok (declared_as (enum_meant (length st.entries) e.identifier) st scope e.identifier)
-    (λ next. each (enumerator_read (length st.entries)) next scope (parts e.enumerators)) next h in
-    let behind = each_adds (enumerator_read (length st.entries)) enumerator_introduced es (λ s n i l is later. enumerator_adds (length st.entries) s n i l is) mid next scope (parts e.enumerators) rest later in
-    joined st mid next (Stands scope e.identifier Entries.Enum ∷ []) _ (declares_adds (enum_meant (length st.entries) e.identifier) st mid scope e.identifier is) behind
+simple_type_closed : {ls : List Leaf} (t : SimpleType) → Closed ls (simple_type_steps t)
+simple_type_closed (Plain t) = param_type_closed t
+simple_type_closed (Sequence' p element b) = joined (simple_type_closed element) (bound_closed b)
 
-switch_adds : (es : List Entry) (st next : State) (scope : ℕ) (s : SwitchType) → switch_read st scope s ≡ Ok next → Keeps next.entries es → Adds st (switch_introduced scope s) next
-switch_adds es st next scope (SwitchTypes.Enum e) h later = enum_adds es st next scope e h later
-switch_adds es st next scope (SwitchTypes.Integer i) h later = adds_same st next cc
-switch_adds es st next scope SwitchTypes.Char h later = adds_same st next cc
-switch_adds es st next scope SwitchTypes.Boolean h later = adds_same st next cc
-switch_adds es st next scope (SwitchTypes.Name name) h later = adds_same st next (passed_same st (type_name_test st.entries scope name) next h)
+-- a declarator's step, and its sizes
+sized : {ls : List Leaf} (s : Step) → IsFlat s → (d : Declarator) → Closed ls (s ∷ map size_step d.sizes.items)
+sized s flat d = joined (one s flat) (flat_each size_step (λ size. tt) d.sizes.items)
 
--- a member's declarators behind its type
-declarators_add : (es : List Entry) (st next : State) (scope : ℕ) (ds : List Declarator) → each declarator_read st scope ds ≡ Ok next → Keeps next.entries es
-    → Adds st (flat_map (declarator_introduced scope) ds) next
-declarators_add es st next scope ds h later = each_adds declarator_read declarator_introduced es (λ st next scope d is later. declarator_adds st next scope d is) st next scope ds h later
+declarators_closed : {ls : List Leaf} (ds : List Declarator) → Closed ls (flat_map declarator_steps ds)
+declarators_closed ds = each_part declarator_steps (λ d. sized (HasMember d.identifier) tt d) ds
+
+enum_closed : {ls : List Leaf} (e : EnumType) → Closed ls (enum_steps e)
+enum_closed e = joined (one (DeclaresEnum e.identifier) tt) (flat_each DeclaresEnumerator (λ l. tt) (parts e.enumerators))
+
+switch_closed : {ls : List Leaf} (s : SwitchType) → Closed ls (switch_steps s)
+switch_closed (SwitchTypes.Enum e) = enum_closed e
+switch_closed (SwitchTypes.Integer i) = none
+switch_closed SwitchTypes.Char = none
+switch_closed SwitchTypes.Boolean = none
+switch_closed (SwitchTypes.Name name) = one (NamesType name) tt
+
+label_closed : {ls : List Leaf} (l : Label) → Closed ls (label_steps l)
+label_closed (Labels.Case value) = one (HasWorth value.expr) tt
+label_closed (Labels.Default word) = none
+
+-- what is declared, and steps inside it
+inside : {ls : List Leaf} {body : List Step} (kind : EntryKind) (id : Leaf) → Closed [] body
+    → Closed ls (Declares kind id ∷ Enters id ∷ (body ++ Leaves ∷ []))
+inside kind id body = declaring (Declares kind id) id kind tt (λ scope. refl) (within id body)
+
+-- the same, where it has its definition
+defining : {ls : List Leaf} {body : List Step} (kind : EntryKind) (id : Leaf) → Closed [] body
+    → Closed ls (Declares kind id ∷ Enters id ∷ Defines id ∷ (body ++ Leaves ∷ []))
+defining kind id body = inside kind id (joined (one (Defines id) tt) body)
 
 mutual
-  type_adds : (es : List Entry) (st next : State) (scope : ℕ) (t : TypeSpec) → type_read st scope t ≡ Ok next → Keeps next.entries es → Adds st (type_introduced es scope t) next
-  type_adds es st next scope (Simple t) h later = adds_same st next (passed_same st (simple_type_test st.entries scope t) next h)
-  type_adds es st next scope (StructSpec s) h later = struct_adds es st next scope s h later
-  type_adds es st next scope (UnionSpec u) h later = union_adds es st next scope u h later
-  type_adds es st next scope (EnumSpec e) h later = enum_adds es st next scope e h later
+  type_closed : {ls : List Leaf} (t : TypeSpec) → Closed ls (type_steps t)
+  type_closed (Simple t) = simple_type_closed t
+  type_closed (StructSpec s) = struct_closed s
+  type_closed (UnionSpec u) = union_closed u
+  type_closed (EnumSpec e) = enum_closed e
 
-  struct_adds : (es : List Entry) (st next : State) (scope : ℕ) (s : StructType) → struct_read st scope s ≡ Ok next → Keeps next.entries es → Adds st (struct_introduced es scope s) next
-  struct_adds es st next scope (StructType' id p t declarators shape rest) h later =
-      let (opened, opens, h1) = then_ok (declared Entries.Struct st scope id) (λ st.
-      let inner = scope_of st.entries scope id in
-      defined st inner (line id) >> λ st. (type_read st inner t >> λ st. each declarator_read st inner (parts declarators)) >> λ st. members_read st inner rest) next h in
-      let inner = scope_of opened.entries scope id in
-      let (begun, begins, h2) = then_ok (defined opened inner (line id))
-      (λ st. (type_read st inner t >> λ st. each declarator_read st inner (parts declarators)) >> λ st. members_read st inner rest) next h1 in
-      let (first, h3, h4) = then_ok (type_read begun inner t >> λ st. each declarator_read st inner (parts declarators)) (λ st. members_read st inner rest) next h2 in
-      let (typed, types, declares_first) = then_ok (type_read begun inner t) (λ st. each declarator_read st inner (parts declarators)) first h3 in
-      let others = members_add es first next inner rest h4 later in
-      let from_first : Keeps first.entries es = keeps_on first.entries next.entries es others.grows.names later in
-      let names = declarators_add es typed first inner (parts declarators) declares_first from_first in
-      let from_type : Keeps typed.entries es = keeps_on typed.entries first.entries es names.grows.names from_first in
-      let typed_adds = type_adds es begun typed inner t types from_type in
-      let member = joined begun typed first _ _ typed_adds names in
-      let all_members = joined begun first next _ _ member others in
-      let body = joined opened begun next (Body inner ∷ []) _ (defined_adds opened begun inner (line id) begins) all_members in
-      inside es (plain id.number Entries.Struct) st opened next scope id
-      (λ i. Body i ∷ ((type_introduced es i t ++ flat_map (declarator_introduced i) (parts declarators)) ++ members_introduced es i rest)) opens later body
+  struct_closed : {ls : List Leaf} (s : StructType) → Closed ls (struct_steps s)
+  struct_closed (StructType' id p t declarators shape rest) =
+      defining Kinds.Struct id (joined (joined (type_closed t) (declarators_closed (parts declarators))) (members_closed rest))
 
-  union_adds : (es : List Entry) (st next : State) (scope : ℕ) (u : UnionType) → union_read st scope u ≡ Ok next → Keeps next.entries es → Adds st (union_introduced es scope u) next
-  union_adds es st next scope (UnionType' id switch p labels t declarator shape rest) h later =
-      let (opened, opens, h1) = then_ok (declared Entries.Union st scope id) (λ st.
-      let inner = scope_of st.entries scope id in
-      defined st inner (line id) >> λ st. switch_read st inner switch >> λ st.
-      (all (label_test st.entries inner) (parts labels) >> λ u. type_read st inner t >> λ st. declarator_read st inner declarator) >> λ st. cases_read st inner rest) next h in
-      let inner = scope_of opened.entries scope id in
-      let (begun, begins, h2) = then_ok (defined opened inner (line id)) (λ st. switch_read st inner switch >> λ st.
-      (all (label_test st.entries inner) (parts labels) >> λ u. type_read st inner t >> λ st. declarator_read st inner declarator) >> λ st. cases_read st inner rest) next h1 in
-      let (switched, switches, h3) = then_ok (switch_read begun inner switch) (λ st.
-      (all (label_test st.entries inner) (parts labels) >> λ u. type_read st inner t >> λ st. declarator_read st inner declarator) >> λ st. cases_read st inner rest) next h2 in
-      let (first, h4, h5) = then_ok (all (label_test switched.entries inner) (parts labels) >> λ u. type_read switched inner t >> λ st. declarator_read st inner declarator)
-      (λ st. cases_read st inner rest) next h3 in
-      let (u, tested, h6) = then_ok (all (label_test switched.entries inner) (parts labels)) (λ u. type_read switched inner t >> λ st. declarator_read st inner declarator) first h4 in
-      let (typed, types, declares_first) = then_ok (type_read switched inner t) (λ st. declarator_read st inner declarator) first h6 in
-      let others = cases_add es first next inner rest h5 later in
-      let from_first : Keeps first.entries es = keeps_on first.entries next.entries es others.grows.names later in
-      let name = declarator_adds typed first inner declarator declares_first in
-      let from_type : Keeps typed.entries es = keeps_on typed.entries first.entries es name.grows.names from_first in
-      let typed_adds = type_adds es switched typed inner t types from_type in
-      let case = joined switched typed first _ _ typed_adds name in
-      let all_cases = joined switched first next _ _ case others in
-      let from_switch : Keeps switched.entries es = keeps_on switched.entries next.entries es all_cases.grows.names later in
-      let switch_behind = joined begun switched next _ _ (switch_adds es begun switched inner switch switches from_switch) all_cases in
-      let body = joined opened begun next (Body inner ∷ []) _ (defined_adds opened begun inner (line id) begins) switch_behind in
-      inside es (plain id.number Entries.Union) st opened next scope id
-      (λ i. Body i ∷ (switch_introduced i switch ++ ((type_introduced es i t ++ declarator_introduced i declarator) ++ cases_introduced es i rest))) opens later body
+  union_closed : {ls : List Leaf} (u : UnionType) → Closed ls (union_steps u)
+  union_closed (UnionType' id switch p labels t declarator shape rest) =
+      let first = joined (joined (each_part label_steps label_closed (parts labels)) (type_closed t)) (sized (HasMember declarator.identifier) tt declarator) in
+      defining Kinds.Union id (joined (joined (switch_closed switch) first) (cases_closed rest))
 
-  members_add : {n : _} → (es : List Entry) (st next : State) (scope : ℕ) (row : Row_of-Member n) → members_read st scope row ≡ Ok next → Keeps next.entries es → Adds st (members_introduced es scope row) next
-  members_add es st next scope end_of-Member h later = adds_same st next cc
-  members_add es st next scope (more_of-Member t declarators rest) h later =
-      let (first, h1, h2) = then_ok (type_read st scope t >> λ st. each declarator_read st scope (parts declarators)) (λ st. members_read st scope rest) next h in
-      let (typed, types, declares_first) = then_ok (type_read st scope t) (λ st. each declarator_read st scope (parts declarators)) first h1 in
-      let others = members_add es first next scope rest h2 later in
-      let from_first : Keeps first.entries es = keeps_on first.entries next.entries es others.grows.names later in
-      let names = declarators_add es typed first scope (parts declarators) declares_first from_first in
-      let from_type : Keeps typed.entries es = keeps_on typed.entries first.entries es names.grows.names from_first in
-      joined st first next _ _ (joined st typed first _ _ (type_adds es st typed scope t types from_type) names) others
+  members_closed : {ls : List Leaf} {n : _} → (row : Row_of-Member n) → Closed ls (members_steps row)
+  members_closed end_of-Member = none
+  members_closed (more_of-Member t declarators rest) =
+      joined (joined (type_closed t) (declarators_closed (parts declarators))) (members_closed rest)
 
-  cases_add : {n : _} → (es : List Entry) (st next : State) (scope : ℕ) (row : Row_of-Case n) → cases_read st scope row ≡ Ok next → Keeps next.entries es → Adds st (cases_introduced es scope row) next
-  cases_add es st next scope end_of-Case h later = adds_same st next cc
-  cases_add es st next scope (more_of-Case labels t declarator rest) h later =
-      let (first, h1, h2) = then_ok (all (label_test st.entries scope) (parts labels) >> λ u. type_read st scope t >> λ st. declarator_read st scope declarator)
-      (λ st. cases_read st scope rest) next h in
-      let (u, tested, h3) = then_ok (all (label_test st.entries scope) (parts labels)) (λ u. type_read st scope t >> λ st. declarator_read st scope declarator) first h1 in
-      let (typed, types, declares_first) = then_ok (type_read st scope t) (λ st. declarator_read st scope declarator) first h3 in
-      let others = cases_add es first next scope rest h2 later in
-      let from_first : Keeps first.entries es = keeps_on first.entries next.entries es others.grows.names later in
-      let name = declarator_adds typed first scope declarator declares_first in
-      let from_type : Keeps typed.entries es = keeps_on typed.entries first.entries es name.grows.names from_first in
-      joined st first next _ _ (joined st typed first _ _ (type_adds es st typed scope t types from_type) name) others
+  cases_closed : {ls : List Leaf} {n : _} → (row : Row_of-Case n) → Closed ls (cases_steps row)
+  cases_closed end_of-Case = none
+  cases_closed (more_of-Case labels t declarator rest) =
+      let first = joined (joined (each_part label_steps label_closed (parts labels)) (type_closed t)) (sized (HasMember declarator.identifier) tt declarator) in
+      joined first (cases_closed rest)
 
-member_adds_all : (es : List Entry) (st next : State) (scope : ℕ) (m : Member) → member_read st scope m ≡ Ok next → Keeps next.entries es → Adds st (member_introduced es scope m) next
-member_adds_all es st next scope m h later =
-    let (typed, types, rest) = then_ok (type_read st scope m.member_type) (λ st. each declarator_read st scope (parts m.declarators)) next h in
-    let names = declarators_add es typed next scope (parts m.declarators) rest later in
-    joined st typed next _ _ (type_adds es st typed scope m.member_type types (keeps_on typed.entries next.entries es names.grows.names later)) names
+member_closed : {ls : List Leaf} (m : Member) → Closed ls (member_steps m)
+member_closed m = joined (type_closed m.member_type) (declarators_closed (parts m.declarators))
 
 -- ---- declarations
 
-type_dcl_adds : (es : List Entry) (st next : State) (scope : ℕ) (t : TypeDcl) → type_dcl_read st scope t ≡ Ok next → Keeps next.entries es → Adds st (type_dcl_introduced es scope t) next
-type_dcl_adds es st next scope (TypeDcls.Typedef t declarators) h later =
-    let (mid, is, rest) = then_ok (type_read st scope t) (λ next. each (typedef_read (type_kind st scope t)) next scope (parts declarators)) next h in
-    let names = each_adds (typedef_read (type_kind st scope t)) typedef_introduced es (λ s n i d is later. typedef_adds (type_kind st scope t) s n i d is) mid next scope (parts declarators) rest later in
-    joined st mid next _ _ (type_adds es st mid scope t is (keeps_on mid.entries next.entries es names.grows.names later)) names
-type_dcl_adds es st next scope (TypeDcls.Struct s) h later = struct_adds es st next scope s h later
-type_dcl_adds es st next scope (TypeDcls.Union u) h later = union_adds es st next scope u h later
-type_dcl_adds es st next scope (TypeDcls.Enum e) h later = enum_adds es st next scope e h later
-type_dcl_adds es st next scope (TypeDcls.StructAhead id) h later = declares_adds (plain id.number Entries.Struct) st next scope id h
-type_dcl_adds es st next scope (TypeDcls.UnionAhead id) h later = declares_adds (plain id.number Entries.Union) st next scope id h
+type_dcl_closed : {ls : List Leaf} (t : TypeDcl) → Closed ls (type_dcl_steps t)
+type_dcl_closed (TypeDcls.Typedef t declarators) =
+    joined (type_closed t) (each_part (typedef_steps t) (λ d. sized (DeclaresTypedef t d) tt d) (parts declarators))
+type_dcl_closed (TypeDcls.Struct s) = struct_closed s
+type_dcl_closed (TypeDcls.Union u) = union_closed u
+type_dcl_closed (TypeDcls.Enum e) = enum_closed e
+type_dcl_closed (TypeDcls.StructAhead id) = one (Declares Kinds.Struct id) tt
+type_dcl_closed (TypeDcls.UnionAhead id) = one (Declares Kinds.Union id) tt
 
-const_adds : (st next : State) (scope : ℕ) (c : Const) → const_read st scope c ≡ Ok next → Adds st (Stands scope c.identifier Entries.Const ∷ []) next
-const_adds st next scope c h =
-    let (u, typed, h1) = then_ok (const_type_test st.entries scope c.const_type) (λ u. new_test st scope c.identifier >> λ u.
-    value_of_type (const_type_kind st.entries scope c.const_type) st.entries scope c.value.expr >> λ worth. declared_as (const_meant c worth) st scope c.identifier) next h in
-    let (v, new, h2) = then_ok (new_test st scope c.identifier)
-    (λ u. value_of_type (const_type_kind st.entries scope c.const_type) st.entries scope c.value.expr >> λ worth. declared_as (const_meant c worth) st scope c.identifier) next h1 in
-    let (worth, valued, h3) = then_ok (value_of_type (const_type_kind st.entries scope c.const_type) st.entries scope c.value.expr)
-    (λ worth. declared_as (const_meant c worth) st scope c.identifier) next h2 in
-    declares_adds (const_meant c worth) st next scope c.identifier h3
+const_closed : {ls : List Leaf} (c : Const) → Closed ls (const_steps c)
+const_closed c = joined (const_type_closed c.const_type) (joined (one (IsNew c.identifier) tt) (one (DeclaresConst c) tt))
 
-except_adds : (es : List Entry) (st next : State) (scope : ℕ) (e : Except) → except_read st scope e ≡ Ok next → Keeps next.entries es → Adds st (except_introduced es scope e) next
-except_adds es st next scope e h later =
-    let (opened, opens, rest) = then_ok (declared Entries.Exception st scope e.identifier) (λ st. each member_read st (scope_of st.entries scope e.identifier) e.members.items) next h in
-    let members = each_adds member_read (member_introduced es) es (member_adds_all es) opened next (scope_of opened.entries scope e.identifier) e.members.items rest later in
-    inside es (plain e.identifier.number Entries.Exception) st opened next scope e.identifier (λ i. flat_map (member_introduced es i) e.members.items) opens later members
-
-declaration_adds : (es : List Entry) (st next : State) (scope : ℕ) (d : Declaration) → declaration_read st scope d ≡ Ok next → Keeps next.entries es → Adds st (declaration_introduced es scope d) next
-declaration_adds es st next scope (Declarations.TypeDcl t) h later = type_dcl_adds es st next scope t h later
-declaration_adds es st next scope (Declarations.Const c) h later = const_adds st next scope c h
-declaration_adds es st next scope (Declarations.Except e) h later = except_adds es st next scope e h later
+declaration_closed : {ls : List Leaf} (d : Declaration) → Closed ls (declaration_steps d)
+declaration_closed (Declarations.TypeDcl t) = type_dcl_closed t
+declaration_closed (Declarations.Const c) = const_closed c
+declaration_closed (Declarations.Except e) = inside Kinds.Exception e.identifier (each_part member_steps member_closed e.members.items)
 
 -- ---- operations and attributes
 
-feature_adds : (kind : EntryKind) (st next : State) (scope : ℕ) (l : Leaf) → feature_read kind st scope l ≡ Ok next → declared kind st scope l ≡ Ok next
-feature_adds kind st next scope l h = by (is_something (inherited (features_of st.entries) l.number scope (word l))) h
-  where
-    by : (b : Bool) → (let r : Reading = if b then Err (Collides (line l)) else declared kind st scope l in r) ≡ Ok next → declared kind st scope l ≡ Ok next
-    by true h = absurd cc
-    by false h = h
+raises_closed : {ls : List Leaf} (names : List ScopedName) → Closed ls (raises_steps names)
+raises_closed names = flat_each NamesException (λ name. tt) names
 
-attribute_adds : (es : List Entry) (st next : State) (scope : ℕ) (a : Attribute) → attribute_read st scope a ≡ Ok next → Keeps next.entries es
-    → Adds st (flat_map (attribute_introduced scope) (attribute_identifiers a.declared)) next
-attribute_adds es st next scope a h later =
-    let (u, typed, h1) = then_ok (param_type_test st.entries scope a.attribute_type) (λ u.
-    each (feature_read Entries.Attribute) st scope (attribute_identifiers a.declared) >> λ st. passed st (attributes_test st.entries scope a.declared)) next h in
-    let (mid, names, rest) = then_ok (each (feature_read Entries.Attribute) st scope (attribute_identifiers a.declared)) (λ st. passed st (attributes_test st.entries scope a.declared)) next h1 in
-    let same = passed_same mid (attributes_test mid.entries scope a.declared) next rest in
-    let from_names : Keeps mid.entries es = subst (λ s. Keeps s.entries es) (sym same) later in
-    subst (Adds st (flat_map (attribute_introduced scope) (attribute_identifiers a.declared))) same
-    (each_adds (feature_read Entries.Attribute) attribute_introduced es
-    (λ st next scope l is later. declares_adds (plain l.number Entries.Attribute) st next scope l (feature_adds Entries.Attribute st next scope l is))
-    st mid scope (attribute_identifiers a.declared) names from_names)
+attributes_closed : {ls : List Leaf} (a : Attributes) → Closed ls (attributes_steps a)
+attributes_closed (Silent only identifiers) = flat_each (DeclaresFeature Kinds.Attribute) (λ l. tt) (parts identifiers)
+attributes_closed (Readonly id names) = joined (one (DeclaresFeature Kinds.Attribute id) tt) (raises_closed (parts names))
+attributes_closed (Get id get set) =
+    joined (joined (one (DeclaresFeature Kinds.Attribute id) tt) (raises_closed (parts get))) (raises_closed (optional_parts set))
+attributes_closed (Set id set) = joined (one (DeclaresFeature Kinds.Attribute id) tt) (raises_closed (parts set))
 
-param_adds : (inner : ℕ) (st next : State) (scope : ℕ) (p : Param) → param_read inner st scope p ≡ Ok next → Adds st (param_introduced inner p) next
-param_adds inner st next scope p h =
-    let (u, typed, rest) = then_ok (param_type_test st.entries scope p.param_type) (λ u. member_added st inner p.identifier) next h in
-    member_adds st next inner p.identifier rest
+-- where the operation is there
+param_closed : {ls : List Leaf} (id : Leaf) (p : Param) → Closed (id ∷ ls) (param_steps id p)
+param_closed id p = joined (param_type_closed p.param_type) (within id (one (HasMember p.identifier) tt))
 
-operation_adds : (es : List Entry) (st next : State) (scope : ℕ) (o : Operation) → operation_read st scope o ≡ Ok next → Keeps next.entries es → Adds st (operation_introduced es scope o) next
-operation_adds es st next scope o h later =
-    let (u, typed, h1) = then_ok (optional_test (param_type_test st.entries scope) o.result_type) (λ u. feature_read Entries.Operation st scope o.identifier >> λ st.
-    each (param_read (scope_of st.entries scope o.identifier)) st scope (optional_parts o.params) >> λ st. passed st (raises_test st.entries scope (optional_parts o.raises))) next h in
-    let (opened, opens, h2) = then_ok (feature_read Entries.Operation st scope o.identifier)
-    (λ st. each (param_read (scope_of st.entries scope o.identifier)) st scope (optional_parts o.params) >> λ st. passed st (raises_test st.entries scope (optional_parts o.raises))) next h1 in
-    let inner = scope_of opened.entries scope o.identifier in
-    let (mid, params, rest) = then_ok (each (param_read inner) opened scope (optional_parts o.params)) (λ st. passed st (raises_test st.entries scope (optional_parts o.raises))) next h2 in
-    let same = passed_same mid (raises_test mid.entries scope (optional_parts o.raises)) next rest in
-    let from_params : Keeps mid.entries es = subst (λ s. Keeps s.entries es) (sym same) later in
-    let behind = each_adds (param_read inner) (λ i p. param_introduced inner p) es (λ s n i p is later. param_adds inner s n i p is) opened mid scope (optional_parts o.params) params from_params in
-    let to_next = subst (Adds opened (flat_map (param_introduced inner) (optional_parts o.params))) same behind in
-    inside es (plain o.identifier.number Entries.Operation) st opened next scope o.identifier (λ i. flat_map (param_introduced i) (optional_parts o.params))
-    (feature_adds Entries.Operation st opened scope o.identifier opens) later to_next
+result_closed : {ls : List Leaf} (t : Option ParamType) → Closed ls (result_steps t)
+result_closed None = none
+result_closed (Some t) = param_type_closed t
 
--- ---- pragmas and bases, which introduce nothing
-
-pragma_adds : (st next : State) (scope : ℕ) (l : Leaf) → pragma_read st scope l ≡ Ok next → Adds st [] next
-pragma_adds st next scope l h = by (said_by l) h
-  where
-    prefix : (scope : ℕ) (text : List ℕ) (at : ℕ) → prefix_read st scope text at ≡ Ok next → Adds st [] next
-    prefix zero text at h =
-        let is : record st { prefix = text } ≡ next = cc in
-        subst (Adds st []) is (adds_grown st (record st { prefix = text }) (record { names = λ s n k h. h; entries = λ n e h. (e, h, refl, refl); members = λ s n h. h; defined = λ s h. h }))
-    prefix (suc e) text at h = absurd cc
-
-    by : (said : Option Said) → said_read st scope l said ≡ Ok next → Adds st [] next
-    by None h = adds_same st next cc
-    by (Some (SetsPrefix text)) h = prefix scope text (line l) h
-    by (Some (Gives name given)) h =
-        let (e, found, h1) = then_ok (found_at (line l) (identifiers_see st.entries l.number scope (begins_at_root name) (words name)))
-        (λ e. given_once st.given e given (line l) (given_to st.given e) >> λ ps. Ok (record st { given = ps })) next h in
-        let (ps, gave, rest) = then_ok (given_once st.given e given (line l) (given_to st.given e)) (λ ps. let r : Reading = Ok (record st { given = ps }) in r) next h1 in
-        let is : record st { given = ps } ≡ next = cc in
-        subst (Adds st []) is (adds_grown st (record st { given = ps }) (record { names = λ s n k h. h; entries = λ n e h. (e, h, refl, refl); members = λ s n h. h; defined = λ s h. h }))
-
-base_adds : (inner : ℕ) (st next : State) (scope : ℕ) (name : ScopedName) → base_read inner st scope name ≡ Ok next → (Grows st next) × (next.defined ≡ st.defined)
-base_adds inner st next scope name h =
-    let (e, found, rest) = then_ok (resolved st.entries scope name) (λ e. base_added st inner (record { token = (name_start name).number; entry = e }) (line (name_start name))) next h in
-    by (record { token = (name_start name).number; entry = e }) rest
-  where
-    by : (base : Base) → base_added st inner base (line (name_start name)) ≡ Ok next → (Grows st next) × (next.defined ≡ st.defined)
-    by base h = test (may_be_base st inner base) h
-      where
-        test : (b : Bool) → (let r : Reading = if b then Ok (based st inner base) else Err (BadBase (line (name_start name))) in r) ≡ Ok next
-            → (Grows st next) × (next.defined ≡ st.defined)
-        test true h =
-            let is : based st inner base ≡ next = cc in
-            let entries : next.entries ≡ with_base st.entries inner base = sym (ap (λ s. s.entries) is) in
-            let members : next.members ≡ st.members = sym (ap (λ s. s.members) is) in
-            let defined : next.defined ≡ st.defined = sym (ap (λ s. s.defined) is) in
-            (based_grows st next inner base entries members defined, defined)
-        test false h = absurd cc
-
-bases_add : (inner : ℕ) (st next : State) (scope : ℕ) (names : List ScopedName) → each (base_read inner) st scope names ≡ Ok next → (Adds st [] next) × (next.defined ≡ st.defined)
-bases_add inner st next scope [] h = let is : st ≡ next = cc in (adds_same st next is, sym (ap (λ s. s.defined) is))
-bases_add inner st next scope (x ∷ xs) h =
-    let (mid, first, rest) = then_ok (base_read inner st scope x) (λ mid. each (base_read inner) mid scope xs) next h in
-    let (grows, defined) = base_adds inner st mid scope x first in
-    let (behind, others) = bases_add inner mid next scope xs rest in
-    (joined st mid next [] [] (adds_grown st mid grows) behind, others ∙ defined)
+operation_closed : {ls : List Leaf} (o : Operation) → Closed ls (operation_steps o)
+operation_closed o =
+    let params = each_part (param_steps o.identifier) (param_closed o.identifier) (optional_parts o.params) in
+    let named = declaring (DeclaresFeature Kinds.Operation o.identifier) o.identifier Kinds.Operation tt (λ scope. refl) params in
+    joined (joined (result_closed o.result_type) named) (raises_closed (optional_parts o.raises))
 
 -- ---- interfaces and modules
 
-export_adds : (es : List Entry) (st next : State) (scope : ℕ) (x : Export) → export_read st scope x ≡ Ok next → Keeps next.entries es → Adds st (export_introduced es scope x) next
-export_adds es st next scope (Exports.Pragma l) h later = pragma_adds st next scope l h
-export_adds es st next scope (Exports.Declaration d) h later = declaration_adds es st next scope d h later
-export_adds es st next scope (Exports.Attribute a) h later = attribute_adds es st next scope a h later
-export_adds es st next scope (Exports.Operation o) h later = operation_adds es st next scope o h later
+export_closed : {ls : List Leaf} (x : Export) → Closed ls (export_steps x)
+export_closed (Exports.Pragma l) = one (Says l) tt
+export_closed (Exports.Declaration d) = declaration_closed d
+export_closed (Exports.Attribute a) = joined (param_type_closed a.attribute_type) (attributes_closed a.declared)
+export_closed (Exports.Operation o) = operation_closed o
 
-interface_adds : (es : List Entry) (st next : State) (scope : ℕ) (i : Interface) → interface_read st scope i ≡ Ok next → Keeps next.entries es → Adds st (interface_introduced es scope i) next
-interface_adds es st next scope (Ahead id) h later = declares_adds (plain id.number Entries.Interface) st next scope id h
-interface_adds es st next scope (Defined id bases exports) h later =
-    let (opened, opens, h1) = then_ok (declared Entries.Interface st scope id) (λ st.
-    let inner = scope_of st.entries scope id in
-    undefined_test st inner (line id) >> λ u. each (base_read inner) st scope (optional_parts bases) >> λ st. each export_read (with_defined st inner) inner exports.items) next h in
-    let inner = scope_of opened.entries scope id in
-    let (u, undefined, h2) = then_ok (undefined_test opened inner (line id)) (λ u. each (base_read inner) opened scope (optional_parts bases) >> λ st. each export_read (with_defined st inner) inner exports.items) next h1 in
-    let (based, bases_are, h3) = then_ok (each (base_read inner) opened scope (optional_parts bases)) (λ st. each export_read (with_defined st inner) inner exports.items) next h2 in
-    let (first, same_defined) = bases_add inner opened based scope (optional_parts bases) bases_are in
-    let still : is_defined based inner ≡ false = ap (λ ds. list_any (λ x. nat_eq inner x) ds) same_defined ∙ undefined_is opened inner (line id) undefined in
-    let others = each_adds export_read (export_introduced es) es (export_adds es) (with_defined based inner) next inner exports.items h3 later in
-    let behind = joined opened based next [] _ first (joined based (with_defined based inner) next (Body inner ∷ []) _ (body_adds based inner still) others) in
-    inside es (plain id.number Entries.Interface) st opened next scope id (λ i. Body i ∷ flat_map (export_introduced es i) exports.items) opens later behind
+interface_closed : {ls : List Leaf} (i : Interface) → Closed ls (interface_steps i)
+interface_closed (Ahead id) = one (Declares Kinds.Interface id) tt
+interface_closed {ls} (Defined id bases exports) =
+    let named = flat_each (HasBase id) (λ name. tt) (optional_parts bases) in
+    let body = joined (one (Defines id) tt) (each_part export_steps export_closed exports.items) in
+    let all = subst (Closed (id ∷ ls)) (sym (append_assoc (map (HasBase id) (optional_parts bases)) _ (Leaves ∷ []))) (joined named (within id body)) in
+    declaring (Declares Kinds.Interface id) id Kinds.Interface tt (λ scope. refl) (joined (one (IsUndefined id) tt) all)
 
 mutual
-  definition_adds : (es : List Entry) (st next : State) (scope : ℕ) (d : Definition) → definition_read st scope d ≡ Ok next → Keeps next.entries es → Adds st (definition_introduced es scope d) next
-  definition_adds es st next scope (Pragma l) h later = pragma_adds st next scope l h
-  definition_adds es st next scope (Declared d) h later = declaration_adds es st next scope d h later
-  definition_adds es st next scope (InterfaceDcl i) h later = interface_adds es st next scope i h later
-  definition_adds es st next scope (Module' id shape definitions) h later =
-      let (opened, opens, rest) = then_ok (declared Entries.Module st scope id) (λ st. definitions_read st (scope_of st.entries scope id) definitions) next h in
-      inside es (plain id.number Entries.Module) st opened next scope id (λ i. definitions_introduced es i definitions) opens later
-      (definitions_add es opened next (scope_of opened.entries scope id) definitions rest later)
+  definition_closed : {ls : List Leaf} (d : Definition) → Closed ls (definition_steps d)
+  definition_closed (Pragma l) = one (Says l) tt
+  definition_closed (Declared d) = declaration_closed d
+  definition_closed (InterfaceDcl i) = interface_closed i
+  definition_closed (Module' id shape definitions) = inside Kinds.Module id (definitions_closed definitions)
 
-  definitions_add : {n : _} → (es : List Entry) (st next : State) (scope : ℕ) (row : Row_of-Definition n) → definitions_read st scope row ≡ Ok next → Keeps next.entries es
-      → Adds st (definitions_introduced es scope row) next
-  definitions_add es st next scope end_of-Definition h later = adds_same st next cc
-  definitions_add es st next scope (more_of-Definition d rest) h later =
-      let (mid, first, h1) = then_ok (definition_read st scope d) (λ st. definitions_read st scope rest) next h in
-      let others = definitions_add es mid next scope rest h1 later in
-      joined st mid next _ _ (definition_adds es st mid scope d first (keeps_on mid.entries next.entries es others.grows.names later)) others
+  definitions_closed : {ls : List Leaf} {n : _} → (row : Row_of-Definition n) → Closed ls (definitions_steps row)
+  definitions_closed end_of-Definition = none
+  definitions_closed (more_of-Definition d rest) = joined (definition_closed d) (definitions_closed rest)
 
 -- ---- a whole specification
 
 whole_adds : (definitions : List Definition) (names : Whole) → AreNames definitions names
-    → (st : State) × (Adds nothing_yet (introduced names.entries definitions) st) × (st.entries ≡ names.entries)
+    → (st : State) × (Adds (known nothing_yet) (introduced names.entries 0 (steps_of definitions)) (known st)) × (st.entries ≡ names.entries)
 whole_adds definitions names h =
-    let (read, reads, is) = then_ok (specification_read definitions) (λ st. let r : _ = Ok (whole st) in r) names h in
-    let (mid, first, rest) = then_ok (each definition_read nothing_yet 0 definitions) (λ st. passed st (defined_from st 0 st.entries)) read reads in
-    let same = passed_same mid (defined_from mid 0 mid.entries) read rest in
-    let whole_is : whole mid ≡ names = ap whole same ∙ cc in
-    let entries : mid.entries ≡ names.entries = ap (λ w. w.entries) whole_is in
-    let adds = each_adds definition_read (definition_introduced names.entries) names.entries (definition_adds names.entries) nothing_yet mid 0 definitions first
-    (λ scope name n at. ap (λ es. named es scope name) (sym entries) ∙ at) in
-    (mid, adds, entries)
+    let (read, reads, is) = then_ok (specification_read definitions) (λ st. let r : Result Whole NameFault = Ok (whole st) in r) names h in
+    let (st, steps, rest) = then_ok (steps_read nothing_yet (steps_of definitions)) (λ st. passed st (never_defined (left_open st 0 st.entries))) read reads in
+    let same = passed_same st (never_defined (left_open st 0 st.entries)) read rest in
+    let whole_is : whole st ≡ names = ap whole same ∙ cc in
+    let entries : st.entries ≡ names.entries = ap (λ w. w.entries) whole_is in
+    let all : Closed [] (steps_of definitions) = each_part definition_steps definition_closed definitions in
+    let reads = all.go names.entries nothing_yet st steps (λ scope name n there. ap (λ es. named es scope name) (sym entries) ∙ there) tt in
+    (st, reads.adds, entries)
 
 -- each identifier is its entry
-entry_held : (st : State) (es : List Entry) → st.entries ≡ es → (x : Introduction) → Holds st x → IsEntry es x
-entry_held st es is (Stands scope l kind) h = subst (λ xs. IsEntry xs (Stands scope l kind)) is h
-entry_held st es is (Has scope l) h = tt
-entry_held st es is (Body scope) h = tt
+entry_held : (st : Known) (x : Introduction) → Holds st x → IsEntry st.entries x
+entry_held st (Stands scope l kind) h = h
+entry_held st (Has scope l) h = tt
+entry_held st (Body scope) h = tt
 
-entries_held : (st : State) (es : List Entry) → st.entries ≡ es → (xs : List Introduction) → AllByRecursion (Holds st) xs → AllByRecursion (IsEntry es) xs
-entries_held st es is [] h = tt
-entries_held st es is (x ∷ xs) (h, hs) = (entry_held st es is x h, entries_held st es is xs hs)
-
-pub declared_once : (definitions : List Definition) (names : Whole) → AreNames definitions names → AllByRecursion (IsEntry names.entries) (introduced names.entries definitions)
+pub declared_once : (definitions : List Definition) (names : Whole) → AreNames definitions names
+    → AllByRecursion (IsEntry names.entries) (introduced names.entries 0 (steps_of definitions))
 declared_once definitions names h =
     let (st, adds, is) = whole_adds definitions names h in
-    entries_held st names.entries is (introduced names.entries definitions) adds.holds
+    let all = introduced names.entries 0 (steps_of definitions) in
+    subst (λ es. AllByRecursion (IsEntry es) all) is (all_map (Holds (known st)) (IsEntry st.entries) (entry_held (known st)) all adds.holds)
 
-pub nothing_clashes : (definitions : List Definition) (names : Whole) → AreNames definitions names → IsDistinct clashes (introduced names.entries definitions)
+pub nothing_clashes : (definitions : List Definition) (names : Whole) → AreNames definitions names
+    → IsDistinct clashes (introduced names.entries 0 (steps_of definitions))
 nothing_clashes definitions names h = let (st, adds, is) = whole_adds definitions names h in adds.apart

@@ -26,14 +26,14 @@ use Rattle.scoped_names.specs.declared.fault.NameFault.TheVariants.{Unknown, Col
 use Rattle.name_table.specs.declared.search.Found.{Found}
 use Rattle.name_table.specs.declared.search.Found.TheVariants.{Nothing, One, Several}
 use Rattle.name_table.specs.Entry.{Entry, around, bases_of, named}
-use Rattle.name_table.specs.Search.{inherited, word}
+use Rattle.name_table.specs.Search.{begins_at_root, identifiers_see, inherited, word}
 use Rattle.name_table.specs.Features.{differ, features_of}
 use Rattle.scoped_names.specs.TypeKinds.{const_type_kind, simple_type_kind}
 use Rattle.name_table.specs.Entries.{entry_declared, plain, scope_of, with_base}
 use Rattle.name_table.specs.OwnNames.{is_own_name}
 use Rattle.scoped_names.specs.Meanings.{const_meant, enum_meant, enumerator_meant, typedef_meant}
 use Rattle.scoped_names.specs.RepositoryIds.{GivenId, IdPragma, given_to}
-use Rattle.scoped_names.specs.IdPragmas.{Said, SetsPrefix, Gives, begins_at_root, identifiers_see, is_same_given, said_by}
+use Rattle.scoped_names.specs.IdPragmas.{Said, SetsPrefix, Gives, is_same_given, said_by}
 use Rattle.scoped_names.specs.Reading.{Member as Field, State, Reading, Test, ◌>>◌, passed}
 use Rattle.scoped_names.specs.Steps.{Step, Declares, DeclaresEnum, DeclaresEnumerator, DeclaresTypedef, IsNew, DeclaresConst, DeclaresFeature, HasMember, IsUndefined, HasBase, Enters, Defines, Leaves, NamesType, NamesException, HasWorth, IsSize, Says, steps_of}
 use Rattle.scoped_names.specs.Tests.{at, at_entry, found_at, is_of, raised_test, resolved, size_read, type_name_test, value_of_type, value_read}
@@ -190,11 +190,14 @@ base_test st inner base here =
 abbrev pub based : State → ℕ → Base → State
 based st inner base = record st { entries = with_base st.entries inner base }
 
+-- one base more, where it may be one
+abbrev pub with_base_at : State → ℕ → Base → At → Reading
+with_base_at st inner base here = base_test st inner base here >> λ u. Ok (based st inner base)
+
 -- a base of the interface that has the scope `inner`
 abbrev pub base_added : State → ℕ → ScopedName → Reading
 base_added st inner name = resolved st.entries st.scope name >> λ e.
-    let base = record { token = (name_start name).number; entry = e } in
-    base_test st inner base (at (name_start name)) >> λ u. Ok (based st inner base)
+    with_base_at st inner (record { token = (name_start name).number; entry = e }) (at (name_start name))
 
 -- ---- pragmas for repository ids
 

@@ -1,18 +1,16 @@
--- What a specification declares, and what a name finds.
-pub mod Entry
-pub mod Search
+-- What the names of a specification are, and its first fault.
 pub mod Constants
-pub mod Entries
 pub mod Reading
 pub mod Tests
-pub mod Faults
-pub mod Introductions
+pub mod TypeKinds
+pub mod Meanings
 pub mod RepositoryIds
 pub mod IdPragmas
-pub mod Keys
-pub mod Records
+pub mod Steps
+pub mod Faults
+pub mod Whole
+pub mod Introductions
+pub mod Rising
 pub mod IdsKept
 pub mod StateKept
-pub mod Whole
-pub mod SeveralBases
-pub mod Shortcuts
+pub mod StepsKept

@@ -35,9 +35,9 @@ reached m step = token_of m step
 
 -- a step that stands behind the token m, and not so far that counting on from it would end
 abbrev pub Follows : ℕ → Step → Type 0
-Follows m (HasBase l name) = (m < (name_start name).number) × ((name_start name).number < 2 ^ 63)
-Follows m (DeclaresConst c) = (m ≤ c.identifier.number) × (const_end c < 2 ^ 63)
-Follows m step = (m ≤ token_of m step) × (token_of m step < 2 ^ 63)
+Follows m (HasBase l name) = (m < (name_start name).number) × ((name_start name).number < 2 ^ 64)
+Follows m (DeclaresConst c) = (m ≤ c.identifier.number) × (const_end c < 2 ^ 64)
+Follows m step = (m ≤ token_of m step) × (token_of m step < 2 ^ 64)
 
 abbrev pub Rises : ℕ → List Step → Type 0
 Rises m [] = Unit {0}

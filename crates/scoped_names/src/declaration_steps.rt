@@ -8,13 +8,20 @@ ghost use Rattle.scoped_names.specs.Steps.{attribute_steps, attributes_steps, co
 
 use crate::step::{Step, Steps};
 use idl_tree::definitions::{
-    Attribute, Attributes, Const, Declaration, Definition, Except, Export, Interface, Operation,
-    Param, TypeDcl,
+    Attribute, Attributes, Const, Declaration, Definition, Except, Export, Interface, Module,
+    Operation, Param, TypeDcl,
 };
 use idl_tree::names::{Leaf, Listed, ScopedName};
 use idl_tree::types::{Declarator, ParamType, TypeSpec};
 use name_table::EntryKind;
 use std::alloc::AllocError;
+
+/// What stands in a module.
+fn definitions_of<'t, 'a>(m: &'t Module<'a>) -> &'t [Definition<'a>]
+    ensures { result.now ≡ m.now.definitions.items }
+{
+    m.definitions.as_slice()
+}
 
 impl<'t, 'a> Steps<'t, 'a> {
     fn add_typedef(
@@ -267,7 +274,7 @@ impl<'t, 'a> Steps<'t, 'a> {
             Definition::Module(m) => {
                 self.push(Step::Declares(EntryKind::Module, m.identifier))?;
                 self.push(Step::Enters(m.identifier))?;
-                for inner in &m.definitions[..] {
+                for inner in definitions_of(m) {
                     self.add_definition(inner)?;
                 }
                 self.push(Step::Leaves)

@@ -82,7 +82,7 @@ pub(crate) fn declared_at(table: &Table<'_>, entry: usize) -> Option<At>
 }
 
 /// The entry that is seen, or why there is none for a name that stands there.
-fn found_at(table: &Table<'_>, at: At, seen: Sight) -> Result<usize, NameFault>
+pub(crate) fn found_at(table: &Table<'_>, at: At, seen: Sight) -> Result<usize, NameFault>
     ensures { result ≡ found_at_place table.now at seen }
 {
     match seen {

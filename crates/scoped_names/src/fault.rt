@@ -7,7 +7,7 @@ ghost use Rattle.scoped_names.specs.declared.fault.NameFault.TheVariants.{NoMemo
 use idl_tree::names::Leaf;
 use name_table::EntryKind;
 use std::alloc::{AllocError, AllocFailed};
-use std::fmt::{self, Display, Formatter};
+use std::fmt::{Display, Error as FmtError, Formatter, Write};
 use thiserror::Error;
 
 /// Where a token stands. What is printed is the line.
@@ -31,8 +31,8 @@ impl At {
 }
 
 impl Display for At {
-    fn fmt(&self, f: &mut Formatter<'_>) -> fmt::Result {
-        write!(f, "{}", self.line)
+    fn fmt<W: Write>(&self, f: &mut Formatter<W>) -> Result<(), FmtError> {
+        self.line.fmt(f)
     }
 }
 

@@ -4,6 +4,7 @@ ghost use Rattle.std.specs.Prelude.{◌≡◌, ℕ, List};
 ghost use Rattle.std.specs.List.{AllByRecursion, IsDistinct};
 ghost use Rattle.idl_tree.specs.declared.definitions.Definition.{Definition};
 ghost use Rattle.scoped_names.specs.Introductions.{IsEntry, clashes, introduced};
+ghost use Rattle.scoped_names.specs.Steps.{steps_of};
 ghost use Rattle.scoped_names.specs.Whole.{Whole, AreNames};
 
 /// A specification has one list of entries, and what pragmas say of each is one thing.
@@ -14,11 +15,11 @@ pub fn names_are_one()
 /// Where a specification has no fault of names, each identifier that it declares is the entry that
 /// stands at its scope and name, of its kind and spelling.
 pub fn identifiers_are_entries()
-    ensures { (definitions : List Definition) (names : Whole) → AreNames definitions names → AllByRecursion (IsEntry names.entries) (introduced names.entries definitions) }
+    ensures { (definitions : List Definition) (names : Whole) → AreNames definitions names → AllByRecursion (IsEntry names.entries) (introduced names.entries 0 (steps_of definitions)) }
 {}
 
 /// Where a specification has no fault of names, nothing that it introduces clashes with what stands
 /// before it: each name, member, parameter and body stands once, but for what may appear again.
 pub fn nothing_clashes()
-    ensures { (definitions : List Definition) (names : Whole) → AreNames definitions names → IsDistinct clashes (introduced names.entries definitions) }
+    ensures { (definitions : List Definition) (names : Whole) → AreNames definitions names → IsDistinct clashes (introduced names.entries 0 (steps_of definitions)) }
 {}

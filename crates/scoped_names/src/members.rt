@@ -54,7 +54,7 @@ impl<'a> Members<'a> {
     /// `AllocError`, and then nothing has changed.
     pub fn push(&mut self, key: Key<'a>, at: At) -> Result<(), AllocError>
         requires { member_named self.old key.scope key.word.text.now ≡ None }
-        ensures pushed { OnOk result (self.new ≡ self.old ++ member_of key at ∷ []) }
+        ensures pushed { OnOk result (self.new ≡ self.old ++ member_of key.entry at ∷ []) }
         ensures err { OnErr result (self.new ≡ self.old) }
     {
         self.places.reserve(1)?;

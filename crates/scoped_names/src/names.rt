@@ -5,8 +5,8 @@ ghost use Rattle.std.specs.String.{string_bytes};
 ghost use Rattle.scoped_names.specs.Constants.{size_in_scope, worth_in_scope};
 ghost use Rattle.scoped_names.specs.Reading.{Gives};
 ghost use Rattle.scoped_names.specs.Tests.{resolved, size_read, value_read};
-ghost use Rattle.name_table.specs.Entry.{AreDistinct, bases_in, meant_in, named, worth_in};
-ghost use Rattle.scoped_names.specs.RepositoryIds.{name_in, path as path_of, repository_id};
+ghost use Rattle.name_table.specs.Entry.{AreDistinct, bases_in, meant_in, name_in, named, worth_in};
+ghost use Rattle.scoped_names.specs.RepositoryIds.{path as path_of, repository_id};
 ghost use Rattle.name_table.specs.Search.{Finds, word};
 
 use crate::evaluation::{resolve, size, value};

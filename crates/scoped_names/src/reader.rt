@@ -1,9 +1,9 @@
 //! What is known at a place of a specification.
 
-ghost use Rattle.std.specs.Prelude.{◌≡◌, ◌<◌, ◌≤◌, Ok, length, IfErr, IfOk, IfSome, slice_get};
+ghost use Rattle.std.specs.Prelude.{◌≡◌, ◌<◌, ◌≤◌, length, IfErr, IfOk, IfSome, slice_get};
 ghost use Rattle.name_table.specs.Entries.{latest, scope_of};
-ghost use Rattle.scoped_names.specs.Faults.{base_test, based, declared as declared_by, declared_as, defined_here, free_of, free_test, has_body, is_defined, is_defined_interface, is_interface, is_left_open, keeps_prefix, left_open, may_reappear, member_added, never_defined, new_test, nothing_yet, prefix_set, reappears, taken_by as taken_by_name, undefined_test};
-ghost use Rattle.scoped_names.specs.Reading.{Checks, Tells, ◌>>◌};
+ghost use Rattle.scoped_names.specs.Faults.{base_test, declared as declared_by, declared_as, defined_here, free_of, free_test, has_body, is_defined, is_defined_interface, is_interface, is_left_open, keeps_prefix, left_open, may_reappear, member_added, never_defined, new_test, nothing_yet, prefix_set, reappears, taken_by as taken_by_name, undefined_test, with_base_at};
+ghost use Rattle.scoped_names.specs.Reading.{Checks, Tells};
 ghost use Rattle.scoped_names.specs.Whole.{whole};
 ghost use Rattle.scoped_names.specs.declared.fault.NameFault.TheVariants.{NoMemory};
 ghost use Rattle.name_table.specs.Entry.{AreDistinct, around as around_of};
@@ -17,8 +17,7 @@ use crate::names::Names;
 use crate::repository_ids::IdPragmas;
 use crate::tables::Tables;
 use idl_tree::names::Leaf;
-use indexmap::IndexSet;
-use name_table::{Base, EntryKind, Found, Key, Meaning, Table, Word};
+use name_table::{Base, EntryKind, Found, Key, Meaning, Numbered, Table, Word};
 use std::alloc::Global;
 use std::marker::Model;
 
@@ -28,7 +27,7 @@ pub(crate) struct Reader<'a> {
     tables: Tables<'a>,
     members: Members<'a>,
     /// The scopes of which a definition was read.
-    defined: IndexSet<usize>,
+    defined: Numbered<usize>,
     /// The prefix of repository ids that is set.
     prefix: &'a str,
     pub(crate) ids: IdPragmas<'a>,
@@ -44,7 +43,7 @@ impl<'a> Model for Reader<'a> {
 
     ghost Value = { State };
 
-    ghost view = { λ r. record { entries = r.tables; members = r.members; defined = r.defined.keys; prefix = r.prefix.now; given = r.ids; scope = r.scope; enumeration = r.enumeration } };
+    ghost view = { λ r. record { entries = r.tables; members = r.members; defined = r.defined; prefix = r.prefix.now; given = r.ids; scope = r.scope; enumeration = r.enumeration } };
 
     ghost invariant = { λ r. r.scope ≤ length r.tables };
 }
@@ -113,7 +112,7 @@ impl<'a> Reader<'a> {
         Ok(Reader {
             tables: Tables::new(alloc)?,
             members: Members::new(alloc),
-            defined: IndexSet::new(alloc),
+            defined: Numbered::new(alloc),
             prefix: "",
             ids: IdPragmas::new(alloc),
             scope: 0,
@@ -267,7 +266,18 @@ impl<'a> Reader<'a> {
     pub fn leave(&mut self)
         ensures { self.new ≡ record self.old { scope = around_of self.old.entries self.old.scope } }
     {
-        self.scope = self.table().around(self.scope);
+        self.scope = self.scope_around();
+    }
+
+    fn scope_around(&self) -> usize
+        ensures is { result ≡ around_of self.now.entries self.now.scope }
+        ensures there { result ≤ length self.now.entries }
+    {
+        let _count = self.table().len();
+        match self.scope.checked_sub(1) {
+            Some(number) => self.table().scope(number),
+            None => 0,
+        }
     }
 
     /// That a scope has no definition yet.
@@ -398,7 +408,7 @@ impl<'a> Reader<'a> {
         requires inner { inner ≤ length self.old.entries }
         requires placed { base.entry < length self.old.entries }
         requires late { latest self.old.entries < base.token }
-        ensures { Tells result self.new (base_test self.old inner base at >> λ u. Ok (based self.old inner base)) }
+        ensures { Tells result self.new (with_base_at self.old inner base at) }
     {
         self.may_be_base(alloc, inner, base, at)?;
         self.tables.add_base(alloc, inner, base)?;

@@ -118,7 +118,7 @@ impl<'a> Reader<'a> {
     /// A constant, which is found from its end on.
     fn declare_const(&mut self, alloc: Global, c: &Const<'a>) -> Result<(), NameFault>
         requires late { latest self.old.entries ≤ c.now.identifier.number }
-        requires small { const_end c.now < 2 ^ 63 }
+        requires small { const_end c.now < 2 ^ 64 }
         ensures { Tells result self.new (const_declared self.old c.now) }
     {
         let kind = const_type_kind(self.table(), alloc, self.scope(), &c.const_type)?;
@@ -229,7 +229,7 @@ impl<'a> Reader<'a> {
 
     /// A step that asks something of what is known.
     fn read_test(&self, alloc: Global, step: Step<'_, 'a>) -> Result<(), NameFault>
-        ensures { Checks result (test_of self.now (step_of step)) }
+        ensures { Checks result (test_of self.now (step_of step.entry)) }
     {
         let (table, scope) = (self.table(), self.scope());
         match step {
@@ -254,7 +254,7 @@ impl<'a> Reader<'a> {
     /// One step.
     fn read_step(&mut self, alloc: Global, step: Step<'_, 'a>) -> Result<(), NameFault>
         requires { Follows (latest self.old.entries) (step_of step) }
-        ensures { Tells result self.new (step_read self.old (step_of step)) }
+        ensures { Tells result self.new (step_read self.old (step_of step.entry)) }
     {
         match step {
             Step::Declares(kind, identifier) => self.declare(alloc, identifier, kind),

@@ -1,17 +1,16 @@
 //! Repository ids (ISO/IEC 19500-1, repository identifiers, and pragma directives for repository ids).
 
 ghost use Rattle.std.specs.Prelude.{◌≡◌, ◌++◌, ◌<◌, ◌≤◌, ◌↔◌, ℕ, [], ◌∷◌, length, map, IfOk, OnOk};
+ghost use Rattle.std.specs.Option.{option_map};
 ghost use Rattle.std.specs.String.{string_bytes};
-ghost use Rattle.scoped_names.specs.Records.{AreNested, entries_in};
 ghost use Rattle.scoped_names.specs.RepositoryIds.{given_to, path, with_slashes, idl_format, repository_id};
 ghost use Rattle.scoped_names.specs.IdsKept.{given_of};
 ghost use Rattle.scoped_names.specs.Faults.{given_once};
 ghost use Rattle.scoped_names.specs.Reading.{Tells};
 ghost use Rattle.scoped_names.specs.IdPragmas.{is_same_given};
 
-use crate::fault::NameFault;
-use crate::record::Record;
-use indexmap::IndexMap;
+use crate::fault::{At, NameFault};
+use name_table::{Numbered, Table};
 use std::alloc::{AllocError, Global};
 use std::marker::Model;
 
@@ -29,35 +28,39 @@ pub(crate) enum PragmaId<'a> {
 /// What the pragmas of a specification say of repository ids.
 #[derive(Drop)]
 pub(crate) struct IdPragmas<'a> {
-    given: IndexMap<usize, PragmaId<'a>>,
+    entries: Numbered<usize>,
+    /// What is given to each of them.
+    ids: Vec<PragmaId<'a>>,
 }
 
 impl<'a> Model for IdPragmas<'a> {
-    ghost use Rattle.std.specs.Prelude.{List, map};
+    ghost use Rattle.std.specs.Prelude.{◌≡◌, List, length};
     ghost use Rattle.scoped_names.specs.RepositoryIds.{IdPragma};
-    ghost use Rattle.scoped_names.specs.IdsKept.{pragma_of};
+    ghost use Rattle.scoped_names.specs.IdsKept.{pragmas_of};
 
     ghost Value = { List IdPragma };
 
-    ghost view = { λ p. map pragma_of p.given.entries };
+    ghost view = { λ p. pragmas_of p.entries p.ids.items };
+
+    ghost invariant = { λ p. length p.entries ≡ length p.ids.items };
 }
 
 /// The names from the outermost scope to an entry's, its own the last.
 pub(crate) fn path_to<'a>(
     alloc: Global,
-    records: &[Record<'a>],
+    table: &Table<'a>,
     entry: usize,
 ) -> Result<Vec<&'a str>, AllocError>
-    requires nested { AreNested records.now }
-    requires there { entry < length records.now }
-    ensures { IfOk result (λ v. map (λ n. n.now) v.items ≡ path (entries_in records.now) entry) }
+    requires { entry < length table.now }
+    ensures { IfOk result (λ v. map (λ n. n.now) v.items ≡ path table.now entry) }
 {
+    let _count = table.len();
     let mut names = Vec::new(alloc);
     let mut scope = entry + 1;
     while scope > 0 {
-        let key = records[scope - 1].key;
-        names.push(key.word.text)?;
-        scope = key.scope;
+        let outer = scope - 1;
+        names.push(table.name(outer))?;
+        scope = table.scope(outer);
     }
     names.reverse();
     Ok(names)
@@ -112,7 +115,8 @@ impl<'a> IdPragmas<'a> {
         ensures { result ≡ [] }
     {
         IdPragmas {
-            given: IndexMap::new(alloc),
+            entries: Numbered::new(alloc),
+            ids: Vec::new(alloc),
         }
     }
 
@@ -120,17 +124,29 @@ impl<'a> IdPragmas<'a> {
     ///
     /// # Errors
     ///
-    /// `IdTwice` with the line where the entry has another, `NoMemory`.
-    pub fn give(&mut self, entry: usize, given: PragmaId<'a>, line: usize) -> Result<(), NameFault>
-        ensures { Tells result self.new (given_once self.old entry (given_of given.entry) line (given_to self.old entry)) }
+    /// `IdTwice` where the entry has another, `NoMemory`.
+    pub fn give(&mut self, entry: usize, given: PragmaId<'a>, at: At) -> Result<(), NameFault>
+        ensures { Tells result self.new (given_once self.old entry (given_of given.entry) at (given_to self.old entry)) }
     {
-        match self.given.get(&entry) {
-            Some(other) if is_same(*other, given) => Ok(()),
-            Some(_) => Err(NameFault::IdTwice { line }),
+        match self.entries.number_of(&entry) {
+            Some(number) if is_same(self.ids[number], given) => Ok(()),
+            Some(_) => Err(NameFault::IdTwice { at }),
             None => {
-                self.given.insert(entry, given)?;
+                self.ids.reserve(1)?;
+                self.entries.push(entry)?;
+                self.ids.push_reserved(given);
                 Ok(())
             }
+        }
+    }
+
+    /// What is given to an entry.
+    fn given(&self, entry: usize) -> Option<PragmaId<'a>>
+        ensures { option_map given_of result ≡ given_to self.now entry }
+    {
+        match self.entries.number_of(&entry) {
+            Some(number) => Some(self.ids[number]),
+            None => None,
         }
     }
 
@@ -142,20 +158,18 @@ impl<'a> IdPragmas<'a> {
     pub fn repository_id(
         &self,
         alloc: Global,
-        records: &[Record<'_>],
+        table: &Table<'_>,
         entry: usize,
     ) -> Result<String, AllocError>
-        requires nested { AreNested records.now }
-        requires there { entry < length records.now }
-        ensures { IfOk result (λ id. string_bytes id ≡ repository_id (entries_in records.now) self.now entry) }
+        requires { entry < length table.now }
+        ensures { IfOk result (λ id. string_bytes id ≡ repository_id table.now self.now entry) }
     {
-        let version = match self.given.get(&entry) {
+        let version = match self.given(entry) {
             Some(PragmaId::Whole(text)) => return String::from_str(alloc, text),
-            Some(PragmaId::Version(number)) => *number,
+            Some(PragmaId::Version(number)) => number,
             None => "1.0",
         };
-        let prefix = records[entry].prefix;
-        let path = path_to(alloc, records, entry)?;
-        id_text(alloc, prefix, path.as_slice(), version)
+        let path = path_to(alloc, table, entry)?;
+        id_text(alloc, table.prefix(entry), path.as_slice(), version)
     }
 }

@@ -23,6 +23,8 @@ pub fn bind<'a>(alloc: Global, spec: &Spec<'a>) -> Result<Names<'a>, NameFault>
     ensures told { Gives result (names_of spec.now.definitions.items) }
     ensures distinct { IfOk result (λ names. AreDistinct names.entries) }
 {
+    // which is a number, so no token's number passes the largest
+    let _count = spec.tokens.len();
     let mut steps = Steps::new(alloc);
     steps.add_definitions(spec.definitions.as_slice())?;
     let mut reader = Reader::new(alloc)?;

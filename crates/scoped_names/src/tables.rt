@@ -54,17 +54,9 @@ impl<'a> Tables<'a> {
 
     /// Gives all entries. Takes no memory.
     pub fn into_all(self) -> Table<'a>
-        ensures { result ≡ self }
+        ensures { result ≡ self.entry }
     {
         self.all
-    }
-
-    /// That memory was refused to neither so far.
-    fn whole(&self) -> Result<(), AllocError> {
-        if self.is_spoilt {
-            return Err(AllocError);
-        }
-        Ok(())
     }
 
     /// One entry more, of a name that is new in its scope.
@@ -81,7 +73,9 @@ impl<'a> Tables<'a> {
         requires late { latest self.old ≤ meaning.token }
         ensures { OnOk result (self.new ≡ self.old ++ entry_declared meaning prefix.entry.now scope identifier.entry ∷ []) }
     {
-        self.whole()?;
+        if self.is_spoilt {
+            return Err(AllocError);
+        }
         self.is_spoilt = true;
         let feature = meaning.as_feature();
         self.features
@@ -100,7 +94,9 @@ impl<'a> Tables<'a> {
         ensures told { OnOk result (self.new ≡ with_base self.old inner base) }
         ensures count { length self.new ≡ length self.old }
     {
-        self.whole()?;
+        if self.is_spoilt {
+            return Err(AllocError);
+        }
         self.is_spoilt = true;
         let scope = base.entry.saturating_add(1);
         self.features.shorten(alloc, scope)?;
@@ -115,7 +111,9 @@ impl<'a> Tables<'a> {
     pub fn inherited(&self, token: usize, scope: usize, word: Word<'a>) -> Result<Found, AllocError>
         ensures { IfOk result (λ found. found ≡ inherited_by (features_of self.now) token scope word.entry.text.now) }
     {
-        self.whole()?;
+        if self.is_spoilt {
+            return Err(AllocError);
+        }
         Ok(self.features.inherited(token, scope, word))
     }
 
@@ -126,7 +124,9 @@ impl<'a> Tables<'a> {
         requires late { latest self.now < base.token }
         ensures { IfOk result (λ r. r ≡ differ_by (features_of self.now) inner base) }
     {
-        self.whole()?;
+        if self.is_spoilt {
+            return Err(AllocError);
+        }
         self.features.differ(alloc, inner, base)
     }
 }

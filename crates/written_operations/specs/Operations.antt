@@ -10,11 +10,10 @@ use Rattle.idl_tree.specs.declared.definitions.Attributes.TheVariants.{Silent, R
 use Rattle.idl_tree.specs.declared.definitions.Direction.TheVariants.{In, Out}
 use Rattle.idl_tree.specs.declared.definitions.Operation.{Operation}
 use Rattle.idl_tree.specs.Lists.{parts}
-use Rattle.scoped_names.specs.Entry.{Entry, named}
-use Rattle.scoped_names.specs.Entries.{attribute_identifiers}
-use Rattle.scoped_names.specs.Search.{finds, word}
-use Rattle.scoped_names.specs.declared.search.Found.{Found}
-use Rattle.scoped_names.specs.declared.search.Found.TheVariants.{Nothing, One, Several}
+use Rattle.name_table.specs.Entry.{Entry, named}
+use Rattle.name_table.specs.Search.{finds, word}
+use Rattle.name_table.specs.declared.search.Found.{Found}
+use Rattle.name_table.specs.declared.search.Found.TheVariants.{Nothing, One, Several}
 use Rattle.written_types.specs.declared.place.Place.{Place}
 use Rattle.written_types.specs.declared.place.Place.TheVariants.{Typed, Raised, Called, Got, GotAndSet}
 use Rattle.written_types.specs.Written.{Written, next, none_such, place_of, unwritten, with_place}
@@ -132,6 +131,13 @@ abbrev pub with_attribute : List Entry → ℕ → ℕ → Attributes → Define
 with_attribute es scope number a d id =
     with_access d number (is_set a) (raised es d.types scope (get_raises a)) (raised es d.types scope (set_raises a))
     (named es scope (word id))
+
+-- the identifiers of attributes that are declared together
+abbrev pub attribute_identifiers : Attributes → List Leaf
+attribute_identifiers (Silent only identifiers) = parts identifiers
+attribute_identifiers (Readonly id names) = id ∷ []
+attribute_identifiers (Get id get set) = id ∷ []
+attribute_identifiers (Set id set) = id ∷ []
 
 -- attributes that are declared together have one type, which is written once
 abbrev pub attribute : List Entry → ℕ → Defined → Attribute → Defined

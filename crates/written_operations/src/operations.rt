@@ -3,10 +3,9 @@
 ghost use Rattle.std.specs.Prelude.{◌≡◌, ◌≤◌, length, IfOk, OnOk};
 ghost use Rattle.std.specs.List.{fold};
 ghost use Rattle.idl_tree.specs.Lists.{parts};
-ghost use Rattle.scoped_names.specs.Entries.{attribute_identifiers};
 ghost use Rattle.written_types.specs.Written.{next};
 ghost use Rattle.written_operations.specs.Oneway.{KeepsOneway};
-ghost use Rattle.written_operations.specs.Operations.{attribute, is_set as are_set, operation, with_attribute, with_get, with_set};
+ghost use Rattle.written_operations.specs.Operations.{attribute_identifiers, attribute, is_set as are_set, operation, with_attribute, with_get, with_set};
 
 use crate::frames::{Carried, write_carried};
 use crate::oneway::check_oneway;

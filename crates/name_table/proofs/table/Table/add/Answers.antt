@@ -13,8 +13,8 @@ push-requires c =
     let key = c.args.declared.key in
     position_is inside.keys inside.records.items c.args.self.now c.self.view_is c.self.invariant.0.keyed _ key.scope key.word.text.now (λ r. refl) ∙ c.requires.fresh
 
-pub invariant_of-self : goal.invariant_of-self
-invariant_of-self c =
+pub invariant_of-self-2 : goal.invariant_of-self-2
+invariant_of-self-2 c =
     let inside = c.self.inside in
     let r = c.args.declared in
     let records = inside.records.items in

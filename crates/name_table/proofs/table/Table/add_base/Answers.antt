@@ -4,11 +4,18 @@ use Rattle.std.proofs.lemmas.Option.{slice_get_read}
 use Rattle.name_table.specs.Entry.{bases_of}
 use Rattle.name_table.specs.Entries.{latest, with_base}
 use Rattle.name_table.specs.Records.{entries_in, entry_of}
-use Rattle.name_table.specs.SeveralBases.{Merges}
+use Rattle.name_table.specs.SeveralBases.{HasNoneFrom, Merges}
 use Rattle.name_table.specs.Shortcuts.{way_at}
 use Rattle.name_table.proofs.Inheriting.{bases_kept}
-use Rattle.name_table.proofs.MoreBases.{tied_more, told_more, ways_more}
+use Rattle.name_table.proofs.MoreBases.{none_from, tied_more, told_more, ways_more}
 use Rattle.name_table.proofs.table.Table.add_base.Goals as goal
+
+pub heir_for-requires-clause-last : goal.heir_for-requires-clause-last
+heir_for-requires-clause-last c =
+    let records = c.self.inside.records.items in
+    let same : latest (entries_in records) ≡ latest c.args.self.now = ap latest c.self.view_is in
+    let late = c.requires.late in
+    subst (λ xs. HasNoneFrom xs c.args.inner c.args.base.token) c.self.view_is (none_from records c.args.base.token (omega arith) c.args.inner)
 
 pub invariant_of-self : goal.invariant_of-self
 invariant_of-self c =

@@ -6,13 +6,13 @@ use Rattle.name_table.proofs.Ways.{ways_insert}
 use Rattle.name_table.proofs.WaysKept.{ways_same}
 use Rattle.name_table.proofs.table.Table.shorten.Goals as goal
 
-pub invariant_of-self-in_err-keep_way : goal.invariant_of-self-in_err-keep_way
-invariant_of-self-in_err-keep_way c =
+pub invariant_of-self : goal.invariant_of-self
+invariant_of-self c =
     let inside = c.self.inside in
     (c.self.invariant.0, ways_same (entries_in inside.records.items) inside.shortcuts.items c.keep_way.new.ways.items c.in_err-keep_way.ensures.err c.self.invariant.1)
 
-pub invariant_of-self : goal.invariant_of-self
-invariant_of-self c =
+pub invariant_of-self-2 : goal.invariant_of-self-2
+invariant_of-self-2 c =
     let inside = c.self.inside in
     let es = entries_in inside.records.items in
     let way = c.in-Some.way in

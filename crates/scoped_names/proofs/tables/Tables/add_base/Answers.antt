@@ -1,0 +1,26 @@
+use Rattle.std.proofs.Common.{◌≡◌, ◌∙◌, ◌≤◌, length, sym, ap, arith}
+use Rattle.name_table.specs.Entries.{latest, with_base}
+use Rattle.name_table.specs.Features.{features_of}
+use Rattle.name_table.proofs.Latest.{latest_features}
+use Rattle.scoped_names.proofs.FeatureTables.{as_many, features_based}
+use Rattle.scoped_names.proofs.tables.Tables.add_base.Goals as goal
+
+pub add_base-requires-clause-late : goal.add_base-requires-clause-late
+add_base-requires-clause-late c =
+    let table = c.self.inside.all in
+    let kept = c.self.invariant c.if-self.false in
+    let same : latest c.shorten.new.self ≡ latest table = ap latest (c.shorten.ensures ∙ kept) ∙ latest_features table in
+    let whole = ap latest c.self.view_is in
+    let late = c.requires.late in
+    omega (arith, same, whole, late)
+
+pub invariant_of-self-2 : goal.invariant_of-self-2
+invariant_of-self-2 c = λ same.
+    let inner = c.args.inner in
+    let base = c.args.base in
+    let kept = c.self.invariant c.if-self.false in
+    let more = c.in_ok-add_base-2.ensures.told ∙ ap (λ es. with_base es inner base) c.shorten-2.ensures in
+    c.in_ok-add_base.ensures.told
+    ∙ ap (λ es. with_base es inner base) (c.shorten.ensures ∙ kept)
+    ∙ sym (features_based c.self.inside.all inner base)
+    ∙ sym (ap features_of more)
