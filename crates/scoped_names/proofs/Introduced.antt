@@ -1,60 +1,30 @@
 -- What reading the steps of a specification introduces is what the specification says.
-use Rattle.std.proofs.Common.{◌≡◌, ◌∙◌, ℕ, zero, suc, List, [], ◌∷◌, ◌++◌, length, Option, Some, None, Result, Ok, append-nil, append_assoc, refl, sym, ap, subst}
-use Rattle.std.specs.Prelude.{map}
-use Rattle.std.specs.List.{AllByRecursion, IsDistinct, flat_map}
+use Rattle.std.proofs.Common.{◌<◌, inl, inr, arith, ◌≡◌, ◌∙◌, ℕ, zero, suc, List, [], ◌∷◌, ◌++◌, length, Option, Some, None, Result, Ok, append-nil, append_assoc, refl, sym, ap, subst}
+use Rattle.std.specs.List.{AllByRecursion, Any, IsDistinct}
 use Rattle.idl_lexer.specs.Identifiers.{words}
 use Rattle.idl_tree.specs.declared.names.Leaf.{Leaf}
-use Rattle.idl_tree.specs.declared.names.ScopedName.{ScopedName}
-use Rattle.idl_tree.specs.declared.const_expr.Bound.{Bound}
-use Rattle.idl_tree.specs.declared.types.ConstType.{ConstType}
-use Rattle.idl_tree.specs.declared.types.ConstType.TheVariants as ConstTypes
-use Rattle.idl_tree.specs.declared.types.ParamType.{ParamType}
-use Rattle.idl_tree.specs.declared.types.ParamType.TheVariants as ParamTypes
-use Rattle.idl_tree.specs.declared.types.SimpleType.{SimpleType, Plain, Sequence'}
-use Rattle.idl_tree.specs.declared.types.Declarator.{Declarator}
-use Rattle.idl_tree.specs.declared.types.EnumType.{EnumType}
-use Rattle.idl_tree.specs.declared.types.Label.{Label}
-use Rattle.idl_tree.specs.declared.types.Label.TheVariants as Labels
-use Rattle.idl_tree.specs.declared.types.SwitchType.{SwitchType}
-use Rattle.idl_tree.specs.declared.types.SwitchType.TheVariants as SwitchTypes
-use Rattle.idl_tree.specs.declared.types.TypeSpec.{TypeSpec, Simple, Struct as StructSpec, Union as UnionSpec, Enum as EnumSpec}
-use Rattle.idl_tree.specs.declared.types.StructType.{StructType, StructType', Row_of-Member, end_of-Member, more_of-Member}
-use Rattle.idl_tree.specs.declared.types.UnionType.{UnionType, UnionType', Row_of-Case, end_of-Case, more_of-Case}
-use Rattle.idl_tree.specs.declared.types.Member.{Member}
-use Rattle.idl_tree.specs.declared.definitions.TypeDcl.{TypeDcl}
-use Rattle.idl_tree.specs.declared.definitions.TypeDcl.TheVariants as TypeDcls
-use Rattle.idl_tree.specs.declared.definitions.Const.{Const}
-use Rattle.idl_tree.specs.declared.definitions.Declaration.{Declaration}
-use Rattle.idl_tree.specs.declared.definitions.Declaration.TheVariants as Declarations
-use Rattle.idl_tree.specs.declared.definitions.Attributes.{Attributes}
-use Rattle.idl_tree.specs.declared.definitions.Attributes.TheVariants.{Silent, Readonly, Get, Set}
-use Rattle.idl_tree.specs.declared.definitions.Operation.{Operation}
-use Rattle.idl_tree.specs.declared.definitions.Param.{Param}
-use Rattle.idl_tree.specs.declared.definitions.Export.{Export}
-use Rattle.idl_tree.specs.declared.definitions.Export.TheVariants as Exports
-use Rattle.idl_tree.specs.declared.definitions.Interface.{Interface}
-use Rattle.idl_tree.specs.declared.definitions.Interface.TheVariants.{Ahead, Defined}
-use Rattle.idl_tree.specs.declared.definitions.Definition.{Definition, Pragma, Declaration as Declared, Interface as InterfaceDcl, Module', Row_of-Definition, end_of-Definition, more_of-Definition}
-use Rattle.idl_tree.specs.Lists.{parts}
+use Rattle.idl_tree.specs.declared.definitions.Definition.{Definition}
+use Rattle.idl_tree.specs.Pieces.{Piece}
 use Rattle.name_table.specs.declared.entry.EntryKind.{EntryKind}
 use Rattle.name_table.specs.declared.entry.EntryKind.TheVariants as Kinds
 use Rattle.scoped_names.specs.declared.fault.At.{At}
 use Rattle.scoped_names.specs.declared.fault.NameFault.{NameFault}
 use Rattle.name_table.specs.Entry.{Entry, around, named, scope_in}
-use Rattle.name_table.specs.Entries.{plain, scope_number, scope_of}
-use Rattle.name_table.specs.Search.{inherited, word}
+use Rattle.name_table.specs.Entries.{plain as plain_meant, scope_number, scope_of}
+use Rattle.name_table.specs.Search.{begins_at_root, identifiers_see, inherited, word}
 use Rattle.name_table.specs.Features.{features_of}
-use Rattle.scoped_names.specs.Faults.{declared, declared_as, free_of, given_once, left_open, never_defined, nothing_yet, prefix_set, said_read, specification_read, step_read, steps_read, test_of, type_kind}
-use Rattle.scoped_names.specs.IdPragmas.{Said, SetsPrefix, Gives, begins_at_root, identifiers_see, said_by}
-use Rattle.scoped_names.specs.Introductions.{Introduction, Stands, Has, Body, IsEntry, clashes, introduced, introduced_by, scope_behind}
+use Rattle.scoped_names.specs.Faults.{declared as declared_plain, declared_as, free_of, given_once, left_open, never_defined, nothing_yet, prefix_set, said_read, specification_read, step_read, steps_read, test_of, type_kind}
+use Rattle.scoped_names.specs.IdPragmas.{Said, SetsPrefix, Gives, said_by}
+use Rattle.scoped_names.specs.Introductions.{Introduction, Stands, Has, Body, IsEntry, StandsFor, clashes, introduced, introduced_by, scope_behind}
 use Rattle.scoped_names.specs.Meanings.{const_meant, enum_meant, enumerator_meant, typedef_meant}
 use Rattle.scoped_names.specs.Reading.{Reading, State, ◌>>◌, passed}
 use Rattle.scoped_names.specs.RepositoryIds.{given_to}
-use Rattle.scoped_names.specs.Steps.{Step, Declares, DeclaresEnum, DeclaresEnumerator, DeclaresTypedef, IsNew, DeclaresConst, DeclaresFeature, HasMember, IsUndefined, HasBase, Enters, Defines, Leaves, NamesType, NamesException, HasWorth, IsSize, Says, attributes_steps, bound_steps, cases_steps, const_steps, const_type_steps, declaration_steps, declarator_steps, definition_steps, definitions_steps, enum_steps, export_steps, interface_steps, label_steps, member_steps, members_steps, operation_steps, optional_parts, param_steps, param_type_steps, raises_steps, result_steps, simple_type_steps, size_step, steps_of, struct_steps, switch_steps, type_dcl_steps, type_steps, typedef_steps, union_steps}
+use Rattle.scoped_names.specs.Steps.{Step, Declares, DeclaresEnum, DeclaresEnumerator, DeclaresTypedef, IsNew, DeclaresConst, DeclaresFeature, HasMember, IsUndefined, HasBase, Enters, Defines, Leaves, Says, steps_of}
 use Rattle.scoped_names.specs.Tests.{at, found_at, value_of_type}
 use Rattle.scoped_names.specs.TypeKinds.{const_type_kind}
 use Rattle.scoped_names.specs.Whole.{AreNames, Whole, whole}
-use Rattle.scoped_names.proofs.Introducing.{Adds, Does, Grows, Holds, Keeps, Known, adds_both, adds_none, all_map, base_does, declared_does, defined_does, does_none, grows_none, grows_on, keeps_on, known, member_does, named_entry, passed_same, then_ok}
+use Rattle.scoped_names.proofs.Asks.{Asks, IsPlain, all_ask, none as unasked, silent, joined as both_asked, plain, base, valued, declared, featured, undefined, inside, defines}
+use Rattle.scoped_names.proofs.Introducing.{Adds, Does, Grows, Holds, IsKnown, Keeps, Known, adds_both, adds_none, all_map, base_does, declared_does, defined_does, does_none, grows_none, grows_on, keeps_on, known, member_does, named_entry, passed_same, then_ok}
 
 -- ---- pragmas
 
@@ -94,7 +64,7 @@ enum_does st next l h =
     subst (Does st (Stands st.scope l Kinds.Enum ∷ [])) is (record { adds = does.adds; scope = does.scope })
 
 flat_does : (st next : State) (s : Step) → IsFlat s → step_read st s ≡ Ok next → Does st (introduced_by st.scope s) next
-flat_does st next (Declares kind l) flat h = declared_does (plain l.number kind) st next l h
+flat_does st next (Declares kind l) flat h = declared_does (plain_meant l.number kind) st next l h
 flat_does st next (DeclaresEnum l) flat h = enum_does st next l h
 flat_does st next (DeclaresEnumerator l) flat h = declared_does (enumerator_meant st.enumeration (length st.entries) l) st next l h
 flat_does st next (DeclaresTypedef t d) flat h = declared_does (typedef_meant (type_kind st t) d) st next d.identifier h
@@ -103,8 +73,8 @@ flat_does st next (DeclaresConst c) flat h =
     (λ worth. declared_as (const_meant c worth) st c.identifier) next h in
     declared_does (const_meant c worth) st next c.identifier rest
 flat_does st next (DeclaresFeature kind l) flat h =
-    let (u, free, rest) = then_ok (free_of st.entries l (inherited (features_of st.entries) l.number st.scope (word l))) (λ u. declared kind st l) next h in
-    declared_does (plain l.number kind) st next l rest
+    let (u, free, rest) = then_ok (free_of st.entries l (inherited (features_of st.entries) l.number st.scope (word l))) (λ u. declared_plain kind st l) next h in
+    declared_does (plain_meant l.number kind) st next l rest
 flat_does st next (HasMember l) flat h = member_does st next l h
 flat_does st next (HasBase l name) flat h = base_does st next (scope_of st.entries st.scope l) name h
 flat_does st next (Enters l) flat h = absurd flat
@@ -260,170 +230,29 @@ within {ls} {ys} l b = record {
       });
 }
 
--- ---- the parts of the tree
+plain_flat : (s : Step) → IsPlain s → IsFlat s
+plain_flat (IsNew l) is = tt
+plain_flat (DeclaresConst c) is = tt
+plain_flat (IsUndefined l) is = tt
+plain_flat (HasBase l name) is = tt
+plain_flat (Enters l) is = is
+plain_flat (Defines l) is = tt
+plain_flat Leaves is = is
+plain_flat s is = is
 
-flat_each : {ls : List Leaf} {T : Type 0} (step : T → Step) → ((x : T) → IsFlat (step x)) → (xs : List T) → Closed ls (map step xs)
-flat_each step flat [] = none
-flat_each step flat (x ∷ xs) = joined (one (step x) (flat x)) (flat_each step flat xs)
-
-each_part : {ls : List Leaf} {T : Type 0} (steps : T → List Step) → ((x : T) → Closed ls (steps x)) → (xs : List T) → Closed ls (flat_map steps xs)
-each_part steps part [] = none
-each_part steps part (x ∷ xs) = joined (part x) (each_part steps part xs)
-
--- ---- types
-
-bound_closed : {ls : List Leaf} (b : Option Bound) → Closed ls (bound_steps b)
-bound_closed None = none
-bound_closed (Some b) = one (IsSize b.expr) tt
-
-const_type_closed : {ls : List Leaf} (t : ConstType) → Closed ls (const_type_steps t)
-const_type_closed (ConstTypes.Integer i) = none
-const_type_closed ConstTypes.Char = none
-const_type_closed ConstTypes.Boolean = none
-const_type_closed ConstTypes.Octet = none
-const_type_closed (ConstTypes.String b) = bound_closed b
-const_type_closed (ConstTypes.Name name) = one (NamesType name) tt
-
-param_type_closed : {ls : List Leaf} (t : ParamType) → Closed ls (param_type_steps t)
-param_type_closed (ParamTypes.Plain t) = const_type_closed t
-param_type_closed ParamTypes.Object = none
-
-simple_type_closed : {ls : List Leaf} (t : SimpleType) → Closed ls (simple_type_steps t)
-simple_type_closed (Plain t) = param_type_closed t
-simple_type_closed (Sequence' p element b) = joined (simple_type_closed element) (bound_closed b)
-
--- a declarator's step, and its sizes
-sized : {ls : List Leaf} (s : Step) → IsFlat s → (d : Declarator) → Closed ls (s ∷ map size_step d.sizes.items)
-sized s flat d = joined (one s flat) (flat_each size_step (λ size. tt) d.sizes.items)
-
-declarators_closed : {ls : List Leaf} (ds : List Declarator) → Closed ls (flat_map declarator_steps ds)
-declarators_closed ds = each_part declarator_steps (λ d. sized (HasMember d.identifier) tt d) ds
-
-enum_closed : {ls : List Leaf} (e : EnumType) → Closed ls (enum_steps e)
-enum_closed e = joined (one (DeclaresEnum e.identifier) tt) (flat_each DeclaresEnumerator (λ l. tt) (parts e.enumerators))
-
-switch_closed : {ls : List Leaf} (s : SwitchType) → Closed ls (switch_steps s)
-switch_closed (SwitchTypes.Enum e) = enum_closed e
-switch_closed (SwitchTypes.Integer i) = none
-switch_closed SwitchTypes.Char = none
-switch_closed SwitchTypes.Boolean = none
-switch_closed (SwitchTypes.Name name) = one (NamesType name) tt
-
-label_closed : {ls : List Leaf} (l : Label) → Closed ls (label_steps l)
-label_closed (Labels.Case value) = one (HasWorth value.expr) tt
-label_closed (Labels.Default word) = none
-
--- what is declared, and steps inside it
-inside : {ls : List Leaf} {body : List Step} (kind : EntryKind) (id : Leaf) → Closed [] body
-    → Closed ls (Declares kind id ∷ Enters id ∷ (body ++ Leaves ∷ []))
-inside kind id body = declaring (Declares kind id) id kind tt (λ scope. refl) (within id body)
-
--- the same, where it has its definition
-defining : {ls : List Leaf} {body : List Step} (kind : EntryKind) (id : Leaf) → Closed [] body
-    → Closed ls (Declares kind id ∷ Enters id ∷ Defines id ∷ (body ++ Leaves ∷ []))
-defining kind id body = inside kind id (joined (one (Defines id) tt) body)
-
-mutual
-  type_closed : {ls : List Leaf} (t : TypeSpec) → Closed ls (type_steps t)
-  type_closed (Simple t) = simple_type_closed t
-  type_closed (StructSpec s) = struct_closed s
-  type_closed (UnionSpec u) = union_closed u
-  type_closed (EnumSpec e) = enum_closed e
-
-  struct_closed : {ls : List Leaf} (s : StructType) → Closed ls (struct_steps s)
-  struct_closed (StructType' id p t declarators shape rest) =
-      defining Kinds.Struct id (joined (joined (type_closed t) (declarators_closed (parts declarators))) (members_closed rest))
-
-  union_closed : {ls : List Leaf} (u : UnionType) → Closed ls (union_steps u)
-  union_closed (UnionType' id switch p labels t declarator shape rest) =
-      let first = joined (joined (each_part label_steps label_closed (parts labels)) (type_closed t)) (sized (HasMember declarator.identifier) tt declarator) in
-      defining Kinds.Union id (joined (joined (switch_closed switch) first) (cases_closed rest))
-
-  members_closed : {ls : List Leaf} {n : _} → (row : Row_of-Member n) → Closed ls (members_steps row)
-  members_closed end_of-Member = none
-  members_closed (more_of-Member t declarators rest) =
-      joined (joined (type_closed t) (declarators_closed (parts declarators))) (members_closed rest)
-
-  cases_closed : {ls : List Leaf} {n : _} → (row : Row_of-Case n) → Closed ls (cases_steps row)
-  cases_closed end_of-Case = none
-  cases_closed (more_of-Case labels t declarator rest) =
-      let first = joined (joined (each_part label_steps label_closed (parts labels)) (type_closed t)) (sized (HasMember declarator.identifier) tt declarator) in
-      joined first (cases_closed rest)
-
-member_closed : {ls : List Leaf} (m : Member) → Closed ls (member_steps m)
-member_closed m = joined (type_closed m.member_type) (declarators_closed (parts m.declarators))
-
--- ---- declarations
-
-type_dcl_closed : {ls : List Leaf} (t : TypeDcl) → Closed ls (type_dcl_steps t)
-type_dcl_closed (TypeDcls.Typedef t declarators) =
-    joined (type_closed t) (each_part (typedef_steps t) (λ d. sized (DeclaresTypedef t d) tt d) (parts declarators))
-type_dcl_closed (TypeDcls.Struct s) = struct_closed s
-type_dcl_closed (TypeDcls.Union u) = union_closed u
-type_dcl_closed (TypeDcls.Enum e) = enum_closed e
-type_dcl_closed (TypeDcls.StructAhead id) = one (Declares Kinds.Struct id) tt
-type_dcl_closed (TypeDcls.UnionAhead id) = one (Declares Kinds.Union id) tt
-
-const_closed : {ls : List Leaf} (c : Const) → Closed ls (const_steps c)
-const_closed c = joined (const_type_closed c.const_type) (joined (one (IsNew c.identifier) tt) (one (DeclaresConst c) tt))
-
-declaration_closed : {ls : List Leaf} (d : Declaration) → Closed ls (declaration_steps d)
-declaration_closed (Declarations.TypeDcl t) = type_dcl_closed t
-declaration_closed (Declarations.Const c) = const_closed c
-declaration_closed (Declarations.Except e) = inside Kinds.Exception e.identifier (each_part member_steps member_closed e.members.items)
-
--- ---- operations and attributes
-
-raises_closed : {ls : List Leaf} (names : List ScopedName) → Closed ls (raises_steps names)
-raises_closed names = flat_each NamesException (λ name. tt) names
-
-attributes_closed : {ls : List Leaf} (a : Attributes) → Closed ls (attributes_steps a)
-attributes_closed (Silent only identifiers) = flat_each (DeclaresFeature Kinds.Attribute) (λ l. tt) (parts identifiers)
-attributes_closed (Readonly id names) = joined (one (DeclaresFeature Kinds.Attribute id) tt) (raises_closed (parts names))
-attributes_closed (Get id get set) =
-    joined (joined (one (DeclaresFeature Kinds.Attribute id) tt) (raises_closed (parts get))) (raises_closed (optional_parts set))
-attributes_closed (Set id set) = joined (one (DeclaresFeature Kinds.Attribute id) tt) (raises_closed (parts set))
-
--- where the operation is there
-param_closed : {ls : List Leaf} (id : Leaf) (p : Param) → Closed (id ∷ ls) (param_steps id p)
-param_closed id p = joined (param_type_closed p.param_type) (within id (one (HasMember p.identifier) tt))
-
-result_closed : {ls : List Leaf} (t : Option ParamType) → Closed ls (result_steps t)
-result_closed None = none
-result_closed (Some t) = param_type_closed t
-
-operation_closed : {ls : List Leaf} (o : Operation) → Closed ls (operation_steps o)
-operation_closed o =
-    let params = each_part (param_steps o.identifier) (param_closed o.identifier) (optional_parts o.params) in
-    let named = declaring (DeclaresFeature Kinds.Operation o.identifier) o.identifier Kinds.Operation tt (λ scope. refl) params in
-    joined (joined (result_closed o.result_type) named) (raises_closed (optional_parts o.raises))
-
--- ---- interfaces and modules
-
-export_closed : {ls : List Leaf} (x : Export) → Closed ls (export_steps x)
-export_closed (Exports.Pragma l) = one (Says l) tt
-export_closed (Exports.Declaration d) = declaration_closed d
-export_closed (Exports.Attribute a) = joined (param_type_closed a.attribute_type) (attributes_closed a.declared)
-export_closed (Exports.Operation o) = operation_closed o
-
-interface_closed : {ls : List Leaf} (i : Interface) → Closed ls (interface_steps i)
-interface_closed (Ahead id) = one (Declares Kinds.Interface id) tt
-interface_closed {ls} (Defined id bases exports) =
-    let named = flat_each (HasBase id) (λ name. tt) (optional_parts bases) in
-    let body = joined (one (Defines id) tt) (each_part export_steps export_closed exports.items) in
-    let all = subst (Closed (id ∷ ls)) (sym (append_assoc (map (HasBase id) (optional_parts bases)) _ (Leaves ∷ []))) (joined named (within id body)) in
-    declaring (Declares Kinds.Interface id) id Kinds.Interface tt (λ scope. refl) (joined (one (IsUndefined id) tt) all)
-
-mutual
-  definition_closed : {ls : List Leaf} (d : Definition) → Closed ls (definition_steps d)
-  definition_closed (Pragma l) = one (Says l) tt
-  definition_closed (Declared d) = declaration_closed d
-  definition_closed (InterfaceDcl i) = interface_closed i
-  definition_closed (Module' id shape definitions) = inside Kinds.Module id (definitions_closed definitions)
-
-  definitions_closed : {ls : List Leaf} {n : _} → (row : Row_of-Definition n) → Closed ls (definitions_steps row)
-  definitions_closed end_of-Definition = none
-  definitions_closed (more_of-Definition d rest) = joined (definition_closed d) (definitions_closed rest)
+-- so are those that a tree's pieces ask
+closed : {ls : List Leaf} {ps : List Piece} {xs : List Step} → Asks ls ps xs → Closed ls xs
+closed unasked = none
+closed (silent p is) = none
+closed (both_asked a b) = joined (closed a) (closed b)
+closed (plain s is) = one s (plain_flat s is)
+closed (base text id name) = one (HasBase id name) tt
+closed (valued c) = joined (one (IsNew c.identifier) tt) (one (DeclaresConst c) tt)
+closed (declared kind id a) = declaring (Declares kind id) id kind tt (λ scope. refl) (closed a)
+closed (featured kind id a) = declaring (DeclaresFeature kind id) id kind tt (λ scope. refl) (closed a)
+closed (undefined kind id a) = declaring (Declares kind id) id kind tt (λ scope. refl) (joined (one (IsUndefined id) tt) (closed a))
+closed (inside id a) = within id (closed a)
+closed (defines id a) = joined (one (Defines id) tt) (closed a)
 
 -- ---- a whole specification
 
@@ -435,7 +264,7 @@ whole_adds definitions names h =
     let same = passed_same st (never_defined (left_open st 0 st.entries)) read rest in
     let whole_is : whole st ≡ names = ap whole same ∙ cc in
     let entries : st.entries ≡ names.entries = ap (λ w. w.entries) whole_is in
-    let all : Closed [] (steps_of definitions) = each_part definition_steps definition_closed definitions in
+    let all = closed (all_ask definitions) in
     let reads = all.go names.entries nothing_yet st steps (λ scope name n there. ap (λ es. named es scope name) (sym entries) ∙ there) tt in
     (st, reads.adds, entries)
 
@@ -451,6 +280,17 @@ declared_once definitions names h =
     let (st, adds, is) = whole_adds definitions names h in
     let all = introduced names.entries 0 (steps_of definitions) in
     subst (λ es. AllByRecursion (IsEntry es) all) is (all_map (Holds (known st)) (IsEntry st.entries) (entry_held (known st)) all adds.holds)
+
+pub nothing_else : (definitions : List Definition) (names : Whole) → AreNames definitions names → (n : ℕ) → n < length names.entries
+    → Any (StandsFor names.entries n) (introduced names.entries 0 (steps_of definitions))
+nothing_else definitions names h n lt =
+    let (st, adds, is) = whole_adds definitions names h in
+    let all = introduced names.entries 0 (steps_of definitions) in
+    subst (λ es. Any (StandsFor es n) all) is (by (known st) all adds (adds.only n (subst (λ es. n < length es) (sym is) lt)))
+  where
+    by : (st : Known) (xs : List Introduction) → Adds (known nothing_yet) xs st → IsKnown (known nothing_yet) xs st n → Any (StandsFor st.entries n) xs
+    by st xs adds (inl before) = absurd (omega arith)
+    by st xs adds (inr any) = any
 
 pub nothing_clashes : (definitions : List Definition) (names : Whole) → AreNames definitions names
     → IsDistinct clashes (introduced names.entries 0 (steps_of definitions))

@@ -1,10 +1,12 @@
 -- What a step introduces: what was known stays, what is introduced holds behind it, and clashes with nothing before.
-use Rattle.std.proofs.Common.{◌≡◌, ◌∙◌, ℕ, zero, suc, Bool, true, false, not, cond, nat_eq, ◌&&◌, List, [], ◌∷◌, ◌++◌, length, map, get_or, position, slice_get, Option, Some, None, Result, Ok, Err, refl, sym, ap, subst}
+use Rattle.std.proofs.Common.{◌≡◌, ◌∙◌, ◌<◌, ◌+◌, ◌⊎◌, inl, inr, arith, length-append, ℕ, zero, suc, Bool, true, false, not, cond, nat_eq, ◌&&◌, List, [], ◌∷◌, ◌++◌, length, map, get_or, position, slice_get, Option, Some, None, Result, Ok, Err, refl, sym, ap, subst}
 use Rattle.std.specs.Prelude.{◌||◌, if◌then◌else◌}
-use Rattle.std.specs.List.{AllByRecursion, IsDistinct, list_any}
+use Rattle.std.specs.List.{AllByRecursion, Any, IsDistinct, list_any}
 use Rattle.std.specs.Option.{option_map}
 use Rattle.std.specs.Str.{bytes_eq}
 use Rattle.std.proofs.lemmas.Bool.{and_parts, eq-eqb, eqb-true}
+use Rattle.std.proofs.Math.ListN.{get_or-append}
+use Rattle.std.proofs.lemmas.List.{get_or-append-add, length-map}
 use Rattle.std.proofs.lemmas.List.Folds.{list_any-append}
 use Rattle.std.proofs.lemmas.List.Quantifiers.{position-Some}
 use Rattle.std.proofs.lemmas.Option.{slice_get-get_or, slice_get-map, slice_get_within}
@@ -24,7 +26,7 @@ use Rattle.name_table.specs.Entry.{Entry, is_named, named}
 use Rattle.name_table.specs.Entries.{entry_declared, entry_with_base, with_base}
 use Rattle.name_table.specs.Search.{word}
 use Rattle.scoped_names.specs.Faults.{base_added, base_test, based, declared_as, declares_over, defined_here, entry_at, entry_in, free_test, is_defined, keeps_prefix, may_reappear, member_added, member_named, new_test, or_then, reappears, scope_at, taken_by, undefined_test, with_declared}
-use Rattle.scoped_names.specs.Introductions.{Introduction, Stands, Has, Body, IsEntry, clashes, is_one_name}
+use Rattle.scoped_names.specs.Introductions.{Introduction, Stands, Has, Body, IsEntry, StandsFor, clashes, is_one_name}
 use Rattle.scoped_names.specs.Reading.{Member, Reading, State, Test, ◌>>◌, passed}
 use Rattle.scoped_names.specs.Tests.{at, at_entry, resolved}
 use Rattle.name_table.proofs.Lookups.{position_map}
@@ -56,6 +58,19 @@ distinct_none eq = tt
 distinct_one : {X : Type 0} (eq : X → X → Bool) (x : X) → IsDistinct eq (x ∷ [])
 unfolding IsDistinct
 distinct_one eq x = (tt, tt)
+
+any_left : {X : Type 0} (P : X → Type 0) (xs ys : List X) → Any P xs → Any P (xs ++ ys)
+any_left P xs ys (k, x, lt, is, holds) =
+    let all = length-append xs ys in
+    (k, x, omega arith, get_or-append xs ys x k lt ∙ is, holds)
+
+any_right : {X : Type 0} (P : X → Type 0) (xs ys : List X) → Any P ys → Any P (xs ++ ys)
+any_right P xs ys (k, x, lt, is, holds) =
+    let all = length-append xs ys in
+    (length xs + k, x, omega arith, get_or-append-add xs ys k x ∙ is, holds)
+
+any_map : {X : Type 0} (P Q : X → Type 0) → ((x : X) → P x → Q x) → (xs : List X) → Any P xs → Any Q xs
+any_map P Q f xs (k, x, lt, is, holds) = (k, x, lt, is, f x holds)
 
 any_longer : {X : Type 0} (p : X → Bool) (xs ys : List X) → list_any p xs ≡ true → list_any p (xs ++ ys) ≡ true
 any_longer p xs ys h = list_any-append p xs ys ∙ ap (λ b. b || list_any p ys) h
@@ -144,18 +159,40 @@ grows_on st mid next g h = record {
 pub keeps_on : (es fs gs : List Entry) → Keeps es fs → Keeps fs gs → Keeps es gs
 keeps_on es fs gs one other scope name n h = other scope name n (one scope name n h)
 
+-- an entry was there before, or an identifier that is introduced stands for it
+abbrev pub IsKnown : Known → List Introduction → Known → ℕ → Type 0
+IsKnown st xs next n = (n < length st.entries) ⊎ Any (StandsFor next.entries n) xs
+
 -- what is introduced between what is known before and behind
 pub record Adds (st : Known) (xs : List Introduction) (next : Known) : Type 0 where
   pub grows : Grows st next
   pub holds : AllByRecursion (Holds next) xs
   pub apart : IsDistinct clashes xs
   pub new : (x : Introduction) → Holds st x → AllByRecursion (λ y. clashes x y ≡ false) xs
+  pub only : (n : ℕ) → n < length next.entries → IsKnown st xs next n
 
-pub adds_grown : (st next : Known) → Grows st next → Adds st [] next
-adds_grown st next g = record { grows = g; holds = tt; apart = distinct_none clashes; new = λ x h. tt }
+adds_grown : (st next : Known) → Grows st next → length next.entries ≡ length st.entries → Adds st [] next
+adds_grown st next g same =
+    record { grows = g; holds = tt; apart = distinct_none clashes; new = λ x h. tt; only = λ n lt. inl (omega arith) }
 
 pub adds_none : (st : Known) → Adds st [] st
-adds_none st = adds_grown st st (grows_none st)
+adds_none st = adds_grown st st (grows_none st) refl
+
+-- what stands for an entry still does
+still_for : (es fs : List Entry) → Keeps es fs → (n : ℕ) (x : Introduction) → StandsFor es n x → StandsFor fs n x
+still_for es fs keeps n (Stands scope l kind) h = keeps scope (word l) n h
+still_for es fs keeps n (Has scope l) h = h
+still_for es fs keeps n (Body scope) h = h
+
+known_by_both : (st mid next : Known) (xs ys : List Introduction) → Adds st xs mid → Adds mid ys next → (n : ℕ) → IsKnown mid ys next n → IsKnown st (xs ++ ys) next n
+known_by_both st mid next xs ys a b n (inr any) = inr (any_right (StandsFor next.entries n) xs ys any)
+known_by_both st mid next xs ys a b n (inl lt) = by (a.only n lt)
+  where
+    by : IsKnown st xs mid n → IsKnown st (xs ++ ys) next n
+    by (inl before) = inl before
+    by (inr any) =
+        let still = any_map (StandsFor mid.entries n) (StandsFor next.entries n) (still_for mid.entries next.entries b.grows.names n) xs any in
+        inr (any_left (StandsFor next.entries n) xs ys still)
 
 pub adds_both : (st mid next : Known) (xs ys : List Introduction) → Adds st xs mid → Adds mid ys next → Adds st (xs ++ ys) next
 adds_both st mid next xs ys a b = record {
@@ -163,10 +200,22 @@ adds_both st mid next xs ys a b = record {
   holds = all_append (Holds next) xs ys (all_map (Holds mid) (Holds next) (kept mid next b.grows) xs a.holds) b.holds;
   apart = distinct_append clashes xs ys a.apart b.apart (all_map (Holds mid) (λ x. AllByRecursion (λ y. clashes x y ≡ false) ys) b.new xs a.holds);
   new = λ x h. all_append (λ y. clashes x y ≡ false) xs ys (a.new x h) (b.new x (kept st mid a.grows x h));
+  only = λ n lt. known_by_both st mid next xs ys a b n (b.only n lt);
 }
 
-adds_one : (st next : Known) (y : Introduction) → Grows st next → Holds next y → ((x : Introduction) → Holds st x → clashes x y ≡ false) → Adds st (y ∷ []) next
-adds_one st next y g h new = record { grows = g; holds = (h, tt); apart = distinct_one clashes y; new = λ x is. (new x is, tt) }
+adds_one : (st next : Known) (y : Introduction) → Grows st next → Holds next y → ((x : Introduction) → Holds st x → clashes x y ≡ false)
+    → ((n : ℕ) → n < length next.entries → (n < length st.entries) ⊎ StandsFor next.entries n y) → Adds st (y ∷ []) next
+adds_one st next y g h new only = record {
+  grows = g;
+  holds = (h, tt);
+  apart = distinct_one clashes y;
+  new = λ x is. (new x is, tt);
+  only = λ n lt. by n (only n lt);
+}
+  where
+    by : (n : ℕ) → (n < length st.entries) ⊎ StandsFor next.entries n y → IsKnown st (y ∷ []) next n
+    by n (inl before) = inl before
+    by n (inr is) = inr (0, y, omega arith, refl, is)
 
 -- the same, where the next step is done in the same scope
 pub record Does (st : State) (xs : List Introduction) (next : State) : Type 0 where
@@ -250,7 +299,7 @@ free_of_members st l free s k has =
 -- ---- what a declaration introduces
 
 -- what appears again is of the kind and spelling, and nothing changes
-appears : (kind : EntryKind) (st next : State) (l : Leaf) (e : Entry) → reappears kind st l e ≡ Ok next
+pub appears : (kind : EntryKind) (st next : State) (l : Leaf) (e : Entry) → reappears kind st l e ≡ Ok next
     → ((may_reappear kind e.kind && bytes_eq (word l) e.name) ≡ true) × (st ≡ next)
 appears kind st next l e h =
     by (may_reappear kind e.kind && bytes_eq (word l) e.name) (keeps_prefix kind && not (bytes_eq st.prefix e.prefix)) refl h
@@ -273,6 +322,9 @@ one_kind kind other h = absurd cc
 none_some : (o : Option ℕ) (n : ℕ) → o ≡ None → o ≡ Some n → ⊥
 none_some o n none some = cc
 
+below_or_last : (n k : ℕ) → n < suc k → (n < k) ⊎ (k ≡ n)
+below_or_last n k lt = grind arith
+
 -- one more entry
 module _ (m : Meaning) (st : State) (l : Leaf) (none : named st.entries st.scope (word l) ≡ None) where
   abbrev added : Entry
@@ -287,12 +339,21 @@ module _ (m : Meaning) (st : State) (l : Leaf) (none : named st.entries st.scope
     defined = λ s h. h;
   }
 
-  stands : Holds (known (with_declared m st l)) (Stands st.scope l m.kind)
-  stands =
-      let place = named_push st.entries added st.scope (word l)
+  place : named (with_declared m st l).entries st.scope (word l) ≡ Some (length st.entries)
+  place =
+      named_push st.entries added st.scope (word l)
       ∙ ap (λ o. or_place o (cond (is_named st.scope (word l) added) (Some (length st.entries)) None)) none
-      ∙ ap (λ b. cond b (Some (length st.entries)) None) (same_name st.scope (word l)) in
-      (length st.entries, added, place, get_push_last st.entries added, refl, refl)
+      ∙ ap (λ b. cond b (Some (length st.entries)) None) (same_name st.scope (word l))
+
+  stands : Holds (known (with_declared m st l)) (Stands st.scope l m.kind)
+  stands = (length st.entries, added, place, get_push_last st.entries added, refl, refl)
+
+  last_one : (n : ℕ) → n < length (st.entries ++ added ∷ []) → (n < length st.entries) ⊎ (named (st.entries ++ added ∷ []) st.scope (word l) ≡ Some n)
+  last_one n lt = by (below_or_last n (length st.entries) (let all = length-append st.entries (added ∷ []) in omega arith))
+    where
+      by : (n < length st.entries) ⊎ (length st.entries ≡ n) → (n < length st.entries) ⊎ (named (st.entries ++ added ∷ []) st.scope (word l) ≡ Some n)
+      by (inl before) = inl before
+      by (inr is) = inr (place ∙ ap Some is)
 
 -- what was introduced doesn't clash with what is declared now
 module _ (m : Meaning) (st next : State) (l : Leaf) (free : has_member st.members st.scope (word l) ≡ false)
@@ -319,7 +380,7 @@ module _ (m : Meaning) (st next : State) (l : Leaf) (free : has_member st.member
       by None none =
           let is : with_declared m st l ≡ next = (let r : declares_over m st l None ≡ Ok next = sym (ap (λ o. declares_over m st l (entry_in st.entries o)) none) ∙ h in cc) in
           subst (Does st (Stands st.scope l m.kind ∷ [])) is (record {
-            adds = adds_one (known st) (known (with_declared m st l)) (Stands st.scope l m.kind) (grown m st l none) (stands m st l none) no_clash;
+            adds = adds_one (known st) (known (with_declared m st l)) (Stands st.scope l m.kind) (grown m st l none) (stands m st l none) no_clash (last_one m st l none);
             scope = refl;
           })
       by (Some n) there =
@@ -329,7 +390,7 @@ module _ (m : Meaning) (st next : State) (l : Leaf) (free : has_member st.member
           let holds : Holds (known st) (Stands st.scope l m.kind) =
           (n, e, there, here, one_kind m.kind e.kind two.0, sym ((bytes_eq-Decides (word l) e.name).0 two.1)) in
           subst (Does st (Stands st.scope l m.kind ∷ [])) same (record {
-            adds = adds_one (known st) (known st) (Stands st.scope l m.kind) (grows_none (known st)) holds no_clash;
+            adds = adds_one (known st) (known st) (Stands st.scope l m.kind) (grows_none (known st)) holds no_clash (λ n lt. inl lt);
             scope = refl;
           })
 
@@ -359,7 +420,7 @@ member_does st next l h =
     } in
     let last = any_last (λ m. nat_eq st.scope m.scope && same_but_for_case (word l) m.name) st.members _ (same_name st.scope (word l)) in
     subst (Does st (Has st.scope l ∷ [])) is (record {
-      adds = adds_one (known st) (known more) (Has st.scope l) grows last (clash (untaken st (word l) free.0) none);
+      adds = adds_one (known st) (known more) (Has st.scope l) grows last (clash (untaken st (word l) free.0) none) (λ n lt. inl lt);
       scope = refl;
     })
   where
@@ -393,7 +454,7 @@ defined_does st next l h =
     } in
     let last = any_last (λ s. nat_eq st.scope s) st.defined st.scope (eq-eqb st.scope st.scope refl) in
     subst (Does st (Body st.scope ∷ [])) is (record {
-      adds = adds_one (known st) (known more) (Body st.scope) grows last (clash (undefined_is st st.scope l u test));
+      adds = adds_one (known st) (known more) (Body st.scope) grows last (clash (undefined_is st st.scope l u test)) (λ n lt. inl lt);
       scope = refl;
     })
   where
@@ -425,6 +486,9 @@ module _ (es : List Entry) (base : Base) where
   names_like inner s name =
       sym (position_map (is_named s name) bare (with_base es inner base))
       ∙ ap (position (is_named s name)) (bare_like inner) ∙ position_map (is_named s name) bare es
+
+  length_like : (inner : ℕ) → length (with_base es inner base) ≡ length es
+  length_like inner = sym (length-map (with_base es inner base) bare) ∙ ap length (bare_like inner) ∙ length-map es bare
 
   stays : (inner n : ℕ) (e : Entry) → slice_get es n ≡ Some e → Stays (with_base es inner base) n e
   stays inner n e h = by (slice_get (with_base es inner base) n) refl
@@ -458,4 +522,4 @@ base_does st next inner name h =
     let base : Base = record { token = (name_start name).number; entry = e } in
     let (u, test, based_is) = then_ok (base_test st inner base (at (name_start name))) (λ u. let r : Reading = Ok (based st inner base) in r) next rest in
     let is : based st inner base ≡ next = cc in
-    subst (Does st []) is (record { adds = adds_grown (known st) (known (based st inner base)) (based_grows st inner base); scope = refl })
+    subst (Does st []) is (record { adds = adds_grown (known st) (known (based st inner base)) (based_grows st inner base) (length_like st.entries base inner); scope = refl })

@@ -10,9 +10,13 @@ pub mod WorkedIds
 pub mod FeatureTables
 pub mod Readings
 pub mod Behind
+pub mod Asks
+pub mod Asked
 pub mod ListedSteps
 pub mod Introducing
 pub mod Introduced
 pub mod WorkedFaults
+pub mod WorkedSteps
 pub mod Rising
 pub mod Steady
+pub mod Reached

@@ -11,16 +11,13 @@ use Rattle.idl_tree.specs.declared.definitions.Definition.{Module}
 use Rattle.idl_tree.specs.declared.definitions.Module.{Module as ModuleRecord}
 use Rattle.idl_tree.proofs.Rows.{module_walk, struct_walk, union_walk}
 use Rattle.name_table.specs.declared.entry.EntryKind.TheVariants as Kinds
-use Rattle.scoped_names.specs.Steps.{Step, Declares, Enters, Leaves, case_steps, cases_steps, definition_steps, definitions_steps, member_steps, members_steps, opening, struct_steps, switch_steps, union_steps}
+use Rattle.scoped_names.specs.Steps.{Step, Leaves, case_steps, cases_steps, definition_steps, definitions_steps, member_steps, members_steps, module_body, opening, struct_steps, switch_steps, union_steps}
 
 abbrev pub struct_body : Leaf → Member → List Step → List Step
 struct_body id m others = opening Kinds.Struct id ++ member_steps m ++ others ++ Leaves ∷ []
 
 abbrev pub union_body : Leaf → SwitchType → Case → List Step → List Step
 union_body id switch c others = opening Kinds.Union id ++ switch_steps switch ++ case_steps c ++ others ++ Leaves ∷ []
-
-abbrev pub module_body : Leaf → List Step → List Step
-module_body id inner = Declares Kinds.Module id ∷ Enters id ∷ inner ++ Leaves ∷ []
 
 pub struct_listed : (s : StructType)
     → struct_steps s ≡ struct_body (out-StructType s).identifier (out-StructType s).first.value (flat_map member_steps (out-StructType s).rest.items)

@@ -38,18 +38,20 @@ members_push [] (y ∷ places) k a h = absurd (omega arith)
 members_push (x ∷ ks) [] k a h = absurd (omega arith)
 members_push (x ∷ ks) (y ∷ places) k a h = ap (λ ms. member_of x y ∷ ms) (members_push ks places k a (omega arith))
 
+abbrev after : Option At → At → Bool → Option At
+after others a b = if b then Some a else others
+
 -- a name that no member has is that of no key
 pub members_none : (test : Key → Bool) (ks : List Key) (places : List At) (scope : ℕ) (name : List ℕ) → ((k : Key) → (nat_eq scope k.scope && same_but_for_case name k.word.text.now) ≡ test k) → length ks ≡ length places
     → member_named (members_of ks places) scope name ≡ None → position test ks ≡ None
 members_none test [] places scope name same h none = refl
 members_none test (k ∷ ks) [] scope name same h none = absurd (omega arith)
-members_none test (k ∷ ks) (a ∷ places) scope name same h none = by (test k) refl
+members_none test (k ∷ ks) (a ∷ places) scope name same h none = by (test k) refl (members_none test ks places scope name same (omega arith))
   where
-    abbrev tested : Bool → Option At
-    tested b = if b then Some a else member_named (members_of ks places) scope name
-
-    by : (b : Bool) → test k ≡ b → position test (k ∷ ks) ≡ None
-    by true is = let some : Some a ≡ None = sym (ap tested (same k ∙ is)) ∙ none in absurd cc
-    by false is =
+    by : (b : Bool) → test k ≡ b → (member_named (members_of ks places) scope name ≡ None → position test ks ≡ None) → position test (k ∷ ks) ≡ None
+    by true is rest =
+        let some : after (member_named (members_of ks places) scope name) a true ≡ None = sym (ap (after (member_named (members_of ks places) scope name) a) (same k ∙ is)) ∙ none in
+        absurd cc
+    by false is rest =
         position_cons test k ks ∙ ap (λ b. cond b (Some 0) (option_map suc (position test ks))) is
-        ∙ ap (option_map suc) (members_none test ks places scope name same (omega arith) (sym (ap tested (same k ∙ is)) ∙ none))
+        ∙ ap (option_map suc) (rest (sym (ap (after (member_named (members_of ks places) scope name) a) (same k ∙ is)) ∙ none))

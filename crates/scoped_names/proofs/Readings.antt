@@ -3,16 +3,21 @@ use Rattle.std.proofs.Common.{◌≡◌, ◌∙◌, ℕ, zero, suc, ◌+◌, ◌
 use Rattle.std.specs.Prelude.{Box, if◌then◌else◌}
 use Rattle.std.proofs.Math.Seq.{drop-cons}
 use Rattle.std.proofs.lemmas.Option.{slice_get-get_or}
+use Rattle.idl_tree.specs.declared.names.Leaf.{Leaf}
 use Rattle.idl_tree.specs.declared.expression.Expr.{Expr, Chain}
 use Rattle.idl_tree.specs.declared.expression.Operand.{Operand}
 use Rattle.idl_tree.proofs.Rows.{chain_walk}
 use Rattle.name_table.specs.declared.entry.EntryKind.TheVariants.{Module as ModuleKind}
-use Rattle.name_table.specs.Entry.{Entry}
+use Rattle.name_table.specs.declared.entry.Meaning.{Meaning}
+use Rattle.name_table.specs.Entry.{Entry, named}
+use Rattle.name_table.specs.Search.{word}
 use Rattle.name_table.proofs.MergedBases.{drop_at}
 use Rattle.scoped_names.specs.declared.fault.At.{At}
 use Rattle.scoped_names.specs.declared.fault.NameFault.{NameFault}
-use Rattle.scoped_names.specs.Faults.{is_left_open, left_open, step_read, steps_read}
-use Rattle.scoped_names.specs.Reading.{State, Test, ◌>>◌}
+use Rattle.scoped_names.specs.declared.fault.NameFault.TheVariants.{BadBase}
+use Rattle.scoped_names.specs.declared.fault.Unfit.TheVariants.{NotDefined, NamedTwice, FeatureTwice}
+use Rattle.scoped_names.specs.Faults.{declared_as, declares_over, entry_in, free_test, is_left_open, left_open, reappears, step_read, steps_read, taken_by}
+use Rattle.scoped_names.specs.Reading.{State, Tells, Test, ◌>>◌}
 use Rattle.scoped_names.specs.Steps.{Step}
 use Rattle.scoped_names.specs.Tests.{at_entry, names_test, operand_test, operands_test}
 
@@ -80,6 +85,29 @@ open_off st k r lt tested is =
     let here = slice_get-get_or st.entries k blank lt in
     let same : r ≡ is_left_open st k e = subst (λ o. IfSome o (λ e. r ≡ is_left_open st k e)) here tested in
     ap (left_open st k) (drop_at st.entries k e here) ∙ ap (opened st k e) (sym same ∙ is) ∙ sym (ap at_entry here)
+
+-- ---- what is declared again
+
+pub told_again : {T : Type 0} (m : Meaning) (st : State) (l : Leaf) (n : ℕ) (r : Result T NameFault) → n < length st.entries → free_test l (taken_by st (word l)) ≡ Ok tt
+    → named st.entries st.scope (word l) ≡ Some n → IfSome (slice_get st.entries n) (λ e. Tells r st (reappears m.kind st l e)) → Tells r st (declared_as m st l)
+told_again m st l n r lt free there tells =
+    let e = get_or st.entries n blank in
+    let here = slice_get-get_or st.entries n blank lt in
+    let one : Tells r st (reappears m.kind st l e) = subst (λ o. IfSome o (λ e. Tells r st (reappears m.kind st l e))) here tells in
+    let is : declared_as m st l ≡ reappears m.kind st l e =
+    ap (λ t. t >> λ u. declares_over m st l (entry_in st.entries (named st.entries st.scope (word l)))) free
+    ∙ ap (λ o. declares_over m st l (entry_in st.entries o)) there ∙ ap (declares_over m st l) here in
+    subst (Tells r st) (sym is) one
+
+-- ---- bases
+
+-- whether it isn't defined, is named twice, and has a feature twice
+abbrev pub fitness : At → Bool → Bool → Bool → Test
+fitness here open_ twice clashes =
+    if open_ then Err (BadBase here NotDefined)
+    else if twice then Err (BadBase here NamedTwice)
+    else if clashes then Err (BadBase here FeatureTwice)
+    else Ok tt
 
 -- ---- chains
 

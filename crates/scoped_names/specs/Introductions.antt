@@ -62,6 +62,12 @@ clashes (Body s) (Stands t m other) = false
 clashes (Body s) (Has t m) = false
 clashes (Body s) (Body t) = nat_eq s t
 
+-- an identifier that stands for the n-th entry
+abbrev pub StandsFor : List Entry → ℕ → Introduction → Type 0
+StandsFor es n (Stands scope l kind) = named es scope (word l) ≡ Some n
+StandsFor es n (Has scope l) = ⊥
+StandsFor es n (Body scope) = ⊥
+
 -- an identifier is the entry that stands at its scope and name, of its kind and spelling
 abbrev pub IsEntry : List Entry → Introduction → Type 0
 IsEntry es (Stands scope l kind) = (n : ℕ) × (e : Entry) × (named es scope (word l) ≡ Some n)

@@ -10,6 +10,7 @@ pub mod Steps
 pub mod Faults
 pub mod Whole
 pub mod Introductions
+pub mod Asked
 pub mod Rising
 pub mod IdsKept
 pub mod StateKept

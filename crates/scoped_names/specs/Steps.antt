@@ -237,13 +237,15 @@ interface_steps (Defined id bases exports) = Declares Kinds.Interface id ∷ IsU
     ∷ map (HasBase id) (optional_parts bases) ++ Enters id ∷ Defines id
     ∷ flat_map export_steps exports.items ++ Leaves ∷ []
 
+abbrev pub module_body : Leaf → List Step → List Step
+module_body id inner = Declares Kinds.Module id ∷ Enters id ∷ inner ++ Leaves ∷ []
+
 abbrev mutual
   pub definition_steps : Definition → List Step
   definition_steps (Pragma l) = Says l ∷ []
   definition_steps (Declared d) = declaration_steps d
   definition_steps (InterfaceDcl i) = interface_steps i
-  definition_steps (Module' id shape definitions) =
-      Declares Kinds.Module id ∷ Enters id ∷ definitions_steps definitions ++ Leaves ∷ []
+  definition_steps (Module' id shape definitions) = module_body id (definitions_steps definitions)
 
   pub definitions_steps : {n : _} → Row_of-Definition n → List Step
   definitions_steps end_of-Definition = []

@@ -1,9 +1,10 @@
 -- The steps that are kept, as contracts see them.
-use Rattle.std.specs.Prelude.{List, map}
+use Rattle.std.specs.Prelude.{List, [], ◌∷◌, map}
+use Rattle.idl_tree.specs.declared.definitions.Definition.{Definition, Pragma, Declaration, Interface, Module'}
 use Rattle.scoped_names.specs.declared.step.Step.{Step}
 use Rattle.scoped_names.specs.declared.step.Steps.{Steps}
 use Rattle.scoped_names.specs.declared.step.Step.TheVariants as Kept
-use Rattle.scoped_names.specs.Steps.{Step as TreeStep, Declares, DeclaresEnum, DeclaresEnumerator, DeclaresTypedef, IsNew, DeclaresConst, DeclaresFeature, HasMember, IsUndefined, HasBase, Enters, Defines, Leaves, NamesType, NamesException, HasWorth, IsSize, Says}
+use Rattle.scoped_names.specs.Steps.{Step as TreeStep, Declares, DeclaresEnum, DeclaresEnumerator, DeclaresTypedef, IsNew, DeclaresConst, DeclaresFeature, HasMember, IsUndefined, HasBase, Enters, Defines, Leaves, NamesType, NamesException, HasWorth, IsSize, Says, declaration_steps, interface_steps}
 
 abbrev pub step_of : Step → TreeStep
 step_of (Kept.Declares kind l) = Declares kind l
@@ -28,3 +29,10 @@ step_of (Kept.Says l) = Says l
 -- the steps in order
 abbrev pub steps_in : Steps → List TreeStep
 steps_in steps = map step_of steps.list.items
+
+-- those of a definition but for a module, which has none
+abbrev pub flat_steps : Definition → List TreeStep
+flat_steps (Pragma l) = Says l ∷ []
+flat_steps (Declaration d) = declaration_steps d
+flat_steps (Interface i) = interface_steps i
+flat_steps (Module' id shape definitions) = []

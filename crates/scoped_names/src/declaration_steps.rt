@@ -3,25 +3,18 @@
 ghost use Rattle.std.specs.Prelude.{◌≡◌, ◌++◌, ◌∷◌, map, OnOk};
 ghost use Rattle.std.specs.List.{flat_map};
 ghost use Rattle.idl_tree.specs.Lists.{parts};
-ghost use Rattle.scoped_names.specs.StepsKept.{steps_in};
-ghost use Rattle.scoped_names.specs.Steps.{attribute_steps, attributes_steps, const_steps, declaration_steps, definition_steps, except_steps, export_steps, interface_steps, operation_steps, optional_parts, param_steps, raises_steps, result_steps, steps_of, type_dcl_steps, typedef_steps, DeclaresFeature as FeatureStep, HasBase as BaseStep};
+ghost use Rattle.scoped_names.specs.StepsKept.{flat_steps, steps_in};
+ghost use Rattle.scoped_names.specs.Steps.{attribute_steps, attributes_steps, const_steps, declaration_steps, except_steps, export_steps, interface_steps, operation_steps, optional_parts, param_steps, raises_steps, result_steps, type_dcl_steps, typedef_steps, DeclaresFeature as FeatureStep, HasBase as BaseStep};
 
 use crate::step::{Step, Steps};
 use idl_tree::definitions::{
-    Attribute, Attributes, Const, Declaration, Definition, Except, Export, Interface, Module,
-    Operation, Param, TypeDcl,
+    Attribute, Attributes, Const, Declaration, Definition, Except, Export, Interface, Operation,
+    Param, TypeDcl,
 };
 use idl_tree::names::{Leaf, Listed, ScopedName};
 use idl_tree::types::{Declarator, ParamType, TypeSpec};
 use name_table::EntryKind;
 use std::alloc::AllocError;
-
-/// What stands in a module.
-fn definitions_of<'t, 'a>(m: &'t Module<'a>) -> &'t [Definition<'a>]
-    ensures { result.now ≡ m.now.definitions.items }
-{
-    m.definitions.as_slice()
-}
 
 impl<'t, 'a> Steps<'t, 'a> {
     fn add_typedef(
@@ -264,31 +257,15 @@ impl<'t, 'a> Steps<'t, 'a> {
         }
     }
 
-    fn add_definition(&mut self, d: &'t Definition<'a>) -> Result<(), AllocError>
-        ensures { OnOk result (steps_in self.new ≡ steps_in self.old ++ definition_steps d.now) }
+    /// A definition but for a module, of which nothing is added.
+    pub fn add_flat(&mut self, d: &'t Definition<'a>) -> Result<(), AllocError>
+        ensures { OnOk result (steps_in self.new ≡ steps_in self.old ++ flat_steps d.now) }
     {
         match d {
             Definition::Pragma(leaf) => self.push(Step::Says(*leaf)),
             Definition::Declaration(d) => self.add_declaration(d),
             Definition::Interface(i) => self.add_interface(i),
-            Definition::Module(m) => {
-                self.push(Step::Declares(EntryKind::Module, m.identifier))?;
-                self.push(Step::Enters(m.identifier))?;
-                for inner in definitions_of(m) {
-                    self.add_definition(inner)?;
-                }
-                self.push(Step::Leaves)
-            }
+            Definition::Module(_) => Ok(()),
         }
-    }
-
-    /// Definitions one behind another.
-    pub fn add_definitions(&mut self, definitions: &'t [Definition<'a>]) -> Result<(), AllocError>
-        ensures { OnOk result (steps_in self.new ≡ steps_in self.old ++ steps_of definitions.now) }
-    {
-        for definition in definitions {
-            self.add_definition(definition)?;
-        }
-        Ok(())
     }
 }

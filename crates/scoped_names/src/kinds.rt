@@ -1,6 +1,8 @@
 //! The types of constants that types are in the end.
 
 ghost use Rattle.std.specs.Prelude.{◌≡◌, ◌≤◌, length, IfErr, IfOk};
+ghost use Rattle.name_table.specs.Search.{finds};
+ghost use Rattle.scoped_names.specs.Constants.{meant_found};
 ghost use Rattle.scoped_names.specs.TypeKinds.{const_type_kind as const_kind_of, param_type_kind as param_kind_of, simple_type_kind as simple_kind_of, string_kind as string_kind_of};
 ghost use Rattle.scoped_names.specs.declared.fault.NameFault.TheVariants.{NoMemory};
 
@@ -8,6 +10,7 @@ use crate::evaluation::{resolve, size};
 use crate::fault::NameFault;
 use const_values::ConstKind;
 use idl_tree::const_expr::Bound;
+use idl_tree::names::ScopedName;
 use idl_tree::types::{ConstType, ParamType, SimpleType};
 use name_table::Table;
 use std::alloc::Global;
@@ -32,6 +35,17 @@ fn string_kind<'a>(
     }
 }
 
+/// The type of constants that the name of a type stands for.
+fn name_kind<'a>(table: &Table<'a>, scope: usize, name: &ScopedName<'a>) -> Option<ConstKind>
+    requires { scope ≤ length table.now }
+    ensures { result ≡ meant_found table.now (finds table.now scope name.now) }
+{
+    match resolve(table, scope, name) {
+        Ok(entry) => table.stands_for(entry),
+        Err(_) => None,
+    }
+}
+
 /// The type of constants that the type of a constant is in the end.
 ///
 /// # Errors
@@ -53,10 +67,7 @@ pub(crate) fn const_type_kind<'a>(
         ConstType::Boolean => Some(ConstKind::Boolean),
         ConstType::Octet => Some(ConstKind::Octet),
         ConstType::String(bound) => Some(string_kind(table, alloc, scope, bound)?),
-        ConstType::Name(name) => match resolve(table, scope, name) {
-            Ok(entry) => table.stands_for(entry),
-            Err(_) => None,
-        },
+        ConstType::Name(name) => name_kind(table, scope, name),
     })
 }
 

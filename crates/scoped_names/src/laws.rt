@@ -1,9 +1,11 @@
 //! Laws over the definitions. The functions do nothing: each contract is the law.
 
-ghost use Rattle.std.specs.Prelude.{◌≡◌, ℕ, List};
-ghost use Rattle.std.specs.List.{AllByRecursion, IsDistinct};
+ghost use Rattle.std.specs.Prelude.{◌≡◌, ◌<◌, ℕ, List, length};
+ghost use Rattle.std.specs.List.{AllByRecursion, Any, IsDistinct};
 ghost use Rattle.idl_tree.specs.declared.definitions.Definition.{Definition};
-ghost use Rattle.scoped_names.specs.Introductions.{IsEntry, clashes, introduced};
+ghost use Rattle.idl_tree.specs.DefinitionYields.{definitions_spelled};
+ghost use Rattle.scoped_names.specs.Asked.{asked, asked_by};
+ghost use Rattle.scoped_names.specs.Introductions.{IsEntry, StandsFor, clashes, introduced};
 ghost use Rattle.scoped_names.specs.Steps.{steps_of};
 ghost use Rattle.scoped_names.specs.Whole.{Whole, AreNames};
 
@@ -12,10 +14,21 @@ pub fn names_are_one()
     ensures { (definitions : List Definition) (one other : Whole) → AreNames definitions one → AreNames definitions other → one ≡ other }
 {}
 
+/// Each identifier, literal and pragma of a specification is asked for by one step, in the order of
+/// the source.
+pub fn all_is_asked()
+    ensures { (definitions : List Definition) → asked (definitions_spelled definitions) ≡ asked_by (steps_of definitions) }
+{}
+
 /// Where a specification has no fault of names, each identifier that it declares is the entry that
 /// stands at its scope and name, of its kind and spelling.
 pub fn identifiers_are_entries()
     ensures { (definitions : List Definition) (names : Whole) → AreNames definitions names → AllByRecursion (IsEntry names.entries) (introduced names.entries 0 (steps_of definitions)) }
+{}
+
+/// Nothing else is an entry: for each there is an identifier that the specification declares.
+pub fn entries_are_identifiers()
+    ensures { (definitions : List Definition) (names : Whole) → AreNames definitions names → (n : ℕ) → n < length names.entries → Any (StandsFor names.entries n) (introduced names.entries 0 (steps_of definitions)) }
 {}
 
 /// Where a specification has no fault of names, nothing that it introduces clashes with what stands

@@ -43,8 +43,10 @@ impl<'a> Members<'a> {
     pub fn at(&self, key: &Key<'a>) -> Option<At>
         ensures { result ≡ member_named self.now key.now.scope key.now.word.text.now }
     {
-        let number = self.keys.number_of(key)?;
-        self.places.get(number).copied()
+        match self.keys.number_of(key) {
+            Some(number) => Some(self.places[number]),
+            None => None,
+        }
     }
 
     /// One member more, of a name that its scope hasn't yet.

@@ -2,7 +2,7 @@
 
 ghost use Rattle.std.specs.Prelude.{◌≡◌, ◌<◌, ◌≤◌, length, IfErr, IfOk, IfSome, slice_get};
 ghost use Rattle.name_table.specs.Entries.{latest, scope_of};
-ghost use Rattle.scoped_names.specs.Faults.{base_test, declared as declared_by, declared_as, defined_here, free_of, free_test, has_body, is_defined, is_defined_interface, is_interface, is_left_open, keeps_prefix, left_open, may_reappear, member_added, never_defined, new_test, nothing_yet, prefix_set, reappears, taken_by as taken_by_name, undefined_test, with_base_at};
+ghost use Rattle.scoped_names.specs.Faults.{base_test, declared as declared_by, declared_as, defined_here, free_of, free_test, has_body, is_defined, is_defined_interface, is_interface, is_left_open, keeps_prefix, left_open, may_reappear, member_added, never_defined as never_defined_test, new_test, nothing_yet, prefix_set, reappears, scope_at as scope_at_entry, taken_by as taken_by_name, undefined_test, with_base_at};
 ghost use Rattle.scoped_names.specs.Reading.{Checks, Tells};
 ghost use Rattle.scoped_names.specs.Whole.{whole};
 ghost use Rattle.scoped_names.specs.declared.fault.NameFault.TheVariants.{NoMemory};
@@ -103,6 +103,16 @@ fn free(identifier: Leaf<'_>, other: Option<At>) -> Result<(), NameFault>
     }
 }
 
+/// What is told of what is never defined.
+fn never_defined(at: Option<At>) -> Result<(), NameFault>
+    ensures { Checks result (never_defined_test at) }
+{
+    match at {
+        Some(at) => Err(NameFault::Unknown { at }),
+        None => Ok(()),
+    }
+}
+
 impl<'a> Reader<'a> {
     /// Nothing yet.
     pub fn new(alloc: Global) -> Result<Self, NameFault>
@@ -152,12 +162,19 @@ impl<'a> Reader<'a> {
             word,
         };
         if self.table().is_own_name(&key) {
-            return match self.scope.checked_sub(1) {
-                Some(number) => declared_at(self.table(), number),
-                None => None,
-            };
+            return self.scope_at(self.scope);
         }
         self.members.at(&key)
+    }
+
+    /// Where what has the scope is declared first.
+    fn scope_at(&self, scope: usize) -> Option<At>
+        ensures { result ≡ scope_at_entry self.now.entries scope }
+    {
+        match scope.checked_sub(1) {
+            Some(number) => declared_at(self.table(), number),
+            None => None,
+        }
     }
 
     /// That an entry may appear again as what it appears here.
@@ -198,10 +215,11 @@ impl<'a> Reader<'a> {
         ensures { Tells result self.new (declared_as meaning self.old identifier.entry) }
     {
         free(identifier, self.taken_by(Word::new(identifier.name())))?;
-        match self.table().declared(self.scope, identifier) {
+        let scope = self.scope;
+        match self.table().declared(scope, identifier) {
             Some(number) => self.appears_again(number, identifier, meaning.kind),
             None => {
-                let (prefix, scope) = (self.prefix, self.scope);
+                let prefix = self.prefix;
                 self.tables.add(alloc, prefix, scope, identifier, meaning)?;
                 Ok(())
             }
@@ -288,16 +306,13 @@ impl<'a> Reader<'a> {
     pub fn is_undefined(&self, scope: usize, identifier: Leaf<'a>) -> Result<(), NameFault>
         ensures { Checks result (undefined_test self.now scope identifier.entry) }
     {
-        if !self.defined.contains(&scope) {
-            return Ok(());
+        if self.defined.contains(&scope) {
+            return Err(NameFault::Collides {
+                at: At::leaf(&identifier),
+                other: self.scope_at(scope),
+            });
         }
-        Err(NameFault::Collides {
-            at: At::leaf(&identifier),
-            other: match scope.checked_sub(1) {
-                Some(number) => declared_at(self.table(), number),
-                None => None,
-            },
-        })
+        Ok(())
     }
 
     /// Notes the definition of the scope.
@@ -308,8 +323,9 @@ impl<'a> Reader<'a> {
     pub fn define(&mut self, identifier: Leaf<'a>) -> Result<(), NameFault>
         ensures { Tells result self.new (defined_here self.old identifier.entry) }
     {
-        self.is_undefined(self.scope, identifier)?;
-        self.defined.insert(self.scope)?;
+        let scope = self.scope;
+        self.is_undefined(scope, identifier)?;
+        self.defined.insert(scope)?;
         Ok(())
     }
 
@@ -381,16 +397,19 @@ impl<'a> Reader<'a> {
         requires late { latest self.now.entries < base.token }
         ensures { Checks result (base_test self.now inner base at) }
     {
-        let why = if !self.is_defined_interface(base.entry) {
-            Unfit::NotDefined
-        } else if self.table().has_base(inner, base.entry) {
-            Unfit::NamedTwice
-        } else if self.tables.differ(alloc, inner, base)? {
-            Unfit::FeatureTwice
-        } else {
-            return Ok(());
-        };
-        Err(NameFault::BadBase { at, why })
+        if !self.is_defined_interface(base.entry) {
+            let why = Unfit::NotDefined;
+            return Err(NameFault::BadBase { at, why });
+        }
+        if self.table().has_base(inner, base.entry) {
+            let why = Unfit::NamedTwice;
+            return Err(NameFault::BadBase { at, why });
+        }
+        if self.tables.differ(alloc, inner, base)? {
+            let why = Unfit::FeatureTwice;
+            return Err(NameFault::BadBase { at, why });
+        }
+        Ok(())
     }
 
     /// Gives an interface one more base.
@@ -430,14 +449,11 @@ impl<'a> Reader<'a> {
     ///
     /// `Unknown` at the first declaration.
     pub fn all_defined(&self) -> Result<(), NameFault>
-        ensures { Checks result (never_defined (left_open self.now 0 self.now.entries)) }
+        ensures { Checks result (never_defined_test (left_open self.now 0 self.now.entries)) }
     {
         for number in 0..self.table().len() {
             if self.is_left_open(number) {
-                return match declared_at(self.table(), number) {
-                    Some(at) => Err(NameFault::Unknown { at }),
-                    None => Ok(()),
-                };
+                return never_defined(declared_at(self.table(), number));
             }
         }
         Ok(())

@@ -8,7 +8,8 @@ ghost use Rattle.scoped_names.specs.IdsKept.{given_of};
 ghost use Rattle.scoped_names.specs.Meanings.{const_end};
 ghost use Rattle.scoped_names.specs.Reading.{Checks, Tells};
 ghost use Rattle.scoped_names.specs.Rising.{Follows, Rises};
-ghost use Rattle.scoped_names.specs.StepsKept.{step_of};
+ghost use Rattle.scoped_names.specs.Steps.{definition_steps, module_body, steps_of};
+ghost use Rattle.scoped_names.specs.StepsKept.{flat_steps, step_of};
 ghost use Rattle.scoped_names.specs.Tests.{is_exception, is_type, raised_test, type_name_test};
 ghost use Rattle.scoped_names.specs.declared.fault.NameFault.TheVariants.{NoMemory};
 ghost use Rattle.idl_tree.specs.Starts.{name_start};
@@ -18,10 +19,10 @@ use crate::fault::{At, NameFault};
 use crate::kinds::{const_type_kind, simple_type_kind};
 use crate::reader::Reader;
 use crate::repository_ids::PragmaId;
-use crate::step::Step;
+use crate::step::{Step, Steps};
 use const_values::{ConstKind, Constant};
 use idl_lexer::{Kind, Pragma};
-use idl_tree::definitions::Const;
+use idl_tree::definitions::{Const, Definition, Module};
 use idl_tree::names::{Leaf, ScopedName};
 use idl_tree::types::{Declarator, TypeSpec};
 use name_table::{Base, EntryKind, Meaning};
@@ -289,6 +290,57 @@ impl<'a> Reader<'a> {
     {
         for step in steps {
             self.read_step(alloc, *step)?;
+        }
+        Ok(())
+    }
+
+    /// A definition but for a module, of which nothing is read.
+    fn read_flat(&mut self, alloc: Global, d: &Definition<'a>) -> Result<(), NameFault>
+        requires { Rises (latest self.old.entries) (flat_steps d.now) }
+        ensures { Tells result self.new (steps_read self.old (flat_steps d.now)) }
+    {
+        let mut steps = Steps::new(alloc);
+        steps.add_flat(d)?;
+        self.read_steps(alloc, steps.as_slice())
+    }
+
+    #[cycle(definitions)]
+    fn read_module(&mut self, alloc: Global, m: &Module<'a>) -> Result<(), NameFault>
+        requires { Rises (latest self.old.entries) (module_body m.now.identifier (steps_of m.now.definitions.items)) }
+        ensures { Tells result self.new (steps_read self.old (module_body m.now.identifier (steps_of m.now.definitions.items))) }
+    {
+        self.declare(alloc, m.identifier, EntryKind::Module)?;
+        self.enter(m.identifier);
+        self.read_definitions(alloc, m.definitions.as_slice())?;
+        self.leave();
+        Ok(())
+    }
+
+    #[cycle(definitions)]
+    fn read_definition(&mut self, alloc: Global, d: &Definition<'a>) -> Result<(), NameFault>
+        requires { Rises (latest self.old.entries) (definition_steps d.now) }
+        ensures { Tells result self.new (steps_read self.old (definition_steps d.now)) }
+    {
+        match d {
+            Definition::Module(m) => self.read_module(alloc, m),
+            Definition::Pragma(_) | Definition::Declaration(_) | Definition::Interface(_) => {
+                self.read_flat(alloc, d)
+            }
+        }
+    }
+
+    /// Definitions one behind another.
+    #[cycle(definitions)]
+    pub fn read_definitions(
+        &mut self,
+        alloc: Global,
+        definitions: &[Definition<'a>],
+    ) -> Result<(), NameFault>
+        requires { Rises (latest self.old.entries) (steps_of definitions.now) }
+        ensures { Tells result self.new (steps_read self.old (steps_of definitions.now)) }
+    {
+        for definition in definitions {
+            self.read_definition(alloc, definition)?;
         }
         Ok(())
     }

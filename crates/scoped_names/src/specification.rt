@@ -8,7 +8,6 @@ ghost use Rattle.scoped_names.specs.Whole.{names_of};
 use crate::fault::NameFault;
 use crate::names::Names;
 use crate::reader::Reader;
-use crate::step::Steps;
 use idl_tree::spec::Spec;
 use std::alloc::Global;
 
@@ -25,10 +24,8 @@ pub fn bind<'a>(alloc: Global, spec: &Spec<'a>) -> Result<Names<'a>, NameFault>
 {
     // which is a number, so no token's number passes the largest
     let _count = spec.tokens.len();
-    let mut steps = Steps::new(alloc);
-    steps.add_definitions(spec.definitions.as_slice())?;
     let mut reader = Reader::new(alloc)?;
-    reader.read_steps(alloc, steps.as_slice())?;
+    reader.read_definitions(alloc, spec.definitions.as_slice())?;
     reader.all_defined()?;
     Ok(reader.names())
 }

@@ -71,7 +71,8 @@ impl<'a> Tables<'a> {
         requires scope { scope ≤ length self.old }
         requires new { named self.old scope (word identifier) ≡ None }
         requires late { latest self.old ≤ meaning.token }
-        ensures { OnOk result (self.new ≡ self.old ++ entry_declared meaning prefix.entry.now scope identifier.entry ∷ []) }
+        ensures added { OnOk result (self.new ≡ self.old ++ entry_declared meaning prefix.entry.now scope identifier.entry ∷ []) }
+        ensures longer { length self.old ≤ length self.new }
     {
         if self.is_spoilt {
             return Err(AllocError);

@@ -14,11 +14,12 @@ add_struct-loop-member-init t c =
     let s = out-StructType c.args.s.now in
     let old = steps_in c.args.self.now in
     let opened = opening Kinds.Struct s.identifier in
-    let rest = flat_map member_steps s.rest.items ++ Leaves ∷ [] in
-    ap (λ xs. xs ++ flat_map member_steps c.deref-member-items.result.now ++ Leaves ∷ []) (c.in_ok-add_member.ensures ∙ ap (λ xs. xs ++ member_steps c.deref.result.now) c.in_ok-open.ensures)
-    ∙ ap (λ xs. ((old ++ opened) ++ member_steps c.deref.result.now) ++ flat_map member_steps xs ++ Leaves ∷ []) c.deref-member-items.ensures.value
-    ∙ ap (λ m. ((old ++ opened) ++ member_steps m) ++ rest) c.deref.ensures
-    ∙ behind_two old opened (member_steps s.first.value) rest ∙ sym (ap (λ xs. old ++ xs) (struct_listed c.args.s.now))
+    ap (λ xs. (xs ++ flat_map member_steps c.deref-member-items.result.now) ++ Leaves ∷ [])
+    (c.in_ok-add_member.ensures ∙ ap (λ xs. xs ++ member_steps c.deref.result.now) c.in_ok-open.ensures)
+    ∙ ap (λ xs. (((old ++ opened) ++ member_steps c.deref.result.now) ++ flat_map member_steps xs) ++ Leaves ∷ []) c.deref-member-items.ensures.value
+    ∙ ap (λ m. (((old ++ opened) ++ member_steps m) ++ flat_map member_steps s.rest.items) ++ Leaves ∷ []) c.deref.ensures
+    ∙ behind_two old opened (member_steps s.first.value) (flat_map member_steps s.rest.items) (Leaves ∷ [])
+    ∙ sym (ap (λ xs. old ++ xs) (struct_listed c.args.s.now))
 
 pub add_union-loop-case-init : goal.add_union-loop-case-init
 add_union-loop-case-init t c =
@@ -26,9 +27,9 @@ add_union-loop-case-init t c =
     let old = steps_in c.args.self.now in
     let opened = opening Kinds.Union u.identifier in
     let switched = switch_steps u.switch in
-    let rest = flat_map case_steps u.rest.items ++ Leaves ∷ [] in
-    ap (λ xs. xs ++ flat_map case_steps c.deref-case-items.result.now ++ Leaves ∷ [])
+    ap (λ xs. (xs ++ flat_map case_steps c.deref-case-items.result.now) ++ Leaves ∷ [])
     (c.in_ok-add_case.ensures ∙ ap (λ xs. xs ++ case_steps c.deref.result.now) (c.in_ok-add_switch.ensures ∙ ap (λ xs. xs ++ switched) c.in_ok-open.ensures))
-    ∙ ap (λ xs. (((old ++ opened) ++ switched) ++ case_steps c.deref.result.now) ++ flat_map case_steps xs ++ Leaves ∷ []) c.deref-case-items.ensures.value
-    ∙ ap (λ c. (((old ++ opened) ++ switched) ++ case_steps c) ++ rest) c.deref.ensures
-    ∙ behind_three old opened switched (case_steps u.first.value) rest ∙ sym (ap (λ xs. old ++ xs) (union_listed c.args.u.now))
+    ∙ ap (λ xs. ((((old ++ opened) ++ switched) ++ case_steps c.deref.result.now) ++ flat_map case_steps xs) ++ Leaves ∷ []) c.deref-case-items.ensures.value
+    ∙ ap (λ c. ((((old ++ opened) ++ switched) ++ case_steps c) ++ flat_map case_steps u.rest.items) ++ Leaves ∷ []) c.deref.ensures
+    ∙ behind_three old opened switched (case_steps u.first.value) (flat_map case_steps u.rest.items) (Leaves ∷ [])
+    ∙ sym (ap (λ xs. old ++ xs) (union_listed c.args.u.now))

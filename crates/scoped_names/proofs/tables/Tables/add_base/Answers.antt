@@ -5,6 +5,20 @@ use Rattle.name_table.proofs.Latest.{latest_features}
 use Rattle.scoped_names.proofs.FeatureTables.{as_many, features_based}
 use Rattle.scoped_names.proofs.tables.Tables.add_base.Goals as goal
 
+pub add_base-requires-clause-inner : goal.add_base-requires-clause-inner
+add_base-requires-clause-inner c =
+    let kept = c.self.invariant c.if-self.false in
+    let many = ap length (c.shorten.ensures ∙ kept) ∙ as_many c.self.inside.all ∙ ap length c.self.view_is in
+    let low = c.requires.inner in
+    omega (arith, many, low)
+
+pub add_base-requires-clause-placed : goal.add_base-requires-clause-placed
+add_base-requires-clause-placed c =
+    let kept = c.self.invariant c.if-self.false in
+    let many = ap length (c.shorten.ensures ∙ kept) ∙ as_many c.self.inside.all ∙ ap length c.self.view_is in
+    let low = c.requires.placed in
+    omega (arith, many, low)
+
 pub add_base-requires-clause-late : goal.add_base-requires-clause-late
 add_base-requires-clause-late c =
     let table = c.self.inside.all in
