@@ -1,6 +1,5 @@
 -- Steps one behind another: how far they reach, and what reading them gives.
-use Rattle.std.proofs.Common.{◌≡◌, ◌∙◌, ℕ, ◌+◌, ◌≤◌, ◌<◌, List, [], ◌∷◌, ◌++◌, length, length-append, drop, get_or, Result, Ok, Err, refl, sym, ap, subst, arith, zero, suc}
-use Rattle.std.specs.List.{flat_map}
+use Rattle.std.proofs.Common.{◌≡◌, ◌∙◌, ℕ, ◌+◌, ◌≤◌, ◌<◌, List, [], ◌∷◌, ◌++◌, length, length-append, drop, get_or, Ok, Err, refl, sym, ap, subst, arith, zero, suc}
 use Rattle.std.proofs.Math.Seq.{drop-cons}
 use Rattle.idl_tree.specs.declared.definitions.Definition.{Definition, Module}
 use Rattle.idl_tree.specs.declared.definitions.Module.{Module as ModuleRecord}
@@ -8,8 +7,8 @@ use Rattle.name_table.specs.Entries.{latest}
 use Rattle.scoped_names.specs.declared.fault.NameFault.{NameFault}
 use Rattle.scoped_names.specs.Faults.{step_read, steps_read}
 use Rattle.scoped_names.specs.Reading.{Reading, State, ◌>>◌}
-use Rattle.scoped_names.specs.Rising.{Follows, Rises, reached}
-use Rattle.scoped_names.specs.Steps.{Step, Leaves, definition_steps, module_body, steps_of}
+use Rattle.scoped_names.specs.Rising.{Rises, reached}
+use Rattle.scoped_names.specs.Steps.{Step, Leaves, definition_steps, steps_of}
 use Rattle.scoped_names.proofs.Introducing.{then_ok}
 use Rattle.scoped_names.proofs.ListedSteps.{module_listed}
 use Rattle.scoped_names.proofs.Rising.{Follows-mono, Rises-mono}

@@ -1,5 +1,5 @@
 -- The token of the last base doesn't pass the steps that are read.
-use Rattle.std.proofs.Common.{◌≡◌, ℕ, zero, suc, ◌+◌, ◌<◌, ◌≤◌, List, [], ◌∷◌, ◌++◌, Option, Some, None, Result, Ok, Err, length, refl, subst, arith}
+use Rattle.std.proofs.Common.{◌≡◌, ℕ, zero, suc, ◌<◌, ◌≤◌, List, [], ◌∷◌, ◌++◌, Option, Some, None, Ok, length, refl, subst, arith}
 use Rattle.idl_lexer.specs.Identifiers.{words}
 use Rattle.idl_tree.specs.declared.names.Leaf.{Leaf}
 use Rattle.idl_tree.specs.declared.names.ScopedName.{ScopedName}
@@ -17,7 +17,7 @@ use Rattle.scoped_names.specs.IdPragmas.{Said, SetsPrefix, Gives, said_by}
 use Rattle.scoped_names.specs.Meanings.{const_meant, enum_meant, enumerator_meant, typedef_meant}
 use Rattle.scoped_names.specs.Reading.{Reading, State, Test, passed, ◌>>◌}
 use Rattle.scoped_names.specs.RepositoryIds.{given_to}
-use Rattle.scoped_names.specs.Rising.{Follows, Rises, reached}
+use Rattle.scoped_names.specs.Rising.{Follows, reached}
 use Rattle.scoped_names.specs.Steps.{Step, Declares, DeclaresEnum, DeclaresEnumerator, DeclaresTypedef, IsNew, DeclaresConst, DeclaresFeature, HasMember, IsUndefined, HasBase, Enters, Defines, Leaves, NamesType, NamesException, HasWorth, IsSize, Says}
 use Rattle.scoped_names.specs.Tests.{at, found_at, resolved, value_of_type}
 use Rattle.scoped_names.specs.TypeKinds.{const_type_kind}

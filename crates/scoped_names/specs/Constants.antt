@@ -5,7 +5,6 @@ use Rattle.idl_tree.specs.declared.expression.Expr.{Expr}
 use Rattle.idl_tree.specs.declared.types.Declarator.{Declarator}
 use Rattle.const_values.specs.declared.constant.Constant.{Constant}
 use Rattle.const_values.specs.declared.kind.ConstKind.{ConstKind}
-use Rattle.const_values.specs.declared.kind.ConstKind.TheVariants as Kinds
 use Rattle.const_values.specs.Kinds.{of_kind}
 use Rattle.const_values.specs.Worth.{worth, whole_number, positive}
 use Rattle.name_table.specs.Entry.{Entry, worth_in, meant_in}

@@ -1,6 +1,6 @@
 -- The faults of a specification's names (ISO/IEC 19500-1, names and scoping, and pragma directives for repository ids):
 -- each step, where `st` is what is known before it, gives what is known behind it, or its fault.
-use Rattle.std.specs.Prelude.{ℕ, zero, suc, Bool, true, false, not, ◌&&◌, ◌||◌, if◌then◌else◌, nat_eq, List, [], ◌∷◌, ◌++◌, Option, Some, None, Result, Ok, Err, length, slice_get}
+use Rattle.std.specs.Prelude.{ℕ, zero, suc, Bool, true, false, not, ◌&&◌, if◌then◌else◌, nat_eq, List, [], ◌∷◌, ◌++◌, Option, Some, None, Result, Ok, Err, length, slice_get}
 use Rattle.std.specs.Str.{bytes_eq}
 use Rattle.std.specs.List.{list_any}
 use Rattle.idl_lexer.specs.Words.{same_but_for_case}
@@ -19,7 +19,6 @@ use Rattle.name_table.specs.declared.entry.EntryKind.TheVariants as Entries
 use Rattle.name_table.specs.declared.entry.Base.{Base}
 use Rattle.name_table.specs.declared.entry.Meaning.{Meaning}
 use Rattle.scoped_names.specs.declared.fault.At.{At}
-use Rattle.scoped_names.specs.declared.fault.Unfit.{Unfit}
 use Rattle.scoped_names.specs.declared.fault.Unfit.TheVariants.{NotDefined, NamedTwice, FeatureTwice}
 use Rattle.scoped_names.specs.declared.fault.NameFault.{NameFault}
 use Rattle.scoped_names.specs.declared.fault.NameFault.TheVariants.{Unknown, Collides, IdTwice, BadBase, PrefixInScope, PrefixDiffers}

@@ -1,8 +1,6 @@
 -- Along the steps of a specification the numbers of tokens rise: each step stands at a token, not before that of the one
 -- before it, and a base behind it.
 use Rattle.std.specs.Prelude.{ℕ, ◌<◌, ◌≤◌, ◌^◌, List, [], ◌∷◌}
-use Rattle.idl_tree.specs.declared.names.Leaf.{Leaf}
-use Rattle.idl_tree.specs.declared.names.ScopedName.{ScopedName}
 use Rattle.idl_tree.specs.Starts.{expr_start, name_start}
 use Rattle.scoped_names.specs.Meanings.{const_end}
 use Rattle.scoped_names.specs.Steps.{Step, Declares, DeclaresEnum, DeclaresEnumerator, DeclaresTypedef, IsNew, DeclaresConst, DeclaresFeature, HasMember, IsUndefined, HasBase, Enters, Defines, Leaves, NamesType, NamesException, HasWorth, IsSize, Says}

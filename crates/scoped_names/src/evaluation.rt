@@ -7,10 +7,10 @@ ghost use Rattle.scoped_names.specs.Reading.{Checks, Gives};
 ghost use Rattle.scoped_names.specs.Tests.{at_entry, constant_test, found_at as found_at_place, names_test, resolved, size_read, value_of_type, value_read};
 
 use crate::fault::{At, Flaw, NameFault};
-use name_table::{Sight, Table};
 use const_values::{ConstKind, Constant, applied, literal_constant, signed, text_constant};
 use idl_tree::expression::{Expr, Operator, Sign};
 use idl_tree::names::ScopedName;
+use name_table::{Sight, Table};
 use std::alloc::Global;
 
 /// The number, if the constant is a whole one.
@@ -114,7 +114,11 @@ pub(crate) fn resolve<'a>(
 }
 
 /// That a name finds a constant or an enumerator.
-fn test_constant<'a>(table: &Table<'a>, scope: usize, name: &ScopedName<'a>) -> Result<(), NameFault>
+fn test_constant<'a>(
+    table: &Table<'a>,
+    scope: usize,
+    name: &ScopedName<'a>,
+) -> Result<(), NameFault>
     requires { scope ≤ length table.now }
     ensures { Checks result (constant_test table.now scope name.now) }
 {
@@ -163,14 +167,14 @@ fn name_worth<'a>(
         Ok(entry) => match table.constant(entry) {
             Some(constant) => Ok(constant.shared()?),
             None => Err(NameFault::BadConstant {
-        at,
-        why: Flaw::NoWorth,
-    }),
+                at,
+                why: Flaw::NoWorth,
+            }),
         },
         Err(_) => Err(NameFault::BadConstant {
-        at,
-        why: Flaw::NoWorth,
-    }),
+            at,
+            why: Flaw::NoWorth,
+        }),
     }
 }
 
@@ -269,4 +273,3 @@ pub(crate) fn value_of_kind<'a>(
         }),
     }
 }
-

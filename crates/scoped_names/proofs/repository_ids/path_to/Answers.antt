@@ -1,4 +1,4 @@
-use Rattle.std.proofs.Common.{◌≡◌, ◌∙◌, ◌<◌, ◌≤◌, ◌-◌, suc, length, map, sym, ap, arith}
+use Rattle.std.proofs.Common.{◌≡◌, ◌∙◌, ◌<◌, ◌≤◌, ◌-◌, suc, length, map, ap, arith}
 use Rattle.scoped_names.specs.RepositoryIds.{path}
 use Rattle.scoped_names.proofs.Paths.{path_step, path_end}
 use Rattle.scoped_names.proofs.repository_ids.path_to.Goals as goal

@@ -1,4 +1,4 @@
-use Rattle.std.proofs.Common.{◌≡◌, ◌∙◌, Result, Ok, subst, sym, ap, arith}
+use Rattle.std.proofs.Common.{◌∙◌, Result, Ok, subst, sym, ap, arith}
 use Rattle.std.proofs.lemmas.Result.{err_from_is_err_and}
 use Rattle.name_table.specs.Entries.{latest}
 use Rattle.scoped_names.specs.declared.fault.NameFault.{NameFault}

@@ -1,16 +1,14 @@
-use Rattle.std.proofs.Common.{◌≡◌, ◌∙◌, ◌<◌, ◌+◌, ◌∷◌, [], ◌++◌, Ok, drop, length, map, subst, sym, ap, arith}
+use Rattle.std.proofs.Common.{◌∙◌, ◌<◌, ◌+◌, ◌∷◌, [], ◌++◌, Ok, drop, length, subst, sym, ap, arith}
 use Rattle.std.proofs.lemmas.Result.{err_from_is_err_and}
 use Rattle.name_table.specs.declared.entry.EntryKind.TheVariants as Kinds
 use Rattle.name_table.specs.Entries.{latest}
 use Rattle.scoped_names.specs.Faults.{steps_read}
 use Rattle.scoped_names.specs.Reading.{Tells, ◌>>◌}
-use Rattle.scoped_names.specs.Rising.{Rises, reached}
-use Rattle.scoped_names.specs.Steps.{Declares, Enters, Leaves, definition_steps, module_body, steps_of}
+use Rattle.scoped_names.specs.Rising.{Rises}
+use Rattle.scoped_names.specs.Steps.{Declares, Enters, Leaves, definition_steps, steps_of}
 use Rattle.scoped_names.proofs.ListedSteps.{module_listed}
 use Rattle.scoped_names.proofs.Readings.{or_told}
 use Rattle.scoped_names.proofs.Reached.{Rises-split, definitions_at, module_longer, rises_behind, steps_joined, steps_stopped, steps_within}
-use Rattle.scoped_names.proofs.Rising.{Rises-mono}
-use Rattle.scoped_names.proofs.Steady.{step_low}
 use Rattle.scoped_names.proofs.reader.Reader.+definitions.Goals as goal
 
 pub read_definition-read_module-requires : goal.read_definition-read_module-requires
@@ -78,10 +76,11 @@ read_module-read_definitions-requires t c =
     let low = c.decreases in
     let front = Declares Kinds.Module id ∷ [] in
     let begun = rises_behind st opened front (Enters id ∷ steps_of ds ++ Leaves ∷ []) (ap (λ r. r >> λ s. steps_read s []) c.in_ok-declare.ensures) c.requires in
-    let inner = (Rises-split (latest opened.entries) (steps_of ds) (Leaves ∷ []) begun.1).0 in
-    (omega (arith, same, low),
-    subst (λ xs. Rises (latest c.enter.new.self.entries) (steps_of xs)) (sym c.as_slice.ensures.value)
-    (subst (λ s. Rises (latest s.entries) (steps_of ds)) (sym c.enter.ensures) inner))
+    let inner = (Rises-split (latest opened.entries) (steps_of ds) (Leaves ∷ []) begun.1).0 in (
+      omega (arith, same, low),
+      subst (λ xs. Rises (latest c.enter.new.self.entries) (steps_of xs)) (sym c.as_slice.ensures.value)
+          (subst (λ s. Rises (latest s.entries) (steps_of ds)) (sym c.enter.ensures) inner),
+    )
 
 pub read_module-returns-in_err-read_definitions : goal.read_module-returns-in_err-read_definitions
 read_module-returns-in_err-read_definitions t c =

@@ -1,9 +1,9 @@
-use Rattle.std.proofs.Common.{◌≡◌, ◌∙◌, ◌<◌, IfSome, ◌++◌, inr, [], ◌∷◌, List, Some, None, Result, Ok, Err, length, slice_get, refl, sym, ap, subst, arith}
+use Rattle.std.proofs.Common.{◌≡◌, ◌∙◌, ◌<◌, IfSome, ◌++◌, inr, [], ◌∷◌, List, Some, Result, Ok, Err, length, slice_get, refl, sym, ap, subst, arith}
 use Rattle.std.specs.Prelude.{if◌then◌else◌}
 use Rattle.std.proofs.lemmas.Option.{slice_get_read}
 use Rattle.scoped_names.specs.declared.fault.NameFault.{NameFault}
 use Rattle.scoped_names.specs.declared.fault.NameFault.TheVariants.{IdTwice}
-use Rattle.scoped_names.specs.RepositoryIds.{IdPragma, given_to}
+use Rattle.scoped_names.specs.RepositoryIds.{IdPragma}
 use Rattle.scoped_names.specs.IdsKept.{given_of, pragmas_of}
 use Rattle.scoped_names.specs.Faults.{given_once}
 use Rattle.scoped_names.proofs.IdsGiven.{given_none, given_there, pragmas_push}

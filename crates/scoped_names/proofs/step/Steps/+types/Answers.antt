@@ -1,4 +1,4 @@
-use Rattle.std.proofs.Common.{◌≡◌, ◌∙◌, ◌++◌, ◌∷◌, [], sym, ap}
+use Rattle.std.proofs.Common.{◌∙◌, ◌++◌, ◌∷◌, [], sym, ap}
 use Rattle.std.specs.List.{flat_map}
 use Rattle.idl_tree.specs.declared.types.StructType.{out-StructType}
 use Rattle.idl_tree.specs.declared.types.UnionType.{out-UnionType}

@@ -1,5 +1,4 @@
 use Rattle.std.proofs.Common.{◌≡◌, ◌++◌, map}
-use Rattle.idl_tree.specs.Lists.{parts}
 use Rattle.idl_tree.specs.PartsLeft.{parts_left}
 use Rattle.scoped_names.specs.Steps.{HasBase, optional_parts}
 use Rattle.scoped_names.specs.StepsKept.{steps_in}

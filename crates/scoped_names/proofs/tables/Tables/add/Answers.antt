@@ -1,4 +1,4 @@
-use Rattle.std.proofs.Common.{◌≡◌, ◌∙◌, ◌≤◌, ◌++◌, ◌∷◌, [], length, sym, ap, arith}
+use Rattle.std.proofs.Common.{◌≡◌, ◌∙◌, ◌++◌, ◌∷◌, [], length, sym, ap, arith}
 use Rattle.name_table.specs.Entry.{named}
 use Rattle.name_table.specs.Entries.{entry_declared, latest}
 use Rattle.name_table.specs.Features.{as_feature, features_of, is_feature, no_token}

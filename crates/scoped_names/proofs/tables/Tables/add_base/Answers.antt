@@ -1,4 +1,4 @@
-use Rattle.std.proofs.Common.{◌≡◌, ◌∙◌, ◌≤◌, length, sym, ap, arith}
+use Rattle.std.proofs.Common.{◌≡◌, ◌∙◌, length, sym, ap, arith}
 use Rattle.name_table.specs.Entries.{latest, with_base}
 use Rattle.name_table.specs.Features.{features_of}
 use Rattle.name_table.proofs.Latest.{latest_features}
