@@ -35,4 +35,3 @@ module_length m =
       length-append front inner,
       length-append named (mark (codes "{")),
     )
-
