@@ -1,0 +1,2 @@
+-- What the names of a specification find, where it has no fault.
+pub mod Holding

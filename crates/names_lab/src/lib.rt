@@ -1,0 +1,2 @@
+//! What names find while a specification is read they find at its end.
+#![tactic(auto)]
