@@ -1,3 +1,5 @@
 pub mod Later
 pub mod Searches
 pub mod Staying
+pub mod Asks
+pub mod Places
