@@ -127,3 +127,12 @@ later_base n es (suc e) base late = by (slice_get es e) refl
     by : (o : Option Entry) → slice_get es e ≡ o → Later n es (with_base es (suc e) base)
     by None is = subst (λ fs. Later n es fs) (sym (ap (entry_with_base es e base) is)) (later_none n es)
     by (Some x) is = subst (λ fs. Later n es fs) (sym (ap (entry_with_base es e base) is)) (later_more n es e x base is late)
+
+-- an entry stays the same but for its bases
+pub bare_base : (es : List Entry) (inner : ℕ) (base : Base) (k : ℕ) → option_map bare (slice_get (with_base es inner base) k) ≡ option_map bare (slice_get es k)
+bare_base es zero base k = refl
+bare_base es (suc e) base k = by (slice_get es e) refl
+  where
+    by : (o : Option Entry) → slice_get es e ≡ o → option_map bare (slice_get (entry_with_base es e base o) k) ≡ option_map bare (slice_get es k)
+    by None is = refl
+    by (Some x) is = get_like (option_map bare) es e x (record x { bases = x.bases ++ base ∷ [] }) k is refl

@@ -1,2 +1,4 @@
 //! What names find while a specification is read they find at its end.
 #![tactic(auto)]
+
+pub mod laws;
