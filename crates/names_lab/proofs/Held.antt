@@ -23,14 +23,15 @@ use Rattle.name_table.proofs.Stability.{position_low}
 use Rattle.scoped_names.specs.declared.fault.NameFault.{NameFault}
 use Rattle.scoped_names.specs.Faults.{declared as declared_plain, declared_as, free_of, left_open, never_defined, nothing_yet, specification_read, step_read, steps_read, test_of, type_kind, undefined_test}
 use Rattle.scoped_names.specs.IdPragmas.{said_by}
-use Rattle.scoped_names.specs.Introductions.{scope_behind}
+use Rattle.scoped_names.specs.Introductions.{IsEntry, introduced, introduced_by, scope_behind}
 use Rattle.scoped_names.specs.Meanings.{const_end, enum_meant, enumerator_meant, typedef_meant}
 use Rattle.scoped_names.specs.Reading.{State, ◌>>◌, passed}
 use Rattle.scoped_names.specs.Steps.{Step, Declares, DeclaresEnum, DeclaresEnumerator, DeclaresTypedef, IsNew, DeclaresConst, DeclaresFeature, HasMember, IsUndefined, HasBase, Enters, Defines, Leaves, NamesType, NamesException, HasWorth, IsSize, Says, const_type_steps, steps_of}
 use Rattle.scoped_names.specs.Asked.{pieces_of}
 use Rattle.scoped_names.specs.Whole.{AreNames, Whole, whole}
+use Rattle.scoped_names.proofs.Introduced.{declared_once}
 use Rattle.scoped_names.proofs.Introducing.{all_map, declared_does, named_entry, passed_same, then_ok}
-use Rattle.names_lab.specs.Holding.{AllHold, Holds, asks}
+use Rattle.names_lab.specs.Holding.{AllHold, IsThere, asks}
 use Rattle.names_lab.proofs.Asks.{Asks, IsPlain, all_ask, none as unasked, silent, joined as both_asked, plain, base, valued, declared, featured, undefined, inside, defines}
 use Rattle.names_lab.proofs.Going.{Goes, answered, base_goes, const_goes, declared_goes, defined_goes, enum_goes, feature_goes, goes_same, member_goes, passed_goes, said_goes}
 use Rattle.names_lab.proofs.Later.{Later, later_from, later_none, later_on}
@@ -39,8 +40,13 @@ use Rattle.names_lab.proofs.Searches.{IsScope}
 use Rattle.names_lab.proofs.Staying.{StepUpTo, TypeUpTo, asks_stays}
 
 -- the scope has an entry of the name
-abbrev IsThere : State → Leaf → Type 0
-IsThere st l = (n : ℕ) × (named st.entries st.scope (word l) ≡ Some n)
+abbrev HasLeaf : State → Leaf → Type 0
+HasLeaf st l = (n : ℕ) × (named st.entries st.scope (word l) ≡ Some n)
+
+-- what steps ask is answered, and what they enter is there
+abbrev AllAnswered : List Entry → ℕ → List Step → Type 0
+AllAnswered es scope [] = Unit {0}
+AllAnswered es scope (s ∷ steps) = ((asks es scope s ≡ Ok tt) × IsThere es scope s) × AllAnswered es (scope_behind es scope s) steps
 
 -- ---- steps that are read
 
@@ -48,13 +54,13 @@ IsThere st l = (n : ℕ) × (named st.entries st.scope (word l) ≡ Some n)
 record Held (es : List Entry) (st : State) (xs : List Step) (next : State) : Type 0 where
   is : IsScope next.entries next.scope
   scope : next.scope ≡ st.scope
-  walks : (rest : List Step) → AllHold es st.scope rest → AllHold es st.scope (xs ++ rest)
+  walks : (rest : List Step) → AllAnswered es st.scope rest → AllAnswered es st.scope (xs ++ rest)
 
 -- the steps of what stands from the token n to the token m, where the leaves are declared
 record Along (n m : ℕ) (ls : List Leaf) (xs : List Step) : Type 0 where
   rises : n ≤ m
   later : (st next : State) → steps_read st xs ≡ Ok next → Later n st.entries next.entries
-  holds : (es : List Entry) (st next : State) → steps_read st xs ≡ Ok next → Later m next.entries es → IsScope st.entries st.scope → AllByRecursion (IsThere st) ls
+  holds : (es : List Entry) (st next : State) → steps_read st xs ≡ Ok next → Later m next.entries es → IsScope st.entries st.scope → AllByRecursion (HasLeaf st) ls
       → Held es st xs next
 
 read_append : (st next : State) (xs ys : List Step) → steps_read st (xs ++ ys) ≡ Ok next → (mid : State) × (steps_read st xs ≡ Ok mid) × (steps_read mid ys ≡ Ok next)
@@ -74,7 +80,7 @@ none n m ls le = record {
 }
 
 still_there : (st mid : State) → ((scope : ℕ) (w : List ℕ) (k : ℕ) → named st.entries scope w ≡ Some k → named mid.entries scope w ≡ Some k) → mid.scope ≡ st.scope
-    → (l : Leaf) → IsThere st l → IsThere mid l
+    → (l : Leaf) → HasLeaf st l → HasLeaf mid l
 still_there st mid names scope l (n, is) = (n, ap (λ k. named mid.entries k (word l)) scope ∙ names st.scope (word l) n is)
 
 both_held : (es : List Entry) (st mid next : State) (xs ys : List Step) → Held es st xs mid → Held es mid ys next → Held es st (xs ++ ys) next
@@ -82,8 +88,8 @@ both_held es st mid next xs ys a b = record {
   is = b.is;
   scope = b.scope ∙ a.scope;
   walks = λ rest all.
-      let behind = b.walks rest (subst (λ k. AllHold es k rest) (sym a.scope) all) in
-      subst (AllHold es st.scope) (sym (append_assoc xs ys rest)) (a.walks (ys ++ rest) (subst (λ k. AllHold es k (ys ++ rest)) a.scope behind));
+      let behind = b.walks rest (subst (λ k. AllAnswered es k rest) (sym a.scope) all) in
+      subst (AllAnswered es st.scope) (sym (append_assoc xs ys rest)) (a.walks (ys ++ rest) (subst (λ k. AllAnswered es k (ys ++ rest)) a.scope behind));
 }
 
 joined : {n m k : ℕ} {ls : List Leaf} {xs ys : List Step} → Along n m ls xs → Along m k ls ys → Along n k ls (xs ++ ys)
@@ -100,7 +106,7 @@ joined {n} {m} {k} {ls} {xs} {ys} a b =
           let from_mid = later_on (b.later mid next behind) (later_from m more l) in
           let first = a.holds es st mid before from_mid in_scope there in
           let grown = a.later st mid before in
-          let still = all_map (IsThere st) (IsThere mid) (still_there st mid grown.names first.scope) ls there in
+          let still = all_map (HasLeaf st) (HasLeaf mid) (still_there st mid grown.names first.scope) ls there in
           both_held es st mid next xs ys first (b.holds es mid next behind l first.is still);
     }
 
@@ -117,9 +123,9 @@ flat_behind es scope (Enters l) flat = absurd flat
 flat_behind es scope Leaves flat = absurd flat
 flat_behind es scope s flat = refl
 
-flat_holds : (es : List Entry) (scope : ℕ) (s : Step) → IsFlat s → asks es scope s ≡ Ok tt → Holds es scope s
-flat_holds es scope (Enters l) flat h = absurd flat
-flat_holds es scope s flat h = h
+flat_there : (es : List Entry) (scope : ℕ) (s : Step) → IsFlat s → IsThere es scope s
+flat_there es scope (Enters l) flat = absurd flat
+flat_there es scope s flat = tt
 
 -- a step that looks up names at the token r at the latest, and adds nothing before it
 record At (n m : ℕ) (s : Step) : Type 0 where
@@ -136,14 +142,15 @@ step_held es st next s flat at h l in_scope =
     let grown = goes.later in
     let to_end = later_on grown (later_from at.r at.below l) in
     let same = asks_stays at.r st.entries es to_end st.scope in_scope s at.names in
-    let holds = flat_holds es st.scope s flat (same ∙ answered st next s h) in
+    let is_answered = same ∙ answered st next s h in
+    let there = flat_there es st.scope s flat in
     let low = in_scope.low in
     let longer = grown.longer in
     let same_scope = goes.scope in
     record {
       is = record { nested = goes.nested in_scope; low = omega arith };
       scope = same_scope;
-      walks = λ rest all. (holds, subst (λ k. AllHold es k rest) (sym (flat_behind es st.scope s flat)) all);
+      walks = λ rest all. ((is_answered, there), subst (λ k. AllAnswered es k rest) (sym (flat_behind es st.scope s flat)) all);
     }
 
 one : {n m : ℕ} {ls : List Leaf} (s : Step) → IsFlat s → At n m s → Along n m ls (s ∷ [])
@@ -185,8 +192,8 @@ declaring {n} {m} {k} {ls} {ys} s l flat at stands b =
           let goes = at.goes st mid first in
           let grown = goes.later in
           let (j, is) = stands st mid first in
-          let still = all_map (IsThere st) (IsThere mid) (still_there st mid grown.names held.scope) ls there in
-          let here : IsThere mid l = (j, ap (λ i. named mid.entries i (word l)) held.scope ∙ is) in
+          let still = all_map (HasLeaf st) (HasLeaf mid) (still_there st mid grown.names held.scope) ls there in
+          let here : HasLeaf mid l = (j, ap (λ i. named mid.entries i (word l)) held.scope ∙ is) in
           both_held es st mid next (s ∷ []) ys held (b.holds es mid next rest to_end held.is (here, still));
     }
 
@@ -227,9 +234,9 @@ within {n} {m} {ls} {ys} l b = record {
         is = record { nested = nested.nested; low = omega arith };
         scope = back;
         walks = λ rest all.
-            let behind_it : AllHold es inner (Leaves ∷ rest) = (refl, subst (λ j. AllHold es j rest) (sym outer) all) in
-            let inside_it = subst (AllHold es inner) (sym (append_assoc ys (Leaves ∷ []) rest)) (body.walks (Leaves ∷ rest) behind_it) in
-            ((k, in_whole), subst (λ j. AllHold es j ((ys ++ Leaves ∷ []) ++ rest)) inner_of inside_it);
+            let behind_it : AllAnswered es inner (Leaves ∷ rest) = ((refl, tt), subst (λ j. AllAnswered es j rest) (sym outer) all) in
+            let inside_it = subst (AllAnswered es inner) (sym (append_assoc ys (Leaves ∷ []) rest)) (body.walks (Leaves ∷ rest) behind_it) in
+            ((refl, (k, in_whole)), subst (λ j. AllAnswered es j ((ys ++ Leaves ∷ []) ++ rest)) inner_of inside_it);
       });
 }
 
@@ -367,6 +374,17 @@ along (defines id a) n num = joined (one (Defines id) tt (defined_at n id)) (alo
 
 -- ---- a whole specification
 
+-- with entries for what they introduce
+with_entries : (es : List Entry) (scope : ℕ) (steps : List Step) → AllAnswered es scope steps → AllByRecursion (IsEntry es) (introduced es scope steps) → AllHold es scope steps
+with_entries es scope [] answers entries = tt
+with_entries es scope (s ∷ steps) ((is, there), answers) entries =
+    let both = all_split (IsEntry es) (introduced_by scope s) (introduced es (scope_behind es scope s) steps) entries in
+    (record { answered = is; entries = both.0; there = there }, with_entries es (scope_behind es scope s) steps answers both.1)
+  where
+    all_split : {X : Type 0} (P : X → Type 0) (xs ys : List X) → AllByRecursion P (xs ++ ys) → AllByRecursion P xs × AllByRecursion P ys
+    all_split P [] ys h = (tt, h)
+    all_split P (x ∷ xs) ys h = let rest = all_split P xs ys h.1 in ((h.0, rest.0), rest.1)
+
 -- where tokens have the numbers of their places
 pub numbered_hold : (definitions : List Definition) (names : Whole) → AreNumbered 0 (definitions_spelled definitions) → AreNames definitions names
     → AllHold names.entries 0 (steps_of definitions)
@@ -377,7 +395,8 @@ numbered_hold definitions names numbered h =
     let whole_is : whole st ≡ names = ap whole same ∙ cc in
     let all = along (all_ask definitions) 0 numbered in
     let held = all.holds st.entries nothing_yet st steps (later_none _ st.entries) (record { nested = λ k e is. cc; low = omega arith }) tt in
-    subst (λ w. AllHold w.entries 0 (steps_of definitions)) whole_is (subst (AllHold st.entries 0) (append-nil (steps_of definitions)) (held.walks [] tt))
+    let answers = subst (AllAnswered st.entries 0) (append-nil (steps_of definitions)) (held.walks [] tt) in
+    with_entries names.entries 0 (steps_of definitions) (subst (λ w. AllAnswered w.entries 0 (steps_of definitions)) whole_is answers) (declared_once definitions names h)
 
 pub names_hold : (spec : Spec) (names : Whole) → AreNames spec.definitions.items names → AllHold names.entries 0 (steps_of spec.definitions.items)
 names_hold spec names h = numbered_hold spec.definitions.items names (Spec-numbers spec) h

@@ -5,3 +5,5 @@ pub mod Asks
 pub mod Places
 pub mod Going
 pub mod Held
+pub mod Parts
+pub mod Answers

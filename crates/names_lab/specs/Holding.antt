@@ -1,10 +1,10 @@
 -- What a specification asks of its names, over the entries of the whole (ISO/IEC 19500-1, names and scoping).
 use Rattle.std.specs.Prelude.{◌≡◌, ℕ, List, [], ◌∷◌, Ok, Some}
-use Rattle.idl_tree.specs.declared.names.ScopedName.{ScopedName}
+use Rattle.std.specs.List.{AllByRecursion}
 use Rattle.name_table.specs.Entry.{Entry, named}
 use Rattle.name_table.specs.Search.{word}
 use Rattle.scoped_names.specs.Faults.{is_interface}
-use Rattle.scoped_names.specs.Introductions.{scope_behind}
+use Rattle.scoped_names.specs.Introductions.{IsEntry, introduced_by, scope_behind}
 use Rattle.scoped_names.specs.Reading.{Test, ◌>>◌}
 use Rattle.scoped_names.specs.Steps.{Step, DeclaresConst, HasBase, Enters, NamesType, NamesException, HasWorth, IsSize}
 use Rattle.scoped_names.specs.Tests.{found_of, raised_test, size_read, type_name_test, value_of_type, value_read}
@@ -21,12 +21,18 @@ asks es scope (DeclaresConst c) =
     value_of_type (const_type_kind es scope c.const_type) es scope c.value.expr >> λ worth. Ok tt
 asks es scope _ = Ok tt
 
--- what is entered is an entry of the scope
-abbrev pub Holds : List Entry → ℕ → Step → Type 0
-Holds es scope (Enters l) = (n : ℕ) × (named es scope (word l) ≡ Some n)
-Holds es scope s = asks es scope s ≡ Ok tt
+-- what a step enters is an entry of the scope
+abbrev pub IsThere : List Entry → ℕ → Step → Type 0
+IsThere es scope (Enters l) = (n : ℕ) × (named es scope (word l) ≡ Some n)
+IsThere es scope s = Unit {0}
 
--- the steps, of which the first is done in the scope
+-- the answer to what a step asks that is done in the scope, and entries for what it introduces and enters
+pub record Holds (es : List Entry) (scope : ℕ) (s : Step) : Type 0 where
+  pub answered : asks es scope s ≡ Ok tt
+  pub entries : AllByRecursion (IsEntry es) (introduced_by scope s)
+  pub there : IsThere es scope s
+
+-- so of the steps, of which the first is done in the scope
 abbrev pub AllHold : List Entry → ℕ → List Step → Type 0
 AllHold es scope [] = Unit {0}
 AllHold es scope (s ∷ steps) = Holds es scope s × AllHold es (scope_behind es scope s) steps

@@ -6,7 +6,7 @@ ghost use Rattle.scoped_names.specs.Steps.{steps_of};
 ghost use Rattle.scoped_names.specs.Whole.{Whole, AreNames};
 
 /// Where a specification has no fault of names, each name finds over the entries of the whole what
-/// it has to find, each expression has its worth, and what is entered is an entry.
+/// it has to find, each expression has its worth, and each identifier is an entry.
 pub fn names_hold()
     ensures { (spec : Spec) (names : Whole) → AreNames spec.definitions.items names → AllHold names.entries 0 (steps_of spec.definitions.items) }
 {}
