@@ -7,3 +7,4 @@ pub mod Going
 pub mod Held
 pub mod Parts
 pub mod Answers
+pub mod TreeParts

@@ -36,7 +36,7 @@ both_hold es scope xs ys c h =
     let parts = holds_split es scope xs ys h in
     (parts.0, subst (λ k. AllHold es k ys) (c.go es scope parts.0) parts.1)
 
-both_closed : {xs ys : List Step} → Closed xs → Closed ys → Closed (xs ++ ys)
+pub both_closed : {xs ys : List Step} → Closed xs → Closed ys → Closed (xs ++ ys)
 both_closed {xs} {ys} a b = record {
   go = λ es scope h.
       let parts = both_hold es scope xs ys a h in
@@ -47,7 +47,7 @@ both_closed {xs} {ys} a b = record {
 abbrev pub IsFlat : Step → Type 0
 IsFlat s = (es : List Entry) (scope : ℕ) → scope_behind es scope s ≡ scope
 
-one_closed : (s : Step) → IsFlat s → Closed (s ∷ [])
+pub one_closed : (s : Step) → IsFlat s → Closed (s ∷ [])
 one_closed s flat = record { go = λ es scope h. flat es scope }
 
 plain_flat : (s : Step) → IsPlain s → IsFlat s
@@ -92,6 +92,14 @@ each_holds es scope steps c [] h = tt
 each_holds es scope steps c (x ∷ xs) h =
     let parts = both_hold es scope (steps x) (flat_map steps xs) (c x) h in
     (parts.0, each_holds es scope steps c xs parts.1)
+
+pub each_closed : {T : Type 0} (steps : T → List Step) → ((x : T) → Closed (steps x)) → (xs : List T) → Closed (flat_map steps xs)
+each_closed steps c [] = record { go = λ es scope h. refl }
+each_closed steps c (x ∷ xs) = both_closed (c x) (each_closed steps c xs)
+
+pub each_step_closed : {T : Type 0} (step : T → Step) → ((x : T) → IsFlat (step x)) → (xs : List T) → Closed (map step xs)
+each_step_closed step flat [] = record { go = λ es scope h. refl }
+each_step_closed step flat (x ∷ xs) = both_closed (one_closed (step x) (flat x)) (each_step_closed step flat xs)
 
 pub each_step_holds : {T : Type 0} (es : List Entry) (scope : ℕ) (step : T → Step) → ((x : T) → IsFlat (step x)) → (xs : List T) → AllHold es scope (map step xs)
     → AllByRecursion (λ x. Holds es scope (step x)) xs
