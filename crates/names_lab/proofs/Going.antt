@@ -1,6 +1,7 @@
 -- What reading a step does to the entries, and that what it asks is answered.
 use Rattle.std.proofs.Common.{◌≡◌, ◌∙◌, ◌⊎◌, inl, inr, ℕ, zero, suc, ◌+◌, ◌<◌, ◌≤◌, Bool, true, false, not, List, [], ◌∷◌, ◌++◌, length, length-append, slice_get, Option, Some, None, Ok, Err, refl, sym, ap, subst, arith}
 use Rattle.std.specs.Prelude.{◌&&◌, if◌then◌else◌}
+use Rattle.std.specs.List.{Any}
 use Rattle.std.specs.Option.{option_map}
 use Rattle.std.proofs.lemmas.Bool.{and_parts}
 use Rattle.std.proofs.lemmas.Option.{slice_get_within}
@@ -12,8 +13,8 @@ use Rattle.idl_tree.specs.Starts.{name_start}
 use Rattle.name_table.specs.declared.entry.Base.{Base}
 use Rattle.name_table.specs.declared.entry.EntryKind.{EntryKind}
 use Rattle.name_table.specs.declared.entry.Meaning.{Meaning}
-use Rattle.name_table.specs.Entry.{AreNested, Entry, named}
-use Rattle.name_table.specs.Entries.{entry_declared, plain, with_base}
+use Rattle.name_table.specs.Entry.{AreNested, Entry, around, named}
+use Rattle.name_table.specs.Entries.{entry_declared, plain, scope_of, with_base}
 use Rattle.name_table.specs.Features.{features_of}
 use Rattle.name_table.specs.Search.{begins_at_root, identifiers_see, inherited, word}
 use Rattle.name_table.proofs.Stability.{get_push_last, get_push_low}
@@ -26,10 +27,11 @@ use Rattle.scoped_names.specs.IdPragmas.{Said, SetsPrefix, Gives, said_by}
 use Rattle.scoped_names.specs.Meanings.{const_end, const_meant, enum_meant, enumerator_meant, typedef_meant}
 use Rattle.scoped_names.specs.Reading.{Reading, State, Test, passed, ◌>>◌}
 use Rattle.scoped_names.specs.RepositoryIds.{given_to}
-use Rattle.scoped_names.specs.Steps.{Step, DeclaresConst, DeclaresFeature, DeclaresEnum, HasBase, HasMember, Defines, Says, NamesType, NamesException, HasWorth, IsSize}
+use Rattle.scoped_names.specs.Introductions.{Introduction, StandsFor, introduced_by}
+use Rattle.scoped_names.specs.Steps.{Step, Declares, DeclaresConst, DeclaresFeature, DeclaresEnum, DeclaresEnumerator, DeclaresTypedef, HasBase, HasMember, Enters, Leaves, Defines, Says, NamesType, NamesException, HasWorth, IsSize}
 use Rattle.scoped_names.specs.Tests.{at, found_at, is_of, kind_in, resolved, value_of_type}
 use Rattle.scoped_names.specs.TypeKinds.{const_type_kind}
-use Rattle.scoped_names.proofs.Introducing.{appears, passed_same, then_ok}
+use Rattle.scoped_names.proofs.Introducing.{Does, appears, base_does, declared_does, defined_does, member_does, passed_same, then_ok}
 use Rattle.names_lab.specs.Holding.{asks}
 use Rattle.names_lab.proofs.Later.{Later, bare, bare_base, later_base, later_none, later_push}
 use Rattle.names_lab.proofs.Searches.{IsScope}
@@ -135,23 +137,26 @@ defined_goes n st next l h =
     let is : more ≡ next = cc in
     subst (Goes n st) is (goes_like n st more refl refl)
 
-prefix_goes : (n : ℕ) (st next : State) (scope : ℕ) (text : List ℕ) (here : At) → prefix_set st scope text here ≡ Ok next → Goes n st next
-prefix_goes n st next zero text here h =
+prefix_same : (st next : State) (scope : ℕ) (text : List ℕ) (here : At) → prefix_set st scope text here ≡ Ok next → (st.entries ≡ next.entries) × (next.scope ≡ st.scope)
+prefix_same st next zero text here h =
     let set : State = record st { prefix = text } in
     let is : set ≡ next = cc in
-    subst (Goes n st) is (goes_like n st set refl refl)
-prefix_goes n st next (suc e) text here h = absurd cc
+    (ap (λ s. s.entries) is, sym (ap (λ s. s.scope) is))
+prefix_same st next (suc e) text here h = absurd cc
 
-pub said_goes : (n : ℕ) (st next : State) (l : Leaf) (o : Option Said) → said_read st l o ≡ Ok next → Goes n st next
-said_goes n st next l None h = goes_same n st next cc
-said_goes n st next l (Some (SetsPrefix text)) h = prefix_goes n st next st.scope text (at l) h
-said_goes n st next l (Some (Gives name given)) h =
+said_same : (st next : State) (l : Leaf) (o : Option Said) → said_read st l o ≡ Ok next → (st.entries ≡ next.entries) × (next.scope ≡ st.scope)
+said_same st next l None h = let is : st ≡ next = cc in (ap (λ s. s.entries) is, sym (ap (λ s. s.scope) is))
+said_same st next l (Some (SetsPrefix text)) h = prefix_same st next st.scope text (at l) h
+said_same st next l (Some (Gives name given)) h =
     let (e, finds, h1) = then_ok (found_at st.entries (at l) (identifiers_see st.entries l.number st.scope (begins_at_root name) (words name)))
     (λ e. given_once st.given e given (at l) (given_to st.given e) >> λ ps. let r : Reading = Ok (record st { given = ps }) in r) next h in
     let (ps, gives, h2) = then_ok (given_once st.given e given (at l) (given_to st.given e)) (λ ps. let r : Reading = Ok (record st { given = ps }) in r) next h1 in
     let more : State = record st { given = ps } in
     let is : more ≡ next = cc in
-    subst (Goes n st) is (goes_like n st more refl refl)
+    (ap (λ s. s.entries) is, sym (ap (λ s. s.scope) is))
+
+pub said_goes : (n : ℕ) (st next : State) (l : Leaf) → step_read st (Says l) ≡ Ok next → Goes n st next
+said_goes n st next l h = let same = said_same st next l (said_by l) h in goes_like n st next same.0 same.1
 
 -- ---- a base
 
@@ -201,3 +206,47 @@ answered st next (HasBase l name) h =
     ap (λ r. r >> λ k. if is_of is_interface (slice_get st.entries k) then Ok tt else Err (NotAType (at (name_start name)) (kind_in (slice_get st.entries k)))) finds
     ∙ ap (λ b. if b then Ok tt else Err (NotAType (at (name_start name)) (kind_in (slice_get st.entries e)))) fits
 answered st next s h = refl
+
+-- ---- what is new
+
+-- an entry was there before, or an identifier that is introduced stands for it
+abbrev pub AreNew : State → List Introduction → State → Type 0
+AreNew st xs next = (e : ℕ) → e < length next.entries → (e < length st.entries) ⊎ Any (StandsFor next.entries e) xs
+
+new_of : {xs : List Introduction} (st next : State) → Does st xs next → AreNew st xs next
+new_of st next does e lt = does.adds.only e lt
+
+none_new : (xs : List Introduction) (st next : State) → st.entries ≡ next.entries → AreNew st xs next
+none_new xs st next same e lt = inl (subst (λ es. e < length es) (sym same) lt)
+
+pub all_new : (st next : State) (s : Step) → step_read st s ≡ Ok next → AreNew st (introduced_by st.scope s) next
+all_new st next (Declares kind l) h = new_of st next (declared_does (plain l.number kind) st next l h)
+all_new st next (DeclaresEnum l) h =
+    let m = enum_meant (length st.entries) l in
+    let (mid, declares, rest) = then_ok (declared_as m st l) (λ next. let r : Reading = Ok (record next { enumeration = length st.entries }) in r) next h in
+    let last : State = record mid { enumeration = length st.entries } in
+    let is : last ≡ next = cc in
+    let new : AreNew st (introduced_by st.scope (DeclaresEnum l)) last = new_of st mid (declared_does m st mid l declares) in
+    subst (AreNew st (introduced_by st.scope (DeclaresEnum l))) is new
+all_new st next (DeclaresEnumerator l) h = new_of st next (declared_does (enumerator_meant st.enumeration (length st.entries) l) st next l h)
+all_new st next (DeclaresTypedef t d) h = new_of st next (declared_does (typedef_meant (type_kind st t) d) st next d.identifier h)
+all_new st next (DeclaresConst c) h =
+    let (worth, is, rest) = then_ok (value_of_type (const_type_kind st.entries st.scope c.const_type) st.entries st.scope c.value.expr)
+    (λ worth. declared_as (const_meant c worth) st c.identifier) next h in
+    new_of st next (declared_does (const_meant c worth) st next c.identifier rest)
+all_new st next (DeclaresFeature kind l) h =
+    let (u, free, rest) = then_ok (free_of st.entries l (inherited (features_of st.entries) l.number st.scope (word l))) (λ u. declared kind st l) next h in
+    new_of st next (declared_does (plain l.number kind) st next l rest)
+all_new st next (HasMember l) h = new_of st next (member_does st next l h)
+all_new st next (HasBase l name) h = new_of st next (base_does st next _ name h)
+all_new st next (Enters l) h =
+    let entered : State = record st { scope = scope_of st.entries st.scope l } in
+    let is : entered ≡ next = cc in
+    none_new [] st next (ap (λ s. s.entries) is)
+all_new st next (Defines l) h = new_of st next (defined_does st next l h)
+all_new st next Leaves h =
+    let left : State = record st { scope = around st.entries st.scope } in
+    let is : left ≡ next = cc in
+    none_new [] st next (ap (λ s. s.entries) is)
+all_new st next (Says l) h = none_new [] st next (said_same st next l (said_by l) h).0
+all_new st next s h = none_new [] st next (ap (λ s. s.entries) (passed_same st (test_of st s) next h))

@@ -1,6 +1,6 @@
 -- What the steps of a specification ask is answered over the entries of the whole as it was while they were read.
-use Rattle.std.proofs.Common.{◌≡◌, ◌∙◌, ℕ, suc, ◌+◌, ◌<◌, ◌≤◌, List, [], ◌∷◌, ◌++◌, length, length-append, slice_get, Option, Some, Result, Ok, codes, append-nil, append_assoc, refl, sym, ap, subst, arith}
-use Rattle.std.specs.List.{AllByRecursion}
+use Rattle.std.proofs.Common.{◌≡◌, ◌∙◌, ◌⊎◌, inl, inr, ℕ, suc, ◌+◌, ◌<◌, ◌≤◌, List, [], ◌∷◌, ◌++◌, length, length-append, slice_get, Option, Some, Result, Ok, codes, append-nil, append_assoc, refl, sym, ap, subst, arith}
+use Rattle.std.specs.List.{AllByRecursion, Any}
 use Rattle.idl_tree.specs.declared.names.Leaf.{Leaf}
 use Rattle.idl_tree.specs.declared.names.ScopedName.{ScopedName}
 use Rattle.idl_tree.specs.declared.types.ConstType.{ConstType}
@@ -23,7 +23,7 @@ use Rattle.name_table.proofs.Stability.{position_low}
 use Rattle.scoped_names.specs.declared.fault.NameFault.{NameFault}
 use Rattle.scoped_names.specs.Faults.{declared as declared_plain, declared_as, free_of, left_open, never_defined, nothing_yet, specification_read, step_read, steps_read, test_of, type_kind, undefined_test}
 use Rattle.scoped_names.specs.IdPragmas.{said_by}
-use Rattle.scoped_names.specs.Introductions.{IsEntry, introduced, introduced_by, scope_behind}
+use Rattle.scoped_names.specs.Introductions.{Introduction, Stands, Has, Body, IsEntry, StandsFor, introduced, introduced_by, scope_behind}
 use Rattle.scoped_names.specs.Meanings.{const_end, enum_meant, enumerator_meant, typedef_meant}
 use Rattle.scoped_names.specs.Reading.{State, ◌>>◌, passed}
 use Rattle.scoped_names.specs.Steps.{Step, Declares, DeclaresEnum, DeclaresEnumerator, DeclaresTypedef, IsNew, DeclaresConst, DeclaresFeature, HasMember, IsUndefined, HasBase, Enters, Defines, Leaves, NamesType, NamesException, HasWorth, IsSize, Says, const_type_steps, steps_of}
@@ -31,22 +31,32 @@ use Rattle.scoped_names.specs.Asked.{pieces_of}
 use Rattle.scoped_names.specs.Whole.{AreNames, Whole, whole}
 use Rattle.scoped_names.proofs.Introduced.{declared_once}
 use Rattle.scoped_names.proofs.Introducing.{all_map, declared_does, named_entry, passed_same, then_ok}
+use Rattle.names_lab.specs.Following.{AllFollow, FindsKnown}
 use Rattle.names_lab.specs.Holding.{AllHold, IsThere, asks}
 use Rattle.names_lab.proofs.Asks.{Asks, IsPlain, all_ask, none as unasked, silent, joined as both_asked, plain, base, valued, declared, featured, undefined, inside, defines}
-use Rattle.names_lab.proofs.Going.{Goes, answered, base_goes, const_goes, declared_goes, defined_goes, enum_goes, feature_goes, goes_same, member_goes, passed_goes, said_goes}
+use Rattle.names_lab.proofs.Going.{Goes, all_new, answered, base_goes, const_goes, declared_goes, defined_goes, enum_goes, feature_goes, goes_same, member_goes, passed_goes, said_goes}
 use Rattle.names_lab.proofs.Later.{Later, later_from, later_none, later_on}
 use Rattle.names_lab.proofs.Places.{leaf_number, name_number, names_before, type_before}
 use Rattle.names_lab.proofs.Searches.{IsScope}
-use Rattle.names_lab.proofs.Staying.{StepUpTo, TypeUpTo, asks_stays}
+use Rattle.names_lab.proofs.Staying.{StepUpTo, TypeUpTo, asks_stays, finds_known}
 
 -- the scope has an entry of the name
 abbrev HasLeaf : State → Leaf → Type 0
 HasLeaf st l = (n : ℕ) × (named st.entries st.scope (word l) ≡ Some n)
 
--- what steps ask is answered, and what they enter is there
-abbrev AllAnswered : List Entry → ℕ → List Step → Type 0
-AllAnswered es scope [] = Unit {0}
-AllAnswered es scope (s ∷ steps) = ((asks es scope s ≡ Ok tt) × IsThere es scope s) × AllAnswered es (scope_behind es scope s) steps
+-- what a step asks is answered, what it enters is there, and what its name finds is one of the first k entries
+abbrev IsAnswered : List Entry → ℕ → ℕ → Step → Type 0
+IsAnswered es scope k s = (asks es scope s ≡ Ok tt) × IsThere es scope s × FindsKnown (λ e. e < k) es scope s
+
+-- an entry was there before, or is introduced
+abbrev AreNewIn : List Entry → ℕ → List Introduction → ℕ → Type 0
+AreNewIn es k xs next = (e : ℕ) → e < next → (e < k) ⊎ Any (StandsFor es e) xs
+
+-- so of the steps, of which the first k entries are declared before the first
+abbrev AllAnswered : List Entry → ℕ → ℕ → List Step → Type 0
+AllAnswered es scope k [] = Unit {0}
+AllAnswered es scope k (s ∷ steps) = IsAnswered es scope k s
+    × ((next : ℕ) × AreNewIn es k (introduced_by scope s) next × AllAnswered es (scope_behind es scope s) next steps)
 
 -- ---- steps that are read
 
@@ -54,7 +64,7 @@ AllAnswered es scope (s ∷ steps) = ((asks es scope s ≡ Ok tt) × IsThere es 
 record Held (es : List Entry) (st : State) (xs : List Step) (next : State) : Type 0 where
   is : IsScope next.entries next.scope
   scope : next.scope ≡ st.scope
-  walks : (rest : List Step) → AllAnswered es st.scope rest → AllAnswered es st.scope (xs ++ rest)
+  walks : (rest : List Step) → AllAnswered es st.scope (length next.entries) rest → AllAnswered es st.scope (length st.entries) (xs ++ rest)
 
 -- the steps of what stands from the token n to the token m, where the leaves are declared
 record Along (n m : ℕ) (ls : List Leaf) (xs : List Step) : Type 0 where
@@ -88,8 +98,9 @@ both_held es st mid next xs ys a b = record {
   is = b.is;
   scope = b.scope ∙ a.scope;
   walks = λ rest all.
-      let behind = b.walks rest (subst (λ k. AllAnswered es k rest) (sym a.scope) all) in
-      subst (AllAnswered es st.scope) (sym (append_assoc xs ys rest)) (a.walks (ys ++ rest) (subst (λ k. AllAnswered es k (ys ++ rest)) a.scope behind));
+      let behind = b.walks rest (subst (λ k. AllAnswered es k (length next.entries) rest) (sym a.scope) all) in
+      subst (AllAnswered es st.scope (length st.entries)) (sym (append_assoc xs ys rest))
+      (a.walks (ys ++ rest) (subst (λ k. AllAnswered es k (length mid.entries) (ys ++ rest)) a.scope behind));
 }
 
 joined : {n m k : ℕ} {ls : List Leaf} {xs ys : List Step} → Along n m ls xs → Along m k ls ys → Along n k ls (xs ++ ys)
@@ -135,6 +146,20 @@ record At (n m : ℕ) (s : Step) : Type 0 where
   names : StepUpTo r s
   goes : (st next : State) → step_read st s ≡ Ok next → Goes r st next
 
+-- what stands for an entry still does
+stands_still : (m : ℕ) (es fs : List Entry) → Later m es fs → (e : ℕ) (x : Introduction) → StandsFor es e x → StandsFor fs e x
+stands_still m es fs l e (Stands scope k kind) h = l.names scope (word k) e h
+stands_still m es fs l e (Has scope k) h = h
+stands_still m es fs l e (Body scope) h = h
+
+new_in : {m : ℕ} (st next : State) (es : List Entry) (s : Step) → Later m next.entries es → step_read st s ≡ Ok next
+    → AreNewIn es (length st.entries) (introduced_by st.scope s) (length next.entries)
+new_in {m} st next es s l h e lt = by (all_new st next s h e lt)
+  where
+    by : (e < length st.entries) ⊎ Any (StandsFor next.entries e) (introduced_by st.scope s) → (e < length st.entries) ⊎ Any (StandsFor es e) (introduced_by st.scope s)
+    by (inl before) = inl before
+    by (inr (k, x, below, is, holds)) = inr (k, x, below, is, stands_still m next.entries es l e x holds)
+
 step_held : {n m : ℕ} (es : List Entry) (st next : State) (s : Step) → IsFlat s → At n m s → step_read st s ≡ Ok next → Later m next.entries es → IsScope st.entries st.scope
     → Held es st (s ∷ []) next
 step_held es st next s flat at h l in_scope =
@@ -144,13 +169,15 @@ step_held es st next s flat at h l in_scope =
     let same = asks_stays at.r st.entries es to_end st.scope in_scope s at.names in
     let is_answered = same ∙ answered st next s h in
     let there = flat_there es st.scope s flat in
+    let finds = finds_known at.r st.entries es to_end st.scope in_scope s at.names in
+    let new = new_in st next es s l h in
     let low = in_scope.low in
     let longer = grown.longer in
     let same_scope = goes.scope in
     record {
       is = record { nested = goes.nested in_scope; low = omega arith };
       scope = same_scope;
-      walks = λ rest all. ((is_answered, there), subst (λ k. AllAnswered es k rest) (sym (flat_behind es st.scope s flat)) all);
+      walks = λ rest all. ((is_answered, there, finds), (length next.entries, new, subst (λ k. AllAnswered es k (length next.entries) rest) (sym (flat_behind es st.scope s flat)) all));
     }
 
 one : {n m : ℕ} {ls : List Leaf} (s : Step) → IsFlat s → At n m s → Along n m ls (s ∷ [])
@@ -234,9 +261,11 @@ within {n} {m} {ls} {ys} l b = record {
         is = record { nested = nested.nested; low = omega arith };
         scope = back;
         walks = λ rest all.
-            let behind_it : AllAnswered es inner (Leaves ∷ rest) = ((refl, tt), subst (λ j. AllAnswered es j rest) (sym outer) all) in
-            let inside_it = subst (AllAnswered es inner) (sym (append_assoc ys (Leaves ∷ []) rest)) (body.walks (Leaves ∷ rest) behind_it) in
-            ((refl, (k, in_whole)), subst (λ j. AllAnswered es j ((ys ++ Leaves ∷ []) ++ rest)) inner_of inside_it);
+            let count = length last.entries in
+            let behind_it : AllAnswered es inner count (Leaves ∷ rest) =
+            ((refl, tt, tt), (count, λ e lt. inl lt, subst (λ j. AllAnswered es j count rest) (sym outer) all)) in
+            let inside_it = subst (AllAnswered es inner (length st.entries)) (sym (append_assoc ys (Leaves ∷ []) rest)) (body.walks (Leaves ∷ rest) behind_it) in
+            ((refl, (k, in_whole), tt), (length st.entries, λ e lt. inl lt, subst (λ j. AllAnswered es j (length st.entries) ((ys ++ Leaves ∷ []) ++ rest)) inner_of inside_it));
       });
 }
 
@@ -282,7 +311,7 @@ plain_at n m (HasWorth e) is num le =
 plain_at n m (IsSize e) is num le =
     tested_at n m (IsSize e) (omega arith) (names_before e n m num le) (λ st next h. passed_same st (test_of st (IsSize e)) next h)
 plain_at n m (Says l) is num le =
-    asked_at n (Says l) (omega arith) (omega arith) tt (λ st next h. said_goes n st next l (said_by l) h)
+    asked_at n (Says l) (omega arith) (omega arith) tt (λ st next h. said_goes n st next l h)
 plain_at n m s is num le = absurd is
 
 plain_flat : (s : Step) → IsPlain s → IsFlat s
@@ -375,28 +404,50 @@ along (defines id a) n num = joined (one (Defines id) tt (defined_at n id)) (alo
 -- ---- a whole specification
 
 -- with entries for what they introduce
-with_entries : (es : List Entry) (scope : ℕ) (steps : List Step) → AllAnswered es scope steps → AllByRecursion (IsEntry es) (introduced es scope steps) → AllHold es scope steps
-with_entries es scope [] answers entries = tt
-with_entries es scope (s ∷ steps) ((is, there), answers) entries =
+with_entries : (es : List Entry) (scope k : ℕ) (steps : List Step) → AllAnswered es scope k steps → AllByRecursion (IsEntry es) (introduced es scope steps) → AllHold es scope steps
+with_entries es scope k [] answers entries = tt
+with_entries es scope k (s ∷ steps) ((is, there, finds), (next, new, answers)) entries =
     let both = all_split (IsEntry es) (introduced_by scope s) (introduced es (scope_behind es scope s) steps) entries in
-    (record { answered = is; entries = both.0; there = there }, with_entries es (scope_behind es scope s) steps answers both.1)
+    (record { answered = is; entries = both.0; there = there }, with_entries es (scope_behind es scope s) next steps answers both.1)
   where
     all_split : {X : Type 0} (P : X → Type 0) (xs ys : List X) → AllByRecursion P (xs ++ ys) → AllByRecursion P xs × AllByRecursion P ys
     all_split P [] ys h = (tt, h)
     all_split P (x ∷ xs) ys h = let rest = all_split P xs ys h.1 in ((h.0, rest.0), rest.1)
 
+finds_more : (known : ℕ → Type 0) (es : List Entry) (scope k : ℕ) (s : Step) → ((e : ℕ) → e < k → known e) → FindsKnown (λ e. e < k) es scope s → FindsKnown known es scope s
+finds_more known es scope k (NamesType name) below h = λ e is. below e (h e is)
+finds_more known es scope k (NamesException name) below h = λ e is. below e (h e is)
+finds_more known es scope k (HasBase l name) below h = λ e is. below e (h e is)
+finds_more known es scope k s below h = tt
+
+follow : (known : ℕ → Type 0) (es : List Entry) (scope k : ℕ) (steps : List Step) → ((e : ℕ) → e < k → known e) → AllAnswered es scope k steps → AllFollow known es scope steps
+follow known es scope k [] below h = tt
+follow known es scope k (s ∷ steps) below ((is, there, finds), (next, new, answers)) =
+    (finds_more known es scope k s below finds,
+    follow (λ e. known e ⊎ Any (StandsFor es e) (introduced_by scope s)) es (scope_behind es scope s) next steps (λ e lt. by e (new e lt)) answers)
+  where
+    by : (e : ℕ) → (e < k) ⊎ Any (StandsFor es e) (introduced_by scope s) → known e ⊎ Any (StandsFor es e) (introduced_by scope s)
+    by e (inl lt) = inl (below e lt)
+    by e (inr any) = inr any
+
 -- where tokens have the numbers of their places
-pub numbered_hold : (definitions : List Definition) (names : Whole) → AreNumbered 0 (definitions_spelled definitions) → AreNames definitions names
-    → AllHold names.entries 0 (steps_of definitions)
-numbered_hold definitions names numbered h =
+all_answered : (definitions : List Definition) (names : Whole) → AreNumbered 0 (definitions_spelled definitions) → AreNames definitions names
+    → AllAnswered names.entries 0 0 (steps_of definitions)
+all_answered definitions names numbered h =
     let (read, reads, is) = then_ok (specification_read definitions) (λ st. let r : Result Whole NameFault = Ok (whole st) in r) names h in
     let (st, steps, rest) = then_ok (steps_read nothing_yet (steps_of definitions)) (λ st. passed st (never_defined (left_open st 0 st.entries))) read reads in
     let same = passed_same st (never_defined (left_open st 0 st.entries)) read rest in
     let whole_is : whole st ≡ names = ap whole same ∙ cc in
     let all = along (all_ask definitions) 0 numbered in
     let held = all.holds st.entries nothing_yet st steps (later_none _ st.entries) (record { nested = λ k e is. cc; low = omega arith }) tt in
-    let answers = subst (AllAnswered st.entries 0) (append-nil (steps_of definitions)) (held.walks [] tt) in
-    with_entries names.entries 0 (steps_of definitions) (subst (λ w. AllAnswered w.entries 0 (steps_of definitions)) whole_is answers) (declared_once definitions names h)
+    let answers = subst (AllAnswered st.entries 0 0) (append-nil (steps_of definitions)) (held.walks [] tt) in
+    subst (λ w. AllAnswered w.entries 0 0 (steps_of definitions)) whole_is answers
 
 pub names_hold : (spec : Spec) (names : Whole) → AreNames spec.definitions.items names → AllHold names.entries 0 (steps_of spec.definitions.items)
-names_hold spec names h = numbered_hold spec.definitions.items names (Spec-numbers spec) h
+names_hold spec names h =
+    let steps = steps_of spec.definitions.items in
+    with_entries names.entries 0 0 steps (all_answered spec.definitions.items names (Spec-numbers spec) h) (declared_once spec.definitions.items names h)
+
+pub names_follow : (spec : Spec) (names : Whole) → AreNames spec.definitions.items names → AllFollow (λ e. ⊥) names.entries 0 (steps_of spec.definitions.items)
+names_follow spec names h =
+    follow (λ e. ⊥) names.entries 0 0 (steps_of spec.definitions.items) (λ e lt. omega arith) (all_answered spec.definitions.items names (Spec-numbers spec) h)

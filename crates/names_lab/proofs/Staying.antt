@@ -26,6 +26,7 @@ use Rattle.scoped_names.specs.Reading.{Test, ◌>>◌}
 use Rattle.scoped_names.specs.Steps.{Step, DeclaresConst, HasBase, NamesType, NamesException, HasWorth, IsSize}
 use Rattle.scoped_names.specs.Tests.{at, at_entry, constant_test, found_at, found_of, is_exception, is_of, is_type, kind_in, names_test, operands_test, or_bad, resolved, size_read, value_of_type, value_read}
 use Rattle.scoped_names.specs.TypeKinds.{const_type_kind, known, string_kind}
+use Rattle.names_lab.specs.Following.{FindsKnown}
 use Rattle.names_lab.specs.Holding.{asks}
 use Rattle.names_lab.proofs.Later.{Later, later_from}
 use Rattle.names_lab.proofs.Searches.{IsScope, IsSeenIn, sees_in, sees_stays, stays}
@@ -199,3 +200,10 @@ module _ (n : ℕ) (es fs : List Entry) (l : Later n es fs) (scope : ℕ) (is : 
   asks_stays (IsSize e) h = ap (λ r. r >> λ c. Ok tt) (size_stays e h)
   asks_stays (DeclaresConst c) h = ap (λ r. r >> λ w. Ok tt) (typed_stays c.const_type c.value.expr h.0 h.1)
   asks_stays s h = refl
+
+  -- what the name of a step finds was declared before
+  pub finds_known : (s : Step) → StepUpTo n s → FindsKnown (λ e. e < length es) fs scope s
+  finds_known (NamesType name) h = λ e is_e. resolved_in name e (sym (resolved_stays name h) ∙ is_e)
+  finds_known (NamesException name) h = λ e is_e. resolved_in name e (sym (resolved_stays name h) ∙ is_e)
+  finds_known (HasBase k name) h = λ e is_e. resolved_in name e (sym (resolved_stays name h) ∙ is_e)
+  finds_known s h = tt
