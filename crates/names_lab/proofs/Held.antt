@@ -1,9 +1,8 @@
 -- What the steps of a specification ask is answered over the entries of the whole as it was while they were read.
-use Rattle.std.proofs.Common.{◌≡◌, ◌∙◌, ◌⊎◌, inl, inr, ℕ, suc, ◌+◌, ◌<◌, ◌≤◌, List, [], ◌∷◌, ◌++◌, length, length-append, slice_get, Option, Some, Result, Ok, codes, append-nil, append_assoc, refl, sym, ap, subst, arith}
+use Rattle.std.proofs.Common.{◌≡◌, ◌∙◌, ◌⊎◌, inl, inr, ℕ, suc, ◌+◌, ◌<◌, ◌≤◌, List, [], ◌∷◌, ◌++◌, length, length-append, Some, Result, Ok, codes, append-nil, append_assoc, refl, sym, ap, subst, arith}
 use Rattle.std.specs.List.{AllByRecursion, Any}
 use Rattle.idl_tree.specs.declared.names.Leaf.{Leaf}
 use Rattle.idl_tree.specs.declared.names.ScopedName.{ScopedName}
-use Rattle.idl_tree.specs.declared.types.ConstType.{ConstType}
 use Rattle.idl_tree.specs.declared.definitions.Const.{Const}
 use Rattle.idl_tree.specs.declared.definitions.Definition.{Definition}
 use Rattle.idl_tree.specs.declared.spec.Spec.{Spec}
@@ -21,12 +20,11 @@ use Rattle.name_table.specs.Features.{features_of}
 use Rattle.name_table.specs.Search.{inherited, word}
 use Rattle.name_table.proofs.Stability.{position_low}
 use Rattle.scoped_names.specs.declared.fault.NameFault.{NameFault}
-use Rattle.scoped_names.specs.Faults.{declared as declared_plain, declared_as, free_of, left_open, never_defined, nothing_yet, specification_read, step_read, steps_read, test_of, type_kind, undefined_test}
-use Rattle.scoped_names.specs.IdPragmas.{said_by}
+use Rattle.scoped_names.specs.Faults.{declared as declared_plain, free_of, left_open, never_defined, nothing_yet, specification_read, step_read, steps_read, test_of, type_kind}
 use Rattle.scoped_names.specs.Introductions.{Introduction, Stands, Has, Body, IsEntry, StandsFor, introduced, introduced_by, scope_behind}
-use Rattle.scoped_names.specs.Meanings.{const_end, enum_meant, enumerator_meant, typedef_meant}
+use Rattle.scoped_names.specs.Meanings.{const_end, enumerator_meant, typedef_meant}
 use Rattle.scoped_names.specs.Reading.{State, ◌>>◌, passed}
-use Rattle.scoped_names.specs.Steps.{Step, Declares, DeclaresEnum, DeclaresEnumerator, DeclaresTypedef, IsNew, DeclaresConst, DeclaresFeature, HasMember, IsUndefined, HasBase, Enters, Defines, Leaves, NamesType, NamesException, HasWorth, IsSize, Says, const_type_steps, steps_of}
+use Rattle.scoped_names.specs.Steps.{Step, Declares, DeclaresEnum, DeclaresEnumerator, DeclaresTypedef, IsNew, DeclaresConst, DeclaresFeature, HasMember, IsUndefined, HasBase, Enters, Defines, Leaves, NamesType, NamesException, HasWorth, IsSize, Says, steps_of}
 use Rattle.scoped_names.specs.Asked.{pieces_of}
 use Rattle.scoped_names.specs.Whole.{AreNames, Whole, whole}
 use Rattle.scoped_names.proofs.Introduced.{declared_once}
@@ -34,7 +32,8 @@ use Rattle.scoped_names.proofs.Introducing.{all_map, declared_does, named_entry,
 use Rattle.names_lab.specs.Following.{AllFollow, FindsKnown}
 use Rattle.names_lab.specs.Holding.{AllHold, IsThere, asks}
 use Rattle.names_lab.proofs.Asks.{Asks, IsPlain, all_ask, none as unasked, silent, joined as both_asked, plain, base, valued, declared, featured, undefined, inside, defines}
-use Rattle.names_lab.proofs.Going.{Goes, all_new, answered, base_goes, const_goes, declared_goes, defined_goes, enum_goes, feature_goes, goes_same, member_goes, passed_goes, said_goes}
+use Rattle.names_lab.proofs.FollowParts.{finds_more}
+use Rattle.names_lab.proofs.Going.{Goes, all_new, answered, base_goes, const_goes, declared_goes, defined_goes, enum_goes, feature_goes, goes_same, member_goes, said_goes}
 use Rattle.names_lab.proofs.Later.{Later, later_from, later_none, later_on}
 use Rattle.names_lab.proofs.Places.{leaf_number, name_number, names_before, type_before}
 use Rattle.names_lab.proofs.Searches.{IsScope}
@@ -414,16 +413,10 @@ with_entries es scope k (s ∷ steps) ((is, there, finds), (next, new, answers))
     all_split P [] ys h = (tt, h)
     all_split P (x ∷ xs) ys h = let rest = all_split P xs ys h.1 in ((h.0, rest.0), rest.1)
 
-finds_more : (known : ℕ → Type 0) (es : List Entry) (scope k : ℕ) (s : Step) → ((e : ℕ) → e < k → known e) → FindsKnown (λ e. e < k) es scope s → FindsKnown known es scope s
-finds_more known es scope k (NamesType name) below h = λ e is. below e (h e is)
-finds_more known es scope k (NamesException name) below h = λ e is. below e (h e is)
-finds_more known es scope k (HasBase l name) below h = λ e is. below e (h e is)
-finds_more known es scope k s below h = tt
-
 follow : (known : ℕ → Type 0) (es : List Entry) (scope k : ℕ) (steps : List Step) → ((e : ℕ) → e < k → known e) → AllAnswered es scope k steps → AllFollow known es scope steps
 follow known es scope k [] below h = tt
 follow known es scope k (s ∷ steps) below ((is, there, finds), (next, new, answers)) =
-    (finds_more known es scope k s below finds,
+    (finds_more (λ e. e < k) known es scope s below finds,
     follow (λ e. known e ⊎ Any (StandsFor es e) (introduced_by scope s)) es (scope_behind es scope s) next steps (λ e lt. by e (new e lt)) answers)
   where
     by : (e : ℕ) → (e < k) ⊎ Any (StandsFor es e) (introduced_by scope s) → known e ⊎ Any (StandsFor es e) (introduced_by scope s)

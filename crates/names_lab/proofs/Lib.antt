@@ -8,3 +8,4 @@ pub mod Held
 pub mod Parts
 pub mod Answers
 pub mod TreeParts
+pub mod FollowParts

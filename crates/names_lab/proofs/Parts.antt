@@ -1,12 +1,10 @@
 -- What holds of steps holds of the parts that ask them.
-use Rattle.std.proofs.Common.{◌≡◌, ◌∙◌, ℕ, suc, Bool, true, false, List, [], ◌∷◌, ◌++◌, map, slice_get, Option, Some, None, Result, Ok, Err, refl, sym, ap, subst}
-use Rattle.std.specs.Prelude.{if◌then◌else◌}
+use Rattle.std.proofs.Common.{◌≡◌, ◌∙◌, ℕ, suc, List, [], ◌∷◌, ◌++◌, map, Some, refl, sym, ap, subst}
 use Rattle.std.specs.List.{AllByRecursion, flat_map}
 use Rattle.idl_tree.specs.declared.names.Leaf.{Leaf}
-use Rattle.idl_tree.specs.declared.names.ScopedName.{ScopedName}
 use Rattle.idl_tree.specs.Pieces.{Piece}
 use Rattle.name_table.specs.Entry.{Entry, around, named, scope_in}
-use Rattle.name_table.specs.Entries.{scope_number, scope_of}
+use Rattle.name_table.specs.Entries.{scope_number}
 use Rattle.name_table.specs.Search.{word}
 use Rattle.scoped_names.specs.Introductions.{scope_behind}
 use Rattle.scoped_names.specs.Steps.{Step, Enters, Leaves}

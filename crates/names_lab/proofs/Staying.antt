@@ -7,8 +7,6 @@ use Rattle.idl_tree.specs.declared.const_expr.Bound.{Bound}
 use Rattle.idl_tree.specs.declared.types.ConstType.{ConstType}
 use Rattle.idl_tree.specs.declared.types.ConstType.TheVariants as ConstTypes
 use Rattle.idl_tree.specs.Starts.{expr_start, name_start}
-use Rattle.const_values.specs.declared.constant.Constant.{Constant}
-use Rattle.const_values.specs.declared.kind.ConstKind.{ConstKind}
 use Rattle.const_values.specs.declared.kind.ConstKind.TheVariants as Kinds
 use Rattle.const_values.specs.Worth.{chain_worth, operator_applied, positive, sign_applied, whole_constant, whole_number, worth}
 use Rattle.name_table.specs.declared.entry.EntryKind.{EntryKind}
@@ -16,7 +14,6 @@ use Rattle.name_table.specs.declared.search.Sight.{Sight}
 use Rattle.name_table.specs.declared.search.Sight.TheVariants.{Unseen, OtherCase, Unclear, Seen}
 use Rattle.name_table.specs.Entry.{Entry, meant_in, worth_in}
 use Rattle.name_table.specs.Search.{found_by, sees}
-use Rattle.scoped_names.specs.declared.fault.At.{At}
 use Rattle.scoped_names.specs.declared.fault.Flaw.TheVariants.{NoConstant, NoWorth, NotOfType, NotPositive}
 use Rattle.scoped_names.specs.declared.fault.NameFault.{NameFault}
 use Rattle.scoped_names.specs.declared.fault.NameFault.TheVariants.{CaseDiffers, NotAType}
@@ -25,7 +22,7 @@ use Rattle.scoped_names.specs.Faults.{is_interface}
 use Rattle.scoped_names.specs.Reading.{Test, ◌>>◌}
 use Rattle.scoped_names.specs.Steps.{Step, DeclaresConst, HasBase, NamesType, NamesException, HasWorth, IsSize}
 use Rattle.scoped_names.specs.Tests.{at, at_entry, constant_test, found_at, found_of, is_exception, is_of, is_type, kind_in, names_test, operands_test, or_bad, resolved, size_read, value_of_type, value_read}
-use Rattle.scoped_names.specs.TypeKinds.{const_type_kind, known, string_kind}
+use Rattle.scoped_names.specs.TypeKinds.{const_type_kind, known}
 use Rattle.names_lab.specs.Following.{FindsKnown}
 use Rattle.names_lab.specs.Holding.{asks}
 use Rattle.names_lab.proofs.Later.{Later, later_from}
