@@ -1,28 +1,34 @@
 -- What reading a step does to the entries, and that what it asks is answered.
-use Rattle.std.proofs.Common.{◌≡◌, ◌∙◌, ◌⊎◌, inl, inr, ℕ, zero, suc, ◌<◌, ◌≤◌, Bool, true, false, not, List, [], ◌∷◌, ◌++◌, length, length-append, slice_get, Option, Some, None, Ok, Err, refl, sym, ap, subst, arith}
-use Rattle.std.specs.Prelude.{if◌then◌else◌}
+use Rattle.std.proofs.Common.{◌≡◌, ◌∙◌, ◌⊎◌, inl, inr, ℕ, zero, suc, ◌<◌, ◌≤◌, Bool, true, false, cond, nat_eq, not, List, [], ◌∷◌, ◌++◌, map, length, length-append, slice_get, Option, Some, None, Ok, Err, refl, sym, ap, subst, arith}
+use Rattle.std.specs.Prelude.{◌&&◌, if◌then◌else◌}
 use Rattle.std.specs.List.{Any}
 use Rattle.std.specs.Option.{option_map}
-use Rattle.std.proofs.lemmas.Bool.{and_parts}
+use Rattle.std.specs.Str.{bytes_eq}
+use Rattle.std.specs.Char.{to_ascii_lowercase}
+use Rattle.std.proofs.lemmas.Slice.Eq.{bytes_eq-Decides}
+use Rattle.idl_lexer.specs.Words.{same_but_for_case}
+use Rattle.std.proofs.lemmas.Bool.{and_parts, eq-eqb}
 use Rattle.std.proofs.lemmas.Option.{slice_get_within}
 use Rattle.idl_lexer.specs.Identifiers.{words}
 use Rattle.idl_tree.specs.declared.names.Leaf.{Leaf}
 use Rattle.idl_tree.specs.declared.names.ScopedName.{ScopedName}
 use Rattle.idl_tree.specs.declared.definitions.Const.{Const}
 use Rattle.idl_tree.specs.Starts.{name_start}
+use Rattle.const_values.specs.declared.constant.Constant.{Constant}
 use Rattle.name_table.specs.declared.entry.Base.{Base}
 use Rattle.name_table.specs.declared.entry.EntryKind.{EntryKind}
+use Rattle.name_table.specs.declared.entry.EntryKind.TheVariants as Entries
 use Rattle.name_table.specs.declared.entry.Meaning.{Meaning}
-use Rattle.name_table.specs.Entry.{AreNested, Entry, around, named}
+use Rattle.name_table.specs.Entry.{AreNested, Entry, around, is_named, named, worth_in}
 use Rattle.name_table.specs.Entries.{entry_declared, plain, scope_of, with_base}
 use Rattle.name_table.specs.Features.{features_of}
 use Rattle.name_table.specs.Search.{begins_at_root, identifiers_see, inherited, word}
-use Rattle.name_table.proofs.Stability.{get_push_last, get_push_low}
+use Rattle.name_table.proofs.Stability.{get_push_last, get_push_low, named_push, or_place}
 use Rattle.scoped_names.specs.declared.fault.At.{At}
 use Rattle.scoped_names.specs.declared.fault.NameFault.{NameFault}
 use Rattle.scoped_names.specs.declared.fault.NameFault.TheVariants.{BadBase, NotAType}
 use Rattle.scoped_names.specs.declared.fault.Unfit.TheVariants.{NotDefined}
-use Rattle.scoped_names.specs.Faults.{base_added, base_test, based, declared, declared_as, declares_over, entry_in, free_of, free_test, given_once, is_defined, is_interface, new_test, prefix_set, said_read, step_read, taken_by, test_of, type_kind, undefined_test, with_base_at, with_declared}
+use Rattle.scoped_names.specs.Faults.{may_reappear, base_added, base_test, based, declared, declared_as, declares_over, entry_in, free_of, free_test, given_once, is_defined, is_interface, new_test, prefix_set, said_read, step_read, taken_by, test_of, type_kind, undefined_test, with_base_at, with_declared}
 use Rattle.scoped_names.specs.IdPragmas.{Said, SetsPrefix, Gives, said_by}
 use Rattle.scoped_names.specs.Meanings.{const_end, const_meant, enum_meant, enumerator_meant, typedef_meant}
 use Rattle.scoped_names.specs.Reading.{Reading, State, Test, passed, ◌>>◌}
@@ -31,7 +37,7 @@ use Rattle.scoped_names.specs.Introductions.{Introduction, StandsFor, introduced
 use Rattle.scoped_names.specs.Steps.{Step, Declares, DeclaresConst, DeclaresFeature, DeclaresEnum, DeclaresEnumerator, DeclaresTypedef, HasBase, HasMember, Enters, Leaves, Defines, Says, NamesType, NamesException, HasWorth, IsSize}
 use Rattle.scoped_names.specs.Tests.{at, found_at, is_of, kind_in, resolved, value_of_type}
 use Rattle.scoped_names.specs.TypeKinds.{const_type_kind}
-use Rattle.scoped_names.proofs.Introducing.{Does, appears, base_does, declared_does, defined_does, member_does, passed_same, then_ok}
+use Rattle.scoped_names.proofs.Introducing.{Does, appears, base_does, declared_does, defined_does, member_does, named_entry, passed_same, then_ok}
 use Rattle.names_lab.specs.Holding.{asks}
 use Rattle.names_lab.proofs.Later.{Later, bare, bare_base, later_base, later_none, later_push}
 use Rattle.names_lab.proofs.Searches.{IsScope}
@@ -250,3 +256,42 @@ all_new st next Leaves h =
     none_new [] st next (ap (λ s. s.entries) is)
 all_new st next (Says l) h = none_new [] st next (said_same st next l (said_by l) h).0
 all_new st next s h = none_new [] st next (ap (λ s. s.entries) (passed_same st (test_of st s) next h))
+
+-- ---- constants
+
+not_again : (kind : EntryKind) → may_reappear Entries.Const kind ≡ false
+not_again kind = refl
+
+same_name : (scope : ℕ) (w : List ℕ) → (nat_eq scope scope && same_but_for_case w w) ≡ true
+same_name scope w = ap (λ b. b && same_but_for_case w w) (eq-eqb scope scope refl) ∙ (bytes_eq-Decides (map to_ascii_lowercase w) (map to_ascii_lowercase w)).1 refl
+
+-- a constant's entry has its worth
+pub const_worth : (st next : State) (c : Const) → step_read st (DeclaresConst c) ≡ Ok next
+    → (w : Constant) × (value_of_type (const_type_kind st.entries st.scope c.const_type) st.entries st.scope c.value.expr ≡ Ok w)
+    × ((n : ℕ) × (named next.entries st.scope (word c.identifier) ≡ Some n) × (worth_in (slice_get next.entries n) ≡ Some w))
+const_worth st next c h =
+    let l = c.identifier in
+    let (w, is, rest) = then_ok (value_of_type (const_type_kind st.entries st.scope c.const_type) st.entries st.scope c.value.expr)
+    (λ worth. declared_as (const_meant c worth) st c.identifier) next h in
+    let o = named st.entries st.scope (word l) in
+    let (u, test, declares) = then_ok (free_test l (taken_by st (word l))) (λ u. declares_over (const_meant c w) st l (entry_in st.entries o)) next rest in
+    (w, is, by w o refl declares)
+  where
+    by : (w : Constant) (o : Option ℕ) → named st.entries st.scope (word c.identifier) ≡ o → declares_over (const_meant c w) st c.identifier (entry_in st.entries o) ≡ Ok next
+        → (n : ℕ) × (named next.entries st.scope (word c.identifier) ≡ Some n) × (worth_in (slice_get next.entries n) ≡ Some w)
+    by w None none h =
+        let one = entry_declared (const_meant c w) st.prefix st.scope c.identifier in
+        let is : with_declared (const_meant c w) st c.identifier ≡ next = cc in
+        let place : named (st.entries ++ one ∷ []) st.scope (word c.identifier) ≡ Some (length st.entries) =
+        named_push st.entries one st.scope (word c.identifier)
+        ∙ ap (λ o. or_place o (cond (is_named st.scope (word c.identifier) one) (Some (length st.entries)) None)) none
+        ∙ ap (λ b. cond b (Some (length st.entries)) None) (same_name st.scope (word c.identifier)) in
+        (length st.entries, ap (λ s. named s.entries st.scope (word c.identifier)) (sym is) ∙ place,
+        ap (λ s. worth_in (slice_get s.entries (length st.entries))) (sym is) ∙ ap worth_in (get_push_last st.entries one))
+    by w (Some n) there h =
+        let (e, here, in_scope) = named_entry st.entries st.scope (word c.identifier) n there in
+        let again : (may_reappear Entries.Const e.kind && bytes_eq (word c.identifier) e.name) ≡ true =
+        (appears Entries.Const st next c.identifier e (sym (ap (declares_over (const_meant c w) st c.identifier) here) ∙ h)).0 in
+        let never : may_reappear Entries.Const e.kind ≡ true = (and_parts (may_reappear Entries.Const e.kind) (bytes_eq (word c.identifier) e.name) again).0 in
+        let not_so = not_again e.kind in
+        absurd cc

@@ -14,13 +14,13 @@ use Rattle.idl_tree.specs.DefinitionYields.{definitions_spelled}
 use Rattle.idl_tree.specs.Starts.{name_start}
 use Rattle.idl_tree.proofs.SpelledForms.{AreNumbered-append, Spec-numbers}
 use Rattle.name_table.specs.declared.entry.EntryKind.{EntryKind}
-use Rattle.name_table.specs.Entry.{Entry, around, is_named, named, scope_in}
+use Rattle.name_table.specs.Entry.{Entry, around, is_named, named, scope_in, worth_in}
 use Rattle.name_table.specs.Entries.{plain as plain_meant, scope_number, scope_of}
 use Rattle.name_table.specs.Features.{features_of}
 use Rattle.name_table.specs.Search.{inherited, word}
 use Rattle.name_table.proofs.Stability.{position_low}
 use Rattle.scoped_names.specs.declared.fault.NameFault.{NameFault}
-use Rattle.scoped_names.specs.Faults.{declared as declared_plain, free_of, left_open, never_defined, nothing_yet, specification_read, step_read, steps_read, test_of, type_kind}
+use Rattle.scoped_names.specs.Faults.{entry_in, declared as declared_plain, free_of, left_open, never_defined, nothing_yet, specification_read, step_read, steps_read, test_of, type_kind}
 use Rattle.scoped_names.specs.Introductions.{Introduction, Stands, Has, Body, IsEntry, StandsFor, introduced, introduced_by, scope_behind}
 use Rattle.scoped_names.specs.Meanings.{const_end, enumerator_meant, typedef_meant}
 use Rattle.scoped_names.specs.Reading.{State, ◌>>◌, passed}
@@ -30,22 +30,23 @@ use Rattle.scoped_names.specs.Whole.{AreNames, Whole, whole}
 use Rattle.scoped_names.proofs.Introduced.{declared_once}
 use Rattle.scoped_names.proofs.Introducing.{all_map, declared_does, named_entry, passed_same, then_ok}
 use Rattle.names_lab.specs.Following.{AllFollow, FindsKnown}
-use Rattle.names_lab.specs.Holding.{AllHold, IsThere, asks}
+use Rattle.names_lab.specs.Holding.{AllHold, HasItsWorth, IsThere, asks}
 use Rattle.names_lab.proofs.Asks.{Asks, IsPlain, all_ask, none as unasked, silent, joined as both_asked, plain, base, valued, declared, featured, undefined, inside, defines}
 use Rattle.names_lab.proofs.FollowParts.{finds_more}
-use Rattle.names_lab.proofs.Going.{Goes, all_new, answered, base_goes, const_goes, declared_goes, defined_goes, enum_goes, feature_goes, goes_same, member_goes, said_goes}
+use Rattle.names_lab.proofs.Going.{Goes, all_new, answered, base_goes, const_goes, const_worth, declared_goes, defined_goes, enum_goes, feature_goes, goes_same, member_goes, said_goes}
 use Rattle.names_lab.proofs.Later.{Later, later_from, later_none, later_on}
 use Rattle.names_lab.proofs.Places.{leaf_number, name_number, names_before, type_before}
-use Rattle.names_lab.proofs.Searches.{IsScope}
-use Rattle.names_lab.proofs.Staying.{StepUpTo, TypeUpTo, asks_stays, finds_known}
+use Rattle.names_lab.proofs.Searches.{IsScope, stays}
+use Rattle.names_lab.proofs.Staying.{StepUpTo, TypeUpTo, asks_stays, finds_known, typed_stays}
 
 -- the scope has an entry of the name
 abbrev HasLeaf : State → Leaf → Type 0
 HasLeaf st l = (n : ℕ) × (named st.entries st.scope (word l) ≡ Some n)
 
--- what a step asks is answered, what it enters is there, and what its name finds is one of the first k entries
+-- what a step asks is answered, what it enters is there, a constant has its worth, and what a name finds is one of the
+-- first k entries
 abbrev IsAnswered : List Entry → ℕ → ℕ → Step → Type 0
-IsAnswered es scope k s = (asks es scope s ≡ Ok tt) × IsThere es scope s × FindsKnown (λ e. e < k) es scope s
+IsAnswered es scope k s = (asks es scope s ≡ Ok tt) × IsThere es scope s × HasItsWorth es scope s × FindsKnown (λ e. e < k) es scope s
 
 -- an entry was there before, or is introduced
 abbrev AreNewIn : List Entry → ℕ → List Introduction → ℕ → Type 0
@@ -159,6 +160,15 @@ new_in {m} st next es s l h e lt = by (all_new st next s h e lt)
     by (inl before) = inl before
     by (inr (k, x, below, is, holds)) = inr (k, x, below, is, stands_still m next.entries es l e x holds)
 
+worth_held : {m : ℕ} (r : ℕ) (st next : State) (es : List Entry) (s : Step) → StepUpTo r s → Later r st.entries es → Later m next.entries es → IsScope st.entries st.scope
+    → step_read st s ≡ Ok next → HasItsWorth es st.scope s
+worth_held r st next es (DeclaresConst c) names to_end l in_scope h =
+    let (w, value, (n, is, worth)) = const_worth st next c h in
+    let low = position_low (is_named st.scope (word c.identifier)) next.entries n is in
+    (w, typed_stays r st.entries es to_end st.scope in_scope c.const_type c.value.expr names.0 names.1 ∙ value,
+    ap (λ o. worth_in (entry_in es o)) (l.names st.scope (word c.identifier) n is) ∙ stays worth_in (λ x. refl) l n low ∙ worth)
+worth_held r st next es s names to_end l in_scope h = tt
+
 step_held : {n m : ℕ} (es : List Entry) (st next : State) (s : Step) → IsFlat s → At n m s → step_read st s ≡ Ok next → Later m next.entries es → IsScope st.entries st.scope
     → Held es st (s ∷ []) next
 step_held es st next s flat at h l in_scope =
@@ -170,13 +180,14 @@ step_held es st next s flat at h l in_scope =
     let there = flat_there es st.scope s flat in
     let finds = finds_known at.r st.entries es to_end st.scope in_scope s at.names in
     let new = new_in st next es s l h in
+    let worth = worth_held at.r st next es s at.names to_end l in_scope h in
     let low = in_scope.low in
     let longer = grown.longer in
     let same_scope = goes.scope in
     record {
       is = record { nested = goes.nested in_scope; low = omega arith };
       scope = same_scope;
-      walks = λ rest all. ((is_answered, there, finds), (length next.entries, new, subst (λ k. AllAnswered es k (length next.entries) rest) (sym (flat_behind es st.scope s flat)) all));
+      walks = λ rest all. ((is_answered, there, worth, finds), (length next.entries, new, subst (λ k. AllAnswered es k (length next.entries) rest) (sym (flat_behind es st.scope s flat)) all));
     }
 
 one : {n m : ℕ} {ls : List Leaf} (s : Step) → IsFlat s → At n m s → Along n m ls (s ∷ [])
@@ -262,9 +273,9 @@ within {n} {m} {ls} {ys} l b = record {
         walks = λ rest all.
             let count = length last.entries in
             let behind_it : AllAnswered es inner count (Leaves ∷ rest) =
-            ((refl, tt, tt), (count, λ e lt. inl lt, subst (λ j. AllAnswered es j count rest) (sym outer) all)) in
+            ((refl, tt, tt, tt), (count, λ e lt. inl lt, subst (λ j. AllAnswered es j count rest) (sym outer) all)) in
             let inside_it = subst (AllAnswered es inner (length st.entries)) (sym (append_assoc ys (Leaves ∷ []) rest)) (body.walks (Leaves ∷ rest) behind_it) in
-            ((refl, (k, in_whole), tt), (length st.entries, λ e lt. inl lt, subst (λ j. AllAnswered es j (length st.entries) ((ys ++ Leaves ∷ []) ++ rest)) inner_of inside_it));
+            ((refl, (k, in_whole), tt, tt), (length st.entries, λ e lt. inl lt, subst (λ j. AllAnswered es j (length st.entries) ((ys ++ Leaves ∷ []) ++ rest)) inner_of inside_it));
       });
 }
 
@@ -405,9 +416,9 @@ along (defines id a) n num = joined (one (Defines id) tt (defined_at n id)) (alo
 -- with entries for what they introduce
 with_entries : (es : List Entry) (scope k : ℕ) (steps : List Step) → AllAnswered es scope k steps → AllByRecursion (IsEntry es) (introduced es scope steps) → AllHold es scope steps
 with_entries es scope k [] answers entries = tt
-with_entries es scope k (s ∷ steps) ((is, there, finds), (next, new, answers)) entries =
+with_entries es scope k (s ∷ steps) ((is, there, worth, finds), (next, new, answers)) entries =
     let both = all_split (IsEntry es) (introduced_by scope s) (introduced es (scope_behind es scope s) steps) entries in
-    (record { answered = is; entries = both.0; there = there }, with_entries es (scope_behind es scope s) next steps answers both.1)
+    (record { answered = is; entries = both.0; there = there; worth = worth }, with_entries es (scope_behind es scope s) next steps answers both.1)
   where
     all_split : {X : Type 0} (P : X → Type 0) (xs ys : List X) → AllByRecursion P (xs ++ ys) → AllByRecursion P xs × AllByRecursion P ys
     all_split P [] ys h = (tt, h)
@@ -415,7 +426,7 @@ with_entries es scope k (s ∷ steps) ((is, there, finds), (next, new, answers))
 
 follow : (known : ℕ → Type 0) (es : List Entry) (scope k : ℕ) (steps : List Step) → ((e : ℕ) → e < k → known e) → AllAnswered es scope k steps → AllFollow known es scope steps
 follow known es scope k [] below h = tt
-follow known es scope k (s ∷ steps) below ((is, there, finds), (next, new, answers)) =
+follow known es scope k (s ∷ steps) below ((is, there, worth, finds), (next, new, answers)) =
     (finds_more (λ e. e < k) known es scope s below finds,
     follow (λ e. known e ⊎ Any (StandsFor es e) (introduced_by scope s)) es (scope_behind es scope s) next steps (λ e lt. by e (new e lt)) answers)
   where
