@@ -285,9 +285,11 @@ const_worth st next c h =
         let place : named (st.entries ++ one ∷ []) st.scope (word c.identifier) ≡ Some (length st.entries) =
         named_push st.entries one st.scope (word c.identifier)
         ∙ ap (λ o. or_place o (cond (is_named st.scope (word c.identifier) one) (Some (length st.entries)) None)) none
-        ∙ ap (λ b. cond b (Some (length st.entries)) None) (same_name st.scope (word c.identifier)) in
-        (length st.entries, ap (λ s. named s.entries st.scope (word c.identifier)) (sym is) ∙ place,
-        ap (λ s. worth_in (slice_get s.entries (length st.entries))) (sym is) ∙ ap worth_in (get_push_last st.entries one))
+        ∙ ap (λ b. cond b (Some (length st.entries)) None) (same_name st.scope (word c.identifier)) in (
+          length st.entries,
+          ap (λ s. named s.entries st.scope (word c.identifier)) (sym is) ∙ place,
+          ap (λ s. worth_in (slice_get s.entries (length st.entries))) (sym is) ∙ ap worth_in (get_push_last st.entries one),
+        )
     by w (Some n) there h =
         let (e, here, in_scope) = named_entry st.entries st.scope (word c.identifier) n there in
         let again : (may_reappear Entries.Const e.kind && bytes_eq (word c.identifier) e.name) ≡ true =

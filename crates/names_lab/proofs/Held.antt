@@ -164,9 +164,11 @@ worth_held : {m : ℕ} (r : ℕ) (st next : State) (es : List Entry) (s : Step) 
     → step_read st s ≡ Ok next → HasItsWorth es st.scope s
 worth_held r st next es (DeclaresConst c) names to_end l in_scope h =
     let (w, value, (n, is, worth)) = const_worth st next c h in
-    let low = position_low (is_named st.scope (word c.identifier)) next.entries n is in
-    (w, typed_stays r st.entries es to_end st.scope in_scope c.const_type c.value.expr names.0 names.1 ∙ value,
-    ap (λ o. worth_in (entry_in es o)) (l.names st.scope (word c.identifier) n is) ∙ stays worth_in (λ x. refl) l n low ∙ worth)
+    let low = position_low (is_named st.scope (word c.identifier)) next.entries n is in (
+      w,
+      typed_stays r st.entries es to_end st.scope in_scope c.const_type c.value.expr names.0 names.1 ∙ value,
+      ap (λ o. worth_in (entry_in es o)) (l.names st.scope (word c.identifier) n is) ∙ stays worth_in (λ x. refl) l n low ∙ worth,
+    )
 worth_held r st next es s names to_end l in_scope h = tt
 
 step_held : {n m : ℕ} (es : List Entry) (st next : State) (s : Step) → IsFlat s → At n m s → step_read st s ≡ Ok next → Later m next.entries es → IsScope st.entries st.scope
@@ -426,9 +428,10 @@ with_entries es scope k (s ∷ steps) ((is, there, worth, finds), (next, new, an
 
 follow : (known : ℕ → Type 0) (es : List Entry) (scope k : ℕ) (steps : List Step) → ((e : ℕ) → e < k → known e) → AllAnswered es scope k steps → AllFollow known es scope steps
 follow known es scope k [] below h = tt
-follow known es scope k (s ∷ steps) below ((is, there, worth, finds), (next, new, answers)) =
-    (finds_more (λ e. e < k) known es scope s below finds,
-    follow (λ e. known e ⊎ Any (StandsFor es e) (introduced_by scope s)) es (scope_behind es scope s) next steps (λ e lt. by e (new e lt)) answers)
+follow known es scope k (s ∷ steps) below ((is, there, worth, finds), (next, new, answers)) = (
+  finds_more (λ e. e < k) known es scope s below finds,
+  follow (λ e. known e ⊎ Any (StandsFor es e) (introduced_by scope s)) es (scope_behind es scope s) next steps (λ e lt. by e (new e lt)) answers,
+)
   where
     by : (e : ℕ) → (e < k) ⊎ Any (StandsFor es e) (introduced_by scope s) → known e ⊎ Any (StandsFor es e) (introduced_by scope s)
     by e (inl lt) = inl (below e lt)

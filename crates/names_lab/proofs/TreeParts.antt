@@ -166,9 +166,12 @@ operation_holds es scope o h =
     let named = both_closed (one_closed feature (λ fs k. refl)) params_closed in
     let last = both_hold es scope (result ++ feature ∷ params) (raises_steps (optional_parts o.raises)) (both_closed result_closed named) h in
     let first = both_hold es scope result (feature ∷ params) result_closed last.0 in
-    let each = each_holds es scope (param_steps o.identifier) (param_closed o.identifier) (optional_parts o.params) first.1.1 in
-    (first.0, first.1.0, all_map (λ p. AllHold es scope (param_steps o.identifier p)) (λ p. AllHold es scope (param_type_steps p.param_type)) (param_holds es scope o.identifier) (optional_parts o.params) each,
-    raises_hold es scope (optional_parts o.raises) last.1)
+    let each = each_holds es scope (param_steps o.identifier) (param_closed o.identifier) (optional_parts o.params) first.1.1 in (
+      first.0,
+      first.1.0,
+      all_map (λ p. AllHold es scope (param_steps o.identifier p)) (λ p. AllHold es scope (param_type_steps p.param_type)) (param_holds es scope o.identifier) (optional_parts o.params) each,
+      raises_hold es scope (optional_parts o.raises) last.1,
+    )
 
 pub attribute_holds : (es : List Entry) (scope : ℕ) (a : Attribute) → AllHold es scope (attribute_steps a)
     → AllHold es scope (param_type_steps a.attribute_type) × AllHold es scope (attributes_steps a.declared)
