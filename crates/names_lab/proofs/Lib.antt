@@ -6,6 +6,6 @@ pub mod Places
 pub mod Going
 pub mod Held
 pub mod Parts
-pub mod Answers
+pub mod OnlyMemory
 pub mod TreeParts
 pub mod FollowParts

@@ -94,9 +94,18 @@ case_holds es scope c h =
 
 -- ---- what has a scope
 
--- the scope of the entry of an identifier, where this holds
-abbrev pub Inside : List Entry → ℕ → Leaf → (ℕ → Type 0) → Type 0
-Inside es scope l holds = (n : ℕ) × (named es scope (word l) ≡ Some n) × holds (suc n)
+-- the entry of an identifier, in whose scope this holds
+pub record Inside (es : List Entry) (scope : ℕ) (l : Leaf) (holds : ℕ → Type 0) : Type 0 where
+  pub entry : ℕ
+  pub is : named es scope (word l) ≡ Some entry
+  pub inner : holds (suc entry)
+
+-- in that of the entry that the identifier is
+pub inside_at : {es : List Entry} {scope : ℕ} {l : Leaf} {holds : ℕ → Type 0} → Inside es scope l holds → (e : ℕ) → named es scope (word l) ≡ Some e → holds (suc e)
+inside_at {holds = holds} i e here =
+    let there = i.is in
+    let same : i.entry ≡ e = cc in
+    subst (λ k. holds (suc k)) same i.inner
 
 defining_closed : {xs : List Step} (l : Leaf) → Closed xs → Closed (Defines l ∷ xs)
 defining_closed l c = both_closed (one_closed (Defines l) (λ es scope. refl)) c
@@ -112,7 +121,7 @@ struct_holds es scope s h =
     let all = defining_closed v.identifier (both_closed (member_closed v.first.value) members) in
     let (n, is, body) = inside_holds es scope v.identifier (Defines v.identifier ∷ (member_steps v.first.value ++ others)) all steps.1 in
     let both = both_hold es (suc n) (member_steps v.first.value) others (member_closed v.first.value) body.1 in
-    (n, is, (both.0, each_holds es (suc n) member_steps member_closed v.rest.items both.1))
+    record { entry = n; is = is; inner = (both.0, each_holds es (suc n) member_steps member_closed v.rest.items both.1) }
 
 pub union_holds : (es : List Entry) (scope : ℕ) (u : UnionType) → AllHold es scope (union_steps u)
     → Inside es scope (out-UnionType u).identifier (λ inner. AllHold es inner (switch_steps (out-UnionType u).switch) × AllHold es inner (case_steps (out-UnionType u).first.value)
@@ -127,14 +136,14 @@ union_holds es scope u h =
     (defining_closed v.identifier (both_closed front cases)) steps.1 in
     let last = both_hold es (suc n) (switch_steps v.switch ++ case_steps v.first.value) others front body.1 in
     let first = both_hold es (suc n) (switch_steps v.switch) (case_steps v.first.value) (switch_closed v.switch) last.0 in
-    (n, is, (first.0, first.1, each_holds es (suc n) case_steps case_closed v.rest.items last.1))
+    record { entry = n; is = is; inner = (first.0, first.1, each_holds es (suc n) case_steps case_closed v.rest.items last.1) }
 
 pub except_holds : (es : List Entry) (scope : ℕ) (e : Except) → AllHold es scope (except_steps e)
     → Inside es scope e.identifier (λ inner. AllByRecursion (λ m. AllHold es inner (member_steps m)) e.members.items)
 except_holds es scope e h =
     let members = each_closed member_steps member_closed e.members.items in
     let (n, is, body) = inside_holds es scope e.identifier (flat_map member_steps e.members.items) members h.1 in
-    (n, is, each_holds es (suc n) member_steps member_closed e.members.items body)
+    record { entry = n; is = is; inner = each_holds es (suc n) member_steps member_closed e.members.items body }
 
 -- ---- operations and attributes
 
@@ -192,7 +201,7 @@ interface_holds es scope id bases exports h =
     let both = both_hold es scope named (Enters id ∷ (inner ++ Leaves ∷ [])) (each_step_closed (HasBase id) (λ name fs k. refl) (optional_parts bases)) steps in
     let all = each_closed export_steps export_closed exports.items in
     let (n, is, body) = inside_holds es scope id inner (defining_closed id all) both.1 in
-    (each_step_holds es scope (HasBase id) (λ name fs k. refl) (optional_parts bases) both.0, (n, is, each_holds es (suc n) export_steps export_closed exports.items body.1))
+    (each_step_holds es scope (HasBase id) (λ name fs k. refl) (optional_parts bases) both.0, record { entry = n; is = is; inner = each_holds es (suc n) export_steps export_closed exports.items body.1 })
 
 definition_closed : (d : Definition) → Closed (definition_steps d)
 definition_closed d = closed (definition_asks {ls = []} d)
@@ -205,4 +214,4 @@ pub module_holds : (es : List Entry) (scope : ℕ) (m : ModuleRecord) → AllHol
 module_holds es scope m h =
     let steps = subst (AllHold es scope) (module_listed m) h in
     let (n, is, body) = inside_holds es scope m.identifier (steps_of m.definitions.items) (each_closed definition_steps definition_closed m.definitions.items) steps.1 in
-    (n, is, definitions_hold es (suc n) m.definitions.items body)
+    record { entry = n; is = is; inner = definitions_hold es (suc n) m.definitions.items body }

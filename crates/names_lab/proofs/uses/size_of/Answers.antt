@@ -1,5 +1,5 @@
 use Rattle.scoped_names.specs.Tests.{size_read}
-use Rattle.names_lab.proofs.Answers.{only_memory}
+use Rattle.names_lab.proofs.OnlyMemory.{only_memory}
 use Rattle.names_lab.proofs.uses.size_of.Goals as goal
 
 pub returns : goal.returns

@@ -1,4 +1,4 @@
--- What holds, said of the functions that look names up: there is no fault but want of memory.
+-- What holds, said of functions that look names up: they have no fault but want of memory.
 use Rattle.std.proofs.Common.{◌≡◌, inl, inr, ℕ, Bool, true, false, List, slice_get, Result, Ok, Err, refl}
 use Rattle.std.specs.Prelude.{if◌then◌else◌, IfErr}
 use Rattle.idl_tree.specs.declared.names.ScopedName.{ScopedName}
