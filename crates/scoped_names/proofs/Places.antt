@@ -14,7 +14,7 @@ use Rattle.idl_tree.specs.Yields.{bound_yield, expr_yield, identifier, name_yiel
 use Rattle.idl_tree.specs.TypeYields.{const_type_yield, string_bound_yield}
 use Rattle.idl_tree.specs.Starts.{name_start, root_or}
 use Rattle.idl_tree.proofs.SpelledForms.{AreNumbered-append, kept_number}
-use Rattle.names_lab.proofs.Staying.{BoundUpTo, NamesUpTo, OperandsUpTo, TypeUpTo}
+use Rattle.scoped_names.proofs.Staying.{BoundUpTo, NamesUpTo, OperandsUpTo, TypeUpTo}
 
 pub leaf_number : (l : Leaf) (k : ℕ) → AreNumbered k (identifier l) → l.number ≡ k
 leaf_number l k h = kept_number Ident l.token.now.text.now l k h

@@ -29,15 +29,15 @@ use Rattle.scoped_names.specs.Asked.{pieces_of}
 use Rattle.scoped_names.specs.Whole.{AreNames, Whole, whole}
 use Rattle.scoped_names.proofs.Introduced.{declared_once}
 use Rattle.scoped_names.proofs.Introducing.{all_map, declared_does, named_entry, passed_same, then_ok}
-use Rattle.names_lab.specs.Following.{AllFollow, FindsKnown}
-use Rattle.names_lab.specs.Holding.{AllHold, HasItsWorth, IsThere, asks}
-use Rattle.names_lab.proofs.Asks.{Asks, IsPlain, all_ask, none as unasked, silent, joined as both_asked, plain, base, valued, declared, featured, undefined, inside, defines}
-use Rattle.names_lab.proofs.FollowParts.{finds_more}
-use Rattle.names_lab.proofs.Going.{Goes, all_new, answered, base_goes, const_goes, const_worth, declared_goes, defined_goes, enum_goes, feature_goes, goes_same, member_goes, said_goes}
-use Rattle.names_lab.proofs.Later.{Later, later_from, later_none, later_on}
-use Rattle.names_lab.proofs.Places.{leaf_number, name_number, names_before, type_before}
-use Rattle.names_lab.proofs.Searches.{IsScope, stays}
-use Rattle.names_lab.proofs.Staying.{StepUpTo, TypeUpTo, asks_stays, finds_known, typed_stays}
+use Rattle.scoped_names.specs.Following.{AllFollow, FindsKnown}
+use Rattle.scoped_names.specs.Holding.{AllHold, HasItsWorth, IsThere, asks}
+use Rattle.scoped_names.proofs.Asks.{Asks, IsPlain, all_ask, none as unasked, silent, joined as both_asked, plain, base, valued, declared, featured, undefined, inside, defines}
+use Rattle.scoped_names.proofs.FollowParts.{finds_more}
+use Rattle.scoped_names.proofs.Going.{Goes, all_new, answered, base_goes, const_goes, const_worth, declared_goes, defined_goes, enum_goes, feature_goes, goes_same, member_goes, said_goes}
+use Rattle.scoped_names.proofs.Later.{Later, later_from, later_none, later_on}
+use Rattle.scoped_names.proofs.Places.{leaf_number, name_number, names_before, type_before}
+use Rattle.scoped_names.proofs.Searches.{IsScope, stays}
+use Rattle.scoped_names.proofs.Staying.{StepUpTo, TypeUpTo, asks_stays, finds_known, typed_stays}
 
 -- the scope has an entry of the name
 abbrev HasLeaf : State → Leaf → Type 0

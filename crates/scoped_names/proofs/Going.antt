@@ -38,9 +38,9 @@ use Rattle.scoped_names.specs.Steps.{Step, Declares, DeclaresConst, DeclaresFeat
 use Rattle.scoped_names.specs.Tests.{at, found_at, is_of, kind_in, resolved, value_of_type}
 use Rattle.scoped_names.specs.TypeKinds.{const_type_kind}
 use Rattle.scoped_names.proofs.Introducing.{Does, appears, base_does, declared_does, defined_does, member_does, named_entry, passed_same, then_ok}
-use Rattle.names_lab.specs.Holding.{asks}
-use Rattle.names_lab.proofs.Later.{Later, bare, bare_base, later_base, later_none, later_push}
-use Rattle.names_lab.proofs.Searches.{IsScope}
+use Rattle.scoped_names.specs.Holding.{asks}
+use Rattle.scoped_names.proofs.Later.{Later, bare, bare_base, later_base, later_none, later_push}
+use Rattle.scoped_names.proofs.Searches.{IsScope}
 
 -- ---- scopes of entries
 

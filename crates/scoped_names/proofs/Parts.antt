@@ -9,8 +9,8 @@ use Rattle.name_table.specs.Search.{word}
 use Rattle.scoped_names.specs.Introductions.{scope_behind}
 use Rattle.scoped_names.specs.Steps.{Step, Enters, Leaves}
 use Rattle.scoped_names.proofs.Introducing.{named_entry}
-use Rattle.names_lab.specs.Holding.{AllHold, Holds}
-use Rattle.names_lab.proofs.Asks.{Asks, IsPlain, none, silent, joined, plain, base, valued, declared, featured, undefined, inside, defines}
+use Rattle.scoped_names.specs.Holding.{AllHold, Holds}
+use Rattle.scoped_names.proofs.Asks.{Asks, IsPlain, none, silent, joined, plain, base, valued, declared, featured, undefined, inside, defines}
 
 -- the scope behind steps
 abbrev pub scope_past : List Entry → ℕ → List Step → ℕ

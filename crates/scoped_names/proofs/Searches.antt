@@ -11,7 +11,7 @@ use Rattle.name_table.specs.declared.search.Sight.TheVariants.{Unseen, OtherCase
 use Rattle.name_table.specs.Entry.{AreNested, Entry, around, bases_of, is_named, named, scope_in}
 use Rattle.name_table.specs.Search.{base_at, before, both, declared_before, from_base, inherited, inside, is_spelled, or_else, outwards, own, sees, sight, sought_in, within, within_first, word}
 use Rattle.name_table.proofs.Stability.{agree, position_low}
-use Rattle.names_lab.proofs.Later.{Later, bare}
+use Rattle.scoped_names.proofs.Later.{Later, bare}
 
 -- ---- what is found is an entry
 

@@ -23,10 +23,10 @@ use Rattle.scoped_names.specs.Reading.{Test, ◌>>◌}
 use Rattle.scoped_names.specs.Steps.{Step, DeclaresConst, HasBase, NamesType, NamesException, HasWorth, IsSize}
 use Rattle.scoped_names.specs.Tests.{at, at_entry, constant_test, found_at, found_of, is_exception, is_of, is_type, kind_in, names_test, operands_test, or_bad, resolved, size_read, value_of_type, value_read}
 use Rattle.scoped_names.specs.TypeKinds.{const_type_kind, known}
-use Rattle.names_lab.specs.Following.{FindsKnown}
-use Rattle.names_lab.specs.Holding.{asks}
-use Rattle.names_lab.proofs.Later.{Later, later_from}
-use Rattle.names_lab.proofs.Searches.{IsScope, IsSeenIn, sees_in, sees_stays, stays}
+use Rattle.scoped_names.specs.Following.{FindsKnown}
+use Rattle.scoped_names.specs.Holding.{asks}
+use Rattle.scoped_names.proofs.Later.{Later, later_from}
+use Rattle.scoped_names.proofs.Searches.{IsScope, IsSeenIn, sees_in, sees_stays, stays}
 
 -- ---- where names stand
 

@@ -6,9 +6,9 @@ use Rattle.std.proofs.lemmas.List.{get_or-append-add}
 use Rattle.name_table.specs.Entry.{Entry}
 use Rattle.scoped_names.specs.Introductions.{StandsFor, introduced, introduced_by, scope_behind}
 use Rattle.scoped_names.specs.Steps.{Step, HasBase, NamesType, NamesException}
-use Rattle.names_lab.specs.Following.{AllFollow, FindsKnown}
-use Rattle.names_lab.specs.Holding.{AllHold}
-use Rattle.names_lab.proofs.Parts.{Closed, scope_past}
+use Rattle.scoped_names.specs.Following.{AllFollow, FindsKnown}
+use Rattle.scoped_names.specs.Holding.{AllHold}
+use Rattle.scoped_names.proofs.Parts.{Closed, scope_past}
 
 any_left : {X : Type 0} (P : X → Type 0) (xs ys : List X) → Any P xs → Any P (xs ++ ys)
 any_left P xs ys (k, x, lt, is, holds) =

@@ -1,5 +1,0 @@
-//! What names find while a specification is read they find at its end.
-#![tactic(auto)]
-
-pub mod laws;
-pub mod uses;
