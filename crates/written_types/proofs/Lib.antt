@@ -1,3 +1,0 @@
-pub mod Folds
-pub mod ArmPlaces
-pub mod Walks
