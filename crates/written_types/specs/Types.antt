@@ -52,6 +52,10 @@ with_declarator es scope number m d =
 abbrev pub with_declarators : List Entry → ℕ → Numbered → Members → Listed Declarator → Result WithMembers BuildFault
 with_declarators es scope t ms ds = each (with_declarator es scope t.number) (with_members_of t.written ms) (parts ds)
 
+-- members of one type more: first it is read, and then there are its declarators
+abbrev pub members_added : List Entry → ℕ → Members → Result Numbered BuildFault → Listed Declarator → Result WithMembers BuildFault
+members_added es scope ms type ds = type >> λ t. with_declarators es scope t ms ds
+
 -- a structure whose number is known has these members
 abbrev pub struct_defined : WithMembers → ℕ → ℕ → Result Written BuildFault
 struct_defined m number line =
@@ -117,8 +121,8 @@ abbrev mutual
   struct_type es w scope (StructType' id p t declarators shape rest) =
       entry_of es scope id >> λ e.
       opened w e (line_of id) >> λ o.
-      type_spec es o.written (e + 1) (declarator_line declarators.first) t >> λ n.
-      with_declarators es (e + 1) n no_members declarators >> λ first.
+      members_added es (e + 1) no_members
+          (type_spec es o.written (e + 1) (declarator_line declarators.first) t) declarators >> λ first.
       with_members es (e + 1) first rest >> λ m.
       struct_defined m o.number (line_of id) >> λ behind. Ok (already behind o.number)
 
@@ -135,8 +139,9 @@ abbrev mutual
   pub with_members : {n : _} → List Entry → ℕ → WithMembers → Row_of-Member n → Result WithMembers BuildFault
   with_members es scope m end_of-Member = Ok m
   with_members es scope m (more_of-Member t declarators rest) =
-      type_spec es m.written scope (declarator_line declarators.first) t >> λ n.
-      with_declarators es scope n m.members declarators >> λ next. with_members es scope next rest
+      members_added es scope m.members
+          (type_spec es m.written scope (declarator_line declarators.first) t) declarators >> λ next.
+      with_members es scope next rest
 
   pub with_cases : {n : _} → List Entry → ℕ → Switch → Cases → Row_of-Case n → Result Cases BuildFault
   with_cases es scope s c end_of-Case = Ok c
@@ -147,8 +152,8 @@ abbrev mutual
 -- members of one type more
 abbrev pub with_member : List Entry → ℕ → WithMembers → Member → Result WithMembers BuildFault
 with_member es scope m x =
-    type_spec es m.written scope (declarator_line x.declarators.first) x.member_type >> λ n.
-    with_declarators es scope n m.members x.declarators
+    members_added es scope m.members
+        (type_spec es m.written scope (declarator_line x.declarators.first) x.member_type) x.declarators
 
 abbrev pub with_case_of : List Entry → ℕ → Switch → Cases → Case → Result Cases BuildFault
 with_case_of es scope s c x =

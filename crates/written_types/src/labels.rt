@@ -243,7 +243,7 @@ fn whole_values(width: Width, is_signed: bool) -> Values
 
 /// The values of a discriminator of the type; an octet is none.
 fn values_of(node: Option<&Node>) -> Option<Values>
-    ensures { result ≡ values_of (option_copied node) }
+    ensures { result ≡ values_of (option_copied node.entry) }
 {
     match node {
         Some(Node::Whole { width, signed }) => Some(whole_values(*width, *signed)),

@@ -1,0 +1,94 @@
+-- What structures and unions write, by the lists of their members and cases, step by step.
+use Rattle.std.proofs.Common.{◌≡◌, ◌∙◌, ℕ, ◌+◌, List, Result, Ok, Err, refl, sym, ap}
+use Rattle.idl_tree.specs.declared.names.Leaf.{Leaf}
+use Rattle.idl_tree.specs.declared.types.Member.{Member}
+use Rattle.idl_tree.specs.declared.types.Case.{Case}
+use Rattle.idl_tree.specs.declared.types.SwitchType.{SwitchType}
+use Rattle.idl_tree.specs.declared.types.StructType.{StructType, out-StructType}
+use Rattle.idl_tree.specs.declared.types.UnionType.{UnionType, out-UnionType}
+use Rattle.idl_tree.proofs.Rows.{struct_walk, union_walk}
+use Rattle.name_table.specs.Entry.{Entry}
+use Rattle.scoped_names.specs.Reading.{◌>>◌}
+use Rattle.written_types.specs.declared.fault.BuildFault.{BuildFault}
+use Rattle.written_types.specs.declared.labels.Switch.{Switch}
+use Rattle.written_types.specs.Faults.{each, line_of}
+use Rattle.written_types.specs.Written.{Numbered, Written, already, opened}
+use Rattle.written_types.specs.SimpleTypes.{entry_of}
+use Rattle.written_types.specs.Labels.{Switched, no_arms, switch_read}
+use Rattle.written_types.specs.Types.{Cases, WithMembers, cases_of, no_members, struct_defined, struct_type, union_defined, union_type, with_case_of, with_cases, with_member, with_members, with_members_of}
+
+-- ---- one thing behind another
+
+pub goes_on : {A B : Type 0} (r : Result A BuildFault) (x : A) (next : A → Result B BuildFault) → r ≡ Ok x → (r >> next) ≡ next x
+goes_on r x next is = ap (λ r. r >> next) is
+
+pub stops : {A B : Type 0} (r : Result A BuildFault) (fault : BuildFault) (next : A → Result B BuildFault) → r ≡ Err fault → (r >> next) ≡ Err fault
+stops r fault next is = ap (λ r. r >> next) is
+
+-- ---- structures
+
+abbrev pub struct_close : Leaf → Numbered → WithMembers → Result Numbered BuildFault
+struct_close id o m = struct_defined m o.number (line_of id) >> λ behind. Ok (already behind o.number)
+
+abbrev pub struct_more : List Entry → Leaf → List Member → ℕ → Numbered → WithMembers → Result Numbered BuildFault
+struct_more es id rest e o m = each (with_member es (e + 1)) m rest >> struct_close id o
+
+abbrev pub struct_open : List Entry → Leaf → Member → List Member → ℕ → Numbered → Result Numbered BuildFault
+struct_open es id x rest e o = with_member es (e + 1) (with_members_of o.written no_members) x >> struct_more es id rest e o
+
+abbrev pub struct_in : List Entry → Written → Leaf → Member → List Member → ℕ → Result Numbered BuildFault
+struct_in es w id x rest e = opened w e (line_of id) >> struct_open es id x rest e
+
+abbrev pub struct_all : List Entry → Written → ℕ → Leaf → Member → List Member → Result Numbered BuildFault
+struct_all es w scope id x rest = entry_of es scope id >> struct_in es w id x rest
+
+-- what a walk over members gives
+abbrev MemberWalk : Type 0
+MemberWalk = List Entry → ℕ → WithMembers → Result WithMembers BuildFault
+
+abbrev TypeWalk : Type 0
+TypeWalk = List Entry → Written → ℕ → Result Numbered BuildFault
+
+pub struct_told : (es : List Entry) (w : Written) (scope : ℕ) (s : StructType) → struct_type es w scope s ≡
+    struct_all es w scope (out-StructType s).identifier (out-StructType s).first.value (out-StructType s).rest.items
+struct_told es w scope s =
+    ap (λ walk. walk es w scope) (struct_walk {A = TypeWalk} {B = MemberWalk} (λ t es w scope. struct_type es w scope t)
+    (λ n row es scope m. with_members es scope m row)
+    (λ id x rest es w scope. entry_of es scope id >> λ e. opened w e (line_of id) >> λ o.
+    with_member es (e + 1) (with_members_of o.written no_members) x >> λ m. rest es (e + 1) m >> struct_close id o)
+    (λ es scope m. Ok m) (λ x rest es scope m. with_member es scope m x >> λ next. rest es scope next) (λ xs es scope m. each (with_member es scope) m xs)
+    (λ id p m shape row. refl) refl (λ n x row. refl) refl (λ x xs. refl) s)
+
+-- ---- unions
+
+abbrev pub union_close : Leaf → Numbered → Switch → Cases → Result Numbered BuildFault
+union_close id o s c = union_defined s c o.number (line_of id) >> λ behind. Ok (already behind o.number)
+
+abbrev pub union_more : List Entry → Leaf → List Case → ℕ → Numbered → Switch → Cases → Result Numbered BuildFault
+union_more es id rest e o s c = each (with_case_of es (e + 1) s) c rest >> union_close id o s
+
+abbrev pub union_switched : List Entry → Leaf → Case → List Case → ℕ → Numbered → Switched → Result Numbered BuildFault
+union_switched es id x rest e o s = with_case_of es (e + 1) s.switch (cases_of s.written no_arms) x >> union_more es id rest e o s.switch
+
+abbrev pub union_open : List Entry → Leaf → SwitchType → Case → List Case → ℕ → Numbered → Result Numbered BuildFault
+union_open es id switch x rest e o = switch_read es o.written (e + 1) (line_of id) switch >> union_switched es id x rest e o
+
+abbrev pub union_in : List Entry → Written → Leaf → SwitchType → Case → List Case → ℕ → Result Numbered BuildFault
+union_in es w id switch x rest e = opened w e (line_of id) >> union_open es id switch x rest e
+
+abbrev pub union_all : List Entry → Written → ℕ → Leaf → SwitchType → Case → List Case → Result Numbered BuildFault
+union_all es w scope id switch x rest = entry_of es scope id >> union_in es w id switch x rest
+
+abbrev CaseWalk : Type 0
+CaseWalk = List Entry → ℕ → Switch → Cases → Result Cases BuildFault
+
+pub union_told : (es : List Entry) (w : Written) (scope : ℕ) (u : UnionType) → union_type es w scope u ≡
+    union_all es w scope (out-UnionType u).identifier (out-UnionType u).switch (out-UnionType u).first.value (out-UnionType u).rest.items
+union_told es w scope u =
+    ap (λ walk. walk es w scope) (union_walk {A = TypeWalk} {B = CaseWalk} (λ t es w scope. union_type es w scope t)
+    (λ n row es scope s c. with_cases es scope s c row)
+    (λ id switch x rest es w scope. entry_of es scope id >> λ e. opened w e (line_of id) >> λ o.
+    switch_read es o.written (e + 1) (line_of id) switch >> λ s.
+    with_case_of es (e + 1) s.switch (cases_of s.written no_arms) x >> λ c. rest es (e + 1) s.switch c >> union_close id o s.switch)
+    (λ es scope s c. Ok c) (λ x rest es scope s c. with_case_of es scope s c x >> λ next. rest es scope s next) (λ xs es scope s c. each (with_case_of es scope s) c xs)
+    (λ id switch p c shape row. refl) refl (λ n x row. refl) refl (λ x xs. refl) u)
