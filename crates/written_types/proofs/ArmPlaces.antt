@@ -5,12 +5,12 @@ use Rattle.written_types.specs.declared.arms.Arm.{Arm}
 use Rattle.written_types.specs.Labels.{with_arm}
 
 -- before the first whose label is greater, or behind all
-pub arm_comes : (arms : List Arm) (k : ℕ) (new : Arm) → ((j : ℕ) → j < k → int_lt new.label (get_or arms j new).label ≡ false)
-    → k ≤ length arms → (k < length arms → int_lt new.label (get_or arms k new).label ≡ true) → insert arms k new ≡ with_arm arms new
-arm_comes [] zero new before within there = refl
-arm_comes [] (suc k) new before within there = absurd (omega arith)
-arm_comes (arm ∷ arms) zero new before within there =
+pub arm_comes : (arms : List Arm) (k : ℕ) (new d : Arm) → ((j : ℕ) → j < k → int_lt new.label (get_or arms j d).label ≡ false)
+    → k ≤ length arms → (k < length arms → int_lt new.label (get_or arms k d).label ≡ true) → insert arms k new ≡ with_arm arms new
+arm_comes [] zero new d before within there = refl
+arm_comes [] (suc k) new d before within there = absurd (omega arith)
+arm_comes (arm ∷ arms) zero new d before within there =
     sym (ap (λ b. if b then new ∷ arm ∷ arms else arm ∷ with_arm arms new) (there (omega arith)))
-arm_comes (arm ∷ arms) (suc k) new before within there =
-    ap (λ xs. arm ∷ xs) (arm_comes arms k new (λ j lt. before (suc j) (omega arith)) (omega arith) (λ lt. there (omega arith)))
+arm_comes (arm ∷ arms) (suc k) new d before within there =
+    ap (λ xs. arm ∷ xs) (arm_comes arms k new d (λ j lt. before (suc j) (omega arith)) (omega arith) (λ lt. there (omega arith)))
     ∙ sym (ap (λ b. if b then new ∷ arm ∷ arms else arm ∷ with_arm arms new) (before 0 (omega arith)))

@@ -1,5 +1,7 @@
 -- What structures and unions write, by the lists of their members and cases, step by step.
-use Rattle.std.proofs.Common.{◌≡◌, ◌∙◌, ℕ, ◌+◌, List, Result, Ok, Err, refl, sym, ap}
+use Rattle.std.proofs.Common.{◌≡◌, ◌∙◌, ℕ, zero, suc, ◌+◌, ◌-◌, ◌<◌, ◌≤◌, List, [], ◌∷◌, drop, get_or, length, Result, Ok, Err, refl, sym, ap, arith}
+use Rattle.std.proofs.Math.Seq.{drop-cons}
+use Rattle.type_graph.specs.declared.node.Node.TheVariants.{Array}
 use Rattle.idl_tree.specs.declared.names.Leaf.{Leaf}
 use Rattle.idl_tree.specs.declared.types.Member.{Member}
 use Rattle.idl_tree.specs.declared.types.Case.{Case}
@@ -12,8 +14,8 @@ use Rattle.scoped_names.specs.Reading.{◌>>◌}
 use Rattle.written_types.specs.declared.fault.BuildFault.{BuildFault}
 use Rattle.written_types.specs.declared.labels.Switch.{Switch}
 use Rattle.written_types.specs.Faults.{each, line_of}
-use Rattle.written_types.specs.Written.{Numbered, Written, already, opened}
-use Rattle.written_types.specs.SimpleTypes.{entry_of}
+use Rattle.written_types.specs.Written.{Numbered, Written, added_at, already, opened}
+use Rattle.written_types.specs.SimpleTypes.{arrays, entry_of}
 use Rattle.written_types.specs.Labels.{Switched, no_arms, switch_read}
 use Rattle.written_types.specs.Types.{Cases, WithMembers, cases_of, no_members, struct_defined, struct_type, union_defined, union_type, with_case_of, with_cases, with_member, with_members, with_members_of}
 
@@ -24,6 +26,25 @@ goes_on r x next is = ap (λ r. r >> next) is
 
 pub stops : {A B : Type 0} (r : Result A BuildFault) (fault : BuildFault) (next : A → Result B BuildFault) → r ≡ Err fault → (r >> next) ≡ Err fault
 stops r fault next is = ap (λ r. r >> next) is
+
+-- ---- arrays
+
+arrays_stop : (element : Numbered) (line : ℕ) (xs : List ℕ) (k : ℕ) (fault : BuildFault) → arrays element line (drop k xs) ≡ Err fault → arrays element line xs ≡ Err fault
+arrays_stop element line xs zero fault is = is
+arrays_stop element line [] (suc k) fault is = is
+arrays_stop element line (x ∷ xs) (suc k) fault is =
+    ap (λ r. r >> λ inner. added_at inner.written (Array inner.number x) line) (arrays_stop element line xs k fault is)
+
+-- an array before those that are there
+pub arrays_off : (element : Numbered) (w : Written) (n line left : ℕ) (xs : List ℕ) (fault : BuildFault) → 0 < left → left ≤ length xs
+    → arrays element line (drop left xs) ≡ Ok (already w n) → added_at w (Array n (get_or xs (left - 1) 0)) line ≡ Err fault → arrays element line xs ≡ Err fault
+arrays_off element w n line left xs fault some within told is =
+    let next : suc (left - 1) ≡ left = omega arith in
+    let lt : left - 1 < length xs = omega arith in
+    let split : drop (left - 1) xs ≡ get_or xs (left - 1) 0 ∷ drop left xs =
+    drop-cons xs (left - 1) 0 lt ∙ ap (λ j. get_or xs (left - 1) 0 ∷ drop j xs) next in
+    arrays_stop element line xs (left - 1) fault
+    (ap (arrays element line) split ∙ ap (λ r. r >> λ inner. added_at inner.written (Array inner.number (get_or xs (left - 1) 0)) line) told ∙ is)
 
 -- ---- structures
 

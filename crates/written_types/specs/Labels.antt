@@ -1,5 +1,5 @@
 -- The discriminators of unions and their labels (ISO/IEC 19500-1, unions).
-use Rattle.std.specs.Prelude.{ℕ, ◌+◌, ◌-◌, ◌/◌, Bool, true, false, ◌&&◌, ◌||◌, if◌then◌else◌, nat_le, is_some, List, [], ◌∷◌, ◌++◌, length, Option, Some, None, Result, Ok, Err, slice_get, ℤ, pos, neg_ℤ, int_lt, int_le}
+use Rattle.std.specs.Prelude.{ℕ, ◌+◌, ◌-◌, ◌/◌, Bool, true, false, ◌&&◌, ◌||◌, if◌then◌else◌, is_some, List, [], ◌∷◌, ◌++◌, length, Option, Some, None, Result, Ok, Err, slice_get, ℤ, pos, neg_ℤ, int_lt, int_le}
 use Rattle.std.specs.List.{list_any}
 use Rattle.std.specs.Ordering.{int_eq}
 use Rattle.idl_tree.specs.declared.expression.Expr.{Expr}
@@ -27,7 +27,7 @@ use Rattle.written_types.specs.declared.fault.BuildFault.{BuildFault}
 use Rattle.written_types.specs.declared.fault.BuildFault.TheVariants.{Types}
 use Rattle.written_types.specs.declared.fault.TypeFault.TheVariants.{BadSwitch, LabelRange, LabelTwice}
 use Rattle.written_types.specs.declared.labels.Switch.{Switch}
-use Rattle.written_types.specs.Faults.{at_most, limit, line_of, max_members, of_names}
+use Rattle.written_types.specs.Faults.{at_most, line_of, max_members, of_names}
 use Rattle.written_types.specs.Written.{Written, Numbered, already}
 use Rattle.written_types.specs.SimpleTypes.{entry_found, entry_of, enum_type, integer_number, type_found}
 
@@ -141,12 +141,16 @@ pub record CaseLabels : Type 0 where
 abbrev pub no_labels : CaseLabels
 no_labels = record { values = []; default = None }
 
+-- an arm or a label before has the value
+abbrev pub is_taken : Arms → CaseLabels → ℤ → Bool
+is_taken a ls n = is_label a.arms n || list_any (λ m. int_eq m n) ls.values
+
 -- a value that no arm and no label before has
 abbrev pub value_added : Arms → CaseLabels → ℕ → ℤ → Result CaseLabels BuildFault
 value_added a ls line n =
-    (if is_label a.arms n || list_any (λ m. int_eq m n) ls.values then Err (Types (LabelTwice line))
-    else if nat_le max_members (length a.arms + length ls.values) then Err (limit MembersLimit line)
-    else Ok (record ls { values = ls.values ++ n ∷ [] }))
+    (if is_taken a ls n then Err (Types (LabelTwice line))
+    else at_most max_members MembersLimit line (length a.arms + length ls.values + 1) >> λ count.
+        Ok (record ls { values = ls.values ++ n ∷ [] }))
 
 -- one label more, behind those of the case and the arms of the cases before
 abbrev pub label_added : List Entry → ℕ → Switch → Arms → CaseLabels → Label → Result CaseLabels BuildFault

@@ -108,9 +108,8 @@ impl TypeTable {
                 self.write_enum(alloc, names, scope, e)?;
                 Ok(())
             }
-            TypeDcl::StructAhead(identifier) | TypeDcl::UnionAhead(identifier) => {
-                self.write_ahead(alloc, names, scope, *identifier)
-            }
+            TypeDcl::StructAhead(identifier) => self.write_ahead(alloc, names, scope, *identifier),
+            TypeDcl::UnionAhead(identifier) => self.write_ahead(alloc, names, scope, *identifier),
         }
     }
 

@@ -6,11 +6,11 @@ ghost use Rattle.std.specs.Ordering.{int_eq};
 ghost use Rattle.idl_tree.specs.Lists.{parts};
 ghost use Rattle.type_graph.specs.declared.node.Node.TheVariants.{Whole as WholeNode};
 ghost use Rattle.written_types.specs.Faults.{Tells, each};
-ghost use Rattle.written_types.specs.Labels.{is_value, label_added, label_number, label_value, label_within, no_labels, signed_values, switch_kind, switch_line, switch_of, switch_read, switch_type, switched, value_added, values_below, values_of};
+ghost use Rattle.written_types.specs.Labels.{is_taken, is_value, label_added, label_number, label_value, label_within, no_labels, signed_values, switch_kind, switch_line, switch_of, switch_read, switch_type, switched, value_added, values_below, values_of};
 ghost use Rattle.written_types.specs.Written.{already};
 
 use crate::arms::ArmList;
-use crate::fault::{BuildFault, TypeFault};
+use crate::fault::{BuildFault, TypeFault, at_most};
 use crate::members::MAX_MEMBERS;
 use crate::readings::{declared_entry, integer_number, read_value, resolved};
 use crate::table::TypeTable;
@@ -77,6 +77,13 @@ impl CaseLabels {
         self.values.iter().any(|other| *other == value)
     }
 
+    /// Whether an arm or a label before has the value.
+    fn is_taken(&self, arms: &ArmList, value: i128) -> bool
+        ensures { result ≡ is_taken arms.now self.now value }
+    {
+        arms.has(value) || self.has(value)
+    }
+
     /// A value more, which stands in the line.
     ///
     /// # Errors
@@ -84,13 +91,11 @@ impl CaseLabels {
     fn add_value(&mut self, arms: &ArmList, line: usize, value: i128) -> Result<(), BuildFault>
         ensures { Tells result (λ u. self.new) (value_added arms.now self.old line value) }
     {
-        if arms.has(value) || self.has(value) {
+        if self.is_taken(arms, value) {
             return Err(BuildFault::Types(TypeFault::LabelTwice { line }));
         }
-        let count = arms.len() as u128 + self.values.len() as u128;
-        if count >= u128::from(MAX_MEMBERS) {
-            return Err(BuildFault::limit(GraphLimit::Members, line));
-        }
+        let count = arms.len() as u128 + self.values.len() as u128 + 1;
+        at_most(MAX_MEMBERS, GraphLimit::Members, line, count)?;
         self.values.push(value)?;
         Ok(())
     }
