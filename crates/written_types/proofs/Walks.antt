@@ -14,9 +14,10 @@ use Rattle.scoped_names.specs.Reading.{◌>>◌}
 use Rattle.written_types.specs.declared.fault.BuildFault.{BuildFault}
 use Rattle.written_types.specs.declared.labels.Switch.{Switch}
 use Rattle.written_types.specs.Faults.{each, line_of}
+use Rattle.written_types.specs.Members.{Members}
 use Rattle.written_types.specs.Written.{Numbered, Written, added_at, already, opened}
 use Rattle.written_types.specs.SimpleTypes.{arrays, entry_of}
-use Rattle.written_types.specs.Labels.{Switched, no_arms, switch_read}
+use Rattle.written_types.specs.Labels.{Arms, Switched, no_arms, switch_read}
 use Rattle.written_types.specs.Types.{Cases, WithMembers, cases_of, no_members, struct_defined, struct_type, union_defined, union_type, with_case_of, with_cases, with_member, with_members, with_members_of}
 
 -- ---- one thing behind another
@@ -113,3 +114,97 @@ union_told es w scope u =
     with_case_of es (e + 1) s.switch (cases_of s.written no_arms) x >> λ c. rest es (e + 1) s.switch c >> union_close id o s.switch)
     (λ es scope s c. Ok c) (λ x rest es scope s c. with_case_of es scope s c x >> λ next. rest es scope s next) (λ xs es scope s c. each (with_case_of es scope s) c xs)
     (λ id switch p c shape row. refl) refl (λ n x row. refl) refl (λ x xs. refl) u)
+
+-- ---- how far a structure is read
+
+abbrev pub id_of : StructType → Leaf
+id_of s = (out-StructType s).identifier
+
+abbrev pub first_of : StructType → Member
+first_of s = (out-StructType s).first.value
+
+abbrev pub rest_of : StructType → List Member
+rest_of s = (out-StructType s).rest.items
+
+pub struct_entered : (es : List Entry) (w : Written) (scope : ℕ) (s : StructType) (e : ℕ) → Ok e ≡ entry_of es scope (id_of s)
+    → struct_type es w scope s ≡ struct_in es w (id_of s) (first_of s) (rest_of s) e
+struct_entered es w scope s e told =
+    struct_told es w scope s ∙ goes_on (entry_of es scope (id_of s)) e (struct_in es w (id_of s) (first_of s) (rest_of s)) (sym told)
+
+pub struct_opened : (es : List Entry) (w : Written) (scope : ℕ) (s : StructType) (e : ℕ) (o : Numbered) → Ok e ≡ entry_of es scope (id_of s)
+    → opened w e (line_of (id_of s)) ≡ Ok o → struct_type es w scope s ≡ struct_open es (id_of s) (first_of s) (rest_of s) e o
+struct_opened es w scope s e o told opens =
+    struct_entered es w scope s e told ∙ goes_on (opened w e (line_of (id_of s))) o (struct_open es (id_of s) (first_of s) (rest_of s) e) opens
+
+pub first_member : (es : List Entry) (scope : ℕ) (w : Written) (ms : Members) (x y : Member) → ms ≡ no_members → x ≡ y
+    → with_member es scope (with_members_of w no_members) y ≡ with_member es scope (with_members_of w ms) x
+first_member es scope w ms x y none same =
+    ap (λ m. with_member es scope (with_members_of w m) y) (sym none) ∙ ap (with_member es scope (with_members_of w ms)) (sym same)
+
+pub struct_begun : (es : List Entry) (w : Written) (scope : ℕ) (s : StructType) (e : ℕ) (o : Numbered) (m : WithMembers) → Ok e ≡ entry_of es scope (id_of s)
+    → opened w e (line_of (id_of s)) ≡ Ok o → with_member es (e + 1) (with_members_of o.written no_members) (first_of s) ≡ Ok m
+    → struct_type es w scope s ≡ struct_more es (id_of s) (rest_of s) e o m
+struct_begun es w scope s e o m told opens first =
+    struct_opened es w scope s e o told opens
+    ∙ goes_on (with_member es (e + 1) (with_members_of o.written no_members) (first_of s)) m (struct_more es (id_of s) (rest_of s) e o) first
+
+pub struct_walked : (es : List Entry) (w : Written) (scope : ℕ) (s : StructType) (e : ℕ) (o : Numbered) (m n : WithMembers) → Ok e ≡ entry_of es scope (id_of s)
+    → opened w e (line_of (id_of s)) ≡ Ok o → with_member es (e + 1) (with_members_of o.written no_members) (first_of s) ≡ Ok m
+    → each (with_member es (e + 1)) m (rest_of s) ≡ Ok n → struct_type es w scope s ≡ struct_close (id_of s) o n
+struct_walked es w scope s e o m n told opens first rest =
+    struct_begun es w scope s e o m told opens first
+    ∙ goes_on (each (with_member es (e + 1)) m (rest_of s)) n (struct_close (id_of s) o) rest
+
+-- ---- how far a union is read
+
+abbrev pub union_id : UnionType → Leaf
+union_id u = (out-UnionType u).identifier
+
+abbrev pub switch_of : UnionType → SwitchType
+switch_of u = (out-UnionType u).switch
+
+abbrev pub first_case : UnionType → Case
+first_case u = (out-UnionType u).first.value
+
+abbrev pub more_cases : UnionType → List Case
+more_cases u = (out-UnionType u).rest.items
+
+pub union_entered : (es : List Entry) (w : Written) (scope : ℕ) (u : UnionType) (e : ℕ) → Ok e ≡ entry_of es scope (union_id u)
+    → union_type es w scope u ≡ union_in es w (union_id u) (switch_of u) (first_case u) (more_cases u) e
+union_entered es w scope u e told =
+    union_told es w scope u ∙ goes_on (entry_of es scope (union_id u)) e (union_in es w (union_id u) (switch_of u) (first_case u) (more_cases u)) (sym told)
+
+pub union_opened : (es : List Entry) (w : Written) (scope : ℕ) (u : UnionType) (e : ℕ) (o : Numbered) → Ok e ≡ entry_of es scope (union_id u)
+    → opened w e (line_of (union_id u)) ≡ Ok o → union_type es w scope u ≡ union_open es (union_id u) (switch_of u) (first_case u) (more_cases u) e o
+union_opened es w scope u e o told opens =
+    union_entered es w scope u e told
+    ∙ goes_on (opened w e (line_of (union_id u))) o (union_open es (union_id u) (switch_of u) (first_case u) (more_cases u) e) opens
+
+pub union_chosen : (es : List Entry) (w : Written) (scope : ℕ) (u : UnionType) (e : ℕ) (o : Numbered) (s : Switched) → Ok e ≡ entry_of es scope (union_id u)
+    → opened w e (line_of (union_id u)) ≡ Ok o → switch_read es o.written (e + 1) (line_of (union_id u)) (switch_of u) ≡ Ok s
+    → union_type es w scope u ≡ union_switched es (union_id u) (first_case u) (more_cases u) e o s
+union_chosen es w scope u e o s told opens switches =
+    union_opened es w scope u e o told opens
+    ∙ goes_on (switch_read es o.written (e + 1) (line_of (union_id u)) (switch_of u)) s (union_switched es (union_id u) (first_case u) (more_cases u) e o) switches
+
+pub first_cases : (es : List Entry) (scope : ℕ) (s : Switch) (w : Written) (a : Arms) (x y : Case) → a ≡ no_arms → x ≡ y
+    → with_case_of es scope s (cases_of w no_arms) y ≡ with_case_of es scope s (cases_of w a) x
+first_cases es scope s w a x y none same =
+    ap (λ b. with_case_of es scope s (cases_of w b) y) (sym none) ∙ ap (with_case_of es scope s (cases_of w a)) (sym same)
+
+pub union_begun : (es : List Entry) (w : Written) (scope : ℕ) (u : UnionType) (e : ℕ) (o : Numbered) (s : Switched) (c : Cases) → Ok e ≡ entry_of es scope (union_id u)
+    → opened w e (line_of (union_id u)) ≡ Ok o → switch_read es o.written (e + 1) (line_of (union_id u)) (switch_of u) ≡ Ok s
+    → with_case_of es (e + 1) s.switch (cases_of s.written no_arms) (first_case u) ≡ Ok c
+    → union_type es w scope u ≡ union_more es (union_id u) (more_cases u) e o s.switch c
+union_begun es w scope u e o s c told opens switches first =
+    union_chosen es w scope u e o s told opens switches
+    ∙ goes_on (with_case_of es (e + 1) s.switch (cases_of s.written no_arms) (first_case u)) c (union_more es (union_id u) (more_cases u) e o s.switch) first
+
+pub union_walked : (es : List Entry) (w : Written) (scope : ℕ) (u : UnionType) (e : ℕ) (o : Numbered) (s : Switched) (c d : Cases) → Ok e ≡ entry_of es scope (union_id u)
+    → opened w e (line_of (union_id u)) ≡ Ok o → switch_read es o.written (e + 1) (line_of (union_id u)) (switch_of u) ≡ Ok s
+    → with_case_of es (e + 1) s.switch (cases_of s.written no_arms) (first_case u) ≡ Ok c
+    → each (with_case_of es (e + 1) s.switch) c (more_cases u) ≡ Ok d
+    → union_type es w scope u ≡ union_close (union_id u) o s.switch d
+union_walked es w scope u e o s c d told opens switches first rest =
+    union_begun es w scope u e o s c told opens switches first
+    ∙ goes_on (each (with_case_of es (e + 1) s.switch) c (more_cases u)) d (union_close (union_id u) o s.switch) rest
