@@ -70,6 +70,10 @@ abbrev pub held_at : List Lines → ℕ → List ℕ → List Lines
 held_at lines number held =
     (if nat_lt number 14 then lines else with_held lines (number - 14) held (slice_get lines (number - 14)))
 
+-- the lines of a node
+abbrev pub lines_of : Written → ℕ → Option Lines
+lines_of w number = (if nat_lt number 14 then None else slice_get w.lines (number - 14))
+
 -- another node at the number, which holds what stands in these lines
 abbrev pub node_set : Written → ℕ → Node → List ℕ → Result Written BuildFault
 node_set w number node held =

@@ -1,9 +1,9 @@
 //! The types that are written so far.
 
-ghost use Rattle.std.specs.Prelude.{◌≡◌, ◌≤◌, length, Ok};
+ghost use Rattle.std.specs.Prelude.{◌≡◌, ◌≤◌, length, option_copied, Ok};
 ghost use Rattle.written_types.specs.Faults.{Tells};
 ghost use Rattle.written_types.specs.SimpleTypes.{type_found};
-ghost use Rattle.written_types.specs.Written.{added, added_at, already, counted, held_at, named_type, node_set, one_line, opened as opened_of, place_of, placed, raised_at, type_of, undefined as undefined_node, unwritten};
+ghost use Rattle.written_types.specs.Written.{added, added_at, already, counted, held_at, lines_of, named_type, node_set, one_line, opened as opened_of, place_of, placed, raised_at, type_of, undefined as undefined_node, unwritten};
 
 use crate::fault::{BuildFault, at_most};
 use crate::lines::NodeLines;
@@ -270,7 +270,9 @@ impl TypeTable {
     }
 
     /// The lines of a node behind the basic types.
-    pub fn lines(&self, number: usize) -> Option<&NodeLines> {
+    pub fn lines(&self, number: usize) -> Option<&NodeLines>
+        ensures { option_copied result ≡ lines_of self.now number }
+    {
         let behind = number.checked_sub(basic_types::BASIC_NODES as usize)?;
         self.lines.get(behind)
     }
