@@ -1,5 +1,5 @@
 -- Where an arm comes among those whose labels rise.
-use Rattle.std.proofs.Common.{◌≡◌, ◌∙◌, ℕ, zero, suc, ◌<◌, ◌≤◌, true, false, List, [], ◌∷◌, get_or, length, sym, ap, refl, ℤ, int_lt, arith}
+use Rattle.std.proofs.Common.{◌≡◌, ◌∙◌, ℕ, zero, suc, ◌<◌, ◌≤◌, true, false, List, [], ◌∷◌, get_or, length, sym, ap, refl, int_lt, arith}
 use Rattle.std.specs.Prelude.{insert, if◌then◌else◌}
 use Rattle.written_types.specs.declared.arms.Arm.{Arm}
 use Rattle.written_types.specs.Labels.{with_arm}

@@ -1,5 +1,5 @@
 -- Labels that a union refuses, and where that is told.
-use Rattle.std.proofs.Common.{◌≡◌, ◌∙◌, ℕ, ◌+◌, length, true, false, List, [], ◌∷◌, ◌++◌, Option, Some, None, Result, Ok, Err, refl, sym, ap, ℤ}
+use Rattle.std.proofs.Common.{◌≡◌, ◌∙◌, ℕ, ◌+◌, length, true, false, List, [], ◌∷◌, ◌++◌, Option, Some, None, Result, Ok, Err, refl, ap, ℤ}
 use Rattle.std.specs.Prelude.{◌&&◌, if◌then◌else◌}
 use Rattle.idl_tree.specs.declared.names.Leaf.{Leaf}
 use Rattle.idl_tree.specs.declared.const_expr.ConstExpr.{ConstExpr}
@@ -40,7 +40,7 @@ other_type : (s : Switch) (line : ℕ) (c : Constant) (o : Option ℤ) → fits 
 other_type s line c None other = refl
 other_type s line c (Some n) other = ap (λ b. if b && is_value s.values n then Ok n else Err (Types (LabelRange line))) other
 
--- a label that is a constant of another type than the discriminator's, or that is none of its values
+-- a label that is no constant of the type of the discriminator, as a number beyond its range
 pub out_of_range : (es : List Entry) (scope : ℕ) (s : Switch) (a : Arms) (ls : CaseLabels) (e : ConstExpr) (c : Constant)
     → value_read es scope e.expr ≡ Ok c → fits s.kind c ≡ false → label_added es scope s a ls (Case e) ≡ Err (Types (LabelRange (line_of (expr_start e.expr))))
 out_of_range es scope s a ls e c worth other =

@@ -14,7 +14,7 @@ use Rattle.scoped_names.specs.Reading.{◌>>◌}
 use Rattle.written_types.specs.declared.fault.BuildFault.{BuildFault}
 use Rattle.written_types.specs.declared.place.Place.TheVariants.{Typed}
 use Rattle.written_types.specs.Faults.{each, line_of}
-use Rattle.written_types.specs.Written.{Written, Numbered, added, already, counted, opened, placed, raised_at}
+use Rattle.written_types.specs.Written.{Written, added, already, counted, opened, placed, raised_at}
 use Rattle.written_types.specs.SimpleTypes.{array_type, const_type, declarator_line, entry_of, enum_type}
 use Rattle.written_types.specs.Members.{Members}
 use Rattle.written_types.specs.Types.{WithMembers, struct_type, type_spec, union_type, with_member, with_members_of}

@@ -1,8 +1,7 @@
 -- What writing gives: what is written behind a part of a specification, or the first fault in it; and the limits.
-use Rattle.std.specs.Prelude.{◌≡◌, ◌⊎◌, ℕ, ◌^◌, nat_le, nat_lt, if◌then◌else◌, List, [], ◌∷◌, Option, Some, None, Result, Ok, Err, MatchResult}
+use Rattle.std.specs.Prelude.{◌≡◌, ◌⊎◌, ℕ, nat_lt, if◌then◌else◌, List, [], ◌∷◌, Option, Some, None, Result, Ok, Err, MatchResult}
 use Rattle.idl_tree.specs.declared.names.Leaf.{Leaf}
 use Rattle.type_graph.specs.declared.fault.GraphLimit.{GraphLimit}
-use Rattle.type_graph.specs.declared.fault.GraphLimit.TheVariants.{Nodes, Members, AllMembers, Enumerators, Bound, Size}
 use Rattle.scoped_names.specs.declared.fault.NameFault.{NameFault}
 use Rattle.scoped_names.specs.Reading.{◌>>◌}
 use Rattle.written_types.specs.declared.fault.BuildFault.{BuildFault}

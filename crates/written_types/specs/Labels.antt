@@ -150,7 +150,7 @@ abbrev pub value_added : Arms → CaseLabels → ℕ → ℤ → Result CaseLabe
 value_added a ls line n =
     (if is_taken a ls n then Err (Types (LabelTwice line))
     else at_most max_members MembersLimit line (length a.arms + length ls.values + 1) >> λ count.
-        Ok (record ls { values = ls.values ++ n ∷ [] }))
+    Ok (record ls { values = ls.values ++ n ∷ [] }))
 
 -- one label more, behind those of the case and the arms of the cases before
 abbrev pub label_added : List Entry → ℕ → Switch → Arms → CaseLabels → Label → Result CaseLabels BuildFault

@@ -1,7 +1,7 @@
 -- The types that declare nothing, arrays and enumerations (ISO/IEC 19500-1, type declaration): each clause says which
 -- number a type has and what is written behind it, where `w` is what is written before it. A bound or a size is worth
 -- what its expression is worth in the scope, and a name stands for what it finds there.
-use Rattle.std.specs.Prelude.{ℕ, List, [], ◌∷◌, length, Option, Some, None, Result, Ok, Err}
+use Rattle.std.specs.Prelude.{ℕ, List, [], ◌∷◌, length, Option, Some, None, Result, Ok}
 use Rattle.idl_tree.specs.declared.names.Leaf.{Leaf}
 use Rattle.idl_tree.specs.declared.names.ScopedName.{ScopedName}
 use Rattle.idl_tree.specs.declared.types.IntegerSize.TheVariants.{Short, Long, LongLong}

@@ -1,5 +1,5 @@
 -- Structures, unions and their members (ISO/IEC 19500-1, type declaration).
-use Rattle.std.specs.Prelude.{ℕ, ◌+◌, ◌&&◌, nat_le, if◌then◌else◌, map, List, [], ◌∷◌, ◌++◌, length, Option, Some, None, Result, Ok, Err, ℤ}
+use Rattle.std.specs.Prelude.{ℕ, ◌+◌, nat_le, if◌then◌else◌, map, List, [], ◌∷◌, ◌++◌, length, Option, Some, None, Result, Ok, Err, ℤ}
 use Rattle.idl_tree.specs.declared.names.Listed.{Listed}
 use Rattle.idl_tree.specs.declared.types.Declarator.{Declarator}
 use Rattle.idl_tree.specs.declared.types.Label.{Label}
@@ -23,7 +23,7 @@ use Rattle.written_types.specs.Faults.{at_most, each, line_of, max_members}
 use Rattle.written_types.specs.Members.{Members}
 use Rattle.written_types.specs.Written.{Written, Numbered, already, counted, node_set, opened}
 use Rattle.written_types.specs.SimpleTypes.{array_type, declarator_line, entry_of, enum_type, simple_type}
-use Rattle.written_types.specs.Labels.{Arms, CaseLabels, label_added, no_arms, no_labels, switch_read, with_case}
+use Rattle.written_types.specs.Labels.{Arms, label_added, no_arms, no_labels, switch_read, with_case}
 
 -- ---- members
 
@@ -105,7 +105,7 @@ union_defined s c number line =
     default_test s (length c.arms.arms) c.arms.default >> λ u.
     counted c.written (length c.arms.arms) line >> λ w.
     node_set w number (Union s.number (map numbered_arm c.arms.arms) (default_number c.arms.default))
-        (map arm_line c.arms.arms ++ default_lines c.arms.default)
+    (map arm_line c.arms.arms ++ default_lines c.arms.default)
 
 -- ---- types
 
@@ -122,7 +122,7 @@ abbrev mutual
       entry_of es scope id >> λ e.
       opened w e (line_of id) >> λ o.
       members_added es (e + 1) no_members
-          (type_spec es o.written (e + 1) (declarator_line declarators.first) t) declarators >> λ first.
+      (type_spec es o.written (e + 1) (declarator_line declarators.first) t) declarators >> λ first.
       with_members es (e + 1) first rest >> λ m.
       struct_defined m o.number (line_of id) >> λ behind. Ok (already behind o.number)
 
@@ -132,7 +132,7 @@ abbrev mutual
       opened w e (line_of id) >> λ o.
       switch_read es o.written (e + 1) (line_of id) switch >> λ s.
       case_added es (e + 1) s.switch (cases_of s.written no_arms) labels
-          (λ v. type_spec es v (e + 1) (declarator_line declarator) t) declarator >> λ first.
+      (λ v. type_spec es v (e + 1) (declarator_line declarator) t) declarator >> λ first.
       with_cases es (e + 1) s.switch first rest >> λ c.
       union_defined s.switch c o.number (line_of id) >> λ behind. Ok (already behind o.number)
 
@@ -140,7 +140,7 @@ abbrev mutual
   with_members es scope m end_of-Member = Ok m
   with_members es scope m (more_of-Member t declarators rest) =
       members_added es scope m.members
-          (type_spec es m.written scope (declarator_line declarators.first) t) declarators >> λ next.
+      (type_spec es m.written scope (declarator_line declarators.first) t) declarators >> λ next.
       with_members es scope next rest
 
   pub with_cases : {n : _} → List Entry → ℕ → Switch → Cases → Row_of-Case n → Result Cases BuildFault
@@ -153,7 +153,7 @@ abbrev mutual
 abbrev pub with_member : List Entry → ℕ → WithMembers → Member → Result WithMembers BuildFault
 with_member es scope m x =
     members_added es scope m.members
-        (type_spec es m.written scope (declarator_line x.declarators.first) x.member_type) x.declarators
+    (type_spec es m.written scope (declarator_line x.declarators.first) x.member_type) x.declarators
 
 abbrev pub with_case_of : List Entry → ℕ → Switch → Cases → Case → Result Cases BuildFault
 with_case_of es scope s c x =

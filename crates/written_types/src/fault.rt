@@ -60,12 +60,7 @@ impl BuildFault {
 ///
 /// # Errors
 /// The limit.
-pub(crate) fn at_most(
-    most: u32,
-    which: GraphLimit,
-    line: usize,
-    n: u128,
-) -> Result<u32, BuildFault>
+pub(crate) fn at_most(most: u32, which: GraphLimit, line: usize, n: u128) -> Result<u32, BuildFault>
     ensures { result ≡ at_most most which line n }
 {
     if n > u128::from(most) {

@@ -243,7 +243,11 @@ fn whole_values(width: Width, is_signed: bool) -> Values
     ensures { Some result ≡ values_of (Some (WholeNode width is_signed)) }
 {
     let count = width.patterns();
-    if is_signed { signed_values(count) } else { values_below(count) }
+    if is_signed {
+        signed_values(count)
+    } else {
+        values_below(count)
+    }
 }
 
 /// The values of a discriminator of the type; an octet is none.

@@ -1,4 +1,4 @@
-use Rattle.std.proofs.Common.{◌≡◌, arith, pos}
+use Rattle.std.proofs.Common.{arith, pos}
 use Rattle.std.proofs.lemmas.Int.{to_z-of_z}
 use Rattle.written_types.proofs.ArmPlaces.{arm_comes}
 use Rattle.written_types.proofs.arms.place_of.Goals as goal
