@@ -4,7 +4,7 @@ use Rattle.std.specs.Prelude.{Box}
 use Rattle.std.specs.Option.{option_map}
 use Rattle.std.proofs.lemmas.Bool.{lt-ltb, le-ltb, eq-eqb}
 use Rattle.std.proofs.lemmas.Option.{slice_get-map}
-use Rattle.indexmap.specs.IndexMap.{get_by}
+use Rattle.std.specs.Map.{lookup}
 use Rattle.scoped_names.specs.declared.entry.Base.{Base}
 use Rattle.scoped_names.specs.declared.record.Given.{Given}
 use Rattle.scoped_names.specs.declared.record.Heir.{Heir}
@@ -56,17 +56,17 @@ module _ (records : List Record) (es : List Entry) (is : entries_in records ≡ 
   without_bases there = sym (sought None there)
 
   module _ (h : Heir) (there : heir_of records scope ≡ Some h) where
-    pub from_given : (g : Given) → get_by (is_word name) h.others ≡ Some g → given_before token g ≡ inherited es token scope name
+    pub from_given : (g : Given) → lookup (is_word name) h.others.entries ≡ Some g → given_before token g ≡ inherited es token scope name
     from_given g given = sym (sought (Some h) there ∙ ap (by_given es token name h.first) given)
 
-    not_given : get_by (is_word name) h.others ≡ None → inherited es token scope name ≡ by_first es token name h.first
+    not_given : lookup (is_word name) h.others.entries ≡ None → inherited es token scope name ≡ by_first es token name h.first
     not_given none = sought (Some h) there ∙ ap (by_given es token name h.first) none
 
-    pub from_late_base : get_by (is_word name) h.others ≡ None → token ≤ h.first.token → Nothing ≡ inherited es token scope name
+    pub from_late_base : lookup (is_word name) h.others.entries ≡ None → token ≤ h.first.token → Nothing ≡ inherited es token scope name
     from_late_base none later =
         sym (not_given none ∙ ap (λ t. cond t (within es h.first.token (suc h.first.entry) name) Nothing) (le-ltb h.first.token token later))
 
-    pub from_first_base : get_by (is_word name) h.others ≡ None → h.first.token < token
+    pub from_first_base : lookup (is_word name) h.others.entries ≡ None → h.first.token < token
         → or_else (own es h.first.token (suc h.first.entry) name) (inherited es h.first.token (suc h.first.entry) name) ≡ inherited es token scope name
     from_first_base none earlier =
         sym (not_given none ∙ ap (λ t. cond t (within es h.first.token (suc h.first.entry) name) Nothing) (lt-ltb h.first.token token earlier))

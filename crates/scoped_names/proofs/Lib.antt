@@ -23,3 +23,5 @@ pub mod Introduced
 pub mod Features
 pub mod WorkedIds
 pub mod WorkedFaults
+pub mod Orders
+pub mod Numbers

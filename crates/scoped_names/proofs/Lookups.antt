@@ -59,10 +59,13 @@ module _ (eq : Key → Key → Bool) (same : (a b : Record) → eq a.key b.key �
 
 -- what is kept, and what a contract sees of it
 module _ (keys : List Key) (records : List Record) (es : List Entry) (is : entries_in records ≡ es) (keyed : keys ≡ map key_of records) where
+  pub position_is : (test : Key → Bool) (scope : ℕ) (name : List ℕ) → ((r : Record) → test r.key ≡ is_named scope name (entry_of r)) → position test keys ≡ named es scope name
+  position_is test scope name same =
+      ap (position test) keyed ∙ named_keys test records scope name same ∙ ap (λ xs. named xs scope name) is
+
   pub named_is : (test : Key → Bool) (k : Option ℕ) → position test keys ≡ k → (scope : ℕ) (name : List ℕ) → ((r : Record) → test r.key ≡ is_named scope name (entry_of r))
       → named es scope name ≡ k
-  named_is test k at scope name same =
-      sym (ap (λ xs. named xs scope name) is) ∙ sym (ap (position test) keyed ∙ named_keys test records scope name same) ∙ at
+  named_is test k at scope name same = sym (position_is test scope name same) ∙ at
 
   pub own_none : (test : Key → Bool) → position test keys ≡ None → (scope : ℕ) (name : List ℕ) → ((r : Record) → test r.key ≡ is_named scope name (entry_of r)) → (n : ℕ)
       → Nothing ≡ own es n scope name

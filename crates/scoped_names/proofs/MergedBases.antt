@@ -9,7 +9,10 @@ use Rattle.std.proofs.Math.Dec.{leb}
 use Rattle.std.proofs.Math.Seq.{drop-cons}
 use Rattle.std.proofs.lemmas.Bool.{le-ltb, leb-false, leb-true, lt-ltb, ltb-true}
 use Rattle.std.proofs.lemmas.Slice.Eq.{bytes_eq-Decides}
-use Rattle.indexmap.specs.IndexMap.{get_by, insert_entry}
+use Rattle.std.specs.BTreeMap.{insert_entry}
+use Rattle.std.specs.declared.cmp.Ordering.{Ordering}
+use Rattle.std.specs.declared.cmp.Ordering.TheVariants.{Less, Equal, Greater}
+use Rattle.std.specs.Ordering.{match_ordering}
 use Rattle.scoped_names.specs.declared.entry.Base.{Base}
 use Rattle.scoped_names.specs.declared.key.Word.{Word}
 use Rattle.scoped_names.specs.declared.record.Given.{Given}
@@ -17,12 +20,13 @@ use Rattle.scoped_names.specs.declared.record.Heir.{Heir}
 use Rattle.scoped_names.specs.declared.record.Record.{Record}
 use Rattle.scoped_names.specs.declared.search.Found.{Found}
 use Rattle.scoped_names.specs.declared.search.Found.TheVariants.{Nothing, One, Several}
-use Rattle.scoped_names.specs.Keys.{folded}
+use Rattle.scoped_names.specs.Keys.{folded, word_cmp}
 use Rattle.scoped_names.specs.Entry.{Entry, bases_of, is_named, named}
 use Rattle.scoped_names.specs.Search.{base_at, both, declared_before, from_base, inherited, or_else, own, within}
 use Rattle.scoped_names.specs.Records.{AreListed, HasWord, entries_in, words_at, by_given, by_heir, given_before, is_before, is_word}
 use Rattle.scoped_names.specs.SeveralBases.{HasNoneFrom, IsDone, IsKept, IsRight, Merges, SaysNothingNew, given_then, with_more}
 use Rattle.scoped_names.proofs.Lookups.{position_same}
+use Rattle.scoped_names.proofs.Orders.{equal_words, same_folded}
 use Rattle.scoped_names.proofs.Tied.{HasWord_last, HasWord_push}
 use Rattle.scoped_names.proofs.Stability.{constant, nothing_earlier}
 
@@ -75,7 +79,7 @@ first_of h None = h.first.token
 first_of h (Some g) = g.token
 
 -- what they give alone they give from there on
-pub begins : (es : List Entry) (scope : ℕ) (h : Heir) (w : List ℕ) (m : ℕ) (x : Found) (o : Option Given) → IsKept es scope h → get_by (is_word w) h.others ≡ o → x ≡ inherited es m scope w → (x ≡ Several → ⊥)
+pub begins : (es : List Entry) (scope : ℕ) (h : Heir) (w : List ℕ) (m : ℕ) (x : Found) (o : Option Given) → IsKept es scope h → lookup (is_word w) h.others.entries ≡ o → x ≡ inherited es m scope w → (x ≡ Several → ⊥)
     → (t : ℕ) → t ≤ m → cond (nat_lt (first_of h o) t) x Nothing ≡ inherited es t scope w
 begins es scope h w m Several o kept is there one t le = absurd (one refl)
 begins es scope h w m Nothing o kept is there one t le = by (nat_lt (first_of h o) t) ∙ sym (nothing_earlier es scope w t m le (sym there))
@@ -123,7 +127,7 @@ begins es scope h w m (One e) (Some g) kept is there one t le =
         ∙ sym (at t)
 
 -- so does what is kept of them with the new base
-pub given_is : (es : List Entry) (scope : ℕ) (h : Heir) (base : Base) (w : List ℕ) (x y : Found) (o : Option Given) (g : Given) → IsKept es scope h → get_by (is_word w) h.others ≡ o
+pub given_is : (es : List Entry) (scope : ℕ) (h : Heir) (base : Base) (w : List ℕ) (x y : Found) (o : Option Given) (g : Given) → IsKept es scope h → lookup (is_word w) h.others.entries ≡ o
     → x ≡ inherited es base.token scope w → y ≡ within es base.token (suc base.entry) w → (x ≡ Several → ⊥)
     → ((t : ℕ) → given_before t g ≡ given_then (first_of h o) base.token x y t) → (t : ℕ) → given_before t g ≡ with_more es scope base t w
 given_is es scope h base w x y o g kept is old new one given t = given t ∙ by (leb t base.token) refl
@@ -144,7 +148,7 @@ given_is es scope h base w x y o g kept is old new one given t = given t ∙ by 
         ∙ sym (ap (λ c. cond c (both (inherited es m scope w) (within es m (suc base.entry) w)) (inherited es t scope w)) (lt-ltb m t lt))
 
 -- a name that they give alone they give before the new base
-pub begins_before : (es : List Entry) (scope : ℕ) (h : Heir) (w : List ℕ) (m : ℕ) (o : Option Given) (e : ℕ) → IsKept es scope h → get_by (is_word w) h.others ≡ o → inherited es m scope w ≡ One e → first_of h o < m
+pub begins_before : (es : List Entry) (scope : ℕ) (h : Heir) (w : List ℕ) (m : ℕ) (o : Option Given) (e : ℕ) → IsKept es scope h → lookup (is_word w) h.others.entries ≡ o → inherited es m scope w ≡ One e → first_of h o < m
 begins_before es scope h w m None e kept is there =
     by (nat_lt h.first.token m) refl
   where
@@ -188,19 +192,16 @@ done_nothing es scope base old others k ks left is none done w = by (done w)
     by (inl right) = inl right
     by (inr kept) = inr (kept.0, next kept.1)
 
-abbrev pub word_eq : Word → Word → Bool
-word_eq a b = bytes_eq (folded a) (folded b)
+pub same_word : (a b : Word) → word_cmp a b ≡ Equal → (w : List ℕ) → is_word w a ≡ is_word w b
+same_word a b h w = ap (bytes_eq (lower w)) (same_folded a b h)
 
-pub same_word : (a b : Word) → word_eq a b ≡ true → (w : List ℕ) → is_word w a ≡ is_word w b
-same_word a b h w = ap (bytes_eq (lower w)) ((bytes_eq-Decides (folded a) (folded b)).0 h)
-
-both_word : (w : List ℕ) (a b : Word) → is_word w a ≡ true → is_word w b ≡ true → word_eq a b ≡ true
-both_word w a b h i = (bytes_eq-Decides (folded a) (folded b)).1 (sym (like_of w a h) ∙ like_of w b i)
+both_word : (w : List ℕ) (a b : Word) → is_word w a ≡ true → is_word w b ≡ true → word_cmp a b ≡ Equal
+both_word w a b h i = equal_words a b (sym (like_of w a h) ∙ like_of w b i)
 
 -- a look-up behind an insertion
-pub lookup_inserted : (others : List (Word × Given)) (k : Word) (g : Given) (w : List ℕ) → lookup (is_word w) (insert_entry word_eq others k g) ≡ cond (is_word w k) (Some g) (lookup (is_word w) others)
+pub lookup_inserted : (others : List (Word × Given)) (k : Word) (g : Given) (w : List ℕ) → lookup (is_word w) (insert_entry word_cmp others k g) ≡ cond (is_word w k) (Some g) (lookup (is_word w) others)
 lookup_inserted [] k g w = refl
-lookup_inserted (x ∷ xs) k g w = by (lookup_inserted xs k g w) (word_eq k x.0) refl
+lookup_inserted (x ∷ xs) k g w = by (lookup_inserted xs k g w) (word_cmp k x.0) refl
   where
     fold_in : (a b : Bool) → (a ≡ true → b ≡ true → ⊥) → cond a (Some x.1) (cond b (Some g) (lookup (is_word w) xs)) ≡ cond b (Some g) (cond a (Some x.1) (lookup (is_word w) xs))
     fold_in true true h = absurd (h refl refl)
@@ -211,17 +212,19 @@ lookup_inserted (x ∷ xs) k g w = by (lookup_inserted xs k g w) (word_eq k x.0)
     twice true = refl
     twice false = refl
 
-    by : lookup (is_word w) (insert_entry word_eq xs k g) ≡ cond (is_word w k) (Some g) (lookup (is_word w) xs) → (b : Bool) → word_eq k x.0 ≡ b → lookup (is_word w) (cond b ((x.0, g) ∷ xs) (x ∷ insert_entry word_eq xs k g)) ≡ cond (is_word w k) (Some g) (lookup (is_word w) (x ∷ xs))
-    by rest true same =
-        let is = same_word k x.0 same w in
-        ap (λ b. cond b (Some g) (lookup (is_word w) xs)) (sym is) ∙ twice (is_word w k)
-        ∙ ap (λ b. cond (is_word w k) (Some g) (cond b (Some x.1) (lookup (is_word w) xs))) is
-    by rest false other =
+    by : lookup (is_word w) (insert_entry word_cmp xs k g) ≡ cond (is_word w k) (Some g) (lookup (is_word w) xs) → (o : Ordering) → word_cmp k x.0 ≡ o
+        → lookup (is_word w) (match_ordering o ((k, g) ∷ x ∷ xs) ((x.0, g) ∷ xs) (x ∷ insert_entry word_cmp xs k g)) ≡ cond (is_word w k) (Some g) (lookup (is_word w) (x ∷ xs))
+    by rest Less is = refl
+    by rest Equal is =
+        let same = same_word k x.0 is w in
+        ap (λ b. cond b (Some g) (lookup (is_word w) xs)) (sym same) ∙ twice (is_word w k)
+        ∙ ap (λ b. cond (is_word w k) (Some g) (cond b (Some x.1) (lookup (is_word w) xs))) same
+    by rest Greater is =
         ap (cond (is_word w x.0) (Some x.1)) rest
-        ∙ fold_in (is_word w x.0) (is_word w k) (λ h i. let yes = both_word w k x.0 i h in cc)
+        ∙ fold_in (is_word w x.0) (is_word w k) (λ h i. let wrong : Greater ≡ Equal = sym is ∙ both_word w k x.0 i h in cc)
 
 pub done_given : (es : List Entry) (scope : ℕ) (base : Base) (old others more : List (Word × Given)) (k : Word) (ks left : List Word) (g : Given) → left ≡ k ∷ ks
-    → ((t : ℕ) → given_before t g ≡ with_more es scope base t k.text.now) → more ≡ insert_entry word_eq others k g
+    → ((t : ℕ) → given_before t g ≡ with_more es scope base t k.text.now) → more ≡ insert_entry word_cmp others k g
     → IsDone es scope base old others left → IsDone es scope base old more ks
 done_given es scope base old others more k ks left g is right inserted done w = by (is_word w k) refl
   where
@@ -277,7 +280,7 @@ done_all es scope base h more left none kept last first done t w = by (done w)
         → by_heir es t w (Some more) ≡ with_more es scope base t w
     by (inl (g, there, fits)) = ap (by_given es t w more.first) there ∙ fits t
     by (inr (same, inl new)) =
-        ap (by_given es t w more.first) same ∙ ap (λ b. by_given es t w b (get_by (is_word w) h.others)) first ∙ sym (kept t w) ∙ still new
+        ap (by_given es t w more.first) same ∙ ap (λ b. by_given es t w b (lookup (is_word w) h.others.entries)) first ∙ sym (kept t w) ∙ still new
     by (inr (same, inr has)) = absurd (none_left left w none has)
 
 -- ---- the words of a base
@@ -285,6 +288,11 @@ done_all es scope base h more left none kept last first done t w = by (done w)
 pub HasWord_behind : (ws vs : List Word) (w : List ℕ) → HasWord vs w → HasWord (ws ++ vs) w
 HasWord_behind [] vs w h = h
 HasWord_behind (x ∷ ws) vs w h = let (k, y, at, is) = HasWord_behind ws vs w h in (suc k, y, at, is)
+
+pub HasWord_front : (ws vs : List Word) (w : List ℕ) → HasWord ws w → HasWord (ws ++ vs) w
+HasWord_front [] vs w h = absurd (none_left [] w refl h)
+HasWord_front (x ∷ ws) vs w (zero, y, at, is) = (0, y, at, is)
+HasWord_front (x ∷ ws) vs w (suc k, y, at, is) = let (j, z, there, same) = HasWord_front ws vs w (k, y, at, is) in (suc j, z, there, same)
 
 -- a scope's own entry has a word that is listed
 pub own_or_listed : (records : List Record) (words : List (Vec Word Global)) → AreListed records words → (s n : ℕ) (w : List ℕ) → (own (entries_in records) n s w ≡ Nothing) ⊎ HasWord (words_at words s) w
@@ -311,7 +319,7 @@ own_listed es n s y ws vs w (inl is) kept (inl none) = inl (is ∙ ap (λ x. or_
 
 -- and behind the words of which something is kept, by the first base
 pub given_listed : (es : List Entry) (n s : ℕ) (h : Heir) (y : Found) (ws vs : List Word) (w : List ℕ) → IsKept es s h → (y ≡ inherited es n s w) ⊎ HasWord ws w → (HasWord ws w → HasWord vs w)
-    → (get_by (is_word w) h.others ≡ None) ⊎ HasWord vs w → (y ≡ cond (nat_lt h.first.token n) (within es h.first.token (suc h.first.entry) w) Nothing) ⊎ HasWord vs w
+    → (lookup (is_word w) h.others.entries ≡ None) ⊎ HasWord vs w → (y ≡ cond (nat_lt h.first.token n) (within es h.first.token (suc h.first.entry) w) Nothing) ⊎ HasWord vs w
 given_listed es n s h y ws vs w kept (inr has) more given = inr (more has)
 given_listed es n s h y ws vs w kept (inl is) more (inr has) = inr has
 given_listed es n s h y ws vs w kept (inl is) more (inl none) = inl (is ∙ kept n w ∙ ap (by_given es n w h.first) none)

@@ -1,12 +1,11 @@
 -- One more base of an interface.
 use Rattle.std.proofs.Common.{◌≡◌, ◌∙◌, ℕ, zero, suc, ◌<◌, ◌≤◌, ◌⊎◌, inl, inr, Bool, true, false, cond, nat_eq, List, [], ◌∷◌, ◌++◌, map, length, slice_get, position, Option, Some, None, Vec, Global, refl, sym, ap, subst, arith}
-use Rattle.std.specs.Prelude.{is_some, nat_lt, slice_set, Box}
+use Rattle.std.specs.Prelude.{nat_lt, slice_set, Box}
 use Rattle.std.specs.Option.{option_map}
 use Rattle.std.proofs.Math.Dec.{leb}
 use Rattle.std.proofs.lemmas.Bool.{eq-eqb, eqb-true, le-ltb, leb-false, leb-true, lt-ltb}
 use Rattle.std.proofs.lemmas.List.{length-set}
 use Rattle.std.proofs.lemmas.Option.{slice_get-map}
-use Rattle.indexmap.specs.IndexMap.{get_by}
 use Rattle.std.specs.Map.{lookup}
 use Rattle.scoped_names.specs.declared.entry.Base.{Base}
 use Rattle.scoped_names.specs.declared.key.Key.{Key}
@@ -23,7 +22,7 @@ use Rattle.scoped_names.specs.SeveralBases.{HasNoneFrom, IsKept, Merges, with_mo
 use Rattle.scoped_names.proofs.Inheriting.{bases_kept, first_base, heir_list}
 use Rattle.scoped_names.proofs.Lookups.{named_keys}
 use Rattle.scoped_names.specs.declared.shortcuts.Shortcut.{Shortcut}
-use Rattle.scoped_names.specs.Shortcuts.{AreShort}
+use Rattle.scoped_names.specs.Shortcuts.{AreShort, way_at}
 use Rattle.scoped_names.proofs.WaysKept.{ways_like}
 use Rattle.scoped_names.proofs.Stability.{agree, constant}
 
@@ -180,7 +179,7 @@ module _ (keys : List Key) (records : List Record) (words : List (Vec Word Globa
 
   -- what is kept of another base says what it did
   by_like : (t : ℕ) (w : List ℕ) (h : Heir) → h.first.token ≤ m → by_heir es t w (Some h) ≡ by_heir fs t w (Some h)
-  by_like t w h low = by (get_by (is_word w) h.others)
+  by_like t w h low = by (lookup (is_word w) h.others.entries)
     where
       by : (g : Option Given) → by_given es t w h.first g ≡ by_given fs t w h.first g
       by (Some g) = refl
@@ -275,11 +274,19 @@ module _ (keys : List Key) (records : List Record) (words : List (Vec Word Globa
     searched = searched_after;
   }
 
-  pub ways_more : (ways : List (ℕ × Shortcut)) → AreShort es latest ways → lookup (nat_eq (suc e)) ways ≡ None → AreShort fs m ways
-  ways_more ways kept free =
-      ways_like es fs latest m ways (omega arith) kept
-      (λ q way at t w. other t q w (λ is. let wrong : Some way ≡ None = sym at ∙ ap (λ x. lookup (nat_eq x) ways) is ∙ free in cc))
+  -- the interface's own way is dropped
+  pub ways_more : (ways more : List (Option Shortcut)) → AreShort es latest ways → ((q : ℕ) → way_at more q ≡ cond (nat_eq (suc e) q) None (way_at ways q)) → AreShort fs m more
+  ways_more ways more kept dropped =
+      ways_like es fs latest m more (omega arith) (λ q way at. kept q way (still q way (nat_eq (suc e) q) refl at))
+      (λ q way at t w. other t q w (λ is. let wrong : None ≡ Some way = sym gone ∙ ap (way_at more) (sym is) ∙ at in cc))
       (λ t q w h. early t q w (omega arith))
+    where
+      gone : way_at more (suc e) ≡ None
+      gone = dropped (suc e) ∙ ap (λ b. cond b None (way_at ways (suc e))) (eq-eqb (suc e) (suc e) refl)
+
+      still : (q : ℕ) (way : Shortcut) (b : Bool) → nat_eq (suc e) q ≡ b → way_at more q ≡ Some way → way_at ways q ≡ Some way
+      still q way true is at = let wrong : None ≡ Some way = sym (dropped q ∙ ap (λ b. cond b None (way_at ways q)) is) ∙ at in cc
+      still q way false is at = sym (dropped q ∙ ap (λ b. cond b None (way_at ways q)) is) ∙ at
 
   pub told_more : fs ≡ with_base es (suc e) base
   told_more =
@@ -288,10 +295,6 @@ module _ (keys : List Key) (records : List Record) (words : List (Vec Word Globa
       map_changed entry_of records e changed
       ∙ ap (λ bs. slice_set es e (record (entry_of r) { bases = bs })) (with_it ∙ ap (λ bs. bs ++ base ∷ []) (sym old))
       ∙ sym (ap (entry_with_base es e base) was)
-
-pub free : (o : Option Shortcut) (b : Bool) → b ≡ is_some o → b ≡ false → o ≡ None
-free None b is none = refl
-free (Some x) b is none = cc
 
 -- ---- what is kept before
 

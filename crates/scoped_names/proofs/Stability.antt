@@ -1,7 +1,7 @@
 -- What searches give where more is declared, and where more bases are named.
 use Rattle.std.proofs.Common.{◌≡◌, ◌∙◌, ℕ, zero, suc, ◌+◌, ◌<◌, ◌≤◌, ◌⊎◌, inl, inr, Bool, true, false, not, cond, nat_eq, List, [], ◌∷◌, ◌++◌, length, slice_get, position, Option, Some, None, refl, sym, ap, arith}
-use Rattle.std.specs.Prelude.{nat_lt}
-use Rattle.std.specs.List.{prefix_len}
+use Rattle.std.specs.Prelude.{◌||◌, is_some, nat_lt}
+use Rattle.std.specs.List.{list_any, prefix_len}
 use Rattle.std.specs.Option.{option_map}
 use Rattle.std.proofs.Math.Dec.{leb}
 use Rattle.std.proofs.lemmas.Bool.{lt-ltb, le-ltb, leb-true, leb-false, ltb-true, ltb-false}
@@ -113,6 +113,10 @@ place_is p (x ∷ xs) =
     by true a n = let h : 0 < suc n = omega arith in ap (λ t. cond t (Some 0) None) (lt-ltb 0 (suc n) h)
     by false a n = next a n (nat_lt a n) refl
 
+pub position_cons : {X : Type 0} (p : X → Bool) (x : X) (xs : List X) → position p (x ∷ xs) ≡ cond (p x) (Some 0) (option_map suc (position p xs))
+unfolding place
+position_cons p x xs = place_is p (x ∷ xs) ∙ ap (λ r. cond (p x) (Some 0) (option_map suc r)) (sym (place_is p xs))
+
 place_push : {X : Type 0} (p : X → Bool) (xs : List X) (y : X) → place p (xs ++ y ∷ []) ≡ or_place (place p xs) (cond (p y) (Some (length xs)) None)
 unfolding place
 place_push p [] y = refl
@@ -129,6 +133,19 @@ place_push p (x ∷ xs) y =
 pub position_push : {X : Type 0} (p : X → Bool) (xs : List X) (y : X) → position p (xs ++ y ∷ []) ≡ or_place (position p xs) (cond (p y) (Some (length xs)) None)
 position_push p xs y =
     place_is p (xs ++ y ∷ []) ∙ place_push p xs y ∙ sym (ap (λ r. or_place r (cond (p y) (Some (length xs)) None)) (place_is p xs))
+
+place_any : {X : Type 0} (p : X → Bool) (xs : List X) → is_some (place p xs) ≡ list_any p xs
+unfolding place
+place_any p [] = refl
+place_any p (x ∷ xs) = by (p x) (place p xs) (list_any p xs) (place_any p xs)
+  where
+    by : (b : Bool) (r : Option ℕ) (a : Bool) → is_some r ≡ a → is_some (cond b (Some 0) (option_map suc r)) ≡ (b || a)
+    by true r a h = refl
+    by false None a h = h
+    by false (Some k) a h = h
+
+pub position_any : {X : Type 0} (p : X → Bool) (xs : List X) → is_some (position p xs) ≡ list_any p xs
+position_any p xs = ap is_some (place_is p xs) ∙ place_any p xs
 
 place_low : {X : Type 0} (p : X → Bool) (xs : List X) (k : ℕ) → place p xs ≡ Some k → k < length xs
 unfolding place

@@ -6,7 +6,7 @@ use Rattle.std.specs.Char.{to_ascii_lowercase}
 use Rattle.std.proofs.lemmas.Slice.Eq.{bytes_eq-Decides}
 use Rattle.scoped_names.specs.Entries.{scope_number, with_entry}
 use Rattle.std.proofs.lemmas.Option.{slice_get_read, slice_get_within}
-use Rattle.indexmap.specs.IndexMap.{get_by}
+use Rattle.std.specs.Map.{lookup}
 use Rattle.idl_lexer.specs.Words.{same_but_for_case}
 use Rattle.scoped_names.specs.declared.key.Key.{Key}
 use Rattle.scoped_names.specs.declared.key.Word.{Word}
@@ -115,7 +115,7 @@ module _ (keys : List Key) (records : List Record) (words : List (Vec Word Globa
   by_heir_push : (t s : ℕ) (name : List ℕ) (h : Option Heir) → heir_of records s ≡ h
       → by_heir (entries_in records) t name h ≡ by_heir (entries_in records ++ entry_of r ∷ []) t name h
   by_heir_push t s name None is = refl
-  by_heir_push t s name (Some h) is = by (get_by (is_word name) h.others)
+  by_heir_push t s name (Some h) is = by (lookup (is_word name) h.others.entries)
     where
       by : (g : Option Given) → by_given (entries_in records) t name h.first g ≡ by_given (entries_in records ++ entry_of r ∷ []) t name h.first g
       by (Some g) = refl
@@ -147,7 +147,7 @@ module _ (keys : List Key) (records : List Record) (words : List (Vec Word Globa
     searched = searched_push;
   }
 
-  pub ways_push : (ways : List (ℕ × Shortcut)) → AreShort (entries_in records) latest ways → AreShort (entries_in (records ++ r ∷ [])) latest ways
+  pub ways_push : (ways : List (Option Shortcut)) → AreShort (entries_in records) latest ways → AreShort (entries_in (records ++ r ∷ [])) latest ways
   ways_push ways kept =
       subst (λ xs. AreShort xs latest ways) (sym (entries_push records r))
       (ways_like (entries_in records) (entries_in records ++ entry_of r ∷ []) latest latest ways (omega arith) kept
@@ -179,15 +179,6 @@ tied_none words h = record {
 -- the words of a scope, where the list of them is read
 pub words_of_item : (words : List (Vec Word Global)) (scope : ℕ) (v : Vec Word Global) → scope < length words → v ≡ get_or words scope v → words_at words scope ≡ v.items
 words_of_item words scope v lt read = ap words_in (slice_get_read words (length words) scope v refl lt read)
-
--- what an insertion says of the keys
-pub key_is_new : (b : Bool) (new old : List Key) (k : Key) → new ≡ cond b old (old ++ k ∷ []) → true ≡ not b → new ≡ old ++ k ∷ []
-key_is_new true new old k is h = cc
-key_is_new false new old k is h = is
-
-pub key_is_old : (b : Bool) (new old : List Key) (k : Key) → new ≡ cond b old (old ++ k ∷ []) → false ≡ not b → old ≡ new
-key_is_old true new old k is h = sym is
-key_is_old false new old k is h = cc
 
 -- ---- a declaration
 

@@ -1,9 +1,13 @@
 -- Ways over several bases at once stay what they are.
-use Rattle.std.proofs.Common.{◌≡◌, ◌∙◌, ℕ, zero, suc, ◌<◌, ◌≤◌, ◌⊎◌, inl, inr, Bool, true, false, ◌||◌, cond, nat_eq, List, [], ◌∷◌, ◌++◌, slice_get, Some, None, Result, Ok, Err, IfOk, OnOk, refl, sym, ap, subst, arith}
+use Rattle.std.proofs.Common.{◌≡◌, ◌∙◌, ℕ, zero, suc, ◌<◌, ◌≤◌, ◌⊎◌, inl, inr, Bool, true, false, ◌||◌, cond, nat_eq, List, [], ◌∷◌, ◌++◌, slice_get, Option, Some, None, Result, Ok, Err, IfOk, OnOk, refl, sym, ap, subst, arith}
+use Rattle.std.specs.BTreeMap.{is_at}
+use Rattle.std.specs.BTreeSet.{insert_key}
 use Rattle.std.specs.List.{list_any}
 use Rattle.std.specs.Map.{lookup}
+use Rattle.std.specs.declared.cmp.Ordering.{Ordering}
+use Rattle.std.specs.declared.cmp.Ordering.TheVariants.{Less, Equal, Greater}
+use Rattle.std.specs.Ordering.{match_ordering}
 use Rattle.std.proofs.lemmas.Bool.{eqb-true, eq-eqb, le-ltb, lt-ltb}
-use Rattle.indexmap.specs.IndexMap.{get_by}
 use Rattle.scoped_names.specs.declared.entry.Base.{Base}
 use Rattle.scoped_names.specs.declared.key.Word.{Word}
 use Rattle.scoped_names.specs.declared.record.Heir.{Heir}
@@ -12,13 +16,14 @@ use Rattle.scoped_names.specs.declared.search.Found.TheVariants.{Nothing, One, S
 use Rattle.scoped_names.specs.declared.shortcuts.Place.{Place}
 use Rattle.scoped_names.specs.declared.shortcuts.Shortcut.{Shortcut}
 use Rattle.scoped_names.specs.Entry.{Entry}
+use Rattle.scoped_names.specs.Keys.{word_cmp}
 use Rattle.scoped_names.specs.Records.{HasWord, by_given, is_word}
 use Rattle.scoped_names.specs.Search.{both, inherited, or_else, own, within}
 use Rattle.scoped_names.specs.SeveralBases.{IsKept, SaysNothingNew}
-use Rattle.scoped_names.specs.Shortcuts.{AreShort, IsShort, LeadsTo, Passes, given_at}
-use Rattle.indexmap.specs.IndexSet.{insert_key}
+use Rattle.scoped_names.specs.Shortcuts.{AreShort, IsShort, LeadsTo, Passes, given_at, way_at}
 use Rattle.scoped_names.proofs.Tied.{HasWord_last, HasWord_push}
-use Rattle.scoped_names.proofs.MergedBases.{first_or, none_left, same_word, word_eq}
+use Rattle.scoped_names.proofs.MergedBases.{first_or, none_left, same_word}
+use Rattle.scoped_names.proofs.Orders.{any_same}
 
 -- where no word of a list is the name, the list has no such word
 pub has_none : (words : List Word) (name : List ℕ) → list_any (is_word name) words ≡ false → HasWord words name → ⊥
@@ -59,16 +64,16 @@ or_met ws name (inl is) (inl there) same = inl (is ∙ same ∙ sym there)
 
 -- ---- what is kept
 
-pub ways_insert : (es : List Entry) (latest : ℕ) (old new : List (ℕ × Shortcut)) (s : ℕ) (k : Shortcut) → AreShort es latest old
-    → ((q : ℕ) → lookup (nat_eq q) new ≡ cond (nat_eq s q) (Some k) (lookup (nat_eq q) old)) → k.after ≤ latest → IsShort es s k → AreShort es latest new
+pub ways_insert : (es : List Entry) (latest : ℕ) (old new : List (Option Shortcut)) (s : ℕ) (k : Shortcut) → AreShort es latest old
+    → ((q : ℕ) → way_at new q ≡ cond (nat_eq s q) (Some k) (way_at old q)) → k.after ≤ latest → IsShort es s k → AreShort es latest new
 ways_insert es latest old new s k kept inserted low is q way there = by (nat_eq s q) refl
   where
     by : (b : Bool) → nat_eq s q ≡ b → (way.after ≤ latest) × IsShort es q way
     by true e =
-        let found : Some k ≡ Some way = sym (inserted q ∙ ap (λ b. cond b (Some k) (lookup (nat_eq q) old)) e) ∙ there in
+        let found : Some k ≡ Some way = sym (inserted q ∙ ap (λ b. cond b (Some k) (way_at old q)) e) ∙ there in
         let same : k ≡ way = cc in
         subst (λ x. (x.after ≤ latest) × IsShort es q x) same (subst (λ x. (k.after ≤ latest) × IsShort es x k) (eqb-true s q e) (low, is))
-    by false e = kept q way (sym (inserted q ∙ ap (λ b. cond b (Some k) (lookup (nat_eq q) old)) e) ∙ there)
+    by false e = kept q way (sym (inserted q ∙ ap (λ b. cond b (Some k) (way_at old q)) e) ∙ there)
 
 -- ---- one more base
 
@@ -81,12 +86,12 @@ both_same Several = refl
 pub nothing_new : (es : List Entry) (inner : ℕ) (heir : Heir) (base : Base) (words more : List Word) → IsKept es inner heir → heir.first.token < base.token
     → ((name : List ℕ) → (within es heir.first.token (suc heir.first.entry) name ≡ within es base.token (suc base.entry) name) ⊎ HasWord words name)
     → ((name : List ℕ) → HasWord words name → HasWord more name)
-    → ((name : List ℕ) → (get_by (is_word name) heir.others ≡ None) ⊎ HasWord more name)
+    → ((name : List ℕ) → (lookup (is_word name) heir.others.entries ≡ None) ⊎ HasWord more name)
     → (name : List ℕ) → SaysNothingNew es inner base name ⊎ HasWord more name
 nothing_new es inner heir base words more is_kept lt apart kept listed name = by (apart name) (listed name)
   where
     by : (within es heir.first.token (suc heir.first.entry) name ≡ within es base.token (suc base.entry) name) ⊎ HasWord words name
-        → (get_by (is_word name) heir.others ≡ None) ⊎ HasWord more name → SaysNothingNew es inner base name ⊎ HasWord more name
+        → (lookup (is_word name) heir.others.entries ≡ None) ⊎ HasWord more name → SaysNothingNew es inner base name ⊎ HasWord more name
     by (inr has) l = inr (kept name has)
     by (inl same) (inr has) = inr has
     by (inl same) (inl none) =
@@ -97,35 +102,45 @@ nothing_new es inner heir base words more is_kept lt apart kept listed name = by
 
 -- ---- sets of words
 
-any_has : (ks : List Word) (k : Word) (name : List ℕ) → list_any (word_eq k) ks ≡ true → is_word name k ≡ true → HasWord ks name
-any_has [] k name h is = cc
-any_has (x ∷ xs) k name h is = by (word_eq k x) refl h (λ more. any_has xs k name more is)
-  where
-    by : (b : Bool) → word_eq k x ≡ b → (b || list_any (word_eq k) xs) ≡ true → (list_any (word_eq k) xs ≡ true → HasWord xs name) → HasWord (x ∷ xs) name
-    by true same h rest = (0, x, refl, sym (same_word k x same name) ∙ is)
-    by false other h rest = let (j, y, at, there) = rest h in (suc j, y, at, there)
+behind : (x : Word) (xs : List Word) (name : List ℕ) → HasWord xs name → HasWord (x ∷ xs) name
+behind x xs name (j, y, at, is) = (suc j, y, at, is)
 
-pub has_kept : (ks new : List Word) (k : Word) (name : List ℕ) → new ≡ insert_key word_eq ks k → HasWord ks name → HasWord new name
-has_kept ks new k name is has = subst (λ xs. HasWord xs name) (sym is) (by (list_any (word_eq k) ks))
+pub has_kept : (ks : List Word) (k : Word) (name : List ℕ) → HasWord ks name → HasWord (insert_key word_cmp ks k) name
+has_kept [] k name has = absurd (none_left [] name refl has)
+has_kept (x ∷ xs) k name has = by (word_cmp k x) (first_or x xs name has) (has_kept xs k name)
   where
-    by : (b : Bool) → HasWord (cond b ks (ks ++ k ∷ [])) name
-    by true = has
-    by false = HasWord_push ks k name has
+    by : (o : Ordering) → (is_word name x ≡ true) ⊎ HasWord xs name → (HasWord xs name → HasWord (insert_key word_cmp xs k) name)
+        → HasWord (match_ordering o (k ∷ x ∷ xs) (x ∷ xs) (x ∷ insert_key word_cmp xs k)) name
+    by Less split rest = behind k (x ∷ xs) name has
+    by Equal split rest = has
+    by Greater (inl here) rest = (0, x, refl, here)
+    by Greater (inr there) rest = behind x (insert_key word_cmp xs k) name (rest there)
 
-pub has_new : (ks new : List Word) (k : Word) (name : List ℕ) → new ≡ insert_key word_eq ks k → is_word name k ≡ true → HasWord new name
-has_new ks new k name is here = subst (λ xs. HasWord xs name) (sym is) (by (list_any (word_eq k) ks) refl)
+pub has_new : (ks : List Word) (k : Word) (name : List ℕ) → is_word name k ≡ true → HasWord (insert_key word_cmp ks k) name
+has_new [] k name here = (0, k, refl, here)
+has_new (x ∷ xs) k name here = by (word_cmp k x) refl (has_new xs k name here)
   where
-    by : (b : Bool) → list_any (word_eq k) ks ≡ b → HasWord (cond b ks (ks ++ k ∷ [])) name
-    by true has = any_has ks k name has here
-    by false none = HasWord_last ks k name here
+    by : (o : Ordering) → word_cmp k x ≡ o → HasWord (insert_key word_cmp xs k) name → HasWord (match_ordering o (k ∷ x ∷ xs) (x ∷ xs) (x ∷ insert_key word_cmp xs k)) name
+    by Less is rest = (0, k, refl, here)
+    by Equal is rest = (0, x, refl, sym (same_word k x is name) ∙ here)
+    by Greater is rest = behind x (insert_key word_cmp xs k) name rest
 
 -- one word more is in the set
-pub has_next : (left rest ks new : List Word) (k : Word) (name : List ℕ) → left ≡ k ∷ rest → new ≡ insert_key word_eq ks k → HasWord ks name ⊎ HasWord left name → HasWord new name ⊎ HasWord rest name
-has_next left rest ks new k name split is (inl has) = inl (has_kept ks new k name is has)
+pub has_next : (left rest ks new : List Word) (k : Word) (name : List ℕ) → left ≡ k ∷ rest → new ≡ insert_key word_cmp ks k → HasWord ks name ⊎ HasWord left name → HasWord new name ⊎ HasWord rest name
+has_next left rest ks new k name split is (inl has) = inl (subst (λ xs. HasWord xs name) (sym is) (has_kept ks k name has))
 has_next left rest ks new k name split is (inr has) = by (first_or k rest name (subst (λ xs. HasWord xs name) split has))
   where
     by : (is_word name k ≡ true) ⊎ HasWord rest name → HasWord new name ⊎ HasWord rest name
-    by (inl here) = inl (has_new ks new k name is here)
+    by (inl here) = inl (subst (λ xs. HasWord xs name) (sym is) (has_new ks k name here))
+    by (inr there) = inr there
+
+-- one word more of a list is listed
+pub word_listed : (left rest ws vs : List Word) (k : Word) (name : List ℕ) → left ≡ k ∷ rest → vs ≡ ws ++ k ∷ [] → HasWord ws name ⊎ HasWord left name → HasWord vs name ⊎ HasWord rest name
+word_listed left rest ws vs k name split push (inl has) = inl (subst (λ xs. HasWord xs name) (sym push) (HasWord_push ws k name has))
+word_listed left rest ws vs k name split push (inr has) = by (first_or k rest name (subst (λ xs. HasWord xs name) split has))
+  where
+    by : (is_word name k ≡ true) ⊎ HasWord rest name → HasWord vs name ⊎ HasWord rest name
+    by (inl here) = inl (subst (λ xs. HasWord xs name) (sym push) (HasWord_last ws k name here))
     by (inr there) = inr there
 
 pub has_all : (left ks : List Word) (name : List ℕ) → left ≡ [] → HasWord ks name ⊎ HasWord left name → HasWord ks name
@@ -148,21 +163,21 @@ entered es t s next ws name is (inl none) = inl (ap (λ x. within es t x name) i
 
 -- down to the first base, but for the words of which later bases say something else
 pub passed_end : (es : List Entry) (place : Place) (scope : ℕ) (heir : Heir) (ws : List Word) → IsKept es place.scope heir → place.token ≤ heir.first.token
-    → ((name : List ℕ) → (get_by (is_word name) heir.others ≡ None) ⊎ HasWord ws name) → Passes es ws place (record { token = 0; scope = scope })
+    → ((name : List ℕ) → (lookup (is_word name) heir.others.entries ≡ None) ⊎ HasWord ws name) → Passes es ws place (record { token = 0; scope = scope })
 passed_end es place scope heir ws kept le listed name = by (listed name)
   where
-    by : (get_by (is_word name) heir.others ≡ None) ⊎ HasWord ws name → (given_at es name place ≡ Nothing) ⊎ HasWord ws name
+    by : (lookup (is_word name) heir.others.entries ≡ None) ⊎ HasWord ws name → (given_at es name place ≡ Nothing) ⊎ HasWord ws name
     by (inr has) = inr has
     by (inl none) =
         inl (kept place.token name ∙ ap (by_given es place.token name heir.first) none
         ∙ ap (λ b. cond b (within es heir.first.token (suc heir.first.entry) name) Nothing) (le-ltb heir.first.token place.token le))
 
 pub passed : (es : List Entry) (place next : Place) (heir : Heir) (ws vs : List Word) → IsKept es place.scope heir → heir.first.token < place.token
-    → ((name : List ℕ) → (get_by (is_word name) heir.others ≡ None) ⊎ HasWord ws name) → ((name : List ℕ) → HasWord ws name → HasWord vs name)
+    → ((name : List ℕ) → (lookup (is_word name) heir.others.entries ≡ None) ⊎ HasWord ws name) → ((name : List ℕ) → HasWord ws name → HasWord vs name)
     → LeadsTo es heir.first vs next → Passes es vs place next
 passed es place next heir ws vs kept lt listed more leads name = by (listed name) (leads name)
   where
-    by : (get_by (is_word name) heir.others ≡ None) ⊎ HasWord ws name
+    by : (lookup (is_word name) heir.others.entries ≡ None) ⊎ HasWord ws name
         → (within es heir.first.token (suc heir.first.entry) name ≡ given_at es name next) ⊎ HasWord vs name → (given_at es name place ≡ given_at es name next) ⊎ HasWord vs name
     by (inr has) l = inr (more name has)
     by (inl none) (inr has) = inr has
@@ -176,7 +191,7 @@ ok_both (Err e) f a p = tt
 
 -- a way over two steps
 pub way_over : (es : List Entry) (scope : ℕ) (heir : Heir) (inside half place : Place) (gs ws us vs : List Word) (way : Shortcut) → way.place ≡ place → way.after ≡ heir.first.token → IsKept es scope heir
-    → ((name : List ℕ) → (get_by (is_word name) heir.others ≡ None) ⊎ HasWord gs name) → ((name : List ℕ) → HasWord gs name → HasWord ws name) → LeadsTo es heir.first ws inside
+    → ((name : List ℕ) → (lookup (is_word name) heir.others.entries ≡ None) ⊎ HasWord gs name) → ((name : List ℕ) → HasWord gs name → HasWord ws name) → LeadsTo es heir.first ws inside
     → ((name : List ℕ) → HasWord ws name → HasWord us name) → Passes es us inside half → ((name : List ℕ) → HasWord us name → HasWord vs name) → Passes es vs half place
     → ((name : List ℕ) → HasWord vs name → HasWord way.words.keys name) → inside.token ≡ heir.first.token → half.token ≤ inside.token → place.token ≤ half.token
     → IsShort es scope way

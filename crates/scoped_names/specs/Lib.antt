@@ -9,6 +9,7 @@ pub mod Faults
 pub mod Introductions
 pub mod RepositoryIds
 pub mod IdPragmas
+pub mod Codes
 pub mod Keys
 pub mod Records
 pub mod IdsKept

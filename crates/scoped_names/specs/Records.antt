@@ -1,7 +1,7 @@
 -- What is kept of entries, and what it says of searches.
 use Rattle.std.specs.Prelude.{◌≡◌, ℕ, zero, suc, ◌<◌, ◌≤◌, Bool, false, true, cond, nat_lt, map, List, [], ◌∷◌, slice_get, length, Option, Some, None, Vec, Box}
 use Rattle.std.specs.declared.alloc.Global.{Global}
-use Rattle.indexmap.specs.IndexMap.{get_by}
+use Rattle.std.specs.Map.{lookup}
 use Rattle.idl_lexer.specs.Words.{same_but_for_case}
 use Rattle.scoped_names.specs.declared.entry.Base.{Base}
 use Rattle.scoped_names.specs.declared.key.Key.{Key}
@@ -56,7 +56,7 @@ by_given entries token name b (Some g) = given_before token g
 abbrev pub by_heir : List Entry → ℕ → List ℕ → Option Heir → Found
 by_heir entries token name None = Nothing
 by_heir entries token name (Some h) =
-    by_given entries token name h.first (get_by (is_word name) h.others)
+    by_given entries token name h.first (lookup (is_word name) h.others.entries)
 
 abbrev pub unboxed : Option (Box Heir Global) → Option Heir
 unboxed None = None

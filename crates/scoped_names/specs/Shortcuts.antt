@@ -1,6 +1,5 @@
 -- Places in searches along the first bases of interfaces, and ways over several bases at once.
-use Rattle.std.specs.Prelude.{◌≡◌, ◌≤◌, ◌<◌, ◌⊎◌, ℕ, suc, nat_eq, List, Some}
-use Rattle.std.specs.Map.{lookup}
+use Rattle.std.specs.Prelude.{◌≡◌, ◌≤◌, ◌<◌, ◌⊎◌, ℕ, suc, List, Option, None, Some, slice_get}
 use Rattle.scoped_names.specs.declared.entry.Base.{Base}
 use Rattle.scoped_names.specs.declared.key.Word.{Word}
 use Rattle.scoped_names.specs.declared.search.Found.{Found}
@@ -36,7 +35,15 @@ pub record IsShort (es : List Entry) (scope : ℕ) (short : Shortcut) : Type 0 w
   pub same : (token : ℕ) → short.after < token
       → Passes es short.words.keys (record { token = token; scope = scope }) short.place
 
+abbrev pub way_in : Option (Option Shortcut) → Option Shortcut
+way_in None = None
+way_in (Some way) = way
+
+-- the way that is kept from a scope
+abbrev pub way_at : List (Option Shortcut) → ℕ → Option Shortcut
+way_at ways scope = way_in (slice_get ways scope)
+
 -- the ways that are kept, of which none leads behind a base that is named behind the latest
-abbrev pub AreShort : List Entry → ℕ → List (ℕ × Shortcut) → Type 0
-AreShort es latest shorts = (scope : ℕ) (short : Shortcut) →
-    lookup (nat_eq scope) shorts ≡ Some short → (short.after ≤ latest) × IsShort es scope short
+abbrev pub AreShort : List Entry → ℕ → List (Option Shortcut) → Type 0
+AreShort es latest ways = (scope : ℕ) (short : Shortcut) →
+    way_at ways scope ≡ Some short → (short.after ≤ latest) × IsShort es scope short

@@ -3,7 +3,7 @@
 ghost use Rattle.std.specs.Prelude.{◌≡◌, ◌<◌, ◌≤◌, ◌⊎◌, ℕ, suc, ◌++◌, ◌∷◌, [], List, None, Some, IfOk, IfErr, IfSome, OnOk, length, nat_eq};
 ghost use Rattle.std.specs.List.{list_any};
 ghost use Rattle.scoped_names.specs.Faults.{differ, differ_in, is_one_other};
-ghost use Rattle.indexmap.specs.IndexMap.{get_by};
+ghost use Rattle.std.specs.Map.{lookup};
 ghost use Rattle.scoped_names.specs.declared.search.Found.{Found};
 ghost use Rattle.scoped_names.specs.declared.fault.NameFault.TheVariants.{NoMemory};
 ghost use Rattle.scoped_names.specs.Entry.{bases_of};
@@ -17,8 +17,8 @@ use crate::key::Word;
 use crate::record::{Given, Heir};
 use crate::search::Found;
 use crate::table::{Table, heir_of};
-use indexmap::IndexMap;
 use std::alloc::{AllocError, Global};
+use std::collections::BTreeMap;
 
 /// What is kept of a name that the bases before give from the token `first` on, where a base that
 /// is named at the token gives something else; nothing where it says nothing new.
@@ -53,13 +53,10 @@ fn merged(old: Found, new: Found, first: usize, token: usize) -> Option<Given>
 pub(crate) fn list_given<'a>(words: &mut Vec<Word<'a>>, heir: &Heir<'a>) -> Result<(), AllocError>
     ensures kept { OnOk result ((name : List ℕ) → HasWord words.old.items name → HasWord words.new.items name) }
     ensures listed { OnOk result ((name : List ℕ) →
-        (get_by (is_word name) heir.now.others ≡ None) ⊎ HasWord words.new.items name) }
+        (lookup (is_word name) heir.now.others.entries ≡ None) ⊎ HasWord words.new.items name) }
 {
-    let entries = heir.others.as_slice();
-    for place in 0..entries.len() {
-        if let Some((word, _)) = entries.get_index(place) {
-            words.push(*word)?;
-        }
+    for (word, _) in &heir.others {
+        words.push(*word)?;
     }
     Ok(())
 }
@@ -103,7 +100,7 @@ fn first_heir<'a>(alloc: Global, base: Base) -> Result<Box<Heir<'a>>, AllocError
         Heir {
             first: base,
             later: Vec::new(alloc),
-            others: IndexMap::new(alloc),
+            others: BTreeMap::new(alloc),
         },
     )?)
 }
@@ -155,9 +152,9 @@ impl<'a> Table<'a> {
     {
         let count = self.len();
         prove!(base.entry < count);
-        let old = self.inherited(base.token, inner, word.text);
-        let new = self.within(base.token, base.entry + 1, word.text);
-        let first = match heir.others.get(&word) {
+        let old = self.inherited(base.token, inner, word);
+        let new = self.within(base.token, base.entry + 1, word);
+        let first = match heir.other(word) {
             Some(given) => given.token,
             None => heir.first.token,
         };
@@ -171,7 +168,7 @@ impl<'a> Table<'a> {
         heir: &Heir<'a>,
         base: Base,
         words: &[Word<'a>],
-    ) -> Result<IndexMap<Word<'a>, Given>, AllocError>
+    ) -> Result<BTreeMap<Word<'a>, Given>, AllocError>
         requires kept { IsKept self.now inner heir.now }
         requires placed { base.entry < length self.now }
         requires covers { (name : List ℕ) → SaysNothingNew self.now inner base name ⊎ HasWord words.now name }
@@ -234,8 +231,8 @@ impl<'a> Table<'a> {
     {
         let count = self.len();
         prove!(base.entry < count);
-        let old = self.inherited(base.token, inner, word.text);
-        let new = self.within(base.token, base.entry + 1, word.text);
+        let old = self.inherited(base.token, inner, word);
+        let new = self.within(base.token, base.entry + 1, word);
         is_one_other(old, new)
     }
 

@@ -9,6 +9,7 @@ pub mod fault;
 mod key;
 pub mod laws;
 pub mod names;
+mod numbered;
 mod pragmas;
 mod reader;
 mod record;
@@ -18,6 +19,7 @@ mod shortcuts;
 mod specification;
 mod table;
 mod types;
+mod word_order;
 
 pub use entry::{Base, EntryKind};
 pub use fault::NameFault;

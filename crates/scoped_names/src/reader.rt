@@ -15,12 +15,12 @@ use crate::entry::{Base, EntryKind, Meaning};
 use crate::fault::NameFault;
 use crate::key::{Key, Word};
 use crate::names::Names;
+use crate::numbered::Numbered;
 use crate::record::Record;
 use crate::repository_ids::IdPragmas;
 use crate::table::Table;
 use idl_tree::definitions::Definition;
 use idl_tree::names::Leaf;
-use indexmap::IndexSet;
 use std::alloc::Global;
 use std::marker::Model;
 
@@ -33,9 +33,9 @@ pub(crate) struct Reader<'a> {
     /// Memory was refused in the midst of a change, and the two tables may be out of step.
     is_spoilt: bool,
     /// The members and parameters that each scope has; no search finds them.
-    members: IndexSet<Key<'a>>,
+    members: Numbered<Key<'a>>,
     /// The scopes of which a definition was read.
-    defined: IndexSet<usize>,
+    defined: Numbered<usize>,
     /// The prefix of repository ids that is set.
     prefix: &'a str,
     /// What pragmas give to entries.
@@ -51,7 +51,7 @@ impl<'a> Model for Reader<'a> {
 
     ghost Value = { State };
 
-    ghost view = { λ r. record { entries = r.table; members = map member_of r.members.keys; defined = r.defined.keys; prefix = r.prefix.now; given = r.ids } };
+    ghost view = { λ r. record { entries = r.table; members = map member_of r.members; defined = r.defined; prefix = r.prefix.now; given = r.ids } };
 
     ghost invariant = { λ r. r.is_spoilt ≡ false → r.features ≡ features_of r.table };
 }
@@ -110,8 +110,8 @@ impl<'a> Reader<'a> {
             table: Table::new(alloc)?,
             features: Table::new(alloc)?,
             is_spoilt: false,
-            members: IndexSet::new(alloc),
-            defined: IndexSet::new(alloc),
+            members: Numbered::new(alloc),
+            defined: Numbered::new(alloc),
             prefix: "",
             ids: IdPragmas::new(alloc),
         })
@@ -192,9 +192,7 @@ impl<'a> Reader<'a> {
         ensures longer { length self.old.entries ≤ length self.new.entries }
     {
         let line = identifier.token.line;
-        let word = Word {
-            text: identifier.name(),
-        };
+        let word = Word::new(identifier.name());
         let key = Key { scope, word };
         if self.is_taken(&key) {
             return Err(NameFault::Collides { line });
@@ -245,9 +243,7 @@ impl<'a> Reader<'a> {
     pub fn is_new(&self, scope: usize, identifier: Leaf<'a>) -> Result<(), NameFault>
         ensures { Checks result (new_test self.now scope identifier.entry) }
     {
-        let word = Word {
-            text: identifier.name(),
-        };
+        let word = Word::new(identifier.name());
         let key = Key { scope, word };
         if self.is_taken(&key) || self.table.declared(scope, identifier).is_some() {
             let line = identifier.token.line;
@@ -306,9 +302,7 @@ impl<'a> Reader<'a> {
         ensures same { self.new.entries ≡ self.old.entries }
     {
         self.is_new(scope, identifier)?;
-        let word = Word {
-            text: identifier.name(),
-        };
+        let word = Word::new(identifier.name());
         let key = Key { scope, word };
         self.members.insert(key)?;
         Ok(())

@@ -1,16 +1,17 @@
 //! What is kept of each entry.
 
 ghost use Rattle.std.specs.Prelude.{◌≡◌, None, Some};
+ghost use Rattle.std.specs.Map.{lookup};
 ghost use Rattle.scoped_names.specs.Faults.{is_named_so};
 ghost use Rattle.scoped_names.specs.Entries.{entry_declared};
-ghost use Rattle.scoped_names.specs.Records.{entry_of, given_before};
+ghost use Rattle.scoped_names.specs.Records.{entry_of, given_before, is_word};
 
 use crate::entry::{Base, EntryKind, Meaning};
 use crate::key::{Key, Word};
 use crate::search::Found;
 use const_values::{ConstKind, Constant};
 use idl_tree::names::Leaf;
-use indexmap::IndexMap;
+use std::collections::BTreeMap;
 
 /// What several bases give for a name.
 #[derive(Clone, Copy)]
@@ -29,7 +30,7 @@ pub(crate) struct Given {
 pub(crate) struct Heir<'a> {
     pub first: Base,
     pub later: Vec<Base>,
-    pub others: IndexMap<Word<'a>, Given>,
+    pub others: BTreeMap<Word<'a>, Given>,
 }
 
 /// An entry.
@@ -66,6 +67,15 @@ impl Given {
     }
 }
 
+impl<'a> Heir<'a> {
+    /// What later bases say else of a name.
+    pub fn other(&self, word: Word<'a>) -> Option<Given>
+        ensures { result ≡ lookup (is_word word.entry.text.now) self.now.others.entries }
+    {
+        self.others.get(&word).copied()
+    }
+}
+
 impl<'a> Record<'a> {
     /// Of an identifier that is declared in the scope as what is meant, where the prefix is set.
     pub fn new(prefix: &'a str, scope: usize, identifier: Leaf<'a>, meaning: Meaning) -> Self
@@ -76,9 +86,7 @@ impl<'a> Record<'a> {
         Record {
             key: Key {
                 scope,
-                word: Word {
-                    text: identifier.name(),
-                },
+                word: Word::new(identifier.name()),
             },
             token: meaning.token,
             line: identifier.token.line,

@@ -1,6 +1,7 @@
 //! Repository ids (ISO/IEC 19500-1, repository identifiers, and pragma directives for repository ids).
 
 ghost use Rattle.std.specs.Prelude.{◌≡◌, ◌++◌, ◌<◌, ◌≤◌, ◌↔◌, ℕ, [], ◌∷◌, length, map, IfOk, OnOk};
+ghost use Rattle.std.specs.Option.{option_map};
 ghost use Rattle.std.specs.String.{string_bytes};
 ghost use Rattle.scoped_names.specs.Records.{AreNested, entries_in};
 ghost use Rattle.scoped_names.specs.RepositoryIds.{given_to, path, with_slashes, idl_format, repository_id};
@@ -10,8 +11,8 @@ ghost use Rattle.scoped_names.specs.Reading.{Tells};
 ghost use Rattle.scoped_names.specs.IdPragmas.{is_same_given};
 
 use crate::fault::NameFault;
+use crate::numbered::Numbered;
 use crate::record::Record;
-use indexmap::IndexMap;
 use std::alloc::{AllocError, Global};
 use std::marker::Model;
 
@@ -29,17 +30,21 @@ pub(crate) enum PragmaId<'a> {
 /// What the pragmas of a specification say of repository ids.
 #[derive(Drop)]
 pub(crate) struct IdPragmas<'a> {
-    given: IndexMap<usize, PragmaId<'a>>,
+    entries: Numbered<usize>,
+    /// What is given to each of them.
+    ids: Vec<PragmaId<'a>>,
 }
 
 impl<'a> Model for IdPragmas<'a> {
-    ghost use Rattle.std.specs.Prelude.{List, map};
+    ghost use Rattle.std.specs.Prelude.{◌≡◌, List, length};
     ghost use Rattle.scoped_names.specs.RepositoryIds.{IdPragma};
-    ghost use Rattle.scoped_names.specs.IdsKept.{pragma_of};
+    ghost use Rattle.scoped_names.specs.IdsKept.{pragmas_of};
 
     ghost Value = { List IdPragma };
 
-    ghost view = { λ p. map pragma_of p.given.entries };
+    ghost view = { λ p. pragmas_of p.entries p.ids.items };
+
+    ghost invariant = { λ p. length p.entries ≡ length p.ids.items };
 }
 
 /// The names from the outermost scope to an entry's, its own the last.
@@ -112,7 +117,8 @@ impl<'a> IdPragmas<'a> {
         ensures { result ≡ [] }
     {
         IdPragmas {
-            given: IndexMap::new(alloc),
+            entries: Numbered::new(alloc),
+            ids: Vec::new(alloc),
         }
     }
 
@@ -124,14 +130,24 @@ impl<'a> IdPragmas<'a> {
     pub fn give(&mut self, entry: usize, given: PragmaId<'a>, line: usize) -> Result<(), NameFault>
         ensures { Tells result self.new (given_once self.old entry (given_of given.entry) line (given_to self.old entry)) }
     {
-        match self.given.get(&entry) {
-            Some(other) if is_same(*other, given) => Ok(()),
+        match self.entries.number_of(&entry) {
+            Some(number) if is_same(self.ids[number], given) => Ok(()),
             Some(_) => Err(NameFault::IdTwice { line }),
             None => {
-                self.given.insert(entry, given)?;
+                self.ids.reserve(1)?;
+                self.entries.push(entry)?;
+                self.ids.push_reserved(given);
                 Ok(())
             }
         }
+    }
+
+    /// What is given to an entry.
+    fn given(&self, entry: usize) -> Option<PragmaId<'a>>
+        ensures { option_map given_of result ≡ given_to self.now entry }
+    {
+        let number = self.entries.number_of(&entry)?;
+        Some(self.ids[number])
     }
 
     /// The repository id of an entry.
@@ -149,9 +165,9 @@ impl<'a> IdPragmas<'a> {
         requires there { entry < length records.now }
         ensures { IfOk result (λ id. string_bytes id ≡ repository_id (entries_in records.now) self.now entry) }
     {
-        let version = match self.given.get(&entry) {
+        let version = match self.given(entry) {
             Some(PragmaId::Whole(text)) => return String::from_str(alloc, text),
-            Some(PragmaId::Version(number)) => *number,
+            Some(PragmaId::Version(number)) => number,
             None => "1.0",
         };
         let prefix = records[entry].prefix;

@@ -1,18 +1,19 @@
 //! Ways over several bases at once, by which a search along a chain of interfaces takes few steps.
 
-ghost use Rattle.std.specs.Prelude.{◌≡◌, ◌<◌, ◌≤◌, ◌⊎◌, ℕ, suc, List, IfOk, IfSome, OnOk, IsTrue, IsFalse, length};
+ghost use Rattle.std.specs.Prelude.{◌≡◌, ◌<◌, ◌≤◌, ◌⊎◌, ℕ, suc, List, IfOk, IfSome, OnOk, OnErr, IsTrue, IsFalse, None, Some, if◌then◌else◌, length, nat_eq, option_copied};
 ghost use Rattle.scoped_names.specs.Entry.{Entry};
-ghost use Rattle.scoped_names.specs.Records.{HasWord};
+ghost use Rattle.std.specs.List.{list_any};
+ghost use Rattle.scoped_names.specs.Records.{HasWord, is_word};
 ghost use Rattle.scoped_names.specs.Search.{within as within_of};
-ghost use Rattle.scoped_names.specs.Shortcuts.{given_at, IsShort, IsStep, LeadsTo, Passes};
+ghost use Rattle.scoped_names.specs.Shortcuts.{given_at, way_at as way_of_scope, IsShort, IsStep, LeadsTo, Passes};
 
 use crate::bases::list_given;
 use crate::entry::Base;
 use crate::key::Word;
 use crate::search::Found;
 use crate::table::{Table, heir_of};
-use indexmap::IndexSet;
 use std::alloc::{AllocError, Global};
+use std::collections::BTreeSet;
 
 /// So many words of shortcuts are kept for each entry at most; a chain of any length needs fewer.
 const WORDS_PER_ENTRY: usize = 64;
@@ -34,7 +35,7 @@ pub(crate) struct Shortcut<'a> {
     /// So many bases are passed.
     pub span: usize,
     /// What is declared on the way.
-    pub words: IndexSet<Word<'a>>,
+    pub words: BTreeSet<Word<'a>>,
 }
 
 /// What a step of a search gives.
@@ -64,20 +65,66 @@ impl Place {
     }
 }
 
+impl<'a> Shortcut<'a> {
+    /// Whether the name is declared on the way.
+    fn declares(&self, word: Word<'a>) -> bool
+        ensures { result ≡ list_any (is_word word.entry.text.now) self.now.words.keys }
+    {
+        self.words.contains(&word)
+    }
+}
+
+/// The way that is kept from a scope.
+fn way_at<'r, 'a>(ways: &'r [Option<Shortcut<'a>>], scope: usize) -> Option<&'r Shortcut<'a>>
+    ensures { option_copied result ≡ way_of_scope ways.now scope }
+{
+    ways.get(scope)?.as_ref()
+}
+
+/// Keeps a way from a scope.
+fn keep_way<'a>(
+    ways: &mut Vec<Option<Shortcut<'a>>>,
+    scope: usize,
+    way: Shortcut<'a>,
+) -> Result<(), AllocError>
+    ensures kept { OnOk result ((q : ℕ) →
+        way_of_scope ways.new.items q ≡ (if nat_eq scope q then Some way.entry else way_of_scope ways.old.items q)) }
+    ensures err { OnErr result ((q : ℕ) → way_of_scope ways.new.items q ≡ way_of_scope ways.old.items q) }
+{
+    while ways.len() <= scope {
+        ways.push(None)?;
+    }
+    ways[scope] = Some(way);
+    Ok(())
+}
+
+/// Drops the way that is kept from a scope.
+pub(crate) fn drop_way(ways: &mut Vec<Option<Shortcut<'_>>>, scope: usize)
+    ensures { (q : ℕ) →
+        way_of_scope ways.new.items q ≡ (if nat_eq scope q then None else way_of_scope ways.old.items q) }
+{
+    if scope >= ways.len() {
+        return;
+    }
+    ways[scope] = None;
+}
+
 /// Adds the words of a set.
-fn list_set<'a>(words: &mut Vec<Word<'a>>, set: &IndexSet<Word<'a>>) -> Result<(), AllocError>
+fn list_set<'a>(words: &mut Vec<Word<'a>>, set: &BTreeSet<Word<'a>>) -> Result<(), AllocError>
     ensures kept { OnOk result ((name : List ℕ) → HasWord words.old.items name → HasWord words.new.items name) }
     ensures listed { OnOk result ((name : List ℕ) → HasWord set.now.keys name → HasWord words.new.items name) }
 {
-    words.extend_from_slice(set.as_slice())?;
+    for word in set {
+        words.push(*word)?;
+    }
     Ok(())
 }
 
 /// The set of words.
-fn set_of<'a>(alloc: Global, words: &[Word<'a>]) -> Result<IndexSet<Word<'a>>, AllocError>
+fn set_of<'a>(alloc: Global, words: &[Word<'a>]) -> Result<BTreeSet<Word<'a>>, AllocError>
     ensures { IfOk result (λ set. (name : List ℕ) → HasWord words.now name → HasWord set.keys name) }
 {
-    let mut set = IndexSet::new(alloc);
+    let mut set = BTreeSet::new(alloc);
     for word in words {
         set.insert(*word)?;
     }
@@ -86,11 +133,12 @@ fn set_of<'a>(alloc: Global, words: &[Word<'a>]) -> Result<IndexSet<Word<'a>>, A
 
 impl<'a> Table<'a> {
     /// The way from a place, where there is one for the name.
-    fn way_from(&self, place: Place, text: &'a str) -> Option<Place>
-        ensures { IfSome result (λ next. (next.token < place.token) × (given_at self.now text.now next ≡ given_at self.now text.now place)) }
+    fn way_from(&self, place: Place, word: Word<'a>) -> Option<Place>
+        ensures { IfSome result (λ next. (next.token < place.token)
+            × (given_at self.now word.entry.text.now next ≡ given_at self.now word.entry.text.now place)) }
     {
-        let short = self.shortcuts.get(&place.scope)?;
-        if short.after < place.token && !short.words.contains(&Word { text }) {
+        let short = way_at(self.shortcuts.as_slice(), place.scope)?;
+        if short.after < place.token && !short.declares(word) {
             Some(short.place)
         } else {
             None
@@ -98,16 +146,16 @@ impl<'a> Table<'a> {
     }
 
     /// A step of a search.
-    pub(crate) fn step(&self, place: Place, text: &'a str) -> Step
-        ensures { IsStep self.now text.now place result }
+    pub(crate) fn step(&self, place: Place, word: Word<'a>) -> Step
+        ensures { IsStep self.now word.entry.text.now place result }
     {
-        if let Some(next) = self.way_from(place, text) {
+        if let Some(next) = self.way_from(place, word) {
             return Step::On(next);
         }
         let Some(heir) = heir_of(self.records.as_slice(), place.scope) else {
             return Step::Done(Found::Nothing);
         };
-        if let Some(given) = heir.others.get(&Word { text }) {
+        if let Some(given) = heir.other(word) {
             return Step::Done(given.before(place.token));
         }
         if place.token <= heir.first.token {
@@ -115,7 +163,7 @@ impl<'a> Table<'a> {
         }
         let token = heir.first.token;
         let scope = heir.first.entry + 1;
-        match self.own(token, scope, text) {
+        match self.own(token, scope, word) {
             Found::Nothing => Step::On(Place { token, scope }),
             found => Step::Done(found),
         }
@@ -182,7 +230,7 @@ impl<'a> Table<'a> {
 
     /// How far the longest step from a place goes.
     fn reach(&self, place: Place) -> Option<Reach> {
-        if let Some(short) = self.shortcuts.get(&place.scope) {
+        if let Some(short) = way_at(self.shortcuts.as_slice(), place.scope) {
             return Some(Reach {
                 place: short.place,
                 span: short.span,
@@ -223,7 +271,7 @@ impl<'a> Table<'a> {
         ensures passes { IfOk result (Passes self.now words.new.items place) }
         ensures low { IfOk result (λ next. next.token ≤ place.token) }
     {
-        match self.shortcuts.get(&place.scope) {
+        match way_at(self.shortcuts.as_slice(), place.scope) {
             Some(short) if short.after < place.token => {
                 list_set(words, &short.words)?;
                 Ok(short.place)
@@ -260,7 +308,7 @@ impl<'a> Table<'a> {
     pub(crate) fn shorten(&mut self, alloc: Global, scope: usize) -> Result<(), AllocError>
         ensures { self.new ≡ self.old }
     {
-        if self.shortcuts.contains_key(&scope) {
+        if way_at(self.shortcuts.as_slice(), scope).is_some() {
             return Ok(());
         }
         let Some(way) = self.way_of(alloc, scope)? else {
@@ -268,7 +316,7 @@ impl<'a> Table<'a> {
         };
         if way.after <= self.latest {
             self.noted = self.noted.saturating_add(way.words.len());
-            self.shortcuts.insert(scope, way)?;
+            keep_way(&mut self.shortcuts, scope, way)?;
         }
         Ok(())
     }

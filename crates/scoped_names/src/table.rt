@@ -18,29 +18,29 @@ ghost use Rattle.scoped_names.specs.Records.{heir_of as heir_in_records, entry_o
 use crate::entry::{Base, EntryKind};
 use crate::fault::NameFault;
 use crate::key::{Key, Word};
+use crate::numbered::Numbered;
 use crate::record::{Heir, Record};
 use crate::repository_ids::{IdPragmas, path_to};
 use crate::search::{Found, Sight};
-use crate::shortcuts::{Place, Shortcut, Step};
+use crate::shortcuts::{Place, Shortcut, Step, drop_way};
 use const_values::{ConstKind, Constant};
 use idl_lexer::{Identifiers, is_rooted};
 use idl_tree::names::{Leaf, ScopedName};
-use indexmap::{IndexMap, IndexSet};
 use std::alloc::{AllocError, Global};
 use std::marker::Model;
 
 /// The names of a specification. A contract sees the entries in order of declaration.
 #[derive(Drop)]
 pub(crate) struct Table<'a> {
-    keys: IndexSet<Key<'a>>,
+    keys: Numbered<Key<'a>>,
     pub(crate) records: Vec<Record<'a>>,
     /// The words that each scope declares.
     pub(crate) words: Vec<Vec<Word<'a>>>,
     /// The token of the last base.
     pub(crate) latest: usize,
-    /// Ways from scopes over several bases at once.
-    pub(crate) shortcuts: IndexMap<usize, Shortcut<'a>>,
-    /// How many words the ways have.
+    /// Ways from scopes over several bases at once, by the scopes' numbers.
+    pub(crate) shortcuts: Vec<Option<Shortcut<'a>>>,
+    /// How many words were kept of ways.
     pub(crate) noted: usize,
 }
 
@@ -54,7 +54,7 @@ impl<'a> Model for Table<'a> {
 
     ghost view = { λ n. entries_in n.records.items };
 
-    ghost invariant = { λ n. AreTied n.keys.keys n.records.items n.words.items n.latest × AreShort (entries_in n.records.items) n.latest n.shortcuts.entries };
+    ghost invariant = { λ n. AreTied n.keys n.records.items n.words.items n.latest × AreShort (entries_in n.records.items) n.latest n.shortcuts.items };
 }
 
 /// What the interface has whose scope it is, if it has bases.
@@ -99,36 +99,32 @@ impl<'a> Table<'a> {
         let mut words = Vec::new(alloc);
         words.push(Vec::new(alloc))?;
         Ok(Table {
-            keys: IndexSet::new(alloc),
+            keys: Numbered::new(alloc),
             records: Vec::new(alloc),
             words,
             latest: 0,
-            shortcuts: IndexMap::new(alloc),
+            shortcuts: Vec::new(alloc),
             noted: 0,
         })
     }
 
     /// The scope's own entry of the name that is declared before the token.
-    pub(crate) fn own(&self, token: usize, scope: usize, text: &'a str) -> Found
-        ensures { result ≡ own_of self.now token scope text.now }
+    pub(crate) fn own(&self, token: usize, scope: usize, word: Word<'a>) -> Found
+        ensures { result ≡ own_of self.now token scope word.entry.text.now }
     {
-        let key = Key {
-            scope,
-            word: Word { text },
-        };
-        match self.keys.get_index_of(&key) {
+        match self.keys.number_of(&Key { scope, word }) {
             Some(number) if self.records[number].token < token => Found::One(number),
             _ => Found::Nothing,
         }
     }
 
     /// What the bases that are named before the token give.
-    pub(crate) fn inherited(&self, token: usize, scope: usize, text: &'a str) -> Found
-        ensures { result ≡ inherited_by self.now token scope text.now }
+    pub(crate) fn inherited(&self, token: usize, scope: usize, word: Word<'a>) -> Found
+        ensures { result ≡ inherited_by self.now token scope word.entry.text.now }
     {
         let mut place = Place { token, scope };
         loop {
-            match self.step(place, text) {
+            match self.step(place, word) {
                 Step::Done(found) => return found,
                 Step::On(next) => place = next,
             }
@@ -136,23 +132,24 @@ impl<'a> Table<'a> {
     }
 
     /// What a name before the token finds in the scope and its bases.
-    pub(crate) fn within(&self, token: usize, scope: usize, text: &'a str) -> Found
-        ensures { result ≡ within_of self.now token scope text.now }
+    pub(crate) fn within(&self, token: usize, scope: usize, word: Word<'a>) -> Found
+        ensures { result ≡ within_of self.now token scope word.entry.text.now }
     {
-        match self.own(token, scope, text) {
-            Found::Nothing => self.inherited(token, scope, text),
+        match self.own(token, scope, word) {
+            Found::Nothing => self.inherited(token, scope, word),
             found => found,
         }
     }
 
     /// What it finds in the scope, or else in those around.
-    fn outwards(&self, token: usize, scope: usize, text: &'a str) -> Found
+    fn outwards(&self, token: usize, scope: usize, word: Word<'a>) -> Found
         requires { scope ≤ length self.now }
-        ensures { result ≡ within_first self.now token (outwards_from self.now scope scope) text.now }
+        ensures { result ≡
+            within_first self.now token (outwards_from self.now scope scope) word.entry.text.now }
     {
         let mut place = scope;
         loop {
-            match self.within(token, place, text) {
+            match self.within(token, place, word) {
                 Found::Nothing => {}
                 found => return found,
             }
@@ -185,7 +182,7 @@ impl<'a> Table<'a> {
         ensures { result ≡ within_first self.now (name_start name.now).number (sought_in self.now scope (is_rooted name.now)) (word (name_first name.now)) }
     {
         let token = name.start().number;
-        let first = name.first().name();
+        let first = Word::new(name.first().name());
         if name.is_rooted() {
             self.within(token, 0, first)
         } else {
@@ -204,8 +201,8 @@ impl<'a> Table<'a> {
         for identifier in name.rest() {
             match seen {
                 Sight::Seen(entry) => {
-                    let text = identifier.name();
-                    seen = self.sight(self.within(token, entry + 1, text), text);
+                    let word = Word::new(identifier.name());
+                    seen = self.sight(self.within(token, entry + 1, word), word.text);
                 }
                 _ => return seen,
             }
@@ -277,7 +274,7 @@ impl<'a> Table<'a> {
     pub(crate) fn inherits(&self, token: usize, scope: usize, text: &'a str) -> bool
         ensures { result ≡ is_something (inherited_by self.now token scope text.now) }
     {
-        match self.inherited(token, scope, text) {
+        match self.inherited(token, scope, Word::new(text)) {
             Found::Nothing => false,
             Found::One(_) | Found::Several => true,
         }
@@ -367,28 +364,21 @@ impl<'a> Table<'a> {
     /// Puts an entry behind the others, of a name that is new in its scope.
     fn push(&mut self, alloc: Global, declared: Record<'a>) -> Result<(), NameFault>
         requires scope { declared.key.scope ≤ length self.old }
+        requires fresh { named self.old declared.key.scope declared.key.word.text.now ≡ None }
         requires plain { declared.heir ≡ None }
         ensures pushed { OnOk result (self.new ≡ self.old ++ entry_of declared.entry ∷ []) }
         ensures err { OnErr result (self.new ≡ self.old) }
         ensures memory { IfErr result (λ fault. fault ≡ NoMemory) }
     {
-        let (key, count) = (declared.key, self.records.len());
         if declared.token < self.latest {
             return Err(NameFault::NoMemory);
         }
+        let key = declared.key;
         list_word(alloc, &mut self.words, key.scope, key.word)?;
-        self.records.push(declared)?;
-        match self.keys.insert(key) {
-            Ok(true) => Ok(()),
-            Ok(false) => {
-                self.records.truncate(count);
-                Err(NameFault::NoMemory)
-            }
-            Err(_) => {
-                self.records.truncate(count);
-                Err(NameFault::NoMemory)
-            }
-        }
+        self.records.reserve(1)?;
+        self.keys.push(key)?;
+        self.records.push_reserved(declared);
+        Ok(())
     }
 
     /// Puts an entry behind the others, unless its scope has its name already.
@@ -403,7 +393,7 @@ impl<'a> Table<'a> {
         ensures err { OnErr result (self.new ≡ self.old) }
         ensures memory { IfErr result (λ fault. fault ≡ NoMemory) }
     {
-        match self.keys.get_index_of(&declared.key) {
+        match self.keys.number_of(&declared.key) {
             Some(_) => Ok(()),
             None => self.push(alloc, declared),
         }
@@ -434,11 +424,8 @@ impl<'a> Table<'a> {
         ensures there { IfSome result (λ e. e < length self.now) }
         ensures small { IfSome result (λ e. e < 2 ^ 63) }
     {
-        let text = identifier.name();
-        self.keys.get_index_of(&Key {
-            scope,
-            word: Word { text },
-        })
+        let word = Word::new(identifier.name());
+        self.keys.number_of(&Key { scope, word })
     }
 
     /// What is seen where the name of a pragma is sought that stands in a scope.
@@ -450,18 +437,18 @@ impl<'a> Table<'a> {
         let Some(first) = words.next() else {
             return Sight::Unseen;
         };
-        let text = unescaped(first);
+        let first = Word::new(unescaped(first));
         let found = if is_rooted(name) {
-            self.within(token, 0, text)
+            self.within(token, 0, first)
         } else {
-            self.outwards(token, scope, text)
+            self.outwards(token, scope, first)
         };
-        let mut seen = self.sight(found, text);
+        let mut seen = self.sight(found, first.text);
         for word in words {
             match seen {
                 Sight::Seen(entry) => {
-                    let text = unescaped(word);
-                    seen = self.sight(self.within(token, entry + 1, text), text);
+                    let word = Word::new(unescaped(word));
+                    seen = self.sight(self.within(token, entry + 1, word), word.text);
                 }
                 _ => return seen,
             }
@@ -489,12 +476,13 @@ impl<'a> Table<'a> {
         let Some(number) = inner.checked_sub(1) else {
             return Ok(());
         };
-        let has_heirs = self.shortcuts.contains_key(&inner);
-        if base.token <= self.latest || has_heirs {
+        if base.token <= self.latest {
             return Err(NameFault::NoMemory);
         }
         let heir = self.heir_for(alloc, inner, base)?;
         self.records[number].heir = Some(heir);
+        // the other ways lead past the interface as it was before the token
+        drop_way(&mut self.shortcuts, inner);
         self.latest = base.token;
         Ok(())
     }

@@ -1,24 +1,30 @@
-use Rattle.std.proofs.Common.{◌≡◌, ◌∙◌, ◌+◌, ◌∷◌, suc, Some, drop, slice_get, true, false, ap, sym, subst, arith}
-use Rattle.scoped_names.specs.Records.{HasWord}
+use Rattle.std.proofs.Common.{inl, sym, ap, subst}
+use Rattle.std.specs.Map.Iter.{deref_pair}
+use Rattle.std.proofs.lemmas.Map.Iter.{rest_all, rest_more}
+use Rattle.std.specs.Map.{lookup}
+use Rattle.scoped_names.specs.Records.{HasWord, is_word}
 use Rattle.scoped_names.proofs.Tied.{HasWord_push}
-use Rattle.scoped_names.proofs.MergedBases.{drop_at, entry_listed, is_listed}
+use Rattle.scoped_names.proofs.MergedBases.{entry_listed, is_listed}
 use Rattle.scoped_names.proofs.bases.list_given.Goals as goal
-use Rattle.scoped_names.proofs.bases.list_given.Goals.{in-Some+in_ok-push, in_default}
 
-pub loop-place-preserved : goal.loop-place-preserved
-loop-place-preserved c =
+pub loop-word-init : goal.loop-word-init
+loop-word-init c = record {
+  kept = λ name has. has;
+  listed = λ name. inl (ap (lookup (is_word name)) (sym c.into_iter-word-iterator.ensures.into_iter_gives.0));
+}
+
+pub loop-word-preserved : goal.loop-word-preserved
+loop-word-preserved c =
     let all = c.args.heir.now.others.entries in
-    let k = c.loop-place.place in
-    let ws = c.loop-place.words.items in
-    let next : suc k ≡ k + 1 = omega arith in
-    elim c.match-get_index.branch [
-      | in-Some+in_ok-push b ↦ (let at : slice_get all k ≡ Some (b.in-Some.word.now, b.in-Some.field-0-1.now) = sym (b.in-Some.ensures.entry ∙ ap (λ xs. slice_get xs k) c.as_slice-entries.ensures.entries) in
-          let split = drop_at all k (b.in-Some.word.now, b.in-Some.field-0-1.now) at ∙ ap (λ j. (b.in-Some.word.now, b.in-Some.field-0-1.now) ∷ drop j all) next in
-          record {
-            kept = λ name h. subst (λ v. HasWord v.items name) (sym b.words-is)
-                (subst (λ xs. HasWord xs name) (sym b.in_ok-push.ensures.items) (HasWord_push ws b.in-Some.word.now name (c.loop-place.invariant.kept name h)));
-            listed = λ name. subst (λ v. is_listed all (drop (k + 1) all) v.items name) (sym b.words-is)
-                (entry_listed all (drop k all) (drop (k + 1) all) b.in-Some.word.now b.in-Some.field-0-1.now ws b.push.new.self.items name split b.in_ok-push.ensures.items (c.loop-place.invariant.listed name));
-          })
-      | in_default b ↦ absurd (let wrong : false ≡ true = b.in_default.ensures.found.1 (omega arith) in cc)
-    ]
+    let left = c.loop-word.word-iterator in
+    let ws = c.loop-word.words.items in
+    let split = rest_more deref_pair left c.next.new.self c.next.result (c.in-Some.word, c.in-Some.field-0-1) c.in-Some.is c.next.ensures.steps in
+    record {
+      kept = λ name has. subst (λ xs. HasWord xs name) (sym c.in_ok-push.ensures.items) (HasWord_push ws c.in-Some.word.now name (c.loop-word.invariant.kept name has));
+      listed = λ name. entry_listed all left c.next.new.self c.in-Some.word.now c.in-Some.field-0-1.now ws c.push.new.self.items name split c.in_ok-push.ensures.items (c.loop-word.invariant.listed name);
+    }
+
+pub returns-clause-listed : goal.returns-clause-listed
+returns-clause-listed c = λ name.
+    subst (λ left. is_listed c.args.heir.now.others.entries left c.loop-word.words.items name)
+    (rest_all deref_pair c.loop-word.word-iterator c.next.new.self c.next.result c.in-None.is c.next.ensures.steps) (c.loop-word.invariant.listed name)

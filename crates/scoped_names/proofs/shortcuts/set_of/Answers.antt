@@ -1,6 +1,5 @@
-use Rattle.std.proofs.Common.{◌≡◌, ◌∙◌, ◌∷◌, [], suc, get_or, inr, ◌+◌, drop, ap, arith}
+use Rattle.std.proofs.Common.{◌≡◌, ◌∙◌, ◌∷◌, ◌<◌, suc, get_or, inr, ◌+◌, drop, length, sym, ap, arith}
 use Rattle.std.proofs.Math.Seq.{drop-cons}
-use Rattle.scoped_names.specs.declared.key.Word.{Word}
 use Rattle.scoped_names.proofs.GivenBehind.{drop_none}
 use Rattle.scoped_names.proofs.Ways.{has_all, has_next}
 use Rattle.scoped_names.proofs.shortcuts.set_of.Goals as goal
@@ -12,10 +11,13 @@ pub loop-word-preserved : goal.loop-word-preserved
 loop-word-preserved c = λ name has.
     let words = c.args.words.now in
     let k = c.loop-word.word-index in
+    let x = c.word-item.result in
     let next : suc k ≡ k + 1 = omega arith in
-    let d : Word = record { text = record { ref_ptr = (0, 0); now = [] } } in
-    let x = get_or words k d in
-    has_next (drop k words) (drop (k + 1) words) c.loop-word.set.keys c.insert.new.self.keys x name (drop-cons words k d (omega arith) ∙ ap (λ j. x ∷ drop j words) next) c.in_ok-insert.ensures.keys (c.loop-word.invariant name has)
+    let lt : k < length words = omega arith in
+    let here : get_or words k x ≡ x = sym c.word-item.is in
+    let split : drop k words ≡ x ∷ drop (k + 1) words =
+    drop-cons words k x lt ∙ ap (λ y. y ∷ drop (suc k) words) here ∙ ap (λ j. x ∷ drop j words) next in
+    has_next (drop k words) (drop (k + 1) words) c.loop-word.set.keys c.insert.new.self.keys x name split c.in_ok-insert.ensures.keys (c.loop-word.invariant name has)
 
 pub returns : goal.returns
 returns c = λ name has. has_all (drop c.loop-word.word-index c.args.words.now) c.loop-word.set.keys name (drop_none c.args.words.now c.loop-word.word-index (omega arith)) (c.loop-word.invariant name has)

@@ -15,7 +15,7 @@ returns-in_err-appears_again-in-Some-clause-told c =
     let st = c.args.self.now in
     let scope = c.args.scope in
     let id = c.args.identifier in
-    let free = sym (ap (is_taken st scope) c.name.ensures) ∙ sym c.is_taken.ensures ∙ c.if-is_taken.false in
+    let free = sym (ap (is_taken st scope) (c.new-word.ensures ∙ c.name.ensures)) ∙ sym c.is_taken.ensures ∙ c.if-is_taken.false in
     let there = sym (ap (λ es. named es scope (word id)) (ap (λ s. s.entries) c.self.view_is)) ∙ sym c.declared.ensures.is ∙ c.in-Some.is in
     rw (p.1, p.2) (or_told c.in_err-appears_again-in-Some.ensures (λ is. declared_again c.args.meaning st scope id c.in-Some.number _ free there is))
 

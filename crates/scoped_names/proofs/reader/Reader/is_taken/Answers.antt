@@ -14,5 +14,5 @@ returns-else-is_own_name c =
     let st = c.args.self.now in
     let own : is_own_name st.entries scope name ≡ false =
     sym (ap (λ s. is_own_name s.entries scope name) c.self.view_is) ∙ sym c.is_own_name.ensures ∙ c.if-is_own_name.false in
-    let kept : has_member (map member_of r.members.keys) scope name ≡ c.contains.result = members_kept r.members.keys scope name _ (λ k. refl) ∙ sym c.contains.ensures in
+    let kept : has_member (map member_of r.members) scope name ≡ c.contains.result = members_kept r.members scope name _ (λ k. refl) ∙ sym c.contains.ensures in
     sym (ap (λ b. b || has_member st.members scope name) own ∙ sym (ap (λ s. has_member s.members scope name) c.self.view_is) ∙ kept)

@@ -1,13 +1,13 @@
-use Rattle.std.proofs.Common.{◌≡◌, ◌∙◌, ◌++◌, ◌∷◌, [], suc, length, slice_get, nat_eq, false, Some, refl, ap, subst, sym, arith}
+use Rattle.std.proofs.Common.{◌≡◌, ◌∙◌, ◌++◌, ◌∷◌, [], suc, length, slice_get, nat_eq, cond, ℕ, None, Some, refl, ap, subst, sym, arith}
 use Rattle.std.proofs.lemmas.List.{length-map}
 use Rattle.std.proofs.lemmas.Option.{slice_get_read}
-use Rattle.std.specs.Map.{lookup}
 use Rattle.scoped_names.specs.Entry.{bases_of}
 use Rattle.scoped_names.specs.Entries.{with_base}
 use Rattle.scoped_names.specs.Records.{entries_in, entry_of}
 use Rattle.scoped_names.specs.SeveralBases.{Merges}
+use Rattle.scoped_names.specs.Shortcuts.{way_at}
 use Rattle.scoped_names.proofs.Inheriting.{bases_kept}
-use Rattle.scoped_names.proofs.MoreBases.{tied_more, told_more, ways_more, free}
+use Rattle.scoped_names.proofs.MoreBases.{tied_more, told_more, ways_more}
 use Rattle.scoped_names.proofs.table.Table.add_base.Goals as goal
 
 pub invariant_of-self : goal.invariant_of-self
@@ -26,12 +26,10 @@ invariant_of-self c =
     let with_it = c.in_ok-heir.ensures.with_it
     ∙ ap (λ bs. bs ++ base ∷ []) (sym (ap (λ xs. bases_of xs c.args.inner) c.self.view_is) ∙ ap (bases_of (entries_in records)) is ∙ bases_kept records (suc e)) in
     let merges = subst (λ s. Merges (entries_in records) s base box.value) is (subst (λ xs. Merges xs c.args.inner base box.value) (sym c.self.view_is) c.in_ok-heir.ensures.merges) in
-    let off = c.if-has_heirs.false in
-    let no_heirs : c.contains_key-has_heirs.result ≡ false = cc in
-    let none = free (lookup (nat_eq c.args.inner) inside.shortcuts.entries) c.contains_key-has_heirs.result c.contains_key-has_heirs.ensures no_heirs in (
-      tied_more inside.keys.keys records inside.words.items inside.latest c.self.invariant.0 e r there box base with_it c.in_ok-heir.ensures.low (omega arith) (omega arith) merges,
-      ways_more inside.keys.keys records inside.words.items inside.latest c.self.invariant.0 e r there box base with_it c.in_ok-heir.ensures.low (omega arith) (omega arith) merges
-          inside.shortcuts.entries c.self.invariant.1 (sym (ap (λ s. lookup (nat_eq s) inside.shortcuts.entries) is) ∙ none),
+    let dropped = subst (λ i. (q : ℕ) → way_at c.drop_way.new.ways.items q ≡ cond (nat_eq i q) None (way_at inside.shortcuts.items q)) is c.drop_way.ensures in (
+      tied_more inside.keys records inside.words.items inside.latest c.self.invariant.0 e r there box base with_it c.in_ok-heir.ensures.low (omega arith) (omega arith) merges,
+      ways_more inside.keys records inside.words.items inside.latest c.self.invariant.0 e r there box base with_it c.in_ok-heir.ensures.low (omega arith) (omega arith) merges
+          inside.shortcuts.items c.drop_way.new.ways.items c.self.invariant.1 dropped,
     )
 
 pub returns-clause-told : goal.returns-clause-told
@@ -50,5 +48,5 @@ returns-clause-told c =
     let with_it = c.in_ok-heir.ensures.with_it
     ∙ ap (λ bs. bs ++ base ∷ []) (sym (ap (λ xs. bases_of xs c.args.inner) c.self.view_is) ∙ ap (bases_of (entries_in records)) is ∙ bases_kept records (suc e)) in
     let merges = subst (λ s. Merges (entries_in records) s base box.value) is (subst (λ xs. Merges xs c.args.inner base box.value) (sym c.self.view_is) c.in_ok-heir.ensures.merges) in
-    told_more inside.keys.keys records inside.words.items inside.latest c.self.invariant.0 e r there box base with_it c.in_ok-heir.ensures.low (omega arith) (omega arith) merges
+    told_more inside.keys records inside.words.items inside.latest c.self.invariant.0 e r there box base with_it c.in_ok-heir.ensures.low (omega arith) (omega arith) merges
     ∙ ap (λ xs. with_base xs (suc e) base) c.self.view_is ∙ ap (λ i. with_base c.args.self.now i base) (sym is)

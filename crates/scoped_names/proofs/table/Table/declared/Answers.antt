@@ -6,6 +6,6 @@ use Rattle.scoped_names.proofs.table.Table.declared.Goals as goal
 pub returns-clause-is : goal.returns-clause-is
 returns-clause-is c =
     let es = c.args.self.now in
-    sym (sym (ap (named es c.args.scope) c.name-text.ensures)
-    ∙ named_is c.self.inside.keys.keys c.self.inside.records.items es c.self.view_is c.self.invariant.0.keyed _ c.get_index_of.result
-    (sym c.get_index_of.ensures.index) c.args.scope c.name-text.result.now (λ r. refl))
+    sym (sym (ap (named es c.args.scope) (c.new-word.ensures ∙ c.name.ensures))
+    ∙ named_is c.self.inside.keys c.self.inside.records.items es c.self.view_is c.self.invariant.0.keyed _ c.number_of.result
+    (sym c.number_of.ensures.is) c.args.scope c.new-word.result.text.now (λ r. refl))

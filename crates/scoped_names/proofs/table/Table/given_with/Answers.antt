@@ -1,5 +1,5 @@
 use Rattle.std.proofs.Common.{◌≡◌, ◌∙◌, ◌+◌, ℕ, suc, refl, ap, subst, arith}
-use Rattle.indexmap.specs.IndexMap.{get_by}
+use Rattle.std.specs.Map.{lookup}
 use Rattle.scoped_names.specs.Records.{given_before, is_word}
 use Rattle.scoped_names.specs.Search.{within}
 use Rattle.scoped_names.specs.SeveralBases.{given_then}
@@ -14,12 +14,12 @@ returns-clause-given c =
     let w = c.args.word.text.now in
     let h = c.args.heir.now in
     let next : base.entry + 1 ≡ suc base.entry = omega arith in
-    let first_is : c.match-get.first ≡ first_of h (get_by (is_word w) h.others) = elim c.match-get.branch [
-      | in-Some b ↦ b.first-is ∙ ap (first_of h) b.in-Some.ensures.value
-      | in-None b ↦ b.first-is ∙ ap (first_of h) b.in-None.ensures.value
+    let first_is : c.match-other.first ≡ first_of h (lookup (is_word w) h.others.entries) = elim c.match-other.branch [
+      | in-Some b ↦ b.first-is ∙ ap (first_of h) b.in-Some.ensures
+      | in-None b ↦ b.first-is ∙ ap (first_of h) b.in-None.ensures
     ] in
     some_both c.merged.result
-    (λ g told fits. given_is es c.args.inner h base w c.inherited-old.result c.within-new.result (get_by (is_word w) h.others) g c.requires.kept refl
+    (λ g told fits. given_is es c.args.inner h base w c.inherited-old.result c.within-new.result (lookup (is_word w) h.others.entries) g c.requires.kept refl
     c.inherited-old.ensures (c.within-new.ensures ∙ ap (λ s. within es base.token s w) next) told
     (subst (λ f. (t : ℕ) → given_before t g ≡ given_then f base.token c.inherited-old.result c.within-new.result t) first_is fits))
     c.merged.ensures.told c.merged.ensures.given

@@ -14,4 +14,4 @@ returns-clause-count c =
 pub returns-clause-distinct : goal.returns-clause-distinct
 returns-clause-distinct c =
     let records = c.self.inside.records.items in
-    subst AreDistinct c.self.view_is (distinct _ (λ a b. refl) records (subst (IsDistinct _) c.self.invariant.0.keyed c.len.ensures.unique))
+    subst AreDistinct c.self.view_is (distinct _ (λ a b. refl) records (subst (IsDistinct _) c.self.invariant.0.keyed c.len.ensures.distinct))

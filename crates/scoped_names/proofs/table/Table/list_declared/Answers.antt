@@ -2,7 +2,7 @@ use Rattle.std.proofs.Common.{◌≡◌, ◌∙◌, ◌++◌, ◌⊎◌, ap, sym
 use Rattle.scoped_names.specs.Records.{HasWord, words_at}
 use Rattle.scoped_names.specs.Search.{own}
 use Rattle.scoped_names.specs.declared.search.Found.TheVariants.{Nothing}
-use Rattle.scoped_names.proofs.MergedBases.{behind_or, nothing_or, own_or_listed, words_past}
+use Rattle.scoped_names.proofs.MergedBases.{HasWord_front, behind_or, nothing_or, own_or_listed, words_past}
 use Rattle.scoped_names.proofs.Tied.{words_of_item}
 use Rattle.scoped_names.proofs.table.Table.list_declared.Goals as goal
 
@@ -21,3 +21,7 @@ returns-else-scope-len-clause-listed c = λ n name.
     let words = inside.words.items in
     subst (λ es. (own es n c.args.scope name ≡ Nothing) ⊎ HasWord c.args.words.now.items name) c.self.view_is
     (nothing_or name (words_at words c.args.scope) c.args.words.now.items (words_past words c.args.scope (omega arith)) (own_or_listed inside.records.items words c.self.invariant.0.listed c.args.scope n name))
+
+pub returns-in_ok-extend_from_slice-clause-kept : goal.returns-in_ok-extend_from_slice-clause-kept
+returns-in_ok-extend_from_slice-clause-kept c = λ name has.
+    subst (λ xs. HasWord xs name) (sym c.in_ok-extend_from_slice.ensures.items) (HasWord_front c.args.words.now.items _ name has)

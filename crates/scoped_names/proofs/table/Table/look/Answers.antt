@@ -15,6 +15,7 @@ loop-identifier-preserved c =
     let i = c.loop-identifier.identifier-index in
     let x = c.identifier-item.result in
     let e = c.in-Seen.entry in
+    let w = c.new-word.result.text.now in
     let rest = map word (drop (i + 1) xs) in
     let next : e + 1 ≡ suc e = omega arith in
     let lt : i < length xs = omega arith in
@@ -24,8 +25,8 @@ loop-identifier-preserved c =
     drop-cons xs i x lt ∙ ap (λ y. y ∷ drop (suc i) xs) here ∙ ap (λ k. x ∷ drop k xs) behind in
     let found_is =
     c.sight-seen-in-Seen.ensures.kept
-    ∙ ap (sight es c.name-text.result.now) (c.within.ensures ∙ ap (λ s. within es token s c.name-text.result.now) next)
-    ∙ ap (λ w. sight es w (within es token (suc e) w)) c.name-text.ensures in
+    ∙ ap (sight es w) (c.within.ensures ∙ ap (λ s. within es token s w) next)
+    ∙ ap (λ w. sight es w (within es token (suc e) w)) (c.new-word.ensures ∙ c.name-in-Seen.ensures) in
     record {
       small = c.sight-seen-in-Seen.ensures.small;
       placed = c.sight-seen-in-Seen.ensures.placed;

@@ -10,11 +10,11 @@ loop-word-preserved c =
     let es = c.args.self.now in
     let token = c.args.token in
     let e = c.in-Seen.entry in
-    let x = c.unescaped-text-in-Seen.result.now in
+    let x = c.new-word.result.text.now in
     let rest = map unescaped (words_left c.next-in-loop-word.new.self) in
     let next : e + 1 ≡ suc e = omega arith in
     let split = ap (map unescaped) c.in-Some-word.ensures.steps in
-    let text = c.unescaped-text-in-Seen.ensures in
+    let text = c.new-word.ensures ∙ c.unescaped-in-Seen.ensures in
     let found_is =
     c.sight-seen-in-Seen.ensures.kept
     ∙ ap (sight es x) (c.within.ensures ∙ ap (λ s. within es token s x) next)

@@ -9,7 +9,7 @@ pub invariant_of-result : goal.invariant_of-result
 invariant_of-result c =
     let words = c.push.new.self.items in
     let some : 1 ≤ length words = omega (arith, ap length c.in_ok-push.ensures.items, length-append c.new-words.result.items (c.new.result ∷ [])) in
-    let keys : c.new-2.result.keys ≡ [] = c.new-2.ensures.empty in (
+    let keys : c.new-2.result ≡ [] = c.new-2.ensures in (
       subst (λ ks. AreTied ks c.new-3.result.items words 0) (sym keys) (subst (λ rs. AreTied [] rs words 0) (sym c.new-3.ensures.items) (tied_none words some)),
-      subst (AreShort (entries_in c.new-3.result.items) 0) (sym c.new-4.ensures.empty) (no_ways (entries_in c.new-3.result.items) 0),
+      subst (AreShort (entries_in c.new-3.result.items) 0) (sym c.new-4.ensures.items) (no_ways (entries_in c.new-3.result.items) 0),
     )

@@ -1,6 +1,5 @@
-use Rattle.std.proofs.Common.{◌≡◌, ◌∙◌, ◌+◌, [], ◌∷◌, suc, drop, get_or, refl, ap, sym, subst, arith}
+use Rattle.std.proofs.Common.{◌≡◌, ◌∙◌, ◌+◌, ◌<◌, [], ◌∷◌, suc, drop, length, get_or, refl, ap, sym, subst, arith}
 use Rattle.std.proofs.Math.Seq.{drop-cons}
-use Rattle.scoped_names.specs.declared.key.Word.{Word}
 use Rattle.scoped_names.specs.SeveralBases.{IsDone}
 use Rattle.scoped_names.proofs.GivenBehind.{drop_none}
 use Rattle.scoped_names.proofs.MergedBases.{cloned, done_given, done_nothing, done_start}
@@ -20,10 +19,12 @@ loop-word-preserved c =
     let now = c.loop-word.others.entries in
     let k = c.loop-word.word-index in
     let words = c.args.words.now in
+    let x = c.word-item.result in
     let next : suc k ≡ k + 1 = omega arith in
-    let d : Word = record { text = record { ref_ptr = (0, 0); now = [] } } in
-    let x = get_or words k d in
-    let split = drop-cons words k d (omega arith) ∙ ap (λ j. x ∷ drop j words) next in
+    let lt : k < length words = omega arith in
+    let here : get_or words k x ≡ x = sym c.word-item.is in
+    let split : drop k words ≡ x ∷ drop (k + 1) words =
+    drop-cons words k x lt ∙ ap (λ y. y ∷ drop (suc k) words) here ∙ ap (λ j. x ∷ drop j words) next in
     elim c.match-given_with.branch [
       | in-Some+in_ok-insert b ↦ subst (λ m. IsDone es c.args.inner c.args.base old m.entries (drop (k + 1) words)) (sym b.others-is)
           (done_given es c.args.inner c.args.base old now b.insert.new.self.entries x (drop (k + 1) words) (drop k words) b.in-Some.given split b.in-Some.ensures.given b.in_ok-insert.ensures.entries c.loop-word.invariant)

@@ -9,7 +9,7 @@ use Rattle.scoped_names.proofs.table.Table.outwards.Goals as goal
 pub loop-found-preserved : goal.loop-found-preserved
 loop-found-preserved c =
     let es = c.args.self.now in
-    let text = c.args.text.now in
+    let text = c.args.word.text.now in
     let token = c.args.token in
     let records = c.self.inside.records.items in
     let place = c.loop-found.place in

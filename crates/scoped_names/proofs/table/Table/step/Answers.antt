@@ -15,7 +15,7 @@ overflow_add-scope c =
 pub returns-in-Nothing : goal.returns-in-Nothing
 returns-in-Nothing c =
     let es = c.args.self.now in
-    let text = c.args.text.now in
+    let text = c.args.word.text.now in
     let base = c.in-Some-heir_of.heir.now.first in
     let next : base.entry + 1 ≡ suc base.entry = omega arith in
     let rest = inherited es base.token (suc base.entry) text in
@@ -25,6 +25,6 @@ returns-in-Nothing c =
           ∙ ap (λ found. or_else found rest) nothing
           ∙ from_first_base c.self.inside.records.items es c.self.view_is c.self.invariant.0.searched c.args.place.token c.args.place.scope text c.in-Some-heir_of.heir.now
           (sym (c.in-Some-heir_of.ensures ∙ ap (λ xs. heir_of xs c.args.place.scope) c.as_slice.ensures.value))
-          (sym c.in_default-get.ensures.value)
+          (sym c.in_default-other.ensures)
           (omega arith),
     )
