@@ -23,9 +23,10 @@ use Rattle.idl_tree.specs.Lists.{parts}
 use Rattle.type_graph.specs.declared.node.Node.{Node}
 use Rattle.type_graph.specs.declared.node.Node.TheVariants.{Frame}
 use Rattle.basic_types.specs.BasicNodes.{basic_nodes}
-use Rattle.scoped_names.specs.Entry.{Entry, bases_of, named}
-use Rattle.scoped_names.specs.Entries.{attribute_identifiers, scope_number, scope_of}
-use Rattle.scoped_names.specs.Search.{word}
+use Rattle.name_table.specs.Entry.{Entry, bases_of, named}
+use Rattle.scoped_names.specs.Entries.{attribute_identifiers}
+use Rattle.name_table.specs.Entries.{scope_number, scope_of}
+use Rattle.name_table.specs.Search.{word}
 use Rattle.written_types.specs.declared.place.Place.TheVariants.{Typed, Raised, Called, Got, GotAndSet}
 use Rattle.written_types.specs.Written.{Written, already, next, unwritten, with_node, with_place}
 use Rattle.written_types.specs.SimpleTypes.{arrays, param_type}

@@ -6,8 +6,8 @@ use Rattle.type_graph.specs.declared.node.Node.{Node}
 use Rattle.type_graph.specs.declared.node.Node.TheVariants.{Whole, Octet, Char, Boolean, Enum, Text, Seq, Array, Struct, Union, Frame}
 use Rattle.type_graph.specs.GraphRules.{IsNoFrame, IsPart}
 use Rattle.basic_types.specs.BasicNodes.{basic_nodes}
-use Rattle.scoped_names.specs.declared.search.Found.{Found}
-use Rattle.scoped_names.specs.declared.search.Found.TheVariants.{Nothing, One, Several}
+use Rattle.name_table.specs.declared.search.Found.{Found}
+use Rattle.name_table.specs.declared.search.Found.TheVariants.{Nothing, One, Several}
 use Rattle.written_types.specs.declared.place.Place.{Place}
 use Rattle.written_types.specs.declared.place.Place.TheVariants.{Typed, Raised, Called, Got, GotAndSet}
 use Rattle.written_types.specs.Written.{Written, Numbered, added, already, found_type, named_type, next, none_such, opened, opened_as, or_none_such, set_node, type_in, undefined, with_node, with_place}

@@ -28,9 +28,9 @@ use Rattle.type_graph.specs.Refusal.{NeverFall}
 use Rattle.const_values.specs.declared.kind.ConstKind.{ConstKind}
 use Rattle.const_values.specs.Arithmetic.{where_true}
 use Rattle.const_values.specs.Worth.{positive, whole_number}
-use Rattle.scoped_names.specs.Entry.{Entry, named}
-use Rattle.scoped_names.specs.Entries.{scope_number}
-use Rattle.scoped_names.specs.Search.{finds, word}
+use Rattle.name_table.specs.Entry.{Entry, named}
+use Rattle.name_table.specs.Entries.{scope_number}
+use Rattle.name_table.specs.Search.{finds, word}
 use Rattle.scoped_names.specs.Constants.{worth_in_scope}
 use Rattle.written_types.specs.Written.{Written, Numbered, already, added, found_type, opened, or_none_such, set_node}
 use Rattle.written_types.specs.SimpleTypes.{arrays, bound_of, const_type, enum_type, integer_number, param_type, simple_type, size_of}

@@ -3,8 +3,8 @@
 -- request has the name of its operation with `/in` behind it, that of a reply with `/out`.
 use Rattle.std.specs.Prelude.{ℕ, suc, ◌+◌, List, [], ◌∷◌, ◌++◌, length, codes, Option, Some, None, slice_get}
 use Rattle.std.specs.List.{flat_map, range_with_len}
-use Rattle.scoped_names.specs.Entry.{Entry, around}
-use Rattle.scoped_names.specs.RepositoryIds.{name_in, names_to}
+use Rattle.name_table.specs.Entry.{Entry, around, name_in}
+use Rattle.scoped_names.specs.RepositoryIds.{names_to}
 use Rattle.written_types.specs.declared.place.Place.{Place}
 use Rattle.written_types.specs.declared.place.Place.TheVariants.{Typed, Raised, Called, Got, GotAndSet}
 use Rattle.written_types.specs.Written.{Written, place_of}

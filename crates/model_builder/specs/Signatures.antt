@@ -3,7 +3,7 @@ use Rattle.std.specs.Prelude.{ℕ, suc, ◌+◌, List, [], ◌∷◌, map, Optio
 use Rattle.type_model.specs.declared.signatures.Interface.{Interface}
 use Rattle.type_model.specs.declared.signatures.Operation.{Operation}
 use Rattle.type_model.specs.declared.signatures.Exception.{Exception}
-use Rattle.scoped_names.specs.Entry.{Entry}
+use Rattle.name_table.specs.Entry.{Entry}
 use Rattle.scoped_names.specs.RepositoryIds.{repository_id}
 use Rattle.scoped_names.specs.Whole.{Whole}
 use Rattle.written_operations.specs.declared.signature.Signature.{Signature}

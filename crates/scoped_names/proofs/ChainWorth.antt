@@ -8,10 +8,10 @@ use Rattle.idl_tree.specs.declared.expression.Operator.{Operator}
 use Rattle.const_values.specs.declared.constant.Constant.{Constant}
 use Rattle.const_values.specs.Worth.{NamesWorth, worth, chain_worth, whole_number, whole_constant, operator_applied}
 use Rattle.scoped_names.specs.declared.fault.NameFault.{NameFault}
-use Rattle.scoped_names.specs.Entry.{Entry}
-use Rattle.scoped_names.specs.declared.search.Sight.{Sight}
-use Rattle.scoped_names.specs.declared.search.Sight.TheVariants.{Unseen, OtherCase, Unclear, Seen}
-use Rattle.scoped_names.specs.Search.{found_by}
+use Rattle.name_table.specs.Entry.{Entry}
+use Rattle.name_table.specs.declared.search.Sight.{Sight}
+use Rattle.name_table.specs.declared.search.Sight.TheVariants.{Unseen, OtherCase, Unclear, Seen}
+use Rattle.name_table.specs.Search.{found_by}
 use Rattle.scoped_names.specs.Tests.{found_at}
 use Rattle.scoped_names.specs.Constants.{Explains, worth_found}
 
@@ -86,6 +86,6 @@ explained at w v e less (inr (none, is)) = inr (less none, is)
 -- what finds no entry alone is worth nothing
 pub not_found : (es : List Entry) (at : ℕ) (seen : Sight) (fault : NameFault) → found_at at seen ≡ Err fault → worth_found es (found_by seen) ≡ None
 not_found es at Unseen fault is = refl
-not_found es at OtherCase fault is = refl
+not_found es at (OtherCase e) fault is = refl
 not_found es at Unclear fault is = refl
 not_found es at (Seen e) fault is = absurd cc

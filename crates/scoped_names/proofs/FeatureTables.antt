@@ -4,15 +4,15 @@ use Rattle.std.specs.Prelude.{is_some}
 use Rattle.std.specs.Option.{option_map}
 use Rattle.std.proofs.lemmas.List.{length-map}
 use Rattle.std.proofs.lemmas.Option.{slice_get-map}
-use Rattle.scoped_names.specs.declared.entry.Base.{Base}
-use Rattle.scoped_names.specs.Entry.{Entry, is_named, named}
-use Rattle.scoped_names.specs.Entries.{entry_with_base, with_base, with_entry}
-use Rattle.scoped_names.specs.Faults.{as_feature, features_of}
-use Rattle.scoped_names.proofs.Lookups.{position_map}
+use Rattle.name_table.specs.declared.entry.Base.{Base}
+use Rattle.name_table.specs.Entry.{Entry, is_named, named}
+use Rattle.name_table.specs.Entries.{entry_with_base, with_base, with_entry}
+use Rattle.name_table.specs.Features.{as_feature, features_of}
+use Rattle.name_table.proofs.Lookups.{position_map}
 use Rattle.scoped_names.proofs.Members.{map_behind}
-use Rattle.scoped_names.proofs.MoreBases.{map_changed}
+use Rattle.name_table.proofs.MoreBases.{map_changed}
 
-named_features : (es : List Entry) (s : ℕ) (w : List ℕ) → named (features_of es) s w ≡ named es s w
+pub named_features : (es : List Entry) (s : ℕ) (w : List ℕ) → named (features_of es) s w ≡ named es s w
 named_features es s w = position_map (is_named s w) as_feature es
 
 -- one entry more

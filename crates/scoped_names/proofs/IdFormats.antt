@@ -1,16 +1,7 @@
 -- The id of an entry by the parts of it.
 use Rattle.std.proofs.Common.{◌≡◌, ◌∙◌, ℕ, ◌<◌, List, Some, None, length, get_or, slice_get, codes, refl, sym, ap}
-use Rattle.std.specs.Option.{option_map}
-use Rattle.std.proofs.lemmas.Option.{slice_get-map, slice_get_read}
-use Rattle.scoped_names.specs.declared.record.Record.{Record}
-use Rattle.scoped_names.specs.Entry.{Entry}
-use Rattle.scoped_names.specs.Records.{entries_in, entry_of}
-use Rattle.scoped_names.specs.RepositoryIds.{IdPragma, WholeId, VersionOf, given_to, id_by, idl_format, path, prefix_in, repository_id}
-
-pub prefix_at : (records : List Record) (e : ℕ) (r : Record) → e < length records → r ≡ get_or records e r → prefix_in (slice_get (entries_in records) e) ≡ r.prefix.now
-prefix_at records e r lt read =
-    let there : slice_get records e ≡ Some r = slice_get_read records (length records) e r refl lt read in
-    ap prefix_in (slice_get-map entry_of records e ∙ ap (option_map entry_of) there)
+use Rattle.name_table.specs.Entry.{Entry, prefix_in}
+use Rattle.scoped_names.specs.RepositoryIds.{IdPragma, WholeId, VersionOf, given_to, id_by, idl_format, path, repository_id}
 
 formed : (entries : List Entry) (e : ℕ) (prefix : List ℕ) (names : List (List ℕ)) (version : List ℕ) → prefix ≡ prefix_in (slice_get entries e) → names ≡ path entries e
     → idl_format prefix names version ≡ idl_format (prefix_in (slice_get entries e)) (path entries e) version

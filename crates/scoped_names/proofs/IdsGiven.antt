@@ -4,7 +4,7 @@ use Rattle.std.specs.Option.{option_map}
 use Rattle.scoped_names.specs.declared.repository_ids.PragmaId.{PragmaId}
 use Rattle.scoped_names.specs.RepositoryIds.{IdPragma, given_to}
 use Rattle.scoped_names.specs.IdsKept.{given_of, pragmas_of}
-use Rattle.scoped_names.proofs.Stability.{position_cons}
+use Rattle.name_table.proofs.Stability.{position_cons}
 
 abbrev pub id_at : List PragmaId → Option ℕ → Option PragmaId
 id_at gs None = None

@@ -30,20 +30,22 @@ use Rattle.idl_tree.specs.Lists.{parts}
 use Rattle.idl_tree.specs.Starts.{name_start}
 use Rattle.const_values.specs.declared.kind.ConstKind.{ConstKind}
 use Rattle.idl_lexer.specs.Identifiers.{words}
-use Rattle.scoped_names.specs.declared.entry.Base.{Base}
-use Rattle.scoped_names.specs.declared.entry.EntryKind.{EntryKind}
-use Rattle.scoped_names.specs.declared.entry.EntryKind.TheVariants as Entries
-use Rattle.scoped_names.specs.declared.entry.Meaning.{Meaning}
+use Rattle.name_table.specs.declared.entry.Base.{Base}
+use Rattle.name_table.specs.declared.entry.EntryKind.{EntryKind}
+use Rattle.name_table.specs.declared.entry.EntryKind.TheVariants as Entries
+use Rattle.name_table.specs.declared.entry.Meaning.{Meaning}
 use Rattle.scoped_names.specs.declared.fault.NameFault.TheVariants.{BadBase, Collides}
-use Rattle.scoped_names.specs.Entry.{Entry, named}
+use Rattle.name_table.specs.Entry.{Entry, named}
 use Rattle.scoped_names.specs.Constants.{const_type_kind}
-use Rattle.scoped_names.specs.Entries.{attribute_identifiers, const_meant, enum_meant, enumerator_meant, optional_parts, plain, scope_number, scope_of, typedef_meant, with_base}
-use Rattle.scoped_names.specs.Faults.{attribute_read, base_added, base_read, cases_read, const_read, declaration_read, declarator_read, based, declared, declared_as, defined, defined_from, definition_read, definitions_read, enum_read, enumerator_read, except_read, export_read, feature_read, features_of, given_once, interface_read, is_defined, is_something, may_be_base, member_added, member_read, members_read, new_test, nothing_yet, operation_read, param_read, passed, pragma_read, prefix_read, said_read, specification_read, struct_read, switch_read, type_dcl_read, type_kind, type_read, typedef_read, undefined_test, union_read, with_defined}
-use Rattle.scoped_names.specs.IdPragmas.{Said, SetsPrefix, Gives, begins_at_root, identifiers_see, said_by}
+use Rattle.scoped_names.specs.Entries.{attribute_identifiers, const_meant, enum_meant, enumerator_meant, optional_parts, typedef_meant}
+use Rattle.name_table.specs.Entries.{plain, scope_number, scope_of, with_base}
+use Rattle.scoped_names.specs.Faults.{attribute_read, base_added, base_read, cases_read, const_read, declaration_read, declarator_read, based, declared, declared_as, defined, defined_from, definition_read, definitions_read, enum_read, enumerator_read, except_read, export_read, feature_read, given_once, interface_read, is_defined, may_be_base, member_added, member_read, members_read, new_test, nothing_yet, operation_read, param_read, passed, pragma_read, prefix_read, said_read, specification_read, struct_read, switch_read, type_dcl_read, type_kind, type_read, typedef_read, undefined_test, union_read, with_defined}
+use Rattle.name_table.specs.Features.{features_of, is_something}
+use Rattle.scoped_names.specs.IdPragmas.{Said, SetsPrefix, Gives, said_by}
+use Rattle.name_table.specs.Search.{begins_at_root, identifiers_see, inherited, word}
 use Rattle.scoped_names.specs.Introductions.{Introduction, Stands, Has, Body, IsEntry, attribute_introduced, cases_introduced, clashes, declaration_introduced, declarator_introduced, definition_introduced, definitions_introduced, enum_introduced, enumerator_introduced, except_introduced, export_introduced, interface_introduced, introduced, member_introduced, members_introduced, operation_introduced, param_introduced, struct_introduced, switch_introduced, type_dcl_introduced, type_introduced, typedef_introduced, union_introduced}
 use Rattle.scoped_names.specs.Reading.{Reading, State, all, each, ◌>>◌}
 use Rattle.scoped_names.specs.RepositoryIds.{given_to}
-use Rattle.scoped_names.specs.Search.{inherited, word}
 use Rattle.scoped_names.specs.Tests.{attributes_test, const_type_test, found_at, label_test, line, optional_test, param_type_test, raises_test, resolved, simple_type_test, size_test, type_name_test, value_of_type}
 use Rattle.scoped_names.specs.Whole.{AreNames, Whole, whole}
 use Rattle.scoped_names.proofs.Introducing.{Adds, Grows, Holds, Keeps, adds_grown, adds_same, based_grows, body_adds, declares_adds, defined_adds, each_adds, joined, keeps_on, member_adds, passed_same, then_ok, undefined_is}

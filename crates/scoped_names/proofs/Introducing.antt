@@ -9,25 +9,26 @@ use Rattle.std.proofs.lemmas.Option.{slice_get-map, slice_get_within}
 use Rattle.std.proofs.lemmas.Slice.Eq.{bytes_eq-Decides}
 use Rattle.idl_lexer.specs.Words.{same_but_for_case}
 use Rattle.idl_tree.specs.declared.names.Leaf.{Leaf}
-use Rattle.scoped_names.specs.declared.entry.Base.{Base}
-use Rattle.scoped_names.specs.declared.entry.EntryKind.{EntryKind}
-use Rattle.scoped_names.specs.declared.entry.EntryKind.TheVariants as Entries
-use Rattle.scoped_names.specs.declared.entry.Meaning.{Meaning}
+use Rattle.name_table.specs.declared.entry.Base.{Base}
+use Rattle.name_table.specs.declared.entry.EntryKind.{EntryKind}
+use Rattle.name_table.specs.declared.entry.EntryKind.TheVariants as Entries
+use Rattle.name_table.specs.declared.entry.Meaning.{Meaning}
 use Rattle.scoped_names.specs.declared.fault.NameFault.{NameFault}
 use Rattle.scoped_names.specs.declared.fault.NameFault.TheVariants.{Collides, PrefixDiffers}
-use Rattle.scoped_names.specs.Entry.{Entry, is_named, named}
-use Rattle.scoped_names.specs.Entries.{entry_declared, entry_with_base, with_base, with_entry}
-use Rattle.scoped_names.specs.Faults.{declared_as, declares, defined, has_member, is_defined, is_own_name, is_taken, is_there, keeps_prefix, may_reappear, member_added, new_test, passed, reappears, undefined_test, with_declared, with_defined}
+use Rattle.name_table.specs.Entry.{Entry, is_named, named}
+use Rattle.name_table.specs.Entries.{entry_declared, entry_with_base, with_base, with_entry}
+use Rattle.scoped_names.specs.Faults.{declared_as, declares, defined, has_member, is_defined, is_taken, is_there, keeps_prefix, may_reappear, member_added, new_test, passed, reappears, undefined_test, with_declared, with_defined}
+use Rattle.name_table.specs.OwnNames.{is_own_name}
 use Rattle.scoped_names.specs.Introductions.{Introduction, Stands, Has, Body, IsEntry, clashes, is_one_name}
 use Rattle.scoped_names.specs.Reading.{Member, Reading, State, Test, each, ◌>>◌}
-use Rattle.scoped_names.specs.Search.{word}
+use Rattle.name_table.specs.Search.{word}
 use Rattle.scoped_names.specs.Tests.{line}
-use Rattle.scoped_names.proofs.Features.{named_at}
-use Rattle.scoped_names.proofs.Lookups.{position_map}
-use Rattle.scoped_names.proofs.MergedBases.{lower, named_case}
-use Rattle.scoped_names.proofs.MoreBases.{map_like}
-use Rattle.scoped_names.proofs.Stability.{get_push_last, get_push_low, named_push, or_place}
-use Rattle.scoped_names.proofs.Tied.{fresh}
+use Rattle.name_table.proofs.Features.{named_at}
+use Rattle.name_table.proofs.Lookups.{position_map}
+use Rattle.name_table.proofs.MergedBases.{lower, named_case}
+use Rattle.name_table.proofs.MoreBases.{map_like}
+use Rattle.name_table.proofs.Stability.{get_push_last, get_push_low, named_push, or_place}
+use Rattle.name_table.proofs.Tied.{fresh}
 
 -- ---- lists
 

@@ -1,17 +1,7 @@
-pub mod Worked
-pub mod Lookups
-pub mod Inheriting
-pub mod Stability
-pub mod Tied
-pub mod MoreBases
-pub mod MergedBases
 pub mod Paths
 pub mod PragmasSaid
 pub mod Weights
 pub mod ChainWorth
-pub mod GivenBehind
-pub mod Ways
-pub mod WaysKept
 pub mod Readings
 pub mod Sights
 pub mod IdFormats
@@ -20,8 +10,5 @@ pub mod Members
 pub mod FeatureTables
 pub mod Introducing
 pub mod Introduced
-pub mod Features
 pub mod WorkedIds
 pub mod WorkedFaults
-pub mod Orders
-pub mod Numbers

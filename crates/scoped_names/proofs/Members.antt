@@ -3,13 +3,14 @@ use Rattle.std.proofs.Common.{◌≡◌, ◌∙◌, ℕ, Bool, true, false, nat_
 use Rattle.std.specs.Prelude.{◌||◌, if◌then◌else◌}
 use Rattle.std.specs.List.{list_any}
 use Rattle.idl_lexer.specs.Words.{same_but_for_case}
-use Rattle.scoped_names.specs.declared.key.Key.{Key}
+use Rattle.name_table.specs.declared.key.Key.{Key}
 use Rattle.idl_tree.specs.declared.names.Leaf.{Leaf}
 use Rattle.scoped_names.specs.declared.fault.NameFault.TheVariants.{Collides}
-use Rattle.scoped_names.specs.Entry.{named}
-use Rattle.scoped_names.specs.Faults.{has_member, is_own_name, is_there, new_test}
+use Rattle.name_table.specs.Entry.{named}
+use Rattle.scoped_names.specs.Faults.{has_member, is_there, new_test}
+use Rattle.name_table.specs.OwnNames.{is_own_name}
 use Rattle.scoped_names.specs.Reading.{State, Test}
-use Rattle.scoped_names.specs.Search.{word}
+use Rattle.name_table.specs.Search.{word}
 use Rattle.scoped_names.specs.Tests.{line}
 use Rattle.scoped_names.specs.StateKept.{member_of}
 

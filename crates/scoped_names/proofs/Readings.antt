@@ -22,14 +22,14 @@ use Rattle.idl_tree.specs.Yields.{identifier, optional}
 use Rattle.idl_tree.specs.DefinitionYields.{bases_yield, definition_yield, export_yield, interface_yield}
 use Rattle.idl_tree.proofs.Modules.{module_yields}
 use Rattle.idl_tree.proofs.Rows.{chain_walk, module_walk, struct_walk, union_walk}
-use Rattle.scoped_names.specs.declared.entry.EntryKind.TheVariants.{Struct, Union, Module as ModuleKind}
+use Rattle.name_table.specs.declared.entry.EntryKind.TheVariants.{Struct, Union, Module as ModuleKind}
 use Rattle.scoped_names.specs.declared.fault.NameFault.{NameFault}
-use Rattle.scoped_names.proofs.MergedBases.{drop_at}
-use Rattle.scoped_names.specs.declared.entry.Meaning.{Meaning}
+use Rattle.name_table.proofs.MergedBases.{drop_at}
+use Rattle.name_table.specs.declared.entry.Meaning.{Meaning}
 use Rattle.scoped_names.specs.declared.fault.NameFault.TheVariants.{NoMemory, Collides, Unknown}
-use Rattle.scoped_names.specs.Search.{word}
-use Rattle.scoped_names.specs.Entry.{Entry, named}
-use Rattle.scoped_names.specs.Entries.{scope_of}
+use Rattle.name_table.specs.Search.{word}
+use Rattle.name_table.specs.Entry.{Entry, named}
+use Rattle.name_table.specs.Entries.{scope_of}
 use Rattle.scoped_names.specs.Faults.{case_read, cases_read, declarator_read, type_read, declared, declared_as, declares, defined, defined_from, is_left_open, is_taken, reappears, with_declared, definition_read, definitions_read, member_read, members_read, struct_read, switch_read, union_read}
 use Rattle.scoped_names.specs.Reading.{Reading, State, Tells, Test, all, each, ◌>>◌}
 use Rattle.scoped_names.specs.Tests.{label_test, line, names_test, operand_test, operands_test}
@@ -101,7 +101,7 @@ defined_off st k e here open_ =
     ∙ ap (λ b. let t : Test = if b then Err (Unknown e.line) else defined_from st (suc k) (drop (suc k) st.entries) in t) open_
 
 blank : Entry
-blank = record { scope = 0; name = []; token = 0; kind = ModuleKind; bases = []; worth = None; stands_for = None; line = 0; prefix = [] }
+blank = record { scope = 0; name = []; token = 0; kind = ModuleKind; bases = []; worth = None; stands_for = None; line = 0; identifier = 0; prefix = [] }
 
 pub left_open : (st : State) (k : ℕ) (r : Bool) (at : ℕ) → k < length st.entries → IfSome (slice_get st.entries k) (λ e. r ≡ is_left_open st k e)
     → IfSome (slice_get st.entries k) (λ e. at ≡ e.line) → r ≡ true → defined_from st k (drop k st.entries) ≡ Err (Unknown at)

@@ -13,10 +13,10 @@ use Rattle.idl_tree.specs.declared.definitions.Definition.{Definition, Pragma, D
 use Rattle.idl_tree.specs.declared.definitions.Module.{Module as ModuleRecord}
 use Rattle.scoped_names.specs.declared.fault.NameFault.TheVariants.{Unknown, Collides, IdTwice, PrefixDiffers, PrefixInScope}
 use Rattle.scoped_names.specs.declared.fault.NameFault.{NameFault}
-use Rattle.scoped_names.specs.declared.entry.EntryKind.TheVariants.{Module as ModuleKind}
-use Rattle.scoped_names.specs.Entries.{scope_of}
+use Rattle.name_table.specs.declared.entry.EntryKind.TheVariants.{Module as ModuleKind}
+use Rattle.name_table.specs.Entries.{scope_of}
 use Rattle.scoped_names.specs.Faults.{declared, defined_from, definition_read, nothing_yet, passed}
-use Rattle.scoped_names.specs.Entry.{Entry}
+use Rattle.name_table.specs.Entry.{Entry}
 use Rattle.scoped_names.specs.Introductions.{clashes, introduced}
 use Rattle.scoped_names.specs.Reading.{Reading, each, ◌>>◌}
 use Rattle.scoped_names.specs.Whole.{Whole, names_of, whole}

@@ -1,8 +1,8 @@
 -- Repository ids at worked entries.
 use Rattle.std.proofs.Common.{◌≡◌, ℕ, List, [], ◌∷◌, codes, None, refl}
-use Rattle.scoped_names.specs.declared.entry.EntryKind.{EntryKind}
-use Rattle.scoped_names.specs.declared.entry.EntryKind.TheVariants.{Module, Interface, Struct}
-use Rattle.scoped_names.specs.Entry.{Entry}
+use Rattle.name_table.specs.declared.entry.EntryKind.{EntryKind}
+use Rattle.name_table.specs.declared.entry.EntryKind.TheVariants.{Module, Interface, Struct}
+use Rattle.name_table.specs.Entry.{Entry}
 use Rattle.scoped_names.specs.RepositoryIds.{WholeId, VersionOf, repository_id}
 use Rattle.scoped_names.specs.IdPragmas.{said, SetsPrefix, Gives}
 
@@ -16,6 +16,7 @@ entry scope name prefix token kind = record {
   worth = None;
   stands_for = None;
   line = 1;
+  identifier = token;
   prefix = prefix;
 }
 

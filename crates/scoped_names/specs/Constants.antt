@@ -14,12 +14,12 @@ use Rattle.const_values.specs.declared.kind.ConstKind.{ConstKind}
 use Rattle.const_values.specs.declared.kind.ConstKind.TheVariants as Kinds
 use Rattle.const_values.specs.Kinds.{of_kind}
 use Rattle.const_values.specs.Worth.{worth, whole_number, positive}
-use Rattle.scoped_names.specs.Entry.{Entry, worth_in, meant_in}
+use Rattle.name_table.specs.Entry.{Entry, worth_in, meant_in}
 use Rattle.scoped_names.specs.declared.fault.NameFault.{NameFault}
 use Rattle.scoped_names.specs.declared.fault.NameFault.TheVariants.{NoMemory, BadConstant}
-use Rattle.scoped_names.specs.declared.search.Found.{Found}
-use Rattle.scoped_names.specs.declared.search.Found.TheVariants.{Nothing, One, Several}
-use Rattle.scoped_names.specs.Search.{finds}
+use Rattle.name_table.specs.declared.search.Found.{Found}
+use Rattle.name_table.specs.declared.search.Found.TheVariants.{Nothing, One, Several}
+use Rattle.name_table.specs.Search.{finds}
 
 abbrev pub worth_found : List Entry → Found → Option Constant
 worth_found es Nothing = None

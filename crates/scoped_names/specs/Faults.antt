@@ -35,20 +35,22 @@ use Rattle.idl_tree.specs.Lists.{parts}
 use Rattle.idl_tree.specs.Starts.{name_start}
 use Rattle.const_values.specs.declared.kind.ConstKind.{ConstKind}
 use Rattle.const_values.specs.declared.kind.ConstKind.TheVariants as Kinds
-use Rattle.scoped_names.specs.declared.entry.EntryKind.{EntryKind}
-use Rattle.scoped_names.specs.declared.entry.EntryKind.TheVariants as Entries
-use Rattle.scoped_names.specs.declared.entry.Base.{Base}
-use Rattle.scoped_names.specs.declared.entry.Meaning.{Meaning}
+use Rattle.name_table.specs.declared.entry.EntryKind.{EntryKind}
+use Rattle.name_table.specs.declared.entry.EntryKind.TheVariants as Entries
+use Rattle.name_table.specs.declared.entry.Base.{Base}
+use Rattle.name_table.specs.declared.entry.Meaning.{Meaning}
 use Rattle.scoped_names.specs.declared.fault.NameFault.{NameFault}
 use Rattle.scoped_names.specs.declared.fault.NameFault.TheVariants.{Unknown, Collides, IdTwice, BadBase, PrefixInScope, PrefixDiffers}
-use Rattle.scoped_names.specs.declared.search.Found.{Found}
-use Rattle.scoped_names.specs.declared.search.Found.TheVariants.{Nothing, One, Several}
-use Rattle.scoped_names.specs.Entry.{Entry, bases_of, named}
-use Rattle.scoped_names.specs.Search.{inherited, within, word}
+use Rattle.name_table.specs.declared.search.Found.{Found}
+use Rattle.name_table.specs.declared.search.Found.TheVariants.{Nothing, One, Several}
+use Rattle.name_table.specs.Entry.{Entry, bases_of, named}
+use Rattle.name_table.specs.Search.{inherited, within, word, begins_at_root, identifiers_see}
 use Rattle.scoped_names.specs.Constants.{const_type_kind, simple_type_kind}
-use Rattle.scoped_names.specs.Entries.{attribute_identifiers, const_meant, entry_declared, enum_meant, enumerator_meant, is_feature, optional_parts, plain, scope_of, typedef_meant, with_base, with_entry}
+use Rattle.scoped_names.specs.Entries.{attribute_identifiers, const_meant, enum_meant, enumerator_meant, optional_parts, typedef_meant}
+use Rattle.name_table.specs.Entries.{entry_declared, plain, scope_of, with_base, with_entry}
+use Rattle.name_table.specs.Features.{is_feature}
 use Rattle.scoped_names.specs.RepositoryIds.{GivenId, IdPragma, given_to}
-use Rattle.scoped_names.specs.IdPragmas.{Said, SetsPrefix, Gives, begins_at_root, identifiers_see, is_same_given, said_by}
+use Rattle.scoped_names.specs.IdPragmas.{Said, SetsPrefix, Gives, is_same_given, said_by}
 use Rattle.scoped_names.specs.Reading.{Member as Field, State, Reading, Test, ◌>>◌, all, each}
 use Rattle.scoped_names.specs.Tests.{type_name_test, attributes_test, const_type_test, found_at, is_of, label_test, line, optional_test, param_type_test, raises_test, resolved, simple_type_test, size_test, value_of_type}
 
@@ -57,29 +59,6 @@ abbrev pub passed : State → Test → Reading
 passed st test = test >> λ u. Ok st
 
 -- ---- names that are taken
-
--- a module, an interface, a structure, a union or an exception: its name isn't declared directly inside it
-abbrev pub keeps_its_name : EntryKind → Bool
-keeps_its_name Entries.Module = true
-keeps_its_name Entries.Interface = true
-keeps_its_name Entries.Struct = true
-keeps_its_name Entries.Union = true
-keeps_its_name Entries.Enum = true
-keeps_its_name Entries.Enumerator = true
-keeps_its_name Entries.Typedef = true
-keeps_its_name Entries.Const = true
-keeps_its_name Entries.Exception = true
-keeps_its_name Entries.Operation = false
-keeps_its_name Entries.Attribute = true
-
-abbrev pub is_named_so : List ℕ → Option Entry → Bool
-is_named_so name None = false
-is_named_so name (Some e) = keeps_its_name e.kind && same_but_for_case e.name name
-
--- the scope's own name
-abbrev pub is_own_name : List Entry → ℕ → List ℕ → Bool
-is_own_name es zero name = false
-is_own_name es (suc e) name = is_named_so name (slice_get es e)
 
 abbrev pub has_member : List Field → ℕ → List ℕ → Bool
 has_member members scope name =
@@ -266,22 +245,6 @@ declaration_read st scope (Declarations.Except e) = except_read st scope e
 
 -- ---- operations and attributes
 
--- of the features nothing but operations and attributes is found: no name stands behind all tokens
-abbrev pub feature_token : Entry → ℕ
-feature_token e = (if is_feature e.kind then e.token else 18446744073709551615)
-
-abbrev pub as_feature : Entry → Entry
-as_feature e = record e { token = feature_token e; worth = None; stands_for = None }
-
--- the entries, of which no type hides an operation or attribute
-abbrev pub features_of : List Entry → List Entry
-features_of es = map as_feature es
-
-abbrev pub is_something : Found → Bool
-is_something Nothing = false
-is_something (One e) = true
-is_something Several = true
-
 -- an operation or attribute, whose name isn't that of one that the interface inherits
 abbrev pub feature_read : EntryKind → State → ℕ → Leaf → Reading
 feature_read kind st scope l =
@@ -309,22 +272,6 @@ operation_read st scope o = optional_test (param_type_test st.entries scope) o.r
 abbrev pub is_interface : EntryKind → Bool
 is_interface Entries.Interface = true
 is_interface _ = false
-
-abbrev pub is_one_other : Found → Found → Bool
-is_one_other (One a) (One b) = not (nat_eq a b)
-is_one_other (One a) Nothing = false
-is_one_other (One a) Several = false
-is_one_other Nothing b = false
-is_one_other Several b = false
-
--- of a name what the bases before give is another operation or attribute than the base gives
-abbrev pub differ_in : List Entry → ℕ → Base → List ℕ → Bool
-differ_in features inner base name =
-    is_one_other (inherited features base.token inner name) (within features base.token (suc base.entry) name)
-
--- of some name
-abbrev pub differ : List Entry → ℕ → Base → Bool
-differ features inner base = list_any (λ e. differ_in features inner base e.name) features
 
 abbrev pub is_defined_interface : State → ℕ → Bool
 is_defined_interface st e = is_of is_interface (slice_get st.entries e) && is_defined st (suc e)

@@ -7,10 +7,10 @@ use Rattle.idl_lexer.specs.declared.token.Kind.TheVariants.{Ident, Keyword, Punc
 use Rattle.idl_lexer.specs.Directives.{before_quote, from_quote, pragma_rest, pragma_word, quoted_text, version_number, version_place}
 use Rattle.idl_lexer.specs.Words.{unescaped}
 use Rattle.idl_tree.specs.declared.names.Leaf.{Leaf}
-use Rattle.scoped_names.specs.Entry.{Entry}
-use Rattle.scoped_names.specs.declared.search.Sight.{Sight}
-use Rattle.scoped_names.specs.declared.search.Sight.TheVariants.{Unseen}
-use Rattle.scoped_names.specs.Search.{sees_words}
+use Rattle.name_table.specs.Entry.{Entry}
+use Rattle.name_table.specs.declared.search.Sight.{Sight}
+use Rattle.name_table.specs.declared.search.Sight.TheVariants.{Unseen}
+use Rattle.name_table.specs.Search.{sees_words}
 use Rattle.scoped_names.specs.RepositoryIds.{GivenId, WholeId, VersionOf}
 
 -- what a pragma for repository ids says: a prefix, or a name and what it gives to it
@@ -48,12 +48,3 @@ is_same_given (WholeId a) (WholeId b) = bytes_eq a b
 is_same_given (WholeId a) (VersionOf b) = false
 is_same_given (VersionOf a) (WholeId b) = false
 is_same_given (VersionOf a) (VersionOf b) = bytes_eq a b
-
-abbrev pub begins_at_root : List ℕ → Bool
-begins_at_root name = slice_index name 0 == 58 && slice_index name 1 == 58
-
--- what is seen where identifiers are sought before the token, from the scope
-abbrev pub identifiers_see : List Entry → ℕ → ℕ → Bool → List (List ℕ) → Sight
-identifiers_see entries token scope rooted [] = Unseen
-identifiers_see entries token scope rooted (w ∷ ws) =
-    sees_words entries token scope rooted (unescaped w) (map unescaped ws)

@@ -26,12 +26,13 @@ use Rattle.idl_tree.specs.declared.definitions.Interface.{Interface}
 use Rattle.idl_tree.specs.declared.definitions.Interface.TheVariants.{Ahead, Defined}
 use Rattle.idl_tree.specs.declared.definitions.Definition.{Definition, Pragma, Declaration as Declared, Interface as InterfaceDcl, Module', Row_of-Definition, end_of-Definition, more_of-Definition}
 use Rattle.idl_tree.specs.Lists.{parts}
-use Rattle.scoped_names.specs.declared.entry.EntryKind.{EntryKind}
-use Rattle.scoped_names.specs.declared.entry.EntryKind.TheVariants as Entries
-use Rattle.scoped_names.specs.Entry.{Entry, named}
-use Rattle.scoped_names.specs.Entries.{attribute_identifiers, optional_parts, scope_of}
+use Rattle.name_table.specs.declared.entry.EntryKind.{EntryKind}
+use Rattle.name_table.specs.declared.entry.EntryKind.TheVariants as Entries
+use Rattle.name_table.specs.Entry.{Entry, named}
+use Rattle.scoped_names.specs.Entries.{attribute_identifiers, optional_parts}
+use Rattle.name_table.specs.Entries.{scope_of}
 use Rattle.scoped_names.specs.Faults.{may_reappear}
-use Rattle.scoped_names.specs.Search.{word}
+use Rattle.name_table.specs.Search.{word}
 
 pub data Introduction : Type 0 where
   -- an identifier that stands for something of the kind

@@ -1,6 +1,6 @@
 -- What reading a part of a specification gives: what is known behind the part, or the first fault in it.
 use Rattle.std.specs.Prelude.{◌≡◌, ◌⊎◌, ℕ, List, [], ◌∷◌, Result, Ok, Err, MatchResult}
-use Rattle.scoped_names.specs.Entry.{Entry}
+use Rattle.name_table.specs.Entry.{Entry}
 use Rattle.scoped_names.specs.RepositoryIds.{IdPragma}
 use Rattle.scoped_names.specs.declared.fault.NameFault.{NameFault}
 use Rattle.scoped_names.specs.declared.fault.NameFault.TheVariants.{NoMemory}

@@ -3,7 +3,7 @@
 -- them, and behind the last colon a version, which is 1.0 where no pragma gives another.
 use Rattle.std.specs.Prelude.{ℕ, zero, suc, cond, nat_eq, List, [], ◌∷◌, ◌++◌, Option, Some, None, slice_get, codes}
 use Rattle.std.specs.List.{flat_map}
-use Rattle.scoped_names.specs.Entry.{Entry, around}
+use Rattle.name_table.specs.Entry.{Entry, around}
 
 -- what a pragma gives to a name: its whole id, or its version
 pub data GivenId : Type 0 where
@@ -19,14 +19,6 @@ pub record IdPragma : Type 0 where
 abbrev pub prefix_part : List ℕ → List ℕ
 prefix_part [] = []
 prefix_part (c ∷ cs) = (c ∷ cs) ++ codes "/"
-
-abbrev pub name_in : Option Entry → List ℕ
-name_in None = []
-name_in (Some e) = e.name
-
-abbrev pub prefix_in : Option Entry → List ℕ
-prefix_in None = []
-prefix_in (Some e) = e.prefix
 
 -- the names from the outermost scope to this one; there are no more than the number of the scope
 abbrev pub names_to : List Entry → ℕ → ℕ → List (List ℕ)

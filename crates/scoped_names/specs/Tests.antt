@@ -22,14 +22,14 @@ use Rattle.idl_tree.specs.Starts.{name_start, expr_start}
 use Rattle.const_values.specs.declared.constant.Constant.{Constant}
 use Rattle.const_values.specs.declared.kind.ConstKind.{ConstKind}
 use Rattle.const_values.specs.Worth.{whole_number, positive}
-use Rattle.scoped_names.specs.declared.entry.EntryKind.{EntryKind}
-use Rattle.scoped_names.specs.declared.entry.EntryKind.TheVariants.{Module, Interface, Struct, Union, Enum, Enumerator, Typedef, Const, Exception, Operation, Attribute}
+use Rattle.name_table.specs.declared.entry.EntryKind.{EntryKind}
+use Rattle.name_table.specs.declared.entry.EntryKind.TheVariants.{Module, Interface, Struct, Union, Enum, Enumerator, Typedef, Const, Exception, Operation, Attribute}
 use Rattle.scoped_names.specs.declared.fault.NameFault.{NameFault}
 use Rattle.scoped_names.specs.declared.fault.NameFault.TheVariants.{Unknown, CaseDiffers, Ambiguous, NotAType, BadConstant}
-use Rattle.scoped_names.specs.declared.search.Sight.{Sight}
-use Rattle.scoped_names.specs.declared.search.Sight.TheVariants.{Unseen, OtherCase, Unclear, Seen}
-use Rattle.scoped_names.specs.Entry.{Entry, worth_in}
-use Rattle.scoped_names.specs.Search.{sees}
+use Rattle.name_table.specs.declared.search.Sight.{Sight}
+use Rattle.name_table.specs.declared.search.Sight.TheVariants.{Unseen, OtherCase, Unclear, Seen}
+use Rattle.name_table.specs.Entry.{Entry, worth_in}
+use Rattle.name_table.specs.Search.{sees}
 use Rattle.scoped_names.specs.Constants.{of_type, worth_in_scope}
 use Rattle.scoped_names.specs.Entries.{optional_parts}
 use Rattle.scoped_names.specs.Reading.{Test, ◌>>◌, all}
@@ -42,7 +42,7 @@ line l = l.token.now.line
 abbrev pub found_at : ℕ → Sight → Result ℕ NameFault
 found_at at (Seen e) = Ok e
 found_at at Unseen = Err (Unknown at)
-found_at at OtherCase = Err (CaseDiffers at)
+found_at at (OtherCase e) = Err (CaseDiffers at)
 found_at at Unclear = Err (Ambiguous at)
 
 -- the entry that a name finds that stands in the scope

@@ -2,7 +2,7 @@
 use Rattle.std.specs.Prelude.{◌≡◌, List, Result, Ok}
 use Rattle.idl_tree.specs.declared.definitions.Definition.{Definition}
 use Rattle.scoped_names.specs.declared.fault.NameFault.{NameFault}
-use Rattle.scoped_names.specs.Entry.{Entry}
+use Rattle.name_table.specs.Entry.{Entry}
 use Rattle.scoped_names.specs.Faults.{specification_read}
 use Rattle.scoped_names.specs.Reading.{State, ◌>>◌}
 use Rattle.scoped_names.specs.RepositoryIds.{IdPragma}

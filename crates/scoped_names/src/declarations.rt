@@ -4,15 +4,18 @@ ghost use Rattle.std.specs.Prelude.{◌≡◌, ◌≤◌, ◌<◌, ◌^◌, leng
 ghost use Rattle.std.specs.List.{flat_map};
 ghost use Rattle.idl_tree.specs.Lists.{parts};
 ghost use Rattle.idl_tree.specs.DefinitionYields.{const_yield, declaration_yield, export_yield, interface_yield, definition_yield};
-ghost use Rattle.scoped_names.specs.Entries.{attribute_identifiers, optional_parts, scope_of};
+ghost use Rattle.scoped_names.specs.Entries.{attribute_identifiers, optional_parts};
+ghost use Rattle.name_table.specs.Entries.{scope_of};
 ghost use Rattle.scoped_names.specs.Faults.{attribute_read, base_read, const_read, declaration_read, definition_read, except_read, export_read, feature_read, interface_read, operation_read, param_read, type_dcl_read, typedef_read};
 ghost use Rattle.scoped_names.specs.Reading.{Checks, Tells, each};
 ghost use Rattle.scoped_names.specs.Tests.{attributes_test, optional_test, param_type_test, raised_test, raises_test};
 
-use crate::entry::{Base, EntryKind, Meaning};
+use name_table::{Base, EntryKind, Meaning};
+use crate::evaluation::{bind_sizes, resolve, value_of_kind};
 use crate::fault::NameFault;
 use crate::reader::Reader;
-use crate::table::Table;
+use crate::types::{bind_const_type, bind_param_type};
+use name_table::Table;
 use const_values::ConstKind;
 use idl_tree::definitions::{
     Attribute, Attributes, Const, Declaration, Definition, Except, Export, Interface, Operation,
@@ -22,83 +25,80 @@ use idl_tree::names::{Leaf, Listed, ScopedName};
 use idl_tree::types::{Declarator, ParamType};
 use std::alloc::Global;
 
-impl<'a> Table<'a> {
-    /// The name of an exception.
-    fn bind_raised(&self, scope: usize, name: &ScopedName<'a>) -> Result<(), NameFault>
-        requires { scope ≤ length self.now }
-        ensures { Checks result (raised_test self.now scope name.now) }
-    {
-        let entry = self.resolve(scope, name)?;
-        match self.kind(entry) {
-            EntryKind::Exception => Ok(()),
-            _ => Err(NameFault::NotAType {
-                line: name.start().token.line,
-            }),
-        }
-    }
-
-    /// Names of exceptions.
-    fn bind_raises(&self, scope: usize, names: &Listed<ScopedName<'a>>) -> Result<(), NameFault>
-        requires { scope ≤ length self.now }
-        ensures { Checks result (raises_test self.now scope (parts names.now)) }
-    {
-        for name in names.iter() {
-            self.bind_raised(scope, name)?;
-        }
-        Ok(())
-    }
-
-    fn bind_optional_raises(
-        &self,
-        scope: usize,
-        names: &Option<Listed<ScopedName<'a>>>,
-    ) -> Result<(), NameFault>
-        requires { scope ≤ length self.now }
-        ensures { Checks result (raises_test self.now scope (optional_parts names.now)) }
-    {
-        match names {
-            Some(names) => self.bind_raises(scope, names),
-            None => Ok(()),
-        }
-    }
-
-    /// The type of a result, if there is one.
-    fn bind_result_type(
-        &self,
-        alloc: Global,
-        scope: usize,
-        t: &Option<ParamType<'a>>,
-    ) -> Result<(), NameFault>
-        requires { scope ≤ length self.now }
-        ensures { Checks result (optional_test (param_type_test self.now scope) t.now) }
-    {
-        if let Some(t) = t {
-            self.bind_param_type(alloc, scope, t)?;
-        }
-        Ok(())
-    }
-
-    /// What attributes raise.
-    fn bind_attributes_raise(
-        &self,
-        scope: usize,
-        attributes: &Attributes<'a>,
-    ) -> Result<(), NameFault>
-        requires { scope ≤ length self.now }
-        ensures { Checks result (attributes_test self.now scope attributes.now) }
-    {
-        match attributes {
-            Attributes::Silent { .. } => Ok(()),
-            Attributes::Readonly { raises, .. } => self.bind_raises(scope, raises),
-            Attributes::Get { get, set, .. } => {
-                self.bind_raises(scope, get)?;
-                self.bind_optional_raises(scope, set)
-            }
-            Attributes::Set { set, .. } => self.bind_raises(scope, set),
-        }
+/// The name of an exception.
+fn bind_raised<'a>(table: &Table<'a>, scope: usize, name: &ScopedName<'a>) -> Result<(), NameFault>
+    requires { scope ≤ length table.now }
+    ensures { Checks result (raised_test table.now scope name.now) }
+{
+    let entry = resolve(table, scope, name)?;
+    match table.kind(entry) {
+        EntryKind::Exception => Ok(()),
+        _ => Err(NameFault::NotAType {
+            line: name.start().token.line,
+        }),
     }
 }
 
+/// Names of exceptions.
+fn bind_raises<'a>(table: &Table<'a>, scope: usize, names: &Listed<ScopedName<'a>>) -> Result<(), NameFault>
+    requires { scope ≤ length table.now }
+    ensures { Checks result (raises_test table.now scope (parts names.now)) }
+{
+    for name in names.iter() {
+        bind_raised(table, scope, name)?;
+    }
+    Ok(())
+}
+
+fn bind_optional_raises<'a>(
+    table: &Table<'a>,
+    scope: usize,
+    names: &Option<Listed<ScopedName<'a>>>,
+) -> Result<(), NameFault>
+    requires { scope ≤ length table.now }
+    ensures { Checks result (raises_test table.now scope (optional_parts names.now)) }
+{
+    match names {
+        Some(names) => bind_raises(table, scope, names),
+        None => Ok(()),
+    }
+}
+
+/// The type of a result, if there is one.
+fn bind_result_type<'a>(
+    table: &Table<'a>,
+    alloc: Global,
+    scope: usize,
+    t: &Option<ParamType<'a>>,
+) -> Result<(), NameFault>
+    requires { scope ≤ length table.now }
+    ensures { Checks result (optional_test (param_type_test table.now scope) t.now) }
+{
+    if let Some(t) = t {
+        bind_param_type(table, alloc, scope, t)?;
+    }
+    Ok(())
+}
+
+/// What attributes raise.
+fn bind_attributes_raise<'a>(
+    table: &Table<'a>,
+    scope: usize,
+    attributes: &Attributes<'a>,
+) -> Result<(), NameFault>
+    requires { scope ≤ length table.now }
+    ensures { Checks result (attributes_test table.now scope attributes.now) }
+{
+    match attributes {
+        Attributes::Silent { .. } => Ok(()),
+        Attributes::Readonly { raises, .. } => bind_raises(table, scope, raises),
+        Attributes::Get { get, set, .. } => {
+            bind_raises(table, scope, get)?;
+            bind_optional_raises(table, scope, set)
+        }
+        Attributes::Set { set, .. } => bind_raises(table, scope, set),
+    }
+}
 impl<'a> Reader<'a> {
     /// A name for a type that is in the end of the kind, if it is a type of constants.
     fn declare_typedef(
@@ -121,8 +121,7 @@ impl<'a> Reader<'a> {
             stands_for: if is_array { None } else { kind },
         };
         self.declare_as(alloc, scope, identifier, meaning)?;
-        self.table
-            .bind_sizes(alloc, scope, declarator.sizes.as_slice())
+        bind_sizes(&self.table, alloc, scope, declarator.sizes.as_slice())
     }
 
     fn bind_declarators(
@@ -181,9 +180,9 @@ impl<'a> Reader<'a> {
         ensures told { Tells result self.new (const_read self.old scope c.now) }
         ensures longer { length self.old.entries ≤ length self.new.entries }
     {
-        let kind = self.table.bind_const_type(alloc, scope, &c.const_type)?;
+        let kind = bind_const_type(&self.table, alloc, scope, &c.const_type)?;
         self.is_new(scope, c.identifier)?;
-        let worth = self.table.value_of_kind(alloc, scope, kind, &c.value.expr)?;
+        let worth = value_of_kind(&self.table, alloc, scope, kind, &c.value.expr)?;
         let behind = c.value.expr.token_count() + 2;
         let Some(token) = c.identifier.number.checked_add(behind) else {
             return Err(NameFault::NoMemory);
@@ -299,7 +298,7 @@ impl<'a> Reader<'a> {
         ensures longer { length self.old.entries ≤ length self.new.entries }
     {
         for param in params.iter() {
-            self.table.bind_param_type(alloc, scope, &param.param_type)?;
+            bind_param_type(&self.table, alloc, scope, &param.param_type)?;
             self.add_member(inner, param.identifier)?;
         }
         Ok(())
@@ -332,10 +331,10 @@ impl<'a> Reader<'a> {
         ensures told { Tells result self.new (operation_read self.old scope o.now) }
         ensures longer { length self.old.entries ≤ length self.new.entries }
     {
-        self.table.bind_result_type(alloc, scope, &o.result_type)?;
+        bind_result_type(&self.table, alloc, scope, &o.result_type)?;
         let inner = self.bind_feature(alloc, scope, o.identifier, EntryKind::Operation)?;
         self.bind_optional_params(alloc, scope, inner, &o.params)?;
-        self.table.bind_optional_raises(scope, &o.raises)
+        bind_optional_raises(&self.table, scope, &o.raises)
     }
 
     fn bind_attribute(
@@ -348,9 +347,9 @@ impl<'a> Reader<'a> {
         ensures told { Tells result self.new (attribute_read self.old scope a.now) }
         ensures longer { length self.old.entries ≤ length self.new.entries }
     {
-        self.table.bind_param_type(alloc, scope, &a.attribute_type)?;
+        bind_param_type(&self.table, alloc, scope, &a.attribute_type)?;
         self.bind_attributes(alloc, scope, &a.declared)?;
-        self.table.bind_attributes_raise(scope, &a.declared)
+        bind_attributes_raise(&self.table, scope, &a.declared)
     }
 
     fn bind_export(
@@ -386,7 +385,7 @@ impl<'a> Reader<'a> {
         ensures longer { length self.old.entries ≤ length self.new.entries }
     {
         for name in names.iter() {
-            let entry = self.table.resolve(scope, name)?;
+            let entry = resolve(&self.table, scope, name)?;
             let start = name.start();
             let base = Base {
                 token: start.number,

@@ -5,14 +5,15 @@ ghost use Rattle.std.specs.String.{string_bytes};
 ghost use Rattle.scoped_names.specs.Constants.{size_in_scope, worth_in_scope};
 ghost use Rattle.scoped_names.specs.Reading.{Gives};
 ghost use Rattle.scoped_names.specs.Tests.{resolved, size_read, value_read};
-ghost use Rattle.scoped_names.specs.Entry.{AreDistinct, bases_in, meant_in, named, worth_in};
-ghost use Rattle.scoped_names.specs.RepositoryIds.{name_in, path as path_of, repository_id};
-ghost use Rattle.scoped_names.specs.Search.{Finds, word};
+ghost use Rattle.name_table.specs.Entry.{AreDistinct, bases_in, meant_in, named, worth_in, name_in};
+ghost use Rattle.scoped_names.specs.RepositoryIds.{path as path_of, repository_id};
+ghost use Rattle.name_table.specs.Search.{Finds, word};
 
-use crate::entry::{Base, EntryKind};
+use name_table::{Base, EntryKind};
+use crate::evaluation::{resolve, size_of, value_of};
 use crate::fault::NameFault;
-use crate::repository_ids::IdPragmas;
-use crate::table::Table;
+use crate::repository_ids::{IdPragmas, path_to};
+use name_table::Table;
 use const_values::{ConstKind, Constant};
 use idl_tree::expression::Expr;
 use idl_tree::names::{Leaf, ScopedName};
@@ -48,7 +49,7 @@ impl<'a> Names<'a> {
         ensures finds { (entry : ℕ) → (result ≡ Ok entry) ↔ Finds self.now.entries scope name.now entry }
         ensures placed { IfOk result (λ entry. entry < length self.now.entries) }
     {
-        self.table.resolve(scope, name)
+        resolve(&self.table, scope, name)
     }
 
     /// How many entries there are. No two of one scope have names that differ in case at most.
@@ -149,7 +150,7 @@ impl<'a> Names<'a> {
         ensures told { Gives result (value_read self.now.entries scope expr.now) }
         ensures ok { IfOk result (λ c. worth_in_scope self.now.entries scope expr.now ≡ Some c) }
     {
-        self.table.value(alloc, scope, expr)
+        value_of(&self.table, alloc, scope, expr)
     }
 
     /// What it is worth as a bound or a size, which is a whole number of at least 1.
@@ -162,7 +163,7 @@ impl<'a> Names<'a> {
         ensures told { Gives result (size_read self.now.entries scope expr.now) }
         ensures ok { IfOk result (λ n. size_in_scope self.now.entries scope expr.now ≡ Some n) }
     {
-        self.table.size(alloc, scope, expr)
+        size_of(&self.table, alloc, scope, expr)
     }
 
     /// The names from the outermost scope to an entry's, its own the last.
@@ -174,7 +175,7 @@ impl<'a> Names<'a> {
         requires { entry < length self.now.entries }
         ensures { IfOk result (λ names. map (λ n. n.now) names.items ≡ path_of self.now.entries entry) }
     {
-        self.table.path(alloc, entry)
+        path_to(alloc, &self.table, entry)
     }
 
     /// The repository id of an entry.
@@ -186,6 +187,6 @@ impl<'a> Names<'a> {
         requires { entry < length self.now.entries }
         ensures { IfOk result (λ id. string_bytes id ≡ repository_id self.now.entries self.now.rules entry) }
     {
-        self.table.repository_id(alloc, &self.ids, entry)
+        self.ids.repository_id(alloc, &self.table, entry)
     }
 }

@@ -6,6 +6,7 @@ ghost use Rattle.scoped_names.specs.IdPragmas.{Gives as GivesTo};
 ghost use Rattle.scoped_names.specs.IdsKept.{given_of};
 ghost use Rattle.scoped_names.specs.Reading.{Tells};
 
+use crate::evaluation::found_at;
 use crate::fault::NameFault;
 use crate::reader::Reader;
 use crate::repository_ids::PragmaId;
@@ -27,7 +28,7 @@ impl<'a> Reader<'a> {
     {
         let line = leaf.token.line;
         let seen = self.table.look_for_words(leaf.number, scope, name);
-        self.ids.give(seen.found_at(line)?, given, line)
+        self.ids.give(found_at(seen, line)?, given, line)
     }
 
     /// A pragma. A prefix is set in the file's scope alone.

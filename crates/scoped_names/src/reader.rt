@@ -1,24 +1,21 @@
 //! The walk over a specification: what was read so far.
 
-ghost use Rattle.std.specs.Prelude.{◌≡◌, ◌≤◌, ◌<◌, ◌^◌, length, slice_get, IfOk, IfErr, IfSome, Ok};
+ghost use Rattle.std.specs.Prelude.{◌≡◌, ◌≤◌, ◌<◌, ◌^◌, length, slice_get, IfOk, IfErr, IfSome, None, Ok};
 ghost use Rattle.scoped_names.specs.declared.fault.NameFault.TheVariants.{NoMemory};
 ghost use Rattle.std.specs.List.{flat_map};
 ghost use Rattle.idl_tree.specs.DefinitionYields.{definition_yield};
-ghost use Rattle.scoped_names.specs.Entries.{scope_of};
-ghost use Rattle.scoped_names.specs.Search.{inherited, word};
-ghost use Rattle.scoped_names.specs.Faults.{all_read, base_added, based, declared, declared_as, defined, defined_from, features_of, has_body, is_defined_interface, is_interface, is_left_open, is_something, is_taken, keeps_prefix, may_be_base, may_reappear, member_added, new_test, nothing_yet, prefix_read, reappears, undefined_test, with_declared, with_defined};
+ghost use Rattle.name_table.specs.Entries.{scope_of};
+ghost use Rattle.name_table.specs.Search.{inherited, word};
+ghost use Rattle.scoped_names.specs.Faults.{all_read, base_added, based, declared, declared_as, defined, defined_from, has_body, is_defined_interface, is_interface, is_left_open, is_taken, keeps_prefix, may_be_base, may_reappear, member_added, new_test, nothing_yet, prefix_read, reappears, undefined_test, with_declared, with_defined};
+ghost use Rattle.name_table.specs.Features.{features_of, is_something};
 ghost use Rattle.scoped_names.specs.Reading.{Checks, Tells};
-ghost use Rattle.scoped_names.specs.Entry.{AreDistinct};
+ghost use Rattle.name_table.specs.Entry.{AreDistinct, named};
 ghost use Rattle.scoped_names.specs.Whole.{whole};
 
-use crate::entry::{Base, EntryKind, Meaning};
 use crate::fault::NameFault;
-use crate::key::{Key, Word};
 use crate::names::Names;
-use crate::numbered::Numbered;
-use crate::record::Record;
 use crate::repository_ids::IdPragmas;
-use crate::table::Table;
+use name_table::{Base, EntryKind, Key, Meaning, Numbered, Record, Table, Word};
 use idl_tree::definitions::Definition;
 use idl_tree::names::Leaf;
 use std::alloc::Global;
@@ -32,6 +29,8 @@ pub(crate) struct Reader<'a> {
     features: Table<'a>,
     /// Memory was refused in the midst of a change, and the two tables may be out of step.
     is_spoilt: bool,
+    /// The token of the last base.
+    latest: usize,
     /// The members and parameters that each scope has; no search finds them.
     members: Numbered<Key<'a>>,
     /// The scopes of which a definition was read.
@@ -46,57 +45,56 @@ impl<'a> Model for Reader<'a> {
     ghost use Rattle.std.specs.Prelude.{map};
     ghost use Rattle.scoped_names.specs.Reading.{State};
     ghost use Rattle.scoped_names.specs.StateKept.{member_of};
-    ghost use Rattle.std.specs.Prelude.{◌≡◌, false};
-    ghost use Rattle.scoped_names.specs.Faults.{features_of};
+    ghost use Rattle.std.specs.Prelude.{◌≡◌, ◌≤◌, false};
+    ghost use Rattle.name_table.specs.Entries.{latest};
+    ghost use Rattle.name_table.specs.Features.{features_of};
 
     ghost Value = { State };
 
     ghost view = { λ r. record { entries = r.table; members = map member_of r.members; defined = r.defined; prefix = r.prefix.now; given = r.ids } };
 
-    ghost invariant = { λ r. r.is_spoilt ≡ false → r.features ≡ features_of r.table };
+    ghost invariant = { λ r. r.is_spoilt ≡ false → (r.features ≡ features_of r.table) × (latest r.table ≤ r.latest) };
 }
 
-impl EntryKind {
-    /// Whether what was declared as this may be declared again as that.
-    fn may_reappear(self, other: EntryKind) -> bool
-        ensures { result ≡ may_reappear self other }
-    {
-        match (self, other) {
-            (EntryKind::Module, EntryKind::Module)
-            | (EntryKind::Interface, EntryKind::Interface)
-            | (EntryKind::Struct, EntryKind::Struct)
-            | (EntryKind::Union, EntryKind::Union) => true,
-            _ => false,
-        }
+/// Whether what was declared as this may be declared again as that.
+fn may_reappear(kind: EntryKind, other: EntryKind) -> bool
+    ensures { result ≡ may_reappear kind other }
+{
+    match (kind, other) {
+        (EntryKind::Module, EntryKind::Module)
+        | (EntryKind::Interface, EntryKind::Interface)
+        | (EntryKind::Struct, EntryKind::Struct)
+        | (EntryKind::Union, EntryKind::Union) => true,
+        _ => false,
     }
+}
 
-    /// Whether its prefix is that of its first declaration.
-    fn keeps_prefix(self) -> bool
-        ensures { result ≡ keeps_prefix self }
-    {
-        match self {
-            EntryKind::Module => false,
-            _ => true,
-        }
+/// Whether its prefix is that of its first declaration.
+fn keeps_prefix(kind: EntryKind) -> bool
+    ensures { result ≡ keeps_prefix kind }
+{
+    match kind {
+        EntryKind::Module => false,
+        _ => true,
     }
+}
 
-    /// A structure or a union.
-    fn has_body(self) -> bool
-        ensures { result ≡ has_body self }
-    {
-        match self {
-            EntryKind::Struct | EntryKind::Union => true,
-            _ => false,
-        }
+/// A structure or a union.
+fn has_body(kind: EntryKind) -> bool
+    ensures { result ≡ has_body kind }
+{
+    match kind {
+        EntryKind::Struct | EntryKind::Union => true,
+        _ => false,
     }
+}
 
-    fn is_interface(self) -> bool
-        ensures { result ≡ is_interface self }
-    {
-        match self {
-            EntryKind::Interface => true,
-            _ => false,
-        }
+fn is_interface(kind: EntryKind) -> bool
+    ensures { result ≡ is_interface kind }
+{
+    match kind {
+        EntryKind::Interface => true,
+        _ => false,
     }
 }
 
@@ -110,6 +108,7 @@ impl<'a> Reader<'a> {
             table: Table::new(alloc)?,
             features: Table::new(alloc)?,
             is_spoilt: false,
+            latest: 0,
             members: Numbered::new(alloc),
             defined: Numbered::new(alloc),
             prefix: "",
@@ -137,11 +136,11 @@ impl<'a> Reader<'a> {
     {
         let line = identifier.token.line;
         let is_same = identifier.name().as_bytes() == self.table.name(number).as_bytes();
-        if !(kind.may_reappear(self.table.kind(number)) && is_same) {
+        if !(may_reappear(kind, self.table.kind(number)) && is_same) {
             return Err(NameFault::Collides { line });
         }
         let has_prefix = self.prefix.as_bytes() == self.table.prefix(number).as_bytes();
-        if kind.keeps_prefix() && !has_prefix {
+        if keeps_prefix(kind) && !has_prefix {
             return Err(NameFault::PrefixDiffers { line });
         }
         Ok(())
@@ -155,11 +154,12 @@ impl<'a> Reader<'a> {
         identifier: Leaf<'a>,
         meaning: Meaning,
     ) -> Result<(), NameFault>
-        requires { scope ≤ length self.old.entries }
+        requires scope { scope ≤ length self.old.entries }
+        requires fresh { named self.old.entries scope (word identifier.entry) ≡ None }
         ensures told { Tells result self.new (Ok (with_declared meaning self.old scope identifier.entry)) }
         ensures longer { length self.old.entries ≤ length self.new.entries }
     {
-        if self.is_spoilt {
+        if self.is_spoilt || meaning.token < self.latest {
             return Err(NameFault::NoMemory);
         }
         self.is_spoilt = true;
@@ -371,7 +371,7 @@ impl<'a> Reader<'a> {
         ensures told { Tells result self.new (Ok (based self.old inner base)) }
         ensures longer { length self.old.entries ≤ length self.new.entries }
     {
-        if self.is_spoilt {
+        if self.is_spoilt || base.token <= self.latest {
             return Err(NameFault::NoMemory);
         }
         self.is_spoilt = true;
@@ -380,6 +380,7 @@ impl<'a> Reader<'a> {
         self.features.add_base(alloc, inner, base)?;
         self.table.shorten(alloc, scope)?;
         self.table.add_base(alloc, inner, base)?;
+        self.latest = base.token;
         self.is_spoilt = false;
         Ok(())
     }
@@ -391,7 +392,7 @@ impl<'a> Reader<'a> {
         ensures told { IfOk result (λ r. r ≡ may_be_base self.now inner base) }
         ensures memory { IfErr result (λ fault. fault ≡ NoMemory) }
     {
-        if self.is_spoilt {
+        if self.is_spoilt || base.token <= self.latest {
             return Err(NameFault::NoMemory);
         }
         if !self.is_defined_interface(base.entry) || self.table.has_base(inner, base.entry) {
@@ -405,7 +406,7 @@ impl<'a> Reader<'a> {
         ensures { result ≡ is_defined_interface self.now entry }
     {
         let _count = self.table.len();
-        self.table.kind(entry).is_interface() && self.defined.contains(&(entry + 1))
+        is_interface(self.table.kind(entry)) && self.defined.contains(&(entry + 1))
     }
 
     /// Whether it is a structure or a union that was declared ahead and isn't defined.
@@ -414,7 +415,7 @@ impl<'a> Reader<'a> {
         ensures { IfSome (slice_get self.now.entries number) (λ e. result ≡ is_left_open self.now number e) }
     {
         let _count = self.table.len();
-        self.table.kind(number).has_body() && !self.defined.contains(&(number + 1))
+        has_body(self.table.kind(number)) && !self.defined.contains(&(number + 1))
     }
 
     /// That each structure and union that is declared ahead is defined.

@@ -3,7 +3,6 @@
 ghost use Rattle.std.specs.Prelude.{◌≡◌, ◌++◌, ◌<◌, ◌≤◌, ◌↔◌, ℕ, [], ◌∷◌, length, map, IfOk, OnOk};
 ghost use Rattle.std.specs.Option.{option_map};
 ghost use Rattle.std.specs.String.{string_bytes};
-ghost use Rattle.scoped_names.specs.Records.{AreNested, entries_in};
 ghost use Rattle.scoped_names.specs.RepositoryIds.{given_to, path, with_slashes, idl_format, repository_id};
 ghost use Rattle.scoped_names.specs.IdsKept.{given_of};
 ghost use Rattle.scoped_names.specs.Faults.{given_once};
@@ -11,8 +10,7 @@ ghost use Rattle.scoped_names.specs.Reading.{Tells};
 ghost use Rattle.scoped_names.specs.IdPragmas.{is_same_given};
 
 use crate::fault::NameFault;
-use crate::numbered::Numbered;
-use crate::record::Record;
+use name_table::{Numbered, Table};
 use std::alloc::{AllocError, Global};
 use std::marker::Model;
 
@@ -50,19 +48,19 @@ impl<'a> Model for IdPragmas<'a> {
 /// The names from the outermost scope to an entry's, its own the last.
 pub(crate) fn path_to<'a>(
     alloc: Global,
-    records: &[Record<'a>],
+    table: &Table<'a>,
     entry: usize,
 ) -> Result<Vec<&'a str>, AllocError>
-    requires nested { AreNested records.now }
-    requires there { entry < length records.now }
-    ensures { IfOk result (λ v. map (λ n. n.now) v.items ≡ path (entries_in records.now) entry) }
+    requires { entry < length table.now }
+    ensures { IfOk result (λ v. map (λ n. n.now) v.items ≡ path table.now entry) }
 {
+    let _count = table.len();
     let mut names = Vec::new(alloc);
     let mut scope = entry + 1;
     while scope > 0 {
-        let key = records[scope - 1].key;
-        names.push(key.word.text)?;
-        scope = key.scope;
+        let outer = scope - 1;
+        names.push(table.name(outer))?;
+        scope = table.scope(outer);
     }
     names.reverse();
     Ok(names)
@@ -158,20 +156,18 @@ impl<'a> IdPragmas<'a> {
     pub fn repository_id(
         &self,
         alloc: Global,
-        records: &[Record<'_>],
+        table: &Table<'_>,
         entry: usize,
     ) -> Result<String, AllocError>
-        requires nested { AreNested records.now }
-        requires there { entry < length records.now }
-        ensures { IfOk result (λ id. string_bytes id ≡ repository_id (entries_in records.now) self.now entry) }
+        requires { entry < length table.now }
+        ensures { IfOk result (λ id. string_bytes id ≡ repository_id table.now self.now entry) }
     {
         let version = match self.given(entry) {
             Some(PragmaId::Whole(text)) => return String::from_str(alloc, text),
             Some(PragmaId::Version(number)) => number,
             None => "1.0",
         };
-        let prefix = records[entry].prefix;
-        let path = path_to(alloc, records, entry)?;
-        id_text(alloc, prefix, path.as_slice(), version)
+        let path = path_to(alloc, table, entry)?;
+        id_text(alloc, table.prefix(entry), path.as_slice(), version)
     }
 }

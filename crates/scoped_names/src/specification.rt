@@ -1,7 +1,7 @@
 //! The names of a whole specification.
 
 ghost use Rattle.std.specs.Prelude.{IfOk};
-ghost use Rattle.scoped_names.specs.Entry.{AreDistinct};
+ghost use Rattle.name_table.specs.Entry.{AreDistinct};
 ghost use Rattle.scoped_names.specs.Reading.{Gives};
 ghost use Rattle.scoped_names.specs.Whole.{names_of};
 

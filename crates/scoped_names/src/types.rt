@@ -3,16 +3,17 @@
 ghost use Rattle.std.specs.Prelude.{◌≡◌, ◌<◌, ◌≤◌, length, IfOk};
 ghost use Rattle.idl_tree.specs.Lists.{parts};
 ghost use Rattle.scoped_names.specs.Constants.{const_type_kind, param_type_kind, simple_type_kind};
-ghost use Rattle.scoped_names.specs.Search.{sees};
-ghost use Rattle.scoped_names.specs.declared.search.Sight.{Sight};
+ghost use Rattle.name_table.specs.Search.{sees};
+ghost use Rattle.name_table.specs.declared.search.Sight.{Sight};
 ghost use Rattle.scoped_names.specs.Faults.{case_read, declarator_read, enum_read, enumerator_read, member_read, struct_read, switch_read, type_kind, type_read, union_read};
 ghost use Rattle.scoped_names.specs.Reading.{Checks, Gives, Tells, all, each};
 ghost use Rattle.scoped_names.specs.Tests.{const_type_test, found_of, is_type, label_test, param_type_test, simple_type_test};
 
-use crate::entry::{EntryKind, Meaning};
+use name_table::{EntryKind, Meaning};
+use crate::evaluation::{bind_sizes, resolve, size_of, value_of};
 use crate::fault::NameFault;
 use crate::reader::Reader;
-use crate::table::Table;
+use name_table::Table;
 use const_values::{ConstKind, Constant};
 use idl_tree::names::{Leaf, Listed, ScopedName};
 use idl_tree::types::{
@@ -21,114 +22,111 @@ use idl_tree::types::{
 };
 use std::alloc::Global;
 
-impl<'a> Table<'a> {
-    /// A name that stands for a type.
-    fn bind_type_name(&self, scope: usize, name: &ScopedName<'a>) -> Result<usize, NameFault>
-        requires { scope ≤ length self.now }
-        ensures told { Gives result (found_of is_type self.now scope name.now) }
-        ensures found { IfOk result (λ entry. sees self.now scope name.now ≡ Sight.Seen entry) }
-        ensures placed { IfOk result (λ entry. entry < length self.now) }
-    {
-        let entry = self.resolve(scope, name)?;
-        match self.kind(entry) {
-            EntryKind::Interface
-            | EntryKind::Struct
-            | EntryKind::Union
-            | EntryKind::Enum
-            | EntryKind::Typedef => Ok(entry),
-            _ => Err(NameFault::NotAType {
-                line: name.start().token.line,
-            }),
-        }
-    }
-
-    /// The type of a constant, a parameter or a member. Gives the type of constants that it is in
-    /// the end, if it is one.
-    pub(crate) fn bind_const_type(
-        &self,
-        alloc: Global,
-        scope: usize,
-        t: &ConstType<'a>,
-    ) -> Result<Option<ConstKind>, NameFault>
-        requires { scope ≤ length self.now }
-        ensures told { Checks result (const_type_test self.now scope t.now) }
-        ensures kind { IfOk result (λ kind. kind ≡ const_type_kind self.now scope t.now) }
-    {
-        Ok(match t {
-            ConstType::Integer(integer) => Some(ConstKind::Integer(*integer)),
-            ConstType::Char => Some(ConstKind::Char),
-            ConstType::Boolean => Some(ConstKind::Boolean),
-            ConstType::Octet => Some(ConstKind::Octet),
-            ConstType::String(None) => Some(ConstKind::String(None)),
-            ConstType::String(Some(bound)) => {
-                let most = self.size(alloc, scope, &bound.expr)?;
-                Some(ConstKind::String(Some(most)))
-            }
-            ConstType::Name(name) => {
-                let entry = self.bind_type_name(scope, name)?;
-                self.stands_for(entry)
-            }
-        })
-    }
-
-    pub(crate) fn bind_param_type(
-        &self,
-        alloc: Global,
-        scope: usize,
-        t: &ParamType<'a>,
-    ) -> Result<Option<ConstKind>, NameFault>
-        requires { scope ≤ length self.now }
-        ensures told { Checks result (param_type_test self.now scope t.now) }
-        ensures kind { IfOk result (λ kind. kind ≡ param_type_kind self.now scope t.now) }
-    {
-        match t {
-            ParamType::Plain(plain) => self.bind_const_type(alloc, scope, plain),
-            ParamType::Object => Ok(None),
-        }
-    }
-
-    /// A type that declares nothing.
-    fn bind_simple(
-        &self,
-        alloc: Global,
-        scope: usize,
-        t: &SimpleType<'a>,
-    ) -> Result<Option<ConstKind>, NameFault>
-        requires { scope ≤ length self.now }
-        ensures told { Checks result (simple_type_test self.now scope t.now) }
-        ensures kind { IfOk result (λ kind. kind ≡ simple_type_kind self.now scope t.now) }
-    {
-        match t {
-            SimpleType::Plain(plain) => self.bind_param_type(alloc, scope, plain),
-            SimpleType::Sequence { element, bound } => {
-                self.bind_simple(alloc, scope, element)?;
-                if let Some(bound) = bound {
-                    self.size(alloc, scope, &bound.expr)?;
-                }
-                Ok(None)
-            }
-        }
-    }
-
-    /// The labels of a case.
-    fn bind_labels(
-        &self,
-        alloc: Global,
-        scope: usize,
-        labels: &Listed<Label<'a>>,
-    ) -> Result<(), NameFault>
-        requires { scope ≤ length self.now }
-        ensures { Checks result (all (label_test self.now scope) (parts labels.now)) }
-    {
-        for label in labels.iter() {
-            if let Label::Case(value) = label {
-                self.value(alloc, scope, &value.expr)?;
-            }
-        }
-        Ok(())
+/// A name that stands for a type.
+pub(crate) fn bind_type_name<'a>(table: &Table<'a>, scope: usize, name: &ScopedName<'a>) -> Result<usize, NameFault>
+    requires { scope ≤ length table.now }
+    ensures told { Gives result (found_of is_type table.now scope name.now) }
+    ensures found { IfOk result (λ entry. sees table.now scope name.now ≡ Sight.Seen entry) }
+    ensures placed { IfOk result (λ entry. entry < length table.now) }
+{
+    let entry = resolve(table, scope, name)?;
+    match table.kind(entry) {
+        EntryKind::Interface
+        | EntryKind::Struct
+        | EntryKind::Union
+        | EntryKind::Enum
+        | EntryKind::Typedef => Ok(entry),
+        _ => Err(NameFault::NotAType {
+            line: name.start().token.line,
+        }),
     }
 }
 
+/// The type of a constant, a parameter or a member. Gives the type of constants that it is in
+/// the end, if it is one.
+pub(crate) fn bind_const_type<'a>(
+    table: &Table<'a>,
+    alloc: Global,
+    scope: usize,
+    t: &ConstType<'a>,
+) -> Result<Option<ConstKind>, NameFault>
+    requires { scope ≤ length table.now }
+    ensures told { Checks result (const_type_test table.now scope t.now) }
+    ensures kind { IfOk result (λ kind. kind ≡ const_type_kind table.now scope t.now) }
+{
+    Ok(match t {
+        ConstType::Integer(integer) => Some(ConstKind::Integer(*integer)),
+        ConstType::Char => Some(ConstKind::Char),
+        ConstType::Boolean => Some(ConstKind::Boolean),
+        ConstType::Octet => Some(ConstKind::Octet),
+        ConstType::String(None) => Some(ConstKind::String(None)),
+        ConstType::String(Some(bound)) => {
+            let most = size_of(table, alloc, scope, &bound.expr)?;
+            Some(ConstKind::String(Some(most)))
+        }
+        ConstType::Name(name) => {
+            let entry = bind_type_name(table, scope, name)?;
+            table.stands_for(entry)
+        }
+    })
+}
+
+pub(crate) fn bind_param_type<'a>(
+    table: &Table<'a>,
+    alloc: Global,
+    scope: usize,
+    t: &ParamType<'a>,
+) -> Result<Option<ConstKind>, NameFault>
+    requires { scope ≤ length table.now }
+    ensures told { Checks result (param_type_test table.now scope t.now) }
+    ensures kind { IfOk result (λ kind. kind ≡ param_type_kind table.now scope t.now) }
+{
+    match t {
+        ParamType::Plain(plain) => bind_const_type(table, alloc, scope, plain),
+        ParamType::Object => Ok(None),
+    }
+}
+
+/// A type that declares nothing.
+fn bind_simple<'a>(
+    table: &Table<'a>,
+    alloc: Global,
+    scope: usize,
+    t: &SimpleType<'a>,
+) -> Result<Option<ConstKind>, NameFault>
+    requires { scope ≤ length table.now }
+    ensures told { Checks result (simple_type_test table.now scope t.now) }
+    ensures kind { IfOk result (λ kind. kind ≡ simple_type_kind table.now scope t.now) }
+{
+    match t {
+        SimpleType::Plain(plain) => bind_param_type(table, alloc, scope, plain),
+        SimpleType::Sequence { element, bound } => {
+            bind_simple(table, alloc, scope, element)?;
+            if let Some(bound) = bound {
+                size_of(table, alloc, scope, &bound.expr)?;
+            }
+            Ok(None)
+        }
+    }
+}
+
+/// The labels of a case.
+fn bind_labels<'a>(
+    table: &Table<'a>,
+    alloc: Global,
+    scope: usize,
+    labels: &Listed<Label<'a>>,
+) -> Result<(), NameFault>
+    requires { scope ≤ length table.now }
+    ensures { Checks result (all (label_test table.now scope) (parts labels.now)) }
+{
+    for label in labels.iter() {
+        if let Label::Case(value) = label {
+            value_of(table, alloc, scope, &value.expr)?;
+        }
+    }
+    Ok(())
+}
 impl<'a> Reader<'a> {
     /// An enumeration and its enumerators.
     pub(crate) fn bind_enum(
@@ -191,7 +189,7 @@ impl<'a> Reader<'a> {
         match switch {
             SwitchType::Enum(e) => self.bind_enum(alloc, scope, e),
             SwitchType::Name(name) => {
-                self.table.bind_type_name(scope, name)?;
+                bind_type_name(&self.table, scope, name)?;
                 Ok(())
             }
             SwitchType::Integer(_) | SwitchType::Char | SwitchType::Boolean => Ok(()),
@@ -210,8 +208,7 @@ impl<'a> Reader<'a> {
         ensures longer { length self.old.entries ≤ length self.new.entries }
     {
         self.add_member(scope, declarator.identifier)?;
-        self.table
-            .bind_sizes(alloc, scope, declarator.sizes.as_slice())
+        bind_sizes(&self.table, alloc, scope, declarator.sizes.as_slice())
     }
 
     /// The declarators of members.
@@ -245,7 +242,7 @@ impl<'a> Reader<'a> {
         ensures longer { length self.old.entries ≤ length self.new.entries }
     {
         match t {
-            TypeSpec::Simple(simple) => self.table.bind_simple(alloc, scope, simple),
+            TypeSpec::Simple(simple) => bind_simple(&self.table, alloc, scope, simple),
             TypeSpec::Struct(s) => {
                 self.bind_struct(alloc, scope, s)?;
                 Ok(None)
@@ -304,7 +301,7 @@ impl<'a> Reader<'a> {
         ensures told { Tells result self.new (case_read self.old scope case.now) }
         ensures longer { length self.old.entries ≤ length self.new.entries }
     {
-        self.table.bind_labels(alloc, scope, &case.labels)?;
+        bind_labels(&self.table, alloc, scope, &case.labels)?;
         self.bind_type(alloc, scope, &case.member_type)?;
         self.bind_declarator(alloc, scope, &case.declarator)
     }

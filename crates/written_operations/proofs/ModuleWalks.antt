@@ -4,9 +4,9 @@ use Rattle.std.specs.List.{flat_map, fold}
 use Rattle.idl_tree.specs.declared.definitions.Definition.{Definition, Module}
 use Rattle.idl_tree.specs.declared.definitions.Module.{Module as ModuleRecord}
 use Rattle.idl_tree.proofs.Rows.{module_walk}
-use Rattle.scoped_names.specs.Entry.{Entry, named}
-use Rattle.scoped_names.specs.Entries.{scope_number, scope_of}
-use Rattle.scoped_names.specs.Search.{word}
+use Rattle.name_table.specs.Entry.{Entry, named}
+use Rattle.name_table.specs.Entries.{scope_number, scope_of}
+use Rattle.name_table.specs.Search.{word}
 use Rattle.written_operations.specs.Operations.{Defined}
 use Rattle.written_operations.specs.Definitions.{KeepRules, definition, definitions_after, exports_in, exports_in_each, or_none}
 use Rattle.written_operations.specs.Interfaces.{KeepsRules}

@@ -3,7 +3,7 @@ use Rattle.std.proofs.Common.{◌≡◌, ◌∙◌, ℕ, suc, ◌+◌, ◌-◌, 
 use Rattle.std.specs.List.{fold, range_with_len}
 use Rattle.std.proofs.Math.Seq.{append_snoc}
 use Rattle.std.proofs.lemmas.Option.{get_or_from_slice_get, slice_get_within}
-use Rattle.scoped_names.specs.declared.entry.Base.{Base}
+use Rattle.name_table.specs.declared.entry.Base.{Base}
 use Rattle.written_operations.specs.Operations.{Defined}
 use Rattle.written_types.proofs.Folds.{fold_from}
 use Rattle.written_operations.specs.Interfaces.{all_bases_of, operations_of, with_base, with_base_and_above, with_once}

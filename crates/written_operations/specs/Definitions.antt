@@ -3,8 +3,8 @@ use Rattle.std.specs.Prelude.{ℕ, List, [], ◌++◌, length, All, Option, Some
 use Rattle.std.specs.List.{flat_map, fold}
 use Rattle.idl_tree.specs.declared.definitions.Export.{Export}
 use Rattle.idl_tree.specs.declared.definitions.Definition.{Definition, Pragma, Declaration as Declared, Interface as InterfaceDcl, Module', Row_of-Definition, end_of-Definition, more_of-Definition}
-use Rattle.scoped_names.specs.Entry.{Entry}
-use Rattle.scoped_names.specs.Entries.{scope_of}
+use Rattle.name_table.specs.Entry.{Entry}
+use Rattle.name_table.specs.Entries.{scope_of}
 use Rattle.written_types.specs.Declarations.{declaration}
 use Rattle.written_operations.specs.Operations.{Defined, undefined_yet, with_types}
 use Rattle.written_operations.specs.Interfaces.{KeepsRules, exports_of, interface}

@@ -8,7 +8,7 @@ use Rattle.idl_tree.specs.declared.definitions.Direction.{Direction}
 use Rattle.idl_tree.specs.declared.definitions.Direction.TheVariants.{In, Out, InOut}
 use Rattle.idl_tree.specs.declared.definitions.Param.{Param}
 use Rattle.type_graph.specs.declared.node.Node.TheVariants.{Frame}
-use Rattle.scoped_names.specs.Entry.{Entry}
+use Rattle.name_table.specs.Entry.{Entry}
 use Rattle.written_types.specs.Written.{Written, with_node}
 use Rattle.written_types.specs.SimpleTypes.{param_type}
 use Rattle.written_operations.specs.declared.frames.Carried.{Carried}

@@ -8,10 +8,10 @@ use Rattle.idl_tree.specs.declared.definitions.Export.{Export}
 use Rattle.idl_tree.specs.declared.definitions.Export.TheVariants as Exports
 use Rattle.idl_tree.specs.declared.definitions.Interface.{Interface}
 use Rattle.idl_tree.specs.declared.definitions.Interface.TheVariants.{Ahead, Defined as Body}
-use Rattle.scoped_names.specs.declared.entry.Base.{Base}
-use Rattle.scoped_names.specs.Entry.{Entry, bases_of, named}
-use Rattle.scoped_names.specs.Entries.{scope_number}
-use Rattle.scoped_names.specs.Search.{word}
+use Rattle.name_table.specs.declared.entry.Base.{Base}
+use Rattle.name_table.specs.Entry.{Entry, bases_of, named}
+use Rattle.name_table.specs.Entries.{scope_number}
+use Rattle.name_table.specs.Search.{word}
 use Rattle.written_types.specs.declared.place.Place.TheVariants.{Typed}
 use Rattle.written_types.specs.Written.{with_place}
 use Rattle.written_types.specs.Declarations.{declaration}

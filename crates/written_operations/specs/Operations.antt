@@ -10,11 +10,11 @@ use Rattle.idl_tree.specs.declared.definitions.Attributes.TheVariants.{Silent, R
 use Rattle.idl_tree.specs.declared.definitions.Direction.TheVariants.{In, Out}
 use Rattle.idl_tree.specs.declared.definitions.Operation.{Operation}
 use Rattle.idl_tree.specs.Lists.{parts}
-use Rattle.scoped_names.specs.Entry.{Entry, named}
+use Rattle.name_table.specs.Entry.{Entry, named}
 use Rattle.scoped_names.specs.Entries.{attribute_identifiers}
-use Rattle.scoped_names.specs.Search.{finds, word}
-use Rattle.scoped_names.specs.declared.search.Found.{Found}
-use Rattle.scoped_names.specs.declared.search.Found.TheVariants.{Nothing, One, Several}
+use Rattle.name_table.specs.Search.{finds, word}
+use Rattle.name_table.specs.declared.search.Found.{Found}
+use Rattle.name_table.specs.declared.search.Found.TheVariants.{Nothing, One, Several}
 use Rattle.written_types.specs.declared.place.Place.{Place}
 use Rattle.written_types.specs.declared.place.Place.TheVariants.{Typed, Raised, Called, Got, GotAndSet}
 use Rattle.written_types.specs.Written.{Written, next, none_such, place_of, unwritten, with_place}

@@ -2,7 +2,7 @@
 
 ghost use Rattle.std.specs.Prelude.{◌≡◌, ◌≤◌, ◌<◌, ◌^◌, suc, All, length, IfOk, OnOk, Some, option_copied, slice_get};
 ghost use Rattle.std.specs.List.{fold};
-ghost use Rattle.scoped_names.specs.Entry.{bases_in};
+ghost use Rattle.name_table.specs.Entry.{bases_in};
 ghost use Rattle.written_operations.specs.Interfaces.{KeepsAllRules, KeepsRules, all_bases, all_bases_of, export as exported, exports_of as its_exports, identifier_of as its_identifier, inherited, interface as interface_after, interface_of, operations_of, with_interface};
 
 use crate::places::{insert_each, list_of, push_each_once, push_from};

@@ -2,7 +2,7 @@
 
 ghost use Rattle.std.specs.Prelude.{◌≡◌, ◌≤◌, length, IfOk};
 ghost use Rattle.idl_tree.specs.Lists.{parts};
-ghost use Rattle.scoped_names.specs.Search.{finds};
+ghost use Rattle.name_table.specs.Search.{finds};
 ghost use Rattle.written_operations.specs.Oneway.{parts_of};
 ghost use Rattle.written_operations.specs.Operations.{found_exception, get_raises, raised, set_raises};
 

@@ -11,9 +11,9 @@ use Rattle.idl_tree.specs.declared.types.UnionType.{UnionType, out-UnionType}
 use Rattle.idl_tree.proofs.Rows.{struct_walk, union_walk}
 use Rattle.type_graph.specs.declared.node.Node.TheVariants.{Struct, Union}
 use Rattle.const_values.specs.declared.kind.ConstKind.{ConstKind}
-use Rattle.scoped_names.specs.Entry.{Entry, named}
-use Rattle.scoped_names.specs.Entries.{scope_number}
-use Rattle.scoped_names.specs.Search.{word}
+use Rattle.name_table.specs.Entry.{Entry, named}
+use Rattle.name_table.specs.Entries.{scope_number}
+use Rattle.name_table.specs.Search.{word}
 use Rattle.written_types.specs.Written.{Numbered, Written, already, opened, set_node}
 use Rattle.written_types.specs.Types.{Arms, Cases, Members, type_spec, with_label, cases_of, members_of, no_arms, struct_type, switch_kind, switch_type, union_type, with_case_of, with_cases, with_member, with_members}
 

@@ -10,9 +10,9 @@ use Rattle.idl_tree.specs.declared.definitions.Declaration.{Declaration}
 use Rattle.idl_tree.specs.declared.definitions.Declaration.TheVariants as Declarations
 use Rattle.idl_tree.specs.Lists.{parts}
 use Rattle.type_graph.specs.declared.node.Node.TheVariants.{Frame}
-use Rattle.scoped_names.specs.Entry.{Entry, named}
-use Rattle.scoped_names.specs.Entries.{scope_number}
-use Rattle.scoped_names.specs.Search.{word}
+use Rattle.name_table.specs.Entry.{Entry, named}
+use Rattle.name_table.specs.Entries.{scope_number}
+use Rattle.name_table.specs.Search.{word}
 use Rattle.written_types.specs.declared.place.Place.TheVariants.{Typed}
 use Rattle.written_types.specs.Written.{Written, Numbered, already, next, opened, raised_at, with_node, with_place}
 use Rattle.written_types.specs.SimpleTypes.{arrays, const_type, enum_type}

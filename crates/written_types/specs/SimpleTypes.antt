@@ -15,8 +15,8 @@ use Rattle.idl_tree.specs.declared.const_expr.ConstExpr.{ConstExpr}
 use Rattle.idl_tree.specs.declared.const_expr.Bound.{Bound}
 use Rattle.idl_tree.specs.Lists.{parts}
 use Rattle.type_graph.specs.declared.node.Node.TheVariants.{Text, Seq, Array, Enum}
-use Rattle.scoped_names.specs.Entry.{Entry, named}
-use Rattle.scoped_names.specs.Search.{finds, word}
+use Rattle.name_table.specs.Entry.{Entry, named}
+use Rattle.name_table.specs.Search.{finds, word}
 use Rattle.scoped_names.specs.Constants.{size_in_scope}
 use Rattle.written_types.specs.Written.{Written, Numbered, already, added, found_type, named_type, or_none_such}
 

@@ -20,9 +20,9 @@ use Rattle.const_values.specs.declared.constant.Constant.{Constant}
 use Rattle.const_values.specs.declared.constant.Constant.TheVariants.{Whole, Boolean, Character, Text, Enumerator}
 use Rattle.const_values.specs.declared.kind.ConstKind.{ConstKind}
 use Rattle.const_values.specs.declared.kind.ConstKind.TheVariants as Kinds
-use Rattle.scoped_names.specs.Entry.{Entry, named}
-use Rattle.scoped_names.specs.Entries.{scope_number}
-use Rattle.scoped_names.specs.Search.{finds, word}
+use Rattle.name_table.specs.Entry.{Entry, named}
+use Rattle.name_table.specs.Entries.{scope_number}
+use Rattle.name_table.specs.Search.{finds, word}
 use Rattle.scoped_names.specs.Constants.{meant_found, of_type, worth_in_scope}
 use Rattle.written_types.specs.Written.{Written, Numbered, already, found_type, opened, set_node}
 use Rattle.written_types.specs.SimpleTypes.{arrays, enum_type, integer_number, simple_type}

@@ -4,8 +4,8 @@ use Rattle.std.specs.Prelude.{ℕ, ◌^◌, List, [], ◌∷◌, ◌++◌, lengt
 use Rattle.type_graph.specs.declared.node.Node.{Node}
 use Rattle.type_graph.specs.declared.node.Node.TheVariants.{Struct}
 use Rattle.basic_types.specs.BasicNodes.{basic_nodes}
-use Rattle.scoped_names.specs.declared.search.Found.{Found}
-use Rattle.scoped_names.specs.declared.search.Found.TheVariants.{Nothing, One, Several}
+use Rattle.name_table.specs.declared.search.Found.{Found}
+use Rattle.name_table.specs.declared.search.Found.TheVariants.{Nothing, One, Several}
 use Rattle.written_types.specs.declared.place.Place.{Place}
 use Rattle.written_types.specs.declared.place.Place.TheVariants.{Typed, Raised, Called, Got, GotAndSet}
 

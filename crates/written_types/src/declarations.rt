@@ -3,8 +3,8 @@
 ghost use Rattle.std.specs.Prelude.{◌≡◌, ◌≤◌, length, IfOk, OnOk, Some};
 ghost use Rattle.std.specs.List.{fold};
 ghost use Rattle.idl_tree.specs.Lists.{parts};
-ghost use Rattle.scoped_names.specs.Entry.{named};
-ghost use Rattle.scoped_names.specs.Search.{word};
+ghost use Rattle.name_table.specs.Entry.{named};
+ghost use Rattle.name_table.specs.Search.{word};
 ghost use Rattle.written_types.specs.Written.{opened};
 ghost use Rattle.written_types.specs.Types.{members_of};
 ghost use Rattle.written_types.specs.Declarations.{declaration, except, except_members, type_dcl, with_exception, with_typedef};

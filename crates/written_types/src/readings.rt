@@ -1,9 +1,9 @@
 //! What names and expressions of the tree say.
 
 ghost use Rattle.std.specs.Prelude.{◌≡◌, ◌≤◌, ◌<◌, ◌^◌, suc, length, IfOk, Some};
-ghost use Rattle.scoped_names.specs.Entry.{named};
-ghost use Rattle.scoped_names.specs.Search.{finds, word};
-ghost use Rattle.scoped_names.specs.declared.search.Found.TheVariants.{One};
+ghost use Rattle.name_table.specs.Entry.{named};
+ghost use Rattle.name_table.specs.Search.{finds, word};
+ghost use Rattle.name_table.specs.declared.search.Found.TheVariants.{One};
 ghost use Rattle.written_types.specs.SimpleTypes.{bound_of, integer_number as number_of, size_of};
 
 use crate::fault::BuildFault;

@@ -2,7 +2,7 @@
 
 ghost use Rattle.std.specs.Prelude.{◌≡◌, ◌≤◌, length, IfOk, OnOk, Some, slice_get};
 ghost use Rattle.written_types.specs.Written.{found_type, named_type, next, place_of, raised_at, opened as opened_of, set_node, type_of, unwritten, with_node, with_place, undefined as undefined_node};
-ghost use Rattle.scoped_names.specs.Search.{finds};
+ghost use Rattle.name_table.specs.Search.{finds};
 
 use crate::fault::BuildFault;
 use crate::place::Place;

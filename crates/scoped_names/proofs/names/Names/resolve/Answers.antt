@@ -1,6 +1,6 @@
 use Rattle.std.proofs.Common.{◌≡◌, ◌∙◌, ap, sym}
 use Rattle.idl_tree.specs.Starts.{name_start}
-use Rattle.scoped_names.specs.Search.{sees}
+use Rattle.name_table.specs.Search.{sees}
 use Rattle.scoped_names.specs.Tests.{line, resolved}
 use Rattle.scoped_names.proofs.Sights.{found_finds}
 use Rattle.scoped_names.proofs.names.Names.resolve.Goals as goal

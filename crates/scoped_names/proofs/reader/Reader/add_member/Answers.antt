@@ -1,5 +1,5 @@
 use Rattle.std.proofs.Common.{◌≡◌, ◌∙◌, ◌++◌, ◌∷◌, [], Ok, map, refl, subst, sym, ap}
-use Rattle.scoped_names.specs.Search.{word}
+use Rattle.name_table.specs.Search.{word}
 use Rattle.scoped_names.specs.StateKept.{member_of}
 use Rattle.scoped_names.specs.Faults.{has_member}
 use Rattle.scoped_names.specs.Reading.{Reading, State, ◌>>◌}

@@ -1,7 +1,7 @@
 use Rattle.std.proofs.Common.{◌≡◌, ◌≤◌, length}
 use Rattle.idl_tree.specs.Lists.{parts}
 use Rattle.idl_tree.specs.PartsLeft.{parts_left}
-use Rattle.scoped_names.specs.declared.entry.EntryKind.TheVariants.{Attribute}
+use Rattle.name_table.specs.declared.entry.EntryKind.TheVariants.{Attribute}
 use Rattle.scoped_names.specs.Faults.{feature_read}
 use Rattle.scoped_names.specs.Reading.{each}
 use Rattle.scoped_names.proofs.reader.Reader.bind_silent.Given as goal

@@ -1,12 +1,12 @@
 use Rattle.std.proofs.Common.{◌≡◌, ◌∙◌, ◌≤◌, Ok, length, sym, ap, subst}
 use Rattle.std.proofs.lemmas.Result.{err_from_is_err_and}
-use Rattle.scoped_names.specs.Entry.{named}
-use Rattle.scoped_names.specs.Entries.{entry_declared, scope_of}
+use Rattle.name_table.specs.Entry.{named}
+use Rattle.name_table.specs.Entries.{entry_declared, scope_of}
 use Rattle.scoped_names.specs.Faults.{is_taken, with_declared}
 use Rattle.scoped_names.specs.Reading.{Reading, State}
-use Rattle.scoped_names.specs.Search.{word}
+use Rattle.name_table.specs.Search.{word}
 use Rattle.scoped_names.proofs.Readings.{declared_again, or_told}
-use Rattle.scoped_names.proofs.Tied.{scope_there}
+use Rattle.name_table.proofs.Tied.{scope_there}
 use Rattle.scoped_names.proofs.reader.Reader.declare_as.Goals as goal
 
 pub returns-in_err-appears_again-in-Some-clause-told : goal.returns-in_err-appears_again-in-Some-clause-told

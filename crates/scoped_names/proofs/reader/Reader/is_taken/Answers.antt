@@ -1,6 +1,7 @@
 use Rattle.std.proofs.Common.{◌≡◌, ◌∙◌, false, ap, map, refl, sym}
 use Rattle.std.specs.Prelude.{◌||◌}
-use Rattle.scoped_names.specs.Faults.{has_member, is_own_name}
+use Rattle.scoped_names.specs.Faults.{has_member}
+use Rattle.name_table.specs.OwnNames.{is_own_name}
 use Rattle.scoped_names.specs.StateKept.{member_of}
 use Rattle.scoped_names.proofs.Members.{members_kept}
 use Rattle.scoped_names.proofs.reader.Reader.is_taken.Goals as goal

@@ -1,16 +1,15 @@
-use Rattle.std.proofs.Common.{◌≡◌, ◌∙◌, Some, None, map, get_or, slice_get, sym, ap}
+use Rattle.std.proofs.Common.{◌≡◌, ◌∙◌, Some, None, map, sym, ap}
 use Rattle.std.specs.String.{string_bytes}
 use Rattle.std.proofs.lemmas.Result.{IfOk-weaker}
-use Rattle.scoped_names.specs.Records.{entries_in}
-use Rattle.scoped_names.specs.RepositoryIds.{VersionOf, WholeId, given_to, idl_format, path, prefix_in, repository_id}
+use Rattle.scoped_names.specs.RepositoryIds.{VersionOf, WholeId, given_to, idl_format, path, repository_id}
 use Rattle.scoped_names.specs.IdsKept.{given_of}
-use Rattle.scoped_names.proofs.IdFormats.{prefix_at, id_by_default, id_by_version, id_given_whole}
+use Rattle.scoped_names.proofs.IdFormats.{id_by_default, id_by_version, id_given_whole}
 use Rattle.scoped_names.proofs.repository_ids.IdPragmas.repository_id.Goals as goal
 use Rattle.scoped_names.proofs.repository_ids.IdPragmas.repository_id.Goals.{in-Some-Version, in-None}
 
 pub returns-in-Some-Whole : goal.returns-in-Some-Whole
 returns-in-Some-Whole c =
-    let es = entries_in c.args.records.now in
+    let es = c.args.table.now in
     let given : given_to c.args.self.now c.args.entry ≡ Some (WholeId c.in-Some-Whole.text.now) =
     sym c.in-Some-Whole.ensures ∙ ap (λ x. Some (given_of x)) c.in-Some-Whole.field-0-is in
     let whole = id_given_whole es c.args.self.now c.args.entry c.in-Some-Whole.text.now given in
@@ -18,22 +17,20 @@ returns-in-Some-Whole c =
 
 pub returns : goal.returns
 returns c =
-    let es = entries_in c.args.records.now in
+    let es = c.args.table.now in
     let e = c.args.entry in
-    let r = c.index-records-entry.result in
-    let p = get_or c.args.records.now e r in
-    let prefix : p.prefix.now ≡ prefix_in (slice_get es e) = ap (λ x. x.prefix.now) (sym c.index-records-entry.is) ∙ sym (prefix_at c.args.records.now e r c.requires.there c.index-records-entry.is) in
+    let p = c.prefix.result in
     let names : map (λ n. n.now) c.as_slice.result.now ≡ path es e = ap (map (λ n. n.now)) c.as_slice.ensures.value ∙ c.in_ok-path.ensures in
-    let all : idl_format p.prefix.now (map (λ n. n.now) c.as_slice.result.now) c.match-given.version.now ≡ repository_id es c.args.self.now e =
+    let all : idl_format p.now (map (λ n. n.now) c.as_slice.result.now) c.match-given.version.now ≡ repository_id es c.args.self.now e =
     elim c.match-given.branch [
       | in-Some-Version w ↦
           (let given : given_to c.args.self.now e ≡ Some (VersionOf w.in-Some-Version.number.now) =
           sym w.in-Some-Version.ensures ∙ ap (λ x. Some (given_of x)) w.in-Some-Version.field-0-is in
-          id_by_version es c.args.self.now e p.prefix.now (map (λ n. n.now) c.as_slice.result.now) c.match-given.version.now prefix names
+          id_by_version es c.args.self.now e p.now (map (λ n. n.now) c.as_slice.result.now) c.match-given.version.now c.prefix.ensures names
           (given ∙ ap (λ v. Some (VersionOf v.now)) (sym w.version-is)))
       | in-None w ↦
           (let given : given_to c.args.self.now e ≡ None = sym w.in-None.ensures in
-          id_by_default es c.args.self.now e p.prefix.now (map (λ n. n.now) c.as_slice.result.now) c.match-given.version.now prefix names
+          id_by_default es c.args.self.now e p.now (map (λ n. n.now) c.as_slice.result.now) c.match-given.version.now c.prefix.ensures names
           (ap (λ v. v.now) w.version-is) given)
     ] in
     IfOk-weaker c.id_text.result _ (λ t. string_bytes t ≡ repository_id es c.args.self.now e) (λ t h. h ∙ all) c.id_text.ensures

@@ -1,6 +1,6 @@
 use Rattle.std.proofs.Common.{◌∙◌, slice_get, sym}
 use Rattle.written_operations.proofs.PlacesMore.{above_more}
-use Rattle.scoped_names.specs.Entry.{bases_in}
+use Rattle.name_table.specs.Entry.{bases_in}
 use Rattle.written_operations.proofs.table.OperationTable.all_bases.Goals as goal
 
 pub loop-place-preserved : goal.loop-place-preserved

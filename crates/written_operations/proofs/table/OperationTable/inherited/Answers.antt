@@ -1,6 +1,6 @@
 use Rattle.std.proofs.Common.{◌∙◌, sym}
 use Rattle.written_operations.proofs.PlacesMore.{base_more}
-use Rattle.scoped_names.specs.Entry.{bases_in}
+use Rattle.name_table.specs.Entry.{bases_in}
 use Rattle.std.proofs.Common.{slice_get}
 use Rattle.written_operations.proofs.table.OperationTable.inherited.Goals as goal
 

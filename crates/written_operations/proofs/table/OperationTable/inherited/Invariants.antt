@@ -1,6 +1,6 @@
 use Rattle.std.proofs.Common.{◌≡◌, ◌<◌, drop, length, slice_get}
 use Rattle.std.specs.List.{fold}
-use Rattle.scoped_names.specs.Entry.{bases_in}
+use Rattle.name_table.specs.Entry.{bases_in}
 use Rattle.written_operations.specs.Interfaces.{AreMarked, inherited, with_base}
 use Rattle.written_operations.proofs.table.OperationTable.inherited.Given as goal
 

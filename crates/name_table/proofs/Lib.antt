@@ -1,0 +1,14 @@
+pub mod Numbers
+pub mod Orders
+pub mod GivenBehind
+pub mod Lookups
+pub mod Inheriting
+pub mod Stability
+pub mod Tied
+pub mod Latest
+pub mod MoreBases
+pub mod MergedBases
+pub mod Ways
+pub mod WaysKept
+pub mod Features
+pub mod Worked

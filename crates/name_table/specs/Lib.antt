@@ -1,0 +1,11 @@
+-- What is declared, and what a name finds.
+pub mod Entry
+pub mod Search
+pub mod Entries
+pub mod OwnNames
+pub mod Features
+pub mod Codes
+pub mod Keys
+pub mod Records
+pub mod SeveralBases
+pub mod Shortcuts

@@ -1,0 +1,87 @@
+//! What a specification declares.
+
+ghost use Rattle.std.specs.Prelude.{◌≡◌};
+ghost use Rattle.name_table.specs.Entries.{plain as plain_meaning};
+ghost use Rattle.name_table.specs.OwnNames.{keeps_its_name};
+ghost use Rattle.name_table.specs.Features.{feature_meant};
+
+use const_values::{ConstKind, Constant};
+
+/// What a name was declared as.
+#[derive(Clone, Copy, Debug, PartialEq, Eq)]
+pub enum EntryKind {
+    Module,
+    /// An interface, declared ahead or defined.
+    Interface,
+    /// A structure, declared ahead or defined.
+    Struct,
+    /// A union, declared ahead or defined.
+    Union,
+    Enum,
+    Enumerator,
+    Typedef,
+    Const,
+    Exception,
+    Operation,
+    Attribute,
+}
+
+impl EntryKind {
+    /// Whether the name of what has a scope isn't declared directly in it. A parameter may have the
+    /// name of its operation.
+    pub(crate) fn keeps_its_name(self) -> bool
+        ensures { result ≡ keeps_its_name self }
+    {
+        match self {
+            EntryKind::Operation => false,
+            _ => true,
+        }
+    }
+}
+
+/// What an identifier is declared as.
+#[derive(Drop)]
+pub struct Meaning {
+    /// The token from which it is found.
+    pub token: usize,
+    pub kind: EntryKind,
+    /// What a constant or an enumerator is worth.
+    pub worth: Option<Constant>,
+    /// The type of constants for which the name of a type stands in the end.
+    pub stands_for: Option<ConstKind>,
+}
+
+impl Meaning {
+    /// What is neither a constant nor the name of a constant's type.
+    pub fn plain(token: usize, kind: EntryKind) -> Self
+        ensures { result ≡ plain_meaning token kind }
+    {
+        Meaning {
+            token,
+            kind,
+            worth: None,
+            stands_for: None,
+        }
+    }
+
+    /// The same of what is found among operations and attributes alone: of no other name is the
+    /// token ever behind it.
+    pub fn as_feature(&self) -> Self
+        ensures { result ≡ feature_meant self.now }
+    {
+        let token = match self.kind {
+            EntryKind::Operation | EntryKind::Attribute => self.token,
+            _ => usize::MAX,
+        };
+        Meaning::plain(token, self.kind)
+    }
+}
+
+/// A base of an interface.
+#[derive(Clone, Copy, Debug, PartialEq, Eq)]
+pub struct Base {
+    /// The number of the first token of the base's name.
+    pub token: usize,
+    /// The entry that the name finds.
+    pub entry: usize,
+}

@@ -1,0 +1,20 @@
+//! What is declared in an IDL specification, and what names find (ISO/IEC 19500-1, names and
+//! scoping).
+#![tactic(auto)]
+
+mod bases;
+pub mod entry;
+pub mod key;
+pub mod numbered;
+pub mod record;
+pub mod search;
+mod shortcuts;
+pub mod table;
+mod word_order;
+
+pub use entry::{Base, EntryKind, Meaning};
+pub use key::{Key, Word};
+pub use numbered::Numbered;
+pub use record::Record;
+pub use search::{Found, Sight};
+pub use table::Table;

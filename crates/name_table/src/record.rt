@@ -1,0 +1,110 @@
+//! What is kept of each entry.
+
+ghost use Rattle.std.specs.Prelude.{◌≡◌, None, Some};
+ghost use Rattle.std.specs.Map.{lookup};
+ghost use Rattle.name_table.specs.OwnNames.{is_named_so};
+ghost use Rattle.name_table.specs.Entries.{entry_declared};
+ghost use Rattle.name_table.specs.Records.{entry_of, given_before, is_word};
+
+use crate::entry::{Base, EntryKind, Meaning};
+use crate::key::{Key, Word};
+use crate::search::Found;
+use const_values::{ConstKind, Constant};
+use idl_tree::names::Leaf;
+use std::collections::BTreeMap;
+
+/// What several bases give for a name.
+#[derive(Clone, Copy)]
+pub(crate) struct Given {
+    /// What the first base that gives the name gives.
+    pub entry: usize,
+    /// The token of that base.
+    pub token: usize,
+    /// The token of the first base that gives another entry, or several.
+    pub clash: Option<usize>,
+}
+
+/// What an interface has from its bases. A name is sought as in the first base, but for those in
+/// `others`, of which a later base says something else.
+#[derive(Drop)]
+pub(crate) struct Heir<'a> {
+    pub first: Base,
+    pub later: Vec<Base>,
+    pub others: BTreeMap<Word<'a>, Given>,
+}
+
+/// An entry.
+#[derive(Drop)]
+pub struct Record<'a> {
+    pub key: Key<'a>,
+    /// The token from which it is found.
+    pub token: usize,
+    /// The line of its identifier.
+    pub line: usize,
+    /// The number of its identifier.
+    pub identifier: usize,
+    pub kind: EntryKind,
+    /// What a constant or an enumerator is worth.
+    pub worth: Option<Constant>,
+    /// The type of constants for which the name of a type stands in the end.
+    pub stands_for: Option<ConstKind>,
+    /// The prefix of repository ids at the declaration.
+    pub prefix: &'a str,
+    /// Of an interface that has bases.
+    pub(crate) heir: Option<Box<Heir<'a>>>,
+}
+
+impl Given {
+    /// What the bases before the token give.
+    pub fn before(self, token: usize) -> Found
+        ensures { result ≡ given_before token self }
+    {
+        if token <= self.token {
+            return Found::Nothing;
+        }
+        match self.clash {
+            Some(clash) if clash < token => Found::Several,
+            _ => Found::One(self.entry),
+        }
+    }
+}
+
+impl<'a> Heir<'a> {
+    /// What later bases say else of a name.
+    pub fn other(&self, word: Word<'a>) -> Option<Given>
+        ensures { result ≡ lookup (is_word word.entry.text.now) self.now.others.entries }
+    {
+        self.others.get(&word).copied()
+    }
+}
+
+impl<'a> Record<'a> {
+    /// Of an identifier that is declared in the scope as what is meant, where the prefix is set.
+    pub fn new(prefix: &'a str, scope: usize, identifier: Leaf<'a>, meaning: Meaning) -> Self
+        ensures entry { entry_of result ≡ entry_declared meaning prefix.entry.now scope identifier.entry }
+        ensures scope { result.key.scope ≡ scope }
+        ensures plain { result.heir ≡ None }
+    {
+        Record {
+            key: Key {
+                scope,
+                word: Word::new(identifier.name()),
+            },
+            token: meaning.token,
+            line: identifier.token.line,
+            identifier: identifier.number,
+            kind: meaning.kind,
+            worth: meaning.worth,
+            stands_for: meaning.stands_for,
+            prefix,
+            heir: None,
+        }
+    }
+
+    /// Whether it has the name, which can't be declared in its scope.
+    pub fn is_named_so(&self, word: &Word<'a>) -> bool
+        ensures { result ≡ is_named_so word.now.text.now (Some (entry_of self.now)) }
+    {
+        self.kind.keeps_its_name() && self.key.word == *word
+    }
+}

@@ -1,0 +1,424 @@
+//! What a specification declares, and what names find.
+
+ghost use Rattle.std.specs.Prelude.{◌≡◌, ◌<◌, ◌≤◌, ◌^◌, ◌↔◌, ℕ, length, map, option_copied, IfOk, IfSome, OnOk, OnErr, IfErr, ◌≢◌, ◌+◌, ◌++◌, ◌∷◌, [], None, List, true, slice_get};
+ghost use Rattle.idl_tree.specs.Starts.{name_start, name_first, is_rooted};
+ghost use Rattle.name_table.specs.Search.{own as own_of, inherited as inherited_by, within as within_of, within_first, outwards as outwards_from, sought_in, sight as sight_of, sees, word, begins_at_root, identifiers_see};
+ghost use Rattle.name_table.specs.Entry.{AreDistinct, AreNested, bases_in, worth_in, meant_in, named, name_in, prefix_in};
+ghost use Rattle.name_table.specs.OwnNames.{is_own_name as own_name_of};
+ghost use Rattle.name_table.specs.Features.{is_something};
+ghost use Rattle.idl_lexer.specs.Identifiers.{words};
+ghost use Rattle.idl_lexer.specs.Words.{unescaped as unescaped_word};
+ghost use Rattle.name_table.specs.Entries.{latest, scope_of, with_base};
+ghost use Rattle.name_table.specs.Records.{heir_of as heir_in_records, entry_of, words_at, HasWord, is_word};
+
+use crate::entry::{Base, EntryKind};
+use crate::key::{Key, Word};
+use crate::numbered::Numbered;
+use crate::record::{Heir, Record};
+use crate::search::{Found, Sight};
+use crate::shortcuts::{Place, Shortcut, Step, drop_way};
+use const_values::{ConstKind, Constant};
+use idl_lexer::{Identifiers, is_rooted};
+use idl_tree::names::{Leaf, ScopedName};
+use std::alloc::{AllocError, Global};
+use std::marker::Model;
+
+/// The names of a specification. A contract sees the entries in order of declaration.
+#[derive(Drop)]
+pub struct Table<'a> {
+    keys: Numbered<Key<'a>>,
+    pub(crate) records: Vec<Record<'a>>,
+    /// The words that each scope declares.
+    pub(crate) words: Vec<Vec<Word<'a>>>,
+    /// Ways from scopes over several bases at once, by the scopes' numbers.
+    pub(crate) shortcuts: Vec<Option<Shortcut<'a>>>,
+    /// How many words were kept of ways.
+    pub(crate) noted: usize,
+}
+
+impl<'a> Model for Table<'a> {
+    ghost use Rattle.std.specs.Prelude.{List};
+    ghost use Rattle.name_table.specs.Entry.{Entry};
+    ghost use Rattle.name_table.specs.Records.{entries_in, AreTied};
+    ghost use Rattle.name_table.specs.Shortcuts.{AreShort};
+
+    ghost Value = { List Entry };
+
+    ghost view = { λ n. entries_in n.records.items };
+
+    ghost invariant = { λ n. AreTied n.keys n.records.items n.words.items × AreShort (entries_in n.records.items) n.shortcuts.items };
+}
+
+/// What the interface has whose scope it is, if it has bases.
+pub(crate) fn heir_of<'r, 'a>(records: &'r [Record<'a>], scope: usize) -> Option<&'r Heir<'a>>
+    ensures { option_copied result ≡ heir_in_records records.now scope }
+{
+    let number = scope.checked_sub(1)?;
+    records.get(number)?.heir.as_deref()
+}
+
+/// Lists a word of a scope, and makes room for the words of one more.
+fn list_word<'a>(
+    alloc: Global,
+    words: &mut Vec<Vec<Word<'a>>>,
+    scope: usize,
+    word: Word<'a>,
+) -> Result<(), AllocError>
+    requires { scope < length words.old.items }
+    ensures kept { (s : ℕ) (name : List ℕ) → HasWord (words_at words.old.items s) name → HasWord (words_at words.new.items s) name }
+    ensures listed { OnOk result ((name : List ℕ) → is_word name word.entry ≡ true → HasWord (words_at words.new.items scope) name) }
+    ensures longer { length words.old.items ≤ length words.new.items }
+    ensures one_more { OnOk result (length words.new.items ≡ length words.old.items + 1) }
+{
+    words[scope].push(word)?;
+    words.push(Vec::new(alloc))?;
+    Ok(())
+}
+
+/// A word without the underscore that escapes it.
+fn unescaped(word: &str) -> &str
+    ensures { result.now ≡ unescaped_word word.now }
+{
+    word.strip_prefix('_').unwrap_or(word)
+}
+
+impl<'a> Table<'a> {
+    /// No names yet.
+    pub fn new(alloc: Global) -> Result<Self, AllocError>
+        ensures { IfOk result (λ names. names ≡ []) }
+    {
+        let mut words = Vec::new(alloc);
+        words.push(Vec::new(alloc))?;
+        Ok(Table {
+            keys: Numbered::new(alloc),
+            records: Vec::new(alloc),
+            words,
+            shortcuts: Vec::new(alloc),
+            noted: 0,
+        })
+    }
+
+    /// The scope's own entry of the name that is declared before the token.
+    pub(crate) fn own(&self, token: usize, scope: usize, word: Word<'a>) -> Found
+        ensures { result ≡ own_of self.now token scope word.entry.text.now }
+    {
+        match self.keys.number_of(&Key { scope, word }) {
+            Some(number) if self.records[number].token < token => Found::One(number),
+            _ => Found::Nothing,
+        }
+    }
+
+    /// What the bases that are named before the token give.
+    pub(crate) fn inherited(&self, token: usize, scope: usize, word: Word<'a>) -> Found
+        ensures { result ≡ inherited_by self.now token scope word.entry.text.now }
+    {
+        let mut place = Place { token, scope };
+        loop {
+            match self.step(place, word) {
+                Step::Done(found) => return found,
+                Step::On(next) => place = next,
+            }
+        }
+    }
+
+    /// What a name before the token finds in the scope and its bases.
+    pub fn within(&self, token: usize, scope: usize, word: Word<'a>) -> Found
+        ensures { result ≡ within_of self.now token scope word.entry.text.now }
+    {
+        match self.own(token, scope, word) {
+            Found::Nothing => self.inherited(token, scope, word),
+            found => found,
+        }
+    }
+
+    /// What it finds in the scope, or else in those around.
+    fn outwards(&self, token: usize, scope: usize, word: Word<'a>) -> Found
+        requires { scope ≤ length self.now }
+        ensures { result ≡
+            within_first self.now token (outwards_from self.now scope scope) word.entry.text.now }
+    {
+        let mut place = scope;
+        loop {
+            match self.within(token, place, word) {
+                Found::Nothing => {}
+                found => return found,
+            }
+            if place == 0 {
+                return Found::Nothing;
+            }
+            place = self.records[place - 1].key.scope;
+        }
+    }
+
+    /// What is seen of a name where it finds this.
+    fn sight(&self, found: Found, text: &str) -> Sight
+        ensures kept { result ≡ sight_of self.now text.now found }
+        ensures placed { (e : ℕ) → result ≡ Sight.Seen e → e < length self.now }
+        ensures small { (e : ℕ) → result ≡ Sight.Seen e → e < 2 ^ 63 }
+    {
+        match found {
+            Found::Nothing => Sight::Unseen,
+            Found::Several => Sight::Unclear,
+            Found::One(entry) => match self.records.get(entry) {
+                Some(record) if text == record.key.word.text => Sight::Seen(entry),
+                _ => Sight::OtherCase(entry),
+            },
+        }
+    }
+
+    /// What the first identifier of a name finds that stands in the scope, whatever its case.
+    fn find_first(&self, scope: usize, name: &ScopedName<'a>) -> Found
+        requires { scope ≤ length self.now }
+        ensures { result ≡ within_first self.now (name_start name.now).number (sought_in self.now scope (is_rooted name.now)) (word (name_first name.now)) }
+    {
+        let token = name.start().number;
+        let first = Word::new(name.first().name());
+        if name.is_rooted() {
+            self.within(token, 0, first)
+        } else {
+            self.outwards(token, scope, first)
+        }
+    }
+
+    /// What is seen where a name is sought that stands in the scope.
+    pub fn look(&self, scope: usize, name: &ScopedName<'a>) -> Sight
+        requires { scope ≤ length self.now }
+        ensures seen { result ≡ sees self.now scope name.now }
+        ensures placed { (e : ℕ) → result ≡ Sight.Seen e → e < length self.now }
+    {
+        let token = name.start().number;
+        let mut seen = self.sight(self.find_first(scope, name), name.first().name());
+        for identifier in name.rest() {
+            match seen {
+                Sight::Seen(entry) => {
+                    let word = Word::new(identifier.name());
+                    seen = self.sight(self.within(token, entry + 1, word), word.text);
+                }
+                _ => return seen,
+            }
+        }
+        seen
+    }
+
+    /// What an entry was declared as.
+    pub fn kind(&self, entry: usize) -> EntryKind
+        requires { entry < length self.now }
+        ensures { IfSome (slice_get self.now entry) (λ e. result ≡ e.kind) }
+    {
+        self.records[entry].kind
+    }
+
+    /// What a constant or an enumerator is worth.
+    pub fn constant(&self, entry: usize) -> Option<&Constant>
+        requires { entry < length self.now }
+        ensures { option_copied result ≡ worth_in (slice_get self.now entry) }
+    {
+        self.records[entry].worth.as_ref()
+    }
+
+    /// The type of constants for which the name of a type stands in the end, if it does.
+    pub fn stands_for(&self, entry: usize) -> Option<ConstKind>
+        requires { entry < length self.now }
+        ensures { result ≡ meant_in (slice_get self.now entry) }
+    {
+        self.records[entry].stands_for
+    }
+
+    /// The prefix of repository ids at an entry's first declaration.
+    pub fn prefix(&self, entry: usize) -> &'a str
+        requires { entry < length self.now }
+        ensures { result.now ≡ prefix_in (slice_get self.now entry) }
+    {
+        self.records[entry].prefix
+    }
+
+    /// Whether it is the name of the scope itself, which can't be declared in it. The scope of an
+    /// operation has no name.
+    pub fn is_own_name(&self, key: &Key<'a>) -> bool
+        ensures { result ≡ own_name_of self.now key.now.scope key.now.word.text.now }
+    {
+        let Some(number) = key.scope.checked_sub(1) else {
+            return false;
+        };
+        match self.records.get(number) {
+            Some(record) => record.is_named_so(&key.word),
+            None => false,
+        }
+    }
+
+    /// Whether the bases of a scope that are named before the token give something.
+    pub fn inherits(&self, token: usize, scope: usize, text: &'a str) -> bool
+        ensures { result ≡ is_something (inherited_by self.now token scope text.now) }
+    {
+        match self.inherited(token, scope, Word::new(text)) {
+            Found::Nothing => false,
+            Found::One(_) | Found::Several => true,
+        }
+    }
+
+    /// The line of the identifier of an entry's first declaration.
+    pub fn line(&self, entry: usize) -> usize
+        requires { entry < length self.now }
+        ensures { IfSome (slice_get self.now entry) (λ e. result ≡ e.line) }
+    {
+        self.records[entry].line
+    }
+
+    /// The number of the identifier of an entry's first declaration.
+    pub fn identifier(&self, entry: usize) -> usize
+        requires { entry < length self.now }
+        ensures { IfSome (slice_get self.now entry) (λ e. result ≡ e.identifier) }
+    {
+        self.records[entry].identifier
+    }
+
+    /// An entry's name, without the underscore that escapes it.
+    pub fn name(&self, entry: usize) -> &'a str
+        requires { entry < length self.now }
+        ensures { result.now ≡ name_in (slice_get self.now entry) }
+    {
+        self.records[entry].key.word.text
+    }
+
+    /// The scope that an entry is declared in.
+    pub fn scope(&self, entry: usize) -> usize
+        requires { entry < length self.now }
+        ensures { IfSome (slice_get self.now entry) (λ e. result ≡ e.scope) }
+    {
+        self.records[entry].key.scope
+    }
+
+    /// The token from which an entry is found.
+    pub fn token(&self, entry: usize) -> usize
+        requires { entry < length self.now }
+        ensures { IfSome (slice_get self.now entry) (λ e. result ≡ e.token) }
+    {
+        self.records[entry].token
+    }
+
+    /// How many bases an interface names.
+    pub fn base_count(&self, entry: usize) -> usize
+        requires { entry < length self.now }
+        ensures { result ≡ length (bases_in (slice_get self.now entry)) }
+    {
+        match &self.records[entry].heir {
+            Some(heir) => heir.later.len() + 1,
+            None => 0,
+        }
+    }
+
+    /// A base of an interface, by its place among them.
+    pub fn base(&self, entry: usize, place: usize) -> Option<Base>
+        requires { entry < length self.now }
+        ensures { result ≡ slice_get (bases_in (slice_get self.now entry)) place }
+    {
+        let heir = self.records[entry].heir.as_deref()?;
+        match place.checked_sub(1) {
+            None => Some(heir.first),
+            Some(behind) => heir.later.get(behind).copied(),
+        }
+    }
+
+    /// Puts an entry behind the others. Its name is new in its scope, and it isn't found before the
+    /// last base.
+    ///
+    /// # Errors
+    ///
+    /// `AllocError`, and then nothing has changed.
+    pub fn add(&mut self, alloc: Global, declared: Record<'a>) -> Result<(), AllocError>
+        requires scope { declared.key.scope ≤ length self.old }
+        requires plain { declared.heir ≡ None }
+        requires fresh { named self.old declared.key.scope declared.key.word.text.now ≡ None }
+        requires late { latest self.old ≤ declared.token }
+        ensures added { OnOk result (self.new ≡ self.old ++ entry_of declared.entry ∷ []) }
+        ensures err { OnErr result (self.new ≡ self.old) }
+    {
+        let key = declared.key;
+        list_word(alloc, &mut self.words, key.scope, key.word)?;
+        self.records.reserve(1)?;
+        self.keys.push(key)?;
+        self.records.push_reserved(declared);
+        Ok(())
+    }
+
+    /// How many entries there are. Scopes stand inside earlier ones, and no two entries of one have
+    /// names that differ in case at most.
+    pub fn len(&self) -> usize
+        ensures count { result ≡ length self.now }
+        ensures distinct { AreDistinct self.now }
+        ensures nested { AreNested self.now }
+    {
+        self.keys.len()
+    }
+
+    /// The scope of what an identifier was declared as; the file's where it was declared as nothing.
+    pub fn scope_of(&self, scope: usize, identifier: Leaf<'a>) -> usize
+        ensures is { result ≡ scope_of self.now scope identifier.entry }
+        ensures there { result ≤ length self.now }
+    {
+        match self.declared(scope, identifier) {
+            Some(number) => number + 1,
+            None => 0,
+        }
+    }
+
+    /// The entry that an identifier was declared as in the scope.
+    pub fn declared(&self, scope: usize, identifier: Leaf<'a>) -> Option<usize>
+        ensures is { result ≡ named self.now scope (word identifier.entry) }
+        ensures there { IfSome result (λ e. e < length self.now) }
+        ensures small { IfSome result (λ e. e < 2 ^ 63) }
+    {
+        let word = Word::new(identifier.name());
+        self.keys.number_of(&Key { scope, word })
+    }
+
+    /// What is seen where the name of a pragma is sought that stands in a scope.
+    pub fn look_for_words(&self, token: usize, scope: usize, name: &'a str) -> Sight
+        requires { scope ≤ length self.now }
+        ensures { result ≡ identifiers_see self.now token scope (begins_at_root name.now) (words name.now) }
+    {
+        let mut words = Identifiers::new(name);
+        let Some(first) = words.next() else {
+            return Sight::Unseen;
+        };
+        let first = Word::new(unescaped(first));
+        let found = if is_rooted(name) {
+            self.within(token, 0, first)
+        } else {
+            self.outwards(token, scope, first)
+        };
+        let mut seen = self.sight(found, first.text);
+        for word in words {
+            match seen {
+                Sight::Seen(entry) => {
+                    let word = Word::new(unescaped(word));
+                    seen = self.sight(self.within(token, entry + 1, word), word.text);
+                }
+                _ => return seen,
+            }
+        }
+        seen
+    }
+
+    /// Gives an interface one more base, which is named behind all others.
+    ///
+    /// # Errors
+    ///
+    /// `AllocError`.
+    pub fn add_base(&mut self, alloc: Global, inner: usize, base: Base) -> Result<(), AllocError>
+        requires inner { inner ≤ length self.old }
+        requires placed { base.entry < length self.old }
+        requires late { latest self.old < base.token }
+        ensures told { OnOk result (self.new ≡ with_base self.old inner base) }
+        ensures count { length self.new ≡ length self.old }
+    {
+        let Some(number) = inner.checked_sub(1) else {
+            return Ok(());
+        };
+        let heir = self.heir_for(alloc, inner, base)?;
+        self.records[number].heir = Some(heir);
+        // the other ways lead past the interface as it was before the token
+        drop_way(&mut self.shortcuts, inner);
+        Ok(())
+    }
+}

@@ -1,7 +1,0 @@
-use Rattle.std.proofs.Common.{◌∙◌, ap}
-use Rattle.std.specs.Prelude.{is_some}
-use Rattle.scoped_names.proofs.Stability.{position_any}
-use Rattle.scoped_names.proofs.numbered.Numbered.contains.Goals as goal
-
-pub returns : goal.returns
-returns g c = c.is_some.ensures ∙ ap is_some c.number_of.ensures.is ∙ position_any _ c.args.self.now

@@ -1,9 +1,0 @@
-use Rattle.std.proofs.Common.{◌≡◌, ◌+◌, ◌-◌, ℕ, length}
-use Rattle.scoped_names.specs.Shortcuts.{way_at}
-use Rattle.scoped_names.proofs.shortcuts.keep_way.Given as goal
-
-abbrev pub invariant-loop-ways : goal.invariant-loop-ways
-invariant-loop-ways l = (q : ℕ) → way_at l.ways.items q ≡ way_at l.fn.ways.items q
-
-abbrev pub decreases-loop-ways : goal.decreases-loop-ways
-decreases-loop-ways l = l.scope + 1 - length l.ways.items

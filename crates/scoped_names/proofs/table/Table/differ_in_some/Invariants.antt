@@ -1,7 +1,0 @@
-use Rattle.std.proofs.Common.{◌≡◌, drop}
-use Rattle.std.specs.List.{list_any}
-use Rattle.scoped_names.specs.Faults.{differ_in}
-use Rattle.scoped_names.proofs.table.Table.differ_in_some.Given as goal
-
-abbrev pub invariant-loop-word : goal.invariant-loop-word
-invariant-loop-word l = list_any (λ w. differ_in l.self l.inner l.base w.text.now) (drop l.word-index l.words) ≡ list_any (λ w. differ_in l.self l.inner l.base w.text.now) l.words

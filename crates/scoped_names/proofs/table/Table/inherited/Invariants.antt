@@ -1,9 +1,0 @@
-use Rattle.std.proofs.Common.{◌≡◌}
-use Rattle.scoped_names.specs.Search.{inherited}
-use Rattle.scoped_names.proofs.table.Table.inherited.Given as goal
-
-abbrev pub invariant-loop-found : goal.invariant-loop-found
-invariant-loop-found l = inherited l.self l.place.token l.place.scope l.word.text.now ≡ inherited l.self l.token l.scope l.word.text.now
-
-abbrev pub decreases-loop-found : goal.decreases-loop-found
-decreases-loop-found l = l.place.token

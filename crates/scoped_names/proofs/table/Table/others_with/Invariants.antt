@@ -1,6 +1,0 @@
-use Rattle.std.proofs.Common.{drop}
-use Rattle.scoped_names.specs.SeveralBases.{IsDone}
-use Rattle.scoped_names.proofs.table.Table.others_with.Given as goal
-
-abbrev pub invariant-loop-word : goal.invariant-loop-word
-invariant-loop-word l = IsDone l.self l.inner l.base l.heir.others.entries l.others.entries (drop l.word-index l.words)

@@ -1,6 +1,0 @@
-use Rattle.std.proofs.Common.{◌≡◌}
-use Rattle.scoped_names.proofs.Orders.{order_from}
-use Rattle.scoped_names.proofs.word_order.order_of.Given as goal
-
-abbrev pub invariant-loop-place : goal.invariant-loop-place
-invariant-loop-place l = order_from l.one l.other 0 ≡ order_from l.one l.other l.place
