@@ -1,11 +1,11 @@
 -- The token of the last base, where entries are declared or get bases.
-use Rattle.std.proofs.Common.{◌≡◌, ◌∙◌, ◌<◌, ◌≤◌, ℕ, zero, suc, max, cond, nat_eq, Bool, true, false, List, [], ◌∷◌, ◌++◌, slice_get, slice_set, Option, Some, None, refl, ap, sym, subst, arith, eqb-true}
+use Rattle.std.proofs.Common.{◌≡◌, ◌∙◌, ◌≤◌, ℕ, zero, suc, max, cond, nat_eq, Bool, true, false, List, [], ◌∷◌, ◌++◌, slice_get, slice_set, Option, Some, None, refl, ap, sym, subst, arith, eqb-true}
 use Rattle.name_table.specs.declared.entry.Base.{Base}
 use Rattle.name_table.specs.declared.record.Record.{Record}
 use Rattle.name_table.specs.Entry.{Entry, bases_of}
 use Rattle.name_table.specs.Entries.{entry_with_base, last_of, latest, with_base}
 use Rattle.name_table.specs.Features.{features_of}
-use Rattle.name_table.specs.Records.{entries_in, entry_of, heir_bases}
+use Rattle.name_table.specs.Records.{entries_in, heir_bases}
 use Rattle.name_table.specs.Search.{base_at}
 
 base_low : (bs : List Base) (t b : ℕ) → base_at bs t ≡ Some b → t ≤ last_of bs

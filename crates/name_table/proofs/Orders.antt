@@ -1,6 +1,6 @@
 -- Words in their order, and what is found by it.
 use Rattle.std.proofs.Common.{◌≡◌, ◌∙◌, ℕ, suc, ◌<◌, Bool, true, cond, List, [], ◌∷◌, drop, get_or, length, map, refl, sym, ap, arith}
-use Rattle.std.specs.Prelude.{Option, Some, min, ◌||◌}
+use Rattle.std.specs.Prelude.{Some, min, ◌||◌}
 use Rattle.std.specs.Char.{to_ascii_lowercase}
 use Rattle.std.specs.Cmp.Lexicographic.{same_text, slice_cmp}
 use Rattle.std.specs.List.{list_any}

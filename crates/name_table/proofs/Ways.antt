@@ -1,6 +1,5 @@
 -- Ways over several bases at once stay what they are.
 use Rattle.std.proofs.Common.{◌≡◌, ◌∙◌, ℕ, zero, suc, ◌<◌, ◌≤◌, ◌⊎◌, inl, inr, Bool, true, false, ◌||◌, cond, nat_eq, List, [], ◌∷◌, ◌++◌, slice_get, Option, Some, None, Result, Ok, Err, IfOk, OnOk, refl, sym, ap, subst, arith}
-use Rattle.std.specs.BTreeMap.{is_at}
 use Rattle.std.specs.BTreeSet.{insert_key}
 use Rattle.std.specs.List.{list_any}
 use Rattle.std.specs.Map.{lookup}
@@ -24,7 +23,6 @@ use Rattle.name_table.specs.SeveralBases.{IsKept, SaysNothingNew}
 use Rattle.name_table.specs.Shortcuts.{AreShort, IsShort, LeadsTo, Passes, given_at, way_at}
 use Rattle.name_table.proofs.Tied.{HasWord_last, HasWord_push}
 use Rattle.name_table.proofs.MergedBases.{first_or, none_left, same_word}
-use Rattle.name_table.proofs.Orders.{any_same}
 
 -- where no word of a list is the name, the list has no such word
 pub has_none : (words : List Word) (name : List ℕ) → list_any (is_word name) words ≡ false → HasWord words name → ⊥

@@ -1,12 +1,12 @@
 -- The table of operations and attributes in step with that of all entries.
-use Rattle.std.proofs.Common.{◌≡◌, ◌∙◌, ℕ, zero, suc, cond, List, [], ◌∷◌, ◌++◌, length, slice_get, Option, Some, None, refl, sym, ap}
-use Rattle.std.specs.Prelude.{is_some}
+use Rattle.std.proofs.Common.{◌≡◌, ◌∙◌, ℕ, ◌≤◌, zero, suc, Bool, true, false, List, [], ◌∷◌, ◌++◌, length, slice_get, Option, Some, None, refl, sym, ap}
+use Rattle.std.specs.Prelude.{if◌then◌else◌}
 use Rattle.std.specs.Option.{option_map}
 use Rattle.std.proofs.lemmas.List.{length-map}
 use Rattle.std.proofs.lemmas.Option.{slice_get-map}
 use Rattle.name_table.specs.declared.entry.Base.{Base}
 use Rattle.name_table.specs.Entry.{Entry, is_named, named}
-use Rattle.name_table.specs.Entries.{entry_with_base, with_base, with_entry}
+use Rattle.name_table.specs.Entries.{entry_with_base, with_base}
 use Rattle.name_table.specs.Features.{as_feature, features_of}
 use Rattle.name_table.proofs.Lookups.{position_map}
 use Rattle.scoped_names.proofs.Members.{map_behind}
@@ -16,15 +16,13 @@ pub named_features : (es : List Entry) (s : ℕ) (w : List ℕ) → named (featu
 named_features es s w = position_map (is_named s w) as_feature es
 
 -- one entry more
-pub features_more : (es : List Entry) (e : Entry) → features_of (with_entry es e) ≡ with_entry (features_of es) (as_feature e)
-features_more es e = by (named es e.scope e.name) refl
-  where
-    there : (o : Option ℕ) → named es e.scope e.name ≡ o → cond (is_some o) (features_of es) (features_of es ++ as_feature e ∷ []) ≡ with_entry (features_of es) (as_feature e)
-    there o is = sym (ap (λ o. cond (is_some o) (features_of es) (features_of es ++ as_feature e ∷ [])) (named_features es e.scope e.name ∙ is))
+pub features_more : (es : List Entry) (e : Entry) → features_of (es ++ e ∷ []) ≡ features_of es ++ as_feature e ∷ []
+features_more es e = map_behind as_feature es e
 
-    by : (o : Option ℕ) → named es e.scope e.name ≡ o → features_of (with_entry es e) ≡ with_entry (features_of es) (as_feature e)
-    by (Some k) is = ap (λ o. features_of (cond (is_some o) es (es ++ e ∷ []))) is ∙ there (Some k) is
-    by None is = ap (λ o. features_of (cond (is_some o) es (es ++ e ∷ []))) is ∙ map_behind as_feature es e ∙ there None is
+-- of a token that is as late, and one behind all, either is as late
+pub late_either : (b : Bool) (last t far : ℕ) → last ≤ t → last ≤ far → last ≤ (if b then t else far)
+late_either true last t far low below = low
+late_either false last t far low below = below
 
 -- one base more
 pub features_based : (es : List Entry) (inner : ℕ) (base : Base) → features_of (with_base es inner base) ≡ with_base (features_of es) inner base

@@ -1,5 +1,5 @@
 -- The id of an entry by the parts of it.
-use Rattle.std.proofs.Common.{◌≡◌, ◌∙◌, ℕ, ◌<◌, List, Some, None, length, get_or, slice_get, codes, refl, sym, ap}
+use Rattle.std.proofs.Common.{◌≡◌, ◌∙◌, ℕ, List, Some, None, slice_get, codes, sym, ap}
 use Rattle.name_table.specs.Entry.{Entry, prefix_in}
 use Rattle.scoped_names.specs.RepositoryIds.{IdPragma, WholeId, VersionOf, given_to, id_by, idl_format, path, repository_id}
 

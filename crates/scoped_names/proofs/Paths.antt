@@ -56,9 +56,9 @@ path_step es nested scope place outer n met more whole next lt scoped named grow
     let turned : texts (reverse more) ≡ n.now ∷ texts (reverse met) = ap (λ ms. texts (reverse ms)) grows ∙ ap texts (reverse-append met (n ∷ [])) in (
       omega arith,
       ap (λ s. names_to es s s ++ texts (reverse more)) around_it
-      ∙ ap (λ names. names_to es x.scope x.scope ++ names) (turned ∙ ap (λ w. w ∷ texts (reverse met)) name)
-      ∙ sym (append_assoc (names_to es x.scope x.scope) (x.name ∷ []) (texts (reverse met)))
-      ∙ sym (ap (λ names. names ++ texts (reverse met)) step) ∙ so_far,
+          ∙ ap (λ names. names_to es x.scope x.scope ++ names) (turned ∙ ap (λ w. w ∷ texts (reverse met)) name)
+          ∙ sym (append_assoc (names_to es x.scope x.scope) (x.name ∷ []) (texts (reverse met)))
+          ∙ sym (ap (λ names. names ++ texts (reverse met)) step) ∙ so_far,
     )
 
 -- all are met at the file's scope

@@ -1,7 +1,7 @@
 -- The faults of a specification's names (ISO/IEC 19500-1, names and scoping, and pragma directives for repository ids):
 -- each part of the tree, where `st` is what is known before it and `scope` the scope that it stands in, gives what is
 -- known behind it, or its first fault. A fault of a declared name comes at its identifier, before those of what follows.
-use Rattle.std.specs.Prelude.{ℕ, zero, suc, Bool, true, false, not, ◌&&◌, ◌||◌, if◌then◌else◌, nat_eq, List, [], ◌∷◌, ◌++◌, Option, Some, None, Result, Ok, Err, length, map, slice_get}
+use Rattle.std.specs.Prelude.{ℕ, zero, suc, Bool, true, false, not, ◌&&◌, ◌||◌, if◌then◌else◌, nat_eq, List, [], ◌∷◌, ◌++◌, Option, Some, None, Result, Ok, Err, length, slice_get}
 use Rattle.std.specs.Str.{bytes_eq}
 use Rattle.std.specs.List.{list_any}
 use Rattle.idl_lexer.specs.Words.{same_but_for_case}
@@ -41,14 +41,13 @@ use Rattle.name_table.specs.declared.entry.Base.{Base}
 use Rattle.name_table.specs.declared.entry.Meaning.{Meaning}
 use Rattle.scoped_names.specs.declared.fault.NameFault.{NameFault}
 use Rattle.scoped_names.specs.declared.fault.NameFault.TheVariants.{Unknown, Collides, IdTwice, BadBase, PrefixInScope, PrefixDiffers}
-use Rattle.name_table.specs.declared.search.Found.{Found}
-use Rattle.name_table.specs.declared.search.Found.TheVariants.{Nothing, One, Several}
 use Rattle.name_table.specs.Entry.{Entry, bases_of, named}
-use Rattle.name_table.specs.Search.{inherited, within, word, begins_at_root, identifiers_see}
+use Rattle.name_table.specs.Search.{inherited, word, begins_at_root, identifiers_see}
 use Rattle.scoped_names.specs.Constants.{const_type_kind, simple_type_kind}
 use Rattle.scoped_names.specs.Entries.{attribute_identifiers, const_meant, enum_meant, enumerator_meant, optional_parts, typedef_meant}
 use Rattle.name_table.specs.Entries.{entry_declared, plain, scope_of, with_base, with_entry}
-use Rattle.name_table.specs.Features.{is_feature}
+use Rattle.name_table.specs.Features.{differ, features_of, is_something}
+use Rattle.name_table.specs.OwnNames.{is_own_name}
 use Rattle.scoped_names.specs.RepositoryIds.{GivenId, IdPragma, given_to}
 use Rattle.scoped_names.specs.IdPragmas.{Said, SetsPrefix, Gives, is_same_given, said_by}
 use Rattle.scoped_names.specs.Reading.{Member as Field, State, Reading, Test, ◌>>◌, all, each}

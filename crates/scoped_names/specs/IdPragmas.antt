@@ -1,16 +1,11 @@
 -- What the pragmas of a specification say of repository ids (ISO/IEC 19500-1, pragma directives for repository ids):
 -- prefixes are set in the file's scope, and `ID` and `version` name what is declared before them.
-use Rattle.std.specs.Prelude.{ℕ, Bool, false, ◌&&◌, ◌==◌, map, List, [], ◌∷◌, Option, Some, None, take, drop, slice_index, codes, if◌then◌else◌}
+use Rattle.std.specs.Prelude.{ℕ, Bool, false, List, Option, Some, None, take, drop, codes, if◌then◌else◌}
 use Rattle.std.specs.Str.{bytes_eq}
 use Rattle.idl_lexer.specs.declared.token.Kind.{Kind}
 use Rattle.idl_lexer.specs.declared.token.Kind.TheVariants.{Ident, Keyword, Punct, Number, CharLit, TextLit, Pragma as PragmaToken}
 use Rattle.idl_lexer.specs.Directives.{before_quote, from_quote, pragma_rest, pragma_word, quoted_text, version_number, version_place}
-use Rattle.idl_lexer.specs.Words.{unescaped}
 use Rattle.idl_tree.specs.declared.names.Leaf.{Leaf}
-use Rattle.name_table.specs.Entry.{Entry}
-use Rattle.name_table.specs.declared.search.Sight.{Sight}
-use Rattle.name_table.specs.declared.search.Sight.TheVariants.{Unseen}
-use Rattle.name_table.specs.Search.{sees_words}
 use Rattle.scoped_names.specs.RepositoryIds.{GivenId, WholeId, VersionOf}
 
 -- what a pragma for repository ids says: a prefix, or a name and what it gives to it

@@ -3,7 +3,7 @@
 -- them, and behind the last colon a version, which is 1.0 where no pragma gives another.
 use Rattle.std.specs.Prelude.{ℕ, zero, suc, cond, nat_eq, List, [], ◌∷◌, ◌++◌, Option, Some, None, slice_get, codes}
 use Rattle.std.specs.List.{flat_map}
-use Rattle.name_table.specs.Entry.{Entry, around}
+use Rattle.name_table.specs.Entry.{Entry, around, name_in, prefix_in}
 
 -- what a pragma gives to a name: its whole id, or its version
 pub data GivenId : Type 0 where

@@ -1,8 +1,5 @@
 -- What is kept of the members of scopes, as contracts see it.
 use Rattle.name_table.specs.declared.key.Key.{Key}
-use Rattle.std.specs.Prelude.{None, if◌then◌else◌}
-use Rattle.name_table.specs.declared.entry.Meaning.{Meaning}
-use Rattle.name_table.specs.Features.{is_feature}
 use Rattle.scoped_names.specs.Reading.{Member}
 
 abbrev pub member_of : Key → Member

@@ -10,12 +10,10 @@ ghost use Rattle.scoped_names.specs.Faults.{attribute_read, base_read, const_rea
 ghost use Rattle.scoped_names.specs.Reading.{Checks, Tells, each};
 ghost use Rattle.scoped_names.specs.Tests.{attributes_test, optional_test, param_type_test, raised_test, raises_test};
 
-use name_table::{Base, EntryKind, Meaning};
 use crate::evaluation::{bind_sizes, resolve, value_of_kind};
 use crate::fault::NameFault;
 use crate::reader::Reader;
 use crate::types::{bind_const_type, bind_param_type};
-use name_table::Table;
 use const_values::ConstKind;
 use idl_tree::definitions::{
     Attribute, Attributes, Const, Declaration, Definition, Except, Export, Interface, Operation,
@@ -23,6 +21,7 @@ use idl_tree::definitions::{
 };
 use idl_tree::names::{Leaf, Listed, ScopedName};
 use idl_tree::types::{Declarator, ParamType};
+use name_table::{Base, EntryKind, Meaning, Table};
 use std::alloc::Global;
 
 /// The name of an exception.
@@ -40,7 +39,11 @@ fn bind_raised<'a>(table: &Table<'a>, scope: usize, name: &ScopedName<'a>) -> Re
 }
 
 /// Names of exceptions.
-fn bind_raises<'a>(table: &Table<'a>, scope: usize, names: &Listed<ScopedName<'a>>) -> Result<(), NameFault>
+fn bind_raises<'a>(
+    table: &Table<'a>,
+    scope: usize,
+    names: &Listed<ScopedName<'a>>,
+) -> Result<(), NameFault>
     requires { scope ≤ length table.now }
     ensures { Checks result (raises_test table.now scope (parts names.now)) }
 {
@@ -99,6 +102,7 @@ fn bind_attributes_raise<'a>(
         Attributes::Set { set, .. } => bind_raises(table, scope, set),
     }
 }
+
 impl<'a> Reader<'a> {
     /// A name for a type that is in the end of the kind, if it is a type of constants.
     fn declare_typedef(

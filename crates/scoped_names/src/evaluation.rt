@@ -7,11 +7,11 @@ ghost use Rattle.scoped_names.specs.Reading.{Checks, Gives, all};
 ghost use Rattle.scoped_names.specs.Tests.{constant_test, found_at, names_test, resolved, size_read, size_test, value_of_type, value_read};
 
 use crate::fault::NameFault;
-use name_table::{Sight, Table};
 use const_values::{ConstKind, Constant, applied, literal_constant, signed, text_constant};
 use idl_tree::const_expr::ConstExpr;
 use idl_tree::expression::{Expr, Operator, Sign};
 use idl_tree::names::ScopedName;
+use name_table::{Sight, Table};
 use std::alloc::Global;
 
 /// The number, if the constant is a whole one.
@@ -92,7 +92,11 @@ pub(crate) fn resolve<'a>(
 }
 
 /// That a name finds a constant or an enumerator.
-fn test_constant<'a>(table: &Table<'a>, scope: usize, name: &ScopedName<'a>) -> Result<(), NameFault>
+fn test_constant<'a>(
+    table: &Table<'a>,
+    scope: usize,
+    name: &ScopedName<'a>,
+) -> Result<(), NameFault>
     requires { scope ≤ length table.now }
     ensures { Checks result (constant_test table.now scope name.now) }
 {

@@ -9,14 +9,13 @@ ghost use Rattle.name_table.specs.Entry.{AreDistinct, bases_in, meant_in, named,
 ghost use Rattle.scoped_names.specs.RepositoryIds.{path as path_of, repository_id};
 ghost use Rattle.name_table.specs.Search.{Finds, word};
 
-use name_table::{Base, EntryKind};
 use crate::evaluation::{resolve, size_of, value_of};
 use crate::fault::NameFault;
 use crate::repository_ids::{IdPragmas, path_to};
-use name_table::Table;
 use const_values::{ConstKind, Constant};
 use idl_tree::expression::Expr;
 use idl_tree::names::{Leaf, ScopedName};
+use name_table::{Base, EntryKind, Table};
 use std::alloc::{AllocError, Global};
 use std::marker::Model;
 

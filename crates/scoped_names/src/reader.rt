@@ -15,9 +15,9 @@ ghost use Rattle.scoped_names.specs.Whole.{whole};
 use crate::fault::NameFault;
 use crate::names::Names;
 use crate::repository_ids::IdPragmas;
-use name_table::{Base, EntryKind, Key, Meaning, Numbered, Record, Table, Word};
 use idl_tree::definitions::Definition;
 use idl_tree::names::Leaf;
+use name_table::{Base, EntryKind, Key, Meaning, Numbered, Record, Table, Word};
 use std::alloc::Global;
 use std::marker::Model;
 
@@ -30,7 +30,7 @@ pub(crate) struct Reader<'a> {
     /// Memory was refused in the midst of a change, and the two tables may be out of step.
     is_spoilt: bool,
     /// The token of the last base.
-    latest: usize,
+    last_base: usize,
     /// The members and parameters that each scope has; no search finds them.
     members: Numbered<Key<'a>>,
     /// The scopes of which a definition was read.
@@ -53,7 +53,7 @@ impl<'a> Model for Reader<'a> {
 
     ghost view = { λ r. record { entries = r.table; members = map member_of r.members; defined = r.defined; prefix = r.prefix.now; given = r.ids } };
 
-    ghost invariant = { λ r. r.is_spoilt ≡ false → (r.features ≡ features_of r.table) × (latest r.table ≤ r.latest) };
+    ghost invariant = { λ r. r.is_spoilt ≡ false → (r.features ≡ features_of r.table) × (latest r.table ≤ r.last_base) };
 }
 
 /// Whether what was declared as this may be declared again as that.
@@ -108,7 +108,7 @@ impl<'a> Reader<'a> {
             table: Table::new(alloc)?,
             features: Table::new(alloc)?,
             is_spoilt: false,
-            latest: 0,
+            last_base: 0,
             members: Numbered::new(alloc),
             defined: Numbered::new(alloc),
             prefix: "",
@@ -155,11 +155,11 @@ impl<'a> Reader<'a> {
         meaning: Meaning,
     ) -> Result<(), NameFault>
         requires scope { scope ≤ length self.old.entries }
-        requires fresh { named self.old.entries scope (word identifier.entry) ≡ None }
+        requires fresh { named self.old.entries scope (word identifier) ≡ None }
         ensures told { Tells result self.new (Ok (with_declared meaning self.old scope identifier.entry)) }
         ensures longer { length self.old.entries ≤ length self.new.entries }
     {
-        if self.is_spoilt || meaning.token < self.latest {
+        if self.is_spoilt || meaning.token < self.last_base {
             return Err(NameFault::NoMemory);
         }
         self.is_spoilt = true;
@@ -371,7 +371,7 @@ impl<'a> Reader<'a> {
         ensures told { Tells result self.new (Ok (based self.old inner base)) }
         ensures longer { length self.old.entries ≤ length self.new.entries }
     {
-        if self.is_spoilt || base.token <= self.latest {
+        if self.is_spoilt || base.token <= self.last_base {
             return Err(NameFault::NoMemory);
         }
         self.is_spoilt = true;
@@ -380,7 +380,7 @@ impl<'a> Reader<'a> {
         self.features.add_base(alloc, inner, base)?;
         self.table.shorten(alloc, scope)?;
         self.table.add_base(alloc, inner, base)?;
-        self.latest = base.token;
+        self.last_base = base.token;
         self.is_spoilt = false;
         Ok(())
     }
@@ -392,7 +392,7 @@ impl<'a> Reader<'a> {
         ensures told { IfOk result (λ r. r ≡ may_be_base self.now inner base) }
         ensures memory { IfErr result (λ fault. fault ≡ NoMemory) }
     {
-        if self.is_spoilt || base.token <= self.latest {
+        if self.is_spoilt || base.token <= self.last_base {
             return Err(NameFault::NoMemory);
         }
         if !self.is_defined_interface(base.entry) || self.table.has_base(inner, base.entry) {

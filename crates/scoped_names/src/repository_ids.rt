@@ -144,8 +144,10 @@ impl<'a> IdPragmas<'a> {
     fn given(&self, entry: usize) -> Option<PragmaId<'a>>
         ensures { option_map given_of result ≡ given_to self.now entry }
     {
-        let number = self.entries.number_of(&entry)?;
-        Some(self.ids[number])
+        match self.entries.number_of(&entry) {
+            Some(number) => Some(self.ids[number]),
+            None => None,
+        }
     }
 
     /// The repository id of an entry.

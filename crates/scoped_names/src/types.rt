@@ -9,21 +9,24 @@ ghost use Rattle.scoped_names.specs.Faults.{case_read, declarator_read, enum_rea
 ghost use Rattle.scoped_names.specs.Reading.{Checks, Gives, Tells, all, each};
 ghost use Rattle.scoped_names.specs.Tests.{const_type_test, found_of, is_type, label_test, param_type_test, simple_type_test};
 
-use name_table::{EntryKind, Meaning};
 use crate::evaluation::{bind_sizes, resolve, size_of, value_of};
 use crate::fault::NameFault;
 use crate::reader::Reader;
-use name_table::Table;
 use const_values::{ConstKind, Constant};
 use idl_tree::names::{Leaf, Listed, ScopedName};
 use idl_tree::types::{
     Case, ConstType, Declarator, EnumType, Label, Member, ParamType, SimpleType, StructType,
     SwitchType, TypeSpec, UnionType,
 };
+use name_table::{EntryKind, Meaning, Table};
 use std::alloc::Global;
 
 /// A name that stands for a type.
-pub(crate) fn bind_type_name<'a>(table: &Table<'a>, scope: usize, name: &ScopedName<'a>) -> Result<usize, NameFault>
+pub(crate) fn bind_type_name<'a>(
+    table: &Table<'a>,
+    scope: usize,
+    name: &ScopedName<'a>,
+) -> Result<usize, NameFault>
     requires { scope ≤ length table.now }
     ensures told { Gives result (found_of is_type table.now scope name.now) }
     ensures found { IfOk result (λ entry. sees table.now scope name.now ≡ Sight.Seen entry) }
@@ -127,6 +130,7 @@ fn bind_labels<'a>(
     }
     Ok(())
 }
+
 impl<'a> Reader<'a> {
     /// An enumeration and its enumerators.
     pub(crate) fn bind_enum(

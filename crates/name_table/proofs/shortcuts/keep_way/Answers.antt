@@ -1,4 +1,4 @@
-use Rattle.std.proofs.Common.{◌∙◌, ◌++◌, ◌∷◌, [], None, Some, nat_eq, refl, ap, sym, subst, arith}
+use Rattle.std.proofs.Common.{◌∙◌, None, Some, nat_eq, refl, ap, arith}
 use Rattle.std.specs.Prelude.{if◌then◌else◌}
 use Rattle.name_table.specs.Shortcuts.{way_at, way_in}
 use Rattle.name_table.proofs.Stability.{get_push}

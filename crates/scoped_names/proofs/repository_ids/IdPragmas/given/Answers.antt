@@ -1,15 +1,18 @@
-use Rattle.std.proofs.Common.{◌≡◌, ◌∙◌, Some, length, slice_get, refl, sym}
+use Rattle.std.proofs.Common.{◌≡◌, ◌∙◌, ◌<◌, IfSome, Some, length, slice_get, refl, sym, subst, arith}
 use Rattle.std.proofs.lemmas.Option.{slice_get_read}
 use Rattle.scoped_names.proofs.IdsGiven.{given_none, given_there}
 use Rattle.scoped_names.proofs.repository_ids.IdPragmas.given.Goals as goal
 
-pub returns : goal.returns
-returns c =
+pub returns-in-Some : goal.returns-in-Some
+returns-in-Some c =
+    let es = c.self.inside.entries in
     let ids = c.self.inside.ids.items in
-    let x = c.index.result in
-    let here : slice_get ids c.in_ok-number.number ≡ Some x = slice_get_read ids (length ids) c.in_ok-number.number x refl (omega arith) c.index.is in
-    sym (given_there c.args.self.now c.self.inside.entries ids c.self.view_is c.self.invariant c.args.entry c.in_ok-number.number x (sym c.number_of-number.ensures.is ∙ c.in_ok-number.was) here)
+    let x = c.index.result.now in
+    let low : c.in-Some.number < length es = subst (λ o. IfSome o (λ n. n < length es)) c.in-Some.is c.number_of.ensures.there in
+    let even = c.self.invariant in
+    let here : slice_get ids c.in-Some.number ≡ Some x = slice_get_read ids (length ids) c.in-Some.number x refl (omega arith) c.index.ensures in
+    sym (given_there c.args.self.now es ids c.self.view_is even c.args.entry c.in-Some.number x (sym c.number_of.ensures.is ∙ c.in-Some.is) here)
 
-pub returns-in_err-number : goal.returns-in_err-number
-returns-in_err-number c =
-    sym (given_none c.args.self.now c.self.inside.entries c.self.inside.ids.items c.self.view_is c.self.invariant c.args.entry (sym c.number_of-number.ensures.is ∙ c.in_err-number.was))
+pub returns-in-None : goal.returns-in-None
+returns-in-None c =
+    sym (given_none c.args.self.now c.self.inside.entries c.self.inside.ids.items c.self.view_is c.self.invariant c.args.entry (sym c.number_of.ensures.is ∙ c.in-None.is))
