@@ -90,7 +90,7 @@ both_one (One e) (One f) b h = by (nat_eq e f) h
 both_one (One e) Several b h = absurd cc
 both_one Several y b h = absurd cc
 
-else_one : (x y : Found) (b : ℕ) → or_else x y ≡ One b → (x ≡ One b) ⊎ (y ≡ One b)
+pub else_one : (x y : Found) (b : ℕ) → or_else x y ≡ One b → (x ≡ One b) ⊎ (y ≡ One b)
 else_one Nothing y b h = inr h
 else_one (One e) y b h = inl h
 else_one Several y b h = absurd cc
@@ -131,7 +131,7 @@ inherited_named es (suc m) s w b h =
     pick up (inl h) = up 0 s h
     pick up (inr h) = base up (base_at (bases_of es s) m) h
 
-within_named : (es : List Entry) (n s : ℕ) (w : List ℕ) (b : ℕ) → within es n s w ≡ One b → HasName es b w
+pub within_named : (es : List Entry) (n s : ℕ) (w : List ℕ) (b : ℕ) → within es n s w ≡ One b → HasName es b w
 within_named es n s w b h = pick (else_one (own es n s w) (inherited es n s w) b h)
   where
     pick : (own es n s w ≡ One b) ⊎ (inherited es n s w ≡ One b) → HasName es b w

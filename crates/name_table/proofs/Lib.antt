@@ -12,3 +12,4 @@ pub mod Ways
 pub mod WaysKept
 pub mod Features
 pub mod Worked
+pub mod OtherCases

@@ -4,6 +4,7 @@ ghost use Rattle.std.specs.Prelude.{◌≡◌, None, Some};
 ghost use Rattle.std.specs.Map.{lookup};
 ghost use Rattle.name_table.specs.OwnNames.{is_named_so};
 ghost use Rattle.name_table.specs.Entries.{entry_declared};
+ghost use Rattle.name_table.specs.Search.{word};
 ghost use Rattle.name_table.specs.Records.{entry_of, given_before, is_word};
 
 use crate::entry::{Base, EntryKind, Meaning};
@@ -83,6 +84,8 @@ impl<'a> Record<'a> {
     pub fn new(prefix: &'a str, scope: usize, identifier: Leaf<'a>, meaning: Meaning) -> Self
         ensures entry { entry_of result ≡ entry_declared meaning prefix.entry.now scope identifier.entry }
         ensures scope { result.key.scope ≡ scope }
+        ensures name { result.key.word.text.now ≡ word identifier.entry }
+        ensures token { result.token ≡ meaning.token }
         ensures plain { result.heir ≡ None }
     {
         Record {

@@ -185,6 +185,7 @@ impl<'a> Table<'a> {
         requires { scope ≤ length self.now }
         ensures seen { result ≡ sees self.now scope name.now }
         ensures placed { (e : ℕ) → result ≡ Sight.Seen e → e < length self.now }
+        ensures other { (e : ℕ) → result ≡ Sight.OtherCase e → e < length self.now }
     {
         let token = name.start().number;
         let mut seen = self.sight(self.find_first(scope, name), name.first().name());
@@ -375,7 +376,8 @@ impl<'a> Table<'a> {
     /// What is seen where the name of a pragma is sought that stands in a scope.
     pub fn look_for_words(&self, token: usize, scope: usize, name: &'a str) -> Sight
         requires { scope ≤ length self.now }
-        ensures { result ≡ identifiers_see self.now token scope (begins_at_root name.now) (words name.now) }
+        ensures seen { result ≡ identifiers_see self.now token scope (begins_at_root name.now) (words name.now) }
+        ensures other { (e : ℕ) → result ≡ Sight.OtherCase e → e < length self.now }
     {
         let mut words = Identifiers::new(name);
         let Some(first) = words.next() else {

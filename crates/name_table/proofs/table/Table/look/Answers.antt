@@ -2,6 +2,7 @@ use Rattle.std.proofs.Common.{sym, ap, ◌∙◌, ◌≡◌, ◌<◌, ◌+◌, s
 use Rattle.std.proofs.Math.Seq.{drop-cons}
 use Rattle.name_table.specs.declared.search.Sight.TheVariants.{Seen}
 use Rattle.name_table.specs.Search.{sight, inside, within, word}
+use Rattle.name_table.proofs.OtherCases.{inside_stays, name_other}
 use Rattle.name_table.proofs.table.Table.look.Goals as goal
 
 pub overflow_add-entry : goal.overflow_add-entry
@@ -36,3 +37,19 @@ loop-identifier-preserved c =
           ∙ sym (ap (λ found. inside es token found (map word (drop i xs))) c.in-Seen.is)
           ∙ c.loop-identifier.invariant.same;
     }
+
+pub returns-in_default : goal.returns-in_default
+returns-in_default c =
+    let es = c.args.self.now in
+    let xs = c.rest-identifier-items.result.now in
+    record {
+      seen = sym (inside_stays es c.start-token.result.number c.loop-identifier.seen (map word (drop c.loop-identifier.identifier-index xs)) c.in_default.not-Seen) ∙ c.loop-identifier.invariant.same;
+      placed = c.loop-identifier.invariant.placed;
+      other = λ e is. name_other es c.start-token.result.number c.loop-identifier.seen (map word (drop c.loop-identifier.identifier-index xs)) e is c.args.scope c.args.name.now c.loop-identifier.invariant.same;
+    }
+
+pub returns-clause-other : goal.returns-clause-other
+returns-clause-other c = λ e is.
+    let es = c.args.self.now in
+    let xs = c.rest-identifier-items.result.now in
+    name_other es c.start-token.result.number c.loop-identifier.seen (map word (drop c.loop-identifier.identifier-index xs)) e is c.args.scope c.args.name.now c.loop-identifier.invariant.same

@@ -1,8 +1,10 @@
-use Rattle.std.proofs.Common.{sym, ap, ◌∙◌, ◌≡◌, ◌+◌, suc, map, arith}
+use Rattle.std.proofs.Common.{rules, sym, ap, ◌∙◌, ◌≡◌, ◌+◌, suc, map, arith}
 use Rattle.idl_lexer.specs.Words.{unescaped}
+use Rattle.idl_lexer.specs.Identifiers.{words}
 use Rattle.idl_lexer.specs.IdentifiersLeft.{words_left}
 use Rattle.name_table.specs.declared.search.Sight.TheVariants.{Seen}
-use Rattle.name_table.specs.Search.{sight, inside, within}
+use Rattle.name_table.specs.Search.{begins_at_root, sight, inside, within}
+use Rattle.name_table.proofs.OtherCases.{identifiers_other}
 use Rattle.name_table.proofs.table.Table.look_for_words.Goals as goal
 
 pub loop-word-preserved : goal.loop-word-preserved
@@ -27,3 +29,16 @@ loop-word-preserved c =
           ∙ sym (ap (λ found. inside es token found (map unescaped (words_left c.loop-word.word-iterator))) c.in-Seen.is)
           ∙ c.loop-word.invariant.same;
     }
+
+pub returns-in_default-seen : goal.returns-in_default-seen
+returns-in_default-seen c = record {
+  seen = search rules;
+  other = λ e is.
+      identifiers_other c.args.self.now c.args.token c.loop-word.seen (map unescaped (words_left c.loop-word.word-iterator)) e is c.args.scope (begins_at_root c.args.name.now) (words c.args.name.now)
+      c.loop-word.invariant.same;
+}
+
+pub returns-clause-other : goal.returns-clause-other
+returns-clause-other c = λ e is.
+    identifiers_other c.args.self.now c.args.token c.loop-word.seen (map unescaped (words_left c.loop-word.word-iterator)) e is c.args.scope (begins_at_root c.args.name.now) (words c.args.name.now)
+    c.loop-word.invariant.same
