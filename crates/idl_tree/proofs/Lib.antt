@@ -1,4 +1,5 @@
 pub mod Rows
+pub mod PartLengths
 pub mod Chains
 pub mod Members
 pub mod Modules

@@ -40,13 +40,19 @@ pub struct Listed<T> {
     pub rest: Vec<T>,
 }
 
+/// What an identifier names: its text without one leading underscore, which only keeps it from
+/// being a keyword (escaped identifiers). Takes no memory.
+pub fn unescaped<'a>(text: &'a str) -> &'a str
+    ensures { result.now ≡ unescaped_text text.now }
+{
+    text.strip_prefix('_').unwrap_or(text)
+}
+
 impl<'a> Leaf<'a> {
-    /// The name of an identifier: its text without one leading underscore, which only keeps it from
-    /// being a keyword (escaped identifiers). Takes no memory.
+    /// The name of an identifier: its text `unescaped`. Takes no memory.
     pub fn name(&self) -> &'a str
         ensures { result.now ≡ unescaped_text self.now.token.now.text.now }
     {
-        let text = self.token.text;
-        text.strip_prefix('_').unwrap_or(text)
+        unescaped(self.token.text)
     }
 }

@@ -4,7 +4,7 @@ use Rattle.std.specs.Prelude.{nat_lt, is_some, slice_set}
 use Rattle.std.proofs.lemmas.Bool.{and_parts, eq-eqb, eqb-true}
 use Rattle.std.specs.Char.{to_ascii_lowercase}
 use Rattle.std.proofs.lemmas.Slice.Eq.{bytes_eq-Decides}
-use Rattle.name_table.specs.Entries.{latest, scope_number, with_entry}
+use Rattle.name_table.specs.Entries.{latest, scope_number}
 use Rattle.std.proofs.lemmas.Option.{slice_get-map, slice_get_read, slice_get_within}
 use Rattle.std.specs.Option.{option_map}
 use Rattle.std.specs.Map.{lookup}
@@ -201,27 +201,8 @@ words_of_item words scope v lt read = ap words_in (slice_get_read words (length 
 same_itself : (w : List ℕ) → same_but_for_case w w ≡ true
 same_itself w = (bytes_eq-Decides (map to_ascii_lowercase w) (map to_ascii_lowercase w)).1 refl
 
-pub again : (es : List Entry) (e : Entry) (k : ℕ) → named es e.scope e.name ≡ Some k → es ≡ with_entry es e
-again es e k h = sym (ap (λ o. cond (is_some o) es (es ++ e ∷ [])) h)
-
-pub fresh : (es : List Entry) (e : Entry) → named es e.scope e.name ≡ None → es ++ e ∷ [] ≡ with_entry es e
-fresh es e h = sym (ap (λ o. cond (is_some o) es (es ++ e ∷ [])) h)
-
 pub scope_fresh : (es : List Entry) (e : Entry) → named es e.scope e.name ≡ None → length es + 1 ≡ scope_number (named (es ++ e ∷ []) e.scope e.name)
 scope_fresh es e h =
     let is : is_named e.scope e.name e ≡ true = ap (λ b. b && same_but_for_case e.name e.name) (eq-eqb e.scope e.scope refl) ∙ same_itself e.name in
     let next : length es + 1 ≡ suc (length es) = omega arith in
     next ∙ sym (ap scope_number (named_push es e e.scope e.name ∙ ap (λ o. or_place o (cond (is_named e.scope e.name e) (Some (length es)) None)) h ∙ ap (λ b. cond b (Some (length es)) None) is))
-
--- what was declared has a scope of its own
-pub scope_there : (es : List Entry) (e : Entry) → 1 ≤ scope_number (named (with_entry es e) e.scope e.name)
-scope_there es e = by (named es e.scope e.name) refl
-  where
-    by : (o : Option ℕ) → named es e.scope e.name ≡ o → 1 ≤ scope_number (named (with_entry es e) e.scope e.name)
-    by (Some k) is =
-        let there : 1 ≤ scope_number (named es e.scope e.name) = subst (λ o. 1 ≤ scope_number o) (sym is) (omega arith) in
-        subst (λ xs. 1 ≤ scope_number (named xs e.scope e.name)) (again es e k is) there
-    by None is =
-        let place = scope_fresh es e is in
-        let there : 1 ≤ scope_number (named (es ++ e ∷ []) e.scope e.name) = omega arith in
-        subst (λ xs. 1 ≤ scope_number (named xs e.scope e.name)) (fresh es e is) there

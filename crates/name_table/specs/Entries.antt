@@ -1,5 +1,5 @@
 -- What is declared, as entries, and lists of entries that grow.
-use Rattle.std.specs.Prelude.{ℕ, zero, suc, cond, max, is_some, List, [], ◌∷◌, ◌++◌, Option, Some, None, slice_get, slice_set}
+use Rattle.std.specs.Prelude.{ℕ, zero, suc, max, List, [], ◌∷◌, ◌++◌, Option, Some, None, slice_get, slice_set}
 use Rattle.idl_tree.specs.declared.names.Leaf.{Leaf}
 use Rattle.name_table.specs.declared.entry.EntryKind.{EntryKind}
 use Rattle.name_table.specs.declared.entry.Base.{Base}
@@ -25,10 +25,6 @@ entry_declared m prefix scope l = record {
   identifier = l.number;
   prefix = prefix;
 }
-
--- the entries with this one behind them, unless its scope has its name already
-abbrev pub with_entry : List Entry → Entry → List Entry
-with_entry es e = cond (is_some (named es e.scope e.name)) es (es ++ e ∷ [])
 
 abbrev pub entry_with_base : List Entry → ℕ → Base → Option Entry → List Entry
 entry_with_base es place base None = es

@@ -48,11 +48,6 @@ as_feature e = record e { token = feature_token e; worth = None; stands_for = No
 abbrev pub features_of : List Entry → List Entry
 features_of es = map as_feature es
 
-abbrev pub is_something : Found → Bool
-is_something Nothing = false
-is_something (One e) = true
-is_something Several = true
-
 abbrev pub is_one_other : Found → Found → Bool
 is_one_other (One a) (One b) = not (nat_eq a b)
 is_one_other (One a) Nothing = false

@@ -5,9 +5,7 @@ ghost use Rattle.idl_tree.specs.Starts.{name_start, name_first, is_rooted};
 ghost use Rattle.name_table.specs.Search.{own as own_of, inherited as inherited_by, within as within_of, within_first, outwards as outwards_from, sought_in, sight as sight_of, sees, word, begins_at_root, identifiers_see};
 ghost use Rattle.name_table.specs.Entry.{AreDistinct, AreNested, bases_in, worth_in, meant_in, named, name_in, prefix_in};
 ghost use Rattle.name_table.specs.OwnNames.{is_own_name as own_name_of};
-ghost use Rattle.name_table.specs.Features.{is_something};
 ghost use Rattle.idl_lexer.specs.Identifiers.{words};
-ghost use Rattle.idl_lexer.specs.Words.{unescaped as unescaped_word};
 ghost use Rattle.name_table.specs.Entries.{latest, scope_of, with_base};
 ghost use Rattle.name_table.specs.Records.{heir_of as heir_in_records, entry_of, words_at, HasWord, is_word};
 
@@ -19,7 +17,7 @@ use crate::search::{Found, Sight};
 use crate::shortcuts::{Place, Shortcut, Step, drop_way};
 use const_values::{ConstKind, Constant};
 use idl_lexer::{Identifiers, is_rooted};
-use idl_tree::names::{Leaf, ScopedName};
+use idl_tree::names::{Leaf, ScopedName, unescaped};
 use std::alloc::{AllocError, Global};
 use std::marker::Model;
 
@@ -73,13 +71,6 @@ fn list_word<'a>(
     words[scope].push(word)?;
     words.push(Vec::new(alloc))?;
     Ok(())
-}
-
-/// A word without the underscore that escapes it.
-fn unescaped(word: &str) -> &str
-    ensures { result.now ≡ unescaped_word word.now }
-{
-    word.strip_prefix('_').unwrap_or(word)
 }
 
 impl<'a> Table<'a> {
@@ -243,16 +234,6 @@ impl<'a> Table<'a> {
         match self.records.get(number) {
             Some(record) => record.is_named_so(&key.word),
             None => false,
-        }
-    }
-
-    /// Whether the bases of a scope that are named before the token give something.
-    pub fn inherits(&self, token: usize, scope: usize, text: &'a str) -> bool
-        ensures { result ≡ is_something (inherited_by self.now token scope text.now) }
-    {
-        match self.inherited(token, scope, Word::new(text)) {
-            Found::Nothing => false,
-            Found::One(_) | Found::Several => true,
         }
     }
 

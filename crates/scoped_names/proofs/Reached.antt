@@ -68,18 +68,6 @@ definitions_at ds k d lt here =
     let next : suc k ≡ k + 1 = omega arith in
     ap steps_of (drop-cons ds k d lt ∙ ap (λ y. y ∷ drop (suc k) ds) (sym here) ∙ ap (λ j. d ∷ drop j ds) next)
 
--- a definition has no more steps than all
-pub steps_within : (ds : List Definition) (k : ℕ) (d : Definition) → k < length ds → d ≡ get_or ds k d → length (definition_steps d) ≤ length (steps_of ds)
-steps_within [] k d lt here = absurd (omega arith)
-steps_within (e ∷ es) zero d lt here =
-    let all = length-append (definition_steps e) (steps_of es) in
-    let same : length (definition_steps d) ≡ length (definition_steps e) = ap (λ z. length (definition_steps z)) here in
-    omega (arith, all, same)
-steps_within (e ∷ es) (suc k) d lt here =
-    let all = length-append (definition_steps e) (steps_of es) in
-    let rest = steps_within es k d (omega arith) here in
-    omega (arith, all, rest)
-
 pub module_longer : (m : ModuleRecord) → length (steps_of m.definitions.items) < length (definition_steps (Module m))
 module_longer m =
     let inner = steps_of m.definitions.items in

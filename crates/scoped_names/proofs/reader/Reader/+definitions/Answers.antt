@@ -1,5 +1,6 @@
 use Rattle.std.proofs.Common.{◌∙◌, ◌<◌, ◌+◌, ◌∷◌, [], ◌++◌, Ok, drop, length, subst, sym, ap, arith}
 use Rattle.std.proofs.lemmas.Result.{err_from_is_err_and}
+use Rattle.idl_tree.proofs.PartLengths.{part_length}
 use Rattle.name_table.specs.declared.entry.EntryKind.TheVariants as Kinds
 use Rattle.name_table.specs.Entries.{latest}
 use Rattle.scoped_names.specs.Faults.{steps_read}
@@ -8,7 +9,7 @@ use Rattle.scoped_names.specs.Rising.{Rises}
 use Rattle.scoped_names.specs.Steps.{Declares, Enters, Leaves, definition_steps, steps_of}
 use Rattle.scoped_names.proofs.ListedSteps.{module_listed}
 use Rattle.scoped_names.proofs.Readings.{or_told}
-use Rattle.scoped_names.proofs.Reached.{Rises-split, definitions_at, module_longer, rises_behind, steps_joined, steps_stopped, steps_within}
+use Rattle.scoped_names.proofs.Reached.{Rises-split, definitions_at, module_longer, rises_behind, steps_joined, steps_stopped}
 use Rattle.scoped_names.proofs.reader.Reader.+definitions.Goals as goal
 
 pub read_definition-read_module-requires : goal.read_definition-read_module-requires
@@ -32,7 +33,7 @@ read_definitions-read_definition-requires t c =
     let k = c.loop-definition.definition-index in
     let d = c.definition-item.result in
     let lt : k < length ds = omega arith in
-    let within = steps_within ds k d lt c.definition-item.is in
+    let within = part_length definition_steps ds k d lt c.definition-item.is in
     let low = c.decreases in
     let rises = subst (Rises (latest c.loop-definition.self.entries)) (definitions_at ds k d lt c.definition-item.is) c.loop-definition.invariant.rises in
     (omega (arith, within, low), (Rises-split (latest c.loop-definition.self.entries) (definition_steps d) (steps_of (drop (k + 1) ds)) rises).0)

@@ -1,7 +1,8 @@
 use Rattle.std.proofs.Common.{◌≡◌, ◌∙◌, All, length, sym, subst, ap, arith, rules}
 use Rattle.std.specs.List.{flat_map}
 use Rattle.idl_tree.specs.DefinitionYields.{definition_yield}
-use Rattle.written_operations.proofs.Lengths.{module_length, part_length}
+use Rattle.idl_tree.proofs.PartLengths.{part_length}
+use Rattle.written_operations.proofs.Lengths.{module_length}
 use Rattle.written_operations.proofs.ModuleWalks.{exports_told, module_end, rules_more}
 use Rattle.written_operations.specs.Definitions.{definition, exports_in}
 use Rattle.written_types.proofs.Folds.{fold_from}

@@ -2,7 +2,7 @@ use Rattle.std.proofs.Common.{◌≡◌, ◌≢◌, ◌∙◌, ℕ, List, [], �
 use Rattle.std.proofs.lemmas.Str.Pattern.{strip_prefix_char}
 use Rattle.std.proofs.lemmas.Bool.Decides.{nat_tests}
 use Rattle.idl_lexer.specs.Words.{unescaped as unescaped_text}
-use Rattle.idl_tree.proofs.names.Leaf.name.Goals as goal
+use Rattle.idl_tree.proofs.names.unescaped.Goals as goal
 
 without : (bs : List ℕ) → ((rest : List ℕ) → bs ≢ 95 ∷ rest) → bs ≡ unescaped_text bs
 without [] h = refl
