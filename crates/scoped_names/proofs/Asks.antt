@@ -73,8 +73,10 @@ pub data Asks : List Leaf → List Piece → List Step → Type 0 where
   plain : {ls : List Leaf} (s : Step) → IsPlain s → Asks ls (pieces_of s) (s ∷ [])
   -- a base behind its mark
   base : {ls : List Leaf} (text : List ℕ) (id : Leaf) (name : ScopedName) → Asks ls (mark text ++ name_yield name) (HasBase id name ∷ [])
-  -- a constant's name, `=` and its value
-  valued : {ls : List Leaf} (c : Const) → Asks ls ((identifier c.identifier ++ mark (codes "=")) ++ const_expr_yield c.value) (IsNew c.identifier ∷ DeclaresConst c ∷ [])
+  -- a constant's type, and then its name, `=` and its value
+  valued : {ls : List Leaf} (c : Const) → Asks ls (const_type_yield c.const_type) (const_type_steps c.const_type)
+      → Asks ls (const_type_yield c.const_type ++ ((identifier c.identifier ++ mark (codes "=")) ++ const_expr_yield c.value))
+      (const_type_steps c.const_type ++ IsNew c.identifier ∷ DeclaresConst c ∷ [])
   -- what stands behind a declaration
   declared : {ls : List Leaf} {ps : List Piece} {xs : List Step} (kind : EntryKind) (id : Leaf) → Asks (id ∷ ls) ps xs
       → Asks ls (identifier id ++ ps) (Declares kind id ∷ xs)
@@ -111,18 +113,18 @@ ended {xs = xs} a b = grouped (append-nil xs) (joined a b)
 
 -- ---- lists of parts
 
-each_part : {ls : List Leaf} {T : Type 0} (yield : T → List Piece) (steps : T → List Step) → ((x : T) → Asks ls (yield x) (steps x)) → (xs : List T)
+pub each_part : {ls : List Leaf} {T : Type 0} (yield : T → List Piece) (steps : T → List Step) → ((x : T) → Asks ls (yield x) (steps x)) → (xs : List T)
     → Asks ls (flat_map yield xs) (flat_map steps xs)
 each_part yield steps part [] = none
 each_part yield steps part (x ∷ xs) = joined (part x) (each_part yield steps part xs)
 
 -- one step for each
-each_step : {ls : List Leaf} {T : Type 0} (yield : T → List Piece) (step : T → Step) → ((x : T) → Asks ls (yield x) (step x ∷ [])) → (xs : List T)
+pub each_step : {ls : List Leaf} {T : Type 0} (yield : T → List Piece) (step : T → Step) → ((x : T) → Asks ls (yield x) (step x ∷ [])) → (xs : List T)
     → Asks ls (flat_map yield xs) (map step xs)
 each_step yield step part [] = none
 each_step yield step part (x ∷ xs) = joined (part x) (each_step yield step part xs)
 
-listed_parts : {ls : List Leaf} {T : Type 0} (yield : T → List Piece) (steps : T → List Step) → ((x : T) → Asks ls (yield x) (steps x)) → (l : Listed T)
+pub listed_parts : {ls : List Leaf} {T : Type 0} (yield : T → List Piece) (steps : T → List Step) → ((x : T) → Asks ls (yield x) (steps x)) → (l : Listed T)
     → Asks ls (listed yield l) (flat_map steps (parts l))
 listed_parts yield steps part l =
     joined (part l.first) (each_part (λ x. mark (codes ",") ++ yield x) steps (λ x. begun (quiet (codes ",")) (part x)) l.rest.items)
@@ -151,7 +153,7 @@ integer_asks : {ls : List Leaf} (i : Integer) → Asks ls (integer_yield i) []
 integer_asks (Signed size) = integer_size_asks size
 integer_asks (Unsigned size) = joined (word (codes "unsigned")) (integer_size_asks size)
 
-const_type_asks : {ls : List Leaf} (t : ConstType) → Asks ls (const_type_yield t) (const_type_steps t)
+pub const_type_asks : {ls : List Leaf} (t : ConstType) → Asks ls (const_type_yield t) (const_type_steps t)
 const_type_asks (ConstTypes.Integer i) = integer_asks i
 const_type_asks ConstTypes.Char = word (codes "char")
 const_type_asks ConstTypes.Boolean = word (codes "boolean")
@@ -159,11 +161,11 @@ const_type_asks ConstTypes.Octet = word (codes "octet")
 const_type_asks (ConstTypes.String b) = begun (word (codes "string")) (string_bound_asks b)
 const_type_asks (ConstTypes.Name name) = plain (NamesType name) tt
 
-param_type_asks : {ls : List Leaf} (t : ParamType) → Asks ls (param_type_yield t) (param_type_steps t)
+pub param_type_asks : {ls : List Leaf} (t : ParamType) → Asks ls (param_type_yield t) (param_type_steps t)
 param_type_asks (ParamTypes.Plain t) = const_type_asks t
 param_type_asks ParamTypes.Object = word (codes "Object")
 
-simple_type_asks : {ls : List Leaf} (t : SimpleType) → Asks ls (simple_type_yield t) (simple_type_steps t)
+pub simple_type_asks : {ls : List Leaf} (t : SimpleType) → Asks ls (simple_type_yield t) (simple_type_steps t)
 simple_type_asks (Plain t) = param_type_asks t
 simple_type_asks (Sequence' p element b) =
     ended (joined (begun (joined (word (codes "sequence")) (quiet (codes "<"))) (simple_type_asks element)) (sequence_bound_asks b)) (quiet (codes ">"))
@@ -173,34 +175,34 @@ simple_type_asks (Sequence' p element b) =
 size_asks : {ls : List Leaf} (size : ConstExpr) → Asks ls (size_yield size) (size_step size ∷ [])
 size_asks size = ended (begun (quiet (codes "[")) (plain (IsSize size.expr) tt)) (quiet (codes "]"))
 
-sizes_ask : {ls : List Leaf} (sizes : List ConstExpr) → Asks ls (flat_map size_yield sizes) (map size_step sizes)
+pub sizes_ask : {ls : List Leaf} (sizes : List ConstExpr) → Asks ls (flat_map size_yield sizes) (map size_step sizes)
 sizes_ask sizes = each_step size_yield size_step size_asks sizes
 
-declarator_asks : {ls : List Leaf} (d : Declarator) → Asks ls (declarator_yield d) (declarator_steps d)
+pub declarator_asks : {ls : List Leaf} (d : Declarator) → Asks ls (declarator_yield d) (declarator_steps d)
 declarator_asks d = joined (plain (HasMember d.identifier) tt) (sizes_ask d.sizes.items)
 
-declarators_ask : {ls : List Leaf} (l : Listed Declarator) → Asks ls (listed declarator_yield l) (flat_map declarator_steps (parts l))
+pub declarators_ask : {ls : List Leaf} (l : Listed Declarator) → Asks ls (listed declarator_yield l) (flat_map declarator_steps (parts l))
 declarators_ask l = listed_parts declarator_yield declarator_steps declarator_asks l
 
-enum_asks : {ls : List Leaf} (e : EnumType) → Asks ls (enum_yield e) (enum_steps e)
+pub enum_asks : {ls : List Leaf} (e : EnumType) → Asks ls (enum_yield e) (enum_steps e)
 enum_asks e =
     let named = begun (word (codes "enum")) (plain (DeclaresEnum e.identifier) tt) in
     let list = listed_steps identifier DeclaresEnumerator (λ l. plain (DeclaresEnumerator l) tt) e.enumerators in
     ended (joined (ended named (quiet (codes "{"))) list) (quiet (codes "}"))
 
-switch_asks : {ls : List Leaf} (s : SwitchType) → Asks ls (switch_yield s) (switch_steps s)
+pub switch_asks : {ls : List Leaf} (s : SwitchType) → Asks ls (switch_yield s) (switch_steps s)
 switch_asks (SwitchTypes.Enum e) = enum_asks e
 switch_asks (SwitchTypes.Integer i) = integer_asks i
 switch_asks SwitchTypes.Char = word (codes "char")
 switch_asks SwitchTypes.Boolean = word (codes "boolean")
 switch_asks (SwitchTypes.Name name) = plain (NamesType name) tt
 
-label_asks : {ls : List Leaf} (l : Label) → Asks ls (label_yield l) (label_steps l)
+pub label_asks : {ls : List Leaf} (l : Label) → Asks ls (label_yield l) (label_steps l)
 unfolding kept
 label_asks (Labels.Case value) = ended (begun (word (codes "case")) (plain (HasWorth value.expr) tt)) (quiet (codes ":"))
 label_asks (Labels.Default l) = joined (silent _ refl) (quiet (codes ":"))
 
-labels_ask : {ls : List Leaf} (l : Listed Label) → Asks ls (in_order label_yield l) (flat_map label_steps (parts l))
+pub labels_ask : {ls : List Leaf} (l : Listed Label) → Asks ls (in_order label_yield l) (flat_map label_steps (parts l))
 labels_ask l = joined (label_asks l.first) (each_part label_yield label_steps label_asks l.rest.items)
 
 -- a word, an identifier that is declared, and what stands inside it
@@ -211,42 +213,42 @@ body_asks text kind id body = begun (word text) (declared kind id (inside id bod
 mutual
   unfolding piece kept
 
-  type_asks : {ls : List Leaf} (t : TypeSpec) → Asks ls (type_yield t) (type_steps t)
+  pub type_asks : {ls : List Leaf} (t : TypeSpec) → Asks ls (type_yield t) (type_steps t)
   type_asks (Simple t) = simple_type_asks t
   type_asks (StructSpec s) = struct_asks s
   type_asks (UnionSpec u) = union_asks u
   type_asks (EnumSpec e) = enum_asks e
 
-  struct_asks : {ls : List Leaf} (s : StructType) → Asks ls (struct_yield s) (struct_steps s)
+  pub struct_asks : {ls : List Leaf} (s : StructType) → Asks ls (struct_yield s) (struct_steps s)
   struct_asks (StructType' id p t declarators shape rest) =
       let first = ended (joined (type_asks t) (declarators_ask declarators)) (quiet (codes ";")) in
       let members = joined (begun (quiet (codes "{")) first) (members_ask rest) in
       body_asks (codes "struct") Kinds.Struct id (defines id (ended members (quiet (codes "}"))))
 
-  union_asks : {ls : List Leaf} (u : UnionType) → Asks ls (union_yield u) (union_steps u)
+  pub union_asks : {ls : List Leaf} (u : UnionType) → Asks ls (union_yield u) (union_steps u)
   union_asks (UnionType' id switch p labels t declarator shape rest) =
       let chosen = begun (joined (word (codes "switch")) (quiet (codes "("))) (switch_asks switch) in
       let first = ended (joined (joined (labels_ask labels) (type_asks t)) (declarator_asks declarator)) (quiet (codes ";")) in
       let cases = joined (joined (ended (ended chosen (quiet (codes ")"))) (quiet (codes "{"))) first) (cases_ask rest) in
       body_asks (codes "union") Kinds.Union id (defines id (ended cases (quiet (codes "}"))))
 
-  members_ask : {ls : List Leaf} {n : _} → (row : Row_of-Member n) → Asks ls (members_yield row) (members_steps row)
+  pub members_ask : {ls : List Leaf} {n : _} → (row : Row_of-Member n) → Asks ls (members_yield row) (members_steps row)
   members_ask end_of-Member = none
   members_ask (more_of-Member t declarators rest) =
       joined (ended (joined (type_asks t) (declarators_ask declarators)) (quiet (codes ";"))) (members_ask rest)
 
-  cases_ask : {ls : List Leaf} {n : _} → (row : Row_of-Case n) → Asks ls (cases_yield row) (cases_steps row)
+  pub cases_ask : {ls : List Leaf} {n : _} → (row : Row_of-Case n) → Asks ls (cases_yield row) (cases_steps row)
   cases_ask end_of-Case = none
   cases_ask (more_of-Case labels t declarator rest) =
       let first = joined (joined (labels_ask labels) (type_asks t)) (declarator_asks declarator) in
       joined (ended first (quiet (codes ";"))) (cases_ask rest)
 
-member_asks : {ls : List Leaf} (m : Member) → Asks ls (member_yield m) (member_steps m)
+pub member_asks : {ls : List Leaf} (m : Member) → Asks ls (member_yield m) (member_steps m)
 member_asks m = ended (joined (type_asks m.member_type) (declarators_ask m.declarators)) (quiet (codes ";"))
 
 -- ---- declarations
 
-type_dcl_asks : {ls : List Leaf} (t : TypeDcl) → Asks ls (type_dcl_yield t) (type_dcl_steps t)
+pub type_dcl_asks : {ls : List Leaf} (t : TypeDcl) → Asks ls (type_dcl_yield t) (type_dcl_steps t)
 type_dcl_asks (TypeDcls.Typedef t declarators) =
     let names = listed_parts declarator_yield (typedef_steps t) (λ d. joined (plain (DeclaresTypedef t d) tt) (sizes_ask d.sizes.items)) declarators in
     joined (begun (word (codes "typedef")) (type_asks t)) names
@@ -259,31 +261,33 @@ type_dcl_asks (TypeDcls.UnionAhead id) = begun (word (codes "union")) (plain (De
 last_three : (ps qs rs ts : List Piece) → ps ++ ((qs ++ rs) ++ ts) ≡ ((ps ++ qs) ++ rs) ++ ts
 last_three ps qs rs ts = simp append_assoc
 
-const_asks : {ls : List Leaf} (c : Const) → Asks ls (const_yield c) (const_steps c)
-const_asks c =
-    let front = keyword (codes "const") ++ const_type_yield c.const_type in
-    moved (last_three front (identifier c.identifier) (mark (codes "=")) (const_expr_yield c.value))
-    (joined (begun (word (codes "const")) (const_type_asks c.const_type)) (valued c))
+last_four : (ps qs rs ts us : List Piece) → ps ++ (qs ++ ((rs ++ ts) ++ us)) ≡ (((ps ++ qs) ++ rs) ++ ts) ++ us
+last_four ps qs rs ts us = simp append_assoc
 
-except_asks : {ls : List Leaf} (e : Except) → Asks ls (except_yield e) (except_steps e)
+pub const_asks : {ls : List Leaf} (c : Const) → Asks ls (const_yield c) (const_steps c)
+const_asks c =
+    moved (last_four (keyword (codes "const")) (const_type_yield c.const_type) (identifier c.identifier) (mark (codes "=")) (const_expr_yield c.value))
+    (begun (word (codes "const")) (valued c (const_type_asks c.const_type)))
+
+pub except_asks : {ls : List Leaf} (e : Except) → Asks ls (except_yield e) (except_steps e)
 unfolding piece kept
 except_asks e =
     let members = begun (quiet (codes "{")) (each_part member_yield member_steps member_asks e.members.items) in
     body_asks (codes "exception") Kinds.Exception e.identifier (ended members (quiet (codes "}")))
 
-declaration_asks : {ls : List Leaf} (d : Declaration) → Asks ls (declaration_yield d) (declaration_steps d)
+pub declaration_asks : {ls : List Leaf} (d : Declaration) → Asks ls (declaration_yield d) (declaration_steps d)
 declaration_asks (Declarations.TypeDcl t) = type_dcl_asks t
 declaration_asks (Declarations.Const c) = const_asks c
 declaration_asks (Declarations.Except e) = except_asks e
 
 -- ---- operations and attributes
 
-raises_ask : {ls : List Leaf} (text : List ℕ) (names : Listed ScopedName) → Asks ls (raises_yield text names) (raises_steps (parts names))
+pub raises_ask : {ls : List Leaf} (text : List ℕ) (names : Listed ScopedName) → Asks ls (raises_yield text names) (raises_steps (parts names))
 raises_ask text names =
     let list = listed_steps name_yield NamesException (λ name. plain (NamesException name) tt) names in
     ended (begun (joined (word text) (quiet (codes "("))) list) (quiet (codes ")"))
 
-may_raise : {ls : List Leaf} (text : List ℕ) (names : Option (Listed ScopedName))
+pub may_raise : {ls : List Leaf} (text : List ℕ) (names : Option (Listed ScopedName))
     → Asks ls (optional (raises_yield text) names) (raises_steps (optional_parts names))
 may_raise text None = none
 may_raise text (Some names) = raises_ask text names
@@ -291,7 +295,7 @@ may_raise text (Some names) = raises_ask text names
 feature_asks : {ls : List Leaf} (kind : EntryKind) (l : Leaf) → Asks ls (identifier l) (DeclaresFeature kind l ∷ [])
 feature_asks kind l = plain (DeclaresFeature kind l) tt
 
-attributes_ask : {ls : List Leaf} (a : Attributes) → Asks ls (attributes_yield a) (attributes_steps a)
+pub attributes_ask : {ls : List Leaf} (a : Attributes) → Asks ls (attributes_yield a) (attributes_steps a)
 attributes_ask (Silent only identifiers) = listed_steps identifier (DeclaresFeature Kinds.Attribute) (feature_asks Kinds.Attribute) identifiers
 attributes_ask (Readonly id names) = joined (feature_asks Kinds.Attribute id) (raises_ask (codes "raises") names)
 attributes_ask (Get id get set) =
@@ -302,7 +306,7 @@ readonly_asks : {ls : List Leaf} (only : Bool) → Asks ls (readonly_yield only)
 readonly_asks true = word (codes "readonly")
 readonly_asks false = none
 
-attribute_asks : {ls : List Leaf} (a : Attribute) → Asks ls (attribute_yield a) (attribute_steps a)
+pub attribute_asks : {ls : List Leaf} (a : Attribute) → Asks ls (attribute_yield a) (attribute_steps a)
 attribute_asks a =
     let front = joined (readonly_asks (is_readonly a.declared)) (word (codes "attribute")) in
     joined (begun front (param_type_asks a.attribute_type)) (attributes_ask a.declared)
@@ -313,11 +317,11 @@ direction_asks Out = word (codes "out")
 direction_asks InOut = word (codes "inout")
 
 -- where the operation is declared
-param_asks : {ls : List Leaf} (id : Leaf) (p : Param) → Asks (id ∷ ls) (param_yield p) (param_steps id p)
+pub param_asks : {ls : List Leaf} (id : Leaf) (p : Param) → Asks (id ∷ ls) (param_yield p) (param_steps id p)
 param_asks id p =
     joined (begun (direction_asks p.direction) (param_type_asks p.param_type)) (inside id (plain (HasMember p.identifier) tt))
 
-params_ask : {ls : List Leaf} (id : Leaf) (params : Option (Listed Param))
+pub params_ask : {ls : List Leaf} (id : Leaf) (params : Option (Listed Param))
     → Asks (id ∷ ls) (optional (listed param_yield) params) (flat_map (param_steps id) (optional_parts params))
 params_ask id None = none
 params_ask id (Some params) = listed_parts param_yield (param_steps id) (param_asks id) params
@@ -326,14 +330,11 @@ oneway_asks : {ls : List Leaf} (only : Bool) → Asks ls (oneway_yield only) []
 oneway_asks true = word (codes "oneway")
 oneway_asks false = none
 
-result_asks : {ls : List Leaf} (t : Option ParamType) → Asks ls (result_yield t) (result_steps t)
+pub result_asks : {ls : List Leaf} (t : Option ParamType) → Asks ls (result_yield t) (result_steps t)
 result_asks None = word (codes "void")
 result_asks (Some t) = param_type_asks t
 
-last_four : (ps qs rs ts us : List Piece) → ps ++ (qs ++ ((rs ++ ts) ++ us)) ≡ (((ps ++ qs) ++ rs) ++ ts) ++ us
-last_four ps qs rs ts us = simp append_assoc
-
-operation_asks : {ls : List Leaf} (o : Operation) → Asks ls (operation_yield o) (operation_steps o)
+pub operation_asks : {ls : List Leaf} (o : Operation) → Asks ls (operation_yield o) (operation_steps o)
 operation_asks o =
     let front = oneway_yield o.is_oneway ++ result_yield o.result_type in
     let params = ended (begun (quiet (codes "(")) (params_ask o.identifier o.params)) (quiet (codes ")")) in
@@ -343,20 +344,20 @@ operation_asks o =
 
 -- ---- interfaces and modules
 
-export_asks : {ls : List Leaf} (x : Export) → Asks ls (export_yield x) (export_steps x)
+pub export_asks : {ls : List Leaf} (x : Export) → Asks ls (export_yield x) (export_steps x)
 export_asks (Exports.Pragma l) = plain (Says l) tt
 export_asks (Exports.Declaration d) = ended (declaration_asks d) (quiet (codes ";"))
 export_asks (Exports.Attribute a) = ended (attribute_asks a) (quiet (codes ";"))
 export_asks (Exports.Operation o) = ended (operation_asks o) (quiet (codes ";"))
 
-bases_ask : {ls : List Leaf} (id : Leaf) (bases : Option (Listed ScopedName))
+pub bases_ask : {ls : List Leaf} (id : Leaf) (bases : Option (Listed ScopedName))
     → Asks ls (optional bases_yield bases) (map (HasBase id) (optional_parts bases))
 unfolding piece
 bases_ask id None = none
 bases_ask id (Some l) =
     joined (base (codes ":") id l.first) (each_step (λ name. mark (codes ",") ++ name_yield name) (HasBase id) (base (codes ",") id) l.rest.items)
 
-interface_asks : {ls : List Leaf} (i : Interface) → Asks ls (interface_yield i) (interface_steps i)
+pub interface_asks : {ls : List Leaf} (i : Interface) → Asks ls (interface_yield i) (interface_steps i)
 unfolding piece kept
 interface_asks (Ahead id) = begun (word (codes "interface")) (plain (Declares Kinds.Interface id) tt)
 interface_asks (Defined id bases exports) =
@@ -369,7 +370,7 @@ interface_asks (Defined id bases exports) =
 mutual
   unfolding piece kept
 
-  definition_asks : {ls : List Leaf} (d : Definition) → Asks ls (definition_yield d) (definition_steps d)
+  pub definition_asks : {ls : List Leaf} (d : Definition) → Asks ls (definition_yield d) (definition_steps d)
   definition_asks (Pragma l) = plain (Says l) tt
   definition_asks (Declared d) = ended (declaration_asks d) (quiet (codes ";"))
   definition_asks (InterfaceDcl i) = ended (interface_asks i) (quiet (codes ";"))
@@ -377,7 +378,7 @@ mutual
       let all = begun (quiet (codes "{")) (definitions_ask definitions) in
       ended (body_asks (codes "module") Kinds.Module id (ended all (quiet (codes "}")))) (quiet (codes ";"))
 
-  definitions_ask : {ls : List Leaf} {n : _} → (row : Row_of-Definition n) → Asks ls (definitions_yield row) (definitions_steps row)
+  pub definitions_ask : {ls : List Leaf} {n : _} → (row : Row_of-Definition n) → Asks ls (definitions_yield row) (definitions_steps row)
   definitions_ask end_of-Definition = none
   definitions_ask (more_of-Definition d rest) = joined (definition_asks d) (definitions_ask rest)
 

@@ -20,3 +20,13 @@ pub mod WorkedSteps
 pub mod Rising
 pub mod Steady
 pub mod Reached
+pub mod Later
+pub mod Searches
+pub mod Staying
+pub mod Places
+pub mod Going
+pub mod Held
+pub mod Parts
+pub mod OnlyMemory
+pub mod TreeParts
+pub mod FollowParts

@@ -15,3 +15,5 @@ pub mod Rising
 pub mod IdsKept
 pub mod StateKept
 pub mod StepsKept
+pub mod Holding
+pub mod Following

@@ -5,6 +5,9 @@ ghost use Rattle.std.specs.List.{AllByRecursion, Any, IsDistinct};
 ghost use Rattle.idl_tree.specs.declared.definitions.Definition.{Definition};
 ghost use Rattle.idl_tree.specs.DefinitionYields.{definitions_spelled};
 ghost use Rattle.scoped_names.specs.Asked.{asked, asked_by};
+ghost use Rattle.idl_tree.specs.declared.spec.Spec.{Spec};
+ghost use Rattle.scoped_names.specs.Following.{AllFollow};
+ghost use Rattle.scoped_names.specs.Holding.{AllHold};
 ghost use Rattle.scoped_names.specs.Introductions.{IsEntry, StandsFor, clashes, introduced};
 ghost use Rattle.scoped_names.specs.Steps.{steps_of};
 ghost use Rattle.scoped_names.specs.Whole.{Whole, AreNames};
@@ -35,4 +38,16 @@ pub fn entries_are_identifiers()
 /// before it: each name, member, parameter and body stands once, but for what may appear again.
 pub fn nothing_clashes()
     ensures { (definitions : List Definition) (names : Whole) → AreNames definitions names → IsDistinct clashes (introduced names.entries 0 (steps_of definitions)) }
+{}
+
+/// Where a specification has no fault of names, each name finds over the entries of the whole what
+/// it has to find, each expression has its worth, and each identifier is an entry.
+pub fn names_hold()
+    ensures { (spec : Spec) (names : Whole) → AreNames spec.definitions.items names → AllHold names.entries 0 (steps_of spec.definitions.items) }
+{}
+
+/// Each name of a type, an exception or a base finds what is declared before it, by a step that is
+/// read earlier.
+pub fn names_follow()
+    ensures { (spec : Spec) (names : Whole) → AreNames spec.definitions.items names → AllFollow (λ e. ⊥) names.entries 0 (steps_of spec.definitions.items) }
 {}
