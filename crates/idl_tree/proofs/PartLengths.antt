@@ -1,5 +1,5 @@
 -- What a part gives is no longer than what all parts give.
-use Rattle.std.proofs.Common.{◌≡◌, ℕ, zero, suc, ◌<◌, ◌≤◌, List, [], ◌∷◌, ◌++◌, get_or, length, length-append, ap, arith}
+use Rattle.std.proofs.Common.{◌≡◌, ℕ, zero, suc, ◌<◌, ◌≤◌, List, [], ◌∷◌, get_or, length, length-append, ap, arith}
 use Rattle.std.specs.List.{flat_map}
 
 pub part_length : {T E : Type 0} (give : T → List E) (xs : List T) (k : ℕ) (x : T) → k < length xs → x ≡ get_or xs k x → length (give x) ≤ length (flat_map give xs)

@@ -41,7 +41,7 @@ get_other (z ∷ zs) zero (suc k) y h = refl
 get_other (z ∷ zs) (suc e) zero y h = refl
 get_other (z ∷ zs) (suc e) (suc k) y h = get_other zs e k y (λ is. h (ap suc is))
 
-get_like : {X A : Type 0} (f : Option X → A) (xs : List X) (e : ℕ) (x y : X) (k : ℕ) → slice_get xs e ≡ Some x → f (Some y) ≡ f (Some x) → f (slice_get (slice_set xs e y) k) ≡ f (slice_get xs k)
+pub get_like : {X A : Type 0} (f : Option X → A) (xs : List X) (e : ℕ) (x y : X) (k : ℕ) → slice_get xs e ≡ Some x → f (Some y) ≡ f (Some x) → f (slice_get (slice_set xs e y) k) ≡ f (slice_get xs k)
 get_like f [] e x y k h same = cc
 get_like f (z ∷ zs) zero x y zero h same = same ∙ sym (ap f h)
 get_like f (z ∷ zs) zero x y (suc k) h same = refl

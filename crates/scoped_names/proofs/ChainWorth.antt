@@ -4,6 +4,7 @@ use Rattle.std.specs.Prelude.{Box, ℤ}
 use Rattle.idl_tree.specs.declared.expression.Expr.{Expr, Chain}
 use Rattle.idl_tree.specs.declared.expression.Operand.{Operand}
 use Rattle.idl_tree.proofs.Rows.{chain_walk}
+use Rattle.name_table.proofs.MergedBases.{split_at}
 use Rattle.idl_tree.specs.declared.expression.Operator.{Operator}
 use Rattle.const_values.specs.declared.constant.Constant.{Constant}
 use Rattle.const_values.specs.Worth.{NamesWorth, worth, chain_worth, whole_number, whole_constant, operator_applied}
@@ -34,15 +35,10 @@ pub operands_of_none : (names : NamesWorth) (xs : List Operand) → operands_wor
 operands_of_none names [] = refl
 operands_of_none names (x ∷ xs) = operands_of_none names xs
 
-split_at : (xs : List Operand) (k : ℕ) (x : Operand) → k < length xs → get_or xs k x ≡ x → drop k xs ≡ x ∷ drop (k + 1) xs
-split_at xs k x lt here =
-    let next : suc k ≡ k + 1 = omega arith in
-    drop-cons xs k x lt ∙ ap (λ y. y ∷ drop (suc k) xs) here ∙ ap (λ j. x ∷ drop j xs) next
-
 -- the operands from the k-th on
 pub operands_at : (names : NamesWorth) (xs : List Operand) (k : ℕ) (x : Operand) (before : Option ℤ) → k < length xs → get_or xs k x ≡ x
     → operands_worth names (drop k xs) before ≡ operands_worth names (drop (k + 1) xs) (operator_applied x.operator before (whole_number (worth names x.operand)))
-operands_at names xs k x before lt here = ap (λ ys. operands_worth names ys before) (split_at xs k x lt here)
+operands_at names xs k x before lt here = ap (λ ys. operands_worth names ys before) (split_at xs k x lt (sym here))
 
 -- a first operand that is a whole number begins a chain
 pub chain_begins : (names : NamesWorth) (first : Box Expr Global) (rest : Vec Operand Global) (e e1 : Expr) (c : Constant) (xs : List Operand) (z y : ℤ) → e ≡ Chain first rest → e1 ≡ first.value → xs ≡ rest.items

@@ -8,17 +8,8 @@ use Rattle.scoped_names.specs.Introductions.{StandsFor, introduced, introduced_b
 use Rattle.scoped_names.specs.Steps.{Step, HasBase, NamesType, NamesException}
 use Rattle.scoped_names.specs.Following.{AllFollow, FindsKnown}
 use Rattle.scoped_names.specs.Holding.{AllHold}
+use Rattle.scoped_names.proofs.Introducing.{any_left, any_right}
 use Rattle.scoped_names.proofs.Parts.{Closed, scope_past}
-
-any_left : {X : Type 0} (P : X → Type 0) (xs ys : List X) → Any P xs → Any P (xs ++ ys)
-any_left P xs ys (k, x, lt, is, holds) =
-    let all = length-append xs ys in
-    (k, x, omega arith, get_or-append xs ys x k lt ∙ is, holds)
-
-any_right : {X : Type 0} (P : X → Type 0) (xs ys : List X) → Any P ys → Any P (xs ++ ys)
-any_right P xs ys (k, x, lt, is, holds) =
-    let all = length-append xs ys in
-    (length xs + k, x, omega arith, get_or-append-add xs ys k x ∙ is, holds)
 
 pub finds_more : (known more : ℕ → Type 0) (es : List Entry) (scope : ℕ) (s : Step) → ((e : ℕ) → known e → more e) → FindsKnown known es scope s → FindsKnown more es scope s
 finds_more known more es scope (NamesType name) grows h = λ e is. grows e (h e is)

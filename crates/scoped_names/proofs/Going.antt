@@ -37,15 +37,12 @@ use Rattle.scoped_names.specs.Introductions.{Introduction, StandsFor, introduced
 use Rattle.scoped_names.specs.Steps.{Step, Declares, DeclaresConst, DeclaresFeature, DeclaresEnum, DeclaresEnumerator, DeclaresTypedef, HasBase, HasMember, Enters, Leaves, Defines, Says, NamesType, NamesException, HasWorth, IsSize}
 use Rattle.scoped_names.specs.Tests.{at, found_at, is_of, kind_in, resolved, value_of_type}
 use Rattle.scoped_names.specs.TypeKinds.{const_type_kind}
-use Rattle.scoped_names.proofs.Introducing.{Does, appears, base_does, declared_does, defined_does, member_does, named_entry, passed_same, then_ok}
+use Rattle.scoped_names.proofs.Introducing.{Does, appears, base_does, below_or_last, declared_does, defined_does, member_does, named_entry, passed_same, same_name, then_ok}
 use Rattle.scoped_names.specs.Holding.{asks}
 use Rattle.scoped_names.proofs.Later.{Later, bare, bare_base, later_base, later_none, later_push}
 use Rattle.scoped_names.proofs.Searches.{IsScope}
 
 -- ---- scopes of entries
-
-below_or_last : (n k : ℕ) → n < suc k → (n < k) ⊎ (n ≡ k)
-below_or_last n k lt = grind arith
 
 nested_push : (es : List Entry) (e : Entry) → AreNested es → e.scope ≤ length es → AreNested (es ++ e ∷ [])
 nested_push es e nested low k x h =
@@ -53,10 +50,10 @@ nested_push es e nested low k x h =
     let all = length-append es (e ∷ []) in
     by (below_or_last k (length es) (omega arith))
   where
-    by : (k < length es) ⊎ (k ≡ length es) → x.scope ≤ k
+    by : (k < length es) ⊎ (length es ≡ k) → x.scope ≤ k
     by (inl lt) = nested k x (sym (get_push_low es e k lt) ∙ h)
     by (inr is) =
-        let last : Some e ≡ Some x = sym (get_push_last es e) ∙ ap (slice_get (es ++ e ∷ [])) (sym is) ∙ h in
+        let last : Some e ≡ Some x = sym (get_push_last es e) ∙ ap (slice_get (es ++ e ∷ [])) is ∙ h in
         let same : e ≡ x = cc in
         subst (λ y. y.scope ≤ k) same (omega arith)
 
@@ -261,9 +258,6 @@ all_new st next s h = none_new [] st next (ap (λ s. s.entries) (passed_same st 
 
 not_again : (kind : EntryKind) → may_reappear Entries.Const kind ≡ false
 not_again kind = refl
-
-same_name : (scope : ℕ) (w : List ℕ) → (nat_eq scope scope && same_but_for_case w w) ≡ true
-same_name scope w = ap (λ b. b && same_but_for_case w w) (eq-eqb scope scope refl) ∙ (bytes_eq-Decides (map to_ascii_lowercase w) (map to_ascii_lowercase w)).1 refl
 
 -- a constant's entry has its worth
 pub const_worth : (st next : State) (c : Const) → step_read st (DeclaresConst c) ≡ Ok next

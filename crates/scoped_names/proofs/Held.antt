@@ -27,7 +27,7 @@ use Rattle.scoped_names.specs.Reading.{State, ◌>>◌, passed}
 use Rattle.scoped_names.specs.Steps.{Step, Declares, DeclaresEnum, DeclaresEnumerator, DeclaresTypedef, IsNew, DeclaresConst, DeclaresFeature, HasMember, IsUndefined, HasBase, Enters, Defines, Leaves, NamesType, NamesException, HasWorth, IsSize, Says, steps_of}
 use Rattle.scoped_names.specs.Asked.{pieces_of}
 use Rattle.scoped_names.specs.Whole.{AreNames, Whole, whole}
-use Rattle.scoped_names.proofs.Introduced.{declared_once}
+use Rattle.scoped_names.proofs.Introduced.{HasLeaf, IsFlat, around_named, declared_once, flat_behind, plain_flat, read_append}
 use Rattle.scoped_names.proofs.Introducing.{all_map, declared_does, named_entry, passed_same, then_ok}
 use Rattle.scoped_names.specs.Following.{AllFollow, FindsKnown}
 use Rattle.scoped_names.specs.Holding.{AllHold, HasItsWorth, IsThere, asks}
@@ -38,10 +38,6 @@ use Rattle.scoped_names.proofs.Later.{Later, later_from, later_none, later_on}
 use Rattle.scoped_names.proofs.Places.{leaf_number, name_number, names_before, type_before}
 use Rattle.scoped_names.proofs.Searches.{IsScope, stays}
 use Rattle.scoped_names.proofs.Staying.{StepUpTo, TypeUpTo, asks_stays, finds_known, typed_stays}
-
--- the scope has an entry of the name
-abbrev HasLeaf : State → Leaf → Type 0
-HasLeaf st l = (n : ℕ) × (named st.entries st.scope (word l) ≡ Some n)
 
 -- what a step asks is answered, what it enters is there, a constant has its worth, and what a name finds is one of the
 -- first k entries
@@ -72,13 +68,6 @@ record Along (n m : ℕ) (ls : List Leaf) (xs : List Step) : Type 0 where
   later : (st next : State) → steps_read st xs ≡ Ok next → Later n st.entries next.entries
   holds : (es : List Entry) (st next : State) → steps_read st xs ≡ Ok next → Later m next.entries es → IsScope st.entries st.scope → AllByRecursion (HasLeaf st) ls
       → Held es st xs next
-
-read_append : (st next : State) (xs ys : List Step) → steps_read st (xs ++ ys) ≡ Ok next → (mid : State) × (steps_read st xs ≡ Ok mid) × (steps_read mid ys ≡ Ok next)
-read_append st next [] ys h = (st, refl, h)
-read_append st next (x ∷ xs) ys h =
-    let (one, first, rest) = then_ok (step_read st x) (λ s. steps_read s (xs ++ ys)) next h in
-    let (mid, before, behind) = read_append one next xs ys rest in
-    (mid, ap (λ r. r >> λ s. steps_read s xs) first ∙ before, behind)
 
 none : (n m : ℕ) (ls : List Leaf) → n ≤ m → Along n m ls []
 none n m ls le = record {
@@ -122,17 +111,6 @@ joined {n} {m} {k} {ls} {xs} {ys} a b =
     }
 
 -- ---- one step
-
--- all but those that enter and leave scopes
-abbrev IsFlat : Step → Type 0
-IsFlat (Enters l) = ⊥
-IsFlat Leaves = ⊥
-IsFlat s = Unit {0}
-
-flat_behind : (es : List Entry) (scope : ℕ) (s : Step) → IsFlat s → scope_behind es scope s ≡ scope
-flat_behind es scope (Enters l) flat = absurd flat
-flat_behind es scope Leaves flat = absurd flat
-flat_behind es scope s flat = refl
 
 flat_there : (es : List Entry) (scope : ℕ) (s : Step) → IsFlat s → IsThere es scope s
 flat_there es scope (Enters l) flat = absurd flat
@@ -236,9 +214,6 @@ declaring {n} {m} {k} {ls} {ys} s l flat at stands b =
           both_held es st mid next (s ∷ []) ys held (b.holds es mid next rest to_end held.is (here, still));
     }
 
-around_named : (es : List Entry) (scope : ℕ) (name : List ℕ) (n : ℕ) → named es scope name ≡ Some n → around es (suc n) ≡ scope
-around_named es scope name n h = let (e, here, in_scope) = named_entry es scope name n h in ap scope_in here ∙ sym in_scope
-
 -- steps inside the scope of what is there
 within : {n m : ℕ} {ls : List Leaf} {ys : List Step} (l : Leaf) → Along n m [] ys → Along n m (l ∷ ls) (Enters l ∷ (ys ++ Leaves ∷ []))
 within {n} {m} {ls} {ys} l b = record {
@@ -325,16 +300,6 @@ plain_at n m (IsSize e) is num le =
 plain_at n m (Says l) is num le =
     asked_at n (Says l) (omega arith) (omega arith) tt (λ st next h. said_goes n st next l h)
 plain_at n m s is num le = absurd is
-
-plain_flat : (s : Step) → IsPlain s → IsFlat s
-plain_flat (IsNew l) is = tt
-plain_flat (DeclaresConst c) is = tt
-plain_flat (IsUndefined l) is = tt
-plain_flat (HasBase l name) is = tt
-plain_flat (Enters l) is = is
-plain_flat (Defines l) is = tt
-plain_flat Leaves is = is
-plain_flat s is = is
 
 -- a constant behind its type
 valued_along : (ls : List Leaf) (c : Const) (n : ℕ) → AreNumbered n ((identifier c.identifier ++ mark (codes "=")) ++ const_expr_yield c.value)

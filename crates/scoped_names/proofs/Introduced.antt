@@ -49,7 +49,7 @@ said_does st next l (Some (Gives name given)) h =
 -- ---- steps
 
 -- all but those that enter and leave scopes
-abbrev IsFlat : Step → Type 0
+abbrev pub IsFlat : Step → Type 0
 IsFlat (Enters l) = ⊥
 IsFlat Leaves = ⊥
 IsFlat _ = Unit {0}
@@ -83,7 +83,7 @@ flat_does st next Leaves flat h = absurd flat
 flat_does st next (Says l) flat h = said_does st next l (said_by l) h
 flat_does st next s flat h = does_none st next (passed_same st (test_of st s) next h)
 
-flat_behind : (es : List Entry) (scope : ℕ) (s : Step) → IsFlat s → scope_behind es scope s ≡ scope
+pub flat_behind : (es : List Entry) (scope : ℕ) (s : Step) → IsFlat s → scope_behind es scope s ≡ scope
 flat_behind es scope (Enters l) flat = absurd flat
 flat_behind es scope Leaves flat = absurd flat
 flat_behind es scope s flat = refl
@@ -107,7 +107,7 @@ steps_grow st next (s ∷ steps) h =
     let (mid, first, rest) = then_ok (step_read st s) (λ x. steps_read x steps) next h in
     grows_on (known st) (known mid) (known next) (step_grows st mid s first) (steps_grow mid next steps rest)
 
-read_append : (st next : State) (xs ys : List Step) → steps_read st (xs ++ ys) ≡ Ok next → (mid : State) × (steps_read st xs ≡ Ok mid) × (steps_read mid ys ≡ Ok next)
+pub read_append : (st next : State) (xs ys : List Step) → steps_read st (xs ++ ys) ≡ Ok next → (mid : State) × (steps_read st xs ≡ Ok mid) × (steps_read mid ys ≡ Ok next)
 read_append st next [] ys h = (st, refl, h)
 read_append st next (x ∷ xs) ys h =
     let (one, first, rest) = then_ok (step_read st x) (λ s. steps_read s (xs ++ ys)) next h in
@@ -149,14 +149,14 @@ both_read es st mid next xs ys a b =
 -- ---- steps that leave what they enter
 
 -- the scope has an entry of the name
-abbrev IsThere : State → Leaf → Type 0
-IsThere st l = (n : ℕ) × (named st.entries st.scope (word l) ≡ Some n)
+abbrev pub HasLeaf : State → Leaf → Type 0
+HasLeaf st l = (n : ℕ) × (named st.entries st.scope (word l) ≡ Some n)
 
 -- where the identifiers are there, the steps enter only what is there, and leave it
 record Closed (ls : List Leaf) (xs : List Step) : Type 0 where
-  go : (es : List Entry) (st next : State) → steps_read st xs ≡ Ok next → Keeps next.entries es → AllByRecursion (IsThere st) ls → Reads es st xs next
+  go : (es : List Entry) (st next : State) → steps_read st xs ≡ Ok next → Keeps next.entries es → AllByRecursion (HasLeaf st) ls → Reads es st xs next
 
-still_there : (st mid : State) → Grows (known st) (known mid) → mid.scope ≡ st.scope → (l : Leaf) → IsThere st l → IsThere mid l
+still_there : (st mid : State) → Grows (known st) (known mid) → mid.scope ≡ st.scope → (l : Leaf) → HasLeaf st l → HasLeaf mid l
 still_there st mid grows scope l (n, is) = (n, ap (λ k. named mid.entries k (word l)) scope ∙ grows.names st.scope (word l) n is)
 
 none : {ls : List Leaf} → Closed ls []
@@ -172,7 +172,7 @@ joined {ls} {xs} {ys} a b = record {
       let (mid, before, behind) = read_append st next xs ys h in
       let from_mid = keeps_on mid.entries next.entries es (steps_grow mid next ys behind).names later in
       let first = a.go es st mid before from_mid there in
-      let still = all_map (IsThere st) (IsThere mid) (still_there st mid first.adds.grows first.scope) ls there in
+      let still = all_map (HasLeaf st) (HasLeaf mid) (still_there st mid first.adds.grows first.scope) ls there in
       both_read es st mid next xs ys first (b.go es mid next behind later still);
 }
 
@@ -192,12 +192,12 @@ declaring {ls} {ys} s l kind flat stands b = record {
       let (mid, first, rest) = then_ok (step_read st s) (λ x. steps_read x ys) next h in
       let does = flat_does st mid s flat first in
       let (n, e, is, at_n, kind_is, name_is) = (subst (AllByRecursion (Holds (known mid))) (stands st.scope) does.adds.holds).0 in
-      let still = all_map (IsThere st) (IsThere mid) (still_there st mid does.adds.grows does.scope) ls there in
+      let still = all_map (HasLeaf st) (HasLeaf mid) (still_there st mid does.adds.grows does.scope) ls there in
       let behind = b.go es mid next rest later ((n, ap (λ k. named mid.entries k (word l)) does.scope ∙ is), still) in
       both_read es st mid next (s ∷ []) ys (one_reads es st mid s flat first) behind;
 }
 
-around_named : (es : List Entry) (scope : ℕ) (name : List ℕ) (n : ℕ) → named es scope name ≡ Some n → around es (suc n) ≡ scope
+pub around_named : (es : List Entry) (scope : ℕ) (name : List ℕ) (n : ℕ) → named es scope name ≡ Some n → around es (suc n) ≡ scope
 around_named es scope name n h = let (e, here, in_scope) = named_entry es scope name n h in ap scope_in here ∙ sym in_scope
 
 -- steps inside the scope of what is there
@@ -230,7 +230,7 @@ within {ls} {ys} l b = record {
       });
 }
 
-plain_flat : (s : Step) → IsPlain s → IsFlat s
+pub plain_flat : (s : Step) → IsPlain s → IsFlat s
 plain_flat (IsNew l) is = tt
 plain_flat (DeclaresConst c) is = tt
 plain_flat (IsUndefined l) is = tt

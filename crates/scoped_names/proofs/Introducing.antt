@@ -59,12 +59,12 @@ distinct_one : {X : Type 0} (eq : X → X → Bool) (x : X) → IsDistinct eq (x
 unfolding IsDistinct
 distinct_one eq x = (tt, tt)
 
-any_left : {X : Type 0} (P : X → Type 0) (xs ys : List X) → Any P xs → Any P (xs ++ ys)
+pub any_left : {X : Type 0} (P : X → Type 0) (xs ys : List X) → Any P xs → Any P (xs ++ ys)
 any_left P xs ys (k, x, lt, is, holds) =
     let all = length-append xs ys in
     (k, x, omega arith, get_or-append xs ys x k lt ∙ is, holds)
 
-any_right : {X : Type 0} (P : X → Type 0) (xs ys : List X) → Any P ys → Any P (xs ++ ys)
+pub any_right : {X : Type 0} (P : X → Type 0) (xs ys : List X) → Any P ys → Any P (xs ++ ys)
 any_right P xs ys (k, x, lt, is, holds) =
     let all = length-append xs ys in
     (length xs + k, x, omega arith, get_or-append-add xs ys k x ∙ is, holds)
@@ -244,7 +244,7 @@ member_alike : (members : List Member) (scope : ℕ) (a b : List ℕ) → lower 
 member_alike members scope a b same =
     ap (λ w. list_any (λ m. nat_eq scope m.scope && bytes_eq w (lower m.name)) members) same
 
-same_name : (scope : ℕ) (w : List ℕ) → (nat_eq scope scope && same_but_for_case w w) ≡ true
+pub same_name : (scope : ℕ) (w : List ℕ) → (nat_eq scope scope && same_but_for_case w w) ≡ true
 same_name scope w = ap (λ b. b && same_but_for_case w w) (eq-eqb scope scope refl) ∙ (bytes_eq-Decides (lower w) (lower w)).1 refl
 
 -- a test of one name in one scope: it fails, or the names are one
@@ -322,7 +322,7 @@ one_kind kind other h = absurd cc
 none_some : (o : Option ℕ) (n : ℕ) → o ≡ None → o ≡ Some n → ⊥
 none_some o n none some = cc
 
-below_or_last : (n k : ℕ) → n < suc k → (n < k) ⊎ (k ≡ n)
+pub below_or_last : (n k : ℕ) → n < suc k → (n < k) ⊎ (k ≡ n)
 below_or_last n k lt = grind arith
 
 -- one more entry

@@ -8,7 +8,7 @@ use Rattle.name_table.specs.Entry.{Entry, bases_in, bases_of, is_named, named}
 use Rattle.name_table.specs.Entries.{entry_with_base, with_base}
 use Rattle.name_table.specs.Search.{base_at, before, declared_before, own}
 use Rattle.name_table.proofs.Lookups.{position_map}
-use Rattle.name_table.proofs.MoreBases.{map_like}
+use Rattle.name_table.proofs.MoreBases.{get_like, map_like}
 use Rattle.name_table.proofs.Stability.{bases_push, get_push_low, named_push, or_place, own_push}
 
 -- an entry but for its bases
@@ -77,13 +77,6 @@ base_behind [] b j lt = by (nat_eq b.token j) refl
     by true is = let same = eqb-true b.token j is in absurd (omega arith)
     by false is = refl
 base_behind (c ∷ cs) b j lt = ap (cond (nat_eq c.token j) (Some c.entry)) (base_behind cs b j lt)
-
-get_like : {X A : Type 0} (f : Option X → A) (xs : List X) (e : ℕ) (x y : X) (k : ℕ) → slice_get xs e ≡ Some x → f (Some y) ≡ f (Some x) → f (slice_get (slice_set xs e y) k) ≡ f (slice_get xs k)
-get_like f [] e x y k h same = cc
-get_like f (z ∷ zs) zero x y zero h same = same ∙ sym (ap f h)
-get_like f (z ∷ zs) zero x y (suc k) h same = refl
-get_like f (z ∷ zs) (suc e) x y zero h same = refl
-get_like f (z ∷ zs) (suc e) x y (suc k) h same = get_like f zs e x y k h same
 
 module _ (n : ℕ) (es : List Entry) (e : ℕ) (x : Entry) (base : Base) (there : slice_get es e ≡ Some x) (late : n ≤ base.token) where
   abbrev more : Entry

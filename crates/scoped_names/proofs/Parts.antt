@@ -8,6 +8,7 @@ use Rattle.name_table.specs.Entries.{scope_number}
 use Rattle.name_table.specs.Search.{word}
 use Rattle.scoped_names.specs.Introductions.{scope_behind}
 use Rattle.scoped_names.specs.Steps.{Step, Enters, Leaves}
+use Rattle.scoped_names.proofs.Introduced.{IsFlat, flat_behind, plain_flat}
 use Rattle.scoped_names.proofs.Introducing.{named_entry}
 use Rattle.scoped_names.specs.Holding.{AllHold, Holds}
 use Rattle.scoped_names.proofs.Asks.{Asks, IsPlain, none, silent, joined, plain, base, valued, declared, featured, undefined, inside, defines}
@@ -42,16 +43,8 @@ both_closed {xs} {ys} a b = record {
 }
 
 -- a step that is done in the scope of the next
-abbrev pub IsFlat : Step → Type 0
-IsFlat s = (es : List Entry) (scope : ℕ) → scope_behind es scope s ≡ scope
-
 pub one_closed : (s : Step) → IsFlat s → Closed (s ∷ [])
-one_closed s flat = record { go = λ es scope h. flat es scope }
-
-plain_flat : (s : Step) → IsPlain s → IsFlat s
-plain_flat (Enters l) is es scope = absurd is
-plain_flat Leaves is es scope = absurd is
-plain_flat s is es scope = refl
+one_closed s flat = record { go = λ es scope h. flat_behind es scope s flat }
 
 -- what stands inside a scope
 pub inside_holds : (es : List Entry) (scope : ℕ) (l : Leaf) (xs : List Step) → Closed xs → AllHold es scope (Enters l ∷ (xs ++ Leaves ∷ []))
@@ -103,4 +96,4 @@ pub each_step_holds : {T : Type 0} (es : List Entry) (scope : ℕ) (step : T →
     → AllByRecursion (λ x. Holds es scope (step x)) xs
 each_step_holds es scope step flat [] h = tt
 each_step_holds es scope step flat (x ∷ xs) (h, hs) =
-    (h, each_step_holds es scope step flat xs (subst (λ k. AllHold es k (map step xs)) (flat x es scope) hs))
+    (h, each_step_holds es scope step flat xs (subst (λ k. AllHold es k (map step xs)) (flat_behind es scope (step x) (flat x)) hs))

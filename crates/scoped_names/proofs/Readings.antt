@@ -12,6 +12,7 @@ use Rattle.name_table.specs.declared.entry.Meaning.{Meaning}
 use Rattle.name_table.specs.Entry.{Entry, named}
 use Rattle.name_table.specs.Search.{word}
 use Rattle.name_table.proofs.MergedBases.{drop_at}
+use Rattle.name_table.proofs.MergedBases.{split_at}
 use Rattle.scoped_names.specs.declared.fault.At.{At}
 use Rattle.scoped_names.specs.declared.fault.NameFault.{NameFault}
 use Rattle.scoped_names.specs.declared.fault.NameFault.TheVariants.{BadBase}
@@ -22,11 +23,6 @@ use Rattle.scoped_names.specs.Steps.{Step}
 use Rattle.scoped_names.specs.Tests.{at_entry, names_test, operand_test, operands_test}
 
 -- ---- one behind another
-
-split_at : {T : Type 0} (xs : List T) (k : ℕ) (x : T) → k < length xs → x ≡ get_or xs k x → drop k xs ≡ x ∷ drop (k + 1) xs
-split_at xs k x lt here =
-    let next : suc k ≡ k + 1 = omega arith in
-    drop-cons xs k x lt ∙ ap (λ y. y ∷ drop (suc k) xs) (sym here) ∙ ap (λ j. x ∷ drop j xs) next
 
 pub steps_at : {T : Type 0} (step : T → Step) (xs : List T) (k : ℕ) (x : T) → k < length xs → x ≡ get_or xs k x → map step (drop k xs) ≡ step x ∷ map step (drop (k + 1) xs)
 steps_at step xs k x lt here = ap (map step) (split_at xs k x lt here)

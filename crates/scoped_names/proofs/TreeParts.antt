@@ -36,13 +36,13 @@ use Rattle.scoped_names.proofs.Parts.{Closed, both_closed, both_hold, closed, ea
 -- ---- members
 
 sizes_closed : (sizes : List ConstExpr) → Closed (map size_step sizes)
-sizes_closed sizes = each_step_closed size_step (λ s es scope. refl) sizes
+sizes_closed sizes = each_step_closed size_step (λ s. tt) sizes
 
 declarator_closed : (d : Declarator) → Closed (declarator_steps d)
-declarator_closed d = both_closed (one_closed (HasMember d.identifier) (λ es scope. refl)) (sizes_closed d.sizes.items)
+declarator_closed d = both_closed (one_closed (HasMember d.identifier) tt) (sizes_closed d.sizes.items)
 
 typedef_closed : (t : TypeSpec) (d : Declarator) → Closed (typedef_steps t d)
-typedef_closed t d = both_closed (one_closed (DeclaresTypedef t d) (λ es scope. refl)) (sizes_closed d.sizes.items)
+typedef_closed t d = both_closed (one_closed (DeclaresTypedef t d) tt) (sizes_closed d.sizes.items)
 
 type_closed : (t : TypeSpec) → Closed (type_steps t)
 type_closed t = closed (type_asks {ls = []} t)
@@ -66,7 +66,7 @@ switch_closed : (s : SwitchType) → Closed (switch_steps s)
 switch_closed s = closed (switch_asks {ls = []} s)
 
 pub sizes_hold : (es : List Entry) (scope : ℕ) (sizes : List ConstExpr) → AllHold es scope (map size_step sizes) → AllByRecursion (λ s. Holds es scope (IsSize s.expr)) sizes
-sizes_hold es scope sizes h = each_step_holds es scope size_step (λ s fs k. refl) sizes h
+sizes_hold es scope sizes h = each_step_holds es scope size_step (λ s. tt) sizes h
 
 pub declarators_hold : (es : List Entry) (scope : ℕ) (l : Listed Declarator) → AllHold es scope (flat_map declarator_steps (parts l))
     → AllByRecursion (λ d. AllHold es scope (declarator_steps d)) (parts l)
@@ -108,7 +108,7 @@ inside_at {holds = holds} i e here =
     subst (λ k. holds (suc k)) same i.inner
 
 defining_closed : {xs : List Step} (l : Leaf) → Closed xs → Closed (Defines l ∷ xs)
-defining_closed l c = both_closed (one_closed (Defines l) (λ es scope. refl)) c
+defining_closed l c = both_closed (one_closed (Defines l) tt) c
 
 pub struct_holds : (es : List Entry) (scope : ℕ) (s : StructType) → AllHold es scope (struct_steps s)
     → Inside es scope (out-StructType s).identifier (λ inner. AllHold es inner (member_steps (out-StructType s).first.value)
@@ -151,10 +151,10 @@ param_type_closed : (t : ParamType) → Closed (param_type_steps t)
 param_type_closed t = closed (param_type_asks {ls = []} t)
 
 raises_closed : (names : List ScopedName) → Closed (raises_steps names)
-raises_closed names = each_step_closed NamesException (λ name es scope. refl) names
+raises_closed names = each_step_closed NamesException (λ name. tt) names
 
 pub raises_hold : (es : List Entry) (scope : ℕ) (names : List ScopedName) → AllHold es scope (raises_steps names) → AllByRecursion (λ name. Holds es scope (NamesException name)) names
-raises_hold es scope names h = each_step_holds es scope NamesException (λ name fs k. refl) names h
+raises_hold es scope names h = each_step_holds es scope NamesException (λ name. tt) names h
 
 param_closed : (id : Leaf) (p : Param) → Closed (param_steps id p)
 param_closed id p = closed (param_asks {ls = []} id p)
@@ -172,7 +172,7 @@ operation_holds es scope o h =
     let params = flat_map (param_steps o.identifier) (optional_parts o.params) in
     let result_closed = closed (result_asks {ls = []} o.result_type) in
     let params_closed = each_closed (param_steps o.identifier) (param_closed o.identifier) (optional_parts o.params) in
-    let named = both_closed (one_closed feature (λ fs k. refl)) params_closed in
+    let named = both_closed (one_closed feature tt) params_closed in
     let last = both_hold es scope (result ++ feature ∷ params) (raises_steps (optional_parts o.raises)) (both_closed result_closed named) h in
     let first = both_hold es scope result (feature ∷ params) result_closed last.0 in
     let each = each_holds es scope (param_steps o.identifier) (param_closed o.identifier) (optional_parts o.params) first.1.1 in (
@@ -198,10 +198,10 @@ interface_holds es scope id bases exports h =
     let named = map (HasBase id) (optional_parts bases) in
     let inner = Defines id ∷ flat_map export_steps exports.items in
     let steps = subst (AllHold es scope) (append_assoc named (Enters id ∷ inner) (Leaves ∷ [])) h.1.1 in
-    let both = both_hold es scope named (Enters id ∷ (inner ++ Leaves ∷ [])) (each_step_closed (HasBase id) (λ name fs k. refl) (optional_parts bases)) steps in
+    let both = both_hold es scope named (Enters id ∷ (inner ++ Leaves ∷ [])) (each_step_closed (HasBase id) (λ name. tt) (optional_parts bases)) steps in
     let all = each_closed export_steps export_closed exports.items in
     let (n, is, body) = inside_holds es scope id inner (defining_closed id all) both.1 in
-    (each_step_holds es scope (HasBase id) (λ name fs k. refl) (optional_parts bases) both.0, record { entry = n; is = is; inner = each_holds es (suc n) export_steps export_closed exports.items body.1 })
+    (each_step_holds es scope (HasBase id) (λ name. tt) (optional_parts bases) both.0, record { entry = n; is = is; inner = each_holds es (suc n) export_steps export_closed exports.items body.1 })
 
 definition_closed : (d : Definition) → Closed (definition_steps d)
 definition_closed d = closed (definition_asks {ls = []} d)
