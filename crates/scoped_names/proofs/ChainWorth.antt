@@ -1,5 +1,5 @@
 -- What a chain of operands is worth, by the list of its `Vec`.
-use Rattle.std.proofs.Common.{◌≡◌, ◌∙◌, ℕ, ◌+◌, suc, ◌<◌, inl, inr, List, [], ◌∷◌, Option, Some, None, Err, Vec, Global, length, drop, get_or, refl, ap, sym, arith, drop-cons}
+use Rattle.std.proofs.Common.{◌≡◌, ◌∙◌, ℕ, ◌+◌, ◌<◌, inl, inr, List, [], ◌∷◌, Option, Some, None, Err, Vec, Global, length, drop, get_or, refl, ap, sym}
 use Rattle.std.specs.Prelude.{Box, ℤ}
 use Rattle.idl_tree.specs.declared.expression.Expr.{Expr, Chain}
 use Rattle.idl_tree.specs.declared.expression.Operand.{Operand}

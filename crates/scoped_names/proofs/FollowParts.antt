@@ -1,8 +1,6 @@
 -- What names find is known, so of parts one behind another.
-use Rattle.std.proofs.Common.{◌∙◌, ◌⊎◌, inl, inr, ℕ, ◌+◌, List, [], ◌∷◌, ◌++◌, length, length-append, subst, arith}
+use Rattle.std.proofs.Common.{◌⊎◌, inl, inr, ℕ, List, [], ◌∷◌, ◌++◌, subst}
 use Rattle.std.specs.List.{Any}
-use Rattle.std.proofs.Math.ListN.{get_or-append}
-use Rattle.std.proofs.lemmas.List.{get_or-append-add}
 use Rattle.name_table.specs.Entry.{Entry}
 use Rattle.scoped_names.specs.Introductions.{StandsFor, introduced, introduced_by, scope_behind}
 use Rattle.scoped_names.specs.Steps.{Step, HasBase, NamesType, NamesException}

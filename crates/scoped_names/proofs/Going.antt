@@ -1,13 +1,10 @@
 -- What reading a step does to the entries, and that what it asks is answered.
-use Rattle.std.proofs.Common.{◌≡◌, ◌∙◌, ◌⊎◌, inl, inr, ℕ, zero, suc, ◌<◌, ◌≤◌, Bool, true, false, cond, nat_eq, not, List, [], ◌∷◌, ◌++◌, map, length, length-append, slice_get, Option, Some, None, Ok, Err, refl, sym, ap, subst, arith}
+use Rattle.std.proofs.Common.{◌≡◌, ◌∙◌, ◌⊎◌, inl, inr, ℕ, zero, suc, ◌<◌, ◌≤◌, Bool, true, false, cond, not, List, [], ◌∷◌, ◌++◌, length, length-append, slice_get, Option, Some, None, Ok, Err, refl, sym, ap, subst, arith}
 use Rattle.std.specs.Prelude.{◌&&◌, if◌then◌else◌}
 use Rattle.std.specs.List.{Any}
 use Rattle.std.specs.Option.{option_map}
 use Rattle.std.specs.Str.{bytes_eq}
-use Rattle.std.specs.Char.{to_ascii_lowercase}
-use Rattle.std.proofs.lemmas.Slice.Eq.{bytes_eq-Decides}
-use Rattle.idl_lexer.specs.Words.{same_but_for_case}
-use Rattle.std.proofs.lemmas.Bool.{and_parts, eq-eqb}
+use Rattle.std.proofs.lemmas.Bool.{and_parts}
 use Rattle.std.proofs.lemmas.Option.{slice_get_within}
 use Rattle.idl_lexer.specs.Identifiers.{words}
 use Rattle.idl_tree.specs.declared.names.Leaf.{Leaf}

@@ -14,7 +14,7 @@ use Rattle.idl_tree.specs.DefinitionYields.{definitions_spelled}
 use Rattle.idl_tree.specs.Starts.{name_start}
 use Rattle.idl_tree.proofs.SpelledForms.{AreNumbered-append, Spec-numbers}
 use Rattle.name_table.specs.declared.entry.EntryKind.{EntryKind}
-use Rattle.name_table.specs.Entry.{Entry, around, is_named, named, scope_in, worth_in}
+use Rattle.name_table.specs.Entry.{Entry, around, is_named, named, worth_in}
 use Rattle.name_table.specs.Entries.{plain as plain_meant, scope_number, scope_of}
 use Rattle.name_table.specs.Features.{features_of}
 use Rattle.name_table.specs.Search.{inherited, word}
@@ -23,12 +23,12 @@ use Rattle.scoped_names.specs.declared.fault.NameFault.{NameFault}
 use Rattle.scoped_names.specs.Faults.{entry_in, declared as declared_plain, free_of, left_open, never_defined, nothing_yet, specification_read, step_read, steps_read, test_of, type_kind}
 use Rattle.scoped_names.specs.Introductions.{Introduction, Stands, Has, Body, IsEntry, StandsFor, introduced, introduced_by, scope_behind}
 use Rattle.scoped_names.specs.Meanings.{const_end, enumerator_meant, typedef_meant}
-use Rattle.scoped_names.specs.Reading.{State, ◌>>◌, passed}
+use Rattle.scoped_names.specs.Reading.{State, passed}
 use Rattle.scoped_names.specs.Steps.{Step, Declares, DeclaresEnum, DeclaresEnumerator, DeclaresTypedef, IsNew, DeclaresConst, DeclaresFeature, HasMember, IsUndefined, HasBase, Enters, Defines, Leaves, NamesType, NamesException, HasWorth, IsSize, Says, steps_of}
 use Rattle.scoped_names.specs.Asked.{pieces_of}
 use Rattle.scoped_names.specs.Whole.{AreNames, Whole, whole}
 use Rattle.scoped_names.proofs.Introduced.{HasLeaf, IsFlat, around_named, declared_once, flat_behind, plain_flat, read_append}
-use Rattle.scoped_names.proofs.Introducing.{all_map, declared_does, named_entry, passed_same, then_ok}
+use Rattle.scoped_names.proofs.Introducing.{all_map, declared_does, passed_same, then_ok}
 use Rattle.scoped_names.specs.Following.{AllFollow, FindsKnown}
 use Rattle.scoped_names.specs.Holding.{AllHold, HasItsWorth, IsThere, asks}
 use Rattle.scoped_names.proofs.Asks.{Asks, IsPlain, all_ask, none as unasked, silent, joined as both_asked, plain, base, valued, declared, featured, undefined, inside, defines}

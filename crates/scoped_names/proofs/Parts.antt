@@ -11,7 +11,7 @@ use Rattle.scoped_names.specs.Steps.{Step, Enters, Leaves}
 use Rattle.scoped_names.proofs.Introduced.{IsFlat, flat_behind, plain_flat}
 use Rattle.scoped_names.proofs.Introducing.{named_entry}
 use Rattle.scoped_names.specs.Holding.{AllHold, Holds}
-use Rattle.scoped_names.proofs.Asks.{Asks, IsPlain, none, silent, joined, plain, base, valued, declared, featured, undefined, inside, defines}
+use Rattle.scoped_names.proofs.Asks.{Asks, none, silent, joined, plain, base, valued, declared, featured, undefined, inside, defines}
 
 -- the scope behind steps
 abbrev pub scope_past : List Entry → ℕ → List Step → ℕ

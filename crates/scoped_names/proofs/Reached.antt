@@ -1,5 +1,5 @@
 -- Steps one behind another: how far they reach, and what reading them gives.
-use Rattle.std.proofs.Common.{◌≡◌, ◌∙◌, ℕ, ◌+◌, ◌≤◌, ◌<◌, List, [], ◌∷◌, ◌++◌, length, length-append, drop, get_or, Ok, Err, refl, sym, ap, subst, arith, zero, suc}
+use Rattle.std.proofs.Common.{◌≡◌, ◌∙◌, ℕ, ◌+◌, ◌≤◌, ◌<◌, List, [], ◌∷◌, ◌++◌, length, length-append, drop, get_or, Ok, Err, refl, sym, ap, subst, arith, suc}
 use Rattle.std.proofs.Math.Seq.{drop-cons}
 use Rattle.idl_tree.specs.declared.definitions.Definition.{Definition, Module}
 use Rattle.idl_tree.specs.declared.definitions.Module.{Module as ModuleRecord}

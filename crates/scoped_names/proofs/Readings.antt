@@ -1,7 +1,6 @@
 -- Readings of steps and parts one behind another.
 use Rattle.std.proofs.Common.{◌≡◌, ◌∙◌, ℕ, suc, ◌+◌, ◌<◌, ◌⊎◌, inl, inr, List, [], ◌∷◌, drop, get_or, length, map, false, Option, Some, None, slice_get, Result, Ok, Err, IfSome, Bool, subst, true, Vec, Global, refl, sym, ap, arith}
 use Rattle.std.specs.Prelude.{Box, if◌then◌else◌}
-use Rattle.std.proofs.Math.Seq.{drop-cons}
 use Rattle.std.proofs.lemmas.Option.{slice_get-get_or}
 use Rattle.idl_tree.specs.declared.names.Leaf.{Leaf}
 use Rattle.idl_tree.specs.declared.expression.Expr.{Expr, Chain}
