@@ -2,3 +2,4 @@ pub mod LineLaws
 pub mod PathLaws
 pub mod TableLaws
 pub mod FaultLaws
+pub mod Worked

@@ -9,6 +9,8 @@ pub mod laws;
 mod levels;
 mod lined;
 mod lines;
+#[cfg(test)]
+mod tests;
 
 pub use fault::PathFault;
 pub use find::find_path_fault;
