@@ -1,0 +1,5 @@
+pub mod LineLaws
+pub mod PathLaws
+pub mod TableLaws
+pub mod FaultLaws
+pub mod Worked

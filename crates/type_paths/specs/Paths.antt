@@ -1,0 +1,58 @@
+-- Paths downwards from a type to one that it holds, and so on. None passes a sequence: a sequence holds nothing.
+use Rattle.std.specs.Prelude.{◌≡◌, ℕ, zero, suc, ◌<◌, ◌≤◌, List, length, Some, slice_get}
+use Rattle.type_graph.specs.declared.node.Node.{Node}
+use Rattle.type_graph.specs.Value.{node_at}
+use Rattle.type_graph.specs.GraphRules.{held_by, IsShallow}
+use Rattle.type_paths.specs.declared.fault.PathFault.{PathFault}
+use Rattle.type_paths.specs.declared.fault.PathFault.TheVariants.{SelfHeld, LongPath}
+use Rattle.type_paths.specs.Lines.{Lines, Types, line_at, own_line}
+
+-- a node holds another by a member that stands at most in the line
+pub record HoldsBy (types : Types) (line node part : ℕ) : Type 0 where
+  pub place : ℕ
+  pub there : slice_get (held_by (node_at types.nodes node)) place ≡ Some part
+  pub early : line_at types node place ≤ line
+
+-- a node holds one of those that are meant
+pub record HoldsOne (Holds : ℕ → ℕ → Type 0) (Meant : ℕ → Type 0) (node : ℕ) : Type 0 where
+  pub part : ℕ
+  pub holds : Holds node part
+  pub meant : Meant part
+
+-- from a node a path of so many steps leads downwards
+unfoldable pub HasPath : (ℕ → ℕ → Type 0) → ℕ → ℕ → Type 0
+HasPath Holds zero node = Unit {0}
+HasPath Holds (suc steps) node = HoldsOne Holds (HasPath Holds steps) node
+
+-- paths of any length
+abbrev pub IsEndless : (ℕ → ℕ → Type 0) → ℕ → Type 0
+IsEndless Holds node = (steps : ℕ) → HasPath Holds steps node
+
+-- With the members up to a line a type holds itself. A list has finitely many nodes, so a path without end comes back
+-- to a node on it.
+pub record GoesRoundBy (types : Types) (line : ℕ) : Type 0 where
+  pub node : ℕ
+  pub within : node < length types.nodes
+  pub endless : IsEndless (HoldsBy types line) node
+
+-- the first line in which a member closes a circle
+pub record ClosesCircle (types : Types) (line : ℕ) : Type 0 where
+  pub round : GoesRoundBy types line
+  pub first : (less : ℕ) → less < line → GoesRoundBy types less → ⊥
+
+-- no type holds itself, and the first type that isn't shallow stands in the line
+pub record IsTooDeep (types : Types) (line : ℕ) : Type 0 where
+  pub never : (any : ℕ) → GoesRoundBy types any → ⊥
+  pub node : ℕ
+  pub within : node < length types.nodes
+  pub deep : IsShallow 64 types.nodes node → ⊥
+  pub first : (less : ℕ) → less < node → IsShallow 64 types.nodes less
+  pub stands : line ≡ own_line types node
+
+abbrev pub IsFaultOf : Types → PathFault → Type 0
+IsFaultOf types (SelfHeld line) = ClosesCircle types line
+IsFaultOf types (LongPath line) = IsTooDeep types line
+
+-- The fault of nodes, where `lines` are those of the nodes from the first that has some.
+abbrev pub IsPathFault : List Node → ℕ → List Lines → PathFault → Type 0
+IsPathFault nodes first lines fault = IsFaultOf (record { nodes = nodes; first = first; lines = lines }) fault

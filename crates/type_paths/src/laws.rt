@@ -1,0 +1,20 @@
+//! Laws over the definitions. The functions do nothing: each contract is the law.
+
+ghost use Rattle.std.specs.Prelude.{◌≡◌, ℕ, List, EachIndex};
+ghost use Rattle.type_graph.specs.declared.node.Node.{Node};
+ghost use Rattle.type_graph.specs.GraphRules.{IsShallow};
+ghost use Rattle.type_paths.specs.declared.fault.PathFault.{PathFault};
+ghost use Rattle.type_paths.specs.Lines.{Lines};
+ghost use Rattle.type_paths.specs.Paths.{IsPathFault};
+
+/// Where there is a fault, not all paths are short.
+pub fn fault_is_of_long_paths()
+    ensures { (nodes : List Node) (first : ℕ) (lines : List Lines) (fault : PathFault)
+        → IsPathFault nodes first lines fault → EachIndex nodes (IsShallow 64 nodes) → ⊥ }
+{}
+
+/// A list has one fault at most.
+pub fn path_fault_is_one()
+    ensures { (nodes : List Node) (first : ℕ) (lines : List Lines) (one other : PathFault)
+        → IsPathFault nodes first lines one → IsPathFault nodes first lines other → one ≡ other }
+{}

@@ -1,0 +1,62 @@
+//! Circles and long paths in lists as large as a file may write.
+
+use crate::{NodeLines, PathFault, find_path_fault};
+use std::alloc::{AllocError, Global};
+use std::test::Fail;
+use type_graph::{Members, Node};
+
+/// As many nodes as a list may have.
+const MOST: u32 = 4096;
+
+fn structure(alloc: Global, parts: &[u32]) -> Result<Node, AllocError> {
+    let members = Members::new(Vec::from_slice(alloc, parts)?);
+    Ok(Node::Struct { members })
+}
+
+/// The fault of so many structures, each of which holds the next in a line of its own. The last holds
+/// the number given, past the end an octet.
+fn fault_of_chain(alloc: Global, count: u32, last: u32) -> Result<Option<PathFault>, AllocError> {
+    let mut nodes = Vec::new(alloc);
+    let mut lines = Vec::new(alloc);
+    for number in 0..count {
+        let part = if number + 1 == count { last } else { number + 1 };
+        nodes.push(structure(alloc, &[part])?)?;
+        let line = number as usize + 1;
+        lines.push(NodeLines::new(line, vec![in alloc; line]?))?;
+    }
+    find_path_fault(alloc, &nodes, 0, &lines)
+}
+
+/// The structures, and the octet that the last one holds.
+#[test]
+fn paths_have_64_nodes_at_most(rt: HostRuntime) -> Result<(), Fail> {
+    let alloc = rt.alloc();
+    assert_eq!(rt; fault_of_chain(alloc, 63, 63)?, None);
+    let long = Some(PathFault::LongPath { line: 1 });
+    assert_eq!(rt; fault_of_chain(alloc, 64, 64)?, long);
+    assert_eq!(rt; fault_of_chain(alloc, MOST, MOST)?, long);
+    Ok(())
+}
+
+#[test]
+fn the_last_member_closes_a_large_circle(rt: HostRuntime) -> Result<(), Fail> {
+    let alloc = rt.alloc();
+    assert_eq!(rt; fault_of_chain(alloc, 1, 0)?, Some(PathFault::SelfHeld { line: 1 }));
+    assert_eq!(rt; fault_of_chain(alloc, MOST, 0)?, Some(PathFault::SelfHeld { line: 4096 }));
+    Ok(())
+}
+
+/// A sequence holds nothing: a structure of itself may stand behind one. The octet has no line.
+#[test]
+fn sequences_end_paths(rt: HostRuntime) -> Result<(), Fail> {
+    let alloc = rt.alloc();
+    let mut nodes = Vec::new(alloc);
+    nodes.push(Node::Octet)?;
+    nodes.push(structure(alloc, &[0, 2])?)?;
+    nodes.push(Node::Seq { elem: 1, bound: 0 })?;
+    let mut lines = Vec::new(alloc);
+    lines.push(NodeLines::new(1, Vec::from_slice(alloc, &[2, 3])?))?;
+    lines.push(NodeLines::new(3, Vec::new(alloc)))?;
+    assert_eq!(rt; find_path_fault(alloc, &nodes, 1, &lines)?, None);
+    Ok(())
+}
