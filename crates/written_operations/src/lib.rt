@@ -2,6 +2,7 @@
 //! 19500-1, interface declaration).
 #![tactic(auto)]
 
+mod attributes;
 mod definitions;
 mod frames;
 mod interfaces;
@@ -13,6 +14,5 @@ mod signature;
 mod table;
 
 pub use definitions::write_file;
-pub use oneway::check_oneway;
 pub use signature::{Offered, Role, Signature};
 pub use table::OperationTable;
