@@ -1,3 +1,4 @@
 pub mod Lengths
 pub mod PlacesMore
 pub mod ModuleWalks
+pub mod Refused
