@@ -2,3 +2,4 @@ pub mod Lengths
 pub mod PlacesMore
 pub mod ModuleWalks
 pub mod Refused
+mod Kept

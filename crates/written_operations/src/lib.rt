@@ -6,6 +6,7 @@ mod attributes;
 mod definitions;
 mod frames;
 mod interfaces;
+pub mod laws;
 mod oneway;
 mod operations;
 mod places;
