@@ -3,3 +3,4 @@ pub mod PlacesMore
 pub mod ModuleWalks
 pub mod Refused
 mod Kept
+mod Few

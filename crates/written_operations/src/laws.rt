@@ -4,10 +4,17 @@ ghost use Rattle.std.specs.Prelude.{◌≡◌, List, Ok};
 ghost use Rattle.idl_tree.specs.declared.definitions.Definition.{Definition};
 ghost use Rattle.name_table.specs.Entry.{Entry};
 ghost use Rattle.written_operations.specs.Definitions.{defined_by};
+ghost use Rattle.written_operations.specs.Few.{AreFew};
 ghost use Rattle.written_operations.specs.Kept.{KeepRule};
 ghost use Rattle.written_operations.specs.Operations.{Defined};
 
 /// Nothing comes back from the oneway operations of a file that is written.
 pub fn oneway_gives_nothing_back()
     ensures { (es : List Entry) (definitions : List Definition) (d : Defined) → defined_by es definitions ≡ Ok d → KeepRule definitions }
+{}
+
+/// A file that is written has no more nodes than the limit, no more operations or exceptions than
+/// nodes, and each place of one is among them. So places are small numbers.
+pub fn places_are_few()
+    ensures { (es : List Entry) (definitions : List Definition) (d : Defined) → defined_by es definitions ≡ Ok d → AreFew d }
 {}

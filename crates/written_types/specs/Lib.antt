@@ -7,3 +7,4 @@ pub mod SimpleTypes
 pub mod Labels
 pub mod Types
 pub mod Declarations
+pub mod Few
