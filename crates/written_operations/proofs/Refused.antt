@@ -1,5 +1,5 @@
 -- Operations that are refused, and where that is told.
-use Rattle.std.proofs.Common.{◌≡◌, ◌∙◌, ℕ, ◌+◌, Bool, true, false, List, ◌∷◌, ◌++◌, [], length, Option, Some, Ok, Err, refl, ap, cc}
+use Rattle.std.proofs.Common.{◌≡◌, ◌∙◌, ℕ, ◌+◌, Bool, true, false, List, ◌∷◌, ◌++◌, [], length, Option, Some, Ok, Err, refl, ap}
 use Rattle.std.specs.Prelude.{◌&&◌, if◌then◌else◌, is_some, nat_lt}
 use Rattle.idl_tree.specs.declared.names.Listed.{Listed}
 use Rattle.idl_tree.specs.declared.names.ScopedName.{ScopedName}

@@ -1,7 +1,8 @@
 -- What is written grows: no node and no exception goes. Where there are no more nodes than the limit, no more exceptions
 -- than nodes, and no place of an exception but among them, it stays so.
-use Rattle.std.proofs.Common.{◌≡◌, ℕ, suc, ◌+◌, ◌<◌, ◌≤◌, le_refl, Bool, true, false, List, [], ◌∷◌, ◌++◌, length, length-append, Option, Some, None, Result, Ok, Err, All, refl, subst, arith, cc}
+use Rattle.std.proofs.Common.{◌≡◌, ℕ, suc, ◌+◌, ◌<◌, ◌≤◌, le_refl, Bool, true, false, List, [], ◌∷◌, ◌++◌, length, length-append, Option, Some, None, Result, Ok, Err, All, refl, subst, arith}
 use Rattle.std.specs.Prelude.{if◌then◌else◌, nat_lt, slice_set}
+use Rattle.std.proofs.lemmas.Bool.{ltb-false}
 use Rattle.std.proofs.lemmas.List.{length-set}
 use Rattle.std.proofs.lemmas.List.Elements.{All-set}
 use Rattle.type_graph.specs.declared.fault.GraphLimit.{GraphLimit}
@@ -80,7 +81,7 @@ at_most_holds most which line n k h = by (nat_lt most n) refl h
   where
     by : (b : Bool) → nat_lt most n ≡ b → (let r : Result ℕ BuildFault = if b then Err (limit which line) else Ok n in r) ≡ Ok k → n ≤ most
     by true over told = absurd cc
-    by false over told = omega (arith, over)
+    by false over told = ltb-false most n over
 
 with_node_follows : (w : Written) (node : Node) (lines : Lines) → next w + 1 ≤ max_nodes → Follows w (with_node w node lines)
 with_node_follows w node lines fits =

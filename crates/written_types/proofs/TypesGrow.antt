@@ -1,5 +1,5 @@
 -- What is written grows by each type and each declaration.
-use Rattle.std.proofs.Common.{◌≡◌, ℕ, ◌+◌, ◌≤◌, le_refl, Bool, true, false, List, [], ◌∷◌, ◌++◌, length, length-append, Option, Some, None, Result, Ok, Err, All, get_or, refl, sym, subst, arith, cc}
+use Rattle.std.proofs.Common.{◌≡◌, ℕ, ◌+◌, ◌≤◌, le_refl, Bool, true, false, List, [], ◌∷◌, ◌++◌, length, length-append, Option, Some, None, Result, Ok, Err, All, get_or, refl, sym, subst, arith}
 use Rattle.std.specs.Prelude.{if◌then◌else◌, nat_lt, slice_set, slice_get, map}
 use Rattle.std.proofs.lemmas.List.Elements.{All-set}
 use Rattle.idl_tree.specs.declared.names.Leaf.{Leaf}
@@ -40,7 +40,7 @@ use Rattle.written_types.specs.Lines.{Lines}
 use Rattle.written_types.specs.Members.{Members}
 use Rattle.written_types.specs.Written.{Written, Numbered, added, added_at, already, counted, one_line, opened, placed, raised_at}
 use Rattle.written_types.specs.SimpleTypes.{array_type, arrays, bound_of, bound_or_none, const_type, declarator_line, entry_of, enum_type, integer_number, param_type, simple_type, sizes_read, type_found}
-use Rattle.written_types.specs.Labels.{Switched, switch_read, switch_type, switched, no_arms}
+use Rattle.written_types.specs.Labels.{Switched, no_arms, switch_kind, switch_line, switch_of, switch_read, switch_type, switched, values_of}
 use Rattle.written_types.specs.Types.{Cases, WithMembers, case_added, cases_of, member_added, members_added, no_members, struct_defined, struct_type, type_spec, union_defined, union_type, with_cases, with_declarator, with_declarators, with_member, with_members, with_members_of}
 use Rattle.written_types.specs.Declarations.{ahead, declaration, except, exception_added, id_member, type_dcl, with_typedef}
 use Rattle.written_types.proofs.Growth.{Follows, Leads, added_leads, added_room, behind, beside, chain, counted_leads, each_leads, ends, fails, itself, judged, named_leads, node_set_leads, opened_leads, placed_leads, same, still, then_ok}
@@ -136,8 +136,8 @@ switch_type_leads es w scope (SwitchTypes.Name name) = judged beside w (type_fou
 switch_leads : (es : List Entry) (w : Written) (scope line : ℕ) (s : SwitchType) → Leads switch_in w (switch_read es w scope line s)
 switch_leads es w scope line s =
     chain beside switch_in w (switch_type es w scope s) _ (switch_type_leads es w scope s) (λ t.
-    judged switch_in t.written _ _ (λ kind.
-    judged switch_in t.written _ _ (λ switch. ends switch_in t.written (switched t.written switch) (same t.written))))
+    judged switch_in t.written (switch_kind es scope s) _ (λ kind.
+    judged switch_in t.written (switch_of (switch_line s line) t.number kind (values_of (slice_get t.written.nodes t.number))) _ (λ switch. ends switch_in t.written (switched t.written switch) (same t.written))))
 
 -- ---- types
 
@@ -244,8 +244,9 @@ raised_few w e frame room h =
 raised_is : (w v : Written) (e frame : ℕ) → raised_at w e frame ≡ Ok v → with_raised w e frame ≡ v
 raised_is w v e frame is = by (nat_lt e (length w.places)) is
   where
-    by : (b : Bool) → (let r : Result Written BuildFault = if b then Ok (record w { places = slice_set w.places e (Some (Raised frame (length w.exceptions))) }) else Err OtherNames in r >> λ there.
-    Ok (record there { exceptions = there.exceptions ++ (e, frame) ∷ [] })) ≡ Ok v → with_raised w e frame ≡ v
+    placing : Bool → Result Written BuildFault
+    placing b = (if b then Ok (record w { places = slice_set w.places e (Some (Raised frame (length w.exceptions))) }) else Err OtherNames)
+    by : (b : Bool) → (placing b >> λ there. Ok (record there { exceptions = there.exceptions ++ (e, frame) ∷ [] })) ≡ Ok v → with_raised w e frame ≡ v
     by true told = cc
     by false told = absurd cc
 
