@@ -6,14 +6,13 @@ use Rattle.scoped_names.specs.Reading.{◌>>◌}
 use Rattle.written_types.specs.declared.fault.BuildFault.{BuildFault}
 use Rattle.written_types.specs.Faults.{each}
 use Rattle.written_types.specs.SimpleTypes.{entry_of}
-use Rattle.written_types.specs.Declarations.{declaration}
-use Rattle.written_operations.specs.Operations.{Defined, undefined_yet, with_types}
+use Rattle.written_operations.specs.Operations.{Defined, declared, undefined_yet}
 use Rattle.written_operations.specs.Interfaces.{interface}
 
 abbrev mutual
   pub definition : List Entry → ℕ → Defined → Definition → Result Defined BuildFault
   definition es scope d (Pragma p) = Ok d
-  definition es scope d (Declared x) = declaration es d.types scope x >> λ w. Ok (with_types d w)
+  definition es scope d (Declared x) = declared es scope d x
   definition es scope d (InterfaceDcl i) = interface es scope d i
   definition es scope d (Module' id shape definitions) =
       entry_of es scope id >> λ e. definitions_after es (e + 1) d definitions

@@ -16,9 +16,8 @@ use Rattle.written_types.specs.declared.fault.BuildFault.TheVariants.{OtherNames
 use Rattle.written_types.specs.declared.place.Place.TheVariants.{Typed}
 use Rattle.written_types.specs.Faults.{each}
 use Rattle.written_types.specs.SimpleTypes.{entry_of}
-use Rattle.written_types.specs.Declarations.{declaration}
 use Rattle.written_operations.specs.declared.signature.Offered.{Offered}
-use Rattle.written_operations.specs.Operations.{Defined, attribute, operation, with_place, with_types}
+use Rattle.written_operations.specs.Operations.{Defined, attribute, declared, operation, with_place}
 
 -- ---- what is inherited
 
@@ -64,7 +63,7 @@ all_bases d bases = fold (with_base_and_above d) [] bases
 
 abbrev pub export : List Entry → ℕ → Defined → Export → Result Defined BuildFault
 export es scope d (Exports.Pragma p) = Ok d
-export es scope d (Exports.Declaration x) = declaration es d.types scope x >> λ w. Ok (with_types d w)
+export es scope d (Exports.Declaration x) = declared es scope d x
 export es scope d (Exports.Attribute a) = attribute es scope d a
 export es scope d (Exports.Operation o) = operation es scope d o
 

@@ -6,6 +6,7 @@ use Rattle.idl_tree.specs.declared.names.ScopedName.{ScopedName}
 use Rattle.idl_tree.specs.declared.definitions.Attribute.{Attribute}
 use Rattle.idl_tree.specs.declared.definitions.Attributes.{Attributes}
 use Rattle.idl_tree.specs.declared.definitions.Attributes.TheVariants.{Silent, Readonly, Get, Set}
+use Rattle.idl_tree.specs.declared.definitions.Declaration.{Declaration}
 use Rattle.idl_tree.specs.declared.definitions.Direction.TheVariants.{In, Out}
 use Rattle.idl_tree.specs.declared.definitions.Operation.{Operation}
 use Rattle.idl_tree.specs.Lists.{parts}
@@ -17,6 +18,7 @@ use Rattle.written_types.specs.declared.place.Place.{Place}
 use Rattle.written_types.specs.declared.place.Place.TheVariants.{Typed, Raised, Called, Got, GotAndSet}
 use Rattle.written_types.specs.Faults.{each, line_of}
 use Rattle.written_types.specs.Written.{Written, place_of, placed, unwritten}
+use Rattle.written_types.specs.Declarations.{declaration}
 use Rattle.written_types.specs.SimpleTypes.{entry_found, entry_of, param_type}
 use Rattle.written_operations.specs.declared.signature.Role.{Role}
 use Rattle.written_operations.specs.declared.signature.Role.TheVariants as Roles
@@ -38,6 +40,10 @@ undefined_yet entries = record { types = unwritten entries; operations = []; int
 
 abbrev pub with_types : Defined → Written → Defined
 with_types d w = record d { types = w }
+
+-- what is written behind a declaration of a module or an interface
+abbrev pub declared : List Entry → ℕ → Defined → Declaration → Result Defined BuildFault
+declared es scope d x = declaration es d.types scope x >> λ w. Ok (with_types d w)
 
 -- an entry has this from here on
 abbrev pub with_place : Defined → ℕ → Place → Result Defined BuildFault

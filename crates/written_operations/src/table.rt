@@ -1,10 +1,8 @@
 //! The operations that are written so far.
 
 ghost use Rattle.std.specs.Prelude.{◌≡◌, ◌≤◌, length, replicate, None, Ok};
-ghost use Rattle.scoped_names.specs.Reading.{◌>>◌};
-ghost use Rattle.written_types.specs.Declarations.{declaration};
 ghost use Rattle.written_types.specs.Faults.{Tells};
-ghost use Rattle.written_operations.specs.Operations.{requested, undefined_yet, with_call, with_place, with_types};
+ghost use Rattle.written_operations.specs.Operations.{declared, requested, undefined_yet, with_call, with_place};
 
 use crate::frames::{Carried, write_frames};
 use crate::signature::{Offered, Role, Signature};
@@ -130,8 +128,7 @@ impl OperationTable {
         d: &Declaration<'a>,
     ) -> Result<OperationTable, BuildFault>
         requires { scope ≤ length names.now.entries }
-        ensures { Tells result (λ table. table)
-            (declaration names.now.entries self.types scope d.now >> λ w. Ok (with_types self w)) }
+        ensures { Tells result (λ table. table) (declared names.now.entries scope self d.now) }
     {
         let OperationTable {
             types,
