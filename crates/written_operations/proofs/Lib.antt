@@ -1,3 +1,5 @@
 pub mod Lengths
 pub mod PlacesMore
 pub mod ModuleWalks
+pub mod Refused
+mod Kept

@@ -4,8 +4,8 @@ use Rattle.std.specs.List.{fold, range_with_len}
 use Rattle.std.proofs.Math.Seq.{append_snoc}
 use Rattle.std.proofs.lemmas.Option.{get_or_from_slice_get, slice_get_within}
 use Rattle.name_table.specs.declared.entry.Base.{Base}
+use Rattle.written_types.proofs.Parts.{split_at}
 use Rattle.written_operations.specs.Operations.{Defined}
-use Rattle.written_types.proofs.Folds.{fold_from}
 use Rattle.written_operations.specs.Interfaces.{all_bases_of, operations_of, with_base, with_base_and_above, with_once}
 
 -- the first of the numbers from k to before e, and the others
@@ -24,7 +24,8 @@ range_more xs ys all k e lt pushed told =
 pub step_more : (step : List ℕ → Base → List ℕ) (bases : List Base) (k : ℕ) (b : Base) (old new all : List ℕ) → slice_get bases k ≡ Some b
     → new ≡ step old b → fold step old (drop k bases) ≡ all → fold step new (drop (k + 1) bases) ≡ all
 step_more step bases k b old new all there told left =
-    fold_from step old new bases k b told (slice_get_within bases k b there) (sym (get_or_from_slice_get bases k b b there)) ∙ left
+    let split = split_at bases k b (slice_get_within bases k b there) (sym (get_or_from_slice_get bases k b b there)) in
+    ap (λ t. fold step t (drop (k + 1) bases)) told ∙ sym (ap (fold step old) split) ∙ left
 
 -- the operations of one base more
 pub base_more : (d : Defined) (bases : List Base) (k : ℕ) (b : Base) (old new more all : List ℕ) → slice_get bases k ≡ Some b

@@ -1,51 +1,65 @@
 -- What a request and its reply carry (ISO/IEC 19500-2, GIOP message formats): a request the `in` and `inout` parameters
 -- in order, a reply the result and then the `inout` and `out` parameters in order.
-use Rattle.std.specs.Prelude.{ℕ, List, [], ◌∷◌, ◌++◌, Option, Some, None}
-use Rattle.std.specs.List.{fold}
-use Rattle.idl_tree.specs.declared.names.Listed.{Listed}
+use Rattle.std.specs.Prelude.{ℕ, List, length, Option, Some, None, Result, Ok}
 use Rattle.idl_tree.specs.declared.types.ParamType.{ParamType}
 use Rattle.idl_tree.specs.declared.definitions.Direction.{Direction}
 use Rattle.idl_tree.specs.declared.definitions.Direction.TheVariants.{In, Out, InOut}
+use Rattle.idl_tree.specs.declared.definitions.Operation.{Operation}
 use Rattle.idl_tree.specs.declared.definitions.Param.{Param}
 use Rattle.type_graph.specs.declared.node.Node.TheVariants.{Frame}
 use Rattle.name_table.specs.Entry.{Entry}
-use Rattle.written_types.specs.Written.{Written, with_node}
+use Rattle.scoped_names.specs.Reading.{◌>>◌}
+use Rattle.written_types.specs.declared.fault.BuildFault.{BuildFault}
+use Rattle.written_types.specs.Faults.{each, line_of}
+use Rattle.written_types.specs.Members.{Members}
+use Rattle.written_types.specs.Written.{Written, Numbered, added, already, counted}
 use Rattle.written_types.specs.SimpleTypes.{param_type}
+use Rattle.written_types.specs.Types.{member_added, no_members}
 use Rattle.written_operations.specs.declared.frames.Carried.{Carried}
+use Rattle.written_operations.specs.declared.frames.Carrying.{Carrying}
 use Rattle.written_operations.specs.Oneway.{parts_of}
 
--- what is written, and the numbers of the types that a request and its reply carry
-pub record Carrying : Type 0 where
-  pub written : Written
-  pub carried : Carried
-
+-- what is written, and what a request and its reply carry of it
 abbrev pub carrying : Written → Carried → Carrying
-carrying w c = record { written = w; carried = c }
-
--- one type more
-abbrev pub with_carried : Carried → Direction → ℕ → Carried
-with_carried c In number = record c { request = c.request ++ number ∷ [] }
-with_carried c Out number = record c { reply = c.reply ++ number ∷ [] }
-with_carried c InOut number = record { request = c.request ++ number ∷ []; reply = c.reply ++ number ∷ [] }
-
-abbrev pub with_param : List Entry → ℕ → Carrying → Param → Carrying
-with_param es scope c p =
-    let t = param_type es c.written scope p.param_type in
-    carrying t.written (with_carried c.carried p.direction t.number)
+carrying w c = record { types = w; carried = c }
 
 abbrev pub nothing_carried : Carried
-nothing_carried = record { request = []; reply = [] }
+nothing_carried = record { request = no_members; reply = no_members }
 
--- `void` is None
-abbrev pub result_carried : List Entry → Written → ℕ → Option ParamType → Carrying
-result_carried es w scope None = carrying w nothing_carried
-result_carried es w scope (Some result) =
-    let t = param_type es w scope result in carrying t.written (with_carried nothing_carried Out t.number)
+-- one type more, of what stands in the line
+abbrev pub with_carried : Carried → Direction → ℕ → ℕ → Result Carried BuildFault
+with_carried c In number line = member_added c.request number line >> λ ms. Ok (record c { request = ms })
+with_carried c Out number line = member_added c.reply number line >> λ ms. Ok (record c { reply = ms })
+with_carried c InOut number line =
+    member_added c.request number line >> λ request.
+    member_added c.reply number line >> λ reply. Ok (record { request = request; reply = reply })
+
+abbrev pub with_param : List Entry → ℕ → Carrying → Param → Result Carrying BuildFault
+with_param es scope c p =
+    param_type es c.types scope p.param_type >> λ t.
+    with_carried c.carried p.direction t.number (line_of p.identifier) >> λ more. Ok (carrying t.written more)
+
+-- the result of an operation that stands in the line; `void` is None
+abbrev pub result_carried : List Entry → Written → ℕ → ℕ → Option ParamType → Result Carrying BuildFault
+result_carried es w scope line None = Ok (carrying w nothing_carried)
+result_carried es w scope line (Some result) =
+    param_type es w scope result >> λ t.
+    with_carried nothing_carried Out t.number line >> λ c. Ok (carrying t.written c)
 
 -- the result and the parameters of an operation
-abbrev pub all_carried : List Entry → Written → ℕ → Option ParamType → Option (Listed Param) → Carrying
-all_carried es w scope result params = fold (with_param es scope) (result_carried es w scope result) (parts_of params)
+abbrev pub all_carried : List Entry → Written → ℕ → Operation → Result Carrying BuildFault
+all_carried es w scope o =
+    result_carried es w scope (line_of o.identifier) o.result_type >> λ c.
+    each (with_param es scope) c (parts_of o.params)
 
--- the frame of a request, and behind it that of its reply
-abbrev pub with_frames : Written → Carried → Written
-with_frames w c = with_node (with_node w (Frame c.request)) (Frame c.reply)
+-- a frame of what is carried, of an operation that stands in the line
+abbrev pub frame_added : Written → Members → ℕ → Result Numbered BuildFault
+frame_added w ms line =
+    counted w (length ms.numbers) line >> λ v.
+    added v (Frame ms.numbers) (record { line = line; held = ms.lines })
+
+-- the frame of a request, whose number it is, and behind it that of its reply
+abbrev pub frames_added : Written → Carried → ℕ → Result Numbered BuildFault
+frames_added w c line =
+    frame_added w c.request line >> λ request.
+    frame_added request.written c.reply line >> λ reply. Ok (already reply.written request.number)

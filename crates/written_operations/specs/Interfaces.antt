@@ -1,7 +1,7 @@
 -- Interfaces (ISO/IEC 19500-1, interface declaration): an interface has the operations of its bases in order, each once,
 -- and then its own. It inherits from each base and from all that the base inherits from. Its name is that of a type, the
 -- reference of an object.
-use Rattle.std.specs.Prelude.{ℕ, Bool, ◌-◌, ◌<◌, ◌≡◌, cond, nat_eq, List, [], ◌∷◌, ◌++◌, length, All, IfSome, Option, Some, None, slice_get, slice_index_or, slice_set}
+use Rattle.std.specs.Prelude.{ℕ, ◌+◌, ◌-◌, cond, nat_eq, nat_lt, if◌then◌else◌, List, [], ◌∷◌, ◌++◌, length, Option, Some, None, Result, Ok, Err, slice_get, slice_set}
 use Rattle.std.specs.List.{fold, list_any, range_with_len}
 use Rattle.idl_tree.specs.declared.names.Leaf.{Leaf}
 use Rattle.idl_tree.specs.declared.definitions.Export.{Export}
@@ -9,25 +9,23 @@ use Rattle.idl_tree.specs.declared.definitions.Export.TheVariants as Exports
 use Rattle.idl_tree.specs.declared.definitions.Interface.{Interface}
 use Rattle.idl_tree.specs.declared.definitions.Interface.TheVariants.{Ahead, Defined as Body}
 use Rattle.name_table.specs.declared.entry.Base.{Base}
-use Rattle.name_table.specs.Entry.{Entry, bases_of, named}
-use Rattle.name_table.specs.Entries.{scope_number}
-use Rattle.name_table.specs.Search.{word}
+use Rattle.name_table.specs.Entry.{Entry, bases_in}
+use Rattle.scoped_names.specs.Reading.{◌>>◌}
+use Rattle.written_types.specs.declared.fault.BuildFault.{BuildFault}
+use Rattle.written_types.specs.declared.fault.BuildFault.TheVariants.{OtherNames}
+use Rattle.written_types.specs.declared.place.Place.{Place}
 use Rattle.written_types.specs.declared.place.Place.TheVariants.{Typed}
-use Rattle.written_types.specs.Written.{with_place}
-use Rattle.written_types.specs.Declarations.{declaration}
+use Rattle.written_types.specs.Faults.{each}
+use Rattle.written_types.specs.SimpleTypes.{entry_of}
+use Rattle.written_types.specs.Written.{place_of}
 use Rattle.written_operations.specs.declared.signature.Offered.{Offered}
-use Rattle.written_operations.specs.Oneway.{KeepsOneway}
-use Rattle.written_operations.specs.Operations.{Defined, attribute, operation, with_types}
+use Rattle.written_operations.specs.Operations.{Defined, attribute, declared, operation, with_place}
 
 -- ---- what is inherited
 
 -- one number more, unless it is there
 abbrev pub with_once : List ℕ → ℕ → List ℕ
-with_once places p = cond (list_any (nat_eq p) places) places (places ++ p ∷ [])
-
--- of each operation it is marked whether its place is there
-abbrev pub AreMarked : List Bool → List ℕ → Type 0
-AreMarked seen places = (k : ℕ) (d : Bool) → k < length seen → slice_index_or seen k d ≡ list_any (nat_eq k) places
+with_once numbers n = cond (list_any (nat_eq n) numbers) numbers (numbers ++ n ∷ [])
 
 abbrev pub offered_in : Option (Option Offered) → Option Offered
 offered_in None = None
@@ -65,43 +63,44 @@ all_bases d bases = fold (with_base_and_above d) [] bases
 
 -- ---- what stands in an interface
 
-abbrev pub export : List Entry → ℕ → Defined → Export → Defined
-export es scope d (Exports.Pragma p) = d
-export es scope d (Exports.Declaration x) = with_types d (declaration es d.types scope x)
+abbrev pub export : List Entry → ℕ → Defined → Export → Result Defined BuildFault
+export es scope d (Exports.Pragma p) = Ok d
+export es scope d (Exports.Declaration x) = declared es scope d x
 export es scope d (Exports.Attribute a) = attribute es scope d a
 export es scope d (Exports.Operation o) = operation es scope d o
 
--- only operations from which nothing comes back are oneway
-abbrev pub KeepsRules : Export → Type 0
-KeepsRules (Exports.Pragma p) = Unit {0}
-KeepsRules (Exports.Declaration x) = Unit {0}
-KeepsRules (Exports.Attribute a) = Unit {0}
-KeepsRules (Exports.Operation o) = KeepsOneway o
-
 -- ---- interfaces
 
--- the entry is the name of an object reference
-abbrev pub as_reference : Defined → Option ℕ → Defined
-as_reference d e = with_types d (with_place d.types e (Typed 13))
+-- the entry is the name of an object reference; an interface may be declared ahead any number of times
+abbrev pub reference_at : Defined → ℕ → Option Place → Result Defined BuildFault
+reference_at d e None = with_place d e (Typed 13)
+reference_at d e (Some (Typed n)) = (if nat_eq n 13 then Ok d else Err OtherNames)
+reference_at d e _ = Err OtherNames
+
+abbrev pub as_reference : Defined → ℕ → Result Defined BuildFault
+as_reference d e = reference_at d e (place_of d.types e)
 
 -- the places of the operations that are written from the first on
 abbrev pub from_on : ℕ → Defined → List ℕ
 from_on first d = range_with_len first (length d.operations - first)
 
-abbrev pub offering : List ℕ → List ℕ → Offered
-offering operations bases = record { operations = operations; bases = bases }
+-- what an interface has, whose first operation has the place
+abbrev pub offering : Defined → ℕ → List Base → Offered
+offering d first bases = record { operations = inherited d bases ++ from_on first d; bases = all_bases d bases }
 
 -- an entry is an interface that has this
-abbrev pub with_interface : Defined → Option ℕ → Offered → Defined
-with_interface d None o = d
-with_interface d (Some e) o = record d { interfaces = slice_set d.interfaces e (Some o) }
+abbrev pub with_interface : Defined → ℕ → Offered → Result Defined BuildFault
+with_interface d e o =
+    (if nat_lt e (length d.interfaces)
+    then Ok (record d { interfaces = slice_set d.interfaces e (Some o) })
+    else Err OtherNames)
 
 -- the interface of an entry, with what stands in it
-abbrev pub interface_of : List Entry → Defined → Option ℕ → List Export → Defined
+abbrev pub interface_of : List Entry → Defined → ℕ → List Export → Result Defined BuildFault
 interface_of es d e exports =
-    let b = fold (export es (scope_number e)) (as_reference d e) exports in
-    let bases = bases_of es (scope_number e) in
-    with_interface b e (offering (inherited b bases ++ from_on (length d.operations) b) (all_bases b bases))
+    as_reference d e >> λ r.
+    each (export es (e + 1)) r exports >> λ b.
+    with_interface b e (offering b (length d.operations) (bases_in (slice_get es e)))
 
 abbrev pub identifier_of : Interface → Leaf
 identifier_of (Ahead id) = id
@@ -112,12 +111,9 @@ abbrev pub exports_of : Interface → Option (List Export)
 exports_of (Ahead id) = None
 exports_of (Body id bases exports) = Some exports.items
 
-abbrev pub interface_as : List Entry → Defined → Option ℕ → Option (List Export) → Defined
+abbrev pub interface_as : List Entry → Defined → ℕ → Option (List Export) → Result Defined BuildFault
 interface_as es d e None = as_reference d e
 interface_as es d e (Some exports) = interface_of es d e exports
 
-abbrev pub interface : List Entry → ℕ → Defined → Interface → Defined
-interface es scope d i = interface_as es d (named es scope (word (identifier_of i))) (exports_of i)
-
-abbrev pub KeepsAllRules : Interface → Type 0
-KeepsAllRules i = IfSome (exports_of i) (All KeepsRules)
+abbrev pub interface : List Entry → ℕ → Defined → Interface → Result Defined BuildFault
+interface es scope d i = entry_of es scope (identifier_of i) >> λ e. interface_as es d e (exports_of i)

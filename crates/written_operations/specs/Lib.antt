@@ -4,3 +4,4 @@ pub mod Frames
 pub mod Operations
 pub mod Interfaces
 pub mod Definitions
+pub mod Kept

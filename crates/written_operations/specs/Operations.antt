@@ -1,30 +1,32 @@
 -- Operations and attributes (ISO/IEC 19500-1, operation declaration, attribute declaration). An attribute `x` is got by
 -- the operation `_get_x`, and set by `_set_x` unless it is readonly.
-use Rattle.std.specs.Prelude.{ℕ, Bool, true, false, List, [], ◌∷◌, ◌++◌, map, replicate, Option, Some, None}
-use Rattle.std.specs.List.{fold}
+use Rattle.std.specs.Prelude.{ℕ, Bool, true, false, List, [], ◌∷◌, ◌++◌, replicate, Option, Some, None, Result, Ok, Err}
 use Rattle.idl_tree.specs.declared.names.Leaf.{Leaf}
 use Rattle.idl_tree.specs.declared.names.ScopedName.{ScopedName}
 use Rattle.idl_tree.specs.declared.definitions.Attribute.{Attribute}
 use Rattle.idl_tree.specs.declared.definitions.Attributes.{Attributes}
 use Rattle.idl_tree.specs.declared.definitions.Attributes.TheVariants.{Silent, Readonly, Get, Set}
+use Rattle.idl_tree.specs.declared.definitions.Declaration.{Declaration}
 use Rattle.idl_tree.specs.declared.definitions.Direction.TheVariants.{In, Out}
 use Rattle.idl_tree.specs.declared.definitions.Operation.{Operation}
 use Rattle.idl_tree.specs.Lists.{parts}
-use Rattle.name_table.specs.Entry.{Entry, named}
-use Rattle.name_table.specs.Search.{finds, word}
-use Rattle.name_table.specs.declared.search.Found.{Found}
-use Rattle.name_table.specs.declared.search.Found.TheVariants.{Nothing, One, Several}
+use Rattle.name_table.specs.Entry.{Entry}
+use Rattle.scoped_names.specs.Reading.{◌>>◌}
+use Rattle.written_types.specs.declared.fault.BuildFault.{BuildFault}
+use Rattle.written_types.specs.declared.fault.BuildFault.TheVariants.{OtherNames}
 use Rattle.written_types.specs.declared.place.Place.{Place}
 use Rattle.written_types.specs.declared.place.Place.TheVariants.{Typed, Raised, Called, Got, GotAndSet}
-use Rattle.written_types.specs.Written.{Written, next, none_such, place_of, unwritten, with_place}
-use Rattle.written_types.specs.SimpleTypes.{param_type}
+use Rattle.written_types.specs.Faults.{each, line_of}
+use Rattle.written_types.specs.Written.{Written, place_of, placed, unwritten}
+use Rattle.written_types.specs.Declarations.{declaration}
+use Rattle.written_types.specs.SimpleTypes.{entry_found, entry_of, param_type}
 use Rattle.written_operations.specs.declared.signature.Role.{Role}
 use Rattle.written_operations.specs.declared.signature.Role.TheVariants as Roles
 use Rattle.written_operations.specs.declared.signature.Signature.{Signature}
 use Rattle.written_operations.specs.declared.signature.Offered.{Offered}
 use Rattle.written_operations.specs.declared.frames.Carried.{Carried}
-use Rattle.written_operations.specs.Oneway.{parts_of}
-use Rattle.written_operations.specs.Frames.{all_carried, nothing_carried, with_carried, with_frames}
+use Rattle.written_operations.specs.Oneway.{not, oneway_test, parts_of}
+use Rattle.written_operations.specs.Frames.{all_carried, frames_added, nothing_carried, with_carried}
 
 -- the types, the operations in order, and what each entry that is a defined interface has
 pub record Defined : Type 0 where
@@ -36,60 +38,68 @@ pub record Defined : Type 0 where
 abbrev pub undefined_yet : ℕ → Defined
 undefined_yet entries = record { types = unwritten entries; operations = []; interfaces = replicate entries None }
 
--- ---- what is raised
-
--- the place of an exception among the exceptions; where it is none, more than any place
-abbrev pub exception_in : Option Place → ℕ
-exception_in None = none_such
-exception_in (Some (Raised frame place)) = place
-exception_in (Some (Typed n)) = none_such
-exception_in (Some (Called request)) = none_such
-exception_in (Some (Got request)) = none_such
-exception_in (Some (GotAndSet request)) = none_such
-
-abbrev pub found_exception : Written → Found → ℕ
-found_exception w Nothing = none_such
-found_exception w (One e) = exception_in (place_of w e)
-found_exception w Several = none_such
-
--- the places of the exceptions that names find
-abbrev pub raised : List Entry → Written → ℕ → List ScopedName → List ℕ
-raised es w scope names = map (λ name. found_exception w (finds es scope name)) names
-
--- ---- operations
-
--- the frames of a request and its reply more, by which the entry is called
-abbrev pub with_call : Defined → Carried → Bool → List ℕ → Role → ℕ → Defined
-with_call d c oneway raises role e = record {
-  types = with_frames d.types c;
-  operations = d.operations
-      ++ record { entry = e; role = role; is_oneway = oneway; request = next d.types; raises = raises } ∷ [];
-  interfaces = d.interfaces;
-}
-
 abbrev pub with_types : Defined → Written → Defined
 with_types d w = record d { types = w }
 
+-- what is written behind a declaration of a module or an interface
+abbrev pub declared : List Entry → ℕ → Defined → Declaration → Result Defined BuildFault
+declared es scope d x = declaration es d.types scope x >> λ w. Ok (with_types d w)
+
 -- an entry has this from here on
-abbrev pub placed : Defined → ℕ → Place → Defined
-placed d e p = with_types d (with_place d.types (Some e) p)
+abbrev pub with_place : Defined → ℕ → Place → Result Defined BuildFault
+with_place d e p = placed d.types e p >> λ w. Ok (with_types d w)
 
-abbrev pub with_operation : Defined → Carried → Bool → List ℕ → Option ℕ → Defined
-with_operation d c oneway raises None = d
-with_operation d c oneway raises (Some e) =
-    placed (with_call d c oneway raises Roles.Operation e) e (Called (next d.types))
+-- ---- what is raised
 
-abbrev pub operation : List Entry → ℕ → Defined → Operation → Defined
+-- the place of an exception among the exceptions
+abbrev pub exception_in : Option Place → Result ℕ BuildFault
+exception_in None = Err OtherNames
+exception_in (Some (Raised frame place)) = Ok place
+exception_in (Some (Typed n)) = Err OtherNames
+exception_in (Some (Called request)) = Err OtherNames
+exception_in (Some (Got request)) = Err OtherNames
+exception_in (Some (GotAndSet request)) = Err OtherNames
+
+abbrev pub exception_found : List Entry → Written → ℕ → ScopedName → Result ℕ BuildFault
+exception_found es w scope name = entry_found es scope name >> λ e. exception_in (place_of w e)
+
+abbrev pub with_exception : List Entry → Written → ℕ → List ℕ → ScopedName → Result (List ℕ) BuildFault
+with_exception es w scope places name = exception_found es w scope name >> λ place. Ok (places ++ place ∷ [])
+
+-- the places of the exceptions that names find
+abbrev pub raised : List Entry → Written → ℕ → List ScopedName → Result (List ℕ) BuildFault
+raised es w scope names = each (with_exception es w scope) [] names
+
+-- ---- operations
+
+-- what is written behind a call, and the number of the frame of its request
+pub record Requested : Type 0 where
+  pub defined : Defined
+  pub request : ℕ
+
+abbrev pub requested : Defined → ℕ → Requested
+requested d request = record { defined = d; request = request }
+
+-- a way to call an entry that stands in the line: the frames of its request and its reply, and what it raises
+abbrev pub with_call : Defined → Carried → Bool → List ℕ → Role → ℕ → ℕ → Result Requested BuildFault
+with_call d c oneway raises role e line =
+    frames_added d.types c line >> λ f. Ok (requested (record {
+      types = f.written;
+      operations = d.operations
+          ++ record { entry = e; role = role; is_oneway = oneway; request = f.number; raises = raises } ∷ [];
+      interfaces = d.interfaces;
+    }) f.number)
+
+abbrev pub operation : List Entry → ℕ → Defined → Operation → Result Defined BuildFault
 operation es scope d o =
-    let c = all_carried es d.types scope o.result_type o.params in
-    with_operation (with_types d c.written) c.carried o.is_oneway (raised es c.written scope (parts_of o.raises))
-    (named es scope (word o.identifier))
+    oneway_test o >> λ u.
+    all_carried es d.types scope o >> λ c.
+    raised es c.types scope (parts_of o.raises) >> λ raises.
+    entry_of es scope o.identifier >> λ e.
+    with_call (with_types d c.types) c.carried o.is_oneway raises Roles.Operation e (line_of o.identifier) >> λ r.
+    with_place r.defined e (Called r.request)
 
 -- ---- attributes
-
-abbrev pub not : Bool → Bool
-not true = false
-not false = true
 
 -- whether attributes that are declared together are set too
 abbrev pub is_set : Attributes → Bool
@@ -113,24 +123,29 @@ set_raises (Get id get set) = parts_of set
 set_raises (Set id set) = parts set
 
 -- the attribute of the type that has the number is got
-abbrev pub with_get : Defined → ℕ → List ℕ → ℕ → Defined
-with_get d number raises e = with_call d (with_carried nothing_carried Out number) false raises Roles.Getting e
+abbrev pub with_get : Defined → ℕ → List ℕ → ℕ → ℕ → Result Requested BuildFault
+with_get d number raises e line =
+    with_carried nothing_carried Out number line >> λ c. with_call d c false raises Roles.Getting e line
 
 -- it is set
-abbrev pub with_set : Defined → ℕ → List ℕ → ℕ → Defined
-with_set d number raises e = with_call d (with_carried nothing_carried In number) false raises Roles.Setting e
+abbrev pub with_set : Defined → ℕ → List ℕ → ℕ → ℕ → Result Requested BuildFault
+with_set d number raises e line =
+    with_carried nothing_carried In number line >> λ c. with_call d c false raises Roles.Setting e line
 
-abbrev pub with_access : Defined → ℕ → Bool → List ℕ → List ℕ → Option ℕ → Defined
-with_access d number settable get set None = d
-with_access d number false get set (Some e) = placed (with_get d number get e) e (Got (next d.types))
-with_access d number true get set (Some e) =
-    placed (with_set (with_get d number get e) number set e) e (GotAndSet (next d.types))
+-- it is set too, if it may be
+abbrev pub with_access : Requested → ℕ → Bool → List ℕ → ℕ → ℕ → Result Defined BuildFault
+with_access got number false raises e line = with_place got.defined e (Got got.request)
+with_access got number true raises e line =
+    with_set got.defined number raises e line >> λ set. with_place set.defined e (GotAndSet got.request)
 
 -- one of the attributes, of the type that has the number
-abbrev pub with_attribute : List Entry → ℕ → ℕ → Attributes → Defined → Leaf → Defined
+abbrev pub with_attribute : List Entry → ℕ → ℕ → Attributes → Defined → Leaf → Result Defined BuildFault
 with_attribute es scope number a d id =
-    with_access d number (is_set a) (raised es d.types scope (get_raises a)) (raised es d.types scope (set_raises a))
-    (named es scope (word id))
+    raised es d.types scope (get_raises a) >> λ get.
+    raised es d.types scope (set_raises a) >> λ set.
+    entry_of es scope id >> λ e.
+    with_get d number get e (line_of id) >> λ got.
+    with_access got number (is_set a) set e (line_of id)
 
 -- the identifiers of attributes that are declared together
 abbrev pub attribute_identifiers : Attributes → List Leaf
@@ -140,7 +155,7 @@ attribute_identifiers (Get id get set) = id ∷ []
 attribute_identifiers (Set id set) = id ∷ []
 
 -- attributes that are declared together have one type, which is written once
-abbrev pub attribute : List Entry → ℕ → Defined → Attribute → Defined
+abbrev pub attribute : List Entry → ℕ → Defined → Attribute → Result Defined BuildFault
 attribute es scope d a =
-    let t = param_type es d.types scope a.attribute_type in
-    fold (with_attribute es scope t.number a.declared) (with_types d t.written) (attribute_identifiers a.declared)
+    param_type es d.types scope a.attribute_type >> λ t.
+    each (with_attribute es scope t.number a.declared) (with_types d t.written) (attribute_identifiers a.declared)

@@ -1,15 +1,13 @@
 //! What requests and replies carry.
 
-ghost use Rattle.std.specs.Prelude.{◌≡◌, ◌≤◌, length, IfOk, OnOk};
-ghost use Rattle.std.specs.List.{fold};
+ghost use Rattle.std.specs.Prelude.{◌≡◌, ◌≤◌, length};
 ghost use Rattle.idl_tree.specs.Lists.{parts};
-ghost use Rattle.type_graph.specs.declared.node.Node.TheVariants.{Frame};
-ghost use Rattle.written_types.specs.Written.{next, with_node};
-ghost use Rattle.written_operations.specs.Frames.{all_carried, carrying, nothing_carried, result_carried, with_carried, with_frames, with_param};
+ghost use Rattle.written_types.specs.Faults.{Tells, each};
+ghost use Rattle.written_types.specs.Written.{already};
+ghost use Rattle.written_operations.specs.Frames.{all_carried, frame_added, frames_added, nothing_carried, result_carried, with_carried, with_param};
 
-use idl_tree::definitions::{Direction, Param};
+use idl_tree::definitions::{Direction, Operation, Param};
 use idl_tree::names::Listed;
-use idl_tree::types::ParamType;
 use scoped_names::Names;
 use std::alloc::Global;
 use type_graph::Node;
@@ -20,6 +18,13 @@ use written_types::{BuildFault, MemberList, NodeLines, TypeTable};
 pub(crate) struct Carried {
     pub request: MemberList,
     pub reply: MemberList,
+}
+
+/// What is written, and what a request and its reply carry of it.
+#[derive(Drop)]
+pub(crate) struct Carrying {
+    pub types: TypeTable,
+    pub carried: Carried,
 }
 
 impl Carried {
@@ -36,129 +41,140 @@ impl Carried {
     /// One type more, of what stands in the line.
     ///
     /// # Errors
-    /// Those of `MemberList::push`.
-    pub fn carry(
-        &mut self,
+    /// Those of `MemberList::with_member`.
+    pub fn with_type(
+        self,
         direction: Direction,
         number: u32,
         line: usize,
-    ) -> Result<(), BuildFault>
-        ensures { OnOk result (self.new ≡ with_carried self.old direction number) }
+    ) -> Result<Carried, BuildFault>
+        ensures { Tells result (λ c. c) (with_carried self direction number line) }
     {
+        let Carried { request, reply } = self;
         match direction {
-            Direction::In => self.request.push(number, line),
-            Direction::Out => self.reply.push(number, line),
+            Direction::In => {
+                let request = request.with_member(number, line)?;
+                Ok(Carried { request, reply })
+            }
+            Direction::Out => {
+                let reply = reply.with_member(number, line)?;
+                Ok(Carried { request, reply })
+            }
             Direction::InOut => {
-                self.request.push(number, line)?;
-                self.reply.push(number, line)
+                let request = request.with_member(number, line)?;
+                let reply = reply.with_member(number, line)?;
+                Ok(Carried { request, reply })
             }
         }
     }
 }
 
-fn write_param<'a>(
-    types: &mut TypeTable,
-    alloc: Global,
-    names: &Names<'a>,
-    scope: usize,
-    param: &Param<'a>,
-    carried: &mut Carried,
-) -> Result<(), BuildFault>
-    requires { scope ≤ length names.now.entries }
-    ensures { OnOk result (carrying types.new carried.new ≡
-        with_param names.now.entries scope (carrying types.old carried.old) param.now) }
-{
-    let line = param.identifier.token.line;
-    let number = types.write_param_type(alloc, names, scope, &param.param_type)?;
-    carried.carry(param.direction, number, line)
+impl Carrying {
+    fn with_param<'a>(
+        self,
+        alloc: Global,
+        names: &Names<'a>,
+        scope: usize,
+        param: &Param<'a>,
+    ) -> Result<Carrying, BuildFault>
+        requires { scope ≤ length names.now.entries }
+        ensures { Tells result (λ c. c) (with_param names.now.entries scope self param.now) }
+    {
+        let Carrying { types, carried } = self;
+        let line = param.identifier.token.line;
+        let (types, number) = types.with_param_type(alloc, names, scope, &param.param_type)?;
+        let carried = carried.with_type(param.direction, number, line)?;
+        Ok(Carrying { types, carried })
+    }
+
+    fn with_params<'a>(
+        self,
+        alloc: Global,
+        names: &Names<'a>,
+        scope: usize,
+        params: &Listed<Param<'a>>,
+    ) -> Result<Carrying, BuildFault>
+        requires { scope ≤ length names.now.entries }
+        ensures { Tells result (λ c. c) (each (with_param names.now.entries scope) self (parts params.now)) }
+    {
+        let mut carrying = self;
+        for param in params.iter() {
+            carrying = carrying.with_param(alloc, names, scope, param)?;
+        }
+        Ok(carrying)
+    }
 }
 
 /// The result of an operation that stands in the line.
 fn write_result<'a>(
-    types: &mut TypeTable,
+    types: TypeTable,
     alloc: Global,
     names: &Names<'a>,
     scope: usize,
-    result_type: &Option<ParamType<'a>>,
     line: usize,
-) -> Result<Carried, BuildFault>
+    o: &Operation<'a>,
+) -> Result<Carrying, BuildFault>
     requires { scope ≤ length names.now.entries }
-    ensures { IfOk result (λ carried. carrying types.new carried ≡
-        result_carried names.now.entries types.old scope result_type.now) }
+    ensures { Tells result (λ c. c) (result_carried names.now.entries types scope line o.now.result_type) }
 {
-    let mut carried = Carried::new(alloc);
-    if let Some(t) = result_type {
-        let number = types.write_param_type(alloc, names, scope, t)?;
-        carried.carry(Direction::Out, number, line)?;
-    }
-    Ok(carried)
+    let carried = Carried::new(alloc);
+    let Some(t) = &o.result_type else {
+        return Ok(Carrying { types, carried });
+    };
+    let (types, number) = types.with_param_type(alloc, names, scope, t)?;
+    let carried = carried.with_type(Direction::Out, number, line)?;
+    Ok(Carrying { types, carried })
 }
 
-/// The result and the parameters of an operation that stands in the line.
+/// The result and the parameters of an operation.
 ///
 /// # Errors
-/// Those of `TypeTable::write_param_type` and `MemberList::push`.
+/// Those of `TypeTable::with_param_type` and `MemberList::with_member`.
 pub(crate) fn write_carried<'a>(
-    types: &mut TypeTable,
+    types: TypeTable,
     alloc: Global,
     names: &Names<'a>,
     scope: usize,
-    result_type: &Option<ParamType<'a>>,
-    params: &Option<Listed<Param<'a>>>,
+    o: &Operation<'a>,
+) -> Result<Carrying, BuildFault>
+    requires { scope ≤ length names.now.entries }
+    ensures { Tells result (λ c. c) (all_carried names.now.entries types scope o.now) }
+{
+    let line = o.identifier.token.line;
+    let carrying = write_result(types, alloc, names, scope, line, o)?;
+    match &o.params {
+        Some(params) => carrying.with_params(alloc, names, scope, params),
+        None => Ok(carrying),
+    }
+}
+
+/// A frame of an operation that stands in the line, with the lines of what it carries; gives its
+/// number.
+fn write_frame(
+    types: TypeTable,
+    members: MemberList,
     line: usize,
-) -> Result<Carried, BuildFault>
-    requires { scope ≤ length names.now.entries }
-    ensures { IfOk result (λ carried. carrying types.new carried ≡
-        all_carried names.now.entries types.old scope result_type.now params.now) }
+) -> Result<(TypeTable, u32), BuildFault>
+    ensures { Tells result (λ r. already r.0 r.1) (frame_added types members line) }
 {
-    let mut carried = write_result(types, alloc, names, scope, result_type, line)?;
-    if let Some(params) = params {
-        write_params(types, alloc, names, scope, params, &mut carried)?;
-    }
-    Ok(carried)
-}
-
-fn write_params<'a>(
-    types: &mut TypeTable,
-    alloc: Global,
-    names: &Names<'a>,
-    scope: usize,
-    params: &Listed<Param<'a>>,
-    carried: &mut Carried,
-) -> Result<(), BuildFault>
-    requires { scope ≤ length names.now.entries }
-    ensures { OnOk result (carrying types.new carried.new ≡
-        fold (with_param names.now.entries scope) (carrying types.old carried.old) (parts params.now)) }
-{
-    for param in params.iter() {
-        write_param(types, alloc, names, scope, param, carried)?;
-    }
-    Ok(())
-}
-
-/// A frame of an operation that stands in the line, with the lines of what it carries.
-fn write_frame(types: &mut TypeTable, members: MemberList, line: usize) -> Result<u32, BuildFault>
-    ensures told { OnOk result (types.new ≡ with_node types.old (Frame members)) }
-    ensures number { IfOk result (λ n. n ≡ next types.old) }
-{
-    types.count_members(members.len(), line)?;
+    let types = types.with_members(members.len(), line)?;
     let (members, held) = members.into_parts();
-    types.add(Node::Frame { members }, NodeLines { line, held })
+    types.with_node(Node::Frame { members }, NodeLines::new(line, held))
 }
 
 /// The frames of a request and its reply; gives the number of the first.
 ///
 /// # Errors
-/// `Limit` where there are too many nodes or members.
+/// `Limit` where there are too many nodes or members, want of memory.
 pub(crate) fn write_frames(
-    types: &mut TypeTable,
+    types: TypeTable,
     carried: Carried,
     line: usize,
-) -> Result<u32, BuildFault>
-    ensures told { OnOk result (types.new ≡ with_frames types.old carried) }
-    ensures number { IfOk result (λ n. n ≡ next types.old) }
+) -> Result<(TypeTable, u32), BuildFault>
+    ensures { Tells result (λ r. already r.0 r.1) (frames_added types carried line) }
 {
-    let request = write_frame(types, carried.request, line)?;
-    write_frame(types, carried.reply, line)?;
-    Ok(request)
+    let Carried { request, reply } = carried;
+    let (types, number) = write_frame(types, request, line)?;
+    let (types, _) = write_frame(types, reply, line)?;
+    Ok((types, number))
 }

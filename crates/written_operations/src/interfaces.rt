@@ -1,11 +1,11 @@
 //! Interfaces.
 
-ghost use Rattle.std.specs.Prelude.{◌≡◌, ◌≤◌, ◌<◌, ◌^◌, suc, All, length, IfOk, OnOk, Some, option_copied, slice_get};
-ghost use Rattle.std.specs.List.{fold};
+ghost use Rattle.std.specs.Prelude.{◌≡◌, ◌≤◌, ◌<◌, ◌^◌, suc, length, option_copied, slice_get, Ok};
 ghost use Rattle.name_table.specs.Entry.{bases_in};
-ghost use Rattle.written_operations.specs.Interfaces.{KeepsAllRules, KeepsRules, all_bases, all_bases_of, export as exported, exports_of as its_exports, identifier_of as its_identifier, inherited, interface as interface_after, interface_of, operations_of, with_interface};
+ghost use Rattle.written_types.specs.Faults.{Tells, each};
+ghost use Rattle.written_operations.specs.Interfaces.{all_bases, all_bases_of, as_reference, export as exported, exports_of as its_exports, identifier_of as its_identifier, inherited, interface as interface_after, interface_of, offering, operations_of, with_interface};
 
-use crate::places::{insert_each, list_of, push_each_once, push_from};
+use crate::places::{insert_each, list_of, push_from};
 use crate::signature::Offered;
 use crate::table::OperationTable;
 use idl_tree::definitions::{Export, Interface};
@@ -38,7 +38,7 @@ fn exports_of<'i, 'a>(interface: &'i Interface<'a>) -> Option<&'i [Export<'a>]>
 
 impl OperationTable {
     /// The places of the operations of an entry that is a defined interface, else none.
-    pub fn operations_of(&self, entry: usize) -> &[u32]
+    fn operations_of(&self, entry: usize) -> &[usize]
         ensures { result.now ≡ operations_of self.now entry }
     {
         match self.interfaces.get(entry) {
@@ -63,22 +63,18 @@ impl OperationTable {
         alloc: Global,
         names: &Names<'a>,
         entry: usize,
-    ) -> Result<Vec<u32>, BuildFault>
+    ) -> Result<Vec<usize>, BuildFault>
         requires { entry < length names.now.entries }
-        ensures { IfOk result (λ places. places.items ≡
-            inherited self.now (bases_in (slice_get names.now.entries entry))) }
+        ensures { Tells result (λ places. places.items)
+            (Ok (inherited self.now (bases_in (slice_get names.now.entries entry)))) }
     {
-        let mut places = Vec::new(alloc);
-        let mut seen = vec![in alloc; false; self.operations.len()]?;
+        let mut places = IndexSet::new(alloc);
         for k in 0..names.base_count(entry) {
-            match names.base(entry, k) {
-                Some(base) => {
-                    push_each_once(&mut places, &mut seen, self.operations_of(base.entry))?;
-                }
-                None => return Err(BuildFault::OtherNames),
+            if let Some(base) = names.base(entry, k) {
+                insert_each(&mut places, self.operations_of(base.entry))?;
             }
         }
-        Ok(places)
+        list_of(alloc, &places)
     }
 
     /// The entries of all interfaces that an interface inherits from.
@@ -89,114 +85,138 @@ impl OperationTable {
         entry: usize,
     ) -> Result<Vec<usize>, BuildFault>
         requires { entry < length names.now.entries }
-        ensures { IfOk result (λ bases. bases.items ≡
-            all_bases self.now (bases_in (slice_get names.now.entries entry))) }
+        ensures { Tells result (λ bases. bases.items)
+            (Ok (all_bases self.now (bases_in (slice_get names.now.entries entry)))) }
     {
         let mut all = IndexSet::new(alloc);
         for place in 0..names.base_count(entry) {
-            match names.base(entry, place) {
-                Some(base) => {
-                    all.insert(base.entry)?;
-                    insert_each(&mut all, self.all_bases_of(base.entry))?;
-                }
-                None => return Err(BuildFault::OtherNames),
+            if let Some(base) = names.base(entry, place) {
+                all.insert(base.entry)?;
+                insert_each(&mut all, self.all_bases_of(base.entry))?;
             }
         }
         list_of(alloc, &all)
     }
 
-    fn write_export<'a>(
-        &mut self,
+    /// What an interface has, whose first operation has the place.
+    fn offering<'a>(
+        &self,
+        alloc: Global,
+        names: &Names<'a>,
+        entry: usize,
+        first: usize,
+    ) -> Result<Offered, BuildFault>
+        requires { entry < length names.now.entries }
+        ensures { Tells result (λ offered. offered)
+            (Ok (offering self.now first (bases_in (slice_get names.now.entries entry)))) }
+    {
+        let mut places = self.inherited(alloc, names, entry)?;
+        push_from(&mut places, first, self.operations.len())?;
+        let bases = self.all_bases(alloc, names, entry)?;
+        Ok(Offered {
+            operations: Items::new(places),
+            bases: Items::new(bases),
+        })
+    }
+
+    fn with_export<'a>(
+        self,
         alloc: Global,
         names: &Names<'a>,
         scope: usize,
         export: &Export<'a>,
-    ) -> Result<(), BuildFault>
+    ) -> Result<OperationTable, BuildFault>
         requires { scope ≤ length names.now.entries }
-        ensures told { OnOk result (self.new ≡ exported names.now.entries scope self.old export.now) }
-        ensures rules { OnOk result (KeepsRules export.now) }
+        ensures { Tells result (λ table. table) (exported names.now.entries scope self export.now) }
     {
         match export {
-            Export::Pragma(_) => Ok(()),
-            Export::Declaration(d) => self.types.write_declaration(alloc, names, scope, d),
-            Export::Attribute(a) => self.write_attribute(alloc, names, scope, a),
-            Export::Operation(o) => self.write_operation(alloc, names, scope, o),
+            Export::Pragma(_) => Ok(self),
+            Export::Declaration(d) => self.with_declaration(alloc, names, scope, d),
+            Export::Attribute(a) => self.with_attribute(alloc, names, scope, a),
+            Export::Operation(o) => self.with_operation(alloc, names, scope, o),
         }
     }
 
-    fn write_exports<'a>(
-        &mut self,
+    fn with_exports<'a>(
+        self,
         alloc: Global,
         names: &Names<'a>,
         scope: usize,
         exports: &[Export<'a>],
-    ) -> Result<(), BuildFault>
+    ) -> Result<OperationTable, BuildFault>
         requires { scope ≤ length names.now.entries }
-        ensures told { OnOk result (self.new ≡ fold (exported names.now.entries scope) self.old exports.now) }
-        ensures rules { OnOk result (All KeepsRules exports.now) }
+        ensures { Tells result (λ table. table) (each (exported names.now.entries scope) self exports.now) }
     {
+        let mut table = self;
         for export in exports {
-            self.write_export(alloc, names, scope, export)?;
+            table = table.with_export(alloc, names, scope, export)?;
         }
-        Ok(())
+        Ok(table)
     }
 
     /// An entry is an interface that has this.
-    fn set_interface(&mut self, entry: usize, offered: Offered) -> Result<(), BuildFault>
-        ensures { OnOk result (self.new ≡ with_interface self.old (Some entry) offered) }
+    fn with_offered(self, entry: usize, offered: Offered) -> Result<OperationTable, BuildFault>
+        ensures { Tells result (λ table. table) (with_interface self entry offered) }
     {
-        if entry >= self.interfaces.len() {
+        let mut table = self;
+        if entry >= table.interfaces.len() {
             return Err(BuildFault::OtherNames);
         }
-        self.interfaces[entry] = Some(offered);
-        Ok(())
+        table.interfaces[entry] = Some(offered);
+        Ok(table)
+    }
+
+    /// An entry is the name of object references from now on, or is it already. Takes no memory.
+    ///
+    /// # Errors
+    /// `OtherNames` where there is no such entry, or one that has something else.
+    fn with_reference(self, entry: usize) -> Result<OperationTable, BuildFault>
+        ensures { Tells result (λ table. table) (as_reference self entry) }
+    {
+        match self.types.place(entry) {
+            None => self.with_place(entry, Place::Typed(basic_types::OBJECT)),
+            Some(Place::Typed(basic_types::OBJECT)) => Ok(self),
+            Some(_) => Err(BuildFault::OtherNames),
+        }
     }
 
     /// The interface of an entry, with what stands in it.
-    fn write_body<'a>(
-        &mut self,
+    fn with_body<'a>(
+        self,
         alloc: Global,
         names: &Names<'a>,
         entry: usize,
         exports: &[Export<'a>],
-    ) -> Result<(), BuildFault>
+    ) -> Result<OperationTable, BuildFault>
         requires there { entry < length names.now.entries }
         requires small { suc entry < 2 ^ 64 }
-        ensures told { OnOk result (self.new ≡ interface_of names.now.entries self.old (Some entry) exports.now) }
-        ensures rules { OnOk result (All KeepsRules exports.now) }
+        ensures { Tells result (λ table. table) (interface_of names.now.entries self entry exports.now) }
     {
-        self.put(entry, Place::Typed(basic_types::OBJECT))?;
         let first = self.operations.len();
-        self.write_exports(alloc, names, entry + 1, exports)?;
-        let mut places = self.inherited(alloc, names, entry)?;
-        push_from(&mut places, first, self.operations.len())?;
-        let bases = self.all_bases(alloc, names, entry)?;
-        let offered = Offered {
-            operations: Items::new(places),
-            bases: Items::new(bases),
-        };
-        self.set_interface(entry, offered)
+        let table = self.with_reference(entry)?;
+        let table = table.with_exports(alloc, names, entry + 1, exports)?;
+        let offered = table.offering(alloc, names, entry, first)?;
+        table.with_offered(entry, offered)
     }
 
-    /// An interface, declared ahead or defined, whose oneway operations give nothing back.
+    /// What is written behind an interface, declared ahead or defined.
     ///
     /// # Errors
-    /// The first fault in the order of reading, with its line.
-    pub fn write_interface<'a>(
-        &mut self,
+    /// The first fault in the order of reading, with its line; want of memory.
+    pub(crate) fn with_interface<'a>(
+        self,
         alloc: Global,
         names: &Names<'a>,
         scope: usize,
         interface: &Interface<'a>,
-    ) -> Result<(), BuildFault>
+    ) -> Result<OperationTable, BuildFault>
         requires { scope ≤ length names.now.entries }
-        ensures told { OnOk result (self.new ≡ interface_after names.now.entries scope self.old interface.now) }
-        ensures rules { OnOk result (KeepsAllRules interface.now) }
+        ensures { Tells result (λ table. table) (interface_after names.now.entries scope self interface.now) }
     {
         let entry = declared_entry(names, scope, identifier_of(interface))?;
         match exports_of(interface) {
-            Some(exports) => self.write_body(alloc, names, entry, exports),
-            None => self.put(entry, Place::Typed(basic_types::OBJECT)),
+            Some(exports) => self.with_body(alloc, names, entry, exports),
+            None => self.with_reference(entry),
         }
     }
 }

@@ -2,9 +2,11 @@
 //! 19500-1, interface declaration).
 #![tactic(auto)]
 
+mod attributes;
 mod definitions;
 mod frames;
 mod interfaces;
+pub mod laws;
 mod oneway;
 mod operations;
 mod places;
@@ -13,6 +15,5 @@ mod signature;
 mod table;
 
 pub use definitions::write_file;
-pub use oneway::check_oneway;
 pub use signature::{Offered, Role, Signature};
 pub use table::OperationTable;

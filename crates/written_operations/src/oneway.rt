@@ -1,10 +1,8 @@
 //! Which operations may be oneway.
 
-ghost use Rattle.std.specs.Prelude.{◌≡◌, ◌↔◌, IfErr, IsTrue, OnErr, OnOk};
+ghost use Rattle.std.specs.Prelude.{◌≡◌};
 ghost use Rattle.idl_tree.specs.Lists.{parts};
-ghost use Rattle.written_operations.specs.Oneway.{HasNoReply, KeepsOneway, are_in};
-ghost use Rattle.written_types.specs.declared.fault.BuildFault.TheVariants.{Types};
-ghost use Rattle.written_types.specs.declared.fault.TypeFault.TheVariants.{BadOneway};
+ghost use Rattle.written_operations.specs.Oneway.{are_in, has_no_reply as answers_nothing, oneway_test};
 
 use idl_tree::definitions::{Direction, Operation, Param};
 use idl_tree::names::Listed;
@@ -24,7 +22,7 @@ fn take_only_in(params: &Listed<Param<'_>>) -> bool
 
 /// Whether nothing comes back from an operation.
 fn has_no_reply(o: &Operation<'_>) -> bool
-    ensures { IsTrue result ↔ HasNoReply o.now }
+    ensures { result ≡ answers_nothing o.now }
 {
     if o.result_type.is_some() || o.raises.is_some() {
         return false;
@@ -39,10 +37,8 @@ fn has_no_reply(o: &Operation<'_>) -> bool
 ///
 /// # Errors
 /// `BadOneway` where it isn't, with the line of its identifier.
-pub fn check_oneway(o: &Operation<'_>) -> Result<(), BuildFault>
-    ensures kept { OnOk result (KeepsOneway o.now) }
-    ensures broken { OnErr result (KeepsOneway o.now → ⊥) }
-    ensures line { IfErr result (λ fault. fault ≡ Types (BadOneway o.now.identifier.token.now.line)) }
+pub(crate) fn check_oneway(o: &Operation<'_>) -> Result<(), BuildFault>
+    ensures { result ≡ oneway_test o.now }
 {
     if o.is_oneway && !has_no_reply(o) {
         let line = o.identifier.token.line;

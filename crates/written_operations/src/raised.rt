@@ -1,10 +1,10 @@
 //! What operations and attributes raise.
 
-ghost use Rattle.std.specs.Prelude.{◌≡◌, ◌≤◌, length, IfOk};
+ghost use Rattle.std.specs.Prelude.{◌≡◌, ◌≤◌, length};
 ghost use Rattle.idl_tree.specs.Lists.{parts};
-ghost use Rattle.name_table.specs.Search.{finds};
+ghost use Rattle.written_types.specs.Faults.{Tells};
 ghost use Rattle.written_operations.specs.Oneway.{parts_of};
-ghost use Rattle.written_operations.specs.Operations.{found_exception, get_raises, raised, set_raises};
+ghost use Rattle.written_operations.specs.Operations.{exception_found, get_raises, raised, set_raises};
 
 use idl_tree::definitions::Attributes;
 use idl_tree::names::{Listed, ScopedName};
@@ -12,15 +12,15 @@ use scoped_names::Names;
 use std::alloc::Global;
 use written_types::{BuildFault, Place, TypeTable, resolved};
 
-/// The place of the exception that a name finds.
+/// The place of the exception that a name finds. Takes no memory.
 fn find_exception<'a>(
     types: &TypeTable,
     names: &Names<'a>,
     scope: usize,
     name: &ScopedName<'a>,
-) -> Result<u32, BuildFault>
+) -> Result<usize, BuildFault>
     requires { scope ≤ length names.now.entries }
-    ensures { IfOk result (λ n. n ≡ found_exception types.now (finds names.now.entries scope name.now)) }
+    ensures { result ≡ exception_found names.now.entries types.now scope name.now }
 {
     let entry = resolved(names, scope, name)?;
     match types.place(entry) {
@@ -33,15 +33,15 @@ fn find_exception<'a>(
 ///
 /// # Errors
 /// Those of `resolved`, `OtherNames` where a name finds no exception, want of memory.
-pub(crate) fn find_raised<'a>(
+fn find_raised<'a>(
     types: &TypeTable,
     alloc: Global,
     names: &Names<'a>,
     scope: usize,
     raises: &Listed<ScopedName<'a>>,
-) -> Result<Vec<u32>, BuildFault>
+) -> Result<Vec<usize>, BuildFault>
     requires { scope ≤ length names.now.entries }
-    ensures { IfOk result (λ found. found.items ≡ raised names.now.entries types.now scope (parts raises.now)) }
+    ensures { Tells result (λ found. found.items) (raised names.now.entries types.now scope (parts raises.now)) }
 {
     let mut places = Vec::new(alloc);
     for name in raises.iter() {
@@ -61,9 +61,9 @@ pub(crate) fn find_all_raised<'a>(
     names: &Names<'a>,
     scope: usize,
     raises: &Option<Listed<ScopedName<'a>>>,
-) -> Result<Vec<u32>, BuildFault>
+) -> Result<Vec<usize>, BuildFault>
     requires { scope ≤ length names.now.entries }
-    ensures { IfOk result (λ found. found.items ≡ raised names.now.entries types.now scope (parts_of raises.now)) }
+    ensures { Tells result (λ found. found.items) (raised names.now.entries types.now scope (parts_of raises.now)) }
 {
     match raises {
         Some(raises) => find_raised(types, alloc, names, scope, raises),
@@ -81,9 +81,9 @@ pub(crate) fn find_get_raised<'a>(
     names: &Names<'a>,
     scope: usize,
     declared: &Attributes<'a>,
-) -> Result<Vec<u32>, BuildFault>
+) -> Result<Vec<usize>, BuildFault>
     requires { scope ≤ length names.now.entries }
-    ensures { IfOk result (λ found. found.items ≡ raised names.now.entries types.now scope (get_raises declared.now)) }
+    ensures { Tells result (λ found. found.items) (raised names.now.entries types.now scope (get_raises declared.now)) }
 {
     match declared {
         Attributes::Readonly { raises, .. } => find_raised(types, alloc, names, scope, raises),
@@ -102,9 +102,9 @@ pub(crate) fn find_set_raised<'a>(
     names: &Names<'a>,
     scope: usize,
     declared: &Attributes<'a>,
-) -> Result<Vec<u32>, BuildFault>
+) -> Result<Vec<usize>, BuildFault>
     requires { scope ≤ length names.now.entries }
-    ensures { IfOk result (λ found. found.items ≡ raised names.now.entries types.now scope (set_raises declared.now)) }
+    ensures { Tells result (λ found. found.items) (raised names.now.entries types.now scope (set_raises declared.now)) }
 {
     match declared {
         Attributes::Get { set, .. } => find_all_raised(types, alloc, names, scope, set),

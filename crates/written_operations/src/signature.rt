@@ -23,14 +23,14 @@ pub struct Signature {
     /// The number of the frame that a request carries. That of the reply comes next.
     pub request: u32,
     /// The places of the exceptions that it may raise, among all exceptions.
-    pub raises: Items<u32>,
+    pub raises: Items<usize>,
 }
 
 /// What a defined interface has, with what it inherits.
 #[derive(Drop)]
 pub struct Offered {
     /// The places of its operations, those that it inherits first.
-    pub operations: Items<u32>,
+    pub operations: Items<usize>,
     /// The entries of all interfaces that it inherits from: each base and then the bases of that,
     /// each once.
     pub bases: Items<usize>,

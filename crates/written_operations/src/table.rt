@@ -1,11 +1,13 @@
 //! The operations that are written so far.
 
-ghost use Rattle.std.specs.Prelude.{◌≡◌, length, replicate, IfOk, None, OnOk};
-ghost use Rattle.written_types.specs.Written.{next};
-ghost use Rattle.written_operations.specs.Operations.{placed, undefined_yet, with_call};
+ghost use Rattle.std.specs.Prelude.{◌≡◌, ◌≤◌, length, replicate, None, Ok};
+ghost use Rattle.written_types.specs.Faults.{Tells};
+ghost use Rattle.written_operations.specs.Operations.{declared, requested, undefined_yet, with_call, with_place};
 
 use crate::frames::{Carried, write_frames};
 use crate::signature::{Offered, Role, Signature};
+use idl_tree::definitions::Declaration;
+use scoped_names::Names;
 use std::alloc::Global;
 use std::marker::Model;
 use type_graph::Items;
@@ -28,9 +30,9 @@ impl Model for OperationTable {
     ghost view = { λ t. record { types = t.types; operations = t.operations.items; interfaces = t.interfaces.items } };
 }
 
-/// No operations of so many entries.
+/// What entries have of which none is a defined interface.
 fn no_interfaces(alloc: Global, entries: usize) -> Result<Vec<Option<Offered>>, BuildFault>
-    ensures { IfOk result (λ interfaces. interfaces.items ≡ replicate entries None) }
+    ensures { Tells result (λ interfaces. interfaces.items) (Ok (replicate entries None)) }
 {
     let mut interfaces = Vec::new(alloc);
     for _ in 0..entries {
@@ -44,13 +46,16 @@ impl OperationTable {
     ///
     /// # Errors
     /// Want of memory.
-    pub fn new(alloc: Global, entries: usize) -> Result<Self, BuildFault>
-        ensures { IfOk result (λ table. table ≡ undefined_yet entries) }
+    pub(crate) fn new(alloc: Global, entries: usize) -> Result<OperationTable, BuildFault>
+        ensures { Tells result (λ table. table) (Ok (undefined_yet entries)) }
     {
+        let interfaces = no_interfaces(alloc, entries)?;
+        let types = TypeTable::new(alloc, entries)?;
+        let operations = Vec::new(alloc);
         Ok(OperationTable {
-            types: TypeTable::new(alloc, entries)?,
-            operations: Vec::new(alloc),
-            interfaces: no_interfaces(alloc, entries)?,
+            types,
+            operations,
+            interfaces,
         })
     }
 
@@ -59,44 +64,83 @@ impl OperationTable {
     ///
     /// # Errors
     /// Those of `write_frames`, want of memory.
-    pub(crate) fn add_call(
-        &mut self,
+    pub(crate) fn with_call(
+        self,
         carried: Carried,
         is_oneway: bool,
-        raises: Vec<u32>,
+        raises: Vec<usize>,
         role: Role,
         entry: usize,
         line: usize,
-    ) -> Result<u32, BuildFault>
-        ensures told { OnOk result (self.new ≡ with_call self.old carried is_oneway raises.items role entry) }
-        ensures number { IfOk result (λ n. n ≡ next self.old.types) }
+    ) -> Result<(OperationTable, u32), BuildFault>
+        ensures { Tells result (λ r. requested r.0 r.1) (with_call self carried is_oneway raises.items role entry line) }
     {
-        let request = write_frames(&mut self.types, carried, line)?;
-        let raises = Items::new(raises);
-        self.operations.push(Signature {
+        let OperationTable {
+            types,
+            mut operations,
+            interfaces,
+        } = self;
+        let (types, request) = write_frames(types, carried, line)?;
+        operations.push(Signature {
             entry,
             role,
             is_oneway,
             request,
-            raises,
+            raises: Items::new(raises),
         })?;
-        Ok(request)
+        let table = OperationTable {
+            types,
+            operations,
+            interfaces,
+        };
+        Ok((table, request))
     }
 
-    /// An entry has this from now on.
+    /// An entry has this from now on. Takes no memory.
     ///
     /// # Errors
     /// `OtherNames` where there is no such entry.
-    pub(crate) fn put(&mut self, entry: usize, place: Place) -> Result<(), BuildFault>
-        ensures { OnOk result (self.new ≡ placed self.old entry place) }
+    pub(crate) fn with_place(self, entry: usize, place: Place) -> Result<OperationTable, BuildFault>
+        ensures { Tells result (λ table. table) (with_place self entry place) }
     {
-        self.types.put(entry, place)
+        let OperationTable {
+            types,
+            operations,
+            interfaces,
+        } = self;
+        let types = types.with_place(entry, place)?;
+        Ok(OperationTable {
+            types,
+            operations,
+            interfaces,
+        })
     }
 
-    pub fn types(&self) -> &TypeTable
-        ensures { result.now ≡ self.now.types }
+    /// What is written behind a declaration of a module or an interface.
+    ///
+    /// # Errors
+    /// Those of `TypeTable::with_declaration`.
+    pub(crate) fn with_declaration<'a>(
+        self,
+        alloc: Global,
+        names: &Names<'a>,
+        scope: usize,
+        d: &Declaration<'a>,
+    ) -> Result<OperationTable, BuildFault>
+        requires { scope ≤ length names.now.entries }
+        ensures { Tells result (λ table. table) (declared names.now.entries scope self d.now) }
     {
-        &self.types
+        let OperationTable {
+            types,
+            operations,
+            interfaces,
+        } = self;
+        let types = types.with_declaration(alloc, names, scope, d)?;
+        Ok(OperationTable {
+            types,
+            operations,
+            interfaces,
+        })
     }
 
     /// Gives the types, the operations and what interfaces have back. Takes no memory.
@@ -106,12 +150,5 @@ impl OperationTable {
         ensures interfaces { result.2.items ≡ self.interfaces }
     {
         (self.types, self.operations, self.interfaces)
-    }
-
-    /// The operations so far, in the order of the text.
-    pub fn operations(&self) -> &[Signature]
-        ensures { result.now ≡ self.now.operations }
-    {
-        self.operations.as_slice()
     }
 }

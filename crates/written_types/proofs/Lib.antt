@@ -1,3 +1,4 @@
-pub mod Folds
+pub mod Parts
 pub mod ArmPlaces
 pub mod Walks
+pub mod Refused

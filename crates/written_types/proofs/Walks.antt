@@ -1,124 +1,210 @@
--- What structures and unions write, by the lists of their members and cases.
-use Rattle.std.proofs.Common.{◌≡◌, ◌∙◌, ◌≤◌, ℕ, suc, ◌+◌, List, [], Option, Some, drop, length, refl, sym, ap, add-one}
-use Rattle.std.proofs.lemmas.List.{at_drop_all}
-use Rattle.idl_tree.specs.Lists.{parts}
-use Rattle.written_types.specs.SimpleTypes.{arrays}
-use Rattle.std.specs.List.{fold}
+-- What structures and unions write, by the lists of their members and cases, step by step.
+use Rattle.std.proofs.Common.{◌≡◌, ◌∙◌, ℕ, zero, suc, ◌+◌, ◌-◌, ◌<◌, ◌≤◌, List, [], ◌∷◌, drop, get_or, length, Result, Ok, Err, refl, sym, ap, arith}
+use Rattle.std.proofs.Math.Seq.{drop-cons}
+use Rattle.type_graph.specs.declared.node.Node.TheVariants.{Array}
+use Rattle.idl_tree.specs.declared.names.Leaf.{Leaf}
 use Rattle.idl_tree.specs.declared.types.Member.{Member}
 use Rattle.idl_tree.specs.declared.types.Case.{Case}
+use Rattle.idl_tree.specs.declared.types.SwitchType.{SwitchType}
 use Rattle.idl_tree.specs.declared.types.StructType.{StructType, out-StructType}
 use Rattle.idl_tree.specs.declared.types.UnionType.{UnionType, out-UnionType}
 use Rattle.idl_tree.proofs.Rows.{struct_walk, union_walk}
-use Rattle.type_graph.specs.declared.node.Node.TheVariants.{Struct, Union}
-use Rattle.const_values.specs.declared.kind.ConstKind.{ConstKind}
-use Rattle.name_table.specs.Entry.{Entry, named}
-use Rattle.name_table.specs.Entries.{scope_number}
-use Rattle.name_table.specs.Search.{word}
-use Rattle.written_types.specs.Written.{Numbered, Written, already, opened, set_node}
-use Rattle.written_types.specs.Types.{Arms, Cases, Members, type_spec, with_label, cases_of, members_of, no_arms, struct_type, switch_kind, switch_type, union_type, with_case_of, with_cases, with_member, with_members}
+use Rattle.name_table.specs.Entry.{Entry}
+use Rattle.scoped_names.specs.Reading.{◌>>◌}
+use Rattle.written_types.specs.declared.fault.BuildFault.{BuildFault}
+use Rattle.written_types.specs.declared.labels.Switch.{Switch}
+use Rattle.written_types.specs.Faults.{each, line_of}
+use Rattle.written_types.specs.Members.{Members}
+use Rattle.written_types.specs.Written.{Numbered, Written, added_at, already, opened}
+use Rattle.written_types.specs.SimpleTypes.{arrays, entry_of}
+use Rattle.written_types.specs.Labels.{Arms, Switched, no_arms, switch_read}
+use Rattle.written_types.specs.Types.{Cases, WithMembers, cases_of, no_members, struct_defined, struct_type, union_defined, union_type, with_case_of, with_cases, with_member, with_members, with_members_of}
 
--- the members of a structure
-abbrev pub struct_members : List Entry → Written → ℕ → StructType → Members
-struct_members es w scope s =
-    let t = out-StructType s in
-    let e = named es scope (word t.identifier) in
-    fold (with_member es (scope_number e)) (with_member es (scope_number e) (members_of (opened w e).written []) t.first.value) t.rest.items
+-- ---- one thing behind another
 
-abbrev with_them : ℕ → Members → Numbered
-with_them n m = record { number = n; written = set_node m.written n (Struct m.members) }
+pub goes_on : {A B : Type 0} (r : Result A BuildFault) (x : A) (next : A → Result B BuildFault) → r ≡ Ok x → (r >> next) ≡ next x
+goes_on r x next is = ap (λ r. r >> next) is
+
+pub stops : {A B : Type 0} (r : Result A BuildFault) (fault : BuildFault) (next : A → Result B BuildFault) → r ≡ Err fault → (r >> next) ≡ Err fault
+stops r fault next is = ap (λ r. r >> next) is
+
+-- ---- arrays
+
+arrays_stop : (element : Numbered) (line : ℕ) (xs : List ℕ) (k : ℕ) (fault : BuildFault) → arrays element line (drop k xs) ≡ Err fault → arrays element line xs ≡ Err fault
+arrays_stop element line xs zero fault is = is
+arrays_stop element line [] (suc k) fault is = is
+arrays_stop element line (x ∷ xs) (suc k) fault is =
+    ap (λ r. r >> λ inner. added_at inner.written (Array inner.number x) line) (arrays_stop element line xs k fault is)
+
+-- an array before those that are there
+pub arrays_off : (element : Numbered) (w : Written) (n line left : ℕ) (xs : List ℕ) (fault : BuildFault) → 0 < left → left ≤ length xs
+    → arrays element line (drop left xs) ≡ Ok (already w n) → added_at w (Array n (get_or xs (left - 1) 0)) line ≡ Err fault → arrays element line xs ≡ Err fault
+arrays_off element w n line left xs fault some within told is =
+    let next : suc (left - 1) ≡ left = omega arith in
+    let lt : left - 1 < length xs = omega arith in
+    let split : drop (left - 1) xs ≡ get_or xs (left - 1) 0 ∷ drop left xs =
+    drop-cons xs (left - 1) 0 lt ∙ ap (λ j. get_or xs (left - 1) 0 ∷ drop j xs) next in
+    arrays_stop element line xs (left - 1) fault
+    (ap (arrays element line) split ∙ ap (λ r. r >> λ inner. added_at inner.written (Array inner.number (get_or xs (left - 1) 0)) line) told ∙ is)
+
+-- ---- structures
+
+abbrev pub struct_close : Leaf → Numbered → WithMembers → Result Numbered BuildFault
+struct_close id o m = struct_defined m o.number (line_of id) >> λ behind. Ok (already behind o.number)
+
+abbrev pub struct_more : List Entry → Leaf → List Member → ℕ → Numbered → WithMembers → Result Numbered BuildFault
+struct_more es id rest e o m = each (with_member es (e + 1)) m rest >> struct_close id o
+
+abbrev pub struct_open : List Entry → Leaf → Member → List Member → ℕ → Numbered → Result Numbered BuildFault
+struct_open es id x rest e o = with_member es (e + 1) (with_members_of o.written no_members) x >> struct_more es id rest e o
+
+abbrev pub struct_in : List Entry → Written → Leaf → Member → List Member → ℕ → Result Numbered BuildFault
+struct_in es w id x rest e = opened w e (line_of id) >> struct_open es id x rest e
+
+abbrev pub struct_all : List Entry → Written → ℕ → Leaf → Member → List Member → Result Numbered BuildFault
+struct_all es w scope id x rest = entry_of es scope id >> struct_in es w id x rest
 
 -- what a walk over members gives
 abbrev MemberWalk : Type 0
-MemberWalk = List Entry → ℕ → Members → Members
+MemberWalk = List Entry → ℕ → WithMembers → Result WithMembers BuildFault
+
+abbrev TypeWalk : Type 0
+TypeWalk = List Entry → Written → ℕ → Result Numbered BuildFault
 
 pub struct_told : (es : List Entry) (w : Written) (scope : ℕ) (s : StructType) → struct_type es w scope s ≡
-    with_them (opened w (named es scope (word (out-StructType s).identifier))).number (struct_members es w scope s)
+    struct_all es w scope (out-StructType s).identifier (out-StructType s).first.value (out-StructType s).rest.items
 struct_told es w scope s =
-    ap (λ walk. walk es w scope) (struct_walk {A = List Entry → Written → ℕ → Numbered} {B = MemberWalk} (λ t es w scope. struct_type es w scope t)
+    ap (λ walk. walk es w scope) (struct_walk {A = TypeWalk} {B = MemberWalk} (λ t es w scope. struct_type es w scope t)
     (λ n row es scope m. with_members es scope m row)
-    (λ id x rest es w scope. let e = named es scope (word id) in
-    with_them (opened w e).number (rest es (scope_number e) (with_member es (scope_number e) (members_of (opened w e).written []) x)))
-    (λ es scope m. m) (λ x rest es scope m. rest es scope (with_member es scope m x)) (λ xs es scope m. fold (with_member es scope) m xs)
+    (λ id x rest es w scope. entry_of es scope id >> λ e. opened w e (line_of id) >> λ o.
+    with_member es (e + 1) (with_members_of o.written no_members) x >> λ m. rest es (e + 1) m >> struct_close id o)
+    (λ es scope m. Ok m) (λ x rest es scope m. with_member es scope m x >> λ next. rest es scope next) (λ xs es scope m. each (with_member es scope) m xs)
     (λ id p m shape row. refl) refl (λ n x row. refl) refl (λ x xs. refl) s)
 
--- the cases of a union
-abbrev pub union_cases : List Entry → Written → ℕ → UnionType → Cases
-union_cases es w scope u =
-    let t = out-UnionType u in
-    let e = named es scope (word t.identifier) in
-    let inner = scope_number e in
-    let kind = switch_kind es inner t.switch in
-    fold (with_case_of es inner kind) (with_case_of es inner kind (cases_of (switch_type es (opened w e).written inner t.switch).written no_arms) t.first.value) t.rest.items
+-- ---- unions
 
-abbrev with_arms_of : ℕ → ℕ → Cases → Numbered
-with_arms_of n switch c = record { number = n; written = set_node c.written n (Union switch c.arms.arms c.arms.default) }
+abbrev pub union_close : Leaf → Numbered → Switch → Cases → Result Numbered BuildFault
+union_close id o s c = union_defined s c o.number (line_of id) >> λ behind. Ok (already behind o.number)
+
+abbrev pub union_more : List Entry → Leaf → List Case → ℕ → Numbered → Switch → Cases → Result Numbered BuildFault
+union_more es id rest e o s c = each (with_case_of es (e + 1) s) c rest >> union_close id o s
+
+abbrev pub union_switched : List Entry → Leaf → Case → List Case → ℕ → Numbered → Switched → Result Numbered BuildFault
+union_switched es id x rest e o s = with_case_of es (e + 1) s.switch (cases_of s.written no_arms) x >> union_more es id rest e o s.switch
+
+abbrev pub union_open : List Entry → Leaf → SwitchType → Case → List Case → ℕ → Numbered → Result Numbered BuildFault
+union_open es id switch x rest e o = switch_read es o.written (e + 1) (line_of id) switch >> union_switched es id x rest e o
+
+abbrev pub union_in : List Entry → Written → Leaf → SwitchType → Case → List Case → ℕ → Result Numbered BuildFault
+union_in es w id switch x rest e = opened w e (line_of id) >> union_open es id switch x rest e
+
+abbrev pub union_all : List Entry → Written → ℕ → Leaf → SwitchType → Case → List Case → Result Numbered BuildFault
+union_all es w scope id switch x rest = entry_of es scope id >> union_in es w id switch x rest
 
 abbrev CaseWalk : Type 0
-CaseWalk = List Entry → ℕ → Option ConstKind → Cases → Cases
+CaseWalk = List Entry → ℕ → Switch → Cases → Result Cases BuildFault
 
 pub union_told : (es : List Entry) (w : Written) (scope : ℕ) (u : UnionType) → union_type es w scope u ≡
-    (let t = out-UnionType u in
-    let e = named es scope (word t.identifier) in
-    with_arms_of (opened w e).number (switch_type es (opened w e).written (scope_number e) t.switch).number (union_cases es w scope u))
+    union_all es w scope (out-UnionType u).identifier (out-UnionType u).switch (out-UnionType u).first.value (out-UnionType u).rest.items
 union_told es w scope u =
-    ap (λ walk. walk es w scope) (union_walk {A = List Entry → Written → ℕ → Numbered} {B = CaseWalk} (λ t es w scope. union_type es w scope t)
-    (λ n row es scope kind c. with_cases es scope kind c row)
-    (λ id switch x rest es w scope. let e = named es scope (word id) in
-    let inner = scope_number e in
-    let s = switch_type es (opened w e).written inner switch in
-    let kind = switch_kind es inner switch in
-    with_arms_of (opened w e).number s.number (rest es inner kind (with_case_of es inner kind (cases_of s.written no_arms) x)))
-    (λ es scope kind c. c) (λ x rest es scope kind c. rest es scope kind (with_case_of es scope kind c x)) (λ xs es scope kind c. fold (with_case_of es scope kind) c xs)
+    ap (λ walk. walk es w scope) (union_walk {A = TypeWalk} {B = CaseWalk} (λ t es w scope. union_type es w scope t)
+    (λ n row es scope s c. with_cases es scope s c row)
+    (λ id switch x rest es w scope. entry_of es scope id >> λ e. opened w e (line_of id) >> λ o.
+    switch_read es o.written (e + 1) (line_of id) switch >> λ s.
+    with_case_of es (e + 1) s.switch (cases_of s.written no_arms) x >> λ c. rest es (e + 1) s.switch c >> union_close id o s.switch)
+    (λ es scope s c. Ok c) (λ x rest es scope s c. with_case_of es scope s c x >> λ next. rest es scope s next) (λ xs es scope s c. each (with_case_of es scope s) c xs)
     (λ id switch p c shape row. refl) refl (λ n x row. refl) refl (λ x xs. refl) u)
 
--- a structure behind its last member
-pub struct_end : (es : List Entry) (old w new : Written) (scope entry number k : ℕ) (s : StructType) (members : List ℕ) (items : List Member) →
-    named es scope (word (out-StructType s).identifier) ≡ Some entry → number ≡ (opened old (Some entry)).number → length items ≤ k
-    → fold (with_member es (entry + 1)) (members_of w members) (drop k items) ≡ struct_members es old scope s
-    → new ≡ set_node w number (Struct members) → new ≡ (struct_type es old scope s).written
-struct_end es old w new scope entry number k s members items is opens past walked finished =
-    let all = sym (at_drop_all (fold (with_member es (entry + 1)) (members_of w members)) items k past) ∙ walked in
-    let named_so = opens ∙ ap (λ e. (opened old e).number) (sym is) in
-    finished ∙ ap (λ m. (with_them number m).written) all ∙ ap (λ n. (with_them n (struct_members es old scope s)).written) named_so
-    ∙ sym (ap (λ x. x.written) (struct_told es old scope s))
+-- ---- how far a structure is read
 
-pub struct_numbered : (es : List Entry) (old : Written) (scope entry number : ℕ) (s : StructType) →
-    named es scope (word (out-StructType s).identifier) ≡ Some entry → number ≡ (opened old (Some entry)).number → number ≡ (struct_type es old scope s).number
-struct_numbered es old scope entry number s is opens =
-    opens ∙ ap (λ e. (opened old e).number) (sym is) ∙ sym (ap (λ x. x.number) (struct_told es old scope s))
+abbrev pub id_of : StructType → Leaf
+id_of s = (out-StructType s).identifier
 
--- a union behind its last case
-pub union_end : (es : List Entry) (old declared w new : Written) (scope entry number switch k : ℕ) (kind : ConstKind) (u : UnionType) (a : Arms) (items : List Case) →
-    named es scope (word (out-UnionType u).identifier) ≡ Some entry → declared ≡ (opened old (Some entry)).written → number ≡ (opened old (Some entry)).number
-    → switch ≡ (switch_type es declared (entry + 1) (out-UnionType u).switch).number → length items ≤ k
-    → fold (with_case_of es (entry + 1) (Some kind)) (cases_of w a) (drop k items) ≡ union_cases es old scope u
-    → new ≡ set_node w number (Union switch a.arms a.default) → new ≡ (union_type es old scope u).written
-union_end es old declared w new scope entry number switch k kind u a items is declares opens switches past walked finished =
-    let t = out-UnionType u in
-    let all = sym (at_drop_all (fold (with_case_of es (entry + 1) (Some kind)) (cases_of w a)) items k past) ∙ walked in
-    let e = named es scope (word t.identifier) in
-    let one : entry + 1 ≡ suc entry = add-one entry in
-    let inner : entry + 1 ≡ scope_number e = one ∙ ap scope_number (sym is) in
-    let named_so = opens ∙ ap (λ e. (opened old e).number) (sym is) in
-    let switched = switches ∙ ap (λ d. (switch_type es d (entry + 1) t.switch).number) (declares ∙ ap (λ e. (opened old e).written) (sym is))
-    ∙ ap (λ i. (switch_type es (opened old e).written i t.switch).number) inner in
-    finished ∙ ap (λ c. (with_arms_of number switch c).written) all ∙ ap (λ n. (with_arms_of n switch (union_cases es old scope u)).written) named_so
-    ∙ ap (λ n. (with_arms_of (opened old e).number n (union_cases es old scope u)).written) switched
-    ∙ sym (ap (λ x. x.written) (union_told es old scope u))
+abbrev pub first_of : StructType → Member
+first_of s = (out-StructType s).first.value
 
-pub union_numbered : (es : List Entry) (old : Written) (scope entry number : ℕ) (u : UnionType) →
-    named es scope (word (out-UnionType u).identifier) ≡ Some entry → number ≡ (opened old (Some entry)).number → number ≡ (union_type es old scope u).number
-union_numbered es old scope entry number u is opens =
-    opens ∙ ap (λ e. (opened old e).number) (sym is) ∙ sym (ap (λ x. x.number) (union_told es old scope u))
+abbrev pub rest_of : StructType → List Member
+rest_of s = (out-StructType s).rest.items
 
--- a case more
-pub case_more : (es : List Entry) (scope : ℕ) (kind : Option ConstKind) (w w1 w2 : Written) (a b : Arms) (t n : ℕ) (x : Case) →
-    w1 ≡ (type_spec es w scope x.member_type).written → t ≡ (type_spec es w scope x.member_type).number
-    → w2 ≡ (arrays es scope (already w1 t) x.declarator.sizes.items).written → n ≡ (arrays es scope (already w1 t) x.declarator.sizes.items).number
-    → b ≡ fold (with_label es scope kind n) a (parts x.labels) → cases_of w2 b ≡ with_case_of es scope kind (cases_of w a) x
-case_more es scope kind w w1 w2 a b t n x typed numbered told counted labelled =
-    let s = type_spec es w scope x.member_type in
-    let same : already w1 t ≡ s = ap (λ v. already v t) typed ∙ ap (λ m. already s.written m) numbered in
-    let sizes = x.declarator.sizes.items in
-    ap (λ v. cases_of v b) (told ∙ ap (λ y. (arrays es scope y sizes).written) same)
-    ∙ ap (cases_of (arrays es scope s sizes).written) (labelled ∙ ap (λ m. fold (with_label es scope kind m) a (parts x.labels)) (counted ∙ ap (λ y. (arrays es scope y sizes).number) same))
+pub struct_entered : (es : List Entry) (w : Written) (scope : ℕ) (s : StructType) (e : ℕ) → Ok e ≡ entry_of es scope (id_of s)
+    → struct_type es w scope s ≡ struct_in es w (id_of s) (first_of s) (rest_of s) e
+struct_entered es w scope s e told =
+    struct_told es w scope s ∙ goes_on (entry_of es scope (id_of s)) e (struct_in es w (id_of s) (first_of s) (rest_of s)) (sym told)
+
+pub struct_opened : (es : List Entry) (w : Written) (scope : ℕ) (s : StructType) (e : ℕ) (o : Numbered) → Ok e ≡ entry_of es scope (id_of s)
+    → opened w e (line_of (id_of s)) ≡ Ok o → struct_type es w scope s ≡ struct_open es (id_of s) (first_of s) (rest_of s) e o
+struct_opened es w scope s e o told opens =
+    struct_entered es w scope s e told ∙ goes_on (opened w e (line_of (id_of s))) o (struct_open es (id_of s) (first_of s) (rest_of s) e) opens
+
+pub first_member : (es : List Entry) (scope : ℕ) (w : Written) (ms : Members) (x y : Member) → ms ≡ no_members → x ≡ y
+    → with_member es scope (with_members_of w no_members) y ≡ with_member es scope (with_members_of w ms) x
+first_member es scope w ms x y none same =
+    ap (λ m. with_member es scope (with_members_of w m) y) (sym none) ∙ ap (with_member es scope (with_members_of w ms)) (sym same)
+
+pub struct_begun : (es : List Entry) (w : Written) (scope : ℕ) (s : StructType) (e : ℕ) (o : Numbered) (m : WithMembers) → Ok e ≡ entry_of es scope (id_of s)
+    → opened w e (line_of (id_of s)) ≡ Ok o → with_member es (e + 1) (with_members_of o.written no_members) (first_of s) ≡ Ok m
+    → struct_type es w scope s ≡ struct_more es (id_of s) (rest_of s) e o m
+struct_begun es w scope s e o m told opens first =
+    struct_opened es w scope s e o told opens
+    ∙ goes_on (with_member es (e + 1) (with_members_of o.written no_members) (first_of s)) m (struct_more es (id_of s) (rest_of s) e o) first
+
+pub struct_walked : (es : List Entry) (w : Written) (scope : ℕ) (s : StructType) (e : ℕ) (o : Numbered) (m n : WithMembers) → Ok e ≡ entry_of es scope (id_of s)
+    → opened w e (line_of (id_of s)) ≡ Ok o → with_member es (e + 1) (with_members_of o.written no_members) (first_of s) ≡ Ok m
+    → each (with_member es (e + 1)) m (rest_of s) ≡ Ok n → struct_type es w scope s ≡ struct_close (id_of s) o n
+struct_walked es w scope s e o m n told opens first rest =
+    struct_begun es w scope s e o m told opens first
+    ∙ goes_on (each (with_member es (e + 1)) m (rest_of s)) n (struct_close (id_of s) o) rest
+
+-- ---- how far a union is read
+
+abbrev pub union_id : UnionType → Leaf
+union_id u = (out-UnionType u).identifier
+
+abbrev pub switch_of : UnionType → SwitchType
+switch_of u = (out-UnionType u).switch
+
+abbrev pub first_case : UnionType → Case
+first_case u = (out-UnionType u).first.value
+
+abbrev pub more_cases : UnionType → List Case
+more_cases u = (out-UnionType u).rest.items
+
+pub union_entered : (es : List Entry) (w : Written) (scope : ℕ) (u : UnionType) (e : ℕ) → Ok e ≡ entry_of es scope (union_id u)
+    → union_type es w scope u ≡ union_in es w (union_id u) (switch_of u) (first_case u) (more_cases u) e
+union_entered es w scope u e told =
+    union_told es w scope u ∙ goes_on (entry_of es scope (union_id u)) e (union_in es w (union_id u) (switch_of u) (first_case u) (more_cases u)) (sym told)
+
+pub union_opened : (es : List Entry) (w : Written) (scope : ℕ) (u : UnionType) (e : ℕ) (o : Numbered) → Ok e ≡ entry_of es scope (union_id u)
+    → opened w e (line_of (union_id u)) ≡ Ok o → union_type es w scope u ≡ union_open es (union_id u) (switch_of u) (first_case u) (more_cases u) e o
+union_opened es w scope u e o told opens =
+    union_entered es w scope u e told
+    ∙ goes_on (opened w e (line_of (union_id u))) o (union_open es (union_id u) (switch_of u) (first_case u) (more_cases u) e) opens
+
+pub union_chosen : (es : List Entry) (w : Written) (scope : ℕ) (u : UnionType) (e : ℕ) (o : Numbered) (s : Switched) → Ok e ≡ entry_of es scope (union_id u)
+    → opened w e (line_of (union_id u)) ≡ Ok o → switch_read es o.written (e + 1) (line_of (union_id u)) (switch_of u) ≡ Ok s
+    → union_type es w scope u ≡ union_switched es (union_id u) (first_case u) (more_cases u) e o s
+union_chosen es w scope u e o s told opens switches =
+    union_opened es w scope u e o told opens
+    ∙ goes_on (switch_read es o.written (e + 1) (line_of (union_id u)) (switch_of u)) s (union_switched es (union_id u) (first_case u) (more_cases u) e o) switches
+
+pub first_cases : (es : List Entry) (scope : ℕ) (s : Switch) (w : Written) (a : Arms) (x y : Case) → a ≡ no_arms → x ≡ y
+    → with_case_of es scope s (cases_of w no_arms) y ≡ with_case_of es scope s (cases_of w a) x
+first_cases es scope s w a x y none same =
+    ap (λ b. with_case_of es scope s (cases_of w b) y) (sym none) ∙ ap (with_case_of es scope s (cases_of w a)) (sym same)
+
+pub union_begun : (es : List Entry) (w : Written) (scope : ℕ) (u : UnionType) (e : ℕ) (o : Numbered) (s : Switched) (c : Cases) → Ok e ≡ entry_of es scope (union_id u)
+    → opened w e (line_of (union_id u)) ≡ Ok o → switch_read es o.written (e + 1) (line_of (union_id u)) (switch_of u) ≡ Ok s
+    → with_case_of es (e + 1) s.switch (cases_of s.written no_arms) (first_case u) ≡ Ok c
+    → union_type es w scope u ≡ union_more es (union_id u) (more_cases u) e o s.switch c
+union_begun es w scope u e o s c told opens switches first =
+    union_chosen es w scope u e o s told opens switches
+    ∙ goes_on (with_case_of es (e + 1) s.switch (cases_of s.written no_arms) (first_case u)) c (union_more es (union_id u) (more_cases u) e o s.switch) first
+
+pub union_walked : (es : List Entry) (w : Written) (scope : ℕ) (u : UnionType) (e : ℕ) (o : Numbered) (s : Switched) (c d : Cases) → Ok e ≡ entry_of es scope (union_id u)
+    → opened w e (line_of (union_id u)) ≡ Ok o → switch_read es o.written (e + 1) (line_of (union_id u)) (switch_of u) ≡ Ok s
+    → with_case_of es (e + 1) s.switch (cases_of s.written no_arms) (first_case u) ≡ Ok c
+    → each (with_case_of es (e + 1) s.switch) c (more_cases u) ≡ Ok d
+    → union_type es w scope u ≡ union_close (union_id u) o s.switch d
+union_walked es w scope u e o s c d told opens switches first rest =
+    union_begun es w scope u e o s c told opens switches first
+    ∙ goes_on (each (with_case_of es (e + 1) s.switch) c (more_cases u)) d (union_close (union_id u) o s.switch) rest

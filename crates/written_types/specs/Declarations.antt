@@ -1,6 +1,5 @@
 -- What the declarations of modules and interfaces write (ISO/IEC 19500-1, type, constant and exception declaration).
-use Rattle.std.specs.Prelude.{ℕ, List, [], ◌∷◌, Option, Some, None}
-use Rattle.std.specs.List.{fold}
+use Rattle.std.specs.Prelude.{ℕ, ◌+◌, List, [], ◌∷◌, length, Result, Ok}
 use Rattle.idl_tree.specs.declared.names.Leaf.{Leaf}
 use Rattle.idl_tree.specs.declared.types.Declarator.{Declarator}
 use Rattle.idl_tree.specs.declared.definitions.TypeDcl.{TypeDcl}
@@ -10,43 +9,54 @@ use Rattle.idl_tree.specs.declared.definitions.Declaration.{Declaration}
 use Rattle.idl_tree.specs.declared.definitions.Declaration.TheVariants as Declarations
 use Rattle.idl_tree.specs.Lists.{parts}
 use Rattle.type_graph.specs.declared.node.Node.TheVariants.{Frame}
-use Rattle.name_table.specs.Entry.{Entry, named}
-use Rattle.name_table.specs.Entries.{scope_number}
-use Rattle.name_table.specs.Search.{word}
+use Rattle.name_table.specs.Entry.{Entry}
+use Rattle.scoped_names.specs.Reading.{◌>>◌}
+use Rattle.written_types.specs.declared.fault.BuildFault.{BuildFault}
 use Rattle.written_types.specs.declared.place.Place.TheVariants.{Typed}
-use Rattle.written_types.specs.Written.{Written, Numbered, already, next, opened, raised_at, with_node, with_place}
-use Rattle.written_types.specs.SimpleTypes.{arrays, const_type, enum_type}
-use Rattle.written_types.specs.Types.{Members, members_of, struct_type, type_spec, union_type, with_member}
+use Rattle.written_types.specs.Faults.{each, line_of}
+use Rattle.written_types.specs.Written.{Written, added, already, counted, opened, placed, raised_at}
+use Rattle.written_types.specs.SimpleTypes.{array_type, const_type, declarator_line, entry_of, enum_type}
+use Rattle.written_types.specs.Members.{Members}
+use Rattle.written_types.specs.Types.{WithMembers, struct_type, type_spec, union_type, with_member, with_members_of}
 
 -- a name for the type that has the number, or for an array of it: no type of its own
-abbrev pub with_typedef : List Entry → ℕ → ℕ → Written → Declarator → Written
+abbrev pub with_typedef : List Entry → ℕ → ℕ → Written → Declarator → Result Written BuildFault
 with_typedef es scope number w d =
-    let a = arrays es scope (already w number) d.sizes.items in
-    with_place a.written (named es scope (word d.identifier)) (Typed a.number)
+    array_type es scope (already w number) d >> λ a.
+    entry_of es scope d.identifier >> λ e. placed a.written e (Typed a.number)
 
-abbrev pub type_dcl : List Entry → Written → ℕ → TypeDcl → Written
+-- a structure or a union that is declared ahead
+abbrev pub ahead : List Entry → Written → ℕ → Leaf → Result Written BuildFault
+ahead es w scope id = entry_of es scope id >> λ e. opened w e (line_of id) >> λ o. Ok o.written
+
+abbrev pub type_dcl : List Entry → Written → ℕ → TypeDcl → Result Written BuildFault
 type_dcl es w scope (TypeDcls.Typedef t declarators) =
-    let n = type_spec es w scope t in fold (with_typedef es scope n.number) n.written (parts declarators)
-type_dcl es w scope (TypeDcls.Struct s) = (struct_type es w scope s).written
-type_dcl es w scope (TypeDcls.Union u) = (union_type es w scope u).written
-type_dcl es w scope (TypeDcls.Enum e) = (enum_type es w scope e).written
-type_dcl es w scope (TypeDcls.StructAhead id) = (opened w (named es scope (word id))).written
-type_dcl es w scope (TypeDcls.UnionAhead id) = (opened w (named es scope (word id))).written
+    type_spec es w scope (declarator_line declarators.first) t >> λ n.
+    each (with_typedef es scope n.number) n.written (parts declarators)
+type_dcl es w scope (TypeDcls.Struct s) = struct_type es w scope s >> λ n. Ok n.written
+type_dcl es w scope (TypeDcls.Union u) = union_type es w scope u >> λ n. Ok n.written
+type_dcl es w scope (TypeDcls.Enum e) = enum_type es w scope e >> λ n. Ok n.written
+type_dcl es w scope (TypeDcls.StructAhead id) = ahead es w scope id
+type_dcl es w scope (TypeDcls.UnionAhead id) = ahead es w scope id
 
--- the members of an exception's frame, whose first is the repository id
-abbrev pub except_members : List Entry → Written → ℕ → Except → Members
-except_members es w scope x =
-    fold (with_member es (scope_number (named es scope (word x.identifier)))) (members_of w (9 ∷ [])) x.members.items
+-- the first member of an exception's frame is the repository id, a string
+abbrev pub id_member : ℕ → Members
+id_member line = record { numbers = 9 ∷ []; lines = line ∷ [] }
 
 -- a frame behind the types of its members, which the exception of the entry has
-abbrev pub with_exception : Members → Option ℕ → Written
-with_exception m None = m.written
-with_exception m (Some e) = raised_at (with_node m.written (Frame m.members)) e (next m.written)
+abbrev pub exception_added : WithMembers → ℕ → ℕ → Result Written BuildFault
+exception_added m e line =
+    counted m.written (length m.members.numbers) line >> λ w.
+    added w (Frame m.members.numbers) (record { line = line; held = m.members.lines }) >> λ frame.
+    raised_at frame.written e frame.number
 
-abbrev pub except : List Entry → Written → ℕ → Except → Written
-except es w scope x = with_exception (except_members es w scope x) (named es scope (word x.identifier))
+abbrev pub except : List Entry → Written → ℕ → Except → Result Written BuildFault
+except es w scope x =
+    entry_of es scope x.identifier >> λ e.
+    each (with_member es (e + 1)) (with_members_of w (id_member (line_of x.identifier))) x.members.items >> λ m.
+    exception_added m e (line_of x.identifier)
 
-abbrev pub declaration : List Entry → Written → ℕ → Declaration → Written
+abbrev pub declaration : List Entry → Written → ℕ → Declaration → Result Written BuildFault
 declaration es w scope (Declarations.TypeDcl t) = type_dcl es w scope t
-declaration es w scope (Declarations.Const c) = (const_type es w scope c.const_type).written
+declaration es w scope (Declarations.Const c) = const_type es w scope c.const_type >> λ n. Ok n.written
 declaration es w scope (Declarations.Except x) = except es w scope x

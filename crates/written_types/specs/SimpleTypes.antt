@@ -1,7 +1,9 @@
 -- The types that declare nothing, arrays and enumerations (ISO/IEC 19500-1, type declaration): each clause says which
 -- number a type has and what is written behind it, where `w` is what is written before it. A bound or a size is worth
 -- what its expression is worth in the scope, and a name stands for what it finds there.
-use Rattle.std.specs.Prelude.{ℕ, List, [], ◌∷◌, length, Option, Some, None}
+use Rattle.std.specs.Prelude.{ℕ, List, [], ◌∷◌, length, Option, Some, None, Result, Ok}
+use Rattle.idl_tree.specs.declared.names.Leaf.{Leaf}
+use Rattle.idl_tree.specs.declared.names.ScopedName.{ScopedName}
 use Rattle.idl_tree.specs.declared.types.IntegerSize.TheVariants.{Short, Long, LongLong}
 use Rattle.idl_tree.specs.declared.types.Integer.{Integer}
 use Rattle.idl_tree.specs.declared.types.Integer.TheVariants.{Signed, Unsigned}
@@ -11,14 +13,49 @@ use Rattle.idl_tree.specs.declared.types.ParamType.{ParamType}
 use Rattle.idl_tree.specs.declared.types.ParamType.TheVariants as ParamTypes
 use Rattle.idl_tree.specs.declared.types.SimpleType.{SimpleType, Plain, Sequence'}
 use Rattle.idl_tree.specs.declared.types.EnumType.{EnumType}
+use Rattle.idl_tree.specs.declared.types.Declarator.{Declarator}
 use Rattle.idl_tree.specs.declared.const_expr.ConstExpr.{ConstExpr}
 use Rattle.idl_tree.specs.declared.const_expr.Bound.{Bound}
 use Rattle.idl_tree.specs.Lists.{parts}
+use Rattle.idl_tree.specs.Starts.{expr_start}
+use Rattle.type_graph.specs.declared.fault.GraphLimit.TheVariants.{Enumerators, Bound as BoundLimit, Size}
 use Rattle.type_graph.specs.declared.node.Node.TheVariants.{Text, Seq, Array, Enum}
 use Rattle.name_table.specs.Entry.{Entry, named}
-use Rattle.name_table.specs.Search.{finds, word}
-use Rattle.scoped_names.specs.Constants.{size_in_scope}
-use Rattle.written_types.specs.Written.{Written, Numbered, already, added, found_type, named_type, or_none_such}
+use Rattle.name_table.specs.Search.{word}
+use Rattle.scoped_names.specs.Reading.{◌>>◌}
+use Rattle.scoped_names.specs.Tests.{resolved, size_read}
+use Rattle.written_types.specs.declared.fault.BuildFault.{BuildFault}
+use Rattle.written_types.specs.Faults.{at_most, line_of, max_bound, max_enumerators, max_size, of_names, or_other}
+use Rattle.written_types.specs.Written.{Written, Numbered, already, added_at, named_type, type_of}
+
+-- ---- what names and expressions say
+
+-- the entry that an identifier is declared as in the scope
+abbrev pub entry_of : List Entry → ℕ → Leaf → Result ℕ BuildFault
+entry_of es scope l = or_other (named es scope (word l))
+
+-- the entry that a name finds that stands in the scope
+abbrev pub entry_found : List Entry → ℕ → ScopedName → Result ℕ BuildFault
+entry_found es scope name = of_names (resolved es scope name)
+
+-- the number of the type that it finds
+abbrev pub type_found : List Entry → Written → ℕ → ScopedName → Result ℕ BuildFault
+type_found es w scope name = entry_found es scope name >> λ e. or_other (type_of w e)
+
+abbrev pub size_of : List Entry → ℕ → ConstExpr → Result ℕ BuildFault
+size_of es scope size =
+    of_names (size_read es scope size.expr) >> λ n. at_most max_size Size (line_of (expr_start size.expr)) n
+
+abbrev pub bound_of : List Entry → ℕ → Bound → Result ℕ BuildFault
+bound_of es scope bound =
+    of_names (size_read es scope bound.expr) >> λ n. at_most max_bound BoundLimit (line_of (expr_start bound.expr)) n
+
+-- no bound is 0
+abbrev pub bound_or_none : List Entry → ℕ → Option Bound → Result ℕ BuildFault
+bound_or_none es scope None = Ok 0
+bound_or_none es scope (Some bound) = bound_of es scope bound
+
+-- ---- types
 
 -- the numbers of the basic types
 abbrev pub integer_number : Integer → ℕ
@@ -29,39 +66,47 @@ integer_number (Unsigned Long) = 6
 integer_number (Signed LongLong) = 7
 integer_number (Unsigned LongLong) = 8
 
-abbrev pub size_of : List Entry → ℕ → ConstExpr → ℕ
-size_of es scope size = or_none_such (size_in_scope es scope size.expr)
-
--- no bound is 0
-abbrev pub bound_of : List Entry → ℕ → Option Bound → ℕ
-bound_of es scope None = 0
-bound_of es scope (Some bound) = or_none_such (size_in_scope es scope bound.expr)
-
 -- a bounded string is a type of its own, and nothing else is
-abbrev pub const_type : List Entry → Written → ℕ → ConstType → Numbered
-const_type es w scope (ConstTypes.Integer i) = already w (integer_number i)
-const_type es w scope ConstTypes.Octet = already w 0
-const_type es w scope ConstTypes.Char = already w 1
-const_type es w scope ConstTypes.Boolean = already w 2
-const_type es w scope (ConstTypes.String None) = already w 9
-const_type es w scope (ConstTypes.String (Some bound)) = added w (Text (bound_of es scope (Some bound)))
-const_type es w scope (ConstTypes.Name name) = already w (found_type w (finds es scope name))
+abbrev pub const_type : List Entry → Written → ℕ → ConstType → Result Numbered BuildFault
+const_type es w scope (ConstTypes.Integer i) = Ok (already w (integer_number i))
+const_type es w scope ConstTypes.Octet = Ok (already w 0)
+const_type es w scope ConstTypes.Char = Ok (already w 1)
+const_type es w scope ConstTypes.Boolean = Ok (already w 2)
+const_type es w scope (ConstTypes.String None) = Ok (already w 9)
+const_type es w scope (ConstTypes.String (Some bound)) =
+    bound_of es scope bound >> λ most. added_at w (Text most) (line_of (expr_start bound.expr))
+const_type es w scope (ConstTypes.Name name) = type_found es w scope name >> λ n. Ok (already w n)
 
-abbrev pub param_type : List Entry → Written → ℕ → ParamType → Numbered
+abbrev pub param_type : List Entry → Written → ℕ → ParamType → Result Numbered BuildFault
 param_type es w scope (ParamTypes.Plain t) = const_type es w scope t
-param_type es w scope ParamTypes.Object = already w 13
+param_type es w scope ParamTypes.Object = Ok (already w 13)
 
--- a sequence comes behind its elements
-abbrev pub simple_type : List Entry → Written → ℕ → SimpleType → Numbered
-simple_type es w scope (Plain t) = param_type es w scope t
-simple_type es w scope (Sequence' shape element bound) =
-    let e = simple_type es w scope element in added e.written (Seq e.number (bound_of es scope bound))
+-- a sequence comes behind its elements; it stands in the line of the declarator, which is given
+abbrev pub simple_type : List Entry → Written → ℕ → ℕ → SimpleType → Result Numbered BuildFault
+simple_type es w scope line (Plain t) = param_type es w scope t
+simple_type es w scope line (Sequence' shape element bound) =
+    simple_type es w scope line element >> λ e.
+    bound_or_none es scope bound >> λ most. added_at e.written (Seq e.number most) line
+
+abbrev pub sizes_read : List Entry → ℕ → List ConstExpr → Result (List ℕ) BuildFault
+sizes_read es scope [] = Ok []
+sizes_read es scope (size ∷ sizes) = size_of es scope size >> λ n. sizes_read es scope sizes >> λ ns. Ok (n ∷ ns)
 
 -- arrays of a type, whose last size is that of the innermost, which comes first
-abbrev pub arrays : List Entry → ℕ → Numbered → List ConstExpr → Numbered
-arrays es scope element [] = element
-arrays es scope element (size ∷ sizes) =
-    let inner = arrays es scope element sizes in added inner.written (Array inner.number (size_of es scope size))
+abbrev pub arrays : Numbered → ℕ → List ℕ → Result Numbered BuildFault
+arrays element line [] = Ok element
+arrays element line (n ∷ ns) =
+    arrays element line ns >> λ inner. added_at inner.written (Array inner.number n) line
 
-abbrev pub enum_type : List Entry → Written → ℕ → EnumType → Numbered
-enum_type es w scope e = named_type w (named es scope (word e.identifier)) (Enum (length (parts e.enumerators)))
+abbrev pub declarator_line : Declarator → ℕ
+declarator_line d = line_of d.identifier
+
+-- the type of a declarator: its sizes are judged before there is an array
+abbrev pub array_type : List Entry → ℕ → Numbered → Declarator → Result Numbered BuildFault
+array_type es scope element d = sizes_read es scope d.sizes.items >> λ ns. arrays element (declarator_line d) ns
+
+abbrev pub enum_type : List Entry → Written → ℕ → EnumType → Result Numbered BuildFault
+enum_type es w scope e =
+    entry_of es scope e.identifier >> λ entry.
+    at_most max_enumerators Enumerators (line_of e.identifier) (length (parts e.enumerators)) >> λ n.
+    named_type w entry (Enum n) (line_of e.identifier)

@@ -1,110 +1,70 @@
 -- Structures, unions and their members (ISO/IEC 19500-1, type declaration).
-use Rattle.std.specs.Prelude.{ℕ, zero, suc, ◌-◌, ◌^◌, true, false, cond, List, [], ◌∷◌, ◌++◌, Option, Some, None, ℤ, pos, int_lt}
-use Rattle.std.specs.List.{fold}
-use Rattle.idl_tree.specs.declared.names.Leaf.{Leaf}
+use Rattle.std.specs.Prelude.{ℕ, ◌+◌, nat_le, if◌then◌else◌, map, List, [], ◌∷◌, ◌++◌, length, Option, Some, None, Result, Ok, Err, ℤ}
 use Rattle.idl_tree.specs.declared.names.Listed.{Listed}
-use Rattle.idl_tree.specs.declared.expression.Expr.{Expr}
 use Rattle.idl_tree.specs.declared.types.Declarator.{Declarator}
 use Rattle.idl_tree.specs.declared.types.Label.{Label}
-use Rattle.idl_tree.specs.declared.types.Label.TheVariants.{Case as CaseLabel, Default}
-use Rattle.idl_tree.specs.declared.types.SwitchType.{SwitchType}
-use Rattle.idl_tree.specs.declared.types.SwitchType.TheVariants as SwitchTypes
 use Rattle.idl_tree.specs.declared.types.TypeSpec.{TypeSpec, Simple, Struct as StructSpec, Union as UnionSpec, Enum as EnumSpec}
 use Rattle.idl_tree.specs.declared.types.StructType.{StructType, StructType', Row_of-Member, end_of-Member, more_of-Member}
 use Rattle.idl_tree.specs.declared.types.UnionType.{UnionType, UnionType', Row_of-Case, end_of-Case, more_of-Case}
 use Rattle.idl_tree.specs.declared.types.Member.{Member}
 use Rattle.idl_tree.specs.declared.types.Case.{Case}
 use Rattle.idl_tree.specs.Lists.{parts}
+use Rattle.type_graph.specs.declared.fault.GraphLimit.TheVariants.{Members as MembersLimit}
 use Rattle.type_graph.specs.declared.node.Node.TheVariants.{Struct, Union}
-use Rattle.const_values.specs.declared.constant.Constant.{Constant}
-use Rattle.const_values.specs.declared.constant.Constant.TheVariants.{Whole, Boolean, Character, Text, Enumerator}
-use Rattle.const_values.specs.declared.kind.ConstKind.{ConstKind}
-use Rattle.const_values.specs.declared.kind.ConstKind.TheVariants as Kinds
-use Rattle.name_table.specs.Entry.{Entry, named}
-use Rattle.name_table.specs.Entries.{scope_number}
-use Rattle.name_table.specs.Search.{finds, word}
-use Rattle.scoped_names.specs.Constants.{meant_found, of_type, worth_in_scope}
-use Rattle.written_types.specs.Written.{Written, Numbered, already, found_type, opened, set_node}
-use Rattle.written_types.specs.SimpleTypes.{arrays, enum_type, integer_number, simple_type}
+use Rattle.name_table.specs.Entry.{Entry}
+use Rattle.scoped_names.specs.Reading.{◌>>◌}
+use Rattle.written_types.specs.declared.arms.Arm.{Arm}
+use Rattle.written_types.specs.declared.arms.DefaultArm.{DefaultArm}
+use Rattle.written_types.specs.declared.fault.BuildFault.{BuildFault}
+use Rattle.written_types.specs.declared.fault.BuildFault.TheVariants.{Types}
+use Rattle.written_types.specs.declared.fault.TypeFault.TheVariants.{DefaultNeedless}
+use Rattle.written_types.specs.declared.labels.Switch.{Switch}
+use Rattle.written_types.specs.Faults.{at_most, each, line_of, max_members}
+use Rattle.written_types.specs.Members.{Members}
+use Rattle.written_types.specs.Written.{Written, Numbered, already, counted, node_set, opened}
+use Rattle.written_types.specs.SimpleTypes.{array_type, declarator_line, entry_of, enum_type, simple_type}
+use Rattle.written_types.specs.Labels.{Arms, label_added, no_arms, no_labels, switch_read, with_case}
 
 -- ---- members
 
--- what is written, and the numbers of the types of members
-pub record Members : Type 0 where
+-- what is written, and the members so far of a type
+pub record WithMembers : Type 0 where
   pub written : Written
-  pub members : List ℕ
+  pub members : Members
 
-abbrev pub members_of : Written → List ℕ → Members
-members_of w members = record { written = w; members = members }
+abbrev pub with_members_of : Written → Members → WithMembers
+with_members_of w ms = record { written = w; members = ms }
+
+abbrev pub no_members : Members
+no_members = record { numbers = []; lines = [] }
+
+-- a member more, whose type has the number
+abbrev pub member_added : Members → ℕ → ℕ → Result Members BuildFault
+member_added ms number line = at_most max_members MembersLimit line (length ms.numbers + 1) >> λ n.
+    Ok (record { numbers = ms.numbers ++ number ∷ []; lines = ms.lines ++ line ∷ [] })
 
 -- one declarator more, of the type that has the number
-abbrev pub with_declarator : List Entry → ℕ → ℕ → Members → Declarator → Members
+abbrev pub with_declarator : List Entry → ℕ → ℕ → WithMembers → Declarator → Result WithMembers BuildFault
 with_declarator es scope number m d =
-    let a = arrays es scope (already m.written number) d.sizes.items in
-    record { written = a.written; members = m.members ++ a.number ∷ [] }
+    array_type es scope (already m.written number) d >> λ a.
+    member_added m.members a.number (declarator_line d) >> λ ms. Ok (with_members_of a.written ms)
 
-abbrev pub with_declarators : List Entry → ℕ → Numbered → List ℕ → Listed Declarator → Members
-with_declarators es scope t members ds =
-    fold (with_declarator es scope t.number) (members_of t.written members) (parts ds)
+abbrev pub with_declarators : List Entry → ℕ → Numbered → Members → Listed Declarator → Result WithMembers BuildFault
+with_declarators es scope t ms ds = each (with_declarator es scope t.number) (with_members_of t.written ms) (parts ds)
 
--- ---- labels
+-- members of one type more: first it is read, and then there are its declarators
+abbrev pub members_added : List Entry → ℕ → Members → Result Numbered BuildFault → Listed Declarator → Result WithMembers BuildFault
+members_added es scope ms type ds = type >> λ t. with_declarators es scope t ms ds
 
--- the type of a discriminator
-abbrev pub switch_type : List Entry → Written → ℕ → SwitchType → Numbered
-switch_type es w scope (SwitchTypes.Integer i) = already w (integer_number i)
-switch_type es w scope SwitchTypes.Char = already w 1
-switch_type es w scope SwitchTypes.Boolean = already w 2
-switch_type es w scope (SwitchTypes.Enum e) = enum_type es w scope e
-switch_type es w scope (SwitchTypes.Name name) = already w (found_type w (finds es scope name))
+-- a structure whose number is known has these members
+abbrev pub struct_defined : WithMembers → ℕ → ℕ → Result Written BuildFault
+struct_defined m number line =
+    counted m.written (length m.members.numbers) line >> λ w.
+    node_set w number (Struct m.members.numbers) m.members.lines
 
-abbrev pub enum_kind : Option ℕ → Option ConstKind
-enum_kind None = None
-enum_kind (Some e) = Some (Kinds.Enum e)
+-- ---- cases
 
--- of which type its labels are constants
-abbrev pub switch_kind : List Entry → ℕ → SwitchType → Option ConstKind
-switch_kind es scope (SwitchTypes.Integer i) = Some (Kinds.Integer i)
-switch_kind es scope SwitchTypes.Char = Some Kinds.Char
-switch_kind es scope SwitchTypes.Boolean = Some Kinds.Boolean
-switch_kind es scope (SwitchTypes.Enum e) = enum_kind (named es scope (word e.identifier))
-switch_kind es scope (SwitchTypes.Name name) = meant_found es (finds es scope name)
-
--- more than any label in a graph: a constant of another kind has it
-abbrev pub no_label : ℤ
-no_label = pos (2 ^ 127)
-
--- the value of a discriminator for which a constant stands: an enumerator is the number of those before it, and
--- enumerators are the entries behind their enumeration
-abbrev pub label_number : Option Constant → ℤ
-label_number None = no_label
-label_number (Some (Whole n)) = n
-label_number (Some (Boolean false)) = pos 0
-label_number (Some (Boolean true)) = pos 1
-label_number (Some (Character c)) = pos c
-label_number (Some (Text octets)) = no_label
-label_number (Some (Enumerator e owner)) = pos (e - owner - 1)
-
-abbrev pub label_of : List Entry → ℕ → Option ConstKind → Expr → ℤ
-label_of es scope kind e = label_number (of_type kind (worth_in_scope es scope e))
-
--- the arms of a union in rising order of their labels, with one more
-abbrev pub with_arm : List (ℤ × ℕ) → ℤ → ℕ → List (ℤ × ℕ)
-with_arm [] label number = (label, number) ∷ []
-with_arm (arm ∷ arms) label number =
-    cond (int_lt label arm.0) ((label, number) ∷ arm ∷ arms) (arm ∷ with_arm arms label number)
-
--- the members of a union by their labels, and of every other value
-pub record Arms : Type 0 where
-  pub arms : List (ℤ × ℕ)
-  pub default : Option ℕ
-
--- one label more of the member whose type has the number
-abbrev pub with_label : List Entry → ℕ → Option ConstKind → ℕ → Arms → Label → Arms
-with_label es scope kind number a (CaseLabel e) =
-    record a { arms = with_arm a.arms (label_of es scope kind e.expr) number }
-with_label es scope kind number a (Default word) = record a { default = Some number }
-
--- what is written, and the arms of a union
+-- what is written, and the arms so far of a union
 pub record Cases : Type 0 where
   pub written : Written
   pub arms : Arms
@@ -112,61 +72,89 @@ pub record Cases : Type 0 where
 abbrev pub cases_of : Written → Arms → Cases
 cases_of w arms = record { written = w; arms = arms }
 
--- one case more, whose type is that of its declarator
-abbrev pub with_case : List Entry → ℕ → Option ConstKind → Numbered → Arms → Listed Label → Declarator → Cases
-with_case es scope kind t arms labels d =
-    let a = arrays es scope t d.sizes.items in
-    record { written = a.written; arms = fold (with_label es scope kind a.number) arms (parts labels) }
+-- a case more: first its labels are judged, then its type is read, and then it has its arms
+abbrev pub case_added : List Entry → ℕ → Switch → Cases → Listed Label → (Written → Result Numbered BuildFault) → Declarator → Result Cases BuildFault
+case_added es scope s c labels type d =
+    each (label_added es scope s c.arms) no_labels (parts labels) >> λ ls.
+    type c.written >> λ t.
+    array_type es scope t d >> λ a.
+    Ok (cases_of a.written (with_case c.arms a.number (declarator_line d) ls))
 
-abbrev pub no_arms : Arms
-no_arms = record { arms = []; default = None }
+abbrev pub default_test : Switch → ℕ → Option DefaultArm → Result (Unit {0}) BuildFault
+default_test s count None = Ok tt
+default_test s count (Some d) =
+    (if nat_le s.values.count count then Err (Types (DefaultNeedless d.keyword)) else Ok tt)
+
+abbrev pub default_number : Option DefaultArm → Option ℕ
+default_number None = None
+default_number (Some d) = Some d.number
+
+abbrev pub default_lines : Option DefaultArm → List ℕ
+default_lines None = []
+default_lines (Some d) = d.line ∷ []
+
+abbrev pub numbered_arm : Arm → ℤ × ℕ
+numbered_arm arm = (arm.label, arm.number)
+
+abbrev pub arm_line : Arm → ℕ
+arm_line arm = arm.line
+
+-- a union whose number is known has these arms
+abbrev pub union_defined : Switch → Cases → ℕ → ℕ → Result Written BuildFault
+union_defined s c number line =
+    default_test s (length c.arms.arms) c.arms.default >> λ u.
+    counted c.written (length c.arms.arms) line >> λ w.
+    node_set w number (Union s.number (map numbered_arm c.arms.arms) (default_number c.arms.default))
+    (map arm_line c.arms.arms ++ default_lines c.arms.default)
 
 -- ---- types
 
+-- a type of a declarator in the line; the body of a structure or a union stands in its own scope
 abbrev mutual
-  pub type_spec : List Entry → Written → ℕ → TypeSpec → Numbered
-  type_spec es w scope (Simple t) = simple_type es w scope t
-  type_spec es w scope (StructSpec s) = struct_type es w scope s
-  type_spec es w scope (UnionSpec u) = union_type es w scope u
-  type_spec es w scope (EnumSpec e) = enum_type es w scope e
+  pub type_spec : List Entry → Written → ℕ → ℕ → TypeSpec → Result Numbered BuildFault
+  type_spec es w scope line (Simple t) = simple_type es w scope line t
+  type_spec es w scope line (StructSpec s) = struct_type es w scope s
+  type_spec es w scope line (UnionSpec u) = union_type es w scope u
+  type_spec es w scope line (EnumSpec e) = enum_type es w scope e
 
-  pub struct_type : List Entry → Written → ℕ → StructType → Numbered
+  pub struct_type : List Entry → Written → ℕ → StructType → Result Numbered BuildFault
   struct_type es w scope (StructType' id p t declarators shape rest) =
-      let e = named es scope (word id) in
-      let o = opened w e in
-      let inner = scope_number e in
-      let m = with_members es inner (with_declarators es inner (type_spec es o.written inner t) [] declarators) rest in
-      record { number = o.number; written = set_node m.written o.number (Struct m.members) }
+      entry_of es scope id >> λ e.
+      opened w e (line_of id) >> λ o.
+      members_added es (e + 1) no_members
+      (type_spec es o.written (e + 1) (declarator_line declarators.first) t) declarators >> λ first.
+      with_members es (e + 1) first rest >> λ m.
+      struct_defined m o.number (line_of id) >> λ behind. Ok (already behind o.number)
 
-  pub union_type : List Entry → Written → ℕ → UnionType → Numbered
+  pub union_type : List Entry → Written → ℕ → UnionType → Result Numbered BuildFault
   union_type es w scope (UnionType' id switch p labels t declarator shape rest) =
-      let e = named es scope (word id) in
-      let o = opened w e in
-      let inner = scope_number e in
-      let s = switch_type es o.written inner switch in
-      let kind = switch_kind es inner switch in
-      let first = with_case es inner kind (type_spec es s.written inner t) no_arms labels declarator in
-      let c = with_cases es inner kind first rest in
-      record {
-        number = o.number;
-        written = set_node c.written o.number (Union s.number c.arms.arms c.arms.default);
-      }
+      entry_of es scope id >> λ e.
+      opened w e (line_of id) >> λ o.
+      switch_read es o.written (e + 1) (line_of id) switch >> λ s.
+      case_added es (e + 1) s.switch (cases_of s.written no_arms) labels
+      (λ v. type_spec es v (e + 1) (declarator_line declarator) t) declarator >> λ first.
+      with_cases es (e + 1) s.switch first rest >> λ c.
+      union_defined s.switch c o.number (line_of id) >> λ behind. Ok (already behind o.number)
 
-  pub with_members : {n : _} → List Entry → ℕ → Members → Row_of-Member n → Members
-  with_members es scope m end_of-Member = m
+  pub with_members : {n : _} → List Entry → ℕ → WithMembers → Row_of-Member n → Result WithMembers BuildFault
+  with_members es scope m end_of-Member = Ok m
   with_members es scope m (more_of-Member t declarators rest) =
-      with_members es scope (with_declarators es scope (type_spec es m.written scope t) m.members declarators) rest
+      members_added es scope m.members
+      (type_spec es m.written scope (declarator_line declarators.first) t) declarators >> λ next.
+      with_members es scope next rest
 
-  pub with_cases : {n : _} → List Entry → ℕ → Option ConstKind → Cases → Row_of-Case n → Cases
-  with_cases es scope kind c end_of-Case = c
-  with_cases es scope kind c (more_of-Case labels t declarator rest) =
-      with_cases es scope kind (with_case es scope kind (type_spec es c.written scope t) c.arms labels declarator) rest
+  pub with_cases : {n : _} → List Entry → ℕ → Switch → Cases → Row_of-Case n → Result Cases BuildFault
+  with_cases es scope s c end_of-Case = Ok c
+  with_cases es scope s c (more_of-Case labels t declarator rest) =
+      case_added es scope s c labels (λ v. type_spec es v scope (declarator_line declarator) t) declarator >> λ next.
+      with_cases es scope s next rest
 
 -- members of one type more
-abbrev pub with_member : List Entry → ℕ → Members → Member → Members
+abbrev pub with_member : List Entry → ℕ → WithMembers → Member → Result WithMembers BuildFault
 with_member es scope m x =
-    with_declarators es scope (type_spec es m.written scope x.member_type) m.members x.declarators
+    members_added es scope m.members
+    (type_spec es m.written scope (declarator_line x.declarators.first) x.member_type) x.declarators
 
-abbrev pub with_case_of : List Entry → ℕ → Option ConstKind → Cases → Case → Cases
-with_case_of es scope kind c x =
-    with_case es scope kind (type_spec es c.written scope x.member_type) c.arms x.labels x.declarator
+abbrev pub with_case_of : List Entry → ℕ → Switch → Cases → Case → Result Cases BuildFault
+with_case_of es scope s c x =
+    case_added es scope s c x.labels (λ v. type_spec es v scope (declarator_line x.declarator) x.member_type) x.declarator

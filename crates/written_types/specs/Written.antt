@@ -1,39 +1,104 @@
 -- What the parts of a specification write of a graph of types, one behind another: the node of each type, in the order
 -- of their numbers, and what each declared name has.
-use Rattle.std.specs.Prelude.{ℕ, ◌^◌, List, [], ◌∷◌, ◌++◌, length, replicate, Option, Some, None, slice_get, slice_set}
+use Rattle.std.specs.Prelude.{ℕ, Bool, true, false, ◌+◌, ◌-◌, nat_lt, if◌then◌else◌, List, [], ◌∷◌, ◌++◌, length, replicate, Option, Some, None, Result, Ok, Err, slice_get, slice_set}
+use Rattle.type_graph.specs.declared.fault.GraphLimit.TheVariants.{Nodes, AllMembers}
 use Rattle.type_graph.specs.declared.node.Node.{Node}
 use Rattle.type_graph.specs.declared.node.Node.TheVariants.{Struct}
 use Rattle.basic_types.specs.BasicNodes.{basic_nodes}
-use Rattle.name_table.specs.declared.search.Found.{Found}
-use Rattle.name_table.specs.declared.search.Found.TheVariants.{Nothing, One, Several}
+use Rattle.scoped_names.specs.Reading.{◌>>◌}
+use Rattle.written_types.specs.declared.fault.BuildFault.{BuildFault}
+use Rattle.written_types.specs.declared.fault.BuildFault.TheVariants.{OtherNames}
 use Rattle.written_types.specs.declared.place.Place.{Place}
 use Rattle.written_types.specs.declared.place.Place.TheVariants.{Typed, Raised, Called, Got, GotAndSet}
+use Rattle.written_types.specs.Faults.{at_most, max_all_members, max_nodes}
+use Rattle.type_paths.specs.Lines.{Lines}
 
--- the nodes so far; what each entry among the names has; the exceptions, each by its entry and its frame
+-- the nodes so far; what each entry among the names has; the exceptions, each by its entry and its frame; the lines of
+-- the nodes behind the basic types; how many members all types have
 pub record Written : Type 0 where
   pub nodes : List Node
   pub places : List (Option Place)
   pub exceptions : List (ℕ × ℕ)
+  pub lines : List Lines
+  pub members : ℕ
 
 -- what is written before the first part, where there are so many entries: the types that every specification has
 abbrev pub unwritten : ℕ → Written
-unwritten entries = record { nodes = basic_nodes; places = replicate entries None; exceptions = [] }
+unwritten entries = record {
+  nodes = basic_nodes;
+  places = replicate entries None;
+  exceptions = [];
+  lines = [];
+  members = 0;
+}
+
+-- ---- nodes
+
+-- the number of a type, and what is written behind it
+pub record Numbered : Type 0 where
+  pub number : ℕ
+  pub written : Written
+
+-- a type that has its number already
+abbrev pub already : Written → ℕ → Numbered
+already w n = record { number = n; written = w }
+
+abbrev pub with_node : Written → Node → Lines → Written
+with_node w node lines = record w { nodes = w.nodes ++ node ∷ []; lines = w.lines ++ lines ∷ [] }
 
 -- the number of the node that is written next
 abbrev pub next : Written → ℕ
 next w = length w.nodes
 
-abbrev pub with_node : Written → Node → Written
-with_node w node = record w { nodes = w.nodes ++ node ∷ [] }
+-- a node that gets the next number
+abbrev pub added : Written → Node → Lines → Result Numbered BuildFault
+added w node lines = at_most max_nodes Nodes lines.line (next w + 1) >> λ n. Ok (already (with_node w node lines) (next w))
 
--- with another node at the number
-abbrev pub set_node : Written → ℕ → Node → Written
-set_node w number node = record w { nodes = slice_set w.nodes number node }
+abbrev pub one_line : ℕ → Lines
+one_line line = record { line = line; held = line ∷ [] }
 
--- an entry has this from here on
-abbrev pub with_place : Written → Option ℕ → Place → Written
-with_place w None p = w
-with_place w (Some e) p = record w { places = slice_set w.places e (Some p) }
+-- a node that holds one other at most, and stands in the line
+abbrev pub added_at : Written → Node → ℕ → Result Numbered BuildFault
+added_at w node line = added w node (one_line line)
+
+abbrev pub with_held : List Lines → ℕ → List ℕ → Option Lines → List Lines
+with_held lines place held None = lines
+with_held lines place held (Some l) = slice_set lines place (record { line = l.line; held = held })
+
+-- a basic type has no lines
+abbrev pub held_at : List Lines → ℕ → List ℕ → List Lines
+held_at lines number held =
+    (if nat_lt number 14 then lines else with_held lines (number - 14) held (slice_get lines (number - 14)))
+
+-- a structure or a union before its definition; no graph has a structure without members
+abbrev pub undefined : Node
+undefined = Struct []
+
+abbrev pub is_undefined : Option Node → Bool
+is_undefined (Some (Struct [])) = true
+is_undefined _ = false
+
+-- in the place of what has no definition yet another node, which holds what stands in these lines
+abbrev pub node_set : Written → ℕ → Node → List ℕ → Result Written BuildFault
+node_set w number node held =
+    (if is_undefined (slice_get w.nodes number)
+    then Ok (record w { nodes = slice_set w.nodes number node; lines = held_at w.lines number held })
+    else Err OtherNames)
+
+-- so many members more, of a type in the line
+abbrev pub counted : Written → ℕ → ℕ → Result Written BuildFault
+counted w count line =
+    at_most max_all_members AllMembers line (w.members + count) >> λ all. Ok (record w { members = all })
+
+-- ---- what entries have
+
+-- an entry that has nothing yet has this from here on
+abbrev pub placed_at : Written → ℕ → Place → Option (Option Place) → Result Written BuildFault
+placed_at w e p (Some None) = Ok (record w { places = slice_set w.places e (Some p) })
+placed_at w e p _ = Err OtherNames
+
+abbrev pub placed : Written → ℕ → Place → Result Written BuildFault
+placed w e p = placed_at w e p (slice_get w.places e)
 
 abbrev pub place_in : Option (Option Place) → Option Place
 place_in None = None
@@ -53,56 +118,23 @@ type_in (Some (Some (Got request))) = None
 type_in (Some (Some (GotAndSet request))) = None
 
 -- the number of the type that an entry is the name of
-abbrev pub type_of : Written → Option ℕ → Option ℕ
-type_of w None = None
-type_of w (Some e) = type_in (slice_get w.places e)
-
--- more than any number, bound and size in a graph: a name that finds no type and an expression without worth have it,
--- so a graph says that there are none in what it was written for
-abbrev pub none_such : ℕ
-none_such = 2 ^ 32
-
-abbrev pub or_none_such : Option ℕ → ℕ
-or_none_such None = none_such
-or_none_such (Some n) = n
-
--- the number of the type that a name finds
-abbrev pub found_type : Written → Found → ℕ
-found_type w Nothing = none_such
-found_type w (One e) = or_none_such (type_of w (Some e))
-found_type w Several = none_such
-
--- the number of a type, and what is written behind it
-pub record Numbered : Type 0 where
-  pub number : ℕ
-  pub written : Written
-
--- a type that has its number already
-abbrev pub already : Written → ℕ → Numbered
-already w n = record { number = n; written = w }
-
--- a type that gets the next number
-abbrev pub added : Written → Node → Numbered
-added w node = record { number = next w; written = with_node w node }
+abbrev pub type_of : Written → ℕ → Option ℕ
+type_of w e = type_in (slice_get w.places e)
 
 -- a type that gets the next number, which the entry is the name of
-abbrev pub named_type : Written → Option ℕ → Node → Numbered
-named_type w e node = record { number = next w; written = with_place (with_node w node) e (Typed (next w)) }
+abbrev pub named_type : Written → ℕ → Node → ℕ → Result Numbered BuildFault
+named_type w e node line =
+    added_at w node line >> λ a. placed a.written e (Typed a.number) >> λ there. Ok (already there a.number)
 
--- a structure or a union before its definition; no graph has a structure without members
-abbrev pub undefined : Node
-undefined = Struct []
+abbrev pub opened_as : Written → ℕ → ℕ → Option ℕ → Result Numbered BuildFault
+opened_as w e line None = named_type w e undefined line
+opened_as w e line (Some n) = Ok (already w n)
 
-abbrev pub opened_as : Written → Option ℕ → Option ℕ → Numbered
-opened_as w e None = named_type w e undefined
-opened_as w e (Some n) = already w n
-
--- a structure or a union that is declared: it gets its number at its first declaration
-abbrev pub opened : Written → Option ℕ → Numbered
-opened w e = opened_as w e (type_of w e)
+-- a structure or a union that is declared in the line: it gets its number at its first declaration
+abbrev pub opened : Written → ℕ → ℕ → Result Numbered BuildFault
+opened w e line = opened_as w e line (type_of w e)
 
 -- an exception more that the entry is the name of, with its frame
-abbrev pub raised_at : Written → ℕ → ℕ → Written
-raised_at w e frame =
-    let there = with_place w (Some e) (Raised frame (length w.exceptions)) in
-    record there { exceptions = w.exceptions ++ (e, frame) ∷ [] }
+abbrev pub raised_at : Written → ℕ → ℕ → Result Written BuildFault
+raised_at w e frame = placed w e (Raised frame (length w.exceptions)) >> λ there.
+    Ok (record there { exceptions = there.exceptions ++ (e, frame) ∷ [] })

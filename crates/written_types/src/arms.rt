@@ -1,85 +1,40 @@
-//! The members of structures and the arms of unions, while they are read.
+//! The arms of unions, while they are read.
 
-ghost use Rattle.std.specs.Prelude.{◌≡◌, ◌≤◌, ◌++◌, ℕ, ℤ, List, [], ◌∷◌, insert, length, IfOk, OnOk, Some};
-ghost use Rattle.written_types.specs.Types.{no_arms, with_arm};
+ghost use Rattle.std.specs.Prelude.{◌≡◌, ◌≤◌, ◌++◌, insert, length, map, IfOk, OnOk};
+ghost use Rattle.written_types.specs.Labels.{is_label, no_arms, with_arm, with_case};
+ghost use Rattle.written_types.specs.Types.{arm_line, default_lines, default_number, default_test, numbered_arm};
 
 use crate::fault::{BuildFault, TypeFault};
-use std::alloc::Global;
+use crate::labels::{CaseLabels, Switch};
+use std::alloc::{AllocError, Global};
 use std::marker::Model;
-use type_graph::{Arms, GraphLimit, Members, Node, Values};
 
-const MAX_MEMBERS: usize = 1024;
-
-/// The members of a structure or a frame, and the lines of their declarators. A contract sees the
-/// numbers of their types.
-#[derive(Drop)]
-pub struct MemberList {
-    numbers: Vec<u32>,
-    lines: Vec<usize>,
+/// What a label of a union chooses: a member whose type has the number, and whose declarator stands
+/// in the line.
+#[derive(Clone, Copy)]
+pub(crate) struct Arm {
+    pub label: i128,
+    pub number: u32,
+    pub line: usize,
 }
 
-impl Model for MemberList {
-    ghost use Rattle.std.specs.Prelude.{List, ℕ};
-
-    ghost Value = { List ℕ };
-
-    ghost view = { λ m. m.numbers.items };
+/// What every other value chooses, and the line of the keyword.
+#[derive(Clone, Copy)]
+pub(crate) struct DefaultArm {
+    pub number: u32,
+    pub line: usize,
+    pub keyword: usize,
 }
 
-impl MemberList {
-    /// No members. Takes no memory.
-    pub fn new(alloc: Global) -> Self
-        ensures { result ≡ [] }
-    {
-        MemberList {
-            numbers: Vec::new(alloc),
-            lines: Vec::new(alloc),
-        }
-    }
-
-    /// One member more, of a type that has a number.
-    ///
-    /// # Errors
-    /// `Limit` where there are 1,024, want of memory.
-    pub fn push(&mut self, number: u32, line: usize) -> Result<(), BuildFault>
-        ensures { OnOk result (self.new ≡ self.old ++ number ∷ []) }
-    {
-        if self.numbers.len() >= MAX_MEMBERS {
-            return Err(BuildFault::limit(GraphLimit::Members, line));
-        }
-        self.lines.push(line)?;
-        self.numbers.push(number)?;
-        Ok(())
-    }
-
-    /// How many there are.
-    pub fn len(&self) -> usize
-        ensures { result ≡ length self.now }
-    {
-        self.numbers.len()
-    }
-
-    /// Gives the members and their lines. Takes no memory.
-    pub fn into_parts(self) -> (Members, Vec<usize>)
-        ensures { result.0 ≡ self }
-    {
-        (Members::new(self.numbers), self.lines)
-    }
-}
-
-/// The arms of a union in rising order of their labels, with the lines of their members. A contract
-/// sees the arms and what every other value chooses.
+/// The arms of a union in rising order of their labels, and what every other value chooses.
 #[derive(Drop)]
 pub(crate) struct ArmList {
-    arms: Vec<(i128, u32)>,
-    default: Option<u32>,
-    lines: Vec<usize>,
-    /// The lines of the default's member and of its keyword.
-    default_lines: (usize, usize),
+    arms: Vec<Arm>,
+    default: Option<DefaultArm>,
 }
 
 impl Model for ArmList {
-    ghost use Rattle.written_types.specs.Types.{Arms};
+    ghost use Rattle.written_types.specs.Labels.{Arms};
 
     ghost Value = { Arms };
 
@@ -87,12 +42,12 @@ impl Model for ArmList {
 }
 
 /// Before which arm a label comes: the first whose label is greater.
-fn place_of(arms: &[(i128, u32)], label: i128) -> usize
+fn place_of(arms: &[Arm], arm: Arm) -> usize
     ensures within { result ≤ length arms.now }
-    ensures there { (number : ℕ) → insert arms.now result (label, number) ≡ with_arm arms.now label number }
+    ensures there { insert arms.now result arm ≡ with_arm arms.now arm }
 {
-    for (place, arm) in arms.iter().enumerate() {
-        if label < arm.0 {
+    for (place, other) in arms.iter().enumerate() {
+        if arm.label < other.label {
             return place;
         }
     }
@@ -107,88 +62,115 @@ impl ArmList {
         ArmList {
             arms: Vec::new(alloc),
             default: None,
-            lines: Vec::new(alloc),
-            default_lines: (0, 0),
         }
     }
 
     /// Whether an arm has the label.
-    fn has(&self, label: i128) -> bool {
-        self.arms.iter().any(|arm| arm.0 == label)
-    }
-
-    /// One arm more, whose member stands in a line; the label stands in another.
-    ///
-    /// # Errors
-    /// `LabelTwice`, `Limit` where there are 1,024, want of memory.
-    pub fn add(&mut self, label: i128, number: u32, lines: (usize, usize)) -> Result<(), BuildFault>
-        ensures { OnOk result (self.new ≡ record self.old { arms = with_arm self.old.arms label number }) }
+    pub fn has(&self, label: i128) -> bool
+        ensures { result ≡ is_label self.now.arms label }
     {
-        let (line, label_line) = lines;
-        if self.has(label) {
-            return Err(BuildFault::Types(TypeFault::LabelTwice { line: label_line }));
-        }
-        if self.arms.len() >= MAX_MEMBERS {
-            return Err(BuildFault::limit(GraphLimit::Members, label_line));
-        }
-        let place = place_of(self.arms.as_slice(), label);
-        if place <= self.lines.len() {
-            self.lines.insert(place, line)?;
-        }
-        self.arms.insert(place, (label, number))?;
-        Ok(())
+        self.arms.iter().any(|arm| arm.label == label)
     }
 
-    /// What every other value chooses, whose member stands in a line; the keyword stands in another.
-    ///
-    /// # Errors
-    /// `LabelTwice` where there is one.
-    pub fn set_default(&mut self, number: u32, lines: (usize, usize)) -> Result<(), BuildFault>
-        ensures { OnOk result (self.new ≡ record self.old { default = Some number }) }
-    {
-        if self.default.is_some() {
-            return Err(BuildFault::Types(TypeFault::LabelTwice { line: lines.1 }));
-        }
-        self.default = Some(number);
-        self.default_lines = lines;
-        Ok(())
-    }
-
-    /// How many arms there are.
+    /// How many labels there are.
     pub fn len(&self) -> usize
         ensures { result ≡ length self.now.arms }
     {
         self.arms.len()
     }
 
-    /// Whether a default is needed, where there is one.
+    /// What every other value chooses.
+    pub fn default_arm(&self) -> Option<DefaultArm>
+        ensures { result ≡ self.now.default }
+    {
+        self.default
+    }
+
+    fn insert(&mut self, arm: Arm) -> Result<(), AllocError>
+        ensures { OnOk result (self.new ≡ record self.old { arms = with_arm self.old.arms arm }) }
+    {
+        let place = place_of(self.arms.as_slice(), arm);
+        self.arms.insert(place, arm)?;
+        Ok(())
+    }
+
+    /// A case more, whose member has a type of the number and stands in the line.
     ///
     /// # Errors
-    /// `DefaultNeedless` where the labels are all of the values.
-    pub fn check_default(&self, values: Values) -> Result<(), BuildFault> {
-        if self.default.is_some() && self.arms.len() as u128 >= values.count {
-            let line = self.default_lines.1;
-            return Err(BuildFault::Types(TypeFault::DefaultNeedless { line }));
+    /// Want of memory.
+    pub fn add_case(
+        &mut self,
+        number: u32,
+        line: usize,
+        labels: &CaseLabels,
+    ) -> Result<(), AllocError>
+        ensures { OnOk result (self.new ≡ with_case self.old number line labels.now) }
+    {
+        for label in labels.values() {
+            self.insert(Arm {
+                label: *label,
+                number,
+                line,
+            })?;
+        }
+        if let Some(keyword) = labels.default_line() {
+            self.default = Some(DefaultArm {
+                number,
+                line,
+                keyword,
+            });
         }
         Ok(())
     }
 
-    /// The union of a discriminator, and the lines of its members.
+    /// That a default is needed, where there is one.
     ///
     /// # Errors
-    /// Want of memory.
-    pub fn into_union(self, switch: u32) -> Result<(Node, Vec<usize>), BuildFault>
-        ensures { IfOk result (λ r. r.0 ≡ Node.Union switch self.arms self.default) }
+    /// `DefaultNeedless` where the labels are all of the values.
+    pub fn check_default(&self, switch: Switch) -> Result<(), BuildFault>
+        ensures { result ≡ default_test switch (length self.now.arms) self.now.default }
     {
-        let mut lines = self.lines;
-        if self.default.is_some() {
-            lines.push(self.default_lines.0)?;
+        match self.default {
+            Some(arm) if self.arms.len() as u128 >= switch.values.count => {
+                let line = arm.keyword;
+                Err(BuildFault::Types(TypeFault::DefaultNeedless { line }))
+            }
+            _ => Ok(()),
         }
-        let union = Node::Union {
-            switch,
-            arms: Arms::new(self.arms),
-            default: self.default,
-        };
-        Ok((union, lines))
+    }
+
+    /// The labels, each with the number of its member's type.
+    pub fn numbers(&self, alloc: Global) -> Result<Vec<(i128, u32)>, AllocError>
+        ensures { IfOk result (λ arms. arms.items ≡ map numbered_arm self.now.arms) }
+    {
+        let mut numbers = Vec::new(alloc);
+        for arm in &self.arms {
+            numbers.push((arm.label, arm.number))?;
+        }
+        Ok(numbers)
+    }
+
+    /// The number of the default's type.
+    pub fn default_number(&self) -> Option<u32>
+        ensures { result ≡ default_number self.now.default }
+    {
+        match self.default {
+            Some(arm) => Some(arm.number),
+            None => None,
+        }
+    }
+
+    /// The lines of the members.
+    pub fn lines(&self, alloc: Global) -> Result<Vec<usize>, AllocError>
+        ensures { IfOk result (λ lines. lines.items ≡ map arm_line self.now.arms ++ default_lines self.now.default) }
+    {
+        let mut lines = Vec::new(alloc);
+        for arm in &self.arms {
+            lines.push(arm.line)?;
+        }
+        if let Some(arm) = self.default {
+            lines.push(arm.line)?;
+        }
+        Ok(lines)
     }
 }

@@ -1,25 +1,30 @@
 //! What modules and interfaces declare.
 
-ghost use Rattle.std.specs.Prelude.{◌≡◌, ◌≤◌, length, IfOk, OnOk, Some};
-ghost use Rattle.std.specs.List.{fold};
+ghost use Rattle.std.specs.Prelude.{◌≡◌, ◌≤◌, length, Ok};
 ghost use Rattle.idl_tree.specs.Lists.{parts};
-ghost use Rattle.name_table.specs.Entry.{named};
-ghost use Rattle.name_table.specs.Search.{word};
-ghost use Rattle.written_types.specs.Written.{opened};
-ghost use Rattle.written_types.specs.Types.{members_of};
-ghost use Rattle.written_types.specs.Declarations.{declaration, except, except_members, type_dcl, with_exception, with_typedef};
+ghost use Rattle.written_types.specs.Declarations.{ahead, declaration, except, exception_added, id_member, type_dcl, with_typedef};
+ghost use Rattle.written_types.specs.Faults.{Tells, each};
+ghost use Rattle.written_types.specs.Types.{with_members_of};
 
-use crate::arms::MemberList;
 use crate::fault::BuildFault;
+use type_paths::NodeLines;
+use crate::members::MemberList;
 use crate::place::Place;
 use crate::readings::declared_entry;
-use crate::table::{NodeLines, TypeTable};
+use crate::table::TypeTable;
 use idl_tree::definitions::{Declaration, Except, TypeDcl};
 use idl_tree::names::{Leaf, Listed};
 use idl_tree::types::Declarator;
 use scoped_names::Names;
 use std::alloc::Global;
 use type_graph::Node;
+
+/// The first member of an exception's frame, its repository id.
+fn id_member(alloc: Global, line: usize) -> Result<MemberList, BuildFault>
+    ensures { Tells result (λ members. members) (Ok (id_member line)) }
+{
+    MemberList::new(alloc).with_member(basic_types::STRING, line)
+}
 
 impl TypeTable {
     /// A name for the type that has the number, or for an array of it.
@@ -32,11 +37,9 @@ impl TypeTable {
         declarator: &Declarator<'a>,
     ) -> Result<(), BuildFault>
         requires { scope ≤ length names.now.entries }
-        ensures { OnOk result (self.new ≡ with_typedef names.now.entries scope number self.old declarator.now) }
+        ensures { Tells result (λ u. self.new) (with_typedef names.now.entries scope number self.old declarator.now) }
     {
-        let line = declarator.identifier.token.line;
-        let sizes = declarator.sizes.as_slice();
-        let number = self.write_arrays(alloc, names, scope, number, sizes, line)?;
+        let number = self.write_arrays(alloc, names, scope, number, declarator)?;
         let entry = declared_entry(names, scope, declarator.identifier)?;
         self.put(entry, Place::Typed(number))
     }
@@ -50,8 +53,8 @@ impl TypeTable {
         declarators: &Listed<Declarator<'a>>,
     ) -> Result<(), BuildFault>
         requires { scope ≤ length names.now.entries }
-        ensures { OnOk result (self.new ≡
-            fold (with_typedef names.now.entries scope number) self.old (parts declarators.now)) }
+        ensures { Tells result (λ u. self.new)
+            (each (with_typedef names.now.entries scope number) self.old (parts declarators.now)) }
     {
         for declarator in declarators.iter() {
             self.write_typedef(alloc, names, scope, number, declarator)?;
@@ -67,7 +70,7 @@ impl TypeTable {
         scope: usize,
         identifier: Leaf<'a>,
     ) -> Result<(), BuildFault>
-        ensures { OnOk result (self.new ≡ (opened self.old (named names.now.entries scope (word identifier.entry))).written) }
+        ensures { Tells result (λ u. self.new) (ahead names.now.entries self.old scope identifier.entry) }
     {
         let entry = declared_entry(names, scope, identifier)?;
         self.declare(alloc, entry, identifier.token.line)?;
@@ -82,7 +85,7 @@ impl TypeTable {
         t: &TypeDcl<'a>,
     ) -> Result<(), BuildFault>
         requires { scope ≤ length names.now.entries }
-        ensures { OnOk result (self.new ≡ type_dcl names.now.entries self.old scope t.now) }
+        ensures { Tells result (λ u. self.new) (type_dcl names.now.entries self.old scope t.now) }
     {
         match t {
             TypeDcl::Typedef {
@@ -90,7 +93,7 @@ impl TypeTable {
                 declarators,
             } => {
                 let line = declarators.first.identifier.token.line;
-                let number = self.write_type(alloc, names, scope, original, line)?;
+                let number = self.write_type(alloc, names, scope, line, original)?;
                 self.write_typedefs(alloc, names, scope, number, declarators)
             }
             TypeDcl::Struct(s) => {
@@ -105,9 +108,8 @@ impl TypeTable {
                 self.write_enum(alloc, names, scope, e)?;
                 Ok(())
             }
-            TypeDcl::StructAhead(identifier) | TypeDcl::UnionAhead(identifier) => {
-                self.write_ahead(alloc, names, scope, *identifier)
-            }
+            TypeDcl::StructAhead(identifier) => self.write_ahead(alloc, names, scope, *identifier),
+            TypeDcl::UnionAhead(identifier) => self.write_ahead(alloc, names, scope, *identifier),
         }
     }
 
@@ -118,11 +120,11 @@ impl TypeTable {
         members: MemberList,
         line: usize,
     ) -> Result<(), BuildFault>
-        ensures { OnOk result (self.new ≡ with_exception (members_of self.old members) (Some entry)) }
+        ensures { Tells result (λ u. self.new) (exception_added (with_members_of self.old members) entry line) }
     {
         self.count_members(members.len(), line)?;
         let (members, held) = members.into_parts();
-        let frame = self.add(Node::Frame { members }, NodeLines { line, held })?;
+        let frame = self.add(Node::Frame { members }, NodeLines::new(line, held))?;
         self.raise(entry, frame)
     }
 
@@ -134,12 +136,11 @@ impl TypeTable {
         e: &Except<'a>,
     ) -> Result<(), BuildFault>
         requires { scope ≤ length names.now.entries }
-        ensures { OnOk result (self.new ≡ except names.now.entries self.old scope e.now) }
+        ensures { Tells result (λ u. self.new) (except names.now.entries self.old scope e.now) }
     {
         let line = e.identifier.token.line;
         let entry = declared_entry(names, scope, e.identifier)?;
-        let mut members = MemberList::new(alloc);
-        members.push(basic_types::STRING, line)?;
+        let mut members = id_member(alloc, line)?;
         for member in &e.members {
             self.write_member(alloc, names, entry + 1, member, &mut members)?;
         }
@@ -147,10 +148,7 @@ impl TypeTable {
     }
 
     /// A declaration of a module or an interface.
-    ///
-    /// # Errors
-    /// The first fault in the order of reading, with its line.
-    pub fn write_declaration<'a>(
+    fn write_declaration<'a>(
         &mut self,
         alloc: Global,
         names: &Names<'a>,
@@ -158,7 +156,7 @@ impl TypeTable {
         d: &Declaration<'a>,
     ) -> Result<(), BuildFault>
         requires { scope ≤ length names.now.entries }
-        ensures { OnOk result (self.new ≡ declaration names.now.entries self.old scope d.now) }
+        ensures { Tells result (λ u. self.new) (declaration names.now.entries self.old scope d.now) }
     {
         match d {
             Declaration::TypeDcl(t) => self.write_type_dcl(alloc, names, scope, t),
@@ -168,5 +166,24 @@ impl TypeTable {
             }
             Declaration::Except(e) => self.write_except(alloc, names, scope, e),
         }
+    }
+
+    /// What is written behind a declaration of a module or an interface.
+    ///
+    /// # Errors
+    /// The first fault in the order of reading, with its line; want of memory.
+    pub fn with_declaration<'a>(
+        self,
+        alloc: Global,
+        names: &Names<'a>,
+        scope: usize,
+        d: &Declaration<'a>,
+    ) -> Result<TypeTable, BuildFault>
+        requires { scope ≤ length names.now.entries }
+        ensures { Tells result (λ table. table) (declaration names.now.entries self scope d.now) }
+    {
+        let mut table = self;
+        table.write_declaration(alloc, names, scope, d)?;
+        Ok(table)
     }
 }

@@ -1,6 +1,9 @@
 //! Why a specification has no model.
 
-use scoped_names::NameFault;
+ghost use Rattle.std.specs.Prelude.{◌≡◌};
+ghost use Rattle.written_types.specs.Faults.{at_most, limit};
+ghost use Rattle.written_types.specs.declared.fault.BuildFault.TheVariants.{NoMemory};
+
 use std::alloc::{AllocError, AllocFailed};
 use thiserror::Error;
 use type_graph::GraphLimit;
@@ -37,9 +40,6 @@ pub enum BuildFault {
     /// The types break a rule.
     #[error("{0}")]
     Types(TypeFault),
-    /// A name finds nothing of its kind.
-    #[error("{0}")]
-    Names(NameFault),
     /// The names are those of another specification.
     #[error("the names are those of another specification")]
     OtherNames,
@@ -49,28 +49,38 @@ pub enum BuildFault {
 
 impl BuildFault {
     /// A limit that is passed at a line.
-    pub fn limit(which: GraphLimit, line: usize) -> BuildFault {
+    pub fn limit(which: GraphLimit, line: usize) -> BuildFault
+        ensures { result ≡ limit which line }
+    {
         BuildFault::Types(TypeFault::Limit { which, line })
     }
 }
 
+/// So many, where they aren't more than the limit.
+///
+/// # Errors
+/// The limit.
+pub(crate) fn at_most(most: u32, which: GraphLimit, line: usize, n: u128) -> Result<u32, BuildFault>
+    ensures { result ≡ at_most most which line n }
+{
+    if n > u128::from(most) {
+        return Err(BuildFault::limit(which, line));
+    }
+    Ok(n as u32)
+}
+
 impl From<AllocError> for BuildFault {
+    ghost from_gives = { λ _ e. e ≡ NoMemory };
+
     fn from(_error: AllocError) -> BuildFault {
         BuildFault::NoMemory
     }
 }
 
 impl<T: Drop> From<AllocFailed<T>> for BuildFault {
+    ghost from_gives = { λ _ e. e ≡ NoMemory };
+
     fn from(_error: AllocFailed<T>) -> BuildFault {
         BuildFault::NoMemory
-    }
-}
-
-impl From<NameFault> for BuildFault {
-    fn from(fault: NameFault) -> BuildFault {
-        match fault {
-            NameFault::NoMemory => BuildFault::NoMemory,
-            fault => BuildFault::Names(fault),
-        }
     }
 }

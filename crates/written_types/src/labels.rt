@@ -1,21 +1,27 @@
 //! The discriminators of unions and their labels (ISO/IEC 19500-1, unions).
 
-ghost use Rattle.std.specs.Prelude.{◌≡◌, ◌≤◌, length, IfOk, IfSome, OnOk, Some};
-ghost use Rattle.std.specs.List.{fold};
+ghost use Rattle.std.specs.Prelude.{◌≡◌, ◌≤◌, ◌^◌, length, option_copied, slice_get, Some};
+ghost use Rattle.std.specs.List.{list_any};
+ghost use Rattle.std.specs.Ordering.{int_eq};
 ghost use Rattle.idl_tree.specs.Lists.{parts};
-ghost use Rattle.written_types.specs.Types.{label_number, label_of, switch_kind, switch_type, with_label};
+ghost use Rattle.type_graph.specs.declared.node.Node.TheVariants.{Whole as WholeNode};
+ghost use Rattle.written_types.specs.Faults.{Tells, each};
+ghost use Rattle.written_types.specs.Labels.{is_taken, is_value, label_added, label_number, label_value, label_within, no_labels, signed_values, switch_kind, switch_line, switch_of, switch_read, switch_type, switched, value_added, values_below, values_of};
+ghost use Rattle.written_types.specs.Written.{already};
 
 use crate::arms::ArmList;
-use crate::fault::{BuildFault, TypeFault};
-use crate::readings::{declared_entry, integer_number, resolved};
+use crate::fault::{BuildFault, TypeFault, at_most};
+use crate::members::MAX_MEMBERS;
+use crate::readings::{declared_entry, integer_number, read_value, resolved};
 use crate::table::TypeTable;
 use const_values::{ConstKind, Constant};
-use idl_tree::const_expr::ConstExpr;
+use idl_tree::expression::Expr;
 use idl_tree::names::Listed;
 use idl_tree::types::{Label, SwitchType};
 use scoped_names::Names;
 use std::alloc::Global;
-use type_graph::{Node, Values};
+use std::marker::Model;
+use type_graph::{GraphLimit, Node, Values, Width};
 
 /// The discriminator of a union: its type, of which type its labels are constants, its values.
 #[derive(Clone, Copy)]
@@ -25,16 +31,134 @@ pub(crate) struct Switch {
     pub values: Values,
 }
 
-/// A member of a union: the number of its type and the line of its declarator.
-#[derive(Clone, Copy)]
-pub(crate) struct Choice {
-    pub number: u32,
-    pub line: usize,
+/// The labels of a case while they are read: their values, and the line of `default`.
+#[derive(Drop)]
+pub(crate) struct CaseLabels {
+    values: Vec<i128>,
+    default: Option<usize>,
+}
+
+impl Model for CaseLabels {
+    ghost use Rattle.written_types.specs.Labels.{CaseLabels};
+
+    ghost Value = { CaseLabels };
+
+    ghost view = { λ l. record { values = l.values.items; default = l.default } };
+}
+
+impl CaseLabels {
+    /// No labels. Takes no memory.
+    fn new(alloc: Global) -> Self
+        ensures { result ≡ no_labels }
+    {
+        CaseLabels {
+            values: Vec::new(alloc),
+            default: None,
+        }
+    }
+
+    /// The values.
+    pub fn values(&self) -> &[i128]
+        ensures { result.now ≡ self.now.values }
+    {
+        self.values.as_slice()
+    }
+
+    /// The line of `default`.
+    pub fn default_line(&self) -> Option<usize>
+        ensures { result ≡ self.now.default }
+    {
+        self.default
+    }
+
+    fn has(&self, value: i128) -> bool
+        ensures { result ≡ list_any (λ m. int_eq m value) self.now.values }
+    {
+        self.values.iter().any(|other| *other == value)
+    }
+
+    /// Whether an arm or a label before has the value.
+    fn is_taken(&self, arms: &ArmList, value: i128) -> bool
+        ensures { result ≡ is_taken arms.now self.now value }
+    {
+        arms.has(value) || self.has(value)
+    }
+
+    /// A value more, which stands in the line.
+    ///
+    /// # Errors
+    /// `LabelTwice`, `Limit` where the arms and the labels are 1,024, want of memory.
+    fn add_value(&mut self, arms: &ArmList, line: usize, value: i128) -> Result<(), BuildFault>
+        ensures { Tells result (λ u. self.new) (value_added arms.now self.old line value) }
+    {
+        if self.is_taken(arms, value) {
+            return Err(BuildFault::Types(TypeFault::LabelTwice { line }));
+        }
+        let count = arms.len() as u128 + self.values.len() as u128 + 1;
+        at_most(MAX_MEMBERS, GraphLimit::Members, line, count)?;
+        self.values.push(value)?;
+        Ok(())
+    }
+
+    /// A label more.
+    ///
+    /// # Errors
+    /// Those of its expression; `LabelRange`, `LabelTwice`, `Limit`; want of memory.
+    fn add_label<'a>(
+        &mut self,
+        alloc: Global,
+        names: &Names<'a>,
+        scope: usize,
+        switch: Switch,
+        arms: &ArmList,
+        label: &Label<'a>,
+    ) -> Result<(), BuildFault>
+        requires { scope ≤ length names.now.entries }
+        ensures { Tells result (λ u. self.new) (label_added names.now.entries scope switch arms.now self.old label.now) }
+    {
+        match label {
+            Label::Case(value) => {
+                let line = value.expr.start().token.line;
+                let value = read_label(alloc, names, scope, switch, &value.expr)?;
+                self.add_value(arms, line, value)
+            }
+            Label::Default(word) => {
+                let line = word.token.line;
+                if arms.default_arm().is_some() || self.default.is_some() {
+                    return Err(BuildFault::Types(TypeFault::LabelTwice { line }));
+                }
+                self.default = Some(line);
+                Ok(())
+            }
+        }
+    }
+}
+
+/// The labels of a case, judged against the arms of the cases before and against one another.
+///
+/// # Errors
+/// The first fault in the order of reading, with its line; want of memory.
+pub(crate) fn read_labels<'a>(
+    alloc: Global,
+    names: &Names<'a>,
+    scope: usize,
+    switch: Switch,
+    arms: &ArmList,
+    labels: &Listed<Label<'a>>,
+) -> Result<CaseLabels, BuildFault>
+    requires { scope ≤ length names.now.entries }
+    ensures { Tells result (λ ls. ls) (each (label_added names.now.entries scope switch arms.now) no_labels (parts labels.now)) }
+{
+    let mut read = CaseLabels::new(alloc);
+    for label in labels.iter() {
+        read.add_label(alloc, names, scope, switch, arms, label)?;
+    }
+    Ok(read)
 }
 
 /// The value of a discriminator for which a constant stands; None of a text.
 fn value_of(constant: &Constant) -> Option<i128>
-    ensures { IfSome result (λ n. n ≡ label_number (Some constant.now)) }
+    ensures { result ≡ label_number constant.now }
 {
     match constant {
         Constant::Whole(value) => Some(*value),
@@ -48,91 +172,108 @@ fn value_of(constant: &Constant) -> Option<i128>
     }
 }
 
-/// The value of a label of a kind.
+/// Whether a number is one of the values.
+fn is_value(values: Values, n: i128) -> bool
+    ensures { result ≡ is_value values n }
+{
+    values.least <= n && n < values.end
+}
+
+/// The value, where the constant is of the discriminator's type. Takes no memory.
+fn label_within(
+    switch: Switch,
+    line: usize,
+    constant: &Constant,
+    value: Option<i128>,
+) -> Result<i128, BuildFault>
+    ensures { result ≡ label_within switch line constant.now value }
+{
+    match value {
+        Some(value) if switch.kind.admits(constant) && is_value(switch.values, value) => Ok(value),
+        _ => Err(BuildFault::Types(TypeFault::LabelRange { line })),
+    }
+}
+
+/// The value of a label.
 ///
 /// # Errors
-/// Those of `Names::value`, `LabelRange` where it is of another kind.
+/// `OtherNames` where it has none, `LabelRange` where it is none of the discriminator, want of
+/// memory.
 fn read_label<'a>(
     alloc: Global,
     names: &Names<'a>,
     scope: usize,
-    kind: ConstKind,
-    label: &ConstExpr<'a>,
+    switch: Switch,
+    expr: &Expr<'a>,
 ) -> Result<i128, BuildFault>
     requires { scope ≤ length names.now.entries }
-    ensures { IfOk result (λ n. n ≡ label_of names.now.entries scope (Some kind) label.now.expr) }
+    ensures { Tells result (λ n. n) (label_value names.now.entries scope switch expr.now) }
 {
-    let constant = names.value(alloc, scope, &label.expr)?;
-    match value_of(&constant) {
-        Some(value) if kind.admits(&constant) => Ok(value),
-        _ => {
-            let line = label.expr.start().token.line;
-            Err(BuildFault::Types(TypeFault::LabelRange { line }))
-        }
+    let constant = read_value(alloc, names, scope, expr)?;
+    let line = expr.start().token.line;
+    label_within(switch, line, &constant, value_of(&constant))
+}
+
+/// So many values from 0 on.
+fn values_below(count: u128) -> Values
+    requires { count ≤ 2 ^ 64 }
+    ensures { result ≡ values_below count }
+{
+    Values {
+        least: 0,
+        end: count as i128,
+        count,
     }
 }
 
-impl ArmList {
-    /// A label more of a member.
-    fn add_label<'a>(
-        &mut self,
-        alloc: Global,
-        names: &Names<'a>,
-        scope: usize,
-        switch: Switch,
-        choice: Choice,
-        label: &Label<'a>,
-    ) -> Result<(), BuildFault>
-        requires { scope ≤ length names.now.entries }
-        ensures { OnOk result (self.new ≡ with_label names.now.entries scope (Some switch.kind) choice.number self.old label.now) }
-    {
-        match label {
-            Label::Case(expr) => {
-                let line = expr.expr.start().token.line;
-                let value = read_label(alloc, names, scope, switch.kind, expr)?;
-                if !switch.values.contains(value) {
-                    return Err(BuildFault::Types(TypeFault::LabelRange { line }));
-                }
-                self.add(value, choice.number, (choice.line, line))
-            }
-            Label::Default(word) => {
-                self.set_default(choice.number, (choice.line, word.token.line))
-            }
-        }
-    }
-
-    /// The labels of a member.
-    ///
-    /// # Errors
-    /// `LabelRange`, `LabelTwice`, `Limit` with the line of the label; want of memory.
-    pub fn add_labels<'a>(
-        &mut self,
-        alloc: Global,
-        names: &Names<'a>,
-        scope: usize,
-        switch: Switch,
-        choice: Choice,
-        labels: &Listed<Label<'a>>,
-    ) -> Result<(), BuildFault>
-        requires { scope ≤ length names.now.entries }
-        ensures { OnOk result (self.new ≡
-            fold (with_label names.now.entries scope (Some switch.kind) choice.number) self.old (parts labels.now)) }
-    {
-        for label in labels.iter() {
-            self.add_label(alloc, names, scope, switch, choice, label)?;
-        }
-        Ok(())
+/// As many values below 0 as from 0 on.
+fn signed_values(count: u128) -> Values
+    requires { count ≤ 2 ^ 64 }
+    ensures { result ≡ signed_values count }
+{
+    let half = (count / 2) as i128;
+    Values {
+        least: -half,
+        end: half,
+        count,
     }
 }
 
-/// Of which type the labels of a union are constants.
+fn whole_values(width: Width, is_signed: bool) -> Values
+    ensures { Some result ≡ values_of (Some (WholeNode width is_signed)) }
+{
+    let count = width.patterns();
+    if is_signed {
+        signed_values(count)
+    } else {
+        values_below(count)
+    }
+}
+
+/// The values of a discriminator of the type; an octet is none.
+fn values_of(node: Option<&Node>) -> Option<Values>
+    ensures { result ≡ values_of (option_copied node.entry) }
+{
+    match node {
+        Some(Node::Whole { width, signed }) => Some(whole_values(*width, *signed)),
+        Some(Node::Char) => Some(values_below(256)),
+        Some(Node::Boolean) => Some(values_below(2)),
+        Some(Node::Enum { n }) => Some(values_below(u128::from(*n))),
+        _ => None,
+    }
+}
+
+/// Of which type the labels of a union are constants. Takes no memory.
+///
+/// # Errors
+/// `OtherNames` where its name finds nothing.
 fn kind_of<'a>(
     names: &Names<'a>,
     scope: usize,
     switch: &SwitchType<'a>,
 ) -> Result<Option<ConstKind>, BuildFault>
     requires { scope ≤ length names.now.entries }
-    ensures { IfOk result (λ kind. kind ≡ switch_kind names.now.entries scope switch.now) }
+    ensures { result ≡ switch_kind names.now.entries scope switch.now }
 {
     Ok(match switch {
         SwitchType::Integer(integer) => Some(ConstKind::Integer(*integer)),
@@ -146,6 +287,36 @@ fn kind_of<'a>(
     })
 }
 
+/// The line of a switch's name, or else that of its union.
+fn line_of_switch(switch: &SwitchType<'_>, line: usize) -> usize
+    ensures { result ≡ switch_line switch.now line }
+{
+    match switch {
+        SwitchType::Name(name) => name.start().token.line,
+        SwitchType::Enum(e) => e.identifier.token.line,
+        _ => line,
+    }
+}
+
+/// The discriminator that has labels. Takes no memory.
+fn switch_of(
+    line: usize,
+    number: u32,
+    kind: Option<ConstKind>,
+    values: Option<Values>,
+) -> Result<Switch, BuildFault>
+    ensures { result ≡ switch_of line number kind values }
+{
+    match (kind, values) {
+        (Some(kind), Some(values)) => Ok(Switch {
+            number,
+            kind,
+            values,
+        }),
+        _ => Err(BuildFault::Types(TypeFault::BadSwitch { line })),
+    }
+}
+
 impl TypeTable {
     /// The type of a discriminator; gives its number.
     fn write_switch_type<'a>(
@@ -156,8 +327,7 @@ impl TypeTable {
         switch: &SwitchType<'a>,
     ) -> Result<u32, BuildFault>
         requires { scope ≤ length names.now.entries }
-        ensures told { OnOk result (self.new ≡ (switch_type names.now.entries self.old scope switch.now).written) }
-        ensures number { IfOk result (λ n. n ≡ (switch_type names.now.entries self.old scope switch.now).number) }
+        ensures { Tells result (already self.new) (switch_type names.now.entries self.old scope switch.now) }
     {
         match switch {
             SwitchType::Integer(integer) => Ok(integer_number(*integer)),
@@ -168,41 +338,31 @@ impl TypeTable {
         }
     }
 
-    /// The values of a discriminator, which isn't an octet.
-    fn switch_values(&self, number: u32) -> Option<Values> {
-        match self.nodes().get(number as usize) {
-            None | Some(Node::Octet) => None,
-            Some(node) => node.values(),
-        }
+    /// The values of a discriminator whose type has the number.
+    fn switch_values(&self, number: u32) -> Option<Values>
+        ensures { result ≡ values_of (slice_get self.now.nodes number) }
+    {
+        values_of(self.nodes().get(number as usize))
     }
 
     /// The discriminator of a union in a line.
     ///
     /// # Errors
-    /// `BadSwitch` where it has no labels, those of its name or enumeration.
+    /// Those of its name or enumeration; `BadSwitch` where it has no labels; want of memory.
     pub(crate) fn write_switch<'a>(
         &mut self,
         alloc: Global,
         names: &Names<'a>,
         scope: usize,
-        switch: &SwitchType<'a>,
         line: usize,
+        switch: &SwitchType<'a>,
     ) -> Result<Switch, BuildFault>
         requires { scope ≤ length names.now.entries }
-        ensures told { OnOk result (self.new ≡ (switch_type names.now.entries self.old scope switch.now).written) }
-        ensures number { IfOk result (λ s. s.number ≡ (switch_type names.now.entries self.old scope switch.now).number) }
-        ensures kind { IfOk result (λ s. switch_kind names.now.entries scope switch.now ≡ Some s.kind) }
+        ensures { Tells result (switched self.new) (switch_read names.now.entries self.old scope line switch.now) }
     {
         let number = self.write_switch_type(alloc, names, scope, switch)?;
         let kind = kind_of(names, scope, switch)?;
         let values = self.switch_values(number);
-        match (kind, values) {
-            (Some(kind), Some(values)) => Ok(Switch {
-                number,
-                kind,
-                values,
-            }),
-            _ => Err(BuildFault::Types(TypeFault::BadSwitch { line })),
-        }
+        switch_of(line_of_switch(switch, line), number, kind, values)
     }
 }

@@ -6,14 +6,16 @@ mod arms;
 mod declarations;
 mod fault;
 mod labels;
+mod members;
 mod place;
 mod readings;
 mod simple;
 mod table;
 mod types;
+mod written;
 
-pub use arms::MemberList;
 pub use fault::{BuildFault, TypeFault};
+pub use members::MemberList;
 pub use place::Place;
 pub use readings::{declared_entry, resolved};
-pub use table::{NodeLines, TypeTable};
+pub use table::TypeTable;

@@ -6,7 +6,7 @@ pub enum Place {
     /// The name of a type has the type's node.
     Typed(u32),
     /// An exception has its frame, and its place among the exceptions.
-    Raised { frame: u32, place: u32 },
+    Raised { frame: u32, place: usize },
     /// An operation has the frame of its request; that of its reply comes next.
     Called { request: u32 },
     /// An attribute that is only got has the frames of getting it, from this one on.

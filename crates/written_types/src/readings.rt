@@ -1,22 +1,25 @@
 //! What names and expressions of the tree say.
 
-ghost use Rattle.std.specs.Prelude.{◌≡◌, ◌≤◌, ◌<◌, ◌^◌, suc, length, IfOk, Some};
-ghost use Rattle.name_table.specs.Entry.{named};
-ghost use Rattle.name_table.specs.Search.{finds, word};
-ghost use Rattle.name_table.specs.declared.search.Found.TheVariants.{One};
-ghost use Rattle.written_types.specs.SimpleTypes.{bound_of, integer_number as number_of, size_of};
+ghost use Rattle.std.specs.Prelude.{◌≡◌, ◌≤◌, ◌<◌, ◌^◌, suc, length, IfOk};
+ghost use Rattle.scoped_names.specs.Tests.{size_read, value_read};
+ghost use Rattle.written_types.specs.Faults.{Tells, of_names};
+ghost use Rattle.written_types.specs.SimpleTypes.{bound_of, bound_or_none, entry_found, entry_of, integer_number as number_of, size_of, sizes_read};
 
-use crate::fault::BuildFault;
+use crate::fault::{BuildFault, at_most};
+use const_values::Constant;
 use idl_tree::const_expr::{Bound, ConstExpr};
+use idl_tree::expression::Expr;
 use idl_tree::names::{Leaf, ScopedName};
 use idl_tree::types::{Integer, IntegerSize};
-use scoped_names::Names;
+use scoped_names::{NameFault, Names};
 use std::alloc::Global;
 use type_graph::GraphLimit;
 
 const MAX_SIZE: u32 = 1_048_576;
 
-/// The entry that an identifier was declared as in the scope.
+const MAX_BOUND: u32 = 4_294_967_295;
+
+/// The entry that an identifier was declared as in the scope. Takes no memory.
 ///
 /// # Errors
 /// `OtherNames` where it wasn't.
@@ -25,7 +28,7 @@ pub fn declared_entry<'a>(
     scope: usize,
     identifier: Leaf<'a>,
 ) -> Result<usize, BuildFault>
-    ensures is { IfOk result (λ e. named names.now.entries scope (word identifier.entry) ≡ Some e) }
+    ensures told { result ≡ entry_of names.now.entries scope identifier.entry }
     ensures there { IfOk result (λ e. e < length names.now.entries) }
     ensures small { IfOk result (λ e. suc e < 2 ^ 64) }
 {
@@ -36,22 +39,22 @@ pub fn declared_entry<'a>(
     }
 }
 
-/// The entry that a name finds.
+/// The entry that a name finds. Takes no memory.
 ///
 /// # Errors
-/// Those of `Names::resolve`.
+/// `OtherNames` where it finds none.
 pub fn resolved<'a>(
     names: &Names<'a>,
     scope: usize,
     name: &ScopedName<'a>,
 ) -> Result<usize, BuildFault>
     requires { scope ≤ length names.now.entries }
-    ensures finds { IfOk result (λ e. finds names.now.entries scope name.now ≡ One e) }
+    ensures told { result ≡ entry_found names.now.entries scope name.now }
     ensures there { IfOk result (λ e. e < length names.now.entries) }
 {
     match names.resolve(scope, name) {
         Ok(entry) => Ok(entry),
-        Err(fault) => Err(BuildFault::from(fault)),
+        Err(_) => Err(BuildFault::OtherNames),
     }
 }
 
@@ -69,10 +72,47 @@ pub(crate) fn integer_number(integer: Integer) -> u32
     }
 }
 
+/// What an expression is worth.
+///
+/// # Errors
+/// `OtherNames` where it has no worth, want of memory.
+pub(crate) fn read_value<'a>(
+    alloc: Global,
+    names: &Names<'a>,
+    scope: usize,
+    expr: &Expr<'a>,
+) -> Result<Constant, BuildFault>
+    requires { scope ≤ length names.now.entries }
+    ensures { Tells result (λ c. c) (of_names (value_read names.now.entries scope expr.now)) }
+{
+    match names.value(alloc, scope, expr) {
+        Ok(constant) => Ok(constant),
+        Err(NameFault::NoMemory) => Err(BuildFault::NoMemory),
+        Err(_) => Err(BuildFault::OtherNames),
+    }
+}
+
+/// What it is worth as a bound or a size, where it isn't more than the limit.
+fn read_number<'a>(
+    alloc: Global,
+    names: &Names<'a>,
+    scope: usize,
+    expr: &Expr<'a>,
+) -> Result<u128, BuildFault>
+    requires { scope ≤ length names.now.entries }
+    ensures { Tells result (λ n. n) (of_names (size_read names.now.entries scope expr.now)) }
+{
+    match names.size(alloc, scope, expr) {
+        Ok(n) => Ok(n),
+        Err(NameFault::NoMemory) => Err(BuildFault::NoMemory),
+        Err(_) => Err(BuildFault::OtherNames),
+    }
+}
+
 /// A bound.
 ///
 /// # Errors
-/// Those of `Names::size`; `Limit` above 4,294,967,295.
+/// `OtherNames`; `Limit` above 4,294,967,295; want of memory.
 pub(crate) fn read_bound<'a>(
     alloc: Global,
     names: &Names<'a>,
@@ -80,37 +120,64 @@ pub(crate) fn read_bound<'a>(
     bound: &Bound<'a>,
 ) -> Result<u32, BuildFault>
     requires { scope ≤ length names.now.entries }
-    ensures { IfOk result (λ n. n ≡ bound_of names.now.entries scope (Some bound.now)) }
+    ensures { Tells result (λ n. n) (bound_of names.now.entries scope bound.now) }
 {
-    let most = names.size(alloc, scope, &bound.expr)?;
-    match u32::try_from(most) {
-        Ok(most) => Ok(most),
-        Err(_) => {
-            let line = bound.expr.start().token.line;
-            Err(BuildFault::limit(GraphLimit::Bound, line))
-        }
+    let most = read_number(alloc, names, scope, &bound.expr)?;
+    let line = bound.expr.start().token.line;
+    at_most(MAX_BOUND, GraphLimit::Bound, line, most)
+}
+
+/// A bound, or 0 for none.
+pub(crate) fn read_bound_or_none<'a>(
+    alloc: Global,
+    names: &Names<'a>,
+    scope: usize,
+    bound: &Option<Bound<'a>>,
+) -> Result<u32, BuildFault>
+    requires { scope ≤ length names.now.entries }
+    ensures { Tells result (λ n. n) (bound_or_none names.now.entries scope bound.now) }
+{
+    match bound {
+        Some(bound) => read_bound(alloc, names, scope, bound),
+        None => Ok(0),
     }
 }
 
-/// The size of an array.
+/// The size of an array in one dimension.
 ///
 /// # Errors
-/// Those of `Names::size`; `Limit` above 1,048,576.
-pub(crate) fn read_size<'a>(
+/// `OtherNames`; `Limit` above 1,048,576; want of memory.
+fn read_size<'a>(
     alloc: Global,
     names: &Names<'a>,
     scope: usize,
     size: &ConstExpr<'a>,
 ) -> Result<u32, BuildFault>
     requires { scope ≤ length names.now.entries }
-    ensures { IfOk result (λ n. n ≡ size_of names.now.entries scope size.now) }
+    ensures { Tells result (λ n. n) (size_of names.now.entries scope size.now) }
 {
-    let count = names.size(alloc, scope, &size.expr)?;
-    match u32::try_from(count) {
-        Ok(count) if count <= MAX_SIZE => Ok(count),
-        _ => {
-            let line = size.expr.start().token.line;
-            Err(BuildFault::limit(GraphLimit::Size, line))
-        }
+    let count = read_number(alloc, names, scope, &size.expr)?;
+    let line = size.expr.start().token.line;
+    at_most(MAX_SIZE, GraphLimit::Size, line, count)
+}
+
+/// The sizes of an array, the first dimension first.
+///
+/// # Errors
+/// Those of the first that has one.
+pub(crate) fn read_sizes<'a>(
+    alloc: Global,
+    names: &Names<'a>,
+    scope: usize,
+    sizes: &[ConstExpr<'a>],
+) -> Result<Vec<u32>, BuildFault>
+    requires { scope ≤ length names.now.entries }
+    ensures { Tells result (λ counts. counts.items) (sizes_read names.now.entries scope sizes.now) }
+{
+    let mut counts = Vec::new(alloc);
+    for size in sizes {
+        let count = read_size(alloc, names, scope, size)?;
+        counts.push(count)?;
     }
+    Ok(counts)
 }

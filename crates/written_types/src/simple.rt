@@ -1,26 +1,26 @@
 //! Types that declare nothing, arrays and enumerations.
 
-ghost use Rattle.std.specs.Prelude.{◌≡◌, ◌≤◌, length, IfOk, OnOk};
-ghost use Rattle.written_types.specs.Written.{already, next, with_node};
-ghost use Rattle.written_types.specs.SimpleTypes.{arrays, bound_of, const_type, enum_type, param_type, simple_type};
+ghost use Rattle.std.specs.Prelude.{◌≡◌, ◌≤◌, length};
+ghost use Rattle.written_types.specs.Faults.{Tells};
+ghost use Rattle.written_types.specs.SimpleTypes.{array_type, arrays, const_type, enum_type, param_type, simple_type};
+ghost use Rattle.written_types.specs.Written.{already};
 
-use crate::fault::BuildFault;
-use crate::readings::{declared_entry, integer_number, read_bound, read_size};
+use crate::fault::{BuildFault, at_most};
+use crate::readings::{declared_entry, integer_number, read_bound, read_bound_or_none, read_sizes};
 use crate::table::TypeTable;
-use idl_tree::const_expr::{Bound, ConstExpr};
-use idl_tree::types::{ConstType, EnumType, ParamType, SimpleType};
+use idl_tree::types::{ConstType, Declarator, EnumType, ParamType, SimpleType};
 use scoped_names::Names;
 use std::alloc::Global;
 use type_graph::{GraphLimit, Node};
 
-const MAX_ENUMERATORS: usize = 65536;
+const MAX_ENUMERATORS: u32 = 65536;
 
 impl TypeTable {
     /// The type of a constant, a parameter or a member; gives its number.
     ///
     /// # Errors
-    /// Those of its name or its bound, of `add`, want of memory.
-    pub fn write_const_type<'a>(
+    /// Those of its name or its bound, of `add`.
+    pub(crate) fn write_const_type<'a>(
         &mut self,
         alloc: Global,
         names: &Names<'a>,
@@ -28,8 +28,7 @@ impl TypeTable {
         t: &ConstType<'a>,
     ) -> Result<u32, BuildFault>
         requires { scope ≤ length names.now.entries }
-        ensures told { OnOk result (self.new ≡ (const_type names.now.entries self.old scope t.now).written) }
-        ensures number { IfOk result (λ n. n ≡ (const_type names.now.entries self.old scope t.now).number) }
+        ensures { Tells result (already self.new) (const_type names.now.entries self.old scope t.now) }
     {
         match t {
             ConstType::Integer(integer) => Ok(integer_number(*integer)),
@@ -50,7 +49,7 @@ impl TypeTable {
     ///
     /// # Errors
     /// As `write_const_type`.
-    pub fn write_param_type<'a>(
+    pub(crate) fn write_param_type<'a>(
         &mut self,
         alloc: Global,
         names: &Names<'a>,
@@ -58,34 +57,12 @@ impl TypeTable {
         t: &ParamType<'a>,
     ) -> Result<u32, BuildFault>
         requires { scope ≤ length names.now.entries }
-        ensures told { OnOk result (self.new ≡ (param_type names.now.entries self.old scope t.now).written) }
-        ensures number { IfOk result (λ n. n ≡ (param_type names.now.entries self.old scope t.now).number) }
+        ensures { Tells result (already self.new) (param_type names.now.entries self.old scope t.now) }
     {
         match t {
             ParamType::Plain(plain) => self.write_const_type(alloc, names, scope, plain),
             ParamType::Object => Ok(basic_types::OBJECT),
         }
-    }
-
-    /// A sequence of a type that is written.
-    fn write_sequence<'a>(
-        &mut self,
-        alloc: Global,
-        names: &Names<'a>,
-        scope: usize,
-        elem: u32,
-        bound: &Option<Bound<'a>>,
-        line: usize,
-    ) -> Result<u32, BuildFault>
-        requires { scope ≤ length names.now.entries }
-        ensures told { OnOk result (self.new ≡ with_node self.old (Node.Seq elem (bound_of names.now.entries scope bound.now))) }
-        ensures number { IfOk result (λ n. n ≡ next self.old) }
-    {
-        let bound = match bound {
-            Some(bound) => read_bound(alloc, names, scope, bound)?,
-            None => 0,
-        };
-        self.add_at(alloc, Node::Seq { elem, bound }, line)
     }
 
     /// A type that declares nothing, of a declarator in the line; gives its number.
@@ -94,51 +71,67 @@ impl TypeTable {
         alloc: Global,
         names: &Names<'a>,
         scope: usize,
-        t: &SimpleType<'a>,
         line: usize,
+        t: &SimpleType<'a>,
     ) -> Result<u32, BuildFault>
         requires { scope ≤ length names.now.entries }
-        ensures told { OnOk result (self.new ≡ (simple_type names.now.entries self.old scope t.now).written) }
-        ensures number { IfOk result (λ n. n ≡ (simple_type names.now.entries self.old scope t.now).number) }
+        ensures { Tells result (already self.new) (simple_type names.now.entries self.old scope line t.now) }
     {
         match t {
             SimpleType::Plain(plain) => self.write_param_type(alloc, names, scope, plain),
             SimpleType::Sequence { element, bound } => {
-                let elem = self.write_simple(alloc, names, scope, element, line)?;
-                self.write_sequence(alloc, names, scope, elem, bound, line)
+                let elem = self.write_simple(alloc, names, scope, line, element)?;
+                let bound = read_bound_or_none(alloc, names, scope, bound)?;
+                self.add_at(alloc, Node::Seq { elem, bound }, line)
             }
         }
     }
 
     /// Arrays of a type that is written, for a declarator in the line; gives the number of the
     /// outermost, or that of the type where there is none.
+    fn add_arrays(
+        &mut self,
+        alloc: Global,
+        elem: u32,
+        line: usize,
+        counts: &[u32],
+    ) -> Result<u32, BuildFault>
+        ensures { Tells result (already self.new) (arrays (already self.old elem) line counts.now) }
+    {
+        let mut number = elem;
+        let mut left = counts.len();
+        while left > 0 {
+            left -= 1;
+            let array = Node::Array {
+                elem: number,
+                n: counts[left],
+            };
+            number = self.add_at(alloc, array, line)?;
+        }
+        Ok(number)
+    }
+
+    /// The type of a declarator, where that before it has the number; gives its number.
     pub(crate) fn write_arrays<'a>(
         &mut self,
         alloc: Global,
         names: &Names<'a>,
         scope: usize,
         elem: u32,
-        sizes: &[ConstExpr<'a>],
-        line: usize,
+        declarator: &Declarator<'a>,
     ) -> Result<u32, BuildFault>
         requires { scope ≤ length names.now.entries }
-        ensures told { OnOk result (self.new ≡ (arrays names.now.entries scope (already self.old elem) sizes.now).written) }
-        ensures number { IfOk result (λ n. n ≡ (arrays names.now.entries scope (already self.old elem) sizes.now).number) }
+        ensures { Tells result (already self.new) (array_type names.now.entries scope (already self.old elem) declarator.now) }
     {
-        let mut number = elem;
-        let mut left = sizes.len();
-        while left > 0 {
-            left -= 1;
-            let n = read_size(alloc, names, scope, &sizes[left])?;
-            number = self.add_at(alloc, Node::Array { elem: number, n }, line)?;
-        }
-        Ok(number)
+        let counts = read_sizes(alloc, names, scope, declarator.sizes.as_slice())?;
+        let line = declarator.identifier.token.line;
+        self.add_arrays(alloc, elem, line, counts.as_slice())
     }
 
     /// An enumeration; gives its number.
     ///
     /// # Errors
-    /// `Limit` above 65,536 enumerators, as `add`.
+    /// `Limit` above 65,536 enumerators, as `add_named`.
     pub(crate) fn write_enum<'a>(
         &mut self,
         alloc: Global,
@@ -146,15 +139,12 @@ impl TypeTable {
         scope: usize,
         e: &EnumType<'a>,
     ) -> Result<u32, BuildFault>
-        ensures told { OnOk result (self.new ≡ (enum_type names.now.entries self.old scope e.now).written) }
-        ensures number { IfOk result (λ n. n ≡ (enum_type names.now.entries self.old scope e.now).number) }
+        ensures { Tells result (already self.new) (enum_type names.now.entries self.old scope e.now) }
     {
         let line = e.identifier.token.line;
         let entry = declared_entry(names, scope, e.identifier)?;
-        let count = e.enumerators.len();
-        if count > MAX_ENUMERATORS {
-            return Err(BuildFault::limit(GraphLimit::Enumerators, line));
-        }
-        self.add_named(alloc, entry, Node::Enum { n: count as u32 }, line)
+        let count = e.enumerators.len() as u128;
+        let n = at_most(MAX_ENUMERATORS, GraphLimit::Enumerators, line, count)?;
+        self.add_named(alloc, entry, Node::Enum { n }, line)
     }
 }

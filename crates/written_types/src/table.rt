@@ -1,10 +1,12 @@
 //! The types that are written so far.
 
-ghost use Rattle.std.specs.Prelude.{◌≡◌, ◌≤◌, length, IfOk, OnOk, Some, slice_get};
-ghost use Rattle.written_types.specs.Written.{found_type, named_type, next, place_of, raised_at, opened as opened_of, set_node, type_of, unwritten, with_node, with_place, undefined as undefined_node};
-ghost use Rattle.name_table.specs.Search.{finds};
+ghost use Rattle.std.specs.Prelude.{◌≡◌, ◌≤◌, length, slice_get, Ok};
+ghost use Rattle.written_types.specs.Faults.{Tells};
+ghost use Rattle.written_types.specs.SimpleTypes.{type_found};
+ghost use Rattle.written_types.specs.Written.{added, added_at, already, counted, held_at, is_undefined as has_no_definition, named_type, node_set, one_line, opened as opened_of, place_of, placed, raised_at, type_of, undefined as undefined_node, unwritten};
 
-use crate::fault::BuildFault;
+use crate::fault::{BuildFault, at_most};
+use type_paths::NodeLines;
 use crate::place::Place;
 use crate::readings::resolved;
 use basic_types::basic_nodes;
@@ -14,28 +16,20 @@ use std::alloc::Global;
 use std::marker::Model;
 use type_graph::{GraphLimit, Members, Node};
 
-const MAX_NODES: usize = 4096;
+const MAX_NODES: u32 = 4096;
 
-const MAX_ALL_MEMBERS: usize = 32768;
-
-/// The lines of a node: its own, and those of what it holds, in order.
-#[derive(Drop)]
-pub struct NodeLines {
-    pub line: usize,
-    pub held: Vec<usize>,
-}
+const MAX_ALL_MEMBERS: u32 = 32768;
 
 /// The types that are written so far, and what the entries among the names have of them. A contract
-/// sees the nodes, what each entry has, and the exceptions.
+/// sees the nodes, what each entry has, the exceptions, the lines of the nodes behind the basic
+/// types, and how many members all types have.
 #[derive(Drop)]
 pub struct TypeTable {
     nodes: Vec<Node>,
     places: Vec<Option<Place>>,
     exceptions: Vec<(usize, u32)>,
-    /// Those of the nodes behind the basic types.
     lines: Vec<NodeLines>,
-    /// How many members all types may still have.
-    members_left: usize,
+    members: usize,
 }
 
 impl Model for TypeTable {
@@ -43,7 +37,7 @@ impl Model for TypeTable {
 
     ghost Value = { Written };
 
-    ghost view = { λ t. record { nodes = t.nodes.items; places = t.places.items; exceptions = t.exceptions.items } };
+    ghost view = { λ t. record { nodes = t.nodes.items; places = t.places.items; exceptions = t.exceptions.items; lines = t.lines.items; members = t.members } };
 }
 
 /// A structure that has no members yet.
@@ -55,20 +49,28 @@ fn undefined_type(alloc: Global) -> Node
     }
 }
 
+/// The lines of a node that holds one other at most.
+fn one_line(alloc: Global, line: usize) -> Result<NodeLines, BuildFault>
+    ensures { Tells result (λ lines. lines) (Ok (one_line line)) }
+{
+    let held = vec![in alloc; line]?;
+    Ok(NodeLines::new(line, held))
+}
+
 impl TypeTable {
     /// The types of every specification, where there are so many entries.
     ///
     /// # Errors
     /// Want of memory.
     pub fn new(alloc: Global, entries: usize) -> Result<TypeTable, BuildFault>
-        ensures { IfOk result (λ t. t ≡ unwritten entries) }
+        ensures { Tells result (λ t. t) (Ok (unwritten entries)) }
     {
         Ok(TypeTable {
             nodes: basic_nodes(alloc)?,
             places: vec![in alloc; None; entries]?,
             exceptions: Vec::new(alloc),
             lines: Vec::new(alloc),
-            members_left: MAX_ALL_MEMBERS,
+            members: 0,
         })
     }
 
@@ -76,14 +78,12 @@ impl TypeTable {
     ///
     /// # Errors
     /// `Limit` where there are 4,096, want of memory.
-    pub fn add(&mut self, node: Node, lines: NodeLines) -> Result<u32, BuildFault>
-        ensures told { OnOk result (self.new ≡ with_node self.old node) }
-        ensures number { IfOk result (λ n. n ≡ next self.old) }
+    pub(crate) fn add(&mut self, node: Node, lines: NodeLines) -> Result<u32, BuildFault>
+        ensures { Tells result (already self.new) (added self.old node lines) }
     {
         let number = self.nodes.len();
-        if number >= MAX_NODES {
-            return Err(BuildFault::limit(GraphLimit::Nodes, lines.line));
-        }
+        let count = number as u128 + 1;
+        at_most(MAX_NODES, GraphLimit::Nodes, lines.line(), count)?;
         self.nodes.push(node)?;
         self.lines.push(lines)?;
         Ok(number as u32)
@@ -99,23 +99,22 @@ impl TypeTable {
         node: Node,
         line: usize,
     ) -> Result<u32, BuildFault>
-        ensures told { OnOk result (self.new ≡ with_node self.old node) }
-        ensures number { IfOk result (λ n. n ≡ next self.old) }
+        ensures { Tells result (already self.new) (added_at self.old node line) }
     {
-        let held = vec![in alloc; line]?;
-        self.add(node, NodeLines { line, held })
+        let lines = one_line(alloc, line)?;
+        self.add(node, lines)
     }
 
     /// An entry has this from now on.
     ///
     /// # Errors
-    /// `OtherNames` where there is no such entry.
-    pub fn put(&mut self, entry: usize, place: Place) -> Result<(), BuildFault>
-        ensures { OnOk result (self.new ≡ with_place self.old (Some entry) place) }
+    /// `OtherNames` where there is no such entry, or one that has something.
+    pub(crate) fn put(&mut self, entry: usize, place: Place) -> Result<(), BuildFault>
+        ensures { Tells result (λ u. self.new) (placed self.old entry place) }
     {
-        if entry >= self.places.len() {
+        let Some(None) = self.places.get(entry) else {
             return Err(BuildFault::OtherNames);
-        }
+        };
         self.places[entry] = Some(place);
         Ok(())
     }
@@ -132,7 +131,7 @@ impl TypeTable {
 
     /// The node of the type that an entry is the name of.
     fn type_at(&self, entry: usize) -> Option<u32>
-        ensures { result ≡ type_of self.now (Some entry) }
+        ensures { result ≡ type_of self.now entry }
     {
         match self.places.get(entry) {
             Some(Some(Place::Typed(number))) => Some(*number),
@@ -140,10 +139,10 @@ impl TypeTable {
         }
     }
 
-    /// The node of the type that a name finds.
+    /// The node of the type that a name finds. Takes no memory.
     ///
     /// # Errors
-    /// Those of `Names::resolve`; `OtherNames` where it finds no type.
+    /// `OtherNames` where it finds no type.
     pub(crate) fn named<'a>(
         &self,
         names: &Names<'a>,
@@ -151,7 +150,7 @@ impl TypeTable {
         name: &ScopedName<'a>,
     ) -> Result<u32, BuildFault>
         requires { scope ≤ length names.now.entries }
-        ensures { IfOk result (λ n. n ≡ found_type self.now (finds names.now.entries scope name.now)) }
+        ensures { result ≡ type_found names.now.entries self.now scope name.now }
     {
         let entry = resolved(names, scope, name)?;
         match self.type_at(entry) {
@@ -161,6 +160,9 @@ impl TypeTable {
     }
 
     /// A type more that an entry is the name of.
+    ///
+    /// # Errors
+    /// As `add`, `OtherNames` where there is no such entry.
     pub(crate) fn add_named(
         &mut self,
         alloc: Global,
@@ -168,8 +170,7 @@ impl TypeTable {
         node: Node,
         line: usize,
     ) -> Result<u32, BuildFault>
-        ensures told { OnOk result (self.new ≡ (named_type self.old (Some entry) node).written) }
-        ensures number { IfOk result (λ n. n ≡ next self.old) }
+        ensures { Tells result (already self.new) (named_type self.old entry node line) }
     {
         let number = self.add_at(alloc, node, line)?;
         self.put(entry, Place::Typed(number))?;
@@ -180,15 +181,14 @@ impl TypeTable {
     /// first declaration.
     ///
     /// # Errors
-    /// As `add`, `OtherNames`.
+    /// As `add_named`.
     pub(crate) fn declare(
         &mut self,
         alloc: Global,
         entry: usize,
         line: usize,
     ) -> Result<u32, BuildFault>
-        ensures told { OnOk result (self.new ≡ (opened_of self.old (Some entry)).written) }
-        ensures number { IfOk result (λ n. n ≡ (opened_of self.old (Some entry)).number) }
+        ensures { Tells result (already self.new) (opened_of self.old entry line) }
     {
         match self.type_at(entry) {
             Some(number) => Ok(number),
@@ -196,48 +196,60 @@ impl TypeTable {
         }
     }
 
-    /// What a structure or a union is, with the lines of what it holds.
+    /// Whether a node is a structure or a union that has no definition yet.
+    fn is_undefined(&self, number: usize) -> bool
+        ensures { result ≡ has_no_definition (slice_get self.now.nodes number) }
+    {
+        match self.nodes.get(number) {
+            Some(Node::Struct { members }) => members.as_slice().is_empty(),
+            _ => false,
+        }
+    }
+
+    /// What a structure or a union is, with the lines of what it holds. Takes no memory.
     ///
     /// # Errors
-    /// `OtherNames` where it has no node.
+    /// `OtherNames` where there is no such node, or one that has a definition.
     pub(crate) fn define(
         &mut self,
         number: u32,
         node: Node,
         held: Vec<usize>,
     ) -> Result<(), BuildFault>
-        ensures { OnOk result (self.new ≡ set_node self.old number node) }
+        ensures { Tells result (λ u. self.new) (node_set self.old number node held.items) }
     {
         let place = number as usize;
-        if place >= self.nodes.len() {
+        if !self.is_undefined(place) {
             return Err(BuildFault::OtherNames);
         }
         self.nodes[place] = node;
-        self.set_lines(number, held);
+        self.set_held(place, held);
         Ok(())
     }
 
-    fn set_lines(&mut self, number: u32, held: Vec<usize>)
-        ensures { self.new ≡ self.old }
+    /// The lines of what a node holds; a basic type has none.
+    fn set_held(&mut self, number: usize, held: Vec<usize>)
+        ensures { self.new ≡ record self.old { lines = held_at self.old.lines number held.items } }
     {
-        if let Some(behind) = number.checked_sub(basic_types::BASIC_NODES) {
-            if let Some(lines) = self.lines.get_mut(behind as usize) {
-                lines.held = held;
-            }
+        let Some(place) = number.checked_sub(basic_types::BASIC_NODES as usize) else {
+            return;
+        };
+        if place < self.lines.len() {
+            let line = self.lines[place].line();
+            self.lines[place] = NodeLines::new(line, held);
         }
     }
 
-    /// So many members more of one type.
+    /// So many members more of one type, which stands in the line. Takes no memory.
     ///
     /// # Errors
     /// `Limit` where all types have more than 32,768.
-    pub fn count_members(&mut self, count: usize, line: usize) -> Result<(), BuildFault>
-        ensures { self.new ≡ self.old }
+    pub(crate) fn count_members(&mut self, count: usize, line: usize) -> Result<(), BuildFault>
+        ensures { Tells result (λ u. self.new) (counted self.old count line) }
     {
-        if count > self.members_left {
-            return Err(BuildFault::limit(GraphLimit::AllMembers, line));
-        }
-        self.members_left -= count;
+        let all = self.members as u128 + count as u128;
+        let all = at_most(MAX_ALL_MEMBERS, GraphLimit::AllMembers, line, all)?;
+        self.members = all as usize;
         Ok(())
     }
 
@@ -249,10 +261,13 @@ impl TypeTable {
     }
 
     /// An exception that an entry is the name of, whose frame is the node of the number.
+    ///
+    /// # Errors
+    /// `OtherNames` where there is no such entry, want of memory.
     pub(crate) fn raise(&mut self, entry: usize, frame: u32) -> Result<(), BuildFault>
-        ensures { OnOk result (self.new ≡ raised_at self.old entry frame) }
+        ensures { Tells result (λ u. self.new) (raised_at self.old entry frame) }
     {
-        let place = u32::try_from(self.exceptions.len()).map_err(|_| BuildFault::OtherNames)?;
+        let place = self.exceptions.len();
         self.put(entry, Place::Raised { frame, place })?;
         self.exceptions.push((entry, frame))?;
         Ok(())
@@ -264,10 +279,18 @@ impl TypeTable {
         self.nodes.as_slice()
     }
 
-    /// The lines of a node behind the basic types.
-    pub fn lines(&self, number: usize) -> Option<&NodeLines> {
-        let behind = number.checked_sub(basic_types::BASIC_NODES as usize)?;
-        self.lines.get(behind)
+    /// What each entry has.
+    pub fn places(&self) -> &[Option<Place>]
+        ensures { result.now ≡ self.now.places }
+    {
+        self.places.as_slice()
+    }
+
+    /// The lines of the nodes behind the basic types.
+    pub fn lines(&self) -> &[NodeLines]
+        ensures { result.now ≡ self.now.lines }
+    {
+        self.lines.as_slice()
     }
 
     /// Gives the nodes back. Takes no memory.

@@ -1,28 +1,21 @@
 //! Structures, unions and their members.
 
-ghost use Rattle.std.specs.Prelude.{◌≡◌, ◌≤◌, [], length, IfOk, OnOk, Some};
-ghost use Rattle.written_types.specs.Written.{already, set_node};
-ghost use Rattle.written_types.specs.Types.{cases_of, members_of, struct_type, type_spec, union_type, with_case_of, with_declarator, with_declarators, with_member};
+ghost use Rattle.std.specs.Prelude.{◌≡◌, ◌≤◌, length};
+ghost use Rattle.written_types.specs.Faults.{Tells};
+ghost use Rattle.written_types.specs.Types.{cases_of, struct_defined, struct_type, type_spec, union_defined, union_type, with_case_of, with_declarator, with_declarators, with_member, with_members_of};
+ghost use Rattle.written_types.specs.Written.{already};
 
-use crate::arms::{ArmList, MemberList};
+use crate::arms::ArmList;
 use crate::fault::BuildFault;
-use crate::labels::{Choice, Switch};
+use crate::labels::{Switch, read_labels};
+use crate::members::MemberList;
 use crate::readings::declared_entry;
 use crate::table::TypeTable;
 use idl_tree::names::Listed;
-use idl_tree::types::{Case, Declarator, Member, StructType, SwitchType, TypeSpec, UnionType};
+use idl_tree::types::{Case, Declarator, Member, StructType, TypeSpec, UnionType};
 use scoped_names::Names;
 use std::alloc::Global;
-use type_graph::Node;
-
-/// The line of a switch's name, or else that of its union.
-fn line_of_switch(switch: &SwitchType<'_>, line: usize) -> usize {
-    match switch {
-        SwitchType::Name(name) => name.start().token.line,
-        SwitchType::Enum(e) => e.identifier.token.line,
-        _ => line,
-    }
-}
+use type_graph::{Arms, Node};
 
 impl TypeTable {
     /// One member more, of the type that has the number.
@@ -36,12 +29,11 @@ impl TypeTable {
         members: &mut MemberList,
     ) -> Result<(), BuildFault>
         requires { scope ≤ length names.now.entries }
-        ensures { OnOk result (members_of self.new members.new ≡
-            with_declarator names.now.entries scope number (members_of self.old members.old) declarator.now) }
+        ensures { Tells result (λ u. with_members_of self.new members.new)
+            (with_declarator names.now.entries scope number (with_members_of self.old members.old) declarator.now) }
     {
         let line = declarator.identifier.token.line;
-        let sizes = declarator.sizes.as_slice();
-        let number = self.write_arrays(alloc, names, scope, number, sizes, line)?;
+        let number = self.write_arrays(alloc, names, scope, number, declarator)?;
         members.push(number, line)
     }
 
@@ -56,8 +48,8 @@ impl TypeTable {
         members: &mut MemberList,
     ) -> Result<(), BuildFault>
         requires { scope ≤ length names.now.entries }
-        ensures { OnOk result (members_of self.new members.new ≡
-            with_declarators names.now.entries scope (already self.old number) members.old declarators.now) }
+        ensures { Tells result (λ u. with_members_of self.new members.new)
+            (with_declarators names.now.entries scope (already self.old number) members.old declarators.now) }
     {
         for declarator in declarators.iter() {
             self.write_declarator(alloc, names, scope, number, declarator, members)?;
@@ -72,7 +64,7 @@ impl TypeTable {
         members: MemberList,
         line: usize,
     ) -> Result<(), BuildFault>
-        ensures { OnOk result (self.new ≡ set_node self.old number (Node.Struct members)) }
+        ensures { Tells result (λ u. self.new) (struct_defined (with_members_of self.old members) number line) }
     {
         self.count_members(members.len(), line)?;
         let (members, lines) = members.into_parts();
@@ -82,17 +74,22 @@ impl TypeTable {
     /// A union has this discriminator and these arms.
     fn define_union(
         &mut self,
+        alloc: Global,
         number: u32,
         switch: Switch,
-        arms: ArmList,
+        arms: &ArmList,
         line: usize,
     ) -> Result<(), BuildFault>
-        ensures { OnOk result (self.new ≡ set_node self.old number (Node.Union switch.number arms.arms arms.default)) }
+        ensures { Tells result (λ u. self.new) (union_defined switch (cases_of self.old arms.now) number line) }
     {
-        arms.check_default(switch.values)?;
+        arms.check_default(switch)?;
         self.count_members(arms.len(), line)?;
-        let (union, lines) = arms.into_union(switch.number)?;
-        self.define(number, union, lines)
+        let union = Node::Union {
+            switch: switch.number,
+            arms: Arms::new(arms.numbers(alloc)?),
+            default: arms.default_number(),
+        };
+        self.define(number, union, arms.lines(alloc)?)
     }
 
     /// A type of a declarator in the line, and what it declares; gives its number.
@@ -105,15 +102,14 @@ impl TypeTable {
         alloc: Global,
         names: &Names<'a>,
         scope: usize,
-        t: &TypeSpec<'a>,
         line: usize,
+        t: &TypeSpec<'a>,
     ) -> Result<u32, BuildFault>
         requires { scope ≤ length names.now.entries }
-        ensures told { OnOk result (self.new ≡ (type_spec names.now.entries self.old scope t.now).written) }
-        ensures number { IfOk result (λ n. n ≡ (type_spec names.now.entries self.old scope t.now).number) }
+        ensures { Tells result (already self.new) (type_spec names.now.entries self.old scope line t.now) }
     {
         match t {
-            TypeSpec::Simple(simple) => self.write_simple(alloc, names, scope, simple, line),
+            TypeSpec::Simple(simple) => self.write_simple(alloc, names, scope, line, simple),
             TypeSpec::Struct(s) => self.write_struct(alloc, names, scope, s),
             TypeSpec::Union(u) => self.write_union(alloc, names, scope, u),
             TypeSpec::Enum(e) => self.write_enum(alloc, names, scope, e),
@@ -131,11 +127,11 @@ impl TypeTable {
         members: &mut MemberList,
     ) -> Result<(), BuildFault>
         requires { scope ≤ length names.now.entries }
-        ensures { OnOk result (members_of self.new members.new ≡
-            with_member names.now.entries scope (members_of self.old members.old) member.now) }
+        ensures { Tells result (λ u. with_members_of self.new members.new)
+            (with_member names.now.entries scope (with_members_of self.old members.old) member.now) }
     {
         let line = member.declarators.first.identifier.token.line;
-        let number = self.write_type(alloc, names, scope, &member.member_type, line)?;
+        let number = self.write_type(alloc, names, scope, line, &member.member_type)?;
         self.write_declarators(alloc, names, scope, number, &member.declarators, members)
     }
 
@@ -148,8 +144,7 @@ impl TypeTable {
         s: &StructType<'a>,
     ) -> Result<u32, BuildFault>
         requires { scope ≤ length names.now.entries }
-        ensures told { OnOk result (self.new ≡ (struct_type names.now.entries self.old scope s.now).written) }
-        ensures number { IfOk result (λ n. n ≡ (struct_type names.now.entries self.old scope s.now).number) }
+        ensures { Tells result (already self.new) (struct_type names.now.entries self.old scope s.now) }
     {
         let line = s.identifier.token.line;
         let entry = declared_entry(names, scope, s.identifier)?;
@@ -163,7 +158,7 @@ impl TypeTable {
         Ok(number)
     }
 
-    /// A member of a union.
+    /// A member of a union: first its labels are judged, then its type is read.
     #[cycle(types)]
     fn write_case<'a>(
         &mut self,
@@ -175,21 +170,14 @@ impl TypeTable {
         arms: &mut ArmList,
     ) -> Result<(), BuildFault>
         requires { scope ≤ length names.now.entries }
-        ensures { OnOk result (cases_of self.new arms.new ≡
-            with_case_of names.now.entries scope (Some switch.kind) (cases_of self.old arms.old) case.now) }
+        ensures { Tells result (λ u. cases_of self.new arms.new)
+            (with_case_of names.now.entries scope switch (cases_of self.old arms.old) case.now) }
     {
         let line = case.declarator.identifier.token.line;
-        let sizes = case.declarator.sizes.as_slice();
-        let element = self.write_type(alloc, names, scope, &case.member_type, line)?;
-        let number = self.write_arrays(alloc, names, scope, element, sizes, line)?;
-        arms.add_labels(
-            alloc,
-            names,
-            scope,
-            switch,
-            Choice { number, line },
-            &case.labels,
-        )?;
+        let labels = read_labels(alloc, names, scope, switch, arms, &case.labels)?;
+        let element = self.write_type(alloc, names, scope, line, &case.member_type)?;
+        let number = self.write_arrays(alloc, names, scope, element, &case.declarator)?;
+        arms.add_case(number, line, &labels)?;
         Ok(())
     }
 
@@ -202,20 +190,18 @@ impl TypeTable {
         u: &UnionType<'a>,
     ) -> Result<u32, BuildFault>
         requires { scope ≤ length names.now.entries }
-        ensures told { OnOk result (self.new ≡ (union_type names.now.entries self.old scope u.now).written) }
-        ensures number { IfOk result (λ n. n ≡ (union_type names.now.entries self.old scope u.now).number) }
+        ensures { Tells result (already self.new) (union_type names.now.entries self.old scope u.now) }
     {
         let line = u.identifier.token.line;
         let entry = declared_entry(names, scope, u.identifier)?;
         let number = self.declare(alloc, entry, line)?;
-        let switch_line = line_of_switch(&u.switch, line);
-        let switch = self.write_switch(alloc, names, entry + 1, &u.switch, switch_line)?;
+        let switch = self.write_switch(alloc, names, entry + 1, line, &u.switch)?;
         let mut arms = ArmList::new(alloc);
         self.write_case(alloc, names, entry + 1, switch, &u.first, &mut arms)?;
         for case in &u.rest {
             self.write_case(alloc, names, entry + 1, switch, case, &mut arms)?;
         }
-        self.define_union(number, switch, arms, line)?;
+        self.define_union(alloc, number, switch, &arms, line)?;
         Ok(number)
     }
 }

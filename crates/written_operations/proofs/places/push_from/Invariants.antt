@@ -4,4 +4,4 @@ use Rattle.written_operations.proofs.places.push_from.Given as goal
 
 abbrev pub invariant-loop-k : goal.invariant-loop-k
 invariant-loop-k l =
-    l.places.items ++ range_with_len l.k (l.end - l.k) ≡ l.fn.places.items ++ range_with_len l.first (l.end - l.first)
+    l.numbers.items ++ range_with_len l.k (l.end - l.k) ≡ l.fn.numbers.items ++ range_with_len l.first (l.end - l.first)

@@ -1,13 +1,14 @@
-use Rattle.std.proofs.Common.{◌≡◌, ◌≤◌, ◌++◌, length}
+use Rattle.std.proofs.Common.{◌≡◌, ◌≤◌, [], length}
 use Rattle.idl_tree.specs.Lists.{parts}
 use Rattle.idl_tree.specs.PartsLeft.{parts_left}
-use Rattle.written_operations.specs.Operations.{raised}
+use Rattle.written_types.specs.Faults.{each}
+use Rattle.written_operations.specs.Operations.{with_exception}
 use Rattle.written_operations.proofs.raised.find_raised.Given as goal
 
 -- the places so far, and those of the names that are left
 abbrev pub invariant-loop-name : goal.invariant-loop-name
 invariant-loop-name l = record {
   inside : l.scope ≤ length l.names.entries;
-  told : l.places.items ++ raised l.names.entries l.types l.scope (parts_left l.name-iterator)
-      ≡ raised l.names.entries l.types l.scope (parts l.raises);
+  told : each (with_exception l.names.entries l.types l.scope) l.places.items (parts_left l.name-iterator)
+      ≡ each (with_exception l.names.entries l.types l.scope) [] (parts l.raises);
 }

@@ -1,13 +1,12 @@
 use Rattle.std.proofs.Common.{◌≡◌, ◌<◌, drop, length, slice_get}
 use Rattle.std.specs.List.{fold}
 use Rattle.name_table.specs.Entry.{bases_in}
-use Rattle.written_operations.specs.Interfaces.{AreMarked, inherited, with_base}
+use Rattle.written_operations.specs.Interfaces.{inherited, with_base}
 use Rattle.written_operations.proofs.table.OperationTable.inherited.Given as goal
 
 abbrev pub invariant-loop-k : goal.invariant-loop-k
 invariant-loop-k l = record {
   there : l.entry < length l.names.entries;
-  marked : AreMarked l.seen.items l.places.items;
-  told : fold (with_base l.self) l.places.items (drop l.k (bases_in (slice_get l.names.entries l.entry)))
+  told : fold (with_base l.self) l.places.keys (drop l.k (bases_in (slice_get l.names.entries l.entry)))
       ≡ inherited l.self (bases_in (slice_get l.names.entries l.entry));
 }

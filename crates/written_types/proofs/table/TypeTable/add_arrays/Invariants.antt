@@ -1,0 +1,14 @@
+use Rattle.std.proofs.Common.{◌≡◌, ◌≤◌, drop, length, Ok}
+use Rattle.written_types.specs.Written.{already}
+use Rattle.written_types.specs.SimpleTypes.{arrays}
+use Rattle.written_types.proofs.table.TypeTable.add_arrays.Given as goal
+
+-- the arrays of the sizes behind are written
+abbrev pub invariant-loop-left : goal.invariant-loop-left
+invariant-loop-left l = record {
+  within : l.left ≤ length l.counts;
+  told : arrays (already l.fn.self l.elem) l.line (drop l.left l.counts) ≡ Ok (already l.self l.number);
+}
+
+abbrev pub decreases-loop-left : goal.decreases-loop-left
+decreases-loop-left l = l.left

@@ -1,0 +1,72 @@
+//! What is written behind a part: each refusal leaves nothing behind.
+
+ghost use Rattle.std.specs.Prelude.{◌≡◌, ◌≤◌, length};
+ghost use Rattle.written_types.specs.Faults.{Tells};
+ghost use Rattle.written_types.specs.SimpleTypes.{param_type};
+ghost use Rattle.written_types.specs.Written.{added, already, counted, placed};
+
+use crate::fault::BuildFault;
+use type_paths::NodeLines;
+use crate::place::Place;
+use crate::table::TypeTable;
+use idl_tree::types::ParamType;
+use scoped_names::Names;
+use std::alloc::Global;
+use type_graph::Node;
+
+impl TypeTable {
+    /// A node more, with its lines; gives its number.
+    ///
+    /// # Errors
+    /// `Limit` where there are 4,096, want of memory.
+    pub fn with_node(self, node: Node, lines: NodeLines) -> Result<(TypeTable, u32), BuildFault>
+        ensures { Tells result (λ r. already r.0 r.1) (added self node lines) }
+    {
+        let mut table = self;
+        let number = table.add(node, lines)?;
+        Ok((table, number))
+    }
+
+    /// An entry has this from now on. Takes no memory.
+    ///
+    /// # Errors
+    /// `OtherNames` where there is no such entry.
+    pub fn with_place(self, entry: usize, place: Place) -> Result<TypeTable, BuildFault>
+        ensures { Tells result (λ table. table) (placed self entry place) }
+    {
+        let mut table = self;
+        table.put(entry, place)?;
+        Ok(table)
+    }
+
+    /// So many members more of one type, which stands in the line. Takes no memory.
+    ///
+    /// # Errors
+    /// `Limit` where all types have more than 32,768.
+    pub fn with_members(self, count: usize, line: usize) -> Result<TypeTable, BuildFault>
+        ensures { Tells result (λ table. table) (counted self count line) }
+    {
+        let mut table = self;
+        table.count_members(count, line)?;
+        Ok(table)
+    }
+
+    /// What is written behind the type of a parameter, a result or an attribute; gives its number.
+    ///
+    /// # Errors
+    /// The first fault in the order of reading, with its line; want of memory.
+    pub fn with_param_type<'a>(
+        self,
+        alloc: Global,
+        names: &Names<'a>,
+        scope: usize,
+        t: &ParamType<'a>,
+    ) -> Result<(TypeTable, u32), BuildFault>
+        requires { scope ≤ length names.now.entries }
+        ensures { Tells result (λ r. already r.0 r.1) (param_type names.now.entries self scope t.now) }
+    {
+        let mut table = self;
+        let number = table.write_param_type(alloc, names, scope, t)?;
+        Ok((table, number))
+    }
+}
