@@ -84,8 +84,8 @@ unfolding HasPath
 level_first types line next level = record {
   long = level.long;
   same = λ node. (
-      λ h. one_of_more (HoldsBy types line) (IsIn [] true) (HasPath (HoldsBy types line) 0) node (λ part is_in. tt) ((level.above node).0 h),
-      λ h. (level.above node).1 (one_of_more (HoldsBy types line) (HasPath (HoldsBy types line) 0) (IsIn [] true) node (λ part path. refl) h),
+    λ h. one_of_more (HoldsBy types line) (IsIn [] true) (HasPath (HoldsBy types line) 0) node (λ part is_in. tt) ((level.above node).0 h),
+    λ h. (level.above node).1 (one_of_more (HoldsBy types line) (HasPath (HoldsBy types line) 0) (IsIn [] true) node (λ part path. refl) h),
   );
 }
 
@@ -94,8 +94,8 @@ unfolding HasPath
 level_suc types line steps table next level above = record {
   long = above.long;
   same = λ node. (
-      λ h. one_of_more (HoldsBy types line) (IsIn table false) (HasPath (HoldsBy types line) steps) node (λ part. (level.same part).0) ((above.above node).0 h),
-      λ h. (above.above node).1 (one_of_more (HoldsBy types line) (HasPath (HoldsBy types line) steps) (IsIn table false) node (λ part. (level.same part).1) h),
+    λ h. one_of_more (HoldsBy types line) (IsIn table false) (HasPath (HoldsBy types line) steps) node (λ part. (level.same part).0) ((above.above node).0 h),
+    λ h. (above.above node).1 (one_of_more (HoldsBy types line) (HasPath (HoldsBy types line) steps) (IsIn table false) node (λ part. (level.same part).1) h),
   );
 }
 
@@ -130,8 +130,8 @@ pub level_stays : (types : Types) (line steps more : ℕ) (table : List Bool) �
 level_stays types line steps more table level above = record {
   long = level.long;
   same = λ node. (
-      λ h. level_endless types line steps table level above node h (steps + more),
-      λ h. (level.same node).1 (path_shorter (HoldsBy types line) steps more node h),
+    λ h. level_endless types line steps table level above node h (steps + more),
+    λ h. (level.same node).1 (path_shorter (HoldsBy types line) steps more node h),
   );
 }
 

@@ -19,7 +19,11 @@ fn fault_of_chain(alloc: Global, count: u32, last: u32) -> Result<Option<PathFau
     let mut nodes = Vec::new(alloc);
     let mut lines = Vec::new(alloc);
     for number in 0..count {
-        let part = if number + 1 == count { last } else { number + 1 };
+        let part = if number + 1 == count {
+            last
+        } else {
+            number + 1
+        };
         nodes.push(structure(alloc, &[part])?)?;
         let line = number as usize + 1;
         lines.push(NodeLines::new(line, vec![in alloc; line]?))?;
@@ -41,8 +45,14 @@ fn paths_have_64_nodes_at_most(rt: HostRuntime) -> Result<(), Fail> {
 #[test]
 fn the_last_member_closes_a_large_circle(rt: HostRuntime) -> Result<(), Fail> {
     let alloc = rt.alloc();
-    assert_eq!(rt; fault_of_chain(alloc, 1, 0)?, Some(PathFault::SelfHeld { line: 1 }));
-    assert_eq!(rt; fault_of_chain(alloc, MOST, 0)?, Some(PathFault::SelfHeld { line: 4096 }));
+    assert_eq!(rt;
+        fault_of_chain(alloc, 1, 0)?,
+        Some(PathFault::SelfHeld { line: 1 })
+    );
+    assert_eq!(rt;
+        fault_of_chain(alloc, MOST, 0)?,
+        Some(PathFault::SelfHeld { line: 4096 })
+    );
     Ok(())
 }
 

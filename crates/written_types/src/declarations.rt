@@ -7,7 +7,6 @@ ghost use Rattle.written_types.specs.Faults.{Tells, each};
 ghost use Rattle.written_types.specs.Types.{with_members_of};
 
 use crate::fault::BuildFault;
-use type_paths::NodeLines;
 use crate::members::MemberList;
 use crate::place::Place;
 use crate::readings::declared_entry;
@@ -18,6 +17,7 @@ use idl_tree::types::Declarator;
 use scoped_names::Names;
 use std::alloc::Global;
 use type_graph::Node;
+use type_paths::NodeLines;
 
 /// The first member of an exception's frame, its repository id.
 fn id_member(alloc: Global, line: usize) -> Result<MemberList, BuildFault>

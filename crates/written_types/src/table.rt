@@ -6,7 +6,6 @@ ghost use Rattle.written_types.specs.SimpleTypes.{type_found};
 ghost use Rattle.written_types.specs.Written.{added, added_at, already, counted, held_at, is_undefined as has_no_definition, named_type, node_set, one_line, opened as opened_of, place_of, placed, raised_at, type_of, undefined as undefined_node, unwritten};
 
 use crate::fault::{BuildFault, at_most};
-use type_paths::NodeLines;
 use crate::place::Place;
 use crate::readings::resolved;
 use basic_types::basic_nodes;
@@ -15,6 +14,7 @@ use scoped_names::Names;
 use std::alloc::Global;
 use std::marker::Model;
 use type_graph::{GraphLimit, Members, Node};
+use type_paths::NodeLines;
 
 const MAX_NODES: u32 = 4096;
 

@@ -6,13 +6,13 @@ ghost use Rattle.written_types.specs.SimpleTypes.{param_type};
 ghost use Rattle.written_types.specs.Written.{added, already, counted, placed};
 
 use crate::fault::BuildFault;
-use type_paths::NodeLines;
 use crate::place::Place;
 use crate::table::TypeTable;
 use idl_tree::types::ParamType;
 use scoped_names::Names;
 use std::alloc::Global;
 use type_graph::Node;
+use type_paths::NodeLines;
 
 impl TypeTable {
     /// A node more, with its lines; gives its number.

@@ -20,9 +20,9 @@ loop-preserved c =
     let told = subst (λ (table : List Bool). IsLevelAbove types c.args.line table false next) c.deref-in-loop.ensures.value c.in_ok-level_above-2.ensures in
     let above = rw c.swap.ensures.x_after at told in
     let other : next ≡ c.loop.next.items → ⊥ = λ e.
-        let same : c.eq.result ≡ true = (slice_eq-Decides booleans_Decides next _ c.eq.result c.eq.ensures).1 (rw c.swap.ensures.x_after e) in
-        let bad : true ≡ false = sym same ∙ c.if-eq.false in
-        absurd cc in
+    let same : c.eq.result ≡ true = (slice_eq-Decides booleans_Decides next _ c.eq.result c.eq.ensures).1 (rw c.swap.ensures.x_after e) in
+    let bad : true ≡ false = sym same ∙ c.if-eq.false in
+    absurd cc in
     let less = level_loses types c.args.line c.loop.counter c.loop.next.items next c.loop.invariant.level above other in
     let spare = c.loop.invariant.spare in
     record { level = level_more types c.args.line c.loop.counter c.loop.next.items next c.loop.invariant.level above; spare = omega arith }
