@@ -25,6 +25,7 @@ use Rattle.written_types.specs.declared.place.Place.{Place}
 use Rattle.written_types.specs.declared.place.Place.TheVariants.{Typed, Raised, Called, Got, GotAndSet}
 use Rattle.written_types.specs.Faults.{each, line_of}
 use Rattle.written_types.specs.Few.{IsFew, IsRaisedBelow}
+use Rattle.written_types.specs.Lines.{Lines}
 use Rattle.written_types.specs.Members.{Members}
 use Rattle.written_types.specs.Written.{Written, Numbered, already, counted, place_in, place_of, placed, unwritten}
 use Rattle.written_types.specs.SimpleTypes.{entry_found, entry_of, param_type}
@@ -74,7 +75,7 @@ each_below count xs (n ∷ ns) h g =
 range_below : (first len count : ℕ) → first + len ≤ count → All (IsBelow count) (range_with_len first len)
 range_below first zero count le = All-nil (IsBelow count)
 range_below first (suc len) count le =
-    All-cons (IsBelow count) first (range_with_len (suc first) len) (omega (arith, le)) (range_below (suc first) len count (omega (arith, le)))
+    All-cons (IsBelow count) first (range_with_len (first + 1) len) (omega (arith, le)) (range_below (first + 1) len count (omega (arith, le)))
 
 -- ---- what is written behind other things
 
@@ -206,7 +207,7 @@ record Framed (w v : Written) : Type 0 where
 frame_leads : (w : Written) (ms : Members) (line : ℕ) (n : Numbered) → frame_added w ms line ≡ Ok n → Framed w n.written
 frame_leads w ms line n is =
     let (v, counts, adds) = then_ok (counted w (length ms.numbers) line) _ n is in
-    let lines = record { line = line; held = ms.lines } in
+    let lines : Lines = record { line = line; held = ms.lines } in
     let f = counted_leads w (length ms.numbers) line v counts in
     let one = added_one v (Frame ms.numbers) lines n adds in
     record {
