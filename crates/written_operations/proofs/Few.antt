@@ -40,7 +40,7 @@ use Rattle.written_operations.specs.declared.frames.Carried.{Carried}
 use Rattle.written_operations.specs.declared.frames.Carrying.{Carrying}
 use Rattle.written_operations.specs.Oneway.{oneway_test, parts_of}
 use Rattle.written_operations.specs.Frames.{all_carried, carrying, frame_added, frames_added, nothing_carried, result_carried, with_carried, with_param}
-use Rattle.written_operations.specs.Operations.{Defined, Requested, attribute, attribute_identifiers, exception_found, exception_in, get_raises, is_set, operation, raised, requested, set_raises, undefined_yet, with_access, with_attribute, with_call, with_exception, with_get, with_place, with_set, with_types}
+use Rattle.written_operations.specs.Operations.{Defined, Requested, attribute, attribute_identifiers, exception_found, exception_in, get_raises, is_set, operation, raised, requested, set_raises, undefined_yet, with_access, with_attribute, with_call, with_exception, with_get, with_operation, with_place, with_set, with_types}
 use Rattle.written_operations.specs.Interfaces.{all_bases, as_reference, export, exports_of, from_on, identifier_of, inherited, interface, interface_as, offered_in, offering, operations_in, operations_of, with_base, with_interface, with_once}
 use Rattle.written_operations.specs.Definitions.{defined_by, definition, definitions_after}
 use Rattle.written_operations.specs.Few.{AreFew, IsBelow, OffersBelow, RaisesBelow}
@@ -262,24 +262,20 @@ call_goes d c oneway raises role e line below few r is =
     let one : requested (with_signature d f.written s) f.number ≡ r = cc in
     subst (λ x. Goes d x.defined) one (signature_goes d f.written s few (frames_lead d.types c line f adds) below)
 
--- what is left of an operation behind what it carries
-called_goes : (es : List Entry) (scope : ℕ) (d : Defined) (c : Carried) (o : Operation) (raises : List ℕ) → All (IsBelow (length d.types.exceptions)) raises
-    → Ends whole d (entry_of es scope o.identifier >> λ e. with_call d c o.is_oneway raises Roles.Operation e (line_of o.identifier) >> λ r.
-    with_place r.defined e (Called r.request))
-called_goes es scope d c o raises below few b is =
+with_operation_goes : (es : List Entry) (scope : ℕ) (d : Defined) (c : Carried) (o : Operation) → Ends whole d (with_operation es scope d c o)
+with_operation_goes es scope d c o few b is =
+    tried whole d (raised es d.types scope (parts_of o.raises)) _ (λ raises found.
     tried whole d (entry_of es scope o.identifier) _ (λ e named.
     linked requested_in whole d (with_call d c o.is_oneway raises Roles.Operation e (line_of o.identifier)) (λ r. with_place r.defined e (Called r.request))
-    (call_goes d c o.is_oneway raises Roles.Operation e (line_of o.identifier) below)
-    (λ r g. with_place_goes r.defined e (Called r.request) (λ n. tt))) few b is
+    (call_goes d c o.is_oneway raises Roles.Operation e (line_of o.identifier) (raised_below es d.types scope (parts_of o.raises) raises few.types found))
+    (λ r g. with_place_goes r.defined e (Called r.request) (λ n. tt)))) few b is
 
 operation_goes : (es : List Entry) (scope : ℕ) (d : Defined) (o : Operation) → Ends whole d (operation es scope d o)
 operation_goes es scope d o few b is =
     let (u, kept, carrying_rest) = then_ok (oneway_test o) _ b is in
-    let (c, carries, raised_rest) = then_ok (all_carried es d.types scope o) _ b carrying_rest in
-    let (raises, found, rest) = then_ok (raised es c.types scope (parts_of o.raises)) _ b raised_rest in
+    let (c, carries, rest) = then_ok (all_carried es d.types scope o) _ b carrying_rest in
     let f = with_types_goes d c.types few (all_lead es d.types scope o c carries) in
-    then_goes d (with_types d c.types) b f
-    (called_goes es scope (with_types d c.types) c.carried o raises (raised_below es c.types scope (parts_of o.raises) raises f.few.types found) f.few b rest)
+    then_goes d (with_types d c.types) b f (with_operation_goes es scope (with_types d c.types) c.carried o f.few b rest)
 
 access_goes : (got : Requested) (number : ℕ) (settable : Bool) (raises : List ℕ) (e line : ℕ) → All (IsBelow (length got.defined.types.exceptions)) raises
     → Ends whole got.defined (with_access got number settable raises e line)
