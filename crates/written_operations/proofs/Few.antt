@@ -1,5 +1,5 @@
 -- What a file writes has no more operations than nodes, and each place of an operation or an exception is one among them.
-use Rattle.std.proofs.Common.{◌≡◌, ℕ, zero, suc, ◌+◌, ◌-◌, ◌<◌, ◌≤◌, le_refl, Bool, true, false, List, [], ◌∷◌, ◌++◌, length, length-append, replicate, Option, Some, None, Result, Ok, Err, All, get_or, refl, sym, subst, arith}
+use Rattle.std.proofs.Common.{◌≡◌, ℕ, zero, suc, ◌+◌, ◌-◌, ◌<◌, ◌≤◌, le_refl, Bool, true, false, List, [], ◌∷◌, ◌++◌, length, length-append, replicate, Option, Some, None, Result, Ok, Err, All, get_or, refl, subst, arith}
 use Rattle.std.specs.Prelude.{cond, if◌then◌else◌, nat_eq, nat_lt, slice_get, slice_set}
 use Rattle.std.specs.List.{fold, list_any, range_with_len}
 use Rattle.std.proofs.lemmas.List.Elements.{All-append, All-cons, All-nil, All-set}
@@ -27,10 +27,10 @@ use Rattle.written_types.specs.Faults.{each, line_of}
 use Rattle.written_types.specs.Few.{IsFew, IsRaisedBelow}
 use Rattle.written_types.specs.Lines.{Lines}
 use Rattle.written_types.specs.Members.{Members}
-use Rattle.written_types.specs.Written.{Written, Numbered, already, counted, place_in, place_of, placed, unwritten}
+use Rattle.written_types.specs.Written.{Written, Numbered, already, counted, place_in, place_of, placed}
 use Rattle.written_types.specs.SimpleTypes.{entry_found, entry_of, param_type}
 use Rattle.written_types.specs.Declarations.{declaration}
-use Rattle.written_types.proofs.Growth.{Follows, Leads, added_leads, added_one, beside, behind, chain, counted_leads, each_leads, ends, fails, itself, judged, placed_leads, same, then_ok}
+use Rattle.written_types.proofs.Growth.{Follows, Leads, added_leads, added_one, beside, behind, chain, counted_leads, each_leads, ends, itself, judged, placed_leads, same, then_ok}
 use Rattle.written_types.proofs.TypesGrow.{declaration_leads, param_leads}
 use Rattle.written_operations.specs.declared.signature.Role.{Role}
 use Rattle.written_operations.specs.declared.signature.Role.TheVariants as Roles
@@ -41,7 +41,7 @@ use Rattle.written_operations.specs.declared.frames.Carrying.{Carrying}
 use Rattle.written_operations.specs.Oneway.{oneway_test, parts_of}
 use Rattle.written_operations.specs.Frames.{all_carried, carrying, frame_added, frames_added, nothing_carried, result_carried, with_carried, with_param}
 use Rattle.written_operations.specs.Operations.{Defined, Requested, attribute, attribute_identifiers, exception_found, exception_in, get_raises, is_set, operation, raised, requested, set_raises, undefined_yet, with_access, with_attribute, with_call, with_exception, with_get, with_operation, with_place, with_set, with_types}
-use Rattle.written_operations.specs.Interfaces.{all_bases, as_reference, export, exports_of, from_on, identifier_of, inherited, interface, interface_as, offered_in, offering, operations_in, operations_of, with_base, with_interface, with_once}
+use Rattle.written_operations.specs.Interfaces.{as_reference, export, exports_of, from_on, identifier_of, inherited, interface, interface_as, offered_in, offering, operations_in, operations_of, with_base, with_interface, with_once}
 use Rattle.written_operations.specs.Definitions.{defined_by, definition, definitions_after}
 use Rattle.written_operations.specs.Few.{AreFew, IsBelow, OffersBelow, RaisesBelow}
 
@@ -330,6 +330,7 @@ with_interface_goes d e first bases le few b is = by (nat_lt e (length d.interfa
     below : All (IsBelow (length d.operations)) (offering d first bases).operations
     below = All-append (IsBelow (length d.operations)) (inherited d bases) (from_on first d) (inherited_below d [] bases few (All-nil (IsBelow (length d.operations))))
         (own_below d first le)
+
     by : (t : Bool) → (let r : Result Defined BuildFault = if t then Ok (record d { interfaces = slice_set d.interfaces e (Some (offering d first bases)) }) else Err OtherNames in r) ≡ Ok b
         → Goes d b
     by true told =

@@ -4,7 +4,6 @@ use Rattle.idl_tree.specs.declared.names.Leaf.{Leaf}
 use Rattle.idl_tree.specs.declared.definitions.Export.{Export}
 use Rattle.idl_tree.specs.declared.definitions.Interface.{Interface}
 use Rattle.name_table.specs.Entry.{Entry}
-use Rattle.scoped_names.specs.Reading.{◌>>◌}
 use Rattle.written_types.specs.SimpleTypes.{entry_of}
 use Rattle.written_types.proofs.Walks.{goes_on}
 use Rattle.written_operations.specs.Operations.{Defined}

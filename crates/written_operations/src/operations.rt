@@ -30,8 +30,14 @@ impl OperationTable {
         let line = o.identifier.token.line;
         let raises = find_all_raised(&self.types, alloc, names, scope, &o.raises)?;
         let entry = declared_entry(names, scope, o.identifier)?;
-        let (table, request) =
-            self.with_call(carried, o.is_oneway, raises, Role::Operation, entry, line)?;
+        let (table, request) = self.with_call(
+            carried,
+            o.is_oneway,
+            raises,
+            Role::Operation,
+            entry,
+            line,
+        )?;
         table.with_place(entry, Place::Called { request })
     }
 

@@ -1,6 +1,6 @@
 -- What is written grows by each type and each declaration.
-use Rattle.std.proofs.Common.{◌≡◌, ℕ, ◌+◌, ◌≤◌, le_refl, Bool, true, false, List, [], ◌∷◌, ◌++◌, length, length-append, Option, Some, None, Result, Ok, Err, All, get_or, refl, sym, subst, arith}
-use Rattle.std.specs.Prelude.{if◌then◌else◌, nat_lt, slice_set, slice_get, map}
+use Rattle.std.proofs.Common.{◌≡◌, ℕ, ◌+◌, ◌≤◌, Bool, true, false, List, [], ◌∷◌, ◌++◌, length, length-append, Option, Some, None, Result, Ok, Err, All, get_or, sym, subst, arith}
+use Rattle.std.specs.Prelude.{if◌then◌else◌, nat_lt, slice_set, slice_get}
 use Rattle.std.proofs.lemmas.List.Elements.{All-set}
 use Rattle.idl_tree.specs.declared.names.Leaf.{Leaf}
 use Rattle.idl_tree.specs.declared.names.Listed.{Listed}
@@ -26,7 +26,7 @@ use Rattle.idl_tree.specs.declared.definitions.Declaration.TheVariants as Declar
 use Rattle.idl_tree.specs.Lists.{parts}
 use Rattle.idl_tree.specs.Starts.{expr_start}
 use Rattle.type_graph.specs.declared.node.Node.{Node}
-use Rattle.type_graph.specs.declared.node.Node.TheVariants.{Array, Enum, Frame, Seq, Struct, Text, Union}
+use Rattle.type_graph.specs.declared.node.Node.TheVariants.{Array, Enum, Frame, Seq, Struct, Text}
 use Rattle.name_table.specs.Entry.{Entry}
 use Rattle.scoped_names.specs.Reading.{◌>>◌}
 use Rattle.written_types.specs.declared.fault.BuildFault.{BuildFault}
@@ -43,7 +43,7 @@ use Rattle.written_types.specs.SimpleTypes.{array_type, arrays, bound_of, bound_
 use Rattle.written_types.specs.Labels.{Switched, no_arms, switch_kind, switch_line, switch_of, switch_read, switch_type, switched, values_of}
 use Rattle.written_types.specs.Types.{Cases, WithMembers, case_added, cases_of, member_added, members_added, no_members, struct_defined, struct_type, type_spec, union_defined, union_type, with_cases, with_declarator, with_declarators, with_member, with_members, with_members_of}
 use Rattle.written_types.specs.Declarations.{ahead, declaration, except, exception_added, id_member, type_dcl, with_typedef}
-use Rattle.written_types.proofs.Growth.{Follows, Leads, added_leads, added_room, behind, beside, chain, counted_leads, each_leads, ends, fails, itself, judged, named_leads, node_set_leads, opened_leads, placed_leads, same, still, then_ok}
+use Rattle.written_types.proofs.Growth.{Follows, Leads, added_leads, added_room, beside, chain, counted_leads, each_leads, ends, itself, judged, named_leads, node_set_leads, opened_leads, placed_leads, same, still, then_ok}
 
 -- ---- types that declare nothing
 
@@ -246,6 +246,7 @@ raised_is w v e frame is = by (nat_lt e (length w.places)) is
   where
     placing : Bool → Result Written BuildFault
     placing b = (if b then Ok (record w { places = slice_set w.places e (Some (Raised frame (length w.exceptions))) }) else Err OtherNames)
+
     by : (b : Bool) → (placing b >> λ there. Ok (record there { exceptions = there.exceptions ++ (e, frame) ∷ [] })) ≡ Ok v → with_raised w e frame ≡ v
     by true told = cc
     by false told = absurd cc

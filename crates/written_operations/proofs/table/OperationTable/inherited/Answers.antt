@@ -14,11 +14,12 @@ loop-k-preserved c =
     record {
       there = c.loop-k.invariant.there;
       told = elim c.match-base.branch [
-          in-Some+in_ok-insert_each w ↦
+        | in-Some+in_ok-insert_each w ↦
             let inserted = w.in_ok-insert_each.ensures in
             let is = w.places-is in
             let new : c.match-base.places.keys ≡ fold with_once c.loop-k.places.keys w.operations_of.result.now = cc in
             base_more c.args.self.now bases k w.in-Some.base c.loop-k.places.keys c.match-base.places.keys w.operations_of.result.now _
             (sym c.base.ensures ∙ w.in-Some.is) w.operations_of.ensures new c.loop-k.invariant.told
-          | in_default w ↦ absurd (absent bases k lt (sym c.base.ensures ∙ w.in_default.is)) ];
+        | in_default w ↦ absurd (absent bases k lt (sym c.base.ensures ∙ w.in_default.is))
+      ];
     }
