@@ -3,5 +3,5 @@ pub mod PlacesMore
 pub mod ModuleWalks
 pub mod Refused
 mod Walks
-mod Kept
-mod Few
+pub mod Kept
+pub mod Few

@@ -10,11 +10,13 @@ ghost use Rattle.written_operations.specs.Operations.{Defined};
 
 /// Nothing comes back from the oneway operations of a file that is written.
 pub fn oneway_gives_nothing_back()
-    ensures { (es : List Entry) (definitions : List Definition) (d : Defined) → defined_by es definitions ≡ Ok d → KeepRule definitions }
+    ensures { (es : List Entry) (definitions : List Definition) (d : Defined) →
+        defined_by es definitions ≡ Ok d → KeepRule definitions }
 {}
 
 /// A file that is written has no more nodes than the limit, no more operations or exceptions than
 /// nodes, and each place of one is among them. So places are small numbers.
 pub fn places_are_few()
-    ensures { (es : List Entry) (definitions : List Definition) (d : Defined) → defined_by es definitions ≡ Ok d → AreFew d }
+    ensures { (es : List Entry) (definitions : List Definition) (d : Defined) →
+        defined_by es definitions ≡ Ok d → AreFew d }
 {}
