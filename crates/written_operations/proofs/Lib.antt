@@ -2,4 +2,5 @@ pub mod Lengths
 pub mod PlacesMore
 pub mod ModuleWalks
 pub mod Refused
-mod Kept
+mod Walks
+pub mod Kept

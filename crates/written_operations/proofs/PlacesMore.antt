@@ -1,5 +1,5 @@
 -- Places of operations, one behind another.
-use Rattle.std.proofs.Common.{◌≡◌, ◌∙◌, ℕ, suc, ◌+◌, ◌-◌, ◌<◌, List, [], ◌∷◌, ◌++◌, Some, drop, slice_get, sym, ap, arith}
+use Rattle.std.proofs.Common.{◌≡◌, ◌∙◌, ℕ, zero, suc, ◌+◌, ◌-◌, ◌<◌, List, [], ◌∷◌, ◌++◌, None, Some, drop, length, slice_get, sym, ap, arith}
 use Rattle.std.specs.List.{fold, range_with_len}
 use Rattle.std.proofs.Math.Seq.{append_snoc}
 use Rattle.std.proofs.lemmas.Option.{get_or_from_slice_get, slice_get_within}
@@ -41,3 +41,9 @@ pub above_more : (d : Defined) (bases : List Base) (k : ℕ) (b : Base) (old mid
 above_more d bases k b old mid new more all there inserted gives told left =
     step_more (with_base_and_above d) bases k b old new all there
     (told ∙ ap (fold with_once mid) gives ∙ ap (λ m. fold with_once m (all_bases_of d b.entry)) inserted) left
+
+-- there is a base at each place among them
+pub absent : (bases : List Base) (k : ℕ) → k < length bases → slice_get bases k ≡ None → ⊥
+absent [] k lt is = omega (arith, lt)
+absent (b ∷ bases) zero lt is = cc
+absent (b ∷ bases) (suc k) lt is = absent bases k (omega (arith, lt)) is

@@ -1,5 +1,5 @@
 -- Operations that are refused, and where that is told.
-use Rattle.std.proofs.Common.{◌≡◌, ◌∙◌, ℕ, ◌+◌, Bool, true, false, List, ◌∷◌, ◌++◌, [], length, Option, Some, Ok, Err, refl, ap}
+use Rattle.std.proofs.Common.{◌≡◌, ◌∙◌, ℕ, ◌+◌, Bool, true, false, List, ◌∷◌, [], length, Some, Ok, Err, refl, ap}
 use Rattle.std.specs.Prelude.{◌&&◌, if◌then◌else◌, is_some, nat_lt}
 use Rattle.idl_tree.specs.declared.names.Listed.{Listed}
 use Rattle.idl_tree.specs.declared.names.ScopedName.{ScopedName}
@@ -8,13 +8,13 @@ use Rattle.idl_tree.specs.declared.definitions.Direction.TheVariants.{Out}
 use Rattle.idl_tree.specs.declared.definitions.Operation.{Operation}
 use Rattle.type_graph.specs.declared.fault.GraphLimit.TheVariants.{Members as MembersLimit}
 use Rattle.name_table.specs.Entry.{Entry}
-use Rattle.scoped_names.specs.Reading.{◌>>◌}
 use Rattle.written_types.specs.declared.fault.BuildFault.TheVariants.{Types, OtherNames}
 use Rattle.written_types.specs.declared.fault.TypeFault.TheVariants.{BadOneway}
 use Rattle.written_types.specs.declared.place.Place.TheVariants.{Typed}
-use Rattle.written_types.specs.Faults.{limit, line_of, max_members}
+use Rattle.written_types.specs.Faults.{at_most, limit, line_of, max_members}
 use Rattle.written_types.specs.Written.{Written, place_of}
 use Rattle.written_types.specs.SimpleTypes.{entry_found}
+use Rattle.written_types.specs.Types.{member_added}
 use Rattle.written_types.proofs.Walks.{goes_on, stops}
 use Rattle.written_operations.specs.declared.frames.Carried.{Carried}
 use Rattle.written_operations.specs.Oneway.{are_in, has_no_reply, not, oneway_test, parts_of}
@@ -85,5 +85,7 @@ no_exception es w scope name names e n found is =
 pub full_reply : (c : Carried) (number line : ℕ) → nat_lt max_members (length c.reply.numbers + 1) ≡ true
     → with_carried c Out number line ≡ Err (limit MembersLimit line)
 full_reply c number line full =
-    ap (λ b. (if b then Err (limit MembersLimit line) else Ok (length c.reply.numbers + 1)) >> λ n.
-    (Ok (record { numbers = c.reply.numbers ++ number ∷ []; lines = c.reply.lines ++ line ∷ [] }) >> λ ms. Ok (record c { reply = ms }))) full
+    let fault = limit MembersLimit line in
+    let count = length c.reply.numbers + 1 in
+    stops (member_added c.reply number line) fault _
+    (stops (at_most max_members MembersLimit line count) fault _ (ap (λ b. if b then Err fault else Ok count) full))

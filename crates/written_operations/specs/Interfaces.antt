@@ -1,6 +1,6 @@
--- Interfaces (ISO/IEC 19500-1, interface declaration): an interface has the operations of its bases in order, each once,
--- and then its own. It inherits from each base and from all that the base inherits from. Its name is that of a type, the
--- reference of an object.
+-- Interfaces (ISO/IEC 19500-1, interface declaration): an interface has the operations of its bases in order, each
+-- once, and then its own. It inherits from each base and from all that the base inherits from. Its name is that of a
+-- type, the reference of an object.
 use Rattle.std.specs.Prelude.{ℕ, ◌+◌, ◌-◌, cond, nat_eq, nat_lt, if◌then◌else◌, List, [], ◌∷◌, ◌++◌, length, Option, Some, None, Result, Ok, Err, slice_get, slice_set}
 use Rattle.std.specs.List.{fold, list_any, range_with_len}
 use Rattle.idl_tree.specs.declared.names.Leaf.{Leaf}

@@ -1,5 +1,5 @@
 -- The rule of oneway operations in the whole of a file.
-use Rattle.std.specs.Prelude.{◌≡◌, Bool, true, List, [], ◌++◌, All, Option, Some, None}
+use Rattle.std.specs.Prelude.{◌≡◌, true, List, [], ◌++◌, All, Option, Some, None}
 use Rattle.std.specs.List.{flat_map}
 use Rattle.idl_tree.specs.declared.definitions.Export.{Export}
 use Rattle.idl_tree.specs.declared.definitions.Export.TheVariants as Exports

@@ -90,14 +90,18 @@ with_call d c oneway raises role e line =
       interfaces = d.interfaces;
     }) f.number)
 
+-- what an operation writes behind the types that it carries
+abbrev pub with_operation : List Entry → ℕ → Defined → Carried → Operation → Result Defined BuildFault
+with_operation es scope d c o =
+    raised es d.types scope (parts_of o.raises) >> λ raises.
+    entry_of es scope o.identifier >> λ e.
+    with_call d c o.is_oneway raises Roles.Operation e (line_of o.identifier) >> λ r.
+    with_place r.defined e (Called r.request)
+
 abbrev pub operation : List Entry → ℕ → Defined → Operation → Result Defined BuildFault
 operation es scope d o =
     oneway_test o >> λ u.
-    all_carried es d.types scope o >> λ c.
-    raised es c.types scope (parts_of o.raises) >> λ raises.
-    entry_of es scope o.identifier >> λ e.
-    with_call (with_types d c.types) c.carried o.is_oneway raises Roles.Operation e (line_of o.identifier) >> λ r.
-    with_place r.defined e (Called r.request)
+    all_carried es d.types scope o >> λ c. with_operation es scope (with_types d c.types) c.carried o
 
 -- ---- attributes
 

@@ -132,7 +132,8 @@ impl OperationTable {
     ) -> Result<OperationTable, BuildFault>
         requires { scope ≤ length names.now.entries }
         ensures { Tells result (λ table. table)
-            (each (with_attribute names.now.entries scope number declared.now) self (attribute_identifiers declared.now)) }
+            (each (with_attribute names.now.entries scope number declared.now) self
+            (attribute_identifiers declared.now)) }
     {
         match declared {
             Attributes::Silent { identifiers, .. } => {

@@ -9,5 +9,6 @@ ghost use Rattle.written_operations.specs.Operations.{Defined};
 
 /// Nothing comes back from the oneway operations of a file that is written.
 pub fn oneway_gives_nothing_back()
-    ensures { (es : List Entry) (definitions : List Definition) (d : Defined) → defined_by es definitions ≡ Ok d → KeepRule definitions }
+    ensures { (es : List Entry) (definitions : List Definition) (d : Defined) →
+        defined_by es definitions ≡ Ok d → KeepRule definitions }
 {}

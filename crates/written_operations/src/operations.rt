@@ -2,9 +2,9 @@
 
 ghost use Rattle.std.specs.Prelude.{◌≤◌, length};
 ghost use Rattle.written_types.specs.Faults.{Tells};
-ghost use Rattle.written_operations.specs.Operations.{operation};
+ghost use Rattle.written_operations.specs.Operations.{operation, with_operation};
 
-use crate::frames::{Carrying, write_carried};
+use crate::frames::{Carried, Carrying, write_carried};
 use crate::oneway::check_oneway;
 use crate::raised::find_all_raised;
 use crate::signature::Role;
@@ -15,6 +15,32 @@ use std::alloc::Global;
 use written_types::{BuildFault, Place, declared_entry};
 
 impl OperationTable {
+    /// What an operation writes behind the types that it carries.
+    fn with_carried<'a>(
+        self,
+        alloc: Global,
+        names: &Names<'a>,
+        scope: usize,
+        carried: Carried,
+        o: &Operation<'a>,
+    ) -> Result<OperationTable, BuildFault>
+        requires { scope ≤ length names.now.entries }
+        ensures { Tells result (λ table. table) (with_operation names.now.entries scope self carried o.now) }
+    {
+        let line = o.identifier.token.line;
+        let raises = find_all_raised(&self.types, alloc, names, scope, &o.raises)?;
+        let entry = declared_entry(names, scope, o.identifier)?;
+        let (table, request) = self.with_call(
+            carried,
+            o.is_oneway,
+            raises,
+            Role::Operation,
+            entry,
+            line,
+        )?;
+        table.with_place(entry, Place::Called { request })
+    }
+
     /// What is written behind an operation.
     ///
     /// # Errors
@@ -36,16 +62,11 @@ impl OperationTable {
             interfaces,
         } = self;
         let Carrying { types, carried } = write_carried(types, alloc, names, scope, o)?;
-        let raises = find_all_raised(&types, alloc, names, scope, &o.raises)?;
-        let entry = declared_entry(names, scope, o.identifier)?;
         let table = OperationTable {
             types,
             operations,
             interfaces,
         };
-        let line = o.identifier.token.line;
-        let (table, request) =
-            table.with_call(carried, o.is_oneway, raises, Role::Operation, entry, line)?;
-        table.with_place(entry, Place::Called { request })
+        table.with_carried(alloc, names, scope, carried, o)
     }
 }

@@ -73,7 +73,8 @@ impl OperationTable {
         entry: usize,
         line: usize,
     ) -> Result<(OperationTable, u32), BuildFault>
-        ensures { Tells result (λ r. requested r.0 r.1) (with_call self carried is_oneway raises.items role entry line) }
+        ensures { Tells result (λ r. requested r.0 r.1)
+            (with_call self carried is_oneway raises.items role entry line) }
     {
         let OperationTable {
             types,
