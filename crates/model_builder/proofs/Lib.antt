@@ -1,5 +1,2 @@
 pub mod NamesMore
-pub mod FormedNodes
-pub mod FormedTypes
-pub mod FormedFile
-pub mod WellFormed
+pub mod Written

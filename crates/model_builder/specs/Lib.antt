@@ -1,6 +1,6 @@
--- The model that an IDL file shows.
-pub mod Refusal
+-- The model that an IDL file shows, and the faults of its types.
 pub mod Naming
 pub mod Signatures
+pub mod Theirs
 pub mod Shown
-pub mod Formed
+pub mod Faults

@@ -1,6 +1,8 @@
 //! The model of a whole file.
 
-ghost use Rattle.std.specs.Prelude.{IfOk};
+ghost use Rattle.std.specs.Prelude.{◌≡◌, ◌⊎◌, IfErr, IfOk};
+ghost use Rattle.written_types.specs.declared.fault.BuildFault.TheVariants.{NoMemory};
+ghost use Rattle.model_builder.specs.Faults.{IsFault};
 ghost use Rattle.model_builder.specs.Shown.{Shows};
 
 use crate::model::model_of;
@@ -18,7 +20,9 @@ use written_types::BuildFault;
 /// The first fault in the order of reading, with its line; a type that holds itself and too long a
 /// path come last. `OtherNames` where the names are those of another file. Want of memory.
 pub fn build<'a>(alloc: Global, spec: &Spec<'a>, names: &Names<'a>) -> Result<Model, BuildFault>
-    ensures { IfOk result (Shows spec.now.definitions.items names.now) }
+    ensures shows { IfOk result (Shows spec.now.definitions.items names.now) }
+    ensures faults { IfErr result (λ fault. (fault ≡ NoMemory)
+        ⊎ IsFault spec.now.definitions.items names.now fault) }
 {
     let table = write_file(alloc, names, spec)?;
     let (types, operations, interfaces) = table.into_parts();

@@ -2,10 +2,12 @@
 #![tactic(auto)]
 
 mod file;
-mod lines;
+pub mod laws;
 mod model;
 mod naming;
+mod paths;
 mod signatures;
+mod theirs;
 
 pub use file::build;
 pub use written_types::{BuildFault, TypeFault};

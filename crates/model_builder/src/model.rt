@@ -1,13 +1,14 @@
 //! The model of what a file writes.
 
-ghost use Rattle.std.specs.Prelude.{◌≡◌, List, Option, IfOk};
-ghost use Rattle.type_model.specs.ModelRules.{IsModel};
-ghost use Rattle.model_builder.specs.Formed.{AreFormed};
-ghost use Rattle.model_builder.specs.Shown.{model_of as its_model};
+ghost use Rattle.std.specs.Prelude.{◌≡◌, ◌⊎◌, IfErr, IfOk};
+ghost use Rattle.written_types.specs.declared.fault.BuildFault.TheVariants.{NoMemory};
+ghost use Rattle.model_builder.specs.Shown.{IsModelOf, defined};
+ghost use Rattle.model_builder.specs.Faults.{IsFaultBehind};
 
-use crate::lines::graph_of;
 use crate::naming::names_of;
+use crate::paths::{check_types, graph_of};
 use crate::signatures::{exceptions_of, interfaces_of, operations_of};
+use crate::theirs::are_theirs;
 use scoped_names::Names;
 use std::alloc::Global;
 use type_graph::{GraphFault, Items};
@@ -18,7 +19,7 @@ use written_types::{BuildFault, TypeTable};
 /// The model of types, operations and interfaces that are written.
 ///
 /// # Errors
-/// The fault of a type, with its line; `OtherNames`; want of memory.
+/// A type that holds itself, too long a path; `OtherNames`; want of memory.
 pub(crate) fn model_of<'a>(
     alloc: Global,
     names: &Names<'a>,
@@ -26,11 +27,19 @@ pub(crate) fn model_of<'a>(
     signatures: Vec<Signature>,
     offered: Vec<Option<Offered>>,
 ) -> Result<Model, BuildFault>
-    requires { AreFormed types.nodes }
-    ensures shows { IfOk result (λ model. model ≡
-        its_model names.now (record { types = types; operations = signatures.items; interfaces = offered.items })) }
-    ensures rules { IfOk result IsModel }
+    ensures shows { IfOk result (IsModelOf names.now (defined types signatures.items offered.items)) }
+    ensures faults { IfErr result (λ fault. (fault ≡ NoMemory)
+        ⊎ IsFaultBehind names.now (defined types signatures.items offered.items) fault) }
 {
+    if !are_theirs(
+        names.len(),
+        &types,
+        signatures.as_slice(),
+        offered.as_slice(),
+    ) {
+        return Err(BuildFault::OtherNames);
+    }
+    check_types(alloc, &types)?;
     let list = names_of(alloc, names, &types)?;
     let operations = operations_of(alloc, names, signatures)?;
     let exceptions = exceptions_of(alloc, names, types.exceptions())?;

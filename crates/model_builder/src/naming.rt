@@ -1,15 +1,16 @@
 //! What types, exceptions and frames are called.
 
-ghost use Rattle.std.specs.Prelude.{◌≡◌, ◌<◌, ◌++◌, ◌∷◌, [], length, map, Some, IfOk, OnOk};
+ghost use Rattle.std.specs.Prelude.{◌≡◌, ◌<◌, ◌+◌, ◌^◌, ◌++◌, ◌∷◌, [], length, map, All, Some, IfOk, IfSome, OnOk};
 ghost use Rattle.std.specs.List.{flat_map};
 ghost use Rattle.std.specs.String.{string_bytes};
 ghost use Rattle.model_builder.specs.Naming.{called, frames_of, mark_of as its_mark, marked, name_of as its_name, names_at, names_of as its_names, names_of_place, scopes_of, with_colons};
+ghost use Rattle.model_builder.specs.Theirs.{HasFrames};
 
 use scoped_names::Names;
 use std::alloc::{AllocError, Global};
 use type_model::Name;
 use written_operations::Role;
-use written_types::{BuildFault, Place, TypeTable};
+use written_types::{Place, TypeTable};
 
 /// What stands before the name of an operation on the wire.
 pub(crate) fn mark_of(role: Role) -> &'static str
@@ -55,7 +56,7 @@ fn call<'a>(
     mark: &str,
     entry: usize,
     end: &str,
-) -> Result<Name, BuildFault>
+) -> Result<Name, AllocError>
     requires { entry < length names.now.entries }
     ensures { IfOk result (λ name. name ≡ called names.now.entries mark.now entry end.now) }
 {
@@ -77,7 +78,7 @@ pub(crate) fn marked_name<'a>(
     names: &Names<'a>,
     role: Role,
     entry: usize,
-) -> Result<Name, BuildFault>
+) -> Result<Name, AllocError>
     requires { entry < length names.now.entries }
     ensures { IfOk result (λ name. name ≡ marked names.now.entries (its_mark role) entry) }
 {
@@ -95,7 +96,7 @@ pub(crate) fn name_of<'a>(
     alloc: Global,
     names: &Names<'a>,
     entry: usize,
-) -> Result<Name, BuildFault>
+) -> Result<Name, AllocError>
     requires { entry < length names.now.entries }
     ensures { IfOk result (λ name. name ≡ its_name names.now.entries entry) }
 {
@@ -110,16 +111,14 @@ fn push_frames<'a>(
     role: Role,
     entry: usize,
     request: u32,
-) -> Result<(), BuildFault>
-    requires { entry < length names.now.entries }
+) -> Result<(), AllocError>
+    requires there { entry < length names.now.entries }
+    requires small { request + 1 < 2 ^ 32 }
     ensures { OnOk result (list.new.items ≡ list.old.items ++ frames_of names.now.entries role entry request) }
 {
-    let Some(reply) = request.checked_add(1) else {
-        return Err(BuildFault::OtherNames);
-    };
     let mark = mark_of(role);
     list.push((call(alloc, names, mark, entry, "/in")?, request))?;
-    list.push((call(alloc, names, mark, entry, "/out")?, reply))?;
+    list.push((call(alloc, names, mark, entry, "/out")?, request + 1))?;
     Ok(())
 }
 
@@ -130,16 +129,14 @@ fn push_accesses<'a>(
     names: &Names<'a>,
     entry: usize,
     request: u32,
-) -> Result<(), BuildFault>
-    requires { entry < length names.now.entries }
+) -> Result<(), AllocError>
+    requires there { entry < length names.now.entries }
+    requires small { request + 3 < 2 ^ 32 }
     ensures { OnOk result (list.new.items ≡
         list.old.items ++ names_of_place names.now.entries entry (Some (Place.GotAndSet request))) }
 {
-    let Some(setting) = request.checked_add(2) else {
-        return Err(BuildFault::OtherNames);
-    };
     push_frames(list, alloc, names, Role::Getting, entry, request)?;
-    push_frames(list, alloc, names, Role::Setting, entry, setting)
+    push_frames(list, alloc, names, Role::Setting, entry, request + 2)
 }
 
 /// Adds the names of what an entry has.
@@ -149,8 +146,9 @@ fn push_place<'a>(
     names: &Names<'a>,
     entry: usize,
     place: Option<Place>,
-) -> Result<(), BuildFault>
-    requires { entry < length names.now.entries }
+) -> Result<(), AllocError>
+    requires there { entry < length names.now.entries }
+    requires small { IfSome place (HasFrames (2 ^ 32)) }
     ensures { OnOk result (list.new.items ≡ list.old.items ++ names_of_place names.now.entries entry place) }
 {
     match place {
@@ -176,12 +174,13 @@ fn push_place<'a>(
 /// The names of all types, exceptions and frames, in order of declaration.
 ///
 /// # Errors
-/// `OtherNames` where a frame has no number, want of memory.
+/// Want of memory.
 pub(crate) fn names_of<'a>(
     alloc: Global,
     names: &Names<'a>,
     types: &TypeTable,
-) -> Result<Vec<(Name, u32)>, BuildFault>
+) -> Result<Vec<(Name, u32)>, AllocError>
+    requires { All (λ place. IfSome place (HasFrames (2 ^ 32))) types.now.places }
     ensures { IfOk result (λ list. list.items ≡ its_names names.now.entries types.now) }
 {
     let mut list = Vec::new(alloc);

@@ -1,53 +1,60 @@
 //! Operations, exceptions and interfaces.
 
-ghost use Rattle.std.specs.Prelude.{◌≡◌, ◌++◌, ◌∷◌, [], map, IfOk, OnOk};
+ghost use Rattle.std.specs.Prelude.{◌≡◌, ◌<◌, ◌≤◌, ◌^◌, ◌++◌, ◌∷◌, [], length, map, All, IfOk, IfSome, OnOk};
 ghost use Rattle.model_builder.specs.Signatures.{exception_of as its_exception, id_of as its_id, interface_of as its_interface, interfaces_from, operation_of as its_operation};
+ghost use Rattle.model_builder.specs.Theirs.{ArePlaces, IsOffered, IsSignature};
 
 use crate::naming::{marked_name, name_of};
 use scoped_names::Names;
-use std::alloc::Global;
+use std::alloc::{AllocError, Global};
 use type_graph::Items;
 use type_model::{Exception, Interface, Name, Operation};
 use written_operations::{Offered, Signature};
-use written_types::BuildFault;
 
 /// The repository id of an entry.
-fn id_of<'a>(alloc: Global, names: &Names<'a>, entry: usize) -> Result<Name, BuildFault>
+fn id_of<'a>(alloc: Global, names: &Names<'a>, entry: usize) -> Result<Name, AllocError>
+    requires { entry < length names.now.entries }
     ensures { IfOk result (λ id. id ≡ its_id names.now entry) }
 {
-    if entry >= names.len() {
-        return Err(BuildFault::OtherNames);
-    }
     Ok(Name::new(names.repository_id(alloc, entry)?))
 }
 
-fn operation_of<'a>(alloc: Global, names: &Names<'a>, s: Signature) -> Result<Operation, BuildFault>
+/// Places as numbers of 32 bits.
+fn numbers_of(alloc: Global, places: &[usize]) -> Result<Vec<u32>, AllocError>
+    requires { ArePlaces places.now }
+    ensures { IfOk result (λ numbers. numbers.items ≡ places.now) }
+{
+    let mut numbers = Vec::new(alloc);
+    for place in places {
+        numbers.push(*place as u32)?;
+    }
+    Ok(numbers)
+}
+
+fn operation_of<'a>(alloc: Global, names: &Names<'a>, s: Signature) -> Result<Operation, AllocError>
+    requires { IsSignature (length names.now.entries) (2 ^ 32) s }
     ensures { IfOk result (λ o. o ≡ its_operation names.now.entries s) }
 {
-    let Some(reply) = s.request.checked_add(1) else {
-        return Err(BuildFault::OtherNames);
-    };
-    if s.entry >= names.len() {
-        return Err(BuildFault::OtherNames);
-    }
+    let exceptions = numbers_of(alloc, s.raises.as_slice())?;
     Ok(Operation {
         name: marked_name(alloc, names, s.role, s.entry)?,
         oneway: s.is_oneway,
         request: s.request,
-        reply,
-        exceptions: s.raises,
+        reply: s.request + 1,
+        exceptions: Items::new(exceptions),
     })
 }
 
 /// The operations of a file, in the order of the text.
 ///
 /// # Errors
-/// `OtherNames` where one has no entry or no number, want of memory.
+/// Want of memory.
 pub(crate) fn operations_of<'a>(
     alloc: Global,
     names: &Names<'a>,
     signatures: Vec<Signature>,
-) -> Result<Vec<Operation>, BuildFault>
+) -> Result<Vec<Operation>, AllocError>
+    requires { All (IsSignature (length names.now.entries) (2 ^ 32)) signatures.items }
     ensures { IfOk result (λ list. list.items ≡ map (its_operation names.now.entries) signatures.items) }
 {
     let mut list = Vec::new(alloc);
@@ -62,13 +69,11 @@ fn exception_of<'a>(
     names: &Names<'a>,
     entry: usize,
     frame: u32,
-) -> Result<Exception, BuildFault>
+) -> Result<Exception, AllocError>
+    requires { entry < length names.now.entries }
     ensures { IfOk result (λ x. x ≡ its_exception names.now (entry, frame)) }
 {
     let id = id_of(alloc, names, entry)?;
-    if entry >= names.len() {
-        return Err(BuildFault::OtherNames);
-    }
     Ok(Exception {
         name: name_of(alloc, names, entry)?,
         id,
@@ -79,12 +84,13 @@ fn exception_of<'a>(
 /// The exceptions of a file, in the order of the text.
 ///
 /// # Errors
-/// `OtherNames` where one has no entry, want of memory.
+/// Want of memory.
 pub(crate) fn exceptions_of<'a>(
     alloc: Global,
     names: &Names<'a>,
     exceptions: &[(usize, u32)],
-) -> Result<Vec<Exception>, BuildFault>
+) -> Result<Vec<Exception>, AllocError>
+    requires { All (λ exception. exception.0 < length names.now.entries) exceptions.now }
     ensures { IfOk result (λ list. list.items ≡ map (its_exception names.now) exceptions.now) }
 {
     let mut list = Vec::new(alloc);
@@ -95,7 +101,8 @@ pub(crate) fn exceptions_of<'a>(
 }
 
 /// The repository ids of entries.
-fn ids_of<'a>(alloc: Global, names: &Names<'a>, entries: &[usize]) -> Result<Vec<Name>, BuildFault>
+fn ids_of<'a>(alloc: Global, names: &Names<'a>, entries: &[usize]) -> Result<Vec<Name>, AllocError>
+    requires { All (λ entry. entry < length names.now.entries) entries.now }
     ensures { IfOk result (λ ids. ids.items ≡ map (its_id names.now) entries.now) }
 {
     let mut ids = Vec::new(alloc);
@@ -110,19 +117,19 @@ fn interface_of<'a>(
     names: &Names<'a>,
     entry: usize,
     offered: Offered,
-) -> Result<Interface, BuildFault>
+) -> Result<Interface, AllocError>
+    requires there { entry < length names.now.entries }
+    requires theirs { IsOffered (length names.now.entries) offered }
     ensures { IfOk result (λ i. i ≡ its_interface names.now entry offered) }
 {
     let id = id_of(alloc, names, entry)?;
-    if entry >= names.len() {
-        return Err(BuildFault::OtherNames);
-    }
     let bases = ids_of(alloc, names, offered.bases.as_slice())?;
+    let operations = numbers_of(alloc, offered.operations.as_slice())?;
     Ok(Interface {
         name: name_of(alloc, names, entry)?,
         id,
         bases: Items::new(bases),
-        operations: offered.operations,
+        operations: Items::new(operations),
     })
 }
 
@@ -133,7 +140,9 @@ fn push_interface<'a>(
     names: &Names<'a>,
     entry: usize,
     offered: Option<Offered>,
-) -> Result<(), BuildFault>
+) -> Result<(), AllocError>
+    requires there { entry < length names.now.entries }
+    requires theirs { IfSome offered (IsOffered (length names.now.entries)) }
     ensures { OnOk result (list.new.items ≡ list.old.items ++ interfaces_from names.now entry (offered ∷ [])) }
 {
     if let Some(offered) = offered {
@@ -145,20 +154,19 @@ fn push_interface<'a>(
 /// The interfaces of a file that are defined, in order of declaration.
 ///
 /// # Errors
-/// `OtherNames` where one has no entry, want of memory.
+/// Want of memory.
 pub(crate) fn interfaces_of<'a>(
     alloc: Global,
     names: &Names<'a>,
     offered: Vec<Option<Offered>>,
-) -> Result<Vec<Interface>, BuildFault>
+) -> Result<Vec<Interface>, AllocError>
+    requires within { length offered.items ≤ length names.now.entries }
+    requires theirs { All (λ offered. IfSome offered (IsOffered (length names.now.entries))) offered.items }
     ensures { IfOk result (λ list. list.items ≡ interfaces_from names.now 0 offered.items) }
 {
     let mut list = Vec::new(alloc);
     let mut entry = 0;
     for offered in offered {
-        if entry >= names.len() {
-            return Err(BuildFault::OtherNames);
-        }
         push_interface(&mut list, alloc, names, entry, offered)?;
         entry += 1;
     }

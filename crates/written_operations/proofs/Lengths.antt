@@ -1,5 +1,5 @@
 -- How much a module spells.
-use Rattle.std.proofs.Common.{◌<◌, List, ◌++◌, codes, length, length-append, ap, arith}
+use Rattle.std.proofs.Common.{◌<◌, ◌++◌, codes, length, length-append, ap, arith}
 use Rattle.std.specs.List.{flat_map}
 use Rattle.idl_tree.specs.declared.definitions.Definition.{Module}
 use Rattle.idl_tree.specs.declared.definitions.Module.{Module as ModuleRecord}

@@ -11,7 +11,8 @@ use idl_tree::names::Listed;
 use scoped_names::Names;
 use std::alloc::Global;
 use type_graph::Node;
-use written_types::{BuildFault, MemberList, NodeLines, TypeTable};
+use type_paths::NodeLines;
+use written_types::{BuildFault, MemberList, TypeTable};
 
 /// The types that a request and its reply carry.
 #[derive(Drop)]

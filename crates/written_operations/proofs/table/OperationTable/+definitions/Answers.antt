@@ -2,7 +2,8 @@ use Rattle.std.proofs.Common.{◌≡◌, length, subst, ap, arith}
 use Rattle.std.specs.List.{flat_map}
 use Rattle.idl_tree.specs.DefinitionYields.{definition_yield}
 use Rattle.written_types.specs.Faults.{Tells}
-use Rattle.written_operations.proofs.Lengths.{module_length, part_length}
+use Rattle.idl_tree.proofs.PartLengths.{part_length}
+use Rattle.written_operations.proofs.Lengths.{module_length}
 use Rattle.written_operations.proofs.ModuleWalks.{module_entered}
 use Rattle.written_operations.proofs.table.OperationTable.+definitions.Goals as goal
 
