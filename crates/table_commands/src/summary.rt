@@ -1,11 +1,17 @@
 //! How many routines were accepted.
 
+ghost use Rattle.std.specs.Prelude.{◌≡◌, IfOk};
+ghost use Rattle.std.specs.String.{string_bytes};
+ghost use Rattle.table_commands.specs.Lines.{accepted};
+
 use position_checker::Accepted;
 use std::alloc::{AllocError, Global};
 use table_file::Use;
 
 /// The line `accepted N`: how many routines both programs have.
-pub fn accepted_line(alloc: Global, table: &Accepted) -> Result<String, AllocError> {
+pub fn accepted_line(alloc: Global, table: &Accepted) -> Result<String, AllocError>
+    ensures { IfOk result (λ line. string_bytes line ≡ accepted table.now) }
+{
     let first = table.table().program(Use::First).routines().len();
     let second = table.table().program(Use::Second).routines().len();
     format!(in alloc; "accepted {}\n", first + second)
