@@ -3,40 +3,41 @@ use Rattle.std.proofs.Common.{◌≡◌, refl, ℕ, ◌≤◌, List, Option, ari
 use Rattle.idlc_main.specs.declared.fault.Fault.{Fault}
 use Rattle.idlc_main.specs.declared.fault.Fault.TheVariants.{Words, NotText, Unread, Refused, NoReference, NotCompiled, NotServed, Socket, NoRefusal, Unmade, Unwritten, NoMemory}
 use Rattle.idlc_main.specs.Fault.{status_of}
+use Rattle.idlc_main.specs.Files.{Passing}
 use Rattle.command_words.specs.Ask.{Ask, Explanation, Reference, ReferenceAsk, Value, ValueAsk}
 use Rattle.idlc_main.specs.Answer.{IsEndOf, IsExplanationFault, IsFaultOf, IsReferenceFault, IsStrange, IsToldOf, IsValueFault}
 
 -- a fault that answers may be told
-pub told_of : (ask : Ask) (fault : Fault) → IsFaultOf ask fault → IsToldOf ask fault
-told_of ask (Words mistake) is = is
-told_of ask NotText is = is
-told_of ask (Refused refusal) is = is
-told_of ask (NoReference refusal) is = is
-told_of ask (NotCompiled refusal) is = is
-told_of ask (NotServed fault) is = is
-told_of ask Socket is = is
-told_of ask (NoRefusal number) is = is
-told_of ask (Unmade file) is = is
-told_of ask (Unread file) is = is
-told_of ask Unwritten is = tt
-told_of ask NoMemory is = is
+pub told_of : (Reads : Passing) (ask : Ask) (fault : Fault) → IsFaultOf Reads ask fault → IsToldOf Reads ask fault
+told_of Reads ask (Words mistake) is = is
+told_of Reads ask NotText is = is
+told_of Reads ask (Refused refusal) is = is
+told_of Reads ask (NoReference refusal) is = is
+told_of Reads ask (NotCompiled refusal) is = is
+told_of Reads ask (NotServed fault) is = is
+told_of Reads ask Socket is = is
+told_of Reads ask (NoRefusal number) is = is
+told_of Reads ask (Unmade file) is = is
+told_of Reads ask (Unread file) is = is
+told_of Reads ask Unwritten is = tt
+told_of Reads ask NoMemory is = is
 
 -- a fault that answers nothing, whatever is asked for
-never : (ask : Ask) (fault : Fault) → ((value : ValueAsk) → IsValueFault value fault → ⊥)
-    → ((reference : ReferenceAsk) → IsReferenceFault reference fault → ⊥)
-    → ((number : ℕ) → IsExplanationFault number fault → ⊥) → IsFaultOf ask fault → ⊥
-never (Value value) fault v r e is = v value is
-never (Reference reference) fault v r e is = r reference is
-never (Explanation number) fault v r e is = e number is
+never : (Reads : Passing) (ask : Ask) (fault : Fault) → ((value : ValueAsk) → IsValueFault Reads value fault → ⊥)
+    → ((reference : ReferenceAsk) → IsReferenceFault Reads reference fault → ⊥)
+    → ((number : ℕ) → IsExplanationFault number fault → ⊥) → IsFaultOf Reads ask fault → ⊥
+never Reads (Value value) fault v r e is = v value is
+never Reads (Reference reference) fault v r e is = r reference is
+never Reads (Explanation number) fault v r e is = e number is
 
-strange : (ask : Ask) (number : ℕ) → IsFaultOf ask (NoRefusal number) → IsStrange ask
-strange (Value value) number is = absurd is
-strange (Reference reference) number is = absurd is
-strange (Explanation n) number is = is.1
+strange : (Reads : Passing) (ask : Ask) (number : ℕ) → IsFaultOf Reads ask (NoRefusal number) → IsStrange ask
+strange Reads (Value value) number is = absurd is
+strange Reads (Reference reference) number is = absurd is
+strange Reads (Explanation n) number is = is.1
 
-module _ (ask : Ask) (old new : Option (List ℕ)) where
+module _ (Reads : Passing) (ask : Ask) (old new : Option (List ℕ)) where
   -- the input was refused
-  ends_refused : (fault : Fault) (status : ℕ) → status ≡ 1 → status_of fault ≡ 1 → IsFaultOf ask fault → IsEndOf ask status old new
+  ends_refused : (fault : Fault) (status : ℕ) → status ≡ 1 → status_of fault ≡ 1 → IsFaultOf Reads ask fault → IsEndOf Reads ask status old new
   ends_refused fault status is_1 of_1 why = record {
     done = λ is_0. absurd (omega arith);
     refused = λ _. (fault, of_1, why);
@@ -44,7 +45,7 @@ module _ (ask : Ask) (old new : Option (List ℕ)) where
   }
 
   -- no refusal has the number
-  ends_strange : (status : ℕ) → status ≡ 2 → IsStrange ask → IsEndOf ask status old new
+  ends_strange : (status : ℕ) → status ≡ 2 → IsStrange ask → IsEndOf Reads ask status old new
   ends_strange status is_2 why = record {
     done = λ is_0. absurd (omega arith);
     refused = λ is_1. absurd (omega arith);
@@ -52,23 +53,23 @@ module _ (ask : Ask) (old new : Option (List ℕ)) where
   }
 
   -- it was not the input
-  ends_else : (status : ℕ) → 3 ≤ status → IsEndOf ask status old new
+  ends_else : (status : ℕ) → 3 ≤ status → IsEndOf Reads ask status old new
   ends_else status above = record {
     done = λ is_0. absurd (omega arith);
     refused = λ is_1. absurd (omega arith);
     understood = λ is_2. absurd (omega arith);
   }
 
-  pub ends : (fault : Fault) (status : ℕ) → status ≡ status_of fault → IsToldOf ask fault → IsEndOf ask status old new
-  ends (Words mistake) status is told = absurd (never ask (Words mistake) (λ _ h. h) (λ _ h. h) (λ _ h. h) told)
-  ends NotText status is told = absurd (never ask NotText (λ _ h. h) (λ _ h. h) (λ _ h. h) told)
+  pub ends : (fault : Fault) (status : ℕ) → status ≡ status_of fault → IsToldOf Reads ask fault → IsEndOf Reads ask status old new
+  ends (Words mistake) status is told = absurd (never Reads ask (Words mistake) (λ _ h. h) (λ _ h. h) (λ _ h. h) told)
+  ends NotText status is told = absurd (never Reads ask NotText (λ _ h. h) (λ _ h. h) (λ _ h. h) told)
   ends (Refused refusal) status is told = ends_refused (Refused refusal) status is refl told
   ends (NoReference refusal) status is told = ends_refused (NoReference refusal) status is refl told
-  ends (NotCompiled refusal) status is told = absurd (never ask (NotCompiled refusal) (λ _ h. h) (λ _ h. h) (λ _ h. h) told)
-  ends (NotServed fault) status is told = absurd (never ask (NotServed fault) (λ _ h. h) (λ _ h. h) (λ _ h. h) told)
-  ends Socket status is told = absurd (never ask Socket (λ _ h. h) (λ _ h. h) (λ _ h. h) told)
-  ends (NoRefusal number) status is told = ends_strange status is (strange ask number told)
-  ends (Unmade file) status is told = absurd (never ask (Unmade file) (λ _ h. h) (λ _ h. h) (λ _ h. h) told)
+  ends (NotCompiled refusal) status is told = absurd (never Reads ask (NotCompiled refusal) (λ _ h. h) (λ _ h. h) (λ _ h. h) told)
+  ends (NotServed fault) status is told = absurd (never Reads ask (NotServed fault) (λ _ h. h) (λ _ h. h) (λ _ h. h) told)
+  ends Socket status is told = absurd (never Reads ask Socket (λ _ h. h) (λ _ h. h) (λ _ h. h) told)
+  ends (NoRefusal number) status is told = ends_strange status is (strange Reads ask number told)
+  ends (Unmade file) status is told = absurd (never Reads ask (Unmade file) (λ _ h. h) (λ _ h. h) (λ _ h. h) told)
   ends (Unread file) status is told = ends_else status (omega arith)
   ends Unwritten status is told = ends_else status (omega arith)
   ends NoMemory status is told = ends_else status (omega arith)

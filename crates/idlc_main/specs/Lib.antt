@@ -1,2 +1,4 @@
+pub mod Files
 pub mod Answer
 pub mod Fault
+pub mod Service

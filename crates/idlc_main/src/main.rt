@@ -23,11 +23,11 @@ use crate::service::served;
 use crate::tasks::done;
 use crate::told::{Answer, Notice};
 use command_words::{Said, Task, parse};
-use std::fs::Files;
 use std::net::Net;
 use std::process::ExitCode;
 use std::rt::Env;
 use std::{env, io};
+use whole_files::WholeFiles;
 
 /// The status of a run that did what was asked for, help included.
 const DONE: u8 = 0;
@@ -44,13 +44,14 @@ fn say<'a, O: io::Write>(out: &mut O, answer: &Answer) -> Result<Option<Notice>,
 }
 
 /// Does a task, and puts the answer on standard output.
-fn answer<'a, R: Files + AllocGlobal, O: io::Write>(
+fn answer<'a, R: WholeFiles + AllocGlobal, O: io::Write>(
     rt: &R,
     task: &Task<'a>,
     out: &mut O,
 ) -> Result<Option<Notice>, Fault<'a>>
     ensures asked { (ask : Ask) → ask_of task.now ≡ Some ask → MatchResult result
-        (λ _. IsPrinted ask (O.contents out.old) (O.contents out.new)) (IsToldOf ask) }
+        (λ _. IsPrinted (R.reads rt.now) ask (O.contents out.old) (O.contents out.new))
+        (IsToldOf (R.reads rt.now) ask) }
     ensures kept { IfErr result (λ fault. IsTold fault → out.new ≡ out.old) }
 {
     match done(rt, task) {
@@ -60,13 +61,14 @@ fn answer<'a, R: Files + AllocGlobal, O: io::Write>(
 }
 
 /// Does what the words ask for, and puts the answer on standard output.
-fn print<'a, R: Files + Net + AllocGlobal, O: io::Write>(
+fn print<'a, R: WholeFiles + Net + AllocGlobal, O: io::Write>(
     rt: &R,
     words: &'a [&'a str],
     out: &mut O,
 ) -> Result<Option<Notice>, Fault<'a>>
     ensures asked { (ask : Ask) → AsksFor (texts words.now) ask → MatchResult result
-        (λ _. IsPrinted ask (O.contents out.old) (O.contents out.new)) (IsToldOf ask) }
+        (λ _. IsPrinted (R.reads rt.now) ask (O.contents out.old) (O.contents out.new))
+        (IsToldOf (R.reads rt.now) ask) }
     ensures kept { (ask : Ask) → AsksFor (texts words.now) ask
         → IfErr result (λ fault. IsTold fault → out.new ≡ out.old) }
     ensures mistaken { IsMistaken (texts words.now) → IsErrAnd result IsOfWords × (out.new ≡ out.old) }
@@ -105,7 +107,7 @@ fn notify<E: io::Write>(err: &mut E, notice: Option<Notice>) {
 /// what was asked for, 1 for refused input, 2 for usage, 3 for files and standard output, 4 for
 /// want of memory. Standard output has the answer or nothing, where calls are served the line that
 /// says so; a fault is told on standard error.
-pub fn run<R: Files + Net + AllocGlobal, O: io::Write, E: io::Write>(
+pub fn run<R: WholeFiles + Net + AllocGlobal, O: io::Write, E: io::Write>(
     rt: &R,
     words: &[&str],
     out: &mut O,
@@ -113,7 +115,7 @@ pub fn run<R: Files + Net + AllocGlobal, O: io::Write, E: io::Write>(
 ) -> u8
     ensures range { result ≤ 4 }
     ensures asked { (ask : Ask) → AsksFor (texts words.now) ask
-        → IsEndOf ask result (O.contents out.old) (O.contents out.new) }
+        → IsEndOf (R.reads rt.now) ask result (O.contents out.old) (O.contents out.new) }
     ensures kept { (ask : Ask) → AsksFor (texts words.now) ask → result ≢ 0 → result ≢ 3 → out.new ≡ out.old }
     ensures mistaken { IsMistaken (texts words.now) → ((result ≡ 2) ⊎ (result ≡ 4)) × (out.new ≡ out.old) }
     ensures silent { result ≢ 0 → result < 3 → out.new ≡ out.old }
@@ -139,7 +141,7 @@ fn own_words<R: Env + AllocGlobal>(rt: &R) -> Result<Vec<String>, Fault<'static>
     }
 }
 
-fn run_on_own_words<R: Env + Files + Net + AllocGlobal, O: io::Write, E: io::Write>(
+fn run_on_own_words<R: Env + WholeFiles + Net + AllocGlobal, O: io::Write, E: io::Write>(
     rt: &R,
     out: &mut O,
     err: &mut E,

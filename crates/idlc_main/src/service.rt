@@ -1,24 +1,30 @@
 //! Calls served to an object of a table's interface.
 
-ghost use Rattle.std.specs.Prelude.{◌≡◌, ◌<◌, IfErr};
+ghost use Rattle.std.specs.Prelude.{◌≡◌, ◌<◌, IfErr, OnOk};
+ghost use Rattle.std.specs.Io.KnownBytes.{Appends};
+ghost use Rattle.socket_server.specs.Lines.{serving};
 ghost use Rattle.idlc_main.specs.Answer.{MayServe};
 ghost use Rattle.idlc_main.specs.Fault.{status_of};
+ghost use Rattle.idlc_main.specs.Service.{IsServed};
 ghost use Rattle.idlc_main.specs.declared.fault.Fault.TheVariants.{NoMemory};
 
 use crate::fault::Fault;
 use crate::tables::table_of;
 use command_words::Service;
 use socket_server::{Asked, serve};
-use std::fs::Files;
 use std::io::Write;
 use std::net::Net;
+use whole_files::WholeFiles;
 
 /// Serves calls by a table, which is checked before anything listens.
-pub fn served<'a, R: Files + Net + AllocGlobal, O: Write>(
+pub fn served<'a, R: WholeFiles + Net + AllocGlobal, O: Write>(
     rt: &R,
     out: &mut O,
     service: &Service<'a>,
 ) -> Result<(), Fault<'a>>
+    ensures done { OnOk result (IsServed (R.reads rt.now) service.now) }
+    ensures printed { OnOk result
+        (Appends (O.contents out.old) (O.contents out.new) (serving service.now.port)) }
     ensures silent { IfErr result (λ fault. status_of fault < 3 → out.new ≡ out.old) }
     ensures memory { IfErr result (λ fault. fault ≡ NoMemory → MayServe (O.contents out.old) (O.contents out.new)) }
 {

@@ -1,16 +1,15 @@
 //! Tables by their names: the sample, or files.
 
-ghost use Rattle.std.specs.Prelude.{◌≡◌, ◌≢◌, ◌⊎◌, codes, IfOk, IfErr};
+ghost use Rattle.std.specs.Prelude.{◌≡◌, codes, IfOk, IfErr, OnOk};
 ghost use Rattle.position_checker.specs.Acceptance.{IsRight};
-ghost use Rattle.table_commands.specs.Sample.{sample_table};
 ghost use Rattle.idlc_main.specs.Answer.{IsFileFault};
 ghost use Rattle.idlc_main.specs.Fault.{IsTold};
+ghost use Rattle.idlc_main.specs.Files.{IsReadAs, IsTableOf};
 
 use crate::fault::Fault;
 use position_checker::Accepted;
-use std::fs::Files;
 use table_commands::{MAX_LEN, Refusal, accepted, sample};
-use whole_files::{ReadFault, WriteFault, read_whole, write_whole};
+use whole_files::{ReadFault, WholeFiles, WriteFault};
 
 /// The name by which the commands know the sample table.
 pub const SAMPLE: &str = "builtin";
@@ -28,17 +27,19 @@ fn unread<'a>(file: &'a str, fault: ReadFault) -> Fault<'a>
 }
 
 /// The octets of a file.
-pub fn octets_in<'a, R: Files + AllocGlobal>(rt: &R, file: &'a str) -> Result<Vec<u8>, Fault<'a>>
+pub fn octets_in<'a, R: WholeFiles>(rt: &R, file: &'a str) -> Result<Vec<u8>, Fault<'a>>
+    ensures read { IfOk result (λ octets. R.reads rt.now file.now octets.items) }
     ensures fault { IfErr result (IsFileFault file.now) }
     ensures told { IfErr result IsTold }
 {
-    match read_whole(rt, file, MAX_LEN) {
+    match rt.octets_in(file, MAX_LEN) {
         Ok(octets) => Ok(octets),
         Err(fault) => Err(unread(file, fault)),
     }
 }
 
-fn table_in<'a, R: Files + AllocGlobal>(rt: &R, file: &'a str) -> Result<Accepted, Fault<'a>>
+fn table_in<'a, R: WholeFiles + AllocGlobal>(rt: &R, file: &'a str) -> Result<Accepted, Fault<'a>>
+    ensures read { IfOk result (IsReadAs (R.reads rt.now) file.now) }
     ensures right { IfOk result IsRight }
     ensures fault { IfErr result (IsFileFault file.now) }
     ensures told { IfErr result IsTold }
@@ -54,9 +55,11 @@ fn table_in<'a, R: Files + AllocGlobal>(rt: &R, file: &'a str) -> Result<Accepte
 }
 
 /// The table of a name: the sample, or that of a file, which is checked before it is used.
-pub fn table_of<'a, R: Files + AllocGlobal>(rt: &R, name: &'a str) -> Result<Accepted, Fault<'a>>
-    ensures sample { name.now ≡ codes "builtin" → IfOk result (λ table. table ≡ sample_table) }
-    ensures right { IfOk result IsRight }
+pub fn table_of<'a, R: WholeFiles + AllocGlobal>(
+    rt: &R,
+    name: &'a str,
+) -> Result<Accepted, Fault<'a>>
+    ensures is { IfOk result (IsTableOf (R.reads rt.now) name.now) }
     ensures memory { name.now ≡ codes "builtin" → IfErr result (λ fault. fault ≡ Fault.NoMemory) }
     ensures fault { IfErr result (IsFileFault name.now) }
     ensures told { IfErr result IsTold }
@@ -81,14 +84,11 @@ fn unmade<'a>(file: &'a str, fault: WriteFault) -> Fault<'a>
 }
 
 /// Writes a table's octets to a file.
-pub fn put<'a, R: Files + AllocGlobal>(
-    rt: &R,
-    file: &'a str,
-    octets: &[u8],
-) -> Result<(), Fault<'a>>
+pub fn put<'a, R: WholeFiles>(rt: &R, file: &'a str, octets: &[u8]) -> Result<(), Fault<'a>>
+    ensures taken { OnOk result (R.takes rt.now file.now octets.now) }
     ensures told { IfErr result IsTold }
 {
-    match write_whole(rt, file, octets) {
+    match rt.put_octets(file, octets) {
         Ok(()) => Ok(()),
         Err(fault) => Err(unmade(file, fault)),
     }

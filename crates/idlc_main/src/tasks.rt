@@ -1,12 +1,15 @@
 //! What the commands do.
 
-ghost use Rattle.std.specs.Prelude.{◌≡◌, ℕ, IfErr};
+ghost use Rattle.std.specs.Prelude.{◌≡◌, ℕ, IfErr, IfOk, OnOk};
+ghost use Rattle.std.specs.String.{string_bytes};
 ghost use Rattle.compile_command.specs.Files.{IsCompiledFile};
 ghost use Rattle.command_words.specs.Ask.{Explanation, Reference, Value, reference_ask_of, value_ask_of};
 ghost use Rattle.command_words.specs.declared.task.Asked.{Asked};
 ghost use Rattle.command_words.specs.declared.task.AskedReference.{AskedReference};
 ghost use Rattle.idlc_main.specs.Answer.{IsAnswer};
 ghost use Rattle.idlc_main.specs.Fault.{IsTold};
+ghost use Rattle.idlc_main.specs.Files.{Passing, IsCompiledTo, IsCounted, IsDone, IsUpgraded, IsWritten};
+ghost use Rattle.table_commands.specs.Lines.{accepted};
 
 use crate::fault::Fault;
 use crate::tables::{octets_in, put, table_of};
@@ -17,11 +20,11 @@ use fault_texts::explanation;
 use position_checker::Accepted;
 use reference_commands::reference_line;
 use std::alloc::Global;
-use std::fs::Files;
 use table_commands::{accepted_line, listing, marshal, upgraded};
+use whole_files::WholeFiles;
 
-fn value<'a, R: Files + AllocGlobal>(rt: &R, asked: &Asked<'a>) -> Result<Answer, Fault<'a>>
-    ensures answers { IsAnswer (Value (value_ask_of asked.now)) result }
+fn value<'a, R: WholeFiles + AllocGlobal>(rt: &R, asked: &Asked<'a>) -> Result<Answer, Fault<'a>>
+    ensures answers { IsAnswer (R.reads rt.now) (Value (value_ask_of asked.now)) result }
     ensures told { IfErr result IsTold }
 {
     let table = match table_of(rt, asked.table) {
@@ -34,11 +37,11 @@ fn value<'a, R: Files + AllocGlobal>(rt: &R, asked: &Asked<'a>) -> Result<Answer
     }
 }
 
-fn reference<'a, R: Files + AllocGlobal>(
+fn reference<'a, R: WholeFiles + AllocGlobal>(
     rt: &R,
     asked: &AskedReference<'a>,
 ) -> Result<Answer, Fault<'a>>
-    ensures answers { IsAnswer (Reference (reference_ask_of asked.now)) result }
+    ensures answers { IsAnswer (R.reads rt.now) (Reference (reference_ask_of asked.now)) result }
     ensures told { IfErr result IsTold }
 {
     let table = match table_of(rt, asked.table) {
@@ -52,7 +55,7 @@ fn reference<'a, R: Files + AllocGlobal>(
 }
 
 fn explained<'a>(alloc: Global, number: u8) -> Result<Answer, Fault<'a>>
-    ensures answers { IsAnswer (Explanation number) result }
+    ensures answers { (Reads : Passing) → IsAnswer Reads (Explanation number) result }
     ensures told { IfErr result IsTold }
 {
     match explanation(number) {
@@ -61,7 +64,8 @@ fn explained<'a>(alloc: Global, number: u8) -> Result<Answer, Fault<'a>>
     }
 }
 
-fn check<'a, R: Files + AllocGlobal>(rt: &R, table: &'a str) -> Result<Answer, Fault<'a>>
+fn check<'a, R: WholeFiles + AllocGlobal>(rt: &R, table: &'a str) -> Result<Answer, Fault<'a>>
+    ensures counted { IfOk result (λ answer. IsCounted (R.reads rt.now) table.now (string_bytes answer.text)) }
     ensures told { IfErr result IsTold }
 {
     let table = match table_of(rt, table) {
@@ -73,12 +77,13 @@ fn check<'a, R: Files + AllocGlobal>(rt: &R, table: &'a str) -> Result<Answer, F
 
 /// How many routines a table has.
 fn counted<'a>(alloc: Global, table: &Accepted) -> Result<Answer, Fault<'a>>
+    ensures line { IfOk result (λ answer. string_bytes answer.text ≡ accepted table.now) }
     ensures told { IfErr result IsTold }
 {
     Ok(Answer::plain(accepted_line(alloc, table)?))
 }
 
-fn show<'a, R: Files + AllocGlobal>(rt: &R, table: &'a str) -> Result<Answer, Fault<'a>>
+fn show<'a, R: WholeFiles + AllocGlobal>(rt: &R, table: &'a str) -> Result<Answer, Fault<'a>>
     ensures told { IfErr result IsTold }
 {
     let table = match table_of(rt, table) {
@@ -96,11 +101,13 @@ fn listed<'a>(alloc: Global, table: &Accepted) -> Result<Answer, Fault<'a>>
 }
 
 /// The table anew, in the newest version, in another file; then how many routines it has.
-fn upgrade<'a, R: Files + AllocGlobal>(
+fn upgrade<'a, R: WholeFiles + AllocGlobal>(
     rt: &R,
     table: &'a str,
     output: &'a str,
 ) -> Result<Answer, Fault<'a>>
+    ensures upgraded { IfOk result (λ answer.
+        IsUpgraded (R.reads rt.now) (R.takes rt.now) table.now output.now (string_bytes answer.text)) }
     ensures told { IfErr result IsTold }
 {
     let table = match table_of(rt, table) {
@@ -112,11 +119,13 @@ fn upgrade<'a, R: Files + AllocGlobal>(
 
 /// What is done with the table stands apart from the function that owns it, of which the prover would list all parts at each
 /// step.
-fn put_upgraded<'a, R: Files + AllocGlobal>(
+fn put_upgraded<'a, R: WholeFiles + AllocGlobal>(
     rt: &R,
     table: &Accepted,
     output: &'a str,
 ) -> Result<Answer, Fault<'a>>
+    ensures written { OnOk result (IsWritten (R.takes rt.now) output.now table.now) }
+    ensures line { IfOk result (λ answer. string_bytes answer.text ≡ accepted table.now) }
     ensures told { IfErr result IsTold }
 {
     let octets = upgraded(rt.alloc(), table)?;
@@ -126,24 +135,27 @@ fn put_upgraded<'a, R: Files + AllocGlobal>(
 }
 
 /// Writes the table file of an IDL file. It is handed no other octets.
-fn put_compiled<'a, R: Files + AllocGlobal>(
+fn put_compiled<'a, R: WholeFiles + AllocGlobal>(
     rt: &R,
     output: &'a str,
     source: &[u8],
     file: &Compiled,
 ) -> Result<(), Fault<'a>>
     requires { IsCompiledFile source.now file.now }
+    ensures taken { OnOk result (R.takes rt.now output.now file.now.octets.items) }
     ensures told { IfErr result IsTold }
 {
     put(rt, output, file.octets.as_slice())
 }
 
 /// The table of an IDL file, in another file; then how many routines it has.
-fn compile<'a, R: Files + AllocGlobal>(
+fn compile<'a, R: WholeFiles + AllocGlobal>(
     rt: &R,
     source: &'a str,
     output: &'a str,
 ) -> Result<Answer, Fault<'a>>
+    ensures compiled { IfOk result (λ answer.
+        IsCompiledTo (R.reads rt.now) (R.takes rt.now) source.now output.now (string_bytes answer.text)) }
     ensures told { IfErr result IsTold }
 {
     let source = octets_in(rt, source)?;
@@ -160,13 +172,15 @@ fn compile<'a, R: Files + AllocGlobal>(
 }
 
 /// Does what is asked for, and gives the text for standard output.
-pub fn done<'a, R: Files + AllocGlobal>(rt: &R, task: &Task<'a>) -> Result<Answer, Fault<'a>>
+pub fn done<'a, R: WholeFiles + AllocGlobal>(rt: &R, task: &Task<'a>) -> Result<Answer, Fault<'a>>
     ensures value { (asked : Asked) → task.now ≡ Task.Value asked
-        → IsAnswer (Value (value_ask_of asked)) result }
+        → IsAnswer (R.reads rt.now) (Value (value_ask_of asked)) result }
     ensures reference { (asked : AskedReference) → task.now ≡ Task.Reference asked
-        → IsAnswer (Reference (reference_ask_of asked)) result }
+        → IsAnswer (R.reads rt.now) (Reference (reference_ask_of asked)) result }
     ensures explanation { (number : ℕ) → task.now ≡ Task.Explain number
-        → IsAnswer (Explanation number) result }
+        → IsAnswer (R.reads rt.now) (Explanation number) result }
+    ensures tables { IfOk result (λ answer.
+        IsDone (R.reads rt.now) (R.takes rt.now) task.now (string_bytes answer.text)) }
     ensures told { IfErr result IsTold }
 {
     match task {

@@ -1,11 +1,11 @@
 use crate::run;
-use std::fs::Files;
 use std::io;
 use std::net::Net;
 use std::process::Abort;
+use whole_files::WholeFiles;
 
 /// Runs the program over memory with the words of a line, which blanks part.
-fn run_line<R: Files + Net + AllocGlobal, O: io::Write, E: io::Write>(
+fn run_line<R: WholeFiles + Net + AllocGlobal, O: io::Write, E: io::Write>(
     rt: &R,
     line: &str,
     out: &mut O,
@@ -21,7 +21,7 @@ fn run_line<R: Files + Net + AllocGlobal, O: io::Write, E: io::Write>(
 }
 
 /// Holds the status and the streams of a run to what is wanted.
-fn expect<R: Files + Net + AllocGlobal + Abort>(
+fn expect<R: WholeFiles + Net + AllocGlobal + Abort>(
     rt: &R,
     line: &str,
     status: u8,
@@ -201,7 +201,7 @@ fn refers_and_explains(rt: HostRuntime) {
 }
 
 /// The words behind the first, and the fault behind the name of the program.
-fn refuse<R: Files + Net + AllocGlobal + Abort>(rt: &R, words: &str, status: u8, fault: &str) {
+fn refuse<R: WholeFiles + Net + AllocGlobal + Abort>(rt: &R, words: &str, status: u8, fault: &str) {
     let line = format!(in rt.alloc(); "idlc {words}");
     let told = format!(in rt.alloc(); "idlc: {fault}\n");
     match (line, told) {

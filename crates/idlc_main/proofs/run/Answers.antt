@@ -10,4 +10,4 @@ returns-in-Ok-clause-asked g c ask asks = record {
 }
 
 pub returns-in-Err-clause-asked : goal.returns-in-Err-clause-asked
-returns-in-Err-clause-asked g c ask asks = ends ask _ _ c.in-Err.fault c.status.result c.status.ensures.status (c.in-Err.ensures.asked ask asks)
+returns-in-Err-clause-asked g c ask asks = ends (g.R.WholeFiles.reads c.args.rt.now) ask _ _ c.in-Err.fault c.status.result c.status.ensures.status (c.in-Err.ensures.asked ask asks)

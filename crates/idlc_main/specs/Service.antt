@@ -1,0 +1,14 @@
+-- What is served.
+use Rattle.std.specs.Prelude.{[], replicate}
+use Rattle.command_words.specs.declared.task.Service.{Service}
+use Rattle.socket_server.specs.Serving.{IsDone}
+use Rattle.socket_server.specs.Visits.{untold}
+use Rattle.table_file.specs.Table.{TableParts}
+use Rattle.idlc_main.specs.Files.{Passing, IsTableOf}
+
+-- just so many connections came as the words say, and the object that they name was served to each, by the table
+-- that they name
+pub record IsServed (Reads : Passing) (service : Service) : Type 0 where
+  pub table : TableParts
+  pub is : IsTableOf Reads service.table.now table
+  pub done : IsDone table.model service.object.now service.connections [] (replicate service.connections untold)
