@@ -1,17 +1,63 @@
--- What it means that a table file is right for an IDL file.
-use Rattle.std.specs.Prelude.{◌≡◌, ◌≤◌, ℕ, List, length}
+-- What it means that a table file is right for an IDL file, and why an IDL file has none.
+use Rattle.std.specs.Prelude.{◌≡◌, ◌≢◌, ◌⊎◌, ◌≤◌, ℕ, true, List, length}
+use Rattle.std.specs.Str.{is_utf8}
+use Rattle.std.specs.String.{string_bytes}
+use Rattle.idl_compiler.specs.declared.fault.CompileFault.{CompileFault}
+use Rattle.idl_compiler.specs.declared.fault.CompileFault.TheVariants as Compiling
 use Rattle.idl_compiler.specs.Compiled.{IsCompiled}
+use Rattle.idl_compiler.specs.Refused.{IsRefused}
 use Rattle.position_checker.specs.Acceptance.{IsRight}
 use Rattle.settled_tables.specs.declared.choice.Settled.{Settled}
+use Rattle.table_file.specs.Table.{TableParts}
 use Rattle.table_file.specs.TableSpelling.{Spells}
+use Rattle.table_commands.specs.Files.{SpellsLong}
+use Rattle.table_commands.specs.Lines.{accepted}
 use Rattle.compile_command.specs.declared.file.Compiled.{Compiled}
+use Rattle.compile_command.specs.declared.refusal.Refusal.{Refusal}
+use Rattle.compile_command.specs.declared.refusal.Refusal.TheVariants.{Fault, TooLong, NoMemory}
 
 -- The octets spell the table of the definitions that the text's tokens spell, each routine of that table does just what
--- its node means, and it is told whether the planned program serves the names.
+-- its node means; it is told how many routines it has, and whether the planned program serves the names.
 pub record IsCompiledFile (source : List ℕ) (file : Compiled) : Type 0 where
+  pub text : is_utf8 source ≡ true
   pub settled : Settled
   pub compiled : IsCompiled source settled
   pub right : IsRight settled.table
   pub spelled : Spells settled.table file.octets.items
   pub within : length file.octets.items ≤ 16777216
+  pub line : string_bytes file.line ≡ accepted settled.table
   pub planned : file.is_planned ≡ settled.is_planned
+
+-- ---- refusals
+
+-- why a table has no file
+abbrev pub RefusesTable : TableParts → Refusal → Type 0
+RefusesTable table (Fault text) = (octets : List ℕ) → Spells table octets → ⊥
+RefusesTable table TooLong = SpellsLong table
+RefusesTable table NoMemory = Unit {0}
+
+-- a step refuses the text
+pub record HasFault (source : List ℕ) : Type 0 where
+  pub fault : CompileFault
+  pub refused : IsRefused source fault
+  pub told : fault ≢ Compiling.NoMemory
+
+-- the text has a table, which has no file
+pub record HasNoFile (source : List ℕ) (refusal : Refusal) : Type 0 where
+  pub settled : Settled
+  pub compiled : IsCompiled source settled
+  pub refused : RefusesTable settled.table refusal
+
+abbrev pub IsNoText : List ℕ → Type 0
+IsNoText source = is_utf8 source ≡ true → ⊥
+
+abbrev pub IsRefusedFile : List ℕ → Refusal → Type 0
+IsRefusedFile source (Fault text) = IsNoText source ⊎ HasFault source ⊎ HasNoFile source (Fault text)
+IsRefusedFile source TooLong = HasNoFile source TooLong
+IsRefusedFile source NoMemory = Unit {0}
+
+-- what is told of a fault
+abbrev pub IsTold : Refusal → Type 0
+IsTold (Fault text) = Unit {0}
+IsTold TooLong = ⊥
+IsTold NoMemory = Unit {0}

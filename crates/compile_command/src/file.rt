@@ -1,7 +1,9 @@
 //! From the octets of an IDL file to those of its table file.
 
-ghost use Rattle.std.specs.Prelude.{◌≡◌, ◌≤◌, length, IfOk};
-ghost use Rattle.compile_command.specs.Files.{IsCompiledFile};
+ghost use Rattle.std.specs.Prelude.{◌≡◌, ◌≤◌, length, IfErr, IfOk};
+ghost use Rattle.std.specs.String.{string_bytes};
+ghost use Rattle.table_commands.specs.Lines.{accepted};
+ghost use Rattle.compile_command.specs.Files.{IsCompiledFile, IsRefusedFile, RefusesTable};
 ghost use Rattle.position_checker.specs.Acceptance.{IsRight};
 ghost use Rattle.table_file.specs.TableSpelling.{Spells};
 
@@ -30,6 +32,7 @@ fn octets_of(alloc: Global, table: &Accepted) -> Result<Vec<u8>, Refusal>
     ensures spelled { IfOk result (λ octets. Spells table.now octets.items) }
     ensures right { IsRight table.now }
     ensures within { IfOk result (λ octets. length octets.items ≤ 16777216) }
+    ensures refused { IfErr result (RefusesTable table.now) }
 {
     match upgraded(alloc, table) {
         Ok(octets) => Ok(octets),
@@ -40,8 +43,10 @@ fn octets_of(alloc: Global, table: &Accepted) -> Result<Vec<u8>, Refusal>
 fn file_of(alloc: Global, settled: &Settled) -> Result<Compiled, Refusal>
     ensures spelled { IfOk result (λ file. Spells settled.now.table file.octets.items) }
     ensures within { IfOk result (λ file. length file.octets.items ≤ 16777216) }
+    ensures line { IfOk result (λ file. string_bytes file.line ≡ accepted settled.now.table) }
     ensures right { IsRight settled.now.table }
     ensures planned { IfOk result (λ file. file.is_planned ≡ settled.now.is_planned) }
+    ensures refused { IfErr result (RefusesTable settled.now.table) }
 {
     let octets = octets_of(alloc, &settled.table)?;
     let line = accepted_line(alloc, &settled.table)?;
@@ -59,7 +64,8 @@ fn file_of(alloc: Global, settled: &Settled) -> Result<Compiled, Refusal>
 /// before grammar, grammar before names, names before types. `TooLong` where the table has more
 /// octets than a file may have. Want of memory.
 pub fn compile_file(alloc: Global, source: &[u8]) -> Result<Compiled, Refusal>
-    ensures { IfOk result (IsCompiledFile source.now) }
+    ensures compiled { IfOk result (IsCompiledFile source.now) }
+    ensures refused { IfErr result (IsRefusedFile source.now) }
 {
     let Ok(text) = str::from_utf8(source) else {
         return Err(told(alloc, &LexFault::BadChar { line: 0 }));

@@ -1,5 +1,11 @@
 //! Why a file isn't compiled.
 
+ghost use Rattle.std.specs.Prelude.{◌≡◌};
+ghost use Rattle.table_file.specs.Table.{TableParts};
+ghost use Rattle.table_commands.specs.Files.{RefusesTable as RefusesTableFile};
+ghost use Rattle.compile_command.specs.Files.{IsTold, RefusesTable};
+ghost use Rattle.compile_command.specs.declared.refusal.Refusal.TheVariants.{NoMemory};
+
 use std::alloc::{AllocError, Global};
 use std::fmt::Display;
 use table_commands::Refusal as TableRefusal;
@@ -19,13 +25,17 @@ pub enum Refusal {
 }
 
 impl From<AllocError> for Refusal {
+    ghost from_gives = { λ _ refusal. refusal ≡ NoMemory };
+
     fn from(_error: AllocError) -> Refusal {
         Refusal::NoMemory
     }
 }
 
 /// The text of a fault is kept in place of the fault, which may be large.
-pub(crate) fn told<F: Display>(alloc: Global, fault: &F) -> Refusal {
+pub(crate) fn told<F: Display>(alloc: Global, fault: &F) -> Refusal
+    ensures { IsTold result }
+{
     match format!(in alloc; "{fault}") {
         Ok(text) => Refusal::Fault { text },
         Err(_) => Refusal::NoMemory,
@@ -33,7 +43,9 @@ pub(crate) fn told<F: Display>(alloc: Global, fault: &F) -> Refusal {
 }
 
 /// Why the table has no file.
-pub(crate) fn unwritten(alloc: Global, refusal: &TableRefusal<'_>) -> Refusal {
+pub(crate) fn unwritten(alloc: Global, refusal: &TableRefusal<'_>) -> Refusal
+    ensures { (table : TableParts) → RefusesTableFile table refusal.now → RefusesTable table result }
+{
     match refusal {
         TableRefusal::NoMemory => Refusal::NoMemory,
         TableRefusal::TooLong => Refusal::TooLong,

@@ -1,10 +1,11 @@
 -- What compiling an IDL file means, from its text to its table: each step is the definition of its own crate.
-use Rattle.std.specs.Prelude.{ℕ, List, Result}
+use Rattle.std.specs.Prelude.{ℕ, ◌≤◌, List, Result}
 use Rattle.idl_lexer.specs.declared.token.Token.{Token}
 use Rattle.idl_lexer.specs.Tokens.{Lexed}
 use Rattle.idl_tree.specs.declared.definitions.Definition.{Definition}
 use Rattle.idl_tree.specs.Pieces.{Spell}
 use Rattle.idl_tree.specs.DefinitionYields.{definitions_spelled}
+use Rattle.idl_tree.specs.DefinitionLevels.{levels_of}
 use Rattle.scoped_names.specs.Whole.{AreNames, Whole}
 use Rattle.type_model.specs.ModelRules.{Parts}
 use Rattle.marshal_program.specs.declared.fault.GenFault.{GenFault}
@@ -12,6 +13,13 @@ use Rattle.marshal_program.specs.declared.instr.Routine.{Routine}
 use Rattle.settled_tables.specs.Settlement.{IsSettled}
 use Rattle.settled_tables.specs.declared.choice.Settled.{Settled}
 use Rattle.model_builder.specs.Shown.{Shows}
+
+-- the tokens of which the text consists spell the definitions, which stand at most 64 levels one inside another
+pub record IsTextOf (source : List ℕ) (definitions : List Definition) : Type 0 where
+  pub tokens : List Token
+  pub lexed : Lexed source tokens
+  pub spelled : Spell (definitions_spelled definitions) tokens
+  pub levels : levels_of definitions ≤ 64
 
 -- the model shows the definitions, by the names that they declare
 pub record IsModelOf (definitions : List Definition) (model : Parts) : Type 0 where
@@ -30,10 +38,8 @@ pub record HasTable (Shown : Parts → Type 0) (settled : Settled) : Type 0 wher
   pub shown : Shown model
   pub table : IsTableOf model settled
 
--- the table is that of the definitions that the tokens spell of which the text consists
+-- the table is that of the definitions in the text
 pub record IsCompiled (source : List ℕ) (settled : Settled) : Type 0 where
-  pub tokens : List Token
-  pub lexed : Lexed source tokens
   pub definitions : List Definition
-  pub spelled : Spell (definitions_spelled definitions) tokens
+  pub text : IsTextOf source definitions
   pub table : HasTable (IsModelOf definitions) settled

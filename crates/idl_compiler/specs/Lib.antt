@@ -1,2 +1,3 @@
--- What the table of an IDL file is.
+-- What the table of an IDL file is, and why a file has none.
 pub mod Compiled
+pub mod Refused

@@ -1,5 +1,9 @@
 //! Why an IDL file has no table.
 
+ghost use Rattle.std.specs.Prelude.{◌≡◌};
+ghost use Rattle.idl_compiler.specs.Refused.{of_grammar, of_names, of_tokens, of_types};
+ghost use Rattle.idl_compiler.specs.declared.fault.CompileFault.TheVariants.{NoMemory};
+
 use idl_lexer::LexFault;
 use idl_parser::ParseFault;
 use marshal_program::GenFault;
@@ -16,7 +20,9 @@ pub enum CompileFault {
     Tokens(LexFault),
     #[error(transparent)]
     Grammar(ParseFault),
-    /// A fault of the names or the types.
+    #[error(transparent)]
+    Names(NameFault),
+    /// A fault of the types.
     #[error(transparent)]
     Model(BuildFault),
     #[error("no memory")]
@@ -24,12 +30,16 @@ pub enum CompileFault {
 }
 
 impl From<AllocError> for CompileFault {
+    ghost from_gives = { λ _ e. e ≡ NoMemory };
+
     fn from(_error: AllocError) -> CompileFault {
         CompileFault::NoMemory
     }
 }
 
 impl From<LexFault> for CompileFault {
+    ghost from_gives = { λ fault e. e ≡ of_tokens fault };
+
     fn from(fault: LexFault) -> CompileFault {
         match fault {
             LexFault::NoMemory => CompileFault::NoMemory,
@@ -39,6 +49,8 @@ impl From<LexFault> for CompileFault {
 }
 
 impl From<ParseFault> for CompileFault {
+    ghost from_gives = { λ fault e. e ≡ of_grammar fault };
+
     fn from(fault: ParseFault) -> CompileFault {
         match fault {
             ParseFault::NoMemory => CompileFault::NoMemory,
@@ -48,15 +60,19 @@ impl From<ParseFault> for CompileFault {
 }
 
 impl From<NameFault> for CompileFault {
+    ghost from_gives = { λ fault e. e ≡ of_names fault };
+
     fn from(fault: NameFault) -> CompileFault {
         match fault {
             NameFault::NoMemory => CompileFault::NoMemory,
-            fault => CompileFault::Model(BuildFault::Names(fault)),
+            fault => CompileFault::Names(fault),
         }
     }
 }
 
 impl From<BuildFault> for CompileFault {
+    ghost from_gives = { λ fault e. e ≡ of_types fault };
+
     fn from(fault: BuildFault) -> CompileFault {
         match fault {
             BuildFault::NoMemory => CompileFault::NoMemory,
@@ -66,6 +82,8 @@ impl From<BuildFault> for CompileFault {
 }
 
 impl From<GenFault> for CompileFault {
+    ghost from_gives = { λ _ e. e ≡ NoMemory };
+
     /// The plain program is refused for want of memory alone.
     fn from(_fault: GenFault) -> CompileFault {
         CompileFault::NoMemory

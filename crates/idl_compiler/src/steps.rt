@@ -1,7 +1,9 @@
 //! The steps from a text to its table.
 
-ghost use Rattle.std.specs.Prelude.{IfOk};
+ghost use Rattle.std.specs.Prelude.{◌≡◌, ◌⊎◌, IfErr, IfOk};
 ghost use Rattle.idl_compiler.specs.Compiled.{HasTable, IsCompiled, IsModelOf, IsTableOf};
+ghost use Rattle.idl_compiler.specs.Refused.{IsFaultOf, IsRefused};
+ghost use Rattle.idl_compiler.specs.declared.fault.CompileFault.TheVariants.{NoMemory};
 
 use crate::fault::CompileFault;
 use generator::plain;
@@ -19,15 +21,21 @@ use type_model::Model;
 /// checker more steps than it may take; one of a value of any type doesn't.)
 trait HasModel {
     ghost use Rattle.type_model.specs.ModelRules.{Parts};
+    ghost use Rattle.idl_compiler.specs.declared.fault.CompileFault.{CompileFault};
 
     ghost shows: { Self → Parts → Type 0 };
 
+    ghost lacks: { Self → CompileFault → Type 0 };
+
     fn model(&self, alloc: Global) -> Result<Model, CompileFault>
-        ensures { IfOk result (shows self.now) };
+        ensures shown { IfOk result (shows self.now) }
+        ensures faults { IfErr result (lacks self.now) };
 }
 
 impl<'a> HasModel for Spec<'a> {
     ghost shows = { λ spec. IsModelOf spec.definitions.items };
+
+    ghost lacks = { λ spec. IsFaultOf spec.definitions.items };
 
     fn model(&self, alloc: Global) -> Result<Model, CompileFault> {
         let names = bind(alloc, self)?;
@@ -38,7 +46,8 @@ impl<'a> HasModel for Spec<'a> {
 /// The table of a model: with the planned program, where the checker accepts that, else with the
 /// plain one alone.
 fn table_of_model(alloc: Global, model: Model) -> Result<Settled, CompileFault>
-    ensures { IfOk result (IsTableOf model) }
+    ensures table { IfOk result (IsTableOf model) }
+    ensures memory { IfErr result (λ fault. fault ≡ NoMemory) }
 {
     let first = plain(alloc, &model)?;
     let second = planned(alloc, &model);
@@ -47,7 +56,8 @@ fn table_of_model(alloc: Global, model: Model) -> Result<Settled, CompileFault>
 
 /// The table of what has a model.
 fn table_of<T: HasModel + Drop>(alloc: Global, whole: T) -> Result<Settled, CompileFault>
-    ensures { IfOk result (HasTable (T.shows whole)) }
+    ensures table { IfOk result (HasTable (T.shows whole)) }
+    ensures faults { IfErr result (λ fault. (fault ≡ NoMemory) ⊎ T.lacks whole fault) }
 {
     let model = whole.model(alloc)?;
     table_of_model(alloc, model)
@@ -61,7 +71,8 @@ fn table_of<T: HasModel + Drop>(alloc: Global, whole: T) -> Result<Settled, Comp
 /// The first fault with its line, tokens before grammar, grammar before names, names before types;
 /// want of memory.
 pub fn compile(alloc: Global, source: &str) -> Result<Settled, CompileFault>
-    ensures { IfOk result (IsCompiled source.now) }
+    ensures compiled { IfOk result (IsCompiled source.now) }
+    ensures refused { IfErr result (IsRefused source.now) }
 {
     let tokens = lex(alloc, source)?;
     let spec = parse(alloc, &tokens)?;

@@ -1,0 +1,73 @@
+-- Why a text isn't compiled: the first step that finds a fault tells it, tokens before grammar, grammar before names,
+-- names before types.
+use Rattle.std.specs.Prelude.{◌≡◌, ℕ, List, Err}
+use Rattle.idl_lexer.specs.declared.fault.LexFault.{LexFault}
+use Rattle.idl_lexer.specs.declared.fault.LexFault.TheVariants as Lexing
+use Rattle.idl_lexer.specs.declared.token.Token.{Token}
+use Rattle.idl_lexer.specs.Tokens.{Lexed}
+use Rattle.idl_parser.specs.declared.fault.ParseFault.{ParseFault}
+use Rattle.idl_parser.specs.declared.fault.ParseFault.TheVariants as Parsing
+use Rattle.idl_tree.specs.declared.definitions.Definition.{Definition}
+use Rattle.scoped_names.specs.declared.fault.NameFault.{NameFault}
+use Rattle.scoped_names.specs.declared.fault.NameFault.TheVariants as Naming
+use Rattle.scoped_names.specs.Whole.{AreNames, Whole, names_of}
+use Rattle.written_types.specs.declared.fault.BuildFault.{BuildFault}
+use Rattle.written_types.specs.declared.fault.BuildFault.TheVariants as Building
+use Rattle.model_builder.specs.Faults.{IsFault}
+use Rattle.idl_compiler.specs.declared.fault.CompileFault.{CompileFault}
+use Rattle.idl_compiler.specs.declared.fault.CompileFault.TheVariants.{Tokens, Grammar, Names, Model, NoMemory}
+use Rattle.idl_compiler.specs.Compiled.{IsTextOf}
+
+-- ---- the fault of a step as that of the compiler
+
+abbrev pub of_tokens : LexFault → CompileFault
+of_tokens Lexing.NoMemory = NoMemory
+of_tokens fault = Tokens fault
+
+abbrev pub of_grammar : ParseFault → CompileFault
+of_grammar Parsing.NoMemory = NoMemory
+of_grammar fault = Grammar fault
+
+abbrev pub of_names : NameFault → CompileFault
+of_names Naming.NoMemory = NoMemory
+of_names fault = Names fault
+
+abbrev pub of_types : BuildFault → CompileFault
+of_types Building.NoMemory = NoMemory
+of_types fault = Model fault
+
+-- ---- what a fault says of definitions
+
+-- their names have no fault, and this is one of their types
+pub record IsFaultOfTypes (definitions : List Definition) (fault : BuildFault) : Type 0 where
+  pub names : Whole
+  pub named : AreNames definitions names
+  pub is : IsFault definitions names fault
+
+-- no tree has a fault of its tokens or its grammar
+abbrev pub IsFaultOf : List Definition → CompileFault → Type 0
+IsFaultOf definitions (Tokens fault) = ⊥
+IsFaultOf definitions (Grammar fault) = ⊥
+IsFaultOf definitions (Names fault) = names_of definitions ≡ Err fault
+IsFaultOf definitions (Model fault) = IsFaultOfTypes definitions fault
+IsFaultOf definitions NoMemory = Unit {0}
+
+-- ---- what it says of a text
+
+pub record HasTokens (source : List ℕ) : Type 0 where
+  pub tokens : List Token
+  pub lexed : Lexed source tokens
+
+-- the text is one of definitions that have the fault
+pub record HasFault (source : List ℕ) (fault : CompileFault) : Type 0 where
+  pub definitions : List Definition
+  pub text : IsTextOf source definitions
+  pub is : IsFaultOf definitions fault
+
+-- what a fault of tokens or of grammar says of the text is the lexer's and the parser's to tell
+abbrev pub IsRefused : List ℕ → CompileFault → Type 0
+IsRefused source (Tokens fault) = Unit {0}
+IsRefused source (Grammar fault) = HasTokens source
+IsRefused source (Names fault) = HasFault source (Names fault)
+IsRefused source (Model fault) = HasFault source (Model fault)
+IsRefused source NoMemory = Unit {0}

@@ -1,0 +1,30 @@
+//! Laws over the definitions. The functions do nothing: each contract is the law.
+
+ghost use Rattle.std.specs.Prelude.{◌≡◌, List};
+ghost use Rattle.idl_tree.specs.declared.definitions.Definition.{Definition};
+ghost use Rattle.type_model.specs.ModelRules.{Parts};
+ghost use Rattle.idl_compiler.specs.declared.fault.CompileFault.{CompileFault};
+ghost use Rattle.idl_compiler.specs.declared.fault.CompileFault.TheVariants.{NoMemory};
+ghost use Rattle.idl_compiler.specs.Compiled.{IsModelOf};
+ghost use Rattle.idl_compiler.specs.Refused.{IsFaultOf};
+
+use model_builder::laws as models;
+use scoped_names::laws::names_are_one;
+
+/// Definitions have at most one model.
+pub fn model_is_one()
+    ensures { (definitions : List Definition) (one other : Parts)
+        → IsModelOf definitions one → IsModelOf definitions other → one ≡ other }
+{
+    names_are_one();
+    models::model_is_one()
+}
+
+/// Definitions that have a model have no fault.
+pub fn modelled_or_refused()
+    ensures { (definitions : List Definition) (model : Parts) (fault : CompileFault)
+        → IsModelOf definitions model → IsFaultOf definitions fault → fault ≡ NoMemory }
+{
+    names_are_one();
+    models::shown_or_refused()
+}
