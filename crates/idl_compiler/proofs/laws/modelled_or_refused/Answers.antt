@@ -1,6 +1,5 @@
 use Rattle.std.proofs.Common.{◌≡◌, List, refl, subst}
 use Rattle.idl_tree.specs.declared.definitions.Definition.{Definition}
-use Rattle.model_builder.specs.Faults.{IsFault}
 use Rattle.model_builder.specs.Shown.{Shows}
 use Rattle.type_model.specs.ModelRules.{Parts}
 use Rattle.idl_compiler.specs.declared.fault.CompileFault.{CompileFault}
