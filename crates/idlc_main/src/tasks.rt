@@ -8,7 +8,7 @@ ghost use Rattle.command_words.specs.declared.task.Asked.{Asked};
 ghost use Rattle.command_words.specs.declared.task.AskedReference.{AskedReference};
 ghost use Rattle.idlc_main.specs.Answer.{IsAnswer};
 ghost use Rattle.idlc_main.specs.Fault.{IsTold};
-ghost use Rattle.idlc_main.specs.Files.{Passing, IsCompiledTo, IsCounted, IsDone, IsUpgraded, IsWritten};
+ghost use Rattle.idlc_main.specs.Files.{IsCompiledTo, IsCounted, IsDone, IsUpgraded, IsWritten};
 ghost use Rattle.table_commands.specs.Lines.{accepted};
 
 use crate::fault::Fault;
@@ -54,12 +54,12 @@ fn reference<'a, R: WholeFiles + AllocGlobal>(
     }
 }
 
-fn explained<'a>(alloc: Global, number: u8) -> Result<Answer, Fault<'a>>
-    ensures answers { (Reads : Passing) → IsAnswer Reads (Explanation number) result }
+fn explained<'a, R: WholeFiles + AllocGlobal>(rt: &R, number: u8) -> Result<Answer, Fault<'a>>
+    ensures answers { IsAnswer (R.reads rt.now) (Explanation number) result }
     ensures told { IfErr result IsTold }
 {
     match explanation(number) {
-        Some(text) => Ok(Answer::plain(String::from_str(alloc, text)?)),
+        Some(text) => Ok(Answer::plain(String::from_str(rt.alloc(), text)?)),
         None => Err(Fault::NoRefusal { number }),
     }
 }
@@ -186,7 +186,7 @@ pub fn done<'a, R: WholeFiles + AllocGlobal>(rt: &R, task: &Task<'a>) -> Result<
     match task {
         Task::Value(asked) => value(rt, asked),
         Task::Reference(asked) => reference(rt, asked),
-        Task::Explain { number } => explained(rt.alloc(), *number),
+        Task::Explain { number } => explained(rt, *number),
         Task::Check { table } => check(rt, table),
         Task::Show { table } => show(rt, table),
         Task::Upgrade { table, output } => upgrade(rt, table, output),
