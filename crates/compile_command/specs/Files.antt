@@ -1,6 +1,6 @@
 -- What it means that a table file is right for an IDL file, and why an IDL file has none.
-use Rattle.std.specs.Prelude.{◌≡◌, ◌≢◌, ◌⊎◌, ◌≤◌, ℕ, true, List, length}
-use Rattle.std.specs.Str.{is_utf8}
+use Rattle.std.specs.Prelude.{◌≡◌, ◌≢◌, ◌⊎◌, ◌≤◌, ℕ, List, length}
+use Rattle.std.specs.Str.{IsUtf8}
 use Rattle.std.specs.String.{string_bytes}
 use Rattle.idl_compiler.specs.declared.fault.CompileFault.{CompileFault}
 use Rattle.idl_compiler.specs.declared.fault.CompileFault.TheVariants as Compiling
@@ -19,7 +19,7 @@ use Rattle.compile_command.specs.declared.refusal.Refusal.TheVariants.{Fault, To
 -- The octets spell the table of the definitions that the text's tokens spell, each routine of that table does just what
 -- its node means; it is told how many routines it has, and whether the planned program serves the names.
 pub record IsCompiledFile (source : List ℕ) (file : Compiled) : Type 0 where
-  pub text : is_utf8 source ≡ true
+  pub text : IsUtf8 source
   pub settled : Settled
   pub compiled : IsCompiled source settled
   pub right : IsRight settled.table
@@ -49,7 +49,7 @@ pub record HasNoFile (source : List ℕ) (refusal : Refusal) : Type 0 where
   pub refused : RefusesTable settled.table refusal
 
 abbrev pub IsNoText : List ℕ → Type 0
-IsNoText source = is_utf8 source ≡ true → ⊥
+IsNoText source = IsUtf8 source → ⊥
 
 abbrev pub IsRefusedFile : List ℕ → Refusal → Type 0
 IsRefusedFile source (Fault text) = IsNoText source ⊎ HasFault source ⊎ HasNoFile source (Fault text)

@@ -1,0 +1,14 @@
+use Rattle.std.proofs.Common.{subst}
+use Rattle.idl_compiler.specs.Compiled.{IsCompiled}
+use Rattle.compile_command.proofs.FileFacts.{compiled, no_text}
+use Rattle.compile_command.proofs.file.compile_file.Goals as goal
+
+pub returns-in_default-clause-refused : goal.returns-in_default-clause-refused
+returns-in_default-clause-refused c = no_text c.args.source.now c.told.result c.in_default.ensures.cases.0 c.told.ensures
+
+pub returns-in-Ok-compile-clause-compiled : goal.returns-in-Ok-compile-clause-compiled
+returns-in-Ok-compile-clause-compiled c =
+    let settled = c.in-Ok-compile.settled in
+    compiled c.args.source.now settled c.file_of.result c.in-Ok.ensures.cases.1
+    (subst (λ text. IsCompiled text settled) c.in-Ok.ensures.cases.0 c.in-Ok-compile.ensures.compiled)
+    c.file_of.ensures.right c.file_of.ensures.spelled c.file_of.ensures.within c.file_of.ensures.line c.file_of.ensures.planned
