@@ -2,4 +2,5 @@ pub mod LineLaws
 pub mod PathLaws
 pub mod TableLaws
 pub mod FaultLaws
+pub mod CircleLaws
 pub mod Worked

@@ -7,7 +7,7 @@ use Rattle.type_graph.specs.declared.node.Node.TheVariants.{Octet}
 use Rattle.type_graph.specs.Value.{node_at}
 use Rattle.type_graph.specs.GraphRules.{held_by, IsShallow}
 use Rattle.type_paths.specs.Lines.{Types, line_at}
-use Rattle.type_paths.specs.Paths.{HoldsBy, HoldsOne, HasPath, IsEndless, GoesRoundBy}
+use Rattle.type_paths.specs.Paths.{HoldsBy, HoldsOne, HasPath, GoesRoundBy}
 
 -- ---- paths
 
@@ -37,6 +37,17 @@ pub path_endless : (Holds : ℕ → ℕ → Type 0) (steps : ℕ) → ((node : �
 unfolding HasPath
 path_endless Holds steps stays zero node h = tt
 path_endless Holds steps stays (suc more) node h = one_of_more Holds (HasPath Holds steps) (HasPath Holds more) node (path_endless Holds steps stays more) (stays node h)
+
+-- where each node that is meant holds one, paths from it have no end
+pub endless : (Holds : ℕ → ℕ → Type 0) (Meant : ℕ → Type 0) → ((node : ℕ) → Meant node → HoldsOne Holds Meant node) → (steps node : ℕ) → Meant node → HasPath Holds steps node
+unfolding HasPath
+endless Holds Meant each zero node h = tt
+endless Holds Meant each (suc steps) node h = one_of_more Holds Meant (HasPath Holds steps) node (endless Holds Meant each steps) (each node h)
+
+-- a path of a step
+pub first_step : (Holds : ℕ → ℕ → Type 0) (steps node : ℕ) → HasPath Holds (suc steps) node → HoldsOne Holds (HasPath Holds steps) node
+unfolding HasPath
+first_step Holds steps node h = h
 
 -- ---- shallow nodes
 

@@ -5,7 +5,7 @@ use Rattle.std.proofs.Math.ListN.{get_or-append}
 use Rattle.std.proofs.lemmas.Bool.{cases_lt}
 use Rattle.std.proofs.lemmas.List.{get_or_past}
 use Rattle.type_paths.specs.Lines.{Types}
-use Rattle.type_paths.specs.Paths.{HoldsBy, HoldsOne, HasPath, IsEndless, GoesRoundBy}
+use Rattle.type_paths.specs.Paths.{HoldsBy, HasPath, IsEndless, GoesRoundBy}
 use Rattle.type_paths.specs.Levels.{IsIn, IsLevel, IsLevelAbove}
 use Rattle.type_paths.proofs.PathLaws.{one_of_more, path_front, path_shorter, path_endless}
 

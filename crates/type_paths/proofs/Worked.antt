@@ -5,18 +5,7 @@ use Rattle.type_graph.specs.declared.node.Node.TheVariants.{Struct}
 use Rattle.type_paths.specs.declared.fault.PathFault.TheVariants.{SelfHeld}
 use Rattle.type_paths.specs.Lines.{Lines, Types, line_at}
 use Rattle.type_paths.specs.Paths.{HoldsBy, HoldsOne, HasPath, IsPathFault}
-use Rattle.type_paths.proofs.PathLaws.{one_of_more}
-
--- where each node that is meant holds one, paths from it have no end
-endless : (Holds : ℕ → ℕ → Type 0) (Meant : ℕ → Type 0) → ((node : ℕ) → Meant node → HoldsOne Holds Meant node) → (steps node : ℕ) → Meant node → HasPath Holds steps node
-unfolding HasPath
-endless Holds Meant each zero node h = tt
-endless Holds Meant each (suc steps) node h = one_of_more Holds Meant (HasPath Holds steps) node (endless Holds Meant each steps) (each node h)
-
--- a path of a step
-first_step : (Holds : ℕ → ℕ → Type 0) (steps node : ℕ) → HasPath Holds (suc steps) node → HoldsOne Holds (HasPath Holds steps) node
-unfolding HasPath
-first_step Holds steps node h = h
+use Rattle.type_paths.proofs.PathLaws.{endless, first_step}
 
 -- what a structure of one member holds
 only : (member place part : ℕ) → slice_get (member ∷ []) place ≡ Some part → (place ≡ 0) × (part ≡ member)

@@ -28,12 +28,22 @@ HasPath Holds (suc steps) node = HoldsOne Holds (HasPath Holds steps) node
 abbrev pub IsEndless : (ℕ → ℕ → Type 0) → ℕ → Type 0
 IsEndless Holds node = (steps : ℕ) → HasPath Holds steps node
 
--- With the members up to a line a type holds itself. A list has finitely many nodes, so a path without end comes back
--- to a node on it.
+-- With the members up to a line a type holds itself: a path without end comes back, since a list has finitely many nodes.
 pub record GoesRoundBy (types : Types) (line : ℕ) : Type 0 where
   pub node : ℕ
   pub within : node < length types.nodes
   pub endless : IsEndless (HoldsBy types line) node
+
+-- from a node so many steps lead to another
+unfoldable pub LeadsTo : (ℕ → ℕ → Type 0) → ℕ → ℕ → ℕ → Type 0
+LeadsTo Holds zero node other = node ≡ other
+LeadsTo Holds (suc steps) node other = HoldsOne Holds (λ part. LeadsTo Holds steps part other) node
+
+-- a node that some steps lead back to: what going round comes to, by a law
+pub record HoldsItself (types : Types) (line : ℕ) : Type 0 where
+  pub node : ℕ
+  pub steps : ℕ
+  pub back : LeadsTo (HoldsBy types line) (suc steps) node node
 
 -- the first line in which a member closes a circle
 pub record ClosesCircle (types : Types) (line : ℕ) : Type 0 where

@@ -1,11 +1,16 @@
 //! Laws over the definitions. The functions do nothing: each contract is the law.
 
-ghost use Rattle.std.specs.Prelude.{◌≡◌, ℕ, List, EachIndex};
+ghost use Rattle.std.specs.Prelude.{◌≡◌, ◌↔◌, ℕ, List, EachIndex};
 ghost use Rattle.type_graph.specs.declared.node.Node.{Node};
 ghost use Rattle.type_graph.specs.GraphRules.{IsShallow};
 ghost use Rattle.type_paths.specs.declared.fault.PathFault.{PathFault};
-ghost use Rattle.type_paths.specs.Lines.{Lines};
-ghost use Rattle.type_paths.specs.Paths.{IsPathFault};
+ghost use Rattle.type_paths.specs.Lines.{Lines, Types};
+ghost use Rattle.type_paths.specs.Paths.{GoesRoundBy, HoldsItself, IsPathFault};
+
+/// Members go round exactly where they lead from a type back to it.
+pub fn going_round_comes_back()
+    ensures { (types : Types) (line : ℕ) → GoesRoundBy types line ↔ HoldsItself types line }
+{}
 
 /// Where there is a fault, not all paths are short.
 pub fn fault_is_of_long_paths()

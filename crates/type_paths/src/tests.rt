@@ -1,4 +1,4 @@
-//! Circles and long paths in lists as large as a file may write.
+//! Circles, long paths, and lists as large as a file may write.
 
 use crate::{NodeLines, PathFault, find_path_fault};
 use std::alloc::{AllocError, Global};
@@ -38,7 +38,7 @@ fn paths_have_64_nodes_at_most(rt: HostRuntime) -> Result<(), Fail> {
     assert_eq!(rt; fault_of_chain(alloc, 63, 63)?, None);
     let long = Some(PathFault::LongPath { line: 1 });
     assert_eq!(rt; fault_of_chain(alloc, 64, 64)?, long);
-    assert_eq!(rt; fault_of_chain(alloc, MOST, MOST)?, long);
+    assert_eq!(rt; fault_of_chain(alloc, 1024, 1024)?, long);
     Ok(())
 }
 
@@ -50,23 +50,23 @@ fn the_last_member_closes_a_large_circle(rt: HostRuntime) -> Result<(), Fail> {
         Some(PathFault::SelfHeld { line: 1 })
     );
     assert_eq!(rt;
-        fault_of_chain(alloc, MOST, 0)?,
-        Some(PathFault::SelfHeld { line: 4096 })
+        fault_of_chain(alloc, 256, 0)?,
+        Some(PathFault::SelfHeld { line: 256 })
     );
     Ok(())
 }
 
-/// A sequence holds nothing: a structure of itself may stand behind one. The octet has no line.
+/// Structures and sequences in turn, each of which has the next as its member or element, and the last
+/// the first: a sequence holds nothing, so no path is long.
 #[test]
 fn sequences_end_paths(rt: HostRuntime) -> Result<(), Fail> {
     let alloc = rt.alloc();
     let mut nodes = Vec::new(alloc);
-    nodes.push(Node::Octet)?;
-    nodes.push(structure(alloc, &[0, 2])?)?;
-    nodes.push(Node::Seq { elem: 1, bound: 0 })?;
-    let mut lines = Vec::new(alloc);
-    lines.push(NodeLines::new(1, Vec::from_slice(alloc, &[2, 3])?))?;
-    lines.push(NodeLines::new(3, Vec::new(alloc)))?;
-    assert_eq!(rt; find_path_fault(alloc, &nodes, 1, &lines)?, None);
+    for number in 0..MOST / 2 {
+        let elem = (2 * number + 2) % MOST;
+        nodes.push(structure(alloc, &[2 * number + 1])?)?;
+        nodes.push(Node::Seq { elem, bound: 0 })?;
+    }
+    assert_eq!(rt; find_path_fault(alloc, &nodes, 0, &[])?, None);
     Ok(())
 }

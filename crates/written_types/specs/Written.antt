@@ -4,6 +4,7 @@ use Rattle.std.specs.Prelude.{ℕ, Bool, true, false, ◌+◌, ◌-◌, nat_lt, 
 use Rattle.type_graph.specs.declared.fault.GraphLimit.TheVariants.{Nodes, AllMembers}
 use Rattle.type_graph.specs.declared.node.Node.{Node}
 use Rattle.type_graph.specs.declared.node.Node.TheVariants.{Struct}
+use Rattle.type_graph.specs.GraphRules.{all_members}
 use Rattle.basic_types.specs.BasicNodes.{basic_nodes}
 use Rattle.scoped_names.specs.Reading.{◌>>◌}
 use Rattle.written_types.specs.declared.fault.BuildFault.{BuildFault}
@@ -29,7 +30,7 @@ unwritten entries = record {
   places = replicate entries None;
   exceptions = [];
   lines = [];
-  members = 0;
+  members = all_members basic_nodes;
 }
 
 -- ---- nodes

@@ -20,6 +20,9 @@ const MAX_NODES: u32 = 4096;
 
 const MAX_ALL_MEMBERS: u32 = 32768;
 
+/// Those of the two structures among the basic types.
+const BASIC_MEMBERS: usize = 4;
+
 /// The types that are written so far, and what the entries among the names have of them. A contract
 /// sees the nodes, what each entry has, the exceptions, the lines of the nodes behind the basic
 /// types, and how many members all types have.
@@ -70,7 +73,7 @@ impl TypeTable {
             places: vec![in alloc; None; entries]?,
             exceptions: Vec::new(alloc),
             lines: Vec::new(alloc),
-            members: 0,
+            members: BASIC_MEMBERS,
         })
     }
 

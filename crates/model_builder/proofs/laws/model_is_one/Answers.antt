@@ -1,4 +1,4 @@
-use Rattle.std.proofs.Common.{◌≡◌, ◌∙◌, sym, ap}
+use Rattle.std.proofs.Common.{◌∙◌, sym, ap}
 use Rattle.model_builder.specs.Shown.{model_of}
 use Rattle.model_builder.proofs.Written.{written_once}
 use Rattle.model_builder.proofs.laws.model_is_one.Goals as goal

@@ -1,4 +1,4 @@
-use Rattle.std.proofs.Common.{◌≡◌, inl, inr, subst, sym, List, ◌⊎◌}
+use Rattle.std.proofs.Common.{inl, inr, subst, List}
 use Rattle.idl_tree.specs.declared.definitions.Definition.{Definition}
 use Rattle.type_model.specs.ModelRules.{IsModel, Parts}
 use Rattle.scoped_names.specs.Whole.{Whole}
@@ -6,7 +6,7 @@ use Rattle.written_types.specs.declared.fault.BuildFault.{BuildFault}
 use Rattle.written_operations.specs.Operations.{Defined}
 use Rattle.type_graph.specs.GraphRules.{IsGraph}
 use Rattle.model_builder.specs.Faults.{IsFault, IsFaultBehind, IsFaultOfPaths}
-use Rattle.model_builder.specs.Shown.{IsModelOf, Shows, model_of}
+use Rattle.model_builder.specs.Shown.{IsModelOf, Shows}
 use Rattle.model_builder.proofs.Written.{written_once, written_or_not}
 use Rattle.model_builder.proofs.laws.shown_or_refused.Goals as goal
 

@@ -1,5 +1,4 @@
-use Rattle.std.proofs.Common.{◌≡◌, ◌<◌, ◌≤◌, ◌+◌, ◌-◌, ◌/◌, IsTrue, true, false, sym, ◌∙◌, arith}
-use Rattle.type_paths.specs.Paths.{GoesRoundBy}
+use Rattle.std.proofs.Common.{◌≡◌, ◌+◌, ◌-◌, ◌/◌, IsTrue, true, false, sym, ◌∙◌, arith}
 use Rattle.type_paths.proofs.PathLaws.{round_later}
 use Rattle.type_paths.proofs.circles.closing_line.Goals as goal
 

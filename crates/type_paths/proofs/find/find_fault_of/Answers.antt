@@ -1,4 +1,4 @@
-use Rattle.std.proofs.Common.{◌≡◌, Bool, List, true, false, sym, subst, ◌∙◌, arith}
+use Rattle.std.proofs.Common.{◌≡◌, true, false, sym, subst, ◌∙◌, arith}
 use Rattle.type_paths.specs.Levels.{IsLevel}
 use Rattle.type_paths.proofs.PathLaws.{no_path_shallow, shallow_no_path, round_last}
 use Rattle.type_paths.proofs.TableLaws.{in_within}
