@@ -1,5 +1,5 @@
 -- What it means that a table file is right for an IDL file, and why an IDL file has none.
-use Rattle.std.specs.Prelude.{◌≡◌, ◌≢◌, ◌⊎◌, ◌≤◌, ℕ, List, length}
+use Rattle.std.specs.Prelude.{◌≡◌, ◌≢◌, ◌⊎◌, ◌≤◌, ◌<◌, ℕ, List, length}
 use Rattle.std.specs.Str.{IsUtf8}
 use Rattle.std.specs.String.{string_bytes}
 use Rattle.idl_compiler.specs.declared.fault.CompileFault.{CompileFault}
@@ -10,7 +10,6 @@ use Rattle.position_checker.specs.Acceptance.{IsRight}
 use Rattle.settled_tables.specs.declared.choice.Settled.{Settled}
 use Rattle.table_file.specs.Table.{TableParts}
 use Rattle.table_file.specs.TableSpelling.{Spells}
-use Rattle.table_commands.specs.Files.{SpellsLong}
 use Rattle.table_commands.specs.Lines.{accepted}
 use Rattle.compile_command.specs.declared.file.Compiled.{Compiled}
 use Rattle.compile_command.specs.declared.refusal.Refusal.{Refusal}
@@ -30,10 +29,14 @@ pub record IsCompiledFile (source : List ℕ) (file : Compiled) : Type 0 where
 
 -- ---- refusals
 
+-- no octets that a file may have spell the table: its texts are ASCII, so there are too many, or 2 ^ 32 or more of something
+abbrev pub IsTooLong : TableParts → Type 0
+IsTooLong table = (octets : List ℕ) → Spells table octets → 16777216 < length octets
+
 -- why a table has no file
 abbrev pub RefusesTable : TableParts → Refusal → Type 0
-RefusesTable table (Fault text) = (octets : List ℕ) → Spells table octets → ⊥
-RefusesTable table TooLong = SpellsLong table
+RefusesTable table (Fault text) = ⊥
+RefusesTable table TooLong = IsTooLong table
 RefusesTable table NoMemory = Unit {0}
 
 -- a step refuses the text
@@ -42,18 +45,18 @@ pub record HasFault (source : List ℕ) : Type 0 where
   pub refused : IsRefused source fault
   pub told : fault ≢ Compiling.NoMemory
 
--- the text has a table, which has no file
-pub record HasNoFile (source : List ℕ) (refusal : Refusal) : Type 0 where
+-- the text has a table, which is too long
+pub record HasLongTable (source : List ℕ) : Type 0 where
   pub settled : Settled
   pub compiled : IsCompiled source settled
-  pub refused : RefusesTable settled.table refusal
+  pub long : IsTooLong settled.table
 
 abbrev pub IsNoText : List ℕ → Type 0
 IsNoText source = IsUtf8 source → ⊥
 
 abbrev pub IsRefusedFile : List ℕ → Refusal → Type 0
-IsRefusedFile source (Fault text) = IsNoText source ⊎ HasFault source ⊎ HasNoFile source (Fault text)
-IsRefusedFile source TooLong = HasNoFile source TooLong
+IsRefusedFile source (Fault text) = IsNoText source ⊎ HasFault source
+IsRefusedFile source TooLong = HasLongTable source
 IsRefusedFile source NoMemory = Unit {0}
 
 -- what is told of a fault

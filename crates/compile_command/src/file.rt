@@ -36,7 +36,7 @@ fn octets_of(alloc: Global, table: &Accepted) -> Result<Vec<u8>, Refusal>
 {
     match upgraded(alloc, table) {
         Ok(octets) => Ok(octets),
-        Err(refusal) => Err(unwritten(alloc, &refusal)),
+        Err(refusal) => Err(unwritten(&refusal)),
     }
 }
 

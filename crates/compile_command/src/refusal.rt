@@ -42,13 +42,12 @@ pub(crate) fn told<F: Display>(alloc: Global, fault: &F) -> Refusal
     }
 }
 
-/// Why the table has no file.
-pub(crate) fn unwritten(alloc: Global, refusal: &TableRefusal<'_>) -> Refusal
+/// Why the table has no file. Of a table that no octets spell there is too much of something.
+pub(crate) fn unwritten(refusal: &TableRefusal<'_>) -> Refusal
     ensures { (table : TableParts) → RefusesTableFile table refusal.now → RefusesTable table result }
 {
     match refusal {
         TableRefusal::NoMemory => Refusal::NoMemory,
-        TableRefusal::TooLong => Refusal::TooLong,
-        refusal => told(alloc, refusal),
+        _ => Refusal::TooLong,
     }
 }

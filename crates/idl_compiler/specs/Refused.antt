@@ -11,11 +11,12 @@ use Rattle.idl_tree.specs.declared.definitions.Definition.{Definition}
 use Rattle.scoped_names.specs.declared.fault.NameFault.{NameFault}
 use Rattle.scoped_names.specs.declared.fault.NameFault.TheVariants as Naming
 use Rattle.scoped_names.specs.Whole.{AreNames, Whole, names_of}
-use Rattle.written_types.specs.declared.fault.BuildFault.{BuildFault}
-use Rattle.written_types.specs.declared.fault.BuildFault.TheVariants as Building
+use Rattle.written_types.specs.declared.fault.TypeFault.{TypeFault}
+use Rattle.model_builder.specs.declared.fault.ModelFault.{ModelFault}
+use Rattle.model_builder.specs.declared.fault.ModelFault.TheVariants as Modelling
 use Rattle.model_builder.specs.Faults.{IsFault}
 use Rattle.idl_compiler.specs.declared.fault.CompileFault.{CompileFault}
-use Rattle.idl_compiler.specs.declared.fault.CompileFault.TheVariants.{Tokens, Grammar, Names, Model, NoMemory}
+use Rattle.idl_compiler.specs.declared.fault.CompileFault.TheVariants.{Tokens, Grammar, Names, Types, NoMemory}
 use Rattle.idl_compiler.specs.Compiled.{IsTextOf}
 
 -- ---- the fault of a step as that of the compiler
@@ -32,14 +33,14 @@ abbrev pub of_names : NameFault → CompileFault
 of_names Naming.NoMemory = NoMemory
 of_names fault = Names fault
 
-abbrev pub of_types : BuildFault → CompileFault
-of_types Building.NoMemory = NoMemory
-of_types fault = Model fault
+abbrev pub of_types : ModelFault → CompileFault
+of_types Modelling.NoMemory = NoMemory
+of_types (Modelling.Types fault) = Types fault
 
 -- ---- what a fault says of definitions
 
 -- their names have no fault, and this is one of their types
-pub record IsFaultOfTypes (definitions : List Definition) (fault : BuildFault) : Type 0 where
+pub record IsFaultOfTypes (definitions : List Definition) (fault : TypeFault) : Type 0 where
   pub names : Whole
   pub named : AreNames definitions names
   pub is : IsFault definitions names fault
@@ -49,7 +50,7 @@ abbrev pub IsFaultOf : List Definition → CompileFault → Type 0
 IsFaultOf definitions (Tokens fault) = ⊥
 IsFaultOf definitions (Grammar fault) = ⊥
 IsFaultOf definitions (Names fault) = names_of definitions ≡ Err fault
-IsFaultOf definitions (Model fault) = IsFaultOfTypes definitions fault
+IsFaultOf definitions (Types fault) = IsFaultOfTypes definitions fault
 IsFaultOf definitions NoMemory = Unit {0}
 
 -- ---- what it says of a text
@@ -69,5 +70,5 @@ abbrev pub IsRefused : List ℕ → CompileFault → Type 0
 IsRefused source (Tokens fault) = Unit {0}
 IsRefused source (Grammar fault) = HasTokens source
 IsRefused source (Names fault) = HasFault source (Names fault)
-IsRefused source (Model fault) = HasFault source (Model fault)
+IsRefused source (Types fault) = HasFault source (Types fault)
 IsRefused source NoMemory = Unit {0}

@@ -7,7 +7,7 @@ ghost use Rattle.idl_compiler.specs.declared.fault.CompileFault.TheVariants.{NoM
 use idl_lexer::LexFault;
 use idl_parser::ParseFault;
 use marshal_program::GenFault;
-use model_builder::BuildFault;
+use model_builder::{ModelFault, TypeFault};
 use scoped_names::NameFault;
 use std::alloc::AllocError;
 use thiserror::Error;
@@ -22,9 +22,8 @@ pub enum CompileFault {
     Grammar(ParseFault),
     #[error(transparent)]
     Names(NameFault),
-    /// A fault of the types.
     #[error(transparent)]
-    Model(BuildFault),
+    Types(TypeFault),
     #[error("no memory")]
     NoMemory,
 }
@@ -70,13 +69,13 @@ impl From<NameFault> for CompileFault {
     }
 }
 
-impl From<BuildFault> for CompileFault {
+impl From<ModelFault> for CompileFault {
     ghost from_gives = { λ fault e. e ≡ of_types fault };
 
-    fn from(fault: BuildFault) -> CompileFault {
+    fn from(fault: ModelFault) -> CompileFault {
         match fault {
-            BuildFault::NoMemory => CompileFault::NoMemory,
-            fault => CompileFault::Model(fault),
+            ModelFault::NoMemory => CompileFault::NoMemory,
+            ModelFault::Types(fault) => CompileFault::Types(fault),
         }
     }
 }

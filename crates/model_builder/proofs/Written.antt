@@ -1,8 +1,14 @@
 -- What is written once is written as one thing.
 use Rattle.std.proofs.Common.{◌≡◌, Result, Ok, Err}
+use Rattle.written_types.specs.declared.fault.BuildFault.{BuildFault}
+use Rattle.written_types.specs.declared.fault.BuildFault.TheVariants.{Types}
+use Rattle.written_types.specs.declared.fault.TypeFault.{TypeFault}
 
 pub written_once : {A F : Type 0} → {r : Result A F} → {x y : A} → r ≡ Ok x → r ≡ Ok y → x ≡ y
 written_once a b = cc
 
 pub written_or_not : {A F : Type 0} → {r : Result A F} → {x : A} → {f : F} → r ≡ Ok x → r ≡ Err f → ⊥
 written_or_not a b = absurd cc
+
+pub refused_once : {A : Type 0} → {r : Result A BuildFault} → {one other : TypeFault} → r ≡ Err (Types one) → r ≡ Err (Types other) → one ≡ other
+refused_once a b = cc

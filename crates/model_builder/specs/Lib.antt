@@ -3,4 +3,6 @@ pub mod Naming
 pub mod Signatures
 pub mod Theirs
 pub mod Shown
+pub mod Own
 pub mod Faults
+pub mod Ascii

@@ -1,6 +1,6 @@
 -- The model that a file shows (ISO/IEC 19500-1, specification): its types, each with its number in the order of the
 -- text, their names, its interfaces, operations and exceptions.
-use Rattle.std.specs.Prelude.{◌≡◌, List, length, map, Option, Ok}
+use Rattle.std.specs.Prelude.{◌≡◌, List, map, Option, Ok}
 use Rattle.idl_tree.specs.declared.definitions.Definition.{Definition}
 use Rattle.type_model.specs.ModelRules.{IsModel, Parts, parts_of}
 use Rattle.scoped_names.specs.Whole.{Whole}
@@ -11,7 +11,6 @@ use Rattle.written_operations.specs.Operations.{Defined}
 use Rattle.written_operations.specs.Definitions.{defined_by}
 use Rattle.model_builder.specs.Naming.{names_of}
 use Rattle.model_builder.specs.Signatures.{exception_of, interfaces_from, operation_of}
-use Rattle.model_builder.specs.Theirs.{AreTheirs}
 
 abbrev pub defined : Written → List Signature → List (Option Offered) → Defined
 defined types operations interfaces = record { types = types; operations = operations; interfaces = interfaces }
@@ -21,9 +20,8 @@ abbrev pub model_of : Whole → Defined → Parts
 model_of names d = parts_of d.types.nodes (names_of names.entries d.types) (interfaces_from names 0 d.interfaces)
     (map (operation_of names.entries) d.operations) (map (exception_of names) d.types.exceptions)
 
--- what is written is of these names, and keeps the rules of models
+-- the model shows what is written, and keeps the rules of models
 pub record IsModelOf (names : Whole) (d : Defined) (model : Parts) : Type 0 where
-  pub theirs : AreTheirs (length names.entries) d
   pub parts : model ≡ model_of names d
   pub rules : IsModel model
 

@@ -1,14 +1,19 @@
 //! Laws over the definitions. The functions do nothing: each contract is the law.
 
-ghost use Rattle.std.specs.Prelude.{◌≡◌, List};
+ghost use Rattle.std.specs.Prelude.{◌≡◌, List, EachIndex, Ok};
 ghost use Rattle.idl_tree.specs.declared.definitions.Definition.{Definition};
-ghost use Rattle.type_model.specs.ModelRules.{Parts};
-ghost use Rattle.scoped_names.specs.Whole.{Whole};
-ghost use Rattle.written_types.specs.declared.fault.BuildFault.{BuildFault};
+ghost use Rattle.idl_tree.specs.declared.spec.Spec.{Spec};
+ghost use Rattle.type_graph.specs.GraphRules.{IsShallow};
+ghost use Rattle.type_model.specs.ModelRules.{IsModel, Parts};
+ghost use Rattle.scoped_names.specs.Whole.{AreNames, Whole};
+ghost use Rattle.written_types.specs.declared.fault.TypeFault.{TypeFault};
+ghost use Rattle.written_operations.specs.Definitions.{defined_by};
+ghost use Rattle.written_operations.specs.Operations.{Defined};
+ghost use Rattle.model_builder.specs.Ascii.{HasAsciiTexts};
 ghost use Rattle.model_builder.specs.Faults.{IsFault};
-ghost use Rattle.model_builder.specs.Shown.{Shows};
+ghost use Rattle.model_builder.specs.Shown.{Shows, model_of};
 
-use type_paths::laws::fault_is_of_long_paths;
+use type_paths::laws::{fault_is_of_long_paths, path_fault_is_one};
 
 /// A file shows at most one model under its names.
 pub fn model_is_one()
@@ -18,8 +23,30 @@ pub fn model_is_one()
 
 /// What shows a model has no fault.
 pub fn shown_or_refused()
-    ensures { (definitions : List Definition) (names : Whole) (model : Parts) (fault : BuildFault)
+    ensures { (definitions : List Definition) (names : Whole) (model : Parts) (fault : TypeFault)
         → Shows definitions names model → IsFault definitions names fault → ⊥ }
 {
     fault_is_of_long_paths()
 }
+
+/// A file has at most one fault of its types.
+pub fn fault_is_one()
+    ensures { (definitions : List Definition) (names : Whole) (one other : TypeFault)
+        → IsFault definitions names one → IsFault definitions names other → one ≡ other }
+{
+    path_fault_is_one()
+}
+
+/// What a file writes under its own names is a model, where its paths are short enough: no other
+/// rule of graphs or models is left to be broken.
+pub fn written_is_a_model()
+    ensures { (spec : Spec) (names : Whole) (d : Defined) → AreNames spec.definitions.items names
+        → defined_by names.entries spec.definitions.items ≡ Ok d
+        → EachIndex d.types.nodes (IsShallow 64 d.types.nodes) → IsModel (model_of names d) }
+{}
+
+/// Each text of a file's model is ASCII, as those of table files have to be.
+pub fn texts_are_ascii()
+    ensures { (spec : Spec) (names : Whole) (model : Parts) → AreNames spec.definitions.items names
+        → Shows spec.definitions.items names model → HasAsciiTexts model }
+{}

@@ -1,13 +1,14 @@
 //! The model of an IDL file: its types with their names, its interfaces, operations and exceptions.
 #![tactic(auto)]
 
+mod fault;
 mod file;
 pub mod laws;
 mod model;
 mod naming;
 mod paths;
 mod signatures;
-mod theirs;
 
+pub use fault::ModelFault;
 pub use file::build;
-pub use written_types::{BuildFault, TypeFault};
+pub use written_types::TypeFault;

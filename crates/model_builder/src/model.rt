@@ -1,45 +1,37 @@
 //! The model of what a file writes.
 
-ghost use Rattle.std.specs.Prelude.{◌≡◌, ◌⊎◌, IfErr, IfOk};
-ghost use Rattle.written_types.specs.declared.fault.BuildFault.TheVariants.{NoMemory};
+ghost use Rattle.std.specs.Prelude.{◌≡◌, IfErr, IfOk};
+ghost use Rattle.model_builder.specs.Faults.{IsRefusedBehind};
+ghost use Rattle.model_builder.specs.Own.{IsOwn};
 ghost use Rattle.model_builder.specs.Shown.{IsModelOf, defined};
-ghost use Rattle.model_builder.specs.Faults.{IsFaultBehind};
 
+use crate::fault::ModelFault;
 use crate::naming::names_of;
-use crate::paths::{check_types, graph_of};
+use crate::paths::{check_paths, graph_of};
 use crate::signatures::{exceptions_of, interfaces_of, operations_of};
-use crate::theirs::are_theirs;
 use scoped_names::Names;
 use std::alloc::Global;
 use type_graph::{GraphFault, Items};
 use type_model::Model;
 use written_operations::{Offered, Signature};
-use written_types::{BuildFault, TypeTable};
+use written_types::TypeTable;
 
-/// The model of types, operations and interfaces that are written.
+/// The model of types, operations and interfaces that are written under these names.
 ///
 /// # Errors
-/// A type that holds itself, too long a path; `OtherNames`; want of memory.
+/// A type that holds itself, too long a path; want of memory.
 pub(crate) fn model_of<'a>(
     alloc: Global,
     names: &Names<'a>,
     types: TypeTable,
     signatures: Vec<Signature>,
     offered: Vec<Option<Offered>>,
-) -> Result<Model, BuildFault>
+) -> Result<Model, ModelFault>
+    requires { IsOwn names.now (defined types signatures.items offered.items) }
     ensures shows { IfOk result (IsModelOf names.now (defined types signatures.items offered.items)) }
-    ensures faults { IfErr result (λ fault. (fault ≡ NoMemory)
-        ⊎ IsFaultBehind names.now (defined types signatures.items offered.items) fault) }
+    ensures refused { IfErr result (IsRefusedBehind types) }
 {
-    if !are_theirs(
-        names.len(),
-        &types,
-        signatures.as_slice(),
-        offered.as_slice(),
-    ) {
-        return Err(BuildFault::OtherNames);
-    }
-    check_types(alloc, &types)?;
+    check_paths(alloc, &types)?;
     let list = names_of(alloc, names, &types)?;
     let operations = operations_of(alloc, names, signatures)?;
     let exceptions = exceptions_of(alloc, names, types.exceptions())?;
@@ -55,7 +47,7 @@ pub(crate) fn model_of<'a>(
     );
     match model {
         Ok(model) => Ok(model),
-        Err(GraphFault::NoMemory) => Err(BuildFault::NoMemory),
-        Err(_) => Err(BuildFault::OtherNames),
+        Err(GraphFault::NoMemory) => Err(ModelFault::NoMemory),
+        Err(_) => unreachable!(),
     }
 }

@@ -148,7 +148,7 @@ fn push_place<'a>(
     place: Option<Place>,
 ) -> Result<(), AllocError>
     requires there { entry < length names.now.entries }
-    requires small { IfSome place (HasFrames (2 ^ 32)) }
+    requires small { IfSome place HasFrames }
     ensures { OnOk result (list.new.items ≡ list.old.items ++ names_of_place names.now.entries entry place) }
 {
     match place {
@@ -180,7 +180,7 @@ pub(crate) fn names_of<'a>(
     names: &Names<'a>,
     types: &TypeTable,
 ) -> Result<Vec<(Name, u32)>, AllocError>
-    requires { All (λ place. IfSome place (HasFrames (2 ^ 32))) types.now.places }
+    requires { All (λ place. IfSome place HasFrames) types.now.places }
     ensures { IfOk result (λ list. list.items ≡ its_names names.now.entries types.now) }
 {
     let mut list = Vec::new(alloc);

@@ -32,7 +32,7 @@ fn numbers_of(alloc: Global, places: &[usize]) -> Result<Vec<u32>, AllocError>
 }
 
 fn operation_of<'a>(alloc: Global, names: &Names<'a>, s: Signature) -> Result<Operation, AllocError>
-    requires { IsSignature (length names.now.entries) (2 ^ 32) s }
+    requires { IsSignature (length names.now.entries) s }
     ensures { IfOk result (λ o. o ≡ its_operation names.now.entries s) }
 {
     let exceptions = numbers_of(alloc, s.raises.as_slice())?;
@@ -54,7 +54,7 @@ pub(crate) fn operations_of<'a>(
     names: &Names<'a>,
     signatures: Vec<Signature>,
 ) -> Result<Vec<Operation>, AllocError>
-    requires { All (IsSignature (length names.now.entries) (2 ^ 32)) signatures.items }
+    requires { All (IsSignature (length names.now.entries)) signatures.items }
     ensures { IfOk result (λ list. list.items ≡ map (its_operation names.now.entries) signatures.items) }
 {
     let mut list = Vec::new(alloc);

@@ -40,6 +40,7 @@ fn serve_next<S: Servant, L: Listener>(
         (L.came listener.new) broker.new.world.servant }
     ensures alone { broker.new.world.there ≡ [] }
     ensures same { broker.new.served ≡ broker.old.served }
+    ensures port { L.port listener.new ≡ L.port listener.old }
 {
     let Ok((mut reader, mut writer)) = listener.accept() else {
         return Err(Interruption::Unaccepted);
@@ -63,6 +64,7 @@ pub fn serve_connections<S: Servant, L: Listener>(
         (L.came listener.new) broker.new.world.servant }
     ensures alone { broker.new.world.there ≡ [] }
     ensures same { broker.new.served ≡ broker.old.served }
+    ensures port { L.port listener.new ≡ L.port listener.old }
 {
     for _ in 0..count {
         serve_next(broker, listener)?;

@@ -12,6 +12,8 @@ use std::net::{Net, OpenListener, OpenStream, TcpListener};
 pub struct Loopback<'r, R: Net> {
     net: &'r R,
     socket: Option<R::Listener>,
+    /// The port that is listened on.
+    port: Option<u16>,
     /// How many connections have come.
     count: u64,
 }
@@ -23,6 +25,7 @@ impl<'r, R: Net> Loopback<'r, R> {
         Loopback {
             net,
             socket: None,
+            port: None,
             count: 0,
         }
     }
@@ -47,10 +50,13 @@ impl<'r, R: Net> Listener for Loopback<'r, R> {
 
     ghost came = { λ loopback. replicate loopback.count untold };
 
-    fn listen(&mut self, port: u16) -> Result<(), Failed> {
-        match TcpListener::bind(self.net, ("127.0.0.1", port)) {
+    ghost port = { λ loopback. loopback.port };
+
+    fn listen(&mut self, number: u16) -> Result<(), Failed> {
+        match TcpListener::bind(self.net, ("127.0.0.1", number)) {
             Ok(socket) => {
                 self.socket = Some(socket);
+                self.port = Some(number);
                 Ok(())
             }
             Err(_) => Err(Failed),

@@ -1,6 +1,6 @@
 //! An object served.
 
-ghost use Rattle.std.specs.Prelude.{◌≡◌, [], replicate, IfErr, OnOk};
+ghost use Rattle.std.specs.Prelude.{◌≡◌, [], replicate, IfErr, OnOk, Some};
 ghost use Rattle.std.specs.Io.KnownBytes.{Appends};
 ghost use Rattle.broker_answers.specs.Servants.{acts};
 ghost use Rattle.socket_server.specs.Lines.{serving};
@@ -28,6 +28,7 @@ fn announce<'a, L: Listener, W: Write>(
     port: u16,
 ) -> Result<(), ServeFault<'a>>
     ensures came { L.came listener.new ≡ L.came listener.old }
+    ensures listens { OnOk result (L.port listener.new ≡ Some port) }
     ensures printed { OnOk result (Appends (W.contents out.old) (W.contents out.new) (serving port)) }
     ensures unprinted { IfErr result (IsUnprinted (W.contents out.old) (W.contents out.new)) }
 {
@@ -52,6 +53,7 @@ fn serve_by<'a, S: Servant, L: Listener, W: Write>(
 ) -> Result<(), ServeFault<'a>>
     requires alone { broker.old.world.there ≡ [] }
     ensures done { OnOk result (AreServed (acts S.says S.after) broker.old.served asked.now.connections (L.came listener.old) broker.old.world.servant (L.came listener.new) broker.new.world.servant) }
+    ensures listens { OnOk result (L.port listener.new ≡ Some asked.now.port) }
     ensures printed { OnOk result (Appends (W.contents out.old) (W.contents out.new) (serving asked.now.port)) }
     ensures printing { IfErr result (IsLineOrNothing asked.now.port (W.contents out.old) (W.contents out.new)) }
     ensures later { IfErr result (λ fault. IsOfObject fault → ⊥) }
@@ -82,6 +84,7 @@ pub fn serve_at<'a, L: Listener, W: Write>(
     asked: &Asked<'a>,
 ) -> Result<(), ServeFault<'a>>
     ensures done { OnOk result (IsDone table.model asked.now.object.now asked.now.connections (L.came listener.old) (L.came listener.new)) }
+    ensures listens { OnOk result (L.port listener.new ≡ Some asked.now.port) }
     ensures printed { OnOk result (Appends (W.contents out.old) (W.contents out.new) (serving asked.now.port)) }
     ensures refused { IfErr result (IsFaultOf table.model asked.now.object.now) }
     ensures printing { IfErr result (IsLineOrNothing asked.now.port (W.contents out.old) (W.contents out.new)) }

@@ -17,4 +17,5 @@ loop-preserved g c =
           c.args.broker.now.world.servant came between came_after after c.loop.invariant.served visit;
       alone = c.in_ok-serve_next.ensures.alone;
       same = c.in_ok-serve_next.ensures.same ∙ c.loop.invariant.same;
+      port = c.in_ok-serve_next.ensures.port ∙ c.loop.invariant.port;
     }

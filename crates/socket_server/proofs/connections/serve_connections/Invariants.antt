@@ -9,4 +9,5 @@ invariant-loop g l = record {
       l.fn.broker.world.servant (g.L.Listener.came l.listener) l.broker.world.servant;
   alone : l.broker.world.there ≡ [];
   same : l.broker.served ≡ l.fn.broker.served;
+  port : g.L.Listener.port l.listener ≡ g.L.Listener.port l.fn.listener;
 }

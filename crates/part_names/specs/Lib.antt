@@ -1,0 +1,2 @@
+-- The names of the parts of nodes.
+pub mod Names

@@ -1,0 +1,44 @@
+//! The names of the parts of all nodes.
+
+ghost use Rattle.std.specs.Prelude.{◌≡◌};
+ghost use Rattle.part_names.specs.Names.{names_at};
+
+use crate::node::NodeNames;
+use std::alloc::Global;
+use std::marker::Model;
+
+/// The names of the parts of nodes, by the numbers of the nodes.
+#[derive(Drop)]
+pub struct PartNames<'a> {
+    nodes: Vec<NodeNames<'a>>,
+    none: NodeNames<'a>,
+}
+
+impl<'a> Model for PartNames<'a> {
+    ghost use Rattle.std.specs.Prelude.{◌≡◌, ℕ, List, []};
+
+    ghost Value = { List (List (List ℕ)) };
+
+    ghost view = { λ p. p.nodes.items };
+
+    ghost invariant = { λ p. p.none ≡ [] };
+}
+
+impl<'a> PartNames<'a> {
+    /// The names of the parts of each node, in order of the nodes. Takes no memory.
+    pub fn new(alloc: Global, nodes: Vec<NodeNames<'a>>) -> PartNames<'a>
+        ensures { result ≡ nodes.items }
+    {
+        PartNames {
+            nodes,
+            none: NodeNames::none(alloc),
+        }
+    }
+
+    /// Those of a node: none for one that isn't there.
+    pub fn of(&self, node: u32) -> &NodeNames<'a>
+        ensures { result.now ≡ names_at self.now node }
+    {
+        self.nodes.get(node as usize).unwrap_or(&self.none)
+    }
+}

@@ -1,0 +1,7 @@
+pub mod Nested
+pub mod EntryWords
+pub mod AsciiNames
+pub mod Picked
+pub mod Good
+pub mod Parted
+pub mod Filed

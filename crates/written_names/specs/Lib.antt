@@ -1,0 +1,5 @@
+-- The names of the parts of the nodes that a file writes.
+pub mod Types
+pub mod Definitions
+pub mod Named
+pub mod Apart
