@@ -39,7 +39,8 @@ impl<'a> HasModel for Spec<'a> {
 
     fn model(&self, alloc: Global) -> Result<Model, CompileFault> {
         let names = bind(alloc, self)?;
-        Ok(build(alloc, self, &names)?)
+        let built = build(alloc, self, &names)?;
+        Ok(built.model)
     }
 }
 

@@ -1,6 +1,6 @@
 -- The model that a file shows (ISO/IEC 19500-1, specification): its types, each with its number in the order of the
 -- text, their names, its interfaces, operations and exceptions.
-use Rattle.std.specs.Prelude.{◌≡◌, List, map, Option, Ok}
+use Rattle.std.specs.Prelude.{◌≡◌, ℕ, List, map, Option, Ok}
 use Rattle.idl_tree.specs.declared.definitions.Definition.{Definition}
 use Rattle.type_model.specs.ModelRules.{IsModel, Parts, parts_of}
 use Rattle.scoped_names.specs.Whole.{Whole}
@@ -9,6 +9,7 @@ use Rattle.written_operations.specs.declared.signature.Offered.{Offered}
 use Rattle.written_operations.specs.declared.signature.Signature.{Signature}
 use Rattle.written_operations.specs.Operations.{Defined}
 use Rattle.written_operations.specs.Definitions.{defined_by}
+use Rattle.written_names.specs.Named.{AreNamed}
 use Rattle.model_builder.specs.Naming.{names_of}
 use Rattle.model_builder.specs.Signatures.{exception_of, interfaces_from, operation_of}
 
@@ -30,3 +31,9 @@ pub record Shows (definitions : List Definition) (names : Whole) (model : Parts)
   pub written : Defined
   pub told : defined_by names.entries definitions ≡ Ok written
   pub shows : IsModelOf names written model
+
+-- the names of the parts of each node are those that the definitions declare
+pub record AreParts (definitions : List Definition) (names : Whole) (nodes : List (List (List ℕ))) : Type 0 where
+  pub written : Defined
+  pub told : defined_by names.entries definitions ≡ Ok written
+  pub named : AreNamed definitions names written.types nodes

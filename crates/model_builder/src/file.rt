@@ -1,37 +1,65 @@
 //! The model of a whole file.
 
-ghost use Rattle.std.specs.Prelude.{◌≡◌, ◌≢◌, IfErr, IfOk, Ok};
+ghost use Rattle.std.specs.Prelude.{IfErr, IfOk};
 ghost use Rattle.scoped_names.specs.Whole.{AreNames};
-ghost use Rattle.written_operations.specs.Definitions.{defined_by};
-ghost use Rattle.written_types.specs.declared.fault.BuildFault.TheVariants.{OtherNames};
 ghost use Rattle.model_builder.specs.Faults.{IsRefused};
-ghost use Rattle.model_builder.specs.Shown.{Shows};
+ghost use Rattle.model_builder.specs.Own.{IsWritten};
+ghost use Rattle.model_builder.specs.Shown.{AreParts, Shows};
 
 use crate::fault::ModelFault;
 use crate::model::model_of;
 use idl_tree::spec::Spec;
+use part_names::PartNames;
 use scoped_names::Names;
 use std::alloc::Global;
 use type_model::Model;
-use written_operations::write_file;
+use written_names::name_parts;
+use written_operations::{OperationTable, write_file};
 use written_types::BuildFault;
 
+/// The model of a file, and the names of the parts of its nodes.
+#[derive(Drop)]
+pub struct Built<'a> {
+    pub model: Model,
+    pub parts: PartNames<'a>,
+}
+
+/// What is built of what the file writes.
+fn built_of<'a>(
+    alloc: Global,
+    spec: &Spec<'a>,
+    names: &Names<'a>,
+    table: OperationTable,
+) -> Result<Built<'a>, ModelFault>
+    requires { IsWritten spec.now.definitions.items names.now table }
+    ensures shows { IfOk result (λ built. Shows spec.now.definitions.items names.now built.model) }
+    ensures named { IfOk result (λ built. AreParts spec.now.definitions.items names.now built.parts) }
+    ensures refused { IfErr result (IsRefused spec.now.definitions.items names.now) }
+{
+    let (types, operations, interfaces) = table.into_parts();
+    let parts = name_parts(alloc, names, &types, spec)?;
+    let model = model_of(alloc, names, types, operations, interfaces)?;
+    Ok(Built { model, parts })
+}
+
 /// The model of a file whose names are those that `bind` gave for it: its types with their names,
-/// its interfaces, operations and exceptions.
+/// its interfaces, operations and exceptions; and for each node the names of its parts.
 ///
 /// # Errors
 /// The first fault of the file's types in the order of reading, with its line; a type that holds
 /// itself and too long a path come last. Want of memory.
-pub fn build<'a>(alloc: Global, spec: &Spec<'a>, names: &Names<'a>) -> Result<Model, ModelFault>
+pub fn build<'a>(
+    alloc: Global,
+    spec: &Spec<'a>,
+    names: &Names<'a>,
+) -> Result<Built<'a>, ModelFault>
     requires { AreNames spec.now.definitions.items names.now }
-    ensures shows { IfOk result (Shows spec.now.definitions.items names.now) }
+    ensures shows { IfOk result (λ built. Shows spec.now.definitions.items names.now built.model) }
+    ensures named { IfOk result (λ built. AreParts spec.now.definitions.items names.now built.parts) }
     ensures refused { IfErr result (IsRefused spec.now.definitions.items names.now) }
 {
     match write_file(alloc, names, spec) {
-        Ok(table) => {
-            let (types, operations, interfaces) = table.into_parts();
-            model_of(alloc, names, types, operations, interfaces)
-        }
+        Ok(table) => built_of(alloc, spec, names, table),
         Err(BuildFault::Types(fault)) => Err(ModelFault::Types(fault)),
         Err(BuildFault::NoMemory) => Err(ModelFault::NoMemory),
         Err(BuildFault::OtherNames) => unreachable!(),

@@ -10,5 +10,5 @@ mod paths;
 mod signatures;
 
 pub use fault::ModelFault;
-pub use file::build;
+pub use file::{Built, build};
 pub use written_types::TypeFault;
