@@ -19,9 +19,9 @@ use written_types::BuildFault;
 
 /// The model of a file, and the names of the parts of its nodes.
 #[derive(Drop)]
-pub struct Built<'a> {
+pub struct Built {
     pub model: Model,
-    pub parts: PartNames<'a>,
+    pub parts: PartNames,
 }
 
 /// What is built of what the file writes.
@@ -30,7 +30,7 @@ fn built_of<'a>(
     spec: &Spec<'a>,
     names: &Names<'a>,
     table: OperationTable,
-) -> Result<Built<'a>, ModelFault>
+) -> Result<Built, ModelFault>
     requires { IsWritten spec.now.definitions.items names.now table }
     ensures shows { IfOk result (λ built. Shows spec.now.definitions.items names.now built.model) }
     ensures named { IfOk result (λ built. AreParts spec.now.definitions.items names.now built.parts) }
@@ -52,7 +52,7 @@ pub fn build<'a>(
     alloc: Global,
     spec: &Spec<'a>,
     names: &Names<'a>,
-) -> Result<Built<'a>, ModelFault>
+) -> Result<Built, ModelFault>
     requires { AreNames spec.now.definitions.items names.now }
     ensures shows { IfOk result (λ built. Shows spec.now.definitions.items names.now built.model) }
     ensures named { IfOk result (λ built. AreParts spec.now.definitions.items names.now built.parts) }

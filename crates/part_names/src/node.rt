@@ -1,31 +1,32 @@
 //! The names of one node's parts.
 
-ghost use Rattle.std.specs.Prelude.{◌≡◌, ◌<◌, [], length, map, slice_get, IfSome, IfNone, ◌≤◌, Some};
+ghost use Rattle.std.specs.Prelude.{◌≡◌, ◌≤◌, ◌↔◌, [], length, slice_get, IfSome, IfNone, IsTrue, Some};
 ghost use Rattle.part_names.specs.Names.{AreApart};
 
 use std::alloc::Global;
 use std::marker::Model;
+use type_model::Name;
 
 /// Names in order, of which no two are equal but for the case of their letters.
 #[derive(Drop)]
-pub struct NodeNames<'a> {
-    names: Vec<&'a str>,
+pub struct NodeNames {
+    names: Vec<Name>,
 }
 
-impl<'a> Model for NodeNames<'a> {
-    ghost use Rattle.std.specs.Prelude.{ℕ, List, map};
+impl Model for NodeNames {
+    ghost use Rattle.std.specs.Prelude.{ℕ, List};
     ghost use Rattle.part_names.specs.Names.{AreApart};
 
     ghost Value = { List (List ℕ) };
 
-    ghost view = { λ n. map (λ name. name.now) n.names.items };
+    ghost view = { λ n. n.names.items };
 
-    ghost invariant = { λ n. AreApart (map (λ name. name.now) n.names.items) };
+    ghost invariant = { λ n. AreApart n.names.items };
 }
 
-impl<'a> NodeNames<'a> {
+impl NodeNames {
     /// No names. Takes no memory.
-    pub fn none(alloc: Global) -> NodeNames<'a>
+    pub fn none(alloc: Global) -> NodeNames
         ensures { result ≡ [] }
     {
         NodeNames {
@@ -33,10 +34,10 @@ impl<'a> NodeNames<'a> {
         }
     }
 
-    /// These names.
-    pub fn new(names: Vec<&'a str>) -> NodeNames<'a>
-        requires { AreApart (map (λ name. name.now) names.items) }
-        ensures { result ≡ map (λ name. name.now) names.items }
+    /// These names. Takes no memory.
+    pub fn new(names: Vec<Name>) -> NodeNames
+        requires { AreApart names.items }
+        ensures { result ≡ names.items }
     {
         NodeNames { names }
     }
@@ -49,15 +50,20 @@ impl<'a> NodeNames<'a> {
         self.names.len()
     }
 
-    pub fn is_empty(&self) -> bool {
+    pub fn is_empty(&self) -> bool
+        ensures { IsTrue result ↔ (self.now ≡ []) }
+    {
         self.names.is_empty()
     }
 
     /// The name of the part at a place.
-    pub fn get(&self, place: usize) -> Option<&'a str>
+    pub fn get(&self, place: usize) -> Option<&str>
         ensures some { IfSome result (λ name. slice_get self.now place ≡ Some name.now) }
         ensures none { IfNone result (length self.now ≤ place) }
     {
-        self.names.get(place).copied()
+        match self.names.get(place) {
+            Some(name) => Some(name.as_str()),
+            None => None,
+        }
     }
 }

@@ -9,12 +9,12 @@ use std::marker::Model;
 
 /// The names of the parts of nodes, by the numbers of the nodes.
 #[derive(Drop)]
-pub struct PartNames<'a> {
-    nodes: Vec<NodeNames<'a>>,
-    none: NodeNames<'a>,
+pub struct PartNames {
+    nodes: Vec<NodeNames>,
+    none: NodeNames,
 }
 
-impl<'a> Model for PartNames<'a> {
+impl Model for PartNames {
     ghost use Rattle.std.specs.Prelude.{◌≡◌, ℕ, List, []};
 
     ghost Value = { List (List (List ℕ)) };
@@ -24,9 +24,9 @@ impl<'a> Model for PartNames<'a> {
     ghost invariant = { λ p. p.none ≡ [] };
 }
 
-impl<'a> PartNames<'a> {
+impl PartNames {
     /// The names of the parts of each node, in order of the nodes. Takes no memory.
-    pub fn new(alloc: Global, nodes: Vec<NodeNames<'a>>) -> PartNames<'a>
+    pub fn new(alloc: Global, nodes: Vec<NodeNames>) -> PartNames
         ensures { result ≡ nodes.items }
     {
         PartNames {
@@ -36,7 +36,7 @@ impl<'a> PartNames<'a> {
     }
 
     /// Those of a node: none for one that isn't there.
-    pub fn of(&self, node: u32) -> &NodeNames<'a>
+    pub fn of(&self, node: u32) -> &NodeNames
         ensures { result.now ≡ names_at self.now node }
     {
         self.nodes.get(node as usize).unwrap_or(&self.none)

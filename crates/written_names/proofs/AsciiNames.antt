@@ -316,11 +316,11 @@ MayGive (Some g) = GivenAscii g
 
 given_ascii : (ps : List IdPragma) → AllByRecursion (λ p. GivenAscii p.given) ps → (e : ℕ) → MayGive (given_to ps e)
 given_ascii [] h e = tt
-given_ascii (p ∷ ps) h e = by (nat_eq e p.entry)
+given_ascii (p ∷ ps) h e = by (nat_eq e p.entry) (given_ascii ps h.1 e)
   where
-    by : (b : Bool) → MayGive (cond b (Some p.given) (given_to ps e))
-    by true = h.0
-    by false = given_ascii ps h.1 e
+    by : (b : Bool) → MayGive (given_to ps e) → MayGive (cond b (Some p.given) (given_to ps e))
+    by true rest = h.0
+    by false rest = rest
 
 id_ascii_by : (o : Option GivenId) (prefix : List ℕ) (ns : List (List ℕ)) → MayGive o → IsAscii prefix → AllAscii ns → IsAscii (id_by o prefix ns)
 id_ascii_by None prefix ns g p n = format_ascii prefix ns (codes "1.0") p n (told_ascii (codes "1.0") refl)

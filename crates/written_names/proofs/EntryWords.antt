@@ -112,11 +112,11 @@ steps_words es scope (s ∷ steps) h =
 
 asked_forms : (ps : List Piece) → HaveForms ps → HaveForms (asked ps)
 asked_forms [] h = tt
-asked_forms (p ∷ ps) h = by (is_asked p.kind) refl
+asked_forms (p ∷ ps) h = by (is_asked p.kind) refl (asked_forms ps h.1)
   where
-    by : (b : Bool) → is_asked p.kind ≡ b → HaveForms (asked (p ∷ ps))
-    by true is = rw is (h.0, asked_forms ps h.1)
-    by false is = rw is (asked_forms ps h.1)
+    by : (b : Bool) → is_asked p.kind ≡ b → HaveForms (asked ps) → HaveForms (asked (p ∷ ps))
+    by true is rest = rw is (h.0, rest)
+    by false is rest = rw is rest
 
 pub spec_words : (spec : Spec) (es : List Entry) → AllByRecursion IsNamedByWord (introduced es 0 (steps_of spec.definitions.items))
 spec_words spec es =

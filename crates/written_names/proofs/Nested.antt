@@ -1,5 +1,5 @@
 -- The scope of each entry of a file is the file's, or that of an earlier entry.
-use Rattle.std.proofs.Common.{◌≡◌, ◌∙◌, ◌≤◌, ◌<◌, ℕ, zero, suc, List, [], ◌∷◌, length, slice_get, Option, Some, None, Result, Ok, sym, ap, subst, arith}
+use Rattle.std.proofs.Common.{◌≡◌, ◌∙◌, ◌≤◌, ◌<◌, ℕ, zero, suc, List, [], ◌∷◌, length, slice_get, Option, Some, None, Result, Ok, refl, sym, ap, subst, arith}
 use Rattle.std.proofs.lemmas.Option.{slice_get_within}
 use Rattle.idl_tree.specs.declared.definitions.Definition.{Definition}
 use Rattle.name_table.specs.Entry.{AreNested, Entry, around, named, scope_in}

@@ -54,13 +54,13 @@ picked_both s (n ∷ ns) ms xs ys (mid, l, after, is, called, rest) k =
 pub picked_filter : {T : Type 0} (s : ℕ) (name : T → List ℕ) (p : T → Bool) (ts : List T) (xs : List Introduction) → Picked s (map name ts) xs
     → Picked s (map name (filter p ts)) xs
 picked_filter s name p [] xs h = tt
-picked_filter s name p (t ∷ ts) xs (mid, l, after, is, called, rest) = by (p t) refl
+picked_filter s name p (t ∷ ts) xs (mid, l, after, is, called, rest) = by (p t) refl (picked_filter s name p ts after rest)
   where
-    by : (b : Bool) → p t ≡ b → Picked s (map name (filter p (t ∷ ts))) xs
-    by true pass = rw pass (mid, l, after, is, called, picked_filter s name p ts after rest)
-    by false pass =
+    by : (b : Bool) → p t ≡ b → Picked s (map name (filter p ts)) after → Picked s (map name (filter p (t ∷ ts))) xs
+    by true pass left = rw pass (mid, l, after, is, called, left)
+    by false pass left =
         let shape : xs ≡ (mid ++ Has s l ∷ []) ++ after = is ∙ sym (append_assoc mid (Has s l ∷ []) after) in
-        rw pass (subst (Picked s (map name (filter p ts))) (sym shape) (picked_behind s (map name (filter p ts)) (mid ++ Has s l ∷ []) after (picked_filter s name p ts after rest)))
+        rw pass (subst (Picked s (map name (filter p ts))) (sym shape) (picked_behind s (map name (filter p ts)) (mid ++ Has s l ∷ []) after left))
 
 -- two members of one scope
 members_apart : (s : ℕ) (l m : Leaf) → clashes (Has s l) (Has s m) ≡ false → same_but_for_case (word l) (word m) ≡ false

@@ -15,7 +15,7 @@ pub struct NameList<'a> {
 }
 
 impl<'a> Model for NameList<'a> {
-    ghost use Rattle.std.specs.Prelude.{ℕ, List};
+    ghost use Rattle.std.specs.Prelude.{ℕ, List, map};
 
     ghost Value = { List (List ℕ) };
 
@@ -44,10 +44,10 @@ impl<'a> NameList<'a> {
     }
 
     /// The names.
-    pub(crate) fn into_names(self) -> Vec<&'a str>
-        ensures { map (λ n. n.now) result.items ≡ self }
+    pub(crate) fn names(&self) -> &[&'a str]
+        ensures { map (λ n. n.now) result.now ≡ self.now }
     {
-        self.names
+        self.names.as_slice()
     }
 }
 
@@ -139,9 +139,9 @@ impl<'a> PartList<'a> {
     }
 
     /// The parts.
-    pub(crate) fn into_parts(self) -> Vec<NamedPart<'a>>
-        ensures { result.items ≡ self }
+    pub(crate) fn parts(&self) -> &[NamedPart<'a>]
+        ensures { result.now ≡ self.now }
     {
-        self.parts
+        self.parts.as_slice()
     }
 }

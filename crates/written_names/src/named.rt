@@ -1,6 +1,6 @@
 //! The names of parts by the numbers of their nodes.
 
-ghost use Rattle.std.specs.Prelude.{◌≡◌, [], replicate, All, IfOk};
+ghost use Rattle.std.specs.Prelude.{◌≡◌, [], map, replicate, All, IfOk, OnOk};
 ghost use Rattle.part_names.specs.Names.{AreApart};
 ghost use Rattle.written_names.specs.Named.{AreNamed, WritesTypes, by_node, placed};
 
@@ -10,10 +10,11 @@ use idl_tree::spec::Spec;
 use part_names::{NodeNames, PartNames};
 use scoped_names::Names;
 use std::alloc::{AllocError, Global};
+use type_model::Name;
 use written_types::{BuildFault, TypeTable};
 
 /// So many nodes without names.
-fn unnamed<'a>(alloc: Global, count: usize) -> Result<Vec<NodeNames<'a>>, AllocError>
+fn unnamed(alloc: Global, count: usize) -> Result<Vec<NodeNames>, AllocError>
     ensures { IfOk result (λ nodes. nodes.items ≡ replicate count []) }
 {
     let mut nodes = Vec::new(alloc);
@@ -23,28 +24,47 @@ fn unnamed<'a>(alloc: Global, count: usize) -> Result<Vec<NodeNames<'a>>, AllocE
     Ok(nodes)
 }
 
+/// Names that are kept.
+fn kept(alloc: Global, names: &[&str]) -> Result<Vec<Name>, AllocError>
+    ensures { IfOk result (λ kept. kept.items ≡ map (λ n. n.now) names.now) }
+{
+    let mut kept = Vec::new(alloc);
+    for name in names {
+        let mut text = String::new(alloc);
+        text.push_str(name)?;
+        kept.push(Name::new(text))?;
+    }
+    Ok(kept)
+}
+
 /// The names of a part at its node.
-fn place_part<'a>(nodes: &mut Vec<NodeNames<'a>>, part: NamedPart<'a>)
-    requires { AreApart part.names }
-    ensures { nodes.new.items ≡ placed nodes.old.items part }
+fn place_part(
+    alloc: Global,
+    nodes: &mut Vec<NodeNames>,
+    part: &NamedPart<'_>,
+) -> Result<(), AllocError>
+    requires { AreApart part.now.names }
+    ensures { OnOk result (nodes.new.items ≡ placed nodes.old.items part.now) }
 {
     if part.node < nodes.len() {
-        nodes[part.node] = NodeNames::new(part.names.into_names());
+        let names = kept(alloc, part.names.names())?;
+        nodes[part.node] = NodeNames::new(names);
     }
+    Ok(())
 }
 
 /// The names of parts, by node.
-fn table_of<'a>(
+fn table_of(
     alloc: Global,
     count: usize,
-    list: PartList<'a>,
-) -> Result<PartNames<'a>, AllocError>
-    requires { All (λ part. AreApart part.names) list }
-    ensures { IfOk result (λ names. names ≡ by_node count list) }
+    list: &PartList<'_>,
+) -> Result<PartNames, AllocError>
+    requires { All (λ part. AreApart part.names) list.now }
+    ensures { IfOk result (λ names. names ≡ by_node count list.now) }
 {
     let mut nodes = unnamed(alloc, count)?;
-    for part in list.into_parts() {
-        place_part(&mut nodes, part);
+    for part in list.parts() {
+        place_part(alloc, &mut nodes, part)?;
     }
     Ok(PartNames::new(alloc, nodes))
 }
@@ -59,12 +79,12 @@ pub fn name_parts<'a>(
     names: &Names<'a>,
     types: &TypeTable,
     spec: &Spec<'a>,
-) -> Result<PartNames<'a>, AllocError>
+) -> Result<PartNames, AllocError>
     requires { WritesTypes spec.now.definitions.items names.now types.now }
     ensures { IfOk result (AreNamed spec.now.definitions.items names.now types.now) }
 {
     match parts_of_file(alloc, names, types, spec) {
-        Ok(list) => table_of(alloc, types.nodes().len(), list),
+        Ok(list) => table_of(alloc, types.nodes().len(), &list),
         Err(BuildFault::NoMemory) => Err(AllocError),
         Err(_) => unreachable!(),
     }
