@@ -99,7 +99,7 @@ impl<'a> PartList<'a> {
         returned: NameList<'a>,
     ) -> Result<(), BuildFault>
         requires { request + 1 < 2 ^ 64 }
-        ensures { Tells result (λ u. self.new) (Ok (self.old ++ call request sent returned)) }
+        ensures { Tells result (λ u. self.new) (Ok (self.old ++ call request sent.entry returned.entry)) }
     {
         self.add(request, sent)?;
         self.add(request + 1, returned)?;

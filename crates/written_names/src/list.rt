@@ -96,7 +96,7 @@ impl<'a> PartList<'a> {
     /// # Errors
     /// Want of memory.
     pub(crate) fn add(&mut self, node: usize, names: NameList<'a>) -> Result<(), AllocError>
-        ensures { OnOk result (self.new ≡ self.old ++ part node names ∷ []) }
+        ensures { OnOk result (self.new ≡ self.old ++ part node names.entry ∷ []) }
     {
         self.parts.push(NamedPart { node, names })?;
         Ok(())
@@ -112,7 +112,7 @@ impl<'a> PartList<'a> {
         entry: usize,
         names: NameList<'a>,
     ) -> Result<(), BuildFault>
-        ensures { Tells result (λ u. self.new) (typed types.now entry names self.old) }
+        ensures { Tells result (λ u. self.new) (typed types.now entry names.entry self.old) }
     {
         match types.place(entry) {
             Some(Place::Typed(node)) => Ok(self.add(node as usize, names)?),
@@ -130,7 +130,7 @@ impl<'a> PartList<'a> {
         entry: usize,
         names: NameList<'a>,
     ) -> Result<(), BuildFault>
-        ensures { Tells result (λ u. self.new) (raising types.now entry names self.old) }
+        ensures { Tells result (λ u. self.new) (raising types.now entry names.entry self.old) }
     {
         match types.place(entry) {
             Some(Place::Raised { frame, .. }) => Ok(self.add(frame as usize, names)?),
