@@ -12,7 +12,6 @@ use Rattle.idl_tree.specs.declared.types.ParamType.{ParamType}
 use Rattle.idl_tree.specs.declared.definitions.TypeDcl.{TypeDcl}
 use Rattle.idl_tree.specs.declared.definitions.TypeDcl.TheVariants as TypeDcls
 use Rattle.idl_tree.specs.declared.definitions.Attributes.{Attributes}
-use Rattle.idl_tree.specs.declared.definitions.Attributes.TheVariants.{Silent, Readonly, Get, Set}
 use Rattle.idl_tree.specs.declared.definitions.Except.{Except}
 use Rattle.idl_tree.specs.declared.definitions.Declaration.{Declaration}
 use Rattle.idl_tree.specs.declared.definitions.Declaration.TheVariants as Declarations
@@ -38,17 +37,18 @@ use Rattle.scoped_names.specs.Whole.{AreNames, Whole}
 use Rattle.scoped_names.proofs.Asks.{attribute_asks, bases_ask, definition_asks, definitions_ask, export_asks, member_asks, param_asks, param_type_asks, raises_ask, result_asks, may_raise, type_asks}
 use Rattle.scoped_names.proofs.Introducing.{all_map}
 use Rattle.scoped_names.proofs.Parts.{Closed, both_closed, closed, each_closed, one_closed}
-use Rattle.written_types.specs.declared.place.Place.{Place}
-use Rattle.written_types.specs.declared.place.Place.TheVariants.{Called, Got, GotAndSet}
 use Rattle.written_types.specs.Faults.{each, or_other}
 use Rattle.written_types.specs.SimpleTypes.{entry_of}
-use Rattle.written_types.specs.Written.{Written, place_of}
+use Rattle.written_types.specs.Written.{Written}
 use Rattle.written_operations.specs.Oneway.{parts_of}
-use Rattle.written_operations.specs.Operations.{attribute_identifiers}
+use Rattle.written_operations.specs.declared.signature.Role.TheVariants as Roles
+use Rattle.written_operations.specs.declared.signature.Signature.{Signature}
+use Rattle.written_operations.specs.Operations.{attribute_identifiers, is_set}
 use Rattle.part_names.specs.Names.{AreApart}
-use Rattle.written_names.specs.Apart.{HavePlaces, IsAccessed, IsCalled}
+use Rattle.written_names.specs.Apart.{HavePlaces}
+use Rattle.written_names.specs.Signed.{AreSigned, DefinitionSigned, DefinitionsSigned, ExportSigned, HasCall, InterfaceSigned, IsAccessed, IsSigned}
 use Rattle.written_names.specs.Types.{Part, Parted, declaration_parts, except_parts, member_names, member_parts, part, raising, type_dcl_parts, type_parts, with_id}
-use Rattle.written_names.specs.Definitions.{access, call, definition_parts, definitions_parts, export_parts, file_parts, getting, goes_in, goes_out, identifier_parts, interface_parts, operation_parts, param_name, reply_names, request_in, request_names, result_names, setting}
+use Rattle.written_names.specs.Definitions.{call, definition_parts, definitions_parts, export_parts, file_parts, getting, goes_in, goes_out, identifier_parts, interface_parts, operation_parts, param_name, reply_names, request_names, request_of, result_names, setting, setting_parts}
 use Rattle.written_names.proofs.EntryWords.{IsNameWord, IsNamedByWord, name_word}
 use Rattle.written_names.proofs.Good.{Good, good_both, good_each, good_inside, good_tail, good_walk, spec_good}
 use Rattle.written_names.proofs.Parted.{AllApart, IsNamed, IsThere, both_apart, each_named, each_picked, ends, entry_told, enum_named, member_picked, member_closed, named_by, named_then, placed_as, raising_named, struct_named, there_of, type_named, union_named}
@@ -200,9 +200,9 @@ carries es scope o steps g picked =
 call_apart : (request : ℕ) (sent back : List (List ℕ)) → AreApart sent → AreApart back → AllApart (call request sent back)
 call_apart request sent back s b = (s, (b, tt))
 
-operation_named : (es : List Entry) (w : Written) (scope : ℕ) (o : Operation) → HavePlaces es w → Good es scope (operation_steps o) → (ps : List Part) → AllApart ps
-    → IsNamed (operation_parts es w scope ps o)
-operation_named es w scope o placed g ps all =
+operation_named : (es : List Entry) (ops : List Signature) (scope : ℕ) (o : Operation) → IsSigned es ops scope o.identifier Roles.Operation → Good es scope (operation_steps o)
+    → (ps : List Part) → AllApart ps → IsNamed (operation_parts es ops scope ps o)
+operation_named es ops scope o (e, named_so, (request, is)) g ps all =
     let result = result_steps o.result_type in
     let feature = DeclaresFeature Kinds.Operation o.identifier in
     let params = flat_map (param_steps o.identifier) (optional_parts o.params) in
@@ -213,67 +213,65 @@ operation_named es w scope o placed g ps all =
     let front = good_both es scope (result ++ feature ∷ params) raises (both_closed result_closed named_closed) g in
     let named = good_both es scope result (feature ∷ params) result_closed front.0 in
     let head = good_tail es scope feature params tt named.1 in
-    let there = there_of es scope o.identifier Kinds.Operation head.0.entries.0 in
     let picked = params_picked es scope o.identifier (optional_parts o.params) head.1 in
     let s = scope_of es scope o.identifier in
     let carried = carries es scope o params head.1 (subst (λ xs. Picked s (map param_name xs) (introduced es scope params)) (params_alike o) picked) in
-    let (request, is) = placed_as es w scope o.identifier Kinds.Operation placed there in
     let calls = call request (request_names (parts_of o.params)) (reply_names o.result_type (parts_of o.params)) in
-    named_by (entry_of es scope o.identifier) there.number _ (entry_told es scope o.identifier there.number there.is)
-    (named_by (or_other (request_in (place_of w there.number))) request _ (ap (λ p. or_other (request_in p)) is)
+    named_by (entry_of es scope o.identifier) e _ named_so
+    (named_by (or_other (request_of ops e Roles.Operation)) request _ (ap or_other is)
     (ends (ps ++ calls) (both_apart ps calls all (call_apart request _ _ carried.request carried.reply))))
 
 -- ---- attributes
 
-access_named : (name : List ℕ) (p : Option Place) → IsAccessed p → IsNamed (access name p)
-access_named name p (request, inl is) = subst (λ q. IsNamed (access name q)) (sym is) (ends (getting request) (none_apart, (one_apart (codes "_return"), tt)))
-access_named name p (request, inr is) =
-    subst (λ q. IsNamed (access name q)) (sym is)
-    (ends (getting request ++ setting (request + 2) name) (none_apart, (one_apart (codes "_return"), (one_apart name, (none_apart, tt)))))
+getting_apart : (request : ℕ) → AllApart (getting request)
+getting_apart request = (none_apart, (one_apart (codes "_return"), tt))
 
-identifier_named : (es : List Entry) (w : Written) (scope : ℕ) (id : Leaf) → HavePlaces es w → Holds es scope (DeclaresFeature Kinds.Attribute id) → (ps : List Part) → AllApart ps
-    → IsNamed (identifier_parts es w scope ps id)
-identifier_named es w scope id placed h ps all =
-    let there = there_of es scope id Kinds.Attribute h.entries.0 in
-    named_by (entry_of es scope id) there.number _ (entry_told es scope id there.number there.is)
-    (named_then (access (word id) (place_of w there.number)) (λ calls. Ok (ps ++ calls))
-    (access_named (word id) (place_of w there.number) (placed_as es w scope id Kinds.Attribute placed there))
-    (λ calls apart. ends (ps ++ calls) (both_apart ps calls all apart)))
+setting_named : (ops : List Signature) (e : ℕ) (name : List ℕ) (set : Bool) → (set ≡ true → HasCall ops e Roles.Setting) → (ps : List Part) → AllApart ps
+    → IsNamed (setting_parts ops e name set ps)
+setting_named ops e name false has ps all = ends ps all
+setting_named ops e name true has ps all =
+    let (request, is) = has refl in
+    named_by (or_other (request_of ops e Roles.Setting)) request _ (ap or_other is)
+    (ends (ps ++ setting request name) (both_apart ps (setting request name) all (one_apart name, (none_apart, tt))))
 
-features_hold : (es : List Entry) (scope : ℕ) (ids : List Leaf) → Good es scope (map (DeclaresFeature Kinds.Attribute) ids)
-    → AllByRecursion (λ id. Holds es scope (DeclaresFeature Kinds.Attribute id)) ids
-features_hold es scope [] g = tt
-features_hold es scope (id ∷ ids) g =
-    let head = good_tail es scope (DeclaresFeature Kinds.Attribute id) (map (DeclaresFeature Kinds.Attribute) ids) tt g in
-    (head.0, features_hold es scope ids head.1)
+-- the entry of the identifier is one
+setting_of : (es : List Entry) (ops : List Signature) (scope : ℕ) (a : Attributes) (id : Leaf) (e : ℕ) → entry_of es scope id ≡ Ok e
+    → (is_set a ≡ true → IsSigned es ops scope id Roles.Setting) → is_set a ≡ true → HasCall ops e Roles.Setting
+setting_of es ops scope a id e is sets set =
+    let (f, there, has) = sets set in
+    let same : f ≡ e = cc in
+    subst (λ k. HasCall ops k Roles.Setting) same has
 
-declared_hold : (es : List Entry) (scope : ℕ) (a : Attributes) → Good es scope (attributes_steps a)
-    → AllByRecursion (λ id. Holds es scope (DeclaresFeature Kinds.Attribute id)) (attribute_identifiers a)
-declared_hold es scope (Silent only identifiers) g = features_hold es scope (parts identifiers) g
-declared_hold es scope (Readonly id raises) g = (g.holds.0, tt)
-declared_hold es scope (Get id get set) g = (g.holds.0, tt)
-declared_hold es scope (Set id set) g = (g.holds.0, tt)
+identifier_named : (es : List Entry) (ops : List Signature) (scope : ℕ) (a : Attributes) (id : Leaf) → IsAccessed es ops scope a id → (ps : List Part) → AllApart ps
+    → IsNamed (identifier_parts es ops scope (is_set a) ps id)
+identifier_named es ops scope a id ((e, named_so, (request, is)), sets) ps all =
+    named_by (entry_of es scope id) e _ named_so
+    (named_by (or_other (request_of ops e Roles.Getting)) request _ (ap or_other is)
+    (setting_named ops e (word id) (is_set a) (setting_of es ops scope a id e named_so sets) (ps ++ getting request) (both_apart ps (getting request) all (getting_apart request))))
 
 -- ---- interfaces
 
-export_named : (es : List Entry) (w : Written) (scope : ℕ) → HavePlaces es w → (x : Export) → Good es scope (export_steps x) → (ps : List Part) → AllApart ps
-    → IsNamed (export_parts es w scope ps x)
-export_named es w scope placed (Exports.Pragma p) g ps all = ends ps all
-export_named es w scope placed (Exports.Declaration x) g ps all = declaration_named es w scope x placed g ps all
-export_named es w scope placed (Exports.Attribute a) g ps all =
-    let good = (good_both es scope (param_type_steps a.attribute_type) (attributes_steps a.declared) (closed (param_type_asks {ls = []} a.attribute_type)) g).1 in
-    each_named (identifier_parts es w scope) (attribute_identifiers a.declared)
-    (all_map (λ id. Holds es scope (DeclaresFeature Kinds.Attribute id)) (λ id. (qs : List Part) → AllApart qs → IsNamed (identifier_parts es w scope qs id))
-    (λ id h qs k. identifier_named es w scope id placed h qs k) (attribute_identifiers a.declared) (declared_hold es scope a.declared good)) ps all
-export_named es w scope placed (Exports.Operation o) g ps all = operation_named es w scope o placed g ps all
+export_named : (es : List Entry) (w : Written) (ops : List Signature) (scope : ℕ) → HavePlaces es w → (x : Export) → Good es scope (export_steps x) × ExportSigned es ops scope x
+    → (ps : List Part) → AllApart ps → IsNamed (export_parts es w ops scope ps x)
+export_named es w ops scope placed (Exports.Pragma p) (g, signed) ps all = ends ps all
+export_named es w ops scope placed (Exports.Declaration x) (g, signed) ps all = declaration_named es w scope x placed g ps all
+export_named es w ops scope placed (Exports.Attribute a) (g, signed) ps all =
+    each_named (identifier_parts es ops scope (is_set a.declared)) (attribute_identifiers a.declared)
+    (all_map (IsAccessed es ops scope a.declared) (λ id. (qs : List Part) → AllApart qs → IsNamed (identifier_parts es ops scope (is_set a.declared) qs id))
+    (λ id h qs k. identifier_named es ops scope a.declared id h qs k) (attribute_identifiers a.declared) signed) ps all
+export_named es w ops scope placed (Exports.Operation o) (g, signed) ps all = operation_named es ops scope o signed g ps all
+
+both_each : {T : Type 0} (P Q : T → Type 0) (xs : List T) → AllByRecursion P xs → AllByRecursion Q xs → AllByRecursion (λ x. P x × Q x) xs
+both_each P Q [] h k = tt
+both_each P Q (x ∷ xs) (h, hs) (k, ks) = ((h, k), both_each P Q xs hs ks)
 
 export_closed : (x : Export) → Closed (export_steps x)
 export_closed x = closed (export_asks {ls = []} x)
 
-interface_named : (es : List Entry) (w : Written) (scope : ℕ) (i : Interface) → HavePlaces es w → Good es scope (interface_steps i) → (ps : List Part) → AllApart ps
-    → IsNamed (interface_parts es w scope ps i)
-interface_named es w scope (Ahead id) placed g ps all = ends ps all
-interface_named es w scope (Defined id bases exports) placed g ps all =
+interface_named : (es : List Entry) (w : Written) (ops : List Signature) (scope : ℕ) (i : Interface) → HavePlaces es w → InterfaceSigned es ops scope i → Good es scope (interface_steps i)
+    → (ps : List Part) → AllApart ps → IsNamed (interface_parts es w ops scope ps i)
+interface_named es w ops scope (Ahead id) placed signed g ps all = ends ps all
+interface_named es w ops scope (Defined id bases exports) placed (e, named_so, signed) g ps all =
     let xs = exports.items in
     let named = map (HasBase id) (optional_parts bases) in
     let all_exports = flat_map export_steps xs in
@@ -285,48 +283,53 @@ interface_named es w scope (Defined id bases exports) placed g ps all =
     let body = (good_both es scope named (Enters id ∷ (inner ++ Leaves ∷ [])) (closed (bases_ask {ls = []} id bases)) moved).1 in
     let exports_closed : Closed all_exports = each_closed export_steps export_closed xs in
     let inside = good_inside es scope id inner there.number (both_closed (one_closed (Defines id) tt) exports_closed) there.is body in
-    let next : suc there.number ≡ there.number + 1 = omega arith in
+    let told = entry_told es scope id there.number there.is in
+    let same : there.number ≡ e = cc in
+    let next : suc there.number ≡ e + 1 = omega (arith, same) in
     let good = subst (λ k. Good es k all_exports) next (good_tail es (suc there.number) (Defines id) all_exports tt inside).1 in
-    named_by (entry_of es scope id) there.number _ (entry_told es scope id there.number there.is)
-    (each_named (export_parts es w (there.number + 1)) xs
-    (all_map (λ x. Good es (there.number + 1) (export_steps x)) (λ x. (qs : List Part) → AllApart qs → IsNamed (export_parts es w (there.number + 1) qs x))
-    (λ x h qs k. export_named es w (there.number + 1) placed x h qs k) xs (good_each es (there.number + 1) export_steps export_closed xs good)) ps all)
+    named_by (entry_of es scope id) e _ named_so
+    (each_named (export_parts es w ops (e + 1)) xs
+    (all_map (λ x. Good es (e + 1) (export_steps x) × ExportSigned es ops (e + 1) x) (λ x. (qs : List Part) → AllApart qs → IsNamed (export_parts es w ops (e + 1) qs x))
+    (λ x h qs k. export_named es w ops (e + 1) placed x h qs k) xs
+    (both_each (λ x. Good es (e + 1) (export_steps x)) (ExportSigned es ops (e + 1)) xs (good_each es (e + 1) export_steps export_closed xs good) signed)) ps all)
 
 -- ---- modules and files
 
 mutual
-  definition_named : (es : List Entry) (w : Written) (scope : ℕ) (d : Definition) → HavePlaces es w → Good es scope (definition_steps d) → (ps : List Part) → AllApart ps
-      → IsNamed (definition_parts es w scope ps d)
-  definition_named es w scope (Pragma p) placed g ps all = ends ps all
-  definition_named es w scope (Declared x) placed g ps all = declaration_named es w scope x placed g ps all
-  definition_named es w scope (InterfaceDcl i) placed g ps all = interface_named es w scope i placed g ps all
-  definition_named es w scope (Module' id shape row) placed g ps all =
+  definition_named : (es : List Entry) (w : Written) (ops : List Signature) (scope : ℕ) (d : Definition) → HavePlaces es w → DefinitionSigned es ops scope d → Good es scope (definition_steps d)
+      → (ps : List Part) → AllApart ps → IsNamed (definition_parts es w ops scope ps d)
+  definition_named es w ops scope (Pragma p) placed signed g ps all = ends ps all
+  definition_named es w ops scope (Declared x) placed signed g ps all = declaration_named es w scope x placed g ps all
+  definition_named es w ops scope (InterfaceDcl i) placed signed g ps all = interface_named es w ops scope i placed signed g ps all
+  definition_named es w ops scope (Module' id shape row) placed (e, named_so, signed) g ps all =
       let body = definitions_steps row in
       let row_closed : Closed body = closed (definitions_ask {ls = []} row) in
       let head = good_tail es scope (Declares Kinds.Module id) (Enters id ∷ body ++ Leaves ∷ []) tt g in
       let there = there_of es scope id Kinds.Module head.0.entries.0 in
       let inside = good_inside es scope id body there.number row_closed there.is head.1 in
-      let next : suc there.number ≡ there.number + 1 = omega arith in
+      let told = entry_told es scope id there.number there.is in
+      let same : there.number ≡ e = cc in
+      let next : suc there.number ≡ e + 1 = omega (arith, same) in
       let good = subst (λ k. Good es k body) next inside in
-      named_by (entry_of es scope id) there.number _ (entry_told es scope id there.number there.is)
-      (definitions_named es w (there.number + 1) row placed good ps all)
+      named_by (entry_of es scope id) e _ named_so (definitions_named es w ops (e + 1) row placed signed good ps all)
 
-  definitions_named : {n : _} → (es : List Entry) (w : Written) (scope : ℕ) (row : Row_of-Definition n) → HavePlaces es w → Good es scope (definitions_steps row) → (ps : List Part) → AllApart ps
-      → IsNamed (definitions_parts es w scope ps row)
-  definitions_named es w scope end_of-Definition placed g ps all = ends ps all
-  definitions_named es w scope (more_of-Definition d rest) placed g ps all =
+  definitions_named : {n : _} → (es : List Entry) (w : Written) (ops : List Signature) (scope : ℕ) (row : Row_of-Definition n) → HavePlaces es w → DefinitionsSigned es ops scope row
+      → Good es scope (definitions_steps row) → (ps : List Part) → AllApart ps → IsNamed (definitions_parts es w ops scope ps row)
+  definitions_named es w ops scope end_of-Definition placed signed g ps all = ends ps all
+  definitions_named es w ops scope (more_of-Definition d rest) placed (first, others) g ps all =
       let both = good_both es scope (definition_steps d) (definitions_steps rest) (closed (definition_asks {ls = []} d)) g in
-      named_then (definition_parts es w scope ps d) _ (definition_named es w scope d placed both.0 ps all)
-      (λ next more. definitions_named es w scope rest placed both.1 next more)
+      named_then (definition_parts es w ops scope ps d) _ (definition_named es w ops scope d placed first both.0 ps all)
+      (λ next more. definitions_named es w ops scope rest placed others both.1 next more)
 
 definition_closed : (d : Definition) → Closed (definition_steps d)
 definition_closed d = closed (definition_asks {ls = []} d)
 
-pub file_named : (spec : Spec) (names : Whole) (w : Written) → AreNames spec.definitions.items names → HavePlaces names.entries w
-    → IsNamed (file_parts names.entries w spec.definitions.items)
-file_named spec names w own placed =
+pub file_named : (spec : Spec) (names : Whole) (w : Written) (ops : List Signature) → AreNames spec.definitions.items names → HavePlaces names.entries w
+    → AreSigned names.entries ops spec.definitions.items → IsNamed (file_parts names.entries w ops spec.definitions.items)
+file_named spec names w ops own placed signed =
     let es = names.entries in
     let ds = spec.definitions.items in
-    each_named (definition_parts es w 0) ds
-    (all_map (λ d. Good es 0 (definition_steps d)) (λ d. (qs : List Part) → AllApart qs → IsNamed (definition_parts es w 0 qs d))
-    (λ d h qs k. definition_named es w 0 d placed h qs k) ds (good_each es 0 definition_steps definition_closed ds (spec_good spec names own))) [] tt
+    each_named (definition_parts es w ops 0) ds
+    (all_map (λ d. DefinitionSigned es ops 0 d × Good es 0 (definition_steps d)) (λ d. (qs : List Part) → AllApart qs → IsNamed (definition_parts es w ops 0 qs d))
+    (λ d h qs k. definition_named es w ops 0 d placed h.0 h.1 qs k) ds
+    (both_each (DefinitionSigned es ops 0) (λ d. Good es 0 (definition_steps d)) ds signed (good_each es 0 definition_steps definition_closed ds (spec_good spec names own)))) [] tt

@@ -6,3 +6,4 @@ pub mod Picked
 pub mod Good
 pub mod Parted
 pub mod Filed
+pub mod Signs

@@ -15,6 +15,7 @@ use Rattle.scoped_names.specs.Reading.{◌>>◌}
 use Rattle.written_types.specs.Faults.{each}
 use Rattle.written_types.specs.SimpleTypes.{entry_of}
 use Rattle.written_types.specs.Written.{Written}
+use Rattle.written_operations.specs.declared.signature.Signature.{Signature}
 use Rattle.written_types.proofs.Walks.{goes_on}
 use Rattle.written_names.specs.Types.{Part, Parted, all_case_names, all_member_names, case_name, case_parts, cases_parts, member_names, member_parts, members_parts, name_of, names_in, names_of_cases, names_of_members, struct_parts, switch_parts, type_parts, typed, union_parts}
 use Rattle.written_names.specs.Definitions.{definition_parts, definitions_parts}
@@ -150,23 +151,23 @@ union_walked es w scope ps u e own chosen first names x rest told called is swit
 
 -- ---- modules
 
-pub module_told : (es : List Entry) (w : Written) (scope : ℕ) (ps : List Part) (m : ModuleRecord)
-    → definition_parts es w scope ps (Module m) ≡ (entry_of es scope m.identifier >> λ e. each (definition_parts es w (e + 1)) ps m.definitions.items)
-module_told es w scope ps m =
-    ap (λ walk. walk es w scope ps) (module_walk {A = Walk} {B = Walk} (λ x es w scope ps. definition_parts es w scope ps x)
-    (λ n row es w scope ps. definitions_parts es w scope ps row) (λ id rest es w scope ps. entry_of es scope id >> λ e. rest es w (e + 1) ps)
-    (λ es w scope ps. Ok ps) (λ x rest es w scope ps. definition_parts es w scope ps x >> λ next. rest es w scope next)
-    (λ xs es w scope ps. each (definition_parts es w scope) ps xs)
+pub module_told : (es : List Entry) (w : Written) (ops : List Signature) (scope : ℕ) (ps : List Part) (m : ModuleRecord)
+    → definition_parts es w ops scope ps (Module m) ≡ (entry_of es scope m.identifier >> λ e. each (definition_parts es w ops (e + 1)) ps m.definitions.items)
+module_told es w ops scope ps m =
+    ap (λ walk. walk es w scope ps) (module_walk {A = Walk} {B = Walk} (λ x es w scope ps. definition_parts es w ops scope ps x)
+    (λ n row es w scope ps. definitions_parts es w ops scope ps row) (λ id rest es w scope ps. entry_of es scope id >> λ e. rest es w (e + 1) ps)
+    (λ es w scope ps. Ok ps) (λ x rest es w scope ps. definition_parts es w ops scope ps x >> λ next. rest es w scope next)
+    (λ xs es w scope ps. each (definition_parts es w ops scope) ps xs)
     (λ id shape row. refl) refl (λ n x row. refl) refl (λ x xs. refl) m)
 
 -- a module whose entry is found
-pub module_entered : (es : List Entry) (w : Written) (scope : ℕ) (ps : List Part) (m : ModuleRecord) (x : Definition) (definitions : List Definition) (e : ℕ)
+pub module_entered : (es : List Entry) (w : Written) (ops : List Signature) (scope : ℕ) (ps : List Part) (m : ModuleRecord) (x : Definition) (definitions : List Definition) (e : ℕ)
     → x ≡ Module m → definitions ≡ m.definitions.items → Ok e ≡ entry_of es scope m.identifier
-    → each (definition_parts es w (e + 1)) ps definitions ≡ definition_parts es w scope ps x
-module_entered es w scope ps m x definitions e is_module all told =
-    ap (each (definition_parts es w (e + 1)) ps) all
-    ∙ sym (goes_on (entry_of es scope m.identifier) e (λ e. each (definition_parts es w (e + 1)) ps m.definitions.items) (sym told))
-    ∙ sym (module_told es w scope ps m) ∙ sym (ap (definition_parts es w scope ps) is_module)
+    → each (definition_parts es w ops (e + 1)) ps definitions ≡ definition_parts es w ops scope ps x
+module_entered es w ops scope ps m x definitions e is_module all told =
+    ap (each (definition_parts es w ops (e + 1)) ps) all
+    ∙ sym (goes_on (entry_of es scope m.identifier) e (λ e. each (definition_parts es w ops (e + 1)) ps m.definitions.items) (sym told))
+    ∙ sym (module_told es w ops scope ps m) ∙ sym (ap (definition_parts es w ops scope ps) is_module)
 
 -- one part alone
 pub each_one : {T : Type 0} (one : List Part → T → Parted) (ps : List Part) (x : T) → one ps x ≡ each one ps (x ∷ [])

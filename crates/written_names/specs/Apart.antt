@@ -1,10 +1,10 @@
--- What an entry of each kind has where a whole file is written.
-use Rattle.std.specs.Prelude.{◌≡◌, ◌⊎◌, ℕ, List, Option, Some, slice_get}
+-- What the entries of types and exceptions have where a whole file is written.
+use Rattle.std.specs.Prelude.{◌≡◌, ℕ, List, Option, Some, slice_get}
 use Rattle.name_table.specs.declared.entry.EntryKind.{EntryKind}
 use Rattle.name_table.specs.declared.entry.EntryKind.TheVariants as Kinds
 use Rattle.name_table.specs.Entry.{Entry}
 use Rattle.written_types.specs.declared.place.Place.{Place}
-use Rattle.written_types.specs.declared.place.Place.TheVariants.{Typed, Raised, Called, Got, GotAndSet}
+use Rattle.written_types.specs.declared.place.Place.TheVariants.{Typed, Raised}
 use Rattle.written_types.specs.Written.{Written, place_of}
 
 abbrev pub IsType : Option Place → Type 0
@@ -12,12 +12,6 @@ IsType p = (n : ℕ) × (p ≡ Some (Typed n))
 
 abbrev pub IsRaised : Option Place → Type 0
 IsRaised p = (frame : ℕ) × (place : ℕ) × (p ≡ Some (Raised frame place))
-
-abbrev pub IsCalled : Option Place → Type 0
-IsCalled p = (request : ℕ) × (p ≡ Some (Called request))
-
-abbrev pub IsAccessed : Option Place → Type 0
-IsAccessed p = (request : ℕ) × ((p ≡ Some (Got request)) ⊎ (p ≡ Some (GotAndSet request)))
 
 abbrev pub HasItsPlace : EntryKind → Option Place → Type 0
 HasItsPlace Kinds.Module p = Unit {0}
@@ -29,8 +23,8 @@ HasItsPlace Kinds.Enumerator p = Unit {0}
 HasItsPlace Kinds.Typedef p = IsType p
 HasItsPlace Kinds.Const p = Unit {0}
 HasItsPlace Kinds.Exception p = IsRaised p
-HasItsPlace Kinds.Operation p = IsCalled p
-HasItsPlace Kinds.Attribute p = IsAccessed p
+HasItsPlace Kinds.Operation p = Unit {0}
+HasItsPlace Kinds.Attribute p = Unit {0}
 
 pub record HavePlaces (es : List Entry) (w : Written) : Type 0 where
   pub each : (n : ℕ) (e : Entry) → slice_get es n ≡ Some e → HasItsPlace e.kind (place_of w n)

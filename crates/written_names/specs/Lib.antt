@@ -3,3 +3,4 @@ pub mod Types
 pub mod Definitions
 pub mod Named
 pub mod Apart
+pub mod Signed

@@ -5,14 +5,15 @@ ghost use Rattle.std.specs.List.{filter};
 ghost use Rattle.written_operations.specs.Oneway.{parts_of};
 ghost use Rattle.idl_tree.specs.Lists.{parts};
 ghost use Rattle.written_types.specs.Faults.{Tells};
-ghost use Rattle.written_names.specs.Definitions.{call, getting, goes_in, goes_out, identifier_parts, operation_parts, param_name, reply_names, request_names, setting};
+ghost use Rattle.written_names.specs.Definitions.{call, getting, goes_in, goes_out, identifier_parts, is_role as is_this_role, operation_parts, param_name, reply_names, request_names, request_of as its_request, setting, setting_parts};
 
 use crate::list::{NameList, PartList};
 use idl_tree::definitions::{Direction, Operation, Param};
 use idl_tree::names::{Leaf, Listed};
 use scoped_names::Names;
 use std::alloc::{AllocError, Global};
-use written_types::{BuildFault, Place, TypeTable, declared_entry};
+use written_operations::{Role, Signature};
+use written_types::{BuildFault, declared_entry};
 
 fn is_in(direction: Direction) -> bool
     ensures { result ≡ goes_in direction }
@@ -54,6 +55,29 @@ impl<'a> NameList<'a> {
         }
         Ok(())
     }
+}
+
+fn is_role(role: Role, other: Role) -> bool
+    ensures { result ≡ is_this_role role other }
+{
+    match (role, other) {
+        (Role::Operation, Role::Operation)
+        | (Role::Getting, Role::Getting)
+        | (Role::Setting, Role::Setting) => true,
+        _ => false,
+    }
+}
+
+/// The frame of the request by which an entry is called in the role.
+fn request_of(signatures: &[Signature], entry: usize, role: Role) -> Option<u32>
+    ensures { result ≡ its_request signatures.now entry role }
+{
+    for signature in signatures {
+        if entry == signature.entry && is_role(role, signature.role) {
+            return Some(signature.request);
+        }
+    }
+    None
 }
 
 /// The names of what a request carries.
@@ -133,18 +157,38 @@ impl<'a> PartList<'a> {
         &mut self,
         alloc: Global,
         names: &Names<'a>,
-        types: &TypeTable,
+        signatures: &[Signature],
         scope: usize,
         o: &Operation<'a>,
     ) -> Result<(), BuildFault>
-        ensures { Tells result (λ u. self.new) (operation_parts names.now.entries types.now scope self.old o.now) }
+        ensures { Tells result (λ u. self.new) (operation_parts names.now.entries signatures.now scope self.old o.now) }
     {
         let entry = declared_entry(names, scope, o.identifier)?;
-        match types.place(entry) {
-            Some(Place::Called { request }) => {
+        match request_of(signatures, entry, Role::Operation) {
+            Some(request) => {
                 self.add_call(request as usize, sent(alloc, o)?, returned(alloc, o)?)
             }
-            _ => Err(BuildFault::OtherNames),
+            None => Err(BuildFault::OtherNames),
+        }
+    }
+
+    /// An attribute is set too, if it may be.
+    fn name_setting(
+        &mut self,
+        alloc: Global,
+        signatures: &[Signature],
+        entry: usize,
+        name: &'a str,
+        is_set: bool,
+    ) -> Result<(), BuildFault>
+        ensures { Tells result (λ u. self.new) (setting_parts signatures.now entry name.now is_set self.old) }
+    {
+        if !is_set {
+            return Ok(());
+        }
+        match request_of(signatures, entry, Role::Setting) {
+            Some(request) => self.add_setting(alloc, request as usize, name),
+            None => Err(BuildFault::OtherNames),
         }
     }
 
@@ -156,22 +200,21 @@ impl<'a> PartList<'a> {
         &mut self,
         alloc: Global,
         names: &Names<'a>,
-        types: &TypeTable,
+        signatures: &[Signature],
         scope: usize,
+        is_set: bool,
         identifier: Leaf<'a>,
     ) -> Result<(), BuildFault>
         ensures { Tells result (λ u. self.new)
-            (identifier_parts names.now.entries types.now scope self.old identifier.entry) }
+            (identifier_parts names.now.entries signatures.now scope is_set self.old identifier.entry) }
     {
         let entry = declared_entry(names, scope, identifier)?;
-        match types.place(entry) {
-            Some(Place::Got { request }) => self.add_getting(alloc, request as usize),
-            Some(Place::GotAndSet { request }) => {
-                let request = request as usize;
-                self.add_getting(alloc, request)?;
-                self.add_setting(alloc, request + 2, identifier.name())
+        match request_of(signatures, entry, Role::Getting) {
+            Some(request) => {
+                self.add_getting(alloc, request as usize)?;
+                self.name_setting(alloc, signatures, entry, identifier.name(), is_set)
             }
-            _ => Err(BuildFault::OtherNames),
+            None => Err(BuildFault::OtherNames),
         }
     }
 }

@@ -2,7 +2,7 @@
 
 ghost use Rattle.std.specs.Prelude.{◌≡◌, [], map, replicate, All, IfOk, OnOk};
 ghost use Rattle.part_names.specs.Names.{AreApart};
-ghost use Rattle.written_names.specs.Named.{AreNamed, WritesTypes, by_node, placed};
+ghost use Rattle.written_names.specs.Named.{AreNamed, Writes, by_node, placed};
 
 use crate::definitions::parts_of_file;
 use crate::list::{NamedPart, PartList};
@@ -11,6 +11,7 @@ use part_names::{NodeNames, PartNames};
 use scoped_names::Names;
 use std::alloc::{AllocError, Global};
 use type_model::Name;
+use written_operations::Signature;
 use written_types::{BuildFault, TypeTable};
 
 /// So many nodes without names.
@@ -78,12 +79,13 @@ pub fn name_parts<'a>(
     alloc: Global,
     names: &Names<'a>,
     types: &TypeTable,
+    signatures: &[Signature],
     spec: &Spec<'a>,
 ) -> Result<PartNames, AllocError>
-    requires { WritesTypes spec.now.definitions.items names.now types.now }
-    ensures { IfOk result (AreNamed spec.now.definitions.items names.now types.now) }
+    requires { Writes spec.now.definitions.items names.now types.now signatures.now }
+    ensures { IfOk result (AreNamed spec.now.definitions.items names.now types.now signatures.now) }
 {
-    match parts_of_file(alloc, names, types, spec) {
+    match parts_of_file(alloc, names, types, signatures, spec) {
         Ok(list) => table_of(alloc, types.nodes().len(), &list),
         Err(BuildFault::NoMemory) => Err(AllocError),
         Err(_) => unreachable!(),

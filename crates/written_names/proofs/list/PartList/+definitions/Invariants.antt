@@ -7,5 +7,5 @@ use Rattle.written_names.proofs.list.PartList.+definitions.Given as goal
 
 abbrev pub invariant-name_definitions-loop-definition : goal.invariant-name_definitions-loop-definition
 invariant-name_definitions-loop-definition l =
-    each (definition_parts l.names.entries l.types l.scope) l.self (drop l.definition-index l.definitions)
-    ≡ each (definition_parts l.names.entries l.types l.scope) l.fn.self l.definitions
+    each (definition_parts l.names.entries l.types l.signatures l.scope) l.self (drop l.definition-index l.definitions)
+    ≡ each (definition_parts l.names.entries l.types l.signatures l.scope) l.fn.self l.definitions

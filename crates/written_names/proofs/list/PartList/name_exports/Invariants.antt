@@ -5,5 +5,5 @@ use Rattle.written_names.proofs.list.PartList.name_exports.Given as goal
 
 abbrev pub invariant-loop-export : goal.invariant-loop-export
 invariant-loop-export l =
-    each (export_parts l.names.entries l.types l.scope) l.self (drop l.export-index l.exports)
-    ≡ each (export_parts l.names.entries l.types l.scope) l.fn.self l.exports
+    each (export_parts l.names.entries l.types l.signatures l.scope) l.self (drop l.export-index l.exports)
+    ≡ each (export_parts l.names.entries l.types l.signatures l.scope) l.fn.self l.exports

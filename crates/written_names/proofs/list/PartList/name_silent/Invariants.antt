@@ -7,5 +7,5 @@ use Rattle.written_names.proofs.list.PartList.name_silent.Given as goal
 
 abbrev pub invariant-loop-identifier : goal.invariant-loop-identifier
 invariant-loop-identifier l =
-    each (identifier_parts l.names.entries l.types l.scope) l.self (parts_left l.identifier-iterator)
-    ≡ each (identifier_parts l.names.entries l.types l.scope) l.fn.self (parts l.identifiers)
+    each (identifier_parts l.names.entries l.signatures l.scope l.is_set) l.self (parts_left l.identifier-iterator)
+    ≡ each (identifier_parts l.names.entries l.signatures l.scope l.is_set) l.fn.self (parts l.identifiers)
