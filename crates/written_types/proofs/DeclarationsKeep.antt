@@ -46,7 +46,7 @@ use Rattle.written_types.proofs.Fine.{Fine, and_then, at_most_fine, given, weake
 use Rattle.written_types.proofs.Growing.{part_stays, push_grows, stays}
 use Rattle.written_types.proofs.Keeping.{IsUnplaced, Keeps, Later, begins_unplaced, later_none, later_on, with_begun}
 use Rattle.written_types.proofs.Naming.{Goes, each_silent, entered, entry_is, silent_append, silent_keeps, type_named, unknown, unplaced}
-use Rattle.written_types.proofs.Settled.{AllSettled, behind, both, both_behind, known_stays}
+use Rattle.written_types.proofs.Settled.{AllSettled, Known, behind, both, both_behind, within}
 use Rattle.written_types.proofs.SimpleKeep.{Wrote, array_keeps, basic_part, const_keeps, const_silent, enum_keeps, still_fine}
 use Rattle.written_types.proofs.Spots.{is_some_and}
 use Rattle.written_types.proofs.StructsKeep.{Opens, first_members, opens_fine, spec_keeps, struct_keeps, union_keeps}
@@ -154,6 +154,7 @@ pub record Frames (es : List Entry) (g : List Introduction) (begun : ℕ → Typ
   pub later : Later w n.written
   pub frame : slice_get n.written.nodes n.number ≡ Some (Frame ms)
   pub number : n.number ≡ length w.nodes
+  pub more : length n.written.nodes ≡ length w.nodes + 1
   pub places : n.written.places ≡ w.places
   pub exceptions : n.written.exceptions ≡ w.exceptions
 
@@ -171,6 +172,7 @@ frame_fine es g begun w ms lines line i right =
       later = later_on w v (with_node v (Frame ms) lines) counts.later (node_later v (Frame ms) lines);
       frame = get_push_last v.nodes (Frame ms);
       number = ap length counts.nodes;
+      more = length-append v.nodes (Frame ms ∷ []) ∙ ap (λ graph. length graph + 1) counts.nodes;
       places = counts.places;
       exceptions = counts.exceptions;
     }))
@@ -193,9 +195,13 @@ exception_fine es g begun w e line x m h at kind ended =
     (is_some_and (slice_get ms 0) (λ n. slice_get f.written.nodes n ≡ Some (Text 0)) 9 (h.right.first 9 refl) text) in
     let raised = with_placed f.written e (Raised f.number (length f.written.exceptions)) (f.written.exceptions ++ (e, f.number) ∷ []) in
     let long = length-append f.written.exceptions ((e, f.number) ∷ []) in
+    let few = h.keeps.sound.exceptions in
+    let same = ap length frames.exceptions in
+    let more = frames.more in
+    let room : length f.written.exceptions + 1 ≤ length f.written.nodes = omega (arith, few, same, more) in
     subst (Fine (Goes es g begun w)) (sym (raised_is f.written e f.number none))
     (record {
-      keeps = raise_kept es g begun f.written e f.number x frames.keeps knows none at kind ended id;
+      keeps = raise_kept es g begun f.written e f.number x frames.keeps knows none at kind ended room id;
       later = later_on w v raised h.later (later_on v f.written raised frames.later
           (place_later f.written e (Raised f.number (length f.written.exceptions)) (f.written.exceptions ++ (e, f.number) ∷ []) none (omega (arith, long))));
     })))
@@ -214,24 +220,21 @@ exception_fine es g begun w e line x m h at kind ended =
 
 except_keeps : (es : List Entry) (g : List Introduction) (begun : ℕ → Type 0) (w : Written) (scope : ℕ) (x : Except) → Keeps es g begun w
     → AllSettled es g scope (except_steps x) → Fine (Goes es (behind es g scope (except_steps x)) begun w) (except es w scope x)
-except_keeps es g begun w scope x i (declares, enters, body) =
+except_keeps es g begun w scope x i (declares, rest) =
     let id = x.identifier in
     let d = entered es g scope id Kinds.Exception declares.holds.entries.0 declares.new in
-    let e = d.entry in
-    let new = unknown d refl in
-    let ended : begun e → ⊥ = λ b. new (i.begun_known e b) in
-    let none = unplaced es g begun w e d.value i d.there new in
     let named = Stands scope id Kinds.Exception ∷ g in
-    let begins = begins_unplaced es g begun w e d.value scope id i d.is d.there d.kind_is none in
     let inner = flat_map member_steps x.members.items in
-    let inner_closed = each_closed member_steps member_closed x.members.items in
-    let next : suc e ≡ e + 1 = omega arith in
-    let scopes : scope_of es scope id ≡ e + 1 = ap scope_number d.is ∙ next in
-    let at_inner = subst (λ k. AllSettled es named k (inner ++ Leaves ∷ [])) scopes body in
-    let split = both es named (e + 1) inner (Leaves ∷ []) inner_closed at_inner in
+    let inside = within es named scope id inner (each_closed member_steps member_closed x.members.items) rest in
+    let e = inside.entry in
+    let first = d.is in
+    let second = inside.is in
+    let same : d.entry ≡ e = cc in
+    let at : slice_get es e ≡ Some d.value = subst (λ k. slice_get es k ≡ Some d.value) same d.there in
+    let new : Known es g e → ⊥ = subst (λ k. Known es g k → ⊥) same (unknown d refl) in
+    let ended : begun e → ⊥ = λ b. new (i.begun_known e b) in
+    let begins = begins_unplaced es g begun w e d.value scope id i second at d.kind_is (unplaced es g begun w e d.value i at new) in
     let more = behind es named (e + 1) inner in
-    let whole : behind es g scope (except_steps x) ≡ more =
-    ap (λ k. behind es named k (inner ++ Leaves ∷ [])) scopes ∙ both_behind es named (e + 1) inner (Leaves ∷ []) inner_closed split.0 in
     let start : HasMembers es named (with_begun e begun) w (9 ∷ []) 1 (with_members_of w (id_member (line_of id))) = record {
       keeps = begins;
       later = later_none w;
@@ -244,13 +247,13 @@ except_keeps es g begun w scope x i (declares, enters, body) =
         some = omega arith;
       };
     } in
-    subst (λ k. Fine (Goes es k begun w) (except es w scope x)) (sym whole)
-    (given (Goes es more begun w) (entry_of es scope id) e _ (entry_is es scope id e d.is)
+    subst (λ k. Fine (Goes es k begun w) (except es w scope x)) (sym inside.whole)
+    (given (Goes es more begun w) (entry_of es scope id) e _ (entry_is es scope id e second)
     (and_then (HasMembers es more (with_begun e begun) w (9 ∷ []) 1) (Goes es more begun w) (each (with_member es (e + 1)) (with_members_of w (id_member (line_of id))) x.members.items)
     (λ m. exception_added m e (line_of id))
     (each_keeps es (λ k m. HasMembers es k (with_begun e begun) w (9 ∷ []) 1 m) (with_member es (e + 1)) member_steps (e + 1) member_closed
-    (λ k m y settled has. member_keeps es k (with_begun e begun) w (9 ∷ []) (e + 1) m y has settled) named (with_members_of w (id_member (line_of id))) x.members.items split.0 start)
-    (λ m h. exception_fine es more begun w e (line_of id) d.value m h d.there d.kind_is ended)))
+    (λ k m y settled has. member_keeps es k (with_begun e begun) w (9 ∷ []) (e + 1) m y has settled) named (with_members_of w (id_member (line_of id))) x.members.items inside.inner start)
+    (λ m h. exception_fine es more begun w e (line_of id) d.value m h at d.kind_is ended)))
 
 -- ---- declarations
 

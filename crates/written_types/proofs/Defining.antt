@@ -76,7 +76,7 @@ open_kept es g more begun w e x lines i widens none at body new fits =
       ahead = λ f n has place yet. ahead f n has yet (cases f (Typed n) place);
       left = λ n is. left n (push_cases w.nodes undefined n undefined is);
       basic = λ n old is. push_low w.nodes undefined n old (i.basic n old is);
-      sound = record { limited = sound.limited; nodes = sound.nodes; counted = sound.counted; members = sound.members; lines = sound.lines };
+      sound = record { limited = sound.limited; nodes = sound.nodes; counted = sound.counted; members = sound.members; lines = sound.lines; exceptions = sound.exceptions };
     }
   where
     cases : (f : ℕ) (q : Place) → slice_get (slice_set w.places e (Some (Typed (next w)))) f ≡ Some (Some q)
@@ -204,6 +204,7 @@ define_kept es g begun w e number node held i body place ended done right define
         counted = let more = sum_set members_in w.nodes number undefined node open_yet refl in omega (arith, more, room);
         members = i.sound.members;
         lines = length-set w.nodes number node ∙ i.sound.lines ∙ ap (λ n. n + 14) (sym (held_long w.lines number held));
+        exceptions = let long = length-set w.nodes number node in let few = i.sound.exceptions in omega (arith, long, few);
       };
     }
   where
@@ -279,14 +280,14 @@ node_set_is w number node held open_yet =
 
 pub raise_kept : (es : List Entry) (g : List Introduction) (begun : ℕ → Type 0) (w : Written) (e frame : ℕ) (x : Entry)
     → Keeps es g (with_begun e begun) w → Known es g e → slice_get w.places e ≡ Some None → slice_get es e ≡ Some x → x.kind ≡ Kinds.Exception
-    → (begun e → ⊥) → IsIdFrame w.nodes frame
+    → (begun e → ⊥) → length w.exceptions + 1 ≤ length w.nodes → IsIdFrame w.nodes frame
     → Keeps es g begun (with_placed w e (Raised frame (length w.exceptions)) (w.exceptions ++ (e, frame) ∷ []))
-raise_kept es g begun w e frame x i knows none at kind ended id =
+raise_kept es g begun w e frame x i knows none at kind ended room id =
     let place = Raised frame (length w.exceptions) in
     let long = length-append w.exceptions ((e, frame) ∷ []) in
     place_kept es g g (with_begun e begun) begun w e x place (w.exceptions ++ (e, frame) ∷ []) i
     (record { grows = λ f k. k; only = λ f k. inr k; here = knows; done = λ s d. d; undone = λ s d. d }) none at (ap has_body kind)
-    (has x.kind kind) ended (λ f b. inr b) narrow (omega (arith, long)) (omega (arith, long)) (λ k y is. each k y (push_cases w.exceptions (e, frame) k y is))
+    (has x.kind kind) ended (λ f b. inr b) narrow (omega (arith, long)) (omega (arith, long, room)) (omega (arith, long)) (λ k y is. each k y (push_cases w.exceptions (e, frame) k y is))
   where
     has : (k : EntryKind) → k ≡ Kinds.Exception → HasPlace k (begun e) (Some (Some (Raised frame (length w.exceptions))))
     has k is = subst (λ j. HasPlace j (begun e) (Some (Some (Raised frame (length w.exceptions))))) (sym is) (inr (frame, length w.exceptions, refl))

@@ -1,15 +1,15 @@
 -- Nodes to which others are added, and in which what has no definition gets one: what is right stays right.
-use Rattle.std.proofs.Common.{◌≡◌, ◌∙◌, ◌⊎◌, inl, inr, ℕ, ◌+◌, ◌<◌, ◌≤◌, true, false, All, List, [], ◌∷◌, ◌++◌, length, Option, Some, None, refl, sym, ap, subst, arith}
+use Rattle.std.proofs.Common.{◌≡◌, ◌∙◌, ◌⊎◌, inl, inr, ℕ, zero, suc, ◌+◌, ◌<◌, ◌≤◌, true, false, All, List, [], ◌∷◌, ◌++◌, length, Option, Some, None, refl, sym, ap, subst, arith}
 use Rattle.std.specs.Prelude.{slice_get, slice_index_or, slice_set, IfSome, IsSomeAnd, ℤ}
 use Rattle.std.proofs.lemmas.List.Elements.{All-weaker}
-use Rattle.std.proofs.lemmas.Option.{get_or_from_slice_get}
+use Rattle.std.proofs.lemmas.Option.{get_or_from_slice_get, slice_get_within}
 use Rattle.type_graph.specs.declared.node.Node.{Node}
 use Rattle.type_graph.specs.declared.node.Node.TheVariants.{Whole, Octet, Char, Boolean, Enum, Text, Seq, Array, Struct, Union, Frame}
 use Rattle.type_graph.specs.Value.{IsNumber, node_at}
 use Rattle.type_graph.specs.GraphRules.{AreMembers, HasOther, IsNoFrame, IsNode, IsPart, IsSwitch, IsUnion}
 use Rattle.written_types.specs.Sound.{BeginsWithText, IsFrame, IsFrameAt, IsIdFrame, IsRight}
 use Rattle.written_types.specs.Written.{undefined}
-use Rattle.written_types.proofs.Spots.{is_some_and, push_low, set_cases, set_here, set_other, same_or_not, some_is}
+use Rattle.written_types.proofs.Spots.{is_some_and, push_low, set_cases, set_here, set_other, same_or_not, some_is, there_at}
 
 -- a node stays, or it had no definition and is one that others may refer to
 abbrev pub Becomes : List Node → ℕ → Node → Type 0
@@ -49,6 +49,22 @@ grows_on graph mid later first second n node is = by (first n node is)
 
 pub parts_stay : (graph later : List Node) → Grows graph later → (ns : List ℕ) → All (IsPart graph) ns → All (IsPart later) ns
 parts_stay graph later grows ns h = All-weaker (IsPart graph) (IsPart later) (part_stays graph later grows) ns h
+
+pub grows_long : (graph later : List Node) → Grows graph later → length graph ≤ length later
+grows_long graph later grows = by (length graph) refl
+  where
+    there : (o : Option Node) → IsSomeAnd o IsNoFrame → (node : Node) × (o ≡ Some node)
+    there None h = absurd h
+    there (Some node) h = (node, refl)
+    last : (k : ℕ) (node : Node) → Becomes later k node → k < length later
+    last k node (inl same) = slice_get_within later k node same
+    last k node (inr (open_yet, part)) = let (other, is) = there (slice_get later k) part in slice_get_within later k other is
+    by : (n : ℕ) → length graph ≡ n → length graph ≤ length later
+    by zero is = omega (arith, is)
+    by (suc k) is =
+        let (node, at) = there_at graph k (omega (arith, is)) in
+        let lt = last k node (grows k node at) in
+        omega (arith, is, lt)
 
 -- a node of a kind of which one without definition isn't
 kind_stays : (P : Node → Type 0) → (P undefined → ⊥) → (graph later : List Node) → Grows graph later → (n : ℕ) → IsSomeAnd (slice_get graph n) P

@@ -32,7 +32,7 @@ use Rattle.written_types.specs.declared.place.Place.TheVariants.{Raised, Typed}
 use Rattle.written_types.specs.Faults.{of_names, or_other}
 use Rattle.written_types.specs.SimpleTypes.{entry_found, entry_of, type_found}
 use Rattle.written_types.specs.Written.{Written, placed, type_in, type_of}
-use Rattle.written_types.proofs.Keeping.{HasPlace, HasType, IsException, Keeps, Later, NeedsNothing, more_known}
+use Rattle.written_types.proofs.Keeping.{HasPlace, HasType, IsException, IsRightPlace, Keeps, Later, NeedsNothing, more_known}
 use Rattle.written_types.proofs.Settled.{AllNew, AllSettled, IsBody, IsDone, Known, Settled, behind, onto}
 use Rattle.written_types.proofs.Spots.{there_at}
 use Rattle.written_types.proofs.Walks.{goes_on}
@@ -85,6 +85,15 @@ widens es g scope l kind e is =
     undone s (inl never) = absurd never
     undone s (inr d) = d
 
+pub exceptions_stay : (es : List Entry) (g : List Introduction) (begun : ℕ → Type 0) (w : Written) (e : ℕ) (p : Place) → Keeps es g begun w → slice_get w.places e ≡ Some None
+    → (k : ℕ) (y : ℕ × ℕ) → slice_get w.exceptions k ≡ Some y → IsException (slice_set w.places e (Some p)) w.nodes k y
+exceptions_stay es g begun w e p i none k y is =
+    let old = i.exceptions k y is in
+    record {
+      place = (place_later w e p w.exceptions none (omega arith)).places y.0 (Raised y.1 k) old.place;
+      frame = old.frame;
+    }
+
 -- a name for a type
 pub record Goes (es : List Entry) (g : List Introduction) (begun : ℕ → Type 0) (w v : Written) : Type 0 where
   pub keeps : Keeps es g begun v
@@ -110,33 +119,29 @@ once Kinds.Enum is = refl
 once Kinds.Typedef is = refl
 once kind is = absurd cc
 
+-- a name that is new has its place from here on
+pub place_given : (es : List Entry) (g : List Introduction) (begun : ℕ → Type 0) (w : Written) (scope : ℕ) (l : Leaf) (kind : EntryKind) (p : Place) (d : Entered es g scope l kind)
+    → Keeps es g begun w → (Known es g d.entry → ⊥) → has_body kind ≡ false → HasPlace kind (begun d.entry) (Some (Some p)) → IsRightPlace w.nodes (length w.exceptions) p
+    → (placed w d.entry p ≡ Ok (with_placed w d.entry p w.exceptions)) × Goes es (Stands scope l kind ∷ g) begun w (with_placed w d.entry p w.exceptions)
+place_given es g begun w scope l kind p d i new bodiless has right =
+    let none = unplaced es g begun w d.entry d.value i d.there new in
+    let le : length w.exceptions ≤ length w.exceptions = omega arith in
+    let not_begun : begun d.entry → ⊥ = λ b. new (i.begun_known d.entry b) in
+    let has_it : HasPlace d.value.kind (begun d.entry) (Some (Some p)) = subst (λ k. HasPlace k (begun d.entry) (Some (Some p))) (sym d.kind_is) has in (
+      placed_is w d.entry p none,
+      record {
+        keeps = place_kept es g (Stands scope l kind ∷ g) begun begun w d.entry d.value p w.exceptions i (widens es g scope l kind d.entry d.is) none d.there
+            (ap has_body d.kind_is ∙ bodiless) has_it not_begun (λ f b. b) (λ f differs b. b) le i.sound.exceptions right (exceptions_stay es g begun w d.entry p i none);
+        later = place_later w d.entry p w.exceptions none le;
+      },
+    )
+
 pub type_named : (es : List Entry) (g : List Introduction) (begun : ℕ → Type 0) (w : Written) (scope : ℕ) (l : Leaf) (kind : EntryKind) (n : ℕ) (d : Entered es g scope l kind)
     → Keeps es g begun w → takes_type kind ≡ true → IsPart w.nodes n
     → (placed w d.entry (Typed n) ≡ Ok (with_placed w d.entry (Typed n) w.exceptions))
     × Goes es (Stands scope l kind ∷ g) begun w (with_placed w d.entry (Typed n) w.exceptions)
 type_named es g begun w scope l kind n d i takes part =
-    let new = unknown d (once kind takes) in
-    let none = unplaced es g begun w d.entry d.value i d.there new in
-    let le : length w.exceptions ≤ length w.exceptions = omega arith in
-    let not_begun : begun d.entry → ⊥ = λ b. new (i.begun_known d.entry b) in
-    let has : HasPlace d.value.kind (begun d.entry) (Some (Some (Typed n))) =
-    subst (λ k. HasPlace k (begun d.entry) (Some (Some (Typed n)))) (sym d.kind_is) (typed_kind kind (begun d.entry) n takes) in (
-      placed_is w d.entry (Typed n) none,
-      record {
-        keeps = place_kept es g (Stands scope l kind ∷ g) begun begun w d.entry d.value (Typed n) w.exceptions i (widens es g scope l kind d.entry d.is) none d.there
-            (ap has_body d.kind_is ∙ bodiless kind takes) has not_begun (λ f b. b) (λ f differs b. b) le part (λ k y is. exception k y is);
-        later = place_later w d.entry (Typed n) w.exceptions none le;
-      },
-    )
-  where
-    exception : (k : ℕ) (y : ℕ × ℕ) → slice_get w.exceptions k ≡ Some y → IsException (slice_set w.places d.entry (Some (Typed n))) w.nodes k y
-    exception k y is =
-        let old = i.exceptions k y is in
-        let none = unplaced es g begun w d.entry d.value i d.there (unknown d (once kind takes)) in
-        record {
-          place = (place_later w d.entry (Typed n) w.exceptions none (omega arith)).places y.0 (Raised y.1 k) old.place;
-          frame = old.frame;
-        }
+    place_given es g begun w scope l kind (Typed n) d i (unknown d (once kind takes)) (bodiless kind takes) (typed_kind kind (begun d.entry) n takes) part
 
 -- ---- what names find
 

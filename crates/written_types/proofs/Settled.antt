@@ -24,7 +24,7 @@ use Rattle.scoped_names.specs.Whole.{AreNames, Whole}
 use Rattle.scoped_names.proofs.FollowParts.{finds_more}
 use Rattle.scoped_names.proofs.Held.{names_follow, names_hold}
 use Rattle.scoped_names.proofs.Introduced.{nothing_clashes}
-use Rattle.scoped_names.proofs.Parts.{Closed, scope_past}
+use Rattle.scoped_names.proofs.Parts.{Closed, both_closed, one_closed, scope_past}
 
 -- ---- what is introduced so far, the last first
 
@@ -123,6 +123,26 @@ done_stays es g scope (s ∷ xs) k h =
 
 -- ---- what stands inside a scope
 
+pub record Within (es : List Entry) (g : List Introduction) (scope : ℕ) (l : Leaf) (xs : List Step) : Type 0 where
+  pub entry : ℕ
+  pub is : named es scope (word l) ≡ Some entry
+  pub inner : AllSettled es g (entry + 1) xs
+  pub whole : behind es g scope (Enters l ∷ (xs ++ Leaves ∷ [])) ≡ behind es g (entry + 1) xs
+
+pub within : (es : List Entry) (g : List Introduction) (scope : ℕ) (l : Leaf) (xs : List Step) → Closed xs → AllSettled es g scope (Enters l ∷ (xs ++ Leaves ∷ []))
+    → Within es g scope l xs
+within es g scope l xs c (enters, body) =
+    let (e, is) = enters.holds.there in
+    let next : suc e ≡ e + 1 = omega arith in
+    let scopes : scope_of es scope l ≡ e + 1 = ap scope_number is ∙ next in
+    let parts = both es g (e + 1) xs (Leaves ∷ []) c (subst (λ k. AllSettled es g k (xs ++ Leaves ∷ [])) scopes body) in
+    record {
+      entry = e;
+      is = is;
+      inner = parts.0;
+      whole = ap (λ k. behind es g k (xs ++ Leaves ∷ [])) scopes ∙ both_behind es g (e + 1) xs (Leaves ∷ []) c parts.0;
+    }
+
 -- the entry of what is defined, and what stands inside
 pub record Inside (es : List Entry) (g : List Introduction) (scope : ℕ) (l : Leaf) (kind : EntryKind) (xs : List Step) : Type 0 where
   pub entry : ℕ
@@ -133,23 +153,18 @@ pub record Inside (es : List Entry) (g : List Introduction) (scope : ℕ) (l : L
 
 pub inside : (es : List Entry) (g : List Introduction) (scope : ℕ) (l : Leaf) (kind : EntryKind) (xs : List Step) → Closed xs
     → AllSettled es g scope (Declares kind l ∷ Enters l ∷ Defines l ∷ (xs ++ Leaves ∷ [])) → Inside es g scope l kind xs
-inside es g scope l kind xs c (declares, enters, defines, body) =
-    let (e, is) = enters.holds.there in
+inside es g scope l kind xs c (declares, rest) =
     let there = Stands scope l kind ∷ g in
-    let scopes : scope_of es scope l ≡ suc e = ap scope_number is in
-    let next : suc e ≡ e + 1 = omega arith in
-    let at_inner = subst (λ k. AllSettled es (Body k ∷ there) k (xs ++ Leaves ∷ [])) scopes body in
-    let at_next = subst (λ k. AllSettled es (Body (suc e) ∷ there) k (xs ++ Leaves ∷ [])) next at_inner in
-    let parts = both es (Body (suc e) ∷ there) (e + 1) xs (Leaves ∷ []) c at_next in
+    let w = within es there scope l (Defines l ∷ xs) (both_closed (one_closed (Defines l) tt) c) rest in
+    let e = w.entry in
+    let (defines, body) = w.inner in
+    let next : e + 1 ≡ suc e = omega arith in
     record {
       entry = e;
-      is = is;
-      new = subst (λ k. IsDone there k → ⊥) scopes defines.new.0;
-      inner = parts.0;
-      whole =
-          ap (λ k. behind es (Body k ∷ there) k (xs ++ Leaves ∷ [])) scopes
-          ∙ ap (λ k. behind es (Body (suc e) ∷ there) k (xs ++ Leaves ∷ [])) next
-          ∙ both_behind es (Body (suc e) ∷ there) (e + 1) xs (Leaves ∷ []) c parts.0;
+      is = w.is;
+      new = subst (λ k. IsDone there k → ⊥) next defines.new.0;
+      inner = subst (λ k. AllSettled es (Body k ∷ there) (e + 1) xs) next body;
+      whole = w.whole ∙ ap (λ k. behind es (Body k ∷ there) (e + 1) xs) next;
     }
 
 -- ---- what clashes with nothing before it is new

@@ -41,6 +41,7 @@ grown_sound w node lines s right fits room = record {
       let long = length-append w.nodes (node ∷ []) in
       let wide = length-append w.lines (lines ∷ []) in
       omega (arith, long, wide, s.lines);
+  exceptions = let long = length-append w.nodes (node ∷ []) in let few = s.exceptions in omega (arith, long, few);
 }
   where
     by : (n : ℕ) (old : Node) → (slice_get w.nodes n ≡ Some old) ⊎ ((n ≡ length w.nodes) × (node ≡ old)) → IsRight (w.nodes ++ node ∷ []) old
@@ -136,7 +137,7 @@ counted_fine es g begun w count line i =
         ahead = i.ahead;
         left = i.left;
         basic = i.basic;
-        sound = record { limited = s.limited; nodes = s.nodes; counted = omega (arith, all, is); members = omega (arith, is, fits); lines = s.lines };
+        sound = record { limited = s.limited; nodes = s.nodes; counted = omega (arith, all, is); members = omega (arith, is, fits); lines = s.lines; exceptions = s.exceptions };
       };
       later = record { nodes = λ n node there. inl there; places = λ e p there. there; exceptions = le_refl (length w.exceptions) };
       nodes = refl;
@@ -162,10 +163,10 @@ with_placed w e p exceptions = record w { places = slice_set w.places e (Some p)
 pub place_kept : (es : List Entry) (g more : List Introduction) (before begun : ℕ → Type 0) (w : Written) (e : ℕ) (x : Entry) (p : Place) (exceptions : List (ℕ × ℕ))
     → Keeps es g before w → Widens es g e more → slice_get w.places e ≡ Some None → slice_get es e ≡ Some x → has_body x.kind ≡ false
     → HasPlace x.kind (begun e) (Some (Some p)) → (begun e → ⊥) → ((f : ℕ) → begun f → before f) → ((f : ℕ) → (f ≡ e → ⊥) → before f → begun f)
-    → length w.exceptions ≤ length exceptions → IsRightPlace w.nodes (length exceptions) p
+    → length w.exceptions ≤ length exceptions → length exceptions ≤ length w.nodes → IsRightPlace w.nodes (length exceptions) p
     → ((k : ℕ) (y : ℕ × ℕ) → slice_get exceptions k ≡ Some y → IsException (slice_set w.places e (Some p)) w.nodes k y)
     → Keeps es more begun (with_placed w e p exceptions)
-place_kept es g more before begun w e x p exceptions i widens none at no_body has ended narrower still le right each = record {
+place_kept es g more before begun w e x p exceptions i widens none at no_body has ended narrower still le few right each = record {
   long = length-set w.places e (Some p) ∙ i.long;
   known = λ f q is. known f q (set_cases w.places e None (Some p) f (Some q) none is);
   has = λ f y knows there. has_place f y there knows (same_or_not f e);
@@ -181,7 +182,7 @@ place_kept es g more before begun w e x p exceptions i widens none at no_body ha
   ahead = λ f n body place yet. i.ahead f n body (earlier f n body place) (not_yet f yet);
   left = λ n is. left n (i.left n is);
   basic = i.basic;
-  sound = record { limited = i.sound.limited; nodes = i.sound.nodes; counted = i.sound.counted; members = i.sound.members; lines = i.sound.lines };
+  sound = record { limited = i.sound.limited; nodes = i.sound.nodes; counted = i.sound.counted; members = i.sound.members; lines = i.sound.lines; exceptions = few };
 }
   where
     known : (f : ℕ) (q : Place) → ((f ≡ e) × (Some p ≡ Some q)) ⊎ ((f ≡ e → ⊥) × (slice_get w.places f ≡ Some (Some q))) → Known es more f

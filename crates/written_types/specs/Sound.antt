@@ -19,13 +19,14 @@ abbrev pub IsRight : List Node → Node → Type 0
 IsRight graph node = (node ≡ undefined) ⊎ IsNode graph node
 
 -- no more types than the limit, each right, and no more members of all than are counted, within the limit; so many
--- types have lines as there are behind the basic ones
+-- types have lines as there are behind the basic ones, and each exception has a frame
 pub record IsSound (w : Written) : Type 0 where
   pub limited : length w.nodes ≤ max_nodes
   pub nodes : (n : ℕ) (node : Node) → slice_get w.nodes n ≡ Some node → IsRight w.nodes node
   pub counted : all_members w.nodes ≤ w.members
   pub members : w.members ≤ max_all_members
   pub lines : length w.nodes ≡ length w.lines + 14
+  pub exceptions : length w.exceptions ≤ length w.nodes
 
 -- ---- frames
 
