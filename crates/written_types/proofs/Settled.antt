@@ -80,7 +80,7 @@ pub hold : (es : List Entry) (g : List Introduction) (scope : ℕ) (xs : List St
 hold es g scope [] h = tt
 hold es g scope (s ∷ xs) (h, hs) = (h.holds, hold es (onto (introduced_by scope s) g) (scope_behind es scope s) xs hs)
 
-split : (es : List Entry) (g : List Introduction) (scope : ℕ) (xs ys : List Step) → AllSettled es g scope (xs ++ ys)
+pub split : (es : List Entry) (g : List Introduction) (scope : ℕ) (xs ys : List Step) → AllSettled es g scope (xs ++ ys)
     → AllSettled es g scope xs × AllSettled es (behind es g scope xs) (scope_past es scope xs) ys
 split es g scope [] ys h = (tt, h)
 split es g scope (s ∷ xs) ys (h, hs) =

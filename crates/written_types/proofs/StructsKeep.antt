@@ -213,7 +213,7 @@ union_closes es g begun w e line o s c b more h done =
 
 -- ---- types
 
-none_right : (graph : List Node) → AreRight graph [] 0 no_members
+pub none_right : (graph : List Node) → AreRight graph [] 0 no_members
 none_right graph = record { members = record { limited = omega arith; parts = All-nil (IsPart graph) }; first = λ n is. cc; some = omega arith }
 
 no_arms_right : (graph : List Node) (s : Switch) → AreArms graph s no_arms

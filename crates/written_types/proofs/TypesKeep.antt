@@ -74,7 +74,7 @@ first_end : (ns : List ℕ) (m n : ℕ) → slice_get ns 0 ≡ Some n → slice_
 first_end [] m n is = absurd cc
 first_end (k ∷ ns) m n is = is
 
-member_fine : (graph : List Node) (before : List ℕ) (least : ℕ) (ms : Members) (number line : ℕ) → AreRight graph before least ms → IsPart graph number
+pub member_fine : (graph : List Node) (before : List ℕ) (least : ℕ) (ms : Members) (number line : ℕ) → AreRight graph before least ms → IsPart graph number
     → Fine (AreRight graph before 1) (member_added ms number line)
 member_fine graph before least ms number line h part =
     and_then (λ k. (k ≡ length ms.numbers + 1) × (length ms.numbers + 1 ≤ max_members)) (AreRight graph before 1)
@@ -87,7 +87,7 @@ member_fine graph before least ms number line h part =
       some = omega (arith, long);
     })
 
-right_later : (w v : Written) (before : List ℕ) (least : ℕ) (ms : Members) → Later w v → AreRight w.nodes before least ms → AreRight v.nodes before least ms
+pub right_later : (w v : Written) (before : List ℕ) (least : ℕ) (ms : Members) → Later w v → AreRight w.nodes before least ms → AreRight v.nodes before least ms
 right_later w v before least ms l h = record {
   members = record { limited = h.members.limited; parts = parts_stay w.nodes v.nodes l.nodes ms.numbers h.members.parts };
   first = h.first;

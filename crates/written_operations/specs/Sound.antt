@@ -1,0 +1,38 @@
+-- What the types, operations and interfaces of a file keep of the rules of graphs and models, where the names are its own.
+use Rattle.std.specs.Prelude.{◌≡◌, ◌⊎◌, ℕ, ◌+◌, ◌<◌, ◌≤◌, List, length, All, Option, Some, IfSome}
+use Rattle.type_graph.specs.GraphRules.{IsNode, all_members}
+use Rattle.written_types.specs.declared.place.Place.{Place}
+use Rattle.written_types.specs.declared.place.Place.TheVariants.{Raised, Called, Got, GotAndSet}
+use Rattle.written_types.specs.Faults.{max_all_members, max_nodes}
+use Rattle.written_types.specs.Sound.{IsFrameAt, IsIdFrame}
+use Rattle.written_types.specs.Written.{Written, place_of}
+use Rattle.written_operations.specs.declared.signature.Offered.{Offered}
+use Rattle.written_operations.specs.declared.signature.Role.{Role}
+use Rattle.written_operations.specs.declared.signature.Role.TheVariants.{Operation, Getting, Setting}
+use Rattle.written_operations.specs.declared.signature.Signature.{Signature}
+use Rattle.written_operations.specs.Operations.{Defined}
+
+-- the place has the frames of a call in the role, from that of the request on
+abbrev pub HasFrames : Role → ℕ → Option Place → Type 0
+HasFrames Operation request p = p ≡ Some (Called request)
+HasFrames Getting request p = (p ≡ Some (Got request)) ⊎ (p ≡ Some (GotAndSet request))
+HasFrames Setting request p = (got : ℕ) × (p ≡ Some (GotAndSet got)) × (request ≡ got + 2)
+
+-- its entry is among so many and has its frames, and what it raises are exceptions that are written
+pub record IsSoundSignature (entries : ℕ) (w : Written) (s : Signature) : Type 0 where
+  pub entry : s.entry < entries
+  pub request : IsFrameAt w.nodes s.request
+  pub reply : IsFrameAt w.nodes (s.request + 1)
+  pub raises : All (λ place. place < length w.exceptions) s.raises
+  pub named : HasFrames s.role s.request (place_of w s.entry)
+
+-- its operations and bases are among so many
+pub record IsSoundOffer (entries operations : ℕ) (o : Offered) : Type 0 where
+  pub operations_there : All (λ place. place < operations) o.operations
+  pub bases : All (λ base. base < entries) o.bases
+
+-- an entry of so many has the exception, whose frame begins with a repository id
+pub record IsSoundException (entries : ℕ) (w : Written) (x : ℕ × ℕ) : Type 0 where
+  pub entry : x.0 < entries
+  pub frame : IsIdFrame w.nodes x.1
+  pub named : (place : ℕ) × (place_of w x.0 ≡ Some (Raised x.1 place))
