@@ -33,7 +33,7 @@ use Rattle.name_table.proofs.Stability.{get_push_last}
 
 -- ---- basic types have their definitions
 
-each_there : {T : Type 0} (P : T → Type 0) (xs : List T) (k : ℕ) (x : T) → AllByRecursion P xs → slice_get xs k ≡ Some x → P x
+pub each_there : {T : Type 0} (P : T → Type 0) (xs : List T) (k : ℕ) (x : T) → AllByRecursion P xs → slice_get xs k ≡ Some x → P x
 each_there P [] k x h is = absurd cc
 each_there P (y ∷ ys) zero x (h, hs) is = let same : y ≡ x = cc in subst P same h
 each_there P (y ∷ ys) (suc k) x (h, hs) is = each_there P ys k x hs is
@@ -41,7 +41,7 @@ each_there P (y ∷ ys) (suc k) x (h, hs) is = each_there P ys k x hs is
 abbrev IsDefined : Node → Type 0
 IsDefined node = is_undefined (Some node) ≡ false
 
-basic_defined : (n : ℕ) (node : Node) → slice_get basic_nodes n ≡ Some node → node ≡ undefined → ⊥
+pub basic_defined : (n : ℕ) (node : Node) → slice_get basic_nodes n ≡ Some node → node ≡ undefined → ⊥
 basic_defined n node is same =
     let told : is_undefined (Some node) ≡ false =
     each_there IsDefined basic_nodes n node (refl, refl, refl, refl, refl, refl, refl, refl, refl, refl, refl, refl, refl, refl, tt) is in
