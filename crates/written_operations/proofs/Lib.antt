@@ -10,3 +10,4 @@ pub mod AttributesKeep
 pub mod InterfacesKeep
 pub mod BasesRead
 pub mod FileKeep
+pub mod SoundFile

@@ -1,8 +1,12 @@
 //! Laws over the definitions. The functions do nothing: each contract is the law.
 
-ghost use Rattle.std.specs.Prelude.{◌≡◌, List, Ok};
+ghost use Rattle.std.specs.Prelude.{◌≡◌, List, Err, Ok};
 ghost use Rattle.idl_tree.specs.declared.definitions.Definition.{Definition};
+ghost use Rattle.idl_tree.specs.declared.spec.Spec.{Spec};
 ghost use Rattle.name_table.specs.Entry.{Entry};
+ghost use Rattle.scoped_names.specs.Whole.{AreNames, Whole};
+ghost use Rattle.written_types.specs.Sound.{IsOfTypes};
+ghost use Rattle.written_types.specs.declared.fault.BuildFault.{BuildFault};
 ghost use Rattle.written_operations.specs.Definitions.{defined_by};
 ghost use Rattle.written_operations.specs.Kept.{KeepRule};
 ghost use Rattle.written_operations.specs.Operations.{Defined};
@@ -11,4 +15,10 @@ ghost use Rattle.written_operations.specs.Operations.{Defined};
 pub fn oneway_gives_nothing_back()
     ensures { (es : List Entry) (definitions : List Definition) (d : Defined) →
         defined_by es definitions ≡ Ok d → KeepRule definitions }
+{}
+
+/// With the names of its own specification a file has no fault of names, only of types.
+pub fn no_other_names()
+    ensures { (spec : Spec) (names : Whole) → AreNames spec.definitions.items names → (fault : BuildFault) →
+        defined_by names.entries spec.definitions.items ≡ Err fault → IsOfTypes fault }
 {}
