@@ -130,7 +130,7 @@ const_written es g begun w scope c i h =
     let steps = const_steps c in
     and_then (Adds es g begun w) (Goes es (behind es g scope steps) begun w) (const_type es w scope c.const_type) (λ n. Ok n.written)
     (const_keeps es g begun w scope c.const_type i split.0) (λ n a. record {
-      keeps = silent_keeps es g begun n.written scope steps (silent_append ts (TestsNew c.identifier ∷ DeclaresConst c ∷ []) (const_silent c.const_type) (tt, tt, tt)) h a.keeps;
+      keeps = silent_keeps es g begun n.written scope steps (silent_append ts (TestsNew c.identifier ∷ DeclaresConst c ∷ []) (const_silent c.const_type) (tt, (tt, tt))) h a.keeps;
       later = a.later;
     })
 
@@ -209,6 +209,7 @@ exception_fine es g begun w e line x m h at kind ended =
     no_place : (k : EntryKind) (o : Option (Option Place)) → k ≡ Kinds.Exception → IsUnplaced k o → o ≡ Some None
     no_place Kinds.Exception o is h = h
     no_place k o is h = absurd cc
+
     regrouped : ((counted m.written (length m.members.numbers) line >> λ u. added u (Frame m.members.numbers) (record { line = line; held = m.members.lines })) >> λ frame. raised_at frame.written e frame.number)
         ≡ exception_added m e line
     regrouped = by (counted m.written (length m.members.numbers) line)

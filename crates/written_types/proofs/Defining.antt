@@ -28,6 +28,7 @@ use Rattle.written_types.proofs.Growing.{Grows, grows_on, id_stays, node_stays, 
 use Rattle.written_types.proofs.Keeping.{HasBody, HasPlace, HasType, IsException, IsLeft, IsRightPlace, IsUnplaced, Keeps, Later, body_begun, body_placed, later_none, place_stays, with_begun}
 use Rattle.written_types.proofs.Settled.{IsDone, Known}
 use Rattle.written_types.proofs.Spots.{is_some_and, push_cases, push_low, same_or_not, set_cases, set_here, set_other, sum_push, sum_set}
+use Rattle.written_types.proofs.Walks.{goes_on}
 use Rattle.written_types.proofs.Writing.{Widens, grown_sound, place_kept, place_later, placed_is, with_placed}
 use Rattle.name_table.proofs.Stability.{get_push_last}
 
@@ -44,7 +45,7 @@ IsDefined node = is_undefined (Some node) ≡ false
 pub basic_defined : (n : ℕ) (node : Node) → slice_get basic_nodes n ≡ Some node → node ≡ undefined → ⊥
 basic_defined n node is same =
     let told : is_undefined (Some node) ≡ false =
-    each_there IsDefined basic_nodes n node (refl, refl, refl, refl, refl, refl, refl, refl, refl, refl, refl, refl, refl, refl, tt) is in
+    each_there IsDefined basic_nodes n node (refl, (refl, (refl, (refl, (refl, (refl, (refl, (refl, (refl, (refl, (refl, (refl, (refl, (refl, tt)))))))))))))) is in
     let not_so : is_undefined (Some node) ≡ true = ap (λ k. is_undefined (Some k)) same in
     cc
 
@@ -82,13 +83,16 @@ open_kept es g more begun w e x lines i widens none at body new fits =
     cases : (f : ℕ) (q : Place) → slice_get (slice_set w.places e (Some (Typed (next w)))) f ≡ Some (Some q)
         → ((f ≡ e) × (Some (Typed (next w)) ≡ Some q)) ⊎ ((f ≡ e → ⊥) × (slice_get w.places f ≡ Some (Some q)))
     cases f q is = set_cases w.places e None (Some (Typed (next w))) f (Some q) none is
+
     known : (f : ℕ) (q : Place) → ((f ≡ e) × (Some (Typed (next w)) ≡ Some q)) ⊎ ((f ≡ e → ⊥) × (slice_get w.places f ≡ Some (Some q))) → Known es more f
     known f q (inl (same, is)) = subst (Known es more) (sym same) widens.here
     known f q (inr (differs, is)) = widens.grows f (i.known f q is)
+
     typed : (kind : EntryKind) (b : Type 0) (o : Option (Option Place)) → has_body kind ≡ true → HasType o → HasPlace kind b o
     typed Kinds.Struct b o is h = h
     typed Kinds.Union b o is h = h
     typed kind b o is h = absurd cc
+
     has_place : (f : ℕ) (y : Entry) → slice_get es f ≡ Some y → Known es more f → (f ≡ e) ⊎ (f ≡ e → ⊥)
         → HasPlace y.kind (begun f) (slice_get (slice_set w.places e (Some (Typed (next w)))) f)
     has_place f y there knows (inl same) =
@@ -103,18 +107,22 @@ open_kept es g more begun w e x lines i widens none at body new fits =
         old : (f ≡ e) ⊎ Known es g f → Known es g f
         old (inl same) = absurd (differs same)
         old (inr knows) = knows
+
     part_there : IsPart (w.nodes ++ undefined ∷ []) (next w)
     part_there = is_some_and (slice_get (w.nodes ++ undefined ∷ []) (next w)) IsNoFrame undefined (get_push_last w.nodes undefined) tt
+
     right_at : (f : ℕ) (q : Place) → ((f ≡ e) × (Some (Typed (next w)) ≡ Some q)) ⊎ ((f ≡ e → ⊥) × (slice_get w.places f ≡ Some (Some q)))
         → IsRightPlace (w.nodes ++ undefined ∷ []) (length w.exceptions) q
     right_at f q (inl (same, is)) = let one : Typed (next w) ≡ q = cc in subst (IsRightPlace (w.nodes ++ undefined ∷ []) (length w.exceptions)) one part_there
     right_at f q (inr (differs, is)) =
         place_stays w.nodes (w.nodes ++ undefined ∷ []) (length w.exceptions) (length w.exceptions) (push_grows w.nodes undefined) (le_refl (length w.exceptions)) q (i.right f q is)
+
     exception : (k : ℕ) (y : ℕ × ℕ) → IsException w.places w.nodes k y → IsException (slice_set w.places e (Some (Typed (next w)))) (w.nodes ++ undefined ∷ []) k y
     exception k y old = record {
       place = set_other w.places e y.0 (Some (Typed (next w))) (λ same. new (subst (Known es g) same (i.known y.0 (Raised y.1 k) old.place))) ∙ old.place;
       frame = id_stays w.nodes (w.nodes ++ undefined ∷ []) (push_grows w.nodes undefined) y.1 old.frame;
     }
+
     -- the number is new
     beyond : (f n : ℕ) → slice_get w.places f ≡ Some (Some (Typed n)) → n ≡ next w → ⊥
     beyond f n is same =
@@ -125,12 +133,14 @@ open_kept es g more begun w e x lines i widens none at body new fits =
         of_part : (o : Option Node) → IsSomeAnd o IsNoFrame → (node : Node) × (o ≡ Some node)
         of_part None h = absurd h
         of_part (Some node) h = (node, refl)
+
     same_entry : (f h n : ℕ) → HasBody es f → HasBody es h → ((f ≡ e) × (Some (Typed (next w)) ≡ Some (Typed n))) ⊎ ((f ≡ e → ⊥) × (slice_get w.places f ≡ Some (Some (Typed n))))
         → ((h ≡ e) × (Some (Typed (next w)) ≡ Some (Typed n))) ⊎ ((h ≡ e → ⊥) × (slice_get w.places h ≡ Some (Some (Typed n)))) → f ≡ h
     same_entry f h n one other (inl (first, is)) (inl (second, is_too)) = first ∙ sym second
     same_entry f h n one other (inl (first, is)) (inr (differs, there)) = let same : n ≡ next w = cc in absurd (beyond h n there same)
     same_entry f h n one other (inr (differs, there)) (inl (second, is)) = let same : n ≡ next w = cc in absurd (beyond f n there same)
     same_entry f h n one other (inr (differs, there)) (inr (differs_too, there_too)) = i.one f h n one other there there_too
+
     ahead : (f n : ℕ) → HasBody es f → (IsDone more (suc f) → ⊥) ⊎ begun f → ((f ≡ e) × (Some (Typed (next w)) ≡ Some (Typed n))) ⊎ ((f ≡ e → ⊥) × (slice_get w.places f ≡ Some (Some (Typed n))))
         → slice_get (w.nodes ++ undefined ∷ []) n ≡ Some undefined
     ahead f n has yet (inl (same, is)) = let number : n ≡ next w = cc in ap (slice_get (w.nodes ++ undefined ∷ [])) number ∙ get_push_last w.nodes undefined
@@ -139,6 +149,7 @@ open_kept es g more begun w e x lines i widens none at body new fits =
         not_yet : (IsDone more (suc f) → ⊥) ⊎ begun f → (IsDone g (suc f) → ⊥) ⊎ begun f
         not_yet (inl never) = inl (λ done. never (widens.done (suc f) done))
         not_yet (inr b) = inr b
+
     left : (n : ℕ) → (slice_get w.nodes n ≡ Some undefined) ⊎ ((n ≡ length w.nodes) × (undefined ≡ undefined)) → IsLeft es more begun (slice_set w.places e (Some (Typed (next w)))) n
     left n (inl is) = old (i.left n is)
       where
@@ -212,9 +223,11 @@ define_kept es g begun w e number node held i body place ended done right define
     any_body Kinds.Struct b c o is h = h
     any_body Kinds.Union b c o is h = h
     any_body kind b c o is h = absurd cc
+
     narrow : (f : ℕ) → (f ≡ e → ⊥) → with_begun e begun f → begun f
     narrow f differs (inl same) = absurd (differs same)
     narrow f differs (inr b) = b
+
     has_place : (f : ℕ) (y : Entry) → slice_get es f ≡ Some y → HasPlace y.kind (with_begun e begun f) (slice_get w.places f) → HasPlace y.kind (begun f) (slice_get w.places f)
     has_place f y there h = by (same_or_not f e)
       where
@@ -223,20 +236,24 @@ define_kept es g begun w e number node held i body place ended done right define
             let here : HasBody es f = subst (HasBody es) (sym same) body in
             any_body y.kind (with_begun e begun f) (begun f) (slice_get w.places f) (sym (ap (is_of has_body) there) ∙ here) h
         by (inr differs) = body_begun y.kind (with_begun e begun f) (begun f) (slice_get w.places f) (narrow f differs) h
+
     ahead : (f n : ℕ) → HasBody es f → slice_get w.places f ≡ Some (Some (Typed n)) → (IsDone g (suc f) → ⊥) ⊎ begun f → slice_get (slice_set w.nodes number node) n ≡ Some undefined
     ahead f n has there yet = by (same_or_not n number)
       where
         never : f ≡ e → (IsDone g (suc f) → ⊥) ⊎ begun f → ⊥
         never same (inl none) = none (subst (λ k. IsDone g (suc k)) (sym same) done)
         never same (inr b) = ended (subst begun same b)
+
         wider : (IsDone g (suc f) → ⊥) ⊎ begun f → (IsDone g (suc f) → ⊥) ⊎ with_begun e begun f
         wider (inl none) = inl none
         wider (inr b) = inr (inr b)
+
         by : (n ≡ number) ⊎ (n ≡ number → ⊥) → slice_get (slice_set w.nodes number node) n ≡ Some undefined
         by (inl same) =
             let at : slice_get w.places f ≡ Some (Some (Typed number)) = subst (λ k. slice_get w.places f ≡ Some (Some (Typed k))) same there in
             absurd (never (i.one f e number has body at place) yet)
         by (inr differs) = set_other w.nodes number n node differs ∙ i.ahead f n has there (wider yet)
+
     left : (n : ℕ) → ((n ≡ number) × (node ≡ undefined)) ⊎ ((n ≡ number → ⊥) × (slice_get w.nodes n ≡ Some undefined)) → IsLeft es g begun w.places n
     left n (inl (same, is)) = absurd (defined is)
     left n (inr (differs, is)) = by (i.left n is)
@@ -250,6 +267,7 @@ define_kept es g begun w e number node held i body place ended done right define
                 let numbers : n ≡ number = cc in
                 absurd (differs numbers)
             other (inr b) = b
+
     basic : (n : ℕ) (old : Node) → slice_get basic_nodes n ≡ Some old → (n ≡ number) ⊎ (n ≡ number → ⊥) → slice_get (slice_set w.nodes number node) n ≡ Some old
     basic n old is (inl same) =
         let there = i.basic n old is in
@@ -258,6 +276,7 @@ define_kept es g begun w e number node held i body place ended done right define
         let one : old ≡ undefined = cc in
         absurd (basic_defined n old is one)
     basic n old is (inr differs) = set_other w.nodes number n node differs ∙ i.basic n old is
+
     sound : (n : ℕ) (old : Node) → Grows w.nodes (slice_set w.nodes number node)
         → ((n ≡ number) × (node ≡ old)) ⊎ ((n ≡ number → ⊥) × (slice_get w.nodes n ≡ Some old)) → IsRight (slice_set w.nodes number node) old
     sound n old grows (inl (same, is)) = subst (IsRight (slice_set w.nodes number node)) is (inr (node_stays w.nodes (slice_set w.nodes number node) grows node right))
@@ -291,9 +310,11 @@ raise_kept es g begun w e frame x i knows none at kind ended room id =
   where
     has : (k : EntryKind) → k ≡ Kinds.Exception → HasPlace k (begun e) (Some (Some (Raised frame (length w.exceptions))))
     has k is = subst (λ j. HasPlace j (begun e) (Some (Some (Raised frame (length w.exceptions))))) (sym is) (inr (frame, length w.exceptions, refl))
+
     narrow : (f : ℕ) → (f ≡ e → ⊥) → with_begun e begun f → begun f
     narrow f differs (inl same) = absurd (differs same)
     narrow f differs (inr b) = b
+
     each : (k : ℕ) (y : ℕ × ℕ) → (slice_get w.exceptions k ≡ Some y) ⊎ ((k ≡ length w.exceptions) × ((e, frame) ≡ y))
         → IsException (slice_set w.places e (Some (Raised frame (length w.exceptions)))) w.nodes k y
     each k y (inl is) =
@@ -308,7 +329,11 @@ raise_kept es g begun w e frame x i knows none at kind ended room id =
         subst (λ j. IsException (slice_set w.places e (Some (Raised frame (length w.exceptions)))) w.nodes j y) (sym at_end)
         (subst (IsException (slice_set w.places e (Some (Raised frame (length w.exceptions)))) w.nodes (length w.exceptions)) is one)
 
+abbrev with_exception : ℕ → ℕ → Written → Result Written BuildFault
+with_exception e frame there = Ok (record there { exceptions = there.exceptions ++ (e, frame) ∷ [] })
+
 pub raised_is : (w : Written) (e frame : ℕ) → slice_get w.places e ≡ Some None
     → raised_at w e frame ≡ Ok (with_placed w e (Raised frame (length w.exceptions)) (w.exceptions ++ (e, frame) ∷ []))
 raised_is w e frame none =
-    ap (λ r. r >> λ there. Ok (record there { exceptions = there.exceptions ++ (e, frame) ∷ [] })) (placed_is w e (Raised frame (length w.exceptions)) none)
+    goes_on (placed w e (Raised frame (length w.exceptions))) (with_placed w e (Raised frame (length w.exceptions)) w.exceptions) (with_exception e frame)
+    (placed_is w e (Raised frame (length w.exceptions)) none)

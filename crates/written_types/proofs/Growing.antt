@@ -56,9 +56,11 @@ grows_long graph later grows = by (length graph) refl
     there : (o : Option Node) → IsSomeAnd o IsNoFrame → (node : Node) × (o ≡ Some node)
     there None h = absurd h
     there (Some node) h = (node, refl)
+
     last : (k : ℕ) (node : Node) → Becomes later k node → k < length later
     last k node (inl same) = slice_get_within later k node same
     last k node (inr (open_yet, part)) = let (other, is) = there (slice_get later k) part in slice_get_within later k other is
+
     by : (n : ℕ) → length graph ≡ n → length graph ≤ length later
     by zero is = omega (arith, is)
     by (suc k) is =
@@ -85,6 +87,7 @@ id_stays graph later grows n h =
   where
     text : (m : ℕ) → slice_get graph m ≡ Some (Text 0) → slice_get later m ≡ Some (Text 0)
     text m is = stays graph later grows m (Text 0) is (λ same. cc)
+
     by : (node : Node) → BeginsWithText graph node → BeginsWithText later node
     by (Frame members) has =
         let (m, first, is) = some_is (slice_get members 0) (λ m. slice_get graph m ≡ Some (Text 0)) has in

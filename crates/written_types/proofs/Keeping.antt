@@ -131,7 +131,7 @@ body_placed Kinds.Struct begun o is h = h
 body_placed Kinds.Union begun o is h = h
 body_placed kind begun o is h = absurd cc
 
-body_begun : (kind : EntryKind) (begun more : Type 0) (o : Option (Option Place)) → (begun → more) → HasPlace kind begun o → HasPlace kind more o
+pub body_begun : (kind : EntryKind) (begun more : Type 0) (o : Option (Option Place)) → (begun → more) → HasPlace kind begun o → HasPlace kind more o
 body_begun Kinds.Module begun more o f h = h
 body_begun Kinds.Interface begun more o f h = h
 body_begun Kinds.Struct begun more o f h = h
@@ -173,15 +173,19 @@ more_known es g begun w x i needs bodies = record {
     by : (e : ℕ) (y : Entry) → slice_get es e ≡ Some y → StandsFor es e x ⊎ Known es g e → HasPlace y.kind (begun e) (slice_get w.places e)
     by e y at (inl stands) = needs e y stands at
     by e y at (inr knows) = i.has e y knows at
+
     now_done : (e : ℕ) → IsBody (suc e) x ⊎ IsDone g (suc e) → StandsFor es e x ⊎ Known es g e
     now_done e (inl is) = inr (bodies e is).0
     now_done e (inr done) = inr (i.done_known e done)
+
     earlier : (e : ℕ) → (IsDone (x ∷ g) (suc e) → ⊥) ⊎ begun e → (IsDone g (suc e) → ⊥) ⊎ begun e
     earlier e (inl never) = inl (λ done. never (inr done))
     earlier e (inr b) = inr b
+
     again : (e : ℕ) → HasBody es e → (IsDone g (suc e) → begun e) → IsBody (suc e) x ⊎ IsDone g (suc e) → begun e
     again e body old (inl is) = (bodies e is).1 body
     again e body old (inr done) = old done
+
     still : (n : ℕ) → IsLeft es g begun w.places n → IsLeft es (x ∷ g) begun w.places n
     still n l = record { entry = l.entry; body = l.body; place = l.place; again = again l.entry l.body l.again }
 
@@ -213,30 +217,38 @@ begins es g begun w e i knows body new = record {
     by : (f : ℕ) (y : Entry) → slice_get es f ≡ Some y → StandsFor es f (Body (suc e)) ⊎ Known es g f → HasPlace y.kind (with_begun e begun f) (slice_get w.places f)
     by f y at (inl stands) = absurd stands
     by f y at (inr k) = body_begun y.kind (begun f) (with_begun e begun f) (slice_get w.places f) (λ b. inr b) (i.has f y k at)
+
     first : (f : ℕ) → with_begun e begun f → Known es g f
     first f (inl same) = subst (Known es g) (sym same) knows
     first f (inr b) = i.begun_known f b
+
     now_done : (f : ℕ) → IsBody (suc f) (Body (suc e)) ⊎ IsDone g (suc f) → StandsFor es f (Body (suc e)) ⊎ Known es g f
     now_done f (inl same) = let is : e ≡ f = omega (arith, same) in inr (subst (Known es g) is knows)
     now_done f (inr done) = inr (i.done_known f done)
+
     defined : (f : ℕ) → HasBody es f → with_begun e begun f → IsBody (suc f) (Body (suc e)) ⊎ IsDone g (suc f)
     defined f has (inl same) = inl (ap suc same)
     defined f has (inr b) = inr (i.begun_done f b has)
+
     no_exception : (kind : EntryKind) (o : Option (Option Place)) → has_body kind ≡ true → IsUnplaced kind o
     no_exception Kinds.Exception o is = absurd cc
     no_exception kind o is = tt
+
     bare : (f : ℕ) (y : Entry) → slice_get es f ≡ Some y → with_begun e begun f → IsUnplaced y.kind (slice_get w.places f)
     bare f y at (inl same) =
         let here : HasBody es f = subst (HasBody es) (sym same) body in
         no_exception y.kind (slice_get w.places f) (sym (ap (is_of has_body) at) ∙ here)
     bare f y at (inr b) = i.unplaced f y b at
+
     earlier : (f : ℕ) → (IsDone (Body (suc e) ∷ g) (suc f) → ⊥) ⊎ with_begun e begun f → (IsDone g (suc f) → ⊥) ⊎ begun f
     earlier f (inl never) = inl (λ done. never (inr done))
     earlier f (inr (inl same)) = inl (λ done. new (subst (λ k. IsDone g (suc k)) same done))
     earlier f (inr (inr b)) = inr b
+
     again : (f : ℕ) → (IsDone g (suc f) → begun f) → IsBody (suc f) (Body (suc e)) ⊎ IsDone g (suc f) → with_begun e begun f
     again f old (inl same) = inl (omega (arith, same))
     again f old (inr done) = inr (old done)
+
     still : (n : ℕ) → IsLeft es g begun w.places n → IsLeft es (Body (suc e) ∷ g) (with_begun e begun) w.places n
     still n l = record { entry = l.entry; body = l.body; place = l.place; again = again l.entry l.again }
 
@@ -263,6 +275,7 @@ begins_unplaced es g begun w e x scope l i is at kind none = record {
   where
     exception : (k : EntryKind) (o : Option (Option Place)) (b : Type 0) → k ≡ Kinds.Exception → b → HasPlace k b o
     exception k o b same has = subst (λ j. HasPlace j b o) (sym same) (inl has)
+
     by : (f : ℕ) (y : Entry) → slice_get es f ≡ Some y → (named es scope (word l) ≡ Some f) ⊎ Known es g f → HasPlace y.kind (with_begun e begun f) (slice_get w.places f)
     by f y here (inl stands) =
         let same : f ≡ e = cc in
@@ -270,29 +283,38 @@ begins_unplaced es g begun w e x scope l i is at kind none = record {
         let one : x ≡ y = cc in
         exception y.kind (slice_get w.places f) (with_begun e begun f) (sym (ap (λ z. z.kind) one) ∙ kind) (inl same)
     by f y here (inr k) = body_begun y.kind (begun f) (with_begun e begun f) (slice_get w.places f) (λ b. inr b) (i.has f y k here)
+
     first : (f : ℕ) → with_begun e begun f → (named es scope (word l) ≡ Some f) ⊎ Known es g f
     first f (inl same) = inl (is ∙ ap Some (sym same))
     first f (inr b) = inr (i.begun_known f b)
+
     now_done : (f : ℕ) → IsBody (suc f) (Stands scope l Kinds.Exception) ⊎ IsDone g (suc f) → (named es scope (word l) ≡ Some f) ⊎ Known es g f
     now_done f (inl never) = absurd never
     now_done f (inr done) = inr (i.done_known f done)
+
     other : (f : ℕ) → HasBody es f → f ≡ e → ⊥
     other f has same = no_body_of es e x at (ap has_body kind) (subst (HasBody es) same has)
+
     defined : (f : ℕ) → HasBody es f → with_begun e begun f → IsBody (suc f) (Stands scope l Kinds.Exception) ⊎ IsDone g (suc f)
     defined f has (inl same) = absurd (other f has same)
     defined f has (inr b) = inr (i.begun_done f b has)
+
     no_place : (k : EntryKind) (o : Option (Option Place)) → o ≡ Some None → IsUnplaced k o
     no_place Kinds.Exception o none = none
     no_place k o none = tt
+
     bare : (f : ℕ) (y : Entry) → slice_get es f ≡ Some y → with_begun e begun f → IsUnplaced y.kind (slice_get w.places f)
     bare f y here (inl same) = no_place y.kind (slice_get w.places f) (ap (slice_get w.places) same ∙ none)
     bare f y here (inr b) = i.unplaced f y b here
+
     earlier : (f : ℕ) → HasBody es f → (IsDone (Stands scope l Kinds.Exception ∷ g) (suc f) → ⊥) ⊎ with_begun e begun f → (IsDone g (suc f) → ⊥) ⊎ begun f
     earlier f has (inl never) = inl (λ done. never (inr done))
     earlier f has (inr (inl same)) = absurd (other f has same)
     earlier f has (inr (inr b)) = inr b
+
     again : (f : ℕ) → (IsDone g (suc f) → begun f) → IsBody (suc f) (Stands scope l Kinds.Exception) ⊎ IsDone g (suc f) → with_begun e begun f
     again f old (inl never) = absurd never
     again f old (inr done) = inr (old done)
+
     still : (n : ℕ) → IsLeft es g begun w.places n → IsLeft es (Stands scope l Kinds.Exception ∷ g) (with_begun e begun) w.places n
     still n l = record { entry = l.entry; body = l.body; place = l.place; again = again l.entry l.again }

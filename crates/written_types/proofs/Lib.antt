@@ -11,7 +11,7 @@ pub mod Keeping
 pub mod Writing
 pub mod Defining
 pub mod Naming
-pub mod Arms
+pub mod RisingArms
 pub mod Unions
 pub mod SimpleKeep
 pub mod TypesKeep

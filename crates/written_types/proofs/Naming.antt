@@ -81,6 +81,7 @@ widens es g scope l kind e is =
     by : (f : ℕ) → (named es scope (word l) ≡ Some f) ⊎ Known es g f → (f ≡ e) ⊎ Known es g f
     by f (inl stands) = let same : f ≡ e = cc in inl same
     by f (inr k) = inr k
+
     undone : (s : ℕ) → IsBody s (Stands scope l kind) ⊎ IsDone g s → IsDone g s
     undone s (inl never) = absurd never
     undone s (inr d) = d

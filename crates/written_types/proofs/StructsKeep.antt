@@ -47,7 +47,7 @@ use Rattle.written_types.proofs.SimpleKeep.{Wrote, enum_keeps, simple_keeps, sim
 use Rattle.written_types.proofs.Spots.{set_here, there_at}
 use Rattle.written_types.proofs.TypesKeep.{AreRight, Chosen, HasCases, HasMembers, added_case, added_members, declarator_closed, label_closed, switch_keeps, type_closed}
 use Rattle.written_types.proofs.Unions.{IsNeeded, default_fine, union_right}
-use Rattle.written_types.proofs.Arms.{AreArms}
+use Rattle.written_types.proofs.RisingArms.{AreArms}
 use Rattle.written_types.proofs.Writing.{Adds, Counts, counted_fine, placed_is}
 
 -- ---- declarations
@@ -72,6 +72,7 @@ again_opens es g begun w scope l kind d n i body there = record {
     typed Kinds.Struct b o is h = (n, h)
     typed Kinds.Union b o is h = (n, h)
     typed k b o is h = absurd cc
+
     by : NeedsNothing es begun w (Stands scope l kind)
     by f y stands at =
         let first = d.is in
@@ -114,9 +115,11 @@ opens_fine es g begun w scope l kind d line i body =
         let kind_has : has_body d.value.kind ≡ true = ap has_body d.kind_is ∙ body in
         let (n, there) = body_placed d.value.kind (begun d.entry) (slice_get w.places d.entry) kind_has (i.has d.entry d.value knows d.there) in
         cc
+
     at : (o : Option (Option Place)) → slice_get w.places d.entry ≡ o → Fine (Opens es (Stands scope l kind ∷ g) begun w d.entry) (opened_as w d.entry line (type_in o))
         → Fine (Opens es (Stands scope l kind ∷ g) begun w d.entry) (opened w d.entry line)
     at o is h = subst (λ k. Fine (Opens es (Stands scope l kind ∷ g) begun w d.entry) (opened_as w d.entry line (type_in k))) (sym is) h
+
     by : (o : Option Place) → slice_get w.places d.entry ≡ Some o → Fine (Opens es (Stands scope l kind ∷ g) begun w d.entry) (opened w d.entry line)
     by None is = at (Some None) is (first_opens es g begun w scope l kind d line i body is (none_known is))
     by (Some p) is =

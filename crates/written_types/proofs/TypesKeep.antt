@@ -46,7 +46,7 @@ use Rattle.written_types.specs.Members.{Members}
 use Rattle.written_types.specs.SimpleTypes.{array_type, declarator_line, entry_found, entry_of, integer_number, type_found}
 use Rattle.written_types.specs.Types.{Cases, WithMembers, case_added, cases_of, member_added, members_added, with_declarator, with_declarators, with_members_of}
 use Rattle.written_types.specs.Written.{Numbered, Written, already}
-use Rattle.written_types.proofs.Arms.{AreArms, AreLabels, arms_stay, case_arms, value_fine}
+use Rattle.written_types.proofs.RisingArms.{AreArms, AreLabels, arms_stay, case_arms, value_fine}
 use Rattle.written_types.proofs.Fine.{Fine, and_then, at_most_fine, given, weaker}
 use Rattle.written_types.proofs.Each.{each_keeps}
 use Rattle.written_types.proofs.Growing.{part_stays, parts_stay}

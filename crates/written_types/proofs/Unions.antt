@@ -25,7 +25,7 @@ use Rattle.written_types.specs.declared.fault.TypeFault.TheVariants.{DefaultNeed
 use Rattle.written_types.specs.declared.labels.Switch.{Switch}
 use Rattle.written_types.specs.Labels.{Arms, is_value, signed_values, values_below, values_of}
 use Rattle.written_types.specs.Types.{default_number, default_test, numbered_arm}
-use Rattle.written_types.proofs.Arms.{AreArms, Rise}
+use Rattle.written_types.proofs.RisingArms.{AreArms, Rise}
 use Rattle.written_types.proofs.Fine.{Fine}
 use Rattle.written_types.proofs.Growing.{Grows, stays}
 use Rattle.written_types.proofs.Spots.{is_some_and}
@@ -150,7 +150,7 @@ pub default_fine : (s : Switch) (count : ℕ) (default : Option DefaultArm) → 
 default_fine s count None = tt
 default_fine s count (Some d) = by (nat_le s.values.count count) refl
   where
-    by : (b : Bool) → nat_le s.values.count count ≡ b → Fine (λ u. count < s.values.count) (if b then Err (Types (DefaultNeedless d.keyword)) else Ok tt)
+    by : (b : Bool) → nat_le s.values.count count ≡ b → (let r : Result (Unit {0}) BuildFault = if b then Err (Types (DefaultNeedless d.keyword)) else Ok tt in Fine (λ u. count < s.values.count) r)
     by true all = tt
     by false fewer = let lt = leb-false s.values.count count fewer in omega (arith, lt)
 
@@ -178,6 +178,7 @@ union_right graph s a switch h needed =
     default_there : (o : Option DefaultArm) → IfSome o (λ d. IsPart graph d.number) → IfSome (default_number o) (IsPart graph)
     default_there None h = tt
     default_there (Some d) h = h
+
     other : (node : Node) → AreBetween node s.values → (o : Option DefaultArm) → IsNeeded s (length a.arms) o → IfSome (default_number o) (λ member. HasOther node (map numbered_arm a.arms))
     other node bounds None h = tt
     other node bounds (Some d) fewer =

@@ -30,7 +30,7 @@ use Rattle.name_table.proofs.Stability.{get_push_last}
 
 -- ---- a node more
 
-grown_sound : (w : Written) (node : Node) (lines : Lines) → IsSound w → IsRight (w.nodes ++ node ∷ []) node → next w + 1 ≤ max_nodes
+pub grown_sound : (w : Written) (node : Node) (lines : Lines) → IsSound w → IsRight (w.nodes ++ node ∷ []) node → next w + 1 ≤ max_nodes
     → all_members w.nodes + members_in node ≤ w.members → IsSound (with_node w node lines)
 grown_sound w node lines s right fits room = record {
   limited = let long = length-append w.nodes (node ∷ []) in omega (arith, long, fits);
@@ -188,6 +188,7 @@ place_kept es g more before begun w e x p exceptions i widens none at no_body ha
     known : (f : ℕ) (q : Place) → ((f ≡ e) × (Some p ≡ Some q)) ⊎ ((f ≡ e → ⊥) × (slice_get w.places f ≡ Some (Some q))) → Known es more f
     known f q (inl (same, is)) = subst (Known es more) (sym same) widens.here
     known f q (inr (differs, is)) = widens.grows f (i.known f q is)
+
     has_place : (f : ℕ) (y : Entry) → slice_get es f ≡ Some y → Known es more f → (f ≡ e) ⊎ (f ≡ e → ⊥) → HasPlace y.kind (begun f) (slice_get (slice_set w.places e (Some p)) f)
     has_place f y there knows (inl same) =
         let here : slice_get es e ≡ Some y = subst (λ k. slice_get es k ≡ Some y) same there in
@@ -202,16 +203,21 @@ place_kept es g more before begun w e x p exceptions i widens none at no_body ha
         old : (f : ℕ) → (f ≡ e → ⊥) → (f ≡ e) ⊎ Known es g f → Known es g f
         old f differs (inl same) = absurd (differs same)
         old f differs (inr knows) = knows
+
     right_at : (f : ℕ) (q : Place) → ((f ≡ e) × (Some p ≡ Some q)) ⊎ ((f ≡ e → ⊥) × (slice_get w.places f ≡ Some (Some q))) → IsRightPlace w.nodes (length exceptions) q
     right_at f q (inl (same, is)) = let one : p ≡ q = cc in subst (IsRightPlace w.nodes (length exceptions)) one right
     right_at f q (inr (differs, is)) = place_stays w.nodes w.nodes (length w.exceptions) (length exceptions) (λ n node there. inl there) le q (i.right f q is)
+
     other : (f : ℕ) → HasBody es f → f ≡ e → ⊥
     other f body same = no_body_of es e x at no_body (subst (HasBody es) same body)
+
     earlier : (f n : ℕ) → HasBody es f → slice_get (slice_set w.places e (Some p)) f ≡ Some (Some (Typed n)) → slice_get w.places f ≡ Some (Some (Typed n))
     earlier f n body is = sym (set_other w.places e f (Some p) (other f body)) ∙ is
+
     not_yet : (f : ℕ) → (IsDone more (suc f) → ⊥) ⊎ begun f → (IsDone g (suc f) → ⊥) ⊎ before f
     not_yet f (inl never) = inl (λ done. never (widens.done (suc f) done))
     not_yet f (inr b) = inr (narrower f b)
+
     left : (n : ℕ) → IsLeft es g before w.places n → IsLeft es more begun (slice_set w.places e (Some p)) n
     left n l = record {
       entry = l.entry;

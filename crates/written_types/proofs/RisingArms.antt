@@ -29,11 +29,11 @@ Rise (arm ∷ arms) = AllByRecursion (λ other. int_lt arm.label other.label ≡
 
 all_with_arm : (P : Arm → Type 0) (arms : List Arm) (new : Arm) → P new → AllByRecursion P arms → AllByRecursion P (with_arm arms new)
 all_with_arm P [] new h hs = (h, tt)
-all_with_arm P (arm ∷ arms) new h (first, rest) = by (int_lt new.label arm.label)
+all_with_arm P (arm ∷ arms) new h (first, rest) = by (int_lt new.label arm.label) (all_with_arm P arms new h rest)
   where
-    by : (b : Bool) → AllByRecursion P (if b then new ∷ arm ∷ arms else arm ∷ with_arm arms new)
-    by true = (h, first, rest)
-    by false = (first, all_with_arm P arms new h rest)
+    by : (b : Bool) → AllByRecursion P (with_arm arms new) → AllByRecursion P (if b then new ∷ arm ∷ arms else arm ∷ with_arm arms new)
+    by true others = (h, (first, rest))
+    by false others = (first, others)
 
 less_on : (a b c : ℤ) → int_lt a b ≡ true → int_lt b c ≡ true → int_lt a c ≡ true
 less_on a b c first second = grind (arith, ints)
@@ -52,16 +52,14 @@ or_false false b h = (refl, h)
 
 rise_with : (arms : List Arm) (new : Arm) → Rise arms → is_label arms new.label ≡ false → Rise (with_arm arms new)
 rise_with [] new h free = (tt, tt)
-rise_with (arm ∷ arms) new (first, rest) free = by (int_lt new.label arm.label) refl
+rise_with (arm ∷ arms) new (first, rest) free =
+    let apart = or_false (int_eq arm.label new.label) (is_label arms new.label) free in
+    by (int_lt new.label arm.label) refl apart.0 (rise_with arms new rest apart.1)
   where
-    apart : (int_eq arm.label new.label ≡ false) × (is_label arms new.label ≡ false)
-    apart = or_false (int_eq arm.label new.label) (is_label arms new.label) free
-    by : (b : Bool) → int_lt new.label arm.label ≡ b → Rise (if b then new ∷ arm ∷ arms else arm ∷ with_arm arms new)
-    by true less = ((less, all_less new.label arm.label arms less first), first, rest)
-    by false not_less = (
-      all_with_arm (λ other. int_lt arm.label other.label ≡ true) arms new (greater new.label arm.label not_less apart.0) first,
-      rise_with arms new rest apart.1,
-    )
+    by : (b : Bool) → int_lt new.label arm.label ≡ b → int_eq arm.label new.label ≡ false → Rise (with_arm arms new) → Rise (if b then new ∷ arm ∷ arms else arm ∷ with_arm arms new)
+    by true less differs others = ((less, all_less new.label arm.label arms less first), (first, rest))
+    by false not_less differs others =
+        (all_with_arm (λ other. int_lt arm.label other.label ≡ true) arms new (greater new.label arm.label not_less differs) first, others)
 
 -- ---- arms and the labels of a case
 
@@ -118,21 +116,21 @@ value_fine s a ls line n h value = by (is_taken a ls n) refl
 
 arm_label : (arms : List Arm) (new : Arm) (n : ℤ) → is_label arms n ≡ false → int_eq new.label n ≡ false → is_label (with_arm arms new) n ≡ false
 arm_label [] new n free differs = ap (λ b. b || false) differs
-arm_label (arm ∷ arms) new n free differs = by (int_lt new.label arm.label)
+arm_label (arm ∷ arms) new n free differs =
+    let parts = or_false (int_eq arm.label n) (is_label arms n) free in
+    by (int_lt new.label arm.label) parts.0 (arm_label arms new n parts.1 differs)
   where
-    parts : (int_eq arm.label n ≡ false) × (is_label arms n ≡ false)
-    parts = or_false (int_eq arm.label n) (is_label arms n) free
-    by : (b : Bool) → is_label (if b then new ∷ arm ∷ arms else arm ∷ with_arm arms new) n ≡ false
-    by true = ap (λ b. b || is_label (arm ∷ arms) n) differs ∙ free
-    by false = ap (λ b. b || is_label (with_arm arms new) n) parts.0 ∙ arm_label arms new n parts.1 differs
+    by : (b : Bool) → int_eq arm.label n ≡ false → is_label (with_arm arms new) n ≡ false → is_label (if b then new ∷ arm ∷ arms else arm ∷ with_arm arms new) n ≡ false
+    by true first others = ap (λ b. b || is_label (arm ∷ arms) n) differs ∙ free
+    by false first others = ap (λ b. b || is_label (with_arm arms new) n) first ∙ others
 
 length_with : (arms : List Arm) (new : Arm) → length (with_arm arms new) ≡ length arms + 1
 length_with [] new = omega arith
-length_with (arm ∷ arms) new = by (int_lt new.label arm.label)
+length_with (arm ∷ arms) new = by (int_lt new.label arm.label) (length_with arms new)
   where
-    by : (b : Bool) → length (if b then new ∷ arm ∷ arms else arm ∷ with_arm arms new) ≡ length (arm ∷ arms) + 1
-    by true = omega arith
-    by false = omega (arith, length_with arms new)
+    by : (b : Bool) → length (with_arm arms new) ≡ length arms + 1 → length (if b then new ∷ arm ∷ arms else arm ∷ with_arm arms new) ≡ length (arm ∷ arms) + 1
+    by true others = omega arith
+    by false others = omega (arith, others)
 
 -- arms that rise, where these labels are free
 abbrev IsFree : Switch → List Arm → ℤ → Type 0
@@ -181,6 +179,7 @@ arms_stay graph later grows s a h = record { limited = h.limited; rise = h.rise;
         → AllByRecursion (λ arm. IsPart later arm.number × (is_value s.values arm.label ≡ true)) arms
     all [] hs = tt
     all (arm ∷ arms) (first, rest) = ((part_stays graph later grows arm.number first.0, first.1), all arms rest)
+
     by : (o : Option DefaultArm) → IfSome o (λ d. IsPart graph d.number) → IfSome o (λ d. IsPart later d.number)
     by None before = tt
     by (Some d) before = part_stays graph later grows d.number before
