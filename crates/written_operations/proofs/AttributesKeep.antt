@@ -27,7 +27,7 @@ use Rattle.written_types.specs.SimpleTypes.{entry_of, param_type}
 use Rattle.written_types.specs.Written.{Written, place_of, placed}
 use Rattle.written_types.proofs.Fine.{Fine, and_then, given, weaker}
 use Rattle.written_types.proofs.Growing.{frame_stays, part_stays}
-use Rattle.written_types.proofs.Keeping.{Keeps, Later, later_none, later_on}
+use Rattle.written_types.proofs.Keeping.{IsRightPlace, Keeps, Later, later_none, later_on}
 use Rattle.written_types.proofs.Naming.{Goes, IsSilent, entered, entry_is, silent_append, silent_keeps}
 use Rattle.written_types.proofs.Settled.{AllSettled, Settled, behind, both, both_behind}
 use Rattle.written_types.proofs.SimpleKeep.{param_keeps, param_silent}
@@ -101,7 +101,7 @@ both_fine es g d gets sets e r t h below below_too pending called called_too =
     let more_too = second.more in
     let behind_it : t.request ≡ r.request + 2 = omega (arith, start, start_too, more) in
     let reply_behind : t.request + 1 ≡ r.request + 3 = omega (arith, behind_it) in
-    let right = (
+    let right : IsRightPlace w.nodes (length w.exceptions) p = (
       frame_stays v.nodes w.nodes second.later.nodes r.request first.request,
       frame_stays v.nodes w.nodes second.later.nodes (r.request + 1) first.reply,
       subst (IsFrameAt w.nodes) behind_it second.request,

@@ -73,18 +73,26 @@ base_based es (suc e) base lt h = by (slice_get es e) refl
 
 -- ---- steps
 
-declared_based : (m : Meaning) (st next : State) (l : Leaf) → declared_as m st l ≡ Ok next → IsBased st → IsBased next
-declared_based m st next l h i =
+-- a declaration changes nothing, or adds an entry
+pub declared_either : (m : Meaning) (st next : State) (l : Leaf) → declared_as m st l ≡ Ok next → (st ≡ next) ⊎ (with_declared m st l ≡ next)
+declared_either m st next l h =
     let (u, test, rest) = then_ok (free_test l (taken_by st (word l))) (λ u. declares_over m st l (entry_in st.entries (named st.entries st.scope (word l)))) next h in
     by (entry_in st.entries (named st.entries st.scope (word l))) rest
   where
-    again : (e : Entry) (a b : Bool) → (let r : Reading = if not a then Err (Collides (at l) (at_entry (Some e))) else if b then Err (PrefixDiffers (at l) (at_entry (Some e))) else Ok st in r) ≡ Ok next → IsBased next
+    again : (e : Entry) (a b : Bool) → (let r : Reading = if not a then Err (Collides (at l) (at_entry (Some e))) else if b then Err (PrefixDiffers (at l) (at_entry (Some e))) else Ok st in r) ≡ Ok next → st ≡ next
     again e true true is = absurd cc
-    again e true false is = let same : st ≡ next = cc in subst IsBased same i
+    again e true false is = cc
     again e false b is = absurd cc
-    by : (o : Option Entry) → declares_over m st l o ≡ Ok next → IsBased next
-    by None is = let same : with_declared m st l ≡ next = cc in subst IsBased same (push_based st.entries _ refl i)
-    by (Some e) is = again e (may_reappear m.kind e.kind && bytes_eq (word l) e.name) (keeps_prefix m.kind && not (bytes_eq st.prefix e.prefix)) is
+    by : (o : Option Entry) → declares_over m st l o ≡ Ok next → (st ≡ next) ⊎ (with_declared m st l ≡ next)
+    by None is = inr cc
+    by (Some e) is = inl (again e (may_reappear m.kind e.kind && bytes_eq (word l) e.name) (keeps_prefix m.kind && not (bytes_eq st.prefix e.prefix)) is)
+
+declared_based : (m : Meaning) (st next : State) (l : Leaf) → declared_as m st l ≡ Ok next → IsBased st → IsBased next
+declared_based m st next l h i = by (declared_either m st next l h)
+  where
+    by : (st ≡ next) ⊎ (with_declared m st l ≡ next) → IsBased next
+    by (inl same) = subst IsBased same i
+    by (inr added) = subst IsBased added (push_based st.entries _ refl i)
 
 added_based : (st next : State) (inner : ℕ) (name : ScopedName) → base_added st inner name ≡ Ok next → IsBased st → IsBased next
 added_based st next inner name h i =
@@ -92,14 +100,14 @@ added_based st next inner name h i =
     let base : Base = record { token = (name_start name).number; entry = e } in
     let here = at (name_start name) in
     let (u, test, last) = then_ok (base_test st inner base here) (λ u. let r : Reading = Ok (based st inner base) in r) next rest in
-    let defined = passes (is_defined_interface st e) (list_any (λ b. nat_eq b.entry e) (bases_of st.entries inner)) (differ (features_of st.entries) inner base) here test in
+    let defined = passes (is_defined_interface st e) (list_any (λ b. nat_eq b.entry e) (bases_of st.entries inner)) (differ (features_of st.entries) inner base) here u test in
     let (x, there, kind) = of_kind is_interface (slice_get st.entries e) (and_parts (is_of is_interface (slice_get st.entries e)) (is_defined st (suc e)) defined).0 in
     let same : based st inner base ≡ next = cc in
     subst IsBased same (base_based st.entries inner base (slice_get_within st.entries e x there) i)
   where
-    passes : (a b c : Bool) (here : At) {u : Unit {0}} → (let t : Test = if not a then Err (BadBase here NotDefined) else if b then Err (BadBase here NamedTwice) else if c then Err (BadBase here FeatureTwice) else Ok tt in t) ≡ Ok u → a ≡ true
-    passes true b c here is = refl
-    passes false b c here is = absurd cc
+    passes : (a b c : Bool) (here : At) (u : Unit {0}) → (let t : Test = if not a then Err (BadBase here NotDefined) else if b then Err (BadBase here NamedTwice) else if c then Err (BadBase here FeatureTwice) else Ok tt in t) ≡ Ok u → a ≡ true
+    passes true b c here u is = refl
+    passes false b c here u is = absurd cc
 
 said_based : (st next : State) (l : Leaf) (o : Option Said) → said_read st l o ≡ Ok next → IsBased st → IsBased next
 said_based st next l None h i = let same : st ≡ next = cc in subst IsBased same i

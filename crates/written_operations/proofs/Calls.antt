@@ -114,7 +114,7 @@ param_closed : (id : Leaf) (p : Param) → Closed (param_steps id p)
 param_closed id p = closed (param_asks {ls = []} id p)
 
 param_silence : (id : Leaf) (p : Param) → AllByRecursion IsSilent (param_steps id p)
-param_silence id p = silent_append (param_type_steps p.param_type) (Enters id ∷ HasMember p.identifier ∷ Leaves ∷ []) (param_silent p.param_type) (tt, tt, tt, tt)
+param_silence id p = silent_append (param_type_steps p.param_type) (Enters id ∷ HasMember p.identifier ∷ Leaves ∷ []) (param_silent p.param_type) (tt, (tt, (tt, tt)))
 
 param_carried : (es : List Entry) (g : List Introduction) (w : Written) (scope : ℕ) (id : Leaf) (c : Carrying) (p : Param) → AllSettled es g scope (param_steps id p) → Carries es g w c
     → Fine (Carries es (behind es g scope (param_steps id p)) w) (with_param es scope c p)

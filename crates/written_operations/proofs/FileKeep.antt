@@ -14,6 +14,7 @@ use Rattle.scoped_names.specs.Steps.{definition_steps, steps_of}
 use Rattle.scoped_names.specs.Whole.{AreNames, Whole}
 use Rattle.written_types.specs.declared.fault.BuildFault.{BuildFault}
 use Rattle.written_types.specs.declared.place.Place.{Place}
+use Rattle.written_types.specs.declared.place.Place.TheVariants.{Typed}
 use Rattle.written_types.specs.Faults.{each}
 use Rattle.written_types.specs.Sound.{IsOfTypes, IsRight, IsSound}
 use Rattle.written_types.specs.Written.{Written, undefined, unwritten}
@@ -40,7 +41,7 @@ no_places (suc n) (suc e) p is = no_places n e p is
 basic_right : (n : ℕ) (node : Node) → slice_get basic_nodes n ≡ Some node → IsRight basic_nodes node
 basic_right n node is =
     inr (each_there (IsNode basic_nodes) basic_nodes n node
-    (tt, tt, tt, tt, tt, tt, tt, tt, tt, omega arith, (tt, omega arith), (omega arith, of_two 6 10 tt tt), (tt, omega arith), (omega arith, of_two 9 12 tt tt), tt) is)
+    (tt, (tt, (tt, (tt, (tt, (tt, (tt, (tt, (tt, (omega arith, ((tt, omega arith), ((omega arith, of_two 6 10 tt tt), ((tt, omega arith), ((omega arith, of_two 9 12 tt tt), tt)))))))))))))) is)
   where
     of_two : (a b : ℕ) → IsPart basic_nodes a → IsPart basic_nodes b → AreMembers basic_nodes (a ∷ b ∷ [])
     of_two a b first second = record {
@@ -49,7 +50,10 @@ basic_right n node is =
     }
 
 first_keeps : (es : List Entry) → Keeps es [] nothing_begun (unwritten (length es))
-first_keeps es = record {
+first_keeps es =
+    let count : length basic_nodes ≡ 14 = refl in
+    let members : all_members basic_nodes ≡ 4 = refl in
+    record {
   long = length-replicate (length es) None;
   known = λ e p is. absurd (no_places (length es) e p is);
   has = λ e x none at. absurd none;
@@ -59,17 +63,17 @@ first_keeps es = record {
   unplaced = λ e x none at. absurd none;
   right = λ e p is. absurd (no_places (length es) e p is);
   exceptions = λ k x is. absurd cc;
-  one = λ e f n body other first second. absurd (no_places (length es) e _ first);
-  ahead = λ e n body place yet. absurd (no_places (length es) e _ place);
+  one = λ e f n body other first second. absurd (no_places (length es) e (Typed n) first);
+  ahead = λ e n body place yet. absurd (no_places (length es) e (Typed n) place);
   left = λ n is. absurd (basic_defined n undefined is refl);
   basic = λ n node is. is;
   sound = record {
-    limited = omega arith;
+    limited = omega (arith, count);
     nodes = basic_right;
     counted = le_refl (all_members basic_nodes);
-    members = omega arith;
+    members = omega (arith, members);
     lines = refl;
-    exceptions = omega arith;
+    exceptions = omega (arith, count);
   };
 }
 

@@ -219,7 +219,7 @@ body_fine : (es : List Entry) (based : AreBased es) (g : List Introduction) (d :
     → AllSettled es g scope (Declares Kinds.Interface id ∷ IsUndefined id ∷ (map (HasBase id) (optional_parts bases) ++ Enters id ∷ Defines id ∷ flat_map export_steps exports) ++ Leaves ∷ [])
     → Fine (GoesAll es (behind es g scope (Declares Kinds.Interface id ∷ IsUndefined id ∷ (map (HasBase id) (optional_parts bases) ++ Enters id ∷ Defines id ∷ flat_map export_steps exports) ++ Leaves ∷ [])) d)
     (entry_of es scope id >> λ e. interface_of es d e exports)
-body_fine es based g d scope id bases exports h (declares, undefined, rest) =
+body_fine es based g d scope id bases exports h (declares, (undefined, rest)) =
     let n = entered es g scope id Kinds.Interface declares.holds.entries.0 declares.new in
     let g1 = Stands scope id Kinds.Interface ∷ g in
     let names = map (HasBase id) (optional_parts bases) in

@@ -1,7 +1,7 @@
 -- The declarations of modules and interfaces: what is kept stays so.
-use Rattle.std.proofs.Common.{◌≡◌, ◌∙◌, ◌⊎◌, inl, inr, ℕ, zero, suc, ◌+◌, ◌<◌, ◌≤◌, le_refl, Bool, true, false, List, [], ◌∷◌, ◌++◌, length, length-append, All, map, Option, Some, None, Result, Ok, Err, refl, sym, ap, subst, arith}
+use Rattle.std.proofs.Common.{◌≡◌, ◌∙◌, inl, ℕ, ◌+◌, ◌≤◌, true, List, [], ◌∷◌, ◌++◌, length, length-append, map, Option, Some, None, Result, Ok, Err, refl, sym, ap, subst, arith}
 use Rattle.std.specs.Prelude.{slice_get}
-use Rattle.std.specs.List.{AllByRecursion, flat_map}
+use Rattle.std.specs.List.{flat_map}
 use Rattle.std.proofs.lemmas.List.Elements.{All-cons, All-nil}
 use Rattle.idl_tree.specs.declared.names.Leaf.{Leaf}
 use Rattle.idl_tree.specs.declared.types.Declarator.{Declarator}
@@ -15,19 +15,16 @@ use Rattle.idl_tree.specs.declared.definitions.TypeDcl.{TypeDcl}
 use Rattle.idl_tree.specs.declared.definitions.TypeDcl.TheVariants as TypeDcls
 use Rattle.idl_tree.specs.Lists.{parts}
 use Rattle.type_graph.specs.declared.fault.GraphLimit.TheVariants.{Nodes}
-use Rattle.type_graph.specs.declared.node.Node.{Node}
 use Rattle.type_graph.specs.declared.node.Node.TheVariants.{Frame, Text}
 use Rattle.type_graph.specs.GraphRules.{IsNode, IsPart, all_members}
 use Rattle.name_table.specs.declared.entry.EntryKind.{EntryKind}
 use Rattle.name_table.specs.declared.entry.EntryKind.TheVariants as Kinds
-use Rattle.name_table.specs.Entry.{Entry, named}
-use Rattle.name_table.specs.Entries.{scope_number, scope_of}
-use Rattle.name_table.specs.Search.{word}
+use Rattle.name_table.specs.Entry.{Entry}
 use Rattle.name_table.proofs.Stability.{get_push_last}
 use Rattle.scoped_names.specs.Faults.{has_body}
 use Rattle.scoped_names.specs.Introductions.{Introduction, Stands}
 use Rattle.scoped_names.specs.Reading.{◌>>◌}
-use Rattle.scoped_names.specs.Steps.{Declares, DeclaresConst, DeclaresTypedef, Enters, IsNew as TestsNew, Leaves, const_steps, const_type_steps, declaration_steps, declarator_steps, except_steps, member_steps, size_step, type_dcl_steps, type_steps, typedef_steps}
+use Rattle.scoped_names.specs.Steps.{Declares, DeclaresConst, DeclaresTypedef, IsNew as TestsNew, const_steps, const_type_steps, declaration_steps, declarator_steps, except_steps, member_steps, size_step, type_dcl_steps, type_steps, typedef_steps}
 use Rattle.scoped_names.proofs.Asks.{const_type_asks, sizes_ask}
 use Rattle.scoped_names.proofs.Parts.{Closed, both_closed, closed, each_closed, one_closed}
 use Rattle.type_paths.specs.Lines.{Lines}
@@ -38,19 +35,19 @@ use Rattle.written_types.specs.Declarations.{ahead, declaration, except, excepti
 use Rattle.written_types.specs.Faults.{at_most, each, line_of, max_nodes}
 use Rattle.written_types.specs.Sound.{BeginsWithText, IsIdFrame}
 use Rattle.written_types.specs.SimpleTypes.{array_type, const_type, declarator_line, entry_of, enum_type}
-use Rattle.written_types.specs.Types.{WithMembers, members_added, struct_type, type_spec, union_type, with_member, with_members_of}
-use Rattle.written_types.specs.Written.{Numbered, Written, added, already, counted, next, opened, placed, raised_at, undefined, with_node}
+use Rattle.written_types.specs.Types.{WithMembers, struct_type, type_spec, union_type, with_member, with_members_of}
+use Rattle.written_types.specs.Written.{Numbered, Written, added, already, counted, next, opened, placed, raised_at, with_node}
 use Rattle.written_types.proofs.Defining.{raise_kept, raised_is}
 use Rattle.written_types.proofs.Each.{each_keeps}
 use Rattle.written_types.proofs.Fine.{Fine, and_then, at_most_fine, given, weaker}
-use Rattle.written_types.proofs.Growing.{part_stays, push_grows, stays}
+use Rattle.written_types.proofs.Growing.{part_stays}
 use Rattle.written_types.proofs.Keeping.{IsUnplaced, Keeps, Later, begins_unplaced, later_none, later_on, with_begun}
 use Rattle.written_types.proofs.Naming.{Goes, each_silent, entered, entry_is, silent_append, silent_keeps, type_named, unknown, unplaced}
 use Rattle.written_types.proofs.Settled.{AllSettled, Known, behind, both, both_behind, within}
 use Rattle.written_types.proofs.SimpleKeep.{Wrote, array_keeps, basic_part, const_keeps, const_silent, enum_keeps, still_fine}
 use Rattle.written_types.proofs.Spots.{is_some_and}
 use Rattle.written_types.proofs.StructsKeep.{Opens, first_members, opens_fine, spec_keeps, struct_keeps, union_keeps}
-use Rattle.written_types.proofs.TypesKeep.{AreRight, HasMembers, declarator_closed, type_closed}
+use Rattle.written_types.proofs.TypesKeep.{HasMembers, declarator_closed, type_closed}
 use Rattle.written_types.proofs.Writing.{Adds, Counts, counted_fine, node_kept, node_later, place_later, with_placed}
 
 -- ---- names for types

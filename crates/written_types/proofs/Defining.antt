@@ -1,11 +1,10 @@
 -- Structures and unions are declared and get their definitions, exceptions their frames: what is kept stays so.
-use Rattle.std.proofs.Common.{◌≡◌, ◌∙◌, ◌⊎◌, inl, inr, ℕ, zero, suc, ◌+◌, ◌-◌, ◌<◌, ◌≤◌, le_refl, Bool, true, false, List, [], ◌∷◌, ◌++◌, length, length-append, Option, Some, None, Result, Ok, Err, refl, sym, ap, subst, arith}
+use Rattle.std.proofs.Common.{◌≡◌, ◌∙◌, ◌⊎◌, inl, inr, ℕ, zero, suc, ◌+◌, ◌-◌, ◌≤◌, le_refl, Bool, true, false, List, [], ◌∷◌, ◌++◌, length, length-append, Option, Some, None, Result, Ok, Err, refl, sym, ap, subst, arith}
 use Rattle.std.specs.Prelude.{if◌then◌else◌, nat_lt, slice_get, slice_set, IsSomeAnd}
 use Rattle.std.specs.List.{AllByRecursion}
 use Rattle.std.proofs.lemmas.List.{length-set}
 use Rattle.std.proofs.lemmas.Option.{slice_get_within}
 use Rattle.basic_types.specs.BasicNodes.{basic_nodes}
-use Rattle.type_graph.specs.declared.fault.GraphLimit.TheVariants.{Nodes}
 use Rattle.type_graph.specs.declared.node.Node.{Node}
 use Rattle.type_graph.specs.GraphRules.{IsNoFrame, IsNode, IsPart, all_members, members_in}
 use Rattle.name_table.specs.declared.entry.EntryKind.{EntryKind}
@@ -13,21 +12,19 @@ use Rattle.name_table.specs.declared.entry.EntryKind.TheVariants as Kinds
 use Rattle.name_table.specs.Entry.{Entry}
 use Rattle.scoped_names.specs.Faults.{has_body}
 use Rattle.scoped_names.specs.Introductions.{Introduction}
-use Rattle.scoped_names.specs.Reading.{◌>>◌}
 use Rattle.scoped_names.specs.Tests.{is_of}
 use Rattle.type_paths.specs.Lines.{Lines}
 use Rattle.written_types.specs.declared.fault.BuildFault.{BuildFault}
 use Rattle.written_types.specs.declared.fault.BuildFault.TheVariants.{OtherNames}
 use Rattle.written_types.specs.declared.place.Place.{Place}
 use Rattle.written_types.specs.declared.place.Place.TheVariants.{Typed, Raised}
-use Rattle.written_types.specs.Faults.{at_most, max_nodes}
-use Rattle.written_types.specs.Sound.{IsIdFrame, IsRight, IsSound}
-use Rattle.written_types.specs.Written.{Written, Numbered, added, added_at, already, held_at, is_undefined, named_type, next, node_set, one_line, opened, opened_as, placed, raised_at, type_in, undefined, with_held, with_node}
-use Rattle.written_types.proofs.Fine.{Fine, and_then, at_most_fine, given}
-use Rattle.written_types.proofs.Growing.{Grows, grows_on, id_stays, node_stays, push_grows, right_stays, set_grows}
-use Rattle.written_types.proofs.Keeping.{HasBody, HasPlace, HasType, IsException, IsLeft, IsRightPlace, IsUnplaced, Keeps, Later, body_begun, body_placed, later_none, place_stays, with_begun}
+use Rattle.written_types.specs.Faults.{max_nodes}
+use Rattle.written_types.specs.Sound.{IsIdFrame, IsRight}
+use Rattle.written_types.specs.Written.{Written, held_at, is_undefined, next, node_set, placed, raised_at, undefined, with_held, with_node}
+use Rattle.written_types.proofs.Growing.{Grows, id_stays, node_stays, push_grows, right_stays, set_grows}
+use Rattle.written_types.proofs.Keeping.{HasBody, HasPlace, HasType, IsException, IsLeft, IsRightPlace, IsUnplaced, Keeps, Later, body_begun, place_stays, with_begun}
 use Rattle.written_types.proofs.Settled.{IsDone, Known}
-use Rattle.written_types.proofs.Spots.{is_some_and, push_cases, push_low, same_or_not, set_cases, set_here, set_other, sum_push, sum_set}
+use Rattle.written_types.proofs.Spots.{is_some_and, push_cases, push_low, same_or_not, set_cases, set_here, set_other, sum_set}
 use Rattle.written_types.proofs.Walks.{goes_on}
 use Rattle.written_types.proofs.Writing.{Widens, grown_sound, place_kept, place_later, placed_is, with_placed}
 use Rattle.name_table.proofs.Stability.{get_push_last}

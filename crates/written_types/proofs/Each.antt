@@ -1,9 +1,8 @@
 -- What each of several parts keeps.
-use Rattle.std.proofs.Common.{◌≡◌, ℕ, List, [], ◌∷◌, ◌++◌, Result, sym, subst}
+use Rattle.std.proofs.Common.{ℕ, List, [], ◌∷◌, Result, sym, subst}
 use Rattle.std.specs.List.{flat_map}
 use Rattle.name_table.specs.Entry.{Entry}
 use Rattle.scoped_names.specs.Introductions.{Introduction}
-use Rattle.scoped_names.specs.Reading.{◌>>◌}
 use Rattle.scoped_names.specs.Steps.{Step}
 use Rattle.scoped_names.proofs.Parts.{Closed}
 use Rattle.written_types.specs.declared.fault.BuildFault.{BuildFault}

@@ -1,11 +1,11 @@
 -- What is written, or a fault of the types: parts one behind another.
-use Rattle.std.proofs.Common.{◌≡◌, ℕ, ◌≤◌, Bool, true, false, List, [], ◌∷◌, Result, Ok, Err, refl, sym, subst, arith}
+use Rattle.std.proofs.Common.{◌≡◌, ℕ, ◌≤◌, Bool, true, false, Result, Ok, Err, refl, sym, subst}
 use Rattle.std.specs.Prelude.{if◌then◌else◌, nat_lt, MatchResult}
 use Rattle.std.proofs.lemmas.Bool.{ltb-false}
 use Rattle.type_graph.specs.declared.fault.GraphLimit.{GraphLimit}
 use Rattle.scoped_names.specs.Reading.{◌>>◌}
 use Rattle.written_types.specs.declared.fault.BuildFault.{BuildFault}
-use Rattle.written_types.specs.Faults.{at_most, each, limit}
+use Rattle.written_types.specs.Faults.{at_most, limit}
 use Rattle.written_types.specs.Sound.{IsOfTypes}
 use Rattle.written_types.proofs.Walks.{goes_on}
 

@@ -1,6 +1,6 @@
 -- Nodes to which others are added, and in which what has no definition gets one: what is right stays right.
-use Rattle.std.proofs.Common.{◌≡◌, ◌∙◌, ◌⊎◌, inl, inr, ℕ, zero, suc, ◌+◌, ◌<◌, ◌≤◌, true, false, All, List, [], ◌∷◌, ◌++◌, length, Option, Some, None, refl, sym, ap, subst, arith}
-use Rattle.std.specs.Prelude.{slice_get, slice_index_or, slice_set, IfSome, IsSomeAnd, ℤ}
+use Rattle.std.proofs.Common.{◌≡◌, ◌∙◌, ◌⊎◌, inl, inr, ℕ, zero, suc, ◌<◌, ◌≤◌, All, List, [], ◌∷◌, ◌++◌, length, Option, Some, None, refl, sym, subst, arith}
+use Rattle.std.specs.Prelude.{slice_get, slice_set, IfSome, IsSomeAnd, ℤ}
 use Rattle.std.proofs.lemmas.List.Elements.{All-weaker}
 use Rattle.std.proofs.lemmas.Option.{get_or_from_slice_get, slice_get_within}
 use Rattle.type_graph.specs.declared.node.Node.{Node}
@@ -9,7 +9,7 @@ use Rattle.type_graph.specs.Value.{IsNumber, node_at}
 use Rattle.type_graph.specs.GraphRules.{AreMembers, HasOther, IsNoFrame, IsNode, IsPart, IsSwitch, IsUnion}
 use Rattle.written_types.specs.Sound.{BeginsWithText, IsFrame, IsFrameAt, IsIdFrame, IsRight}
 use Rattle.written_types.specs.Written.{undefined}
-use Rattle.written_types.proofs.Spots.{is_some_and, push_low, set_cases, set_here, set_other, same_or_not, some_is, there_at}
+use Rattle.written_types.proofs.Spots.{is_some_and, push_low, set_here, set_other, same_or_not, some_is, there_at}
 
 -- a node stays, or it had no definition and is one that others may refer to
 abbrev pub Becomes : List Node → ℕ → Node → Type 0

@@ -1,12 +1,11 @@
 -- What is kept while the types of a file are written: each name that is introduced has what its kind has, no other name
 -- has anything, and the nodes are right.
-use Rattle.std.proofs.Common.{◌≡◌, ◌∙◌, ◌⊎◌, inl, inr, ℕ, suc, ◌+◌, ◌<◌, ◌≤◌, le_refl, Bool, true, false, List, [], ◌∷◌, ◌++◌, length, length-append, Option, Some, None, refl, sym, ap, subst, arith}
-use Rattle.std.specs.Prelude.{slice_get, slice_set}
-use Rattle.std.proofs.lemmas.List.{length-set}
+use Rattle.std.proofs.Common.{◌≡◌, ◌∙◌, ◌⊎◌, inl, inr, ℕ, suc, ◌+◌, ◌<◌, ◌≤◌, le_refl, true, false, List, ◌∷◌, length, Option, Some, None, sym, ap, subst, arith}
+use Rattle.std.specs.Prelude.{slice_get}
 use Rattle.idl_tree.specs.declared.names.Leaf.{Leaf}
 use Rattle.basic_types.specs.BasicNodes.{basic_nodes}
 use Rattle.type_graph.specs.declared.node.Node.{Node}
-use Rattle.type_graph.specs.GraphRules.{IsNode, IsPart}
+use Rattle.type_graph.specs.GraphRules.{IsPart}
 use Rattle.name_table.specs.declared.entry.EntryKind.{EntryKind}
 use Rattle.name_table.specs.declared.entry.EntryKind.TheVariants as Kinds
 use Rattle.name_table.specs.Entry.{Entry, named}
@@ -14,14 +13,12 @@ use Rattle.name_table.specs.Search.{word}
 use Rattle.scoped_names.specs.Faults.{has_body}
 use Rattle.scoped_names.specs.Introductions.{Introduction, Stands, Body, StandsFor}
 use Rattle.scoped_names.specs.Tests.{is_of}
-use Rattle.type_paths.specs.Lines.{Lines}
 use Rattle.written_types.specs.declared.place.Place.{Place}
 use Rattle.written_types.specs.declared.place.Place.TheVariants.{Typed, Raised, Called, Got, GotAndSet}
 use Rattle.written_types.specs.Sound.{IsFrameAt, IsIdFrame, IsSound}
 use Rattle.written_types.specs.Written.{Written, undefined}
-use Rattle.written_types.proofs.Growing.{Grows, frame_stays, grows_none, grows_on, id_stays, part_stays}
+use Rattle.written_types.proofs.Growing.{Grows, frame_stays, grows_none, grows_on, part_stays}
 use Rattle.written_types.proofs.Settled.{IsBody, IsDone, Known}
-use Rattle.written_types.proofs.Spots.{push_low, same_or_not, set_cases, set_here, set_other}
 
 -- a structure or a union
 abbrev pub HasBody : List Entry → ℕ → Type 0

@@ -1,5 +1,5 @@
 -- What names and expressions give where the steps that ask for them are settled.
-use Rattle.std.proofs.Common.{◌≡◌, ◌∙◌, ◌⊎◌, inl, inr, ℕ, zero, suc, ◌+◌, ◌<◌, ◌≤◌, Bool, true, false, nat_lt, List, [], ◌∷◌, ◌++◌, length, map, Option, Some, None, Result, Ok, Err, refl, sym, ap, subst, arith}
+use Rattle.std.proofs.Common.{◌≡◌, ◌∙◌, ◌⊎◌, inl, inr, ℕ, ◌<◌, ◌≤◌, Bool, true, false, nat_lt, List, [], ◌∷◌, ◌++◌, length, map, Option, Some, None, Result, Ok, refl, sym, ap, subst, arith}
 use Rattle.std.specs.Prelude.{slice_get, slice_set, ℤ, pos, negsuc}
 use Rattle.std.specs.List.{AllByRecursion, flat_map}
 use Rattle.std.proofs.lemmas.Bool.{ltb-true}
@@ -9,7 +9,6 @@ use Rattle.idl_tree.specs.declared.names.ScopedName.{ScopedName}
 use Rattle.idl_tree.specs.declared.expression.Expr.{Expr}
 use Rattle.idl_tree.specs.Starts.{expr_start}
 use Rattle.type_graph.specs.GraphRules.{IsPart}
-use Rattle.const_values.specs.declared.constant.Constant.{Constant}
 use Rattle.const_values.specs.Arithmetic.{where_true}
 use Rattle.const_values.specs.Worth.{positive, whole_number}
 use Rattle.name_table.specs.declared.entry.EntryKind.{EntryKind}
@@ -22,9 +21,9 @@ use Rattle.scoped_names.specs.declared.fault.Flaw.{Flaw}
 use Rattle.scoped_names.specs.declared.fault.Flaw.TheVariants.{NotPositive}
 use Rattle.scoped_names.specs.Faults.{has_body, may_reappear}
 use Rattle.scoped_names.specs.Holding.{Holds}
-use Rattle.scoped_names.specs.Introductions.{Introduction, Stands, Has, Body, IsEntry, StandsFor, introduced_by, scope_behind}
-use Rattle.scoped_names.specs.Steps.{Step, Declares, DeclaresEnum, DeclaresEnumerator, DeclaresTypedef, IsNew as TestsNew, DeclaresConst, DeclaresFeature, HasMember, IsUndefined, HasBase, Enters, Defines, Leaves, NamesType, NamesException, HasWorth, IsSize, Says}
-use Rattle.scoped_names.specs.Tests.{at, is_of, is_type, or_bad, resolved, size_read, value_read}
+use Rattle.scoped_names.specs.Introductions.{Introduction, Stands, Has, IsEntry, introduced_by, scope_behind}
+use Rattle.scoped_names.specs.Steps.{Step, Declares, DeclaresEnum, DeclaresEnumerator, DeclaresTypedef, DeclaresConst, DeclaresFeature, HasMember, Defines, NamesType, IsSize}
+use Rattle.scoped_names.specs.Tests.{at, is_of, is_type, or_bad, size_read, value_read}
 use Rattle.scoped_names.proofs.Introducing.{then_ok}
 use Rattle.scoped_names.proofs.OnlyMemory.{finds_one, there_is}
 use Rattle.written_types.specs.declared.place.Place.{Place}

@@ -86,7 +86,7 @@ split es g scope [] ys h = (tt, h)
 split es g scope (s ∷ xs) ys (h, hs) =
     let rest = split es (onto (introduced_by scope s) g) (scope_behind es scope s) xs ys hs in ((h, rest.0), rest.1)
 
-behind_split : (es : List Entry) (g : List Introduction) (scope : ℕ) (xs ys : List Step)
+pub behind_split : (es : List Entry) (g : List Introduction) (scope : ℕ) (xs ys : List Step)
     → behind es g scope (xs ++ ys) ≡ behind es (behind es g scope xs) (scope_past es scope xs) ys
 behind_split es g scope [] ys = refl
 behind_split es g scope (s ∷ xs) ys = behind_split es (onto (introduced_by scope s) g) (scope_behind es scope s) xs ys

@@ -1,5 +1,5 @@
 -- Types that declare nothing, arrays and enumerations: what is kept stays so.
-use Rattle.std.proofs.Common.{◌≡◌, ◌∙◌, ℕ, zero, suc, ◌+◌, ◌<◌, ◌≤◌, true, false, List, [], ◌∷◌, ◌++◌, length, map, Option, Some, None, Result, Ok, Err, refl, sym, ap, subst, arith}
+use Rattle.std.proofs.Common.{◌≡◌, ◌∙◌, ℕ, ◌<◌, ◌≤◌, List, [], ◌∷◌, length, map, Option, Some, None, Ok, refl, arith}
 use Rattle.std.specs.Prelude.{slice_get}
 use Rattle.std.specs.List.{AllByRecursion}
 use Rattle.idl_tree.specs.declared.const_expr.Bound.{Bound}
@@ -25,20 +25,19 @@ use Rattle.type_graph.specs.declared.node.Node.TheVariants.{Text, Seq, Array, En
 use Rattle.type_graph.specs.GraphRules.{IsNoFrame, IsPart}
 use Rattle.name_table.specs.declared.entry.EntryKind.TheVariants as Kinds
 use Rattle.name_table.specs.Entry.{Entry}
-use Rattle.scoped_names.specs.Introductions.{Introduction, Stands, scope_behind}
-use Rattle.scoped_names.specs.Steps.{DeclaresEnumerator, IsSize, bound_steps, const_type_steps, enum_steps, param_type_steps, simple_type_steps, size_step}
+use Rattle.scoped_names.specs.Introductions.{Introduction, Stands}
+use Rattle.scoped_names.specs.Steps.{DeclaresEnumerator, bound_steps, const_type_steps, enum_steps, param_type_steps, simple_type_steps, size_step}
 use Rattle.scoped_names.specs.Tests.{size_read}
 use Rattle.scoped_names.proofs.Asks.{type_asks}
 use Rattle.scoped_names.proofs.Parts.{closed}
 use Rattle.written_types.specs.declared.place.Place.TheVariants.{Typed}
 use Rattle.written_types.specs.Faults.{at_most, line_of, max_bound, max_enumerators, max_size, of_names}
 use Rattle.written_types.specs.SimpleTypes.{array_type, arrays, bound_of, bound_or_none, const_type, declarator_line, entry_of, enum_type, integer_number, param_type, simple_type, size_of, sizes_read, type_found}
-use Rattle.written_types.specs.Written.{Written, Numbered, added, added_at, already, named_type, one_line, placed}
+use Rattle.written_types.specs.Written.{Written, Numbered, added_at, already, named_type, one_line, placed}
 use Rattle.written_types.proofs.Fine.{Fine, and_then, at_most_fine, given, weaker}
 use Rattle.written_types.proofs.Keeping.{Keeps, Later, later_none, later_on}
-use Rattle.written_types.proofs.Naming.{Entered, Goes, IsSilent, each_silent, entered, entry_is, finds_type, silent_append, silent_keeps, size_known, type_named}
+use Rattle.written_types.proofs.Naming.{Entered, IsSilent, each_silent, entered, entry_is, finds_type, silent_append, silent_keeps, size_known, type_named}
 use Rattle.written_types.proofs.Settled.{AllSettled, behind, both}
-use Rattle.written_types.proofs.Growing.{part_stays}
 use Rattle.written_types.proofs.Spots.{is_some_and}
 use Rattle.written_types.proofs.Writing.{Adds, added_fine, with_placed}
 

@@ -1,5 +1,5 @@
 -- Structures and unions, from their declarations to their definitions: what is kept stays so.
-use Rattle.std.proofs.Common.{◌≡◌, ◌∙◌, ◌⊎◌, inl, inr, ℕ, zero, suc, ◌+◌, ◌<◌, ◌≤◌, le_refl, Bool, true, false, List, [], ◌∷◌, ◌++◌, length, All, map, Option, Some, None, Result, Ok, Err, refl, sym, ap, subst, arith}
+use Rattle.std.proofs.Common.{◌≡◌, ◌∙◌, inl, inr, ℕ, suc, ◌+◌, ◌≤◌, true, List, [], ◌∷◌, ◌++◌, length, map, Option, Some, None, Result, Ok, refl, sym, ap, subst, arith}
 use Rattle.std.specs.Prelude.{slice_get}
 use Rattle.std.specs.List.{flat_map}
 use Rattle.std.proofs.lemmas.List.Elements.{All-nil}
@@ -9,7 +9,6 @@ use Rattle.idl_tree.specs.declared.names.Leaf.{Leaf}
 use Rattle.idl_tree.specs.declared.names.Listed.{Listed}
 use Rattle.idl_tree.specs.declared.types.Declarator.{Declarator}
 use Rattle.idl_tree.specs.declared.types.SimpleType.{SimpleType}
-use Rattle.idl_tree.specs.declared.types.Member.{Member}
 use Rattle.idl_tree.specs.declared.types.TypeSpec.{TypeSpec, Simple, Struct as StructSpec, Union as UnionSpec, Enum as EnumSpec}
 use Rattle.idl_tree.specs.declared.types.StructType.{StructType, StructType', Row_of-Member, end_of-Member, more_of-Member}
 use Rattle.idl_tree.specs.declared.types.UnionType.{UnionType, UnionType', Row_of-Case, end_of-Case, more_of-Case}
@@ -25,9 +24,9 @@ use Rattle.name_table.specs.Search.{word}
 use Rattle.scoped_names.specs.Faults.{has_body}
 use Rattle.scoped_names.specs.Introductions.{Introduction, Stands, Body}
 use Rattle.scoped_names.specs.Reading.{◌>>◌}
-use Rattle.scoped_names.specs.Steps.{Declares, Defines, Enters, Leaves, case_steps, cases_steps, declarator_steps, label_steps, member_steps, members_steps, simple_type_steps, struct_steps, switch_steps, type_steps, union_steps}
+use Rattle.scoped_names.specs.Steps.{cases_steps, declarator_steps, label_steps, members_steps, simple_type_steps, struct_steps, switch_steps, type_steps, union_steps}
 use Rattle.scoped_names.specs.Tests.{is_of}
-use Rattle.scoped_names.proofs.Asks.{cases_ask, declarators_ask, members_ask, switch_asks, type_asks}
+use Rattle.scoped_names.proofs.Asks.{cases_ask, members_ask, switch_asks}
 use Rattle.scoped_names.proofs.Parts.{Closed, both_closed, closed, each_closed}
 use Rattle.written_types.specs.declared.fault.BuildFault.{BuildFault}
 use Rattle.written_types.specs.declared.labels.Switch.{Switch}
@@ -40,9 +39,9 @@ use Rattle.written_types.specs.Types.{Cases, WithMembers, arm_line, case_added, 
 use Rattle.written_types.specs.Written.{Numbered, Written, added_at, already, counted, named_type, next, node_set, one_line, opened, opened_as, placed, type_in, undefined, with_node}
 use Rattle.written_types.proofs.Defining.{define_kept, define_later, node_set_is, open_kept, open_later, with_defined, with_open}
 use Rattle.written_types.proofs.Fine.{Fine, and_then, at_most_fine, given, weaker}
-use Rattle.written_types.proofs.Keeping.{HasBody, HasPlace, HasType, Keeps, Later, NeedsNothing, begins, body_placed, later_none, later_on, more_known, with_begun}
+use Rattle.written_types.proofs.Keeping.{HasBody, HasPlace, Keeps, Later, NeedsNothing, begins, body_placed, later_none, later_on, more_known, with_begun}
 use Rattle.written_types.proofs.Naming.{Entered, Goes, entered, entry_is, silent_keeps, widens}
-use Rattle.written_types.proofs.Settled.{AllSettled, Inside, IsDone, Known, behind, both, both_behind, done_stays, inside, known_stays}
+use Rattle.written_types.proofs.Settled.{AllSettled, IsDone, Known, behind, both, both_behind, done_stays, inside}
 use Rattle.written_types.proofs.SimpleKeep.{Wrote, enum_keeps, simple_keeps, simple_silent}
 use Rattle.written_types.proofs.Spots.{set_here, there_at}
 use Rattle.written_types.proofs.TypesKeep.{AreRight, Chosen, HasCases, HasMembers, added_case, added_members, declarator_closed, label_closed, switch_keeps, type_closed}

@@ -1,39 +1,31 @@
 -- Structures, unions and their members: what is kept stays so.
-use Rattle.std.proofs.Common.{◌≡◌, ◌∙◌, ◌⊎◌, inl, inr, ℕ, zero, suc, ◌+◌, ◌<◌, ◌≤◌, Bool, true, false, List, [], ◌∷◌, ◌++◌, length, length-append, All, map, Option, Some, None, Result, Ok, Err, append_assoc, refl, sym, ap, subst, arith, ℤ}
+use Rattle.std.proofs.Common.{◌≡◌, ◌∙◌, ℕ, ◌+◌, ◌≤◌, Bool, true, false, List, [], ◌∷◌, ◌++◌, length, length-append, Option, Some, None, Result, Ok, Err, refl, sym, ap, subst, arith, ℤ}
 use Rattle.std.specs.Prelude.{◌&&◌, ◌||◌, if◌then◌else◌, is_some, slice_get}
 use Rattle.std.specs.List.{AllByRecursion, flat_map}
-use Rattle.std.proofs.lemmas.Bool.{and_parts}
-use Rattle.std.proofs.lemmas.List.Elements.{All-nil, All-push}
-use Rattle.idl_tree.specs.declared.names.Leaf.{Leaf}
+use Rattle.std.proofs.lemmas.List.Elements.{All-push}
 use Rattle.idl_tree.specs.declared.names.Listed.{Listed}
 use Rattle.idl_tree.specs.declared.types.Declarator.{Declarator}
 use Rattle.idl_tree.specs.declared.types.Label.{Label}
 use Rattle.idl_tree.specs.declared.types.Label.TheVariants.{Case as CaseLabel, Default}
-use Rattle.idl_tree.specs.declared.types.Member.{Member}
 use Rattle.idl_tree.specs.declared.types.SwitchType.{SwitchType}
 use Rattle.idl_tree.specs.declared.types.SwitchType.TheVariants as SwitchTypes
-use Rattle.idl_tree.specs.declared.types.TypeSpec.{TypeSpec, Simple, Struct as StructSpec, Union as UnionSpec, Enum as EnumSpec}
-use Rattle.idl_tree.specs.declared.types.StructType.{StructType, StructType', Row_of-Member, end_of-Member, more_of-Member}
-use Rattle.idl_tree.specs.declared.types.UnionType.{UnionType, UnionType', Row_of-Case, end_of-Case, more_of-Case}
+use Rattle.idl_tree.specs.declared.types.TypeSpec.{TypeSpec}
 use Rattle.idl_tree.specs.Lists.{parts}
 use Rattle.idl_tree.specs.Starts.{expr_start}
 use Rattle.type_graph.specs.declared.fault.GraphLimit.TheVariants.{Members as MembersLimit}
 use Rattle.type_graph.specs.declared.node.Node.{Node}
-use Rattle.type_graph.specs.declared.node.Node.TheVariants.{Struct, Union}
 use Rattle.type_graph.specs.declared.values.Values.{Values}
 use Rattle.type_graph.specs.GraphRules.{AreMembers, IsPart}
 use Rattle.const_values.specs.declared.constant.Constant.{Constant}
 use Rattle.const_values.specs.declared.kind.ConstKind.{ConstKind}
 use Rattle.const_values.specs.Kinds.{fits}
-use Rattle.name_table.specs.declared.entry.EntryKind.{EntryKind}
 use Rattle.name_table.specs.declared.entry.EntryKind.TheVariants as Kinds
-use Rattle.name_table.specs.Entry.{Entry, named}
+use Rattle.name_table.specs.Entry.{Entry}
 use Rattle.name_table.specs.Search.{word}
-use Rattle.scoped_names.specs.Introductions.{Introduction, Stands}
-use Rattle.scoped_names.specs.Reading.{◌>>◌}
-use Rattle.scoped_names.specs.Steps.{HasMember, HasWorth, IsSize, Step, case_steps, cases_steps, declarator_steps, label_steps, member_steps, members_steps, size_step, struct_steps, switch_steps, type_steps, union_steps}
+use Rattle.scoped_names.specs.Introductions.{Introduction}
+use Rattle.scoped_names.specs.Steps.{declarator_steps, label_steps, size_step, switch_steps, type_steps}
 use Rattle.scoped_names.specs.Tests.{value_read}
-use Rattle.scoped_names.proofs.Asks.{cases_ask, declarator_asks, label_asks, members_ask, switch_asks, type_asks}
+use Rattle.scoped_names.proofs.Asks.{declarator_asks, label_asks, type_asks}
 use Rattle.scoped_names.proofs.OnlyMemory.{there_is}
 use Rattle.scoped_names.proofs.Parts.{Closed, both_closed, closed, each_closed}
 use Rattle.written_types.specs.declared.fault.BuildFault.{BuildFault}
@@ -41,10 +33,10 @@ use Rattle.written_types.specs.declared.fault.BuildFault.TheVariants.{Types}
 use Rattle.written_types.specs.declared.fault.TypeFault.TheVariants.{LabelRange, LabelTwice}
 use Rattle.written_types.specs.declared.labels.Switch.{Switch}
 use Rattle.written_types.specs.Faults.{at_most, each, line_of, max_members, of_names}
-use Rattle.written_types.specs.Labels.{Arms, CaseLabels, Switched, is_value, label_added, label_number, label_value, label_within, no_labels, switch_kind, switch_line, switch_of, switch_read, switch_type, switched, value_added, values_of, with_case}
+use Rattle.written_types.specs.Labels.{Arms, CaseLabels, Switched, is_value, label_added, label_number, label_value, label_within, no_labels, switch_kind, switch_line, switch_of, switch_read, switch_type, switched, value_added, values_of}
 use Rattle.written_types.specs.Members.{Members}
 use Rattle.written_types.specs.SimpleTypes.{array_type, declarator_line, entry_found, entry_of, integer_number, type_found}
-use Rattle.written_types.specs.Types.{Cases, WithMembers, case_added, cases_of, member_added, members_added, with_declarator, with_declarators, with_members_of}
+use Rattle.written_types.specs.Types.{Cases, WithMembers, case_added, member_added, members_added, with_declarator, with_declarators, with_members_of}
 use Rattle.written_types.specs.Written.{Numbered, Written, already}
 use Rattle.written_types.proofs.RisingArms.{AreArms, AreLabels, arms_stay, case_arms, value_fine}
 use Rattle.written_types.proofs.Fine.{Fine, and_then, at_most_fine, given, weaker}

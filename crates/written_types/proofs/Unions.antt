@@ -1,6 +1,6 @@
 -- A union whose arms are right keeps the rules of nodes.
-use Rattle.std.proofs.Common.{◌≡◌, ◌∙◌, ◌≢◌, ◌↔◌, ℕ, zero, suc, ◌+◌, ◌-◌, ◌^◌, ◌/◌, ◌<◌, ◌≤◌, Bool, true, false, nat_lt, List, [], ◌∷◌, length, All, map, Option, Some, None, Result, Ok, Err, refl, sym, ap, subst, arith, ℤ, pos, negsuc, ◌+ℤ◌, ◌<ℤ◌, ◌≤ℤ◌, int_lt, IsTrue}
-use Rattle.std.specs.Prelude.{◌&&◌, if◌then◌else◌, int_le, nat_le, neg_ℤ, slice_get, slice_index_or, IfSome, IsSomeAnd}
+use Rattle.std.proofs.Common.{◌≡◌, ◌∙◌, ℕ, zero, suc, ◌/◌, ◌<◌, Bool, true, false, List, [], ◌∷◌, length, All, map, Option, Some, None, Result, Ok, Err, refl, sym, ap, subst, arith, ℤ, pos, negsuc, ◌+ℤ◌, ◌<ℤ◌, ◌≤ℤ◌, int_lt}
+use Rattle.std.specs.Prelude.{if◌then◌else◌, int_le, nat_le, neg_ℤ, slice_get, IfSome}
 use Rattle.std.specs.List.{AllByRecursion}
 use Rattle.std.proofs.lemmas.Bool.{and_parts, leb-false, lt-ltb}
 use Rattle.std.proofs.lemmas.Int.{ints}
@@ -12,8 +12,8 @@ use Rattle.type_graph.specs.declared.node.Node.TheVariants.{Whole, Octet, Char, 
 use Rattle.type_graph.specs.declared.values.Values.{Values}
 use Rattle.type_graph.specs.declared.width.Width.{Width}
 use Rattle.type_graph.specs.declared.width.Width.TheVariants.{One, Two, Four, Eight}
-use Rattle.type_graph.specs.GraphRules.{HasOther, IsNode, IsPart, IsSwitch, label_at}
-use Rattle.type_graph.specs.Labels.{AreRising, AreWithin, HasOtherWithin}
+use Rattle.type_graph.specs.GraphRules.{HasOther, IsNode, IsPart, IsSwitch}
+use Rattle.type_graph.specs.Labels.{AreRising, AreWithin}
 use Rattle.type_graph.specs.Value.{IsBelow, IsNumber, node_at}
 use Rattle.type_graph.specs.Words.{words_of}
 use Rattle.type_graph.proofs.LabelLaws.{other_where_fewer}

@@ -1,31 +1,24 @@
 -- One node more, one name more, one definition more: what is kept stays so.
-use Rattle.std.proofs.Common.{◌≡◌, ◌∙◌, ◌⊎◌, inl, inr, ℕ, suc, ◌+◌, ◌-◌, ◌<◌, ◌≤◌, le_refl, Bool, true, false, List, [], ◌∷◌, ◌++◌, length, length-append, Option, Some, None, Result, Ok, Err, refl, sym, ap, subst, arith}
-use Rattle.std.specs.Prelude.{if◌then◌else◌, nat_lt, slice_get, slice_set}
-use Rattle.std.specs.List.{AllByRecursion}
+use Rattle.std.proofs.Common.{◌≡◌, ◌∙◌, ◌⊎◌, inl, inr, ℕ, suc, ◌+◌, ◌≤◌, le_refl, false, List, [], ◌∷◌, ◌++◌, length, length-append, Some, None, Ok, refl, sym, ap, subst, arith}
+use Rattle.std.specs.Prelude.{slice_get, slice_set}
 use Rattle.std.proofs.lemmas.List.{length-set}
-use Rattle.basic_types.specs.BasicNodes.{basic_nodes}
 use Rattle.type_graph.specs.declared.fault.GraphLimit.TheVariants.{Nodes, AllMembers}
 use Rattle.type_graph.specs.declared.node.Node.{Node}
 use Rattle.type_graph.specs.GraphRules.{IsNoFrame, IsNode, IsPart, all_members, members_in}
-use Rattle.name_table.specs.declared.entry.EntryKind.{EntryKind}
-use Rattle.name_table.specs.declared.entry.EntryKind.TheVariants as Kinds
 use Rattle.name_table.specs.Entry.{Entry}
 use Rattle.scoped_names.specs.Faults.{has_body}
 use Rattle.scoped_names.specs.Introductions.{Introduction}
-use Rattle.scoped_names.specs.Tests.{is_of}
 use Rattle.type_paths.specs.Lines.{Lines}
-use Rattle.written_types.specs.declared.fault.BuildFault.{BuildFault}
-use Rattle.written_types.specs.declared.fault.BuildFault.TheVariants.{OtherNames}
 use Rattle.written_types.specs.declared.place.Place.{Place}
-use Rattle.written_types.specs.declared.place.Place.TheVariants.{Typed, Raised}
+use Rattle.written_types.specs.declared.place.Place.TheVariants.{Typed}
 use Rattle.written_types.specs.Faults.{at_most, max_all_members, max_nodes}
-use Rattle.written_types.specs.Sound.{IsIdFrame, IsRight, IsSound}
-use Rattle.written_types.specs.Written.{Written, Numbered, added, already, counted, held_at, is_undefined, next, node_set, placed, placed_at, raised_at, undefined, with_held, with_node}
+use Rattle.written_types.specs.Sound.{IsRight, IsSound}
+use Rattle.written_types.specs.Written.{Written, Numbered, added, counted, next, placed, placed_at, undefined, with_node}
 use Rattle.written_types.proofs.Fine.{Fine, and_then, at_most_fine}
-use Rattle.written_types.proofs.Growing.{Grows, id_stays, node_stays, push_grows, right_stays, set_grows}
-use Rattle.written_types.proofs.Keeping.{HasBody, HasPlace, IsException, IsLeft, IsRightPlace, IsUnplaced, Keeps, Later, body_begun, no_body_of, place_stays, with_begun}
+use Rattle.written_types.proofs.Growing.{id_stays, node_stays, push_grows, right_stays}
+use Rattle.written_types.proofs.Keeping.{HasBody, HasPlace, IsException, IsLeft, IsRightPlace, IsUnplaced, Keeps, Later, body_begun, no_body_of, place_stays}
 use Rattle.written_types.proofs.Settled.{IsDone, Known}
-use Rattle.written_types.proofs.Spots.{is_some_and, push_cases, push_low, same_or_not, set_cases, set_here, set_other, sum_push, sum_set}
+use Rattle.written_types.proofs.Spots.{is_some_and, push_cases, push_low, same_or_not, set_cases, set_here, set_other, sum_push}
 use Rattle.name_table.proofs.Stability.{get_push_last}
 
 -- ---- a node more
