@@ -1,13 +1,16 @@
 -- What reading a specification's names takes for defined has its body among what the specification introduces.
-use Rattle.std.proofs.Common.{◌≡◌, ◌∙◌, ◌⊎◌, inl, inr, ℕ, zero, suc, ◌+◌, Bool, true, false, not, ◌&&◌, nat_eq, List, [], ◌∷◌, ◌++◌, Option, Some, None, Result, Ok, Err, refl, sym, ap, subst, arith}
+use Rattle.std.proofs.Common.{◌≡◌, ◌∙◌, ◌⊎◌, inl, inr, ℕ, zero, suc, ◌+◌, Bool, true, false, not, ◌&&◌, nat_eq, List, [], ◌∷◌, ◌++◌, length, Option, Some, None, Result, Ok, Err, refl, sym, ap, subst, arith}
 use Rattle.std.specs.Prelude.{◌||◌, if◌then◌else◌, slice_get}
 use Rattle.std.specs.List.{AllByRecursion, list_any}
 use Rattle.std.proofs.lemmas.Bool.{eqb-true}
 use Rattle.std.proofs.lemmas.List.Folds.{list_any-append}
 use Rattle.idl_lexer.specs.Identifiers.{words}
 use Rattle.idl_tree.specs.declared.names.Leaf.{Leaf}
+use Rattle.idl_tree.specs.declared.names.ScopedName.{ScopedName}
+use Rattle.idl_tree.specs.Starts.{name_start}
 use Rattle.idl_tree.specs.declared.definitions.Definition.{Definition}
 use Rattle.idl_tree.specs.Pieces.{Piece}
+use Rattle.name_table.specs.declared.entry.Base.{Base}
 use Rattle.name_table.specs.declared.entry.EntryKind.{EntryKind}
 use Rattle.name_table.specs.declared.entry.Meaning.{Meaning}
 use Rattle.name_table.specs.Entry.{Entry, around, named}
@@ -15,14 +18,14 @@ use Rattle.name_table.specs.Entries.{plain as plain_meant, scope_number, scope_o
 use Rattle.name_table.specs.Features.{features_of}
 use Rattle.name_table.specs.Search.{begins_at_root, identifiers_see, inherited, word}
 use Rattle.scoped_names.specs.declared.fault.At.{At}
-use Rattle.scoped_names.specs.Faults.{declared as declared_plain, declared_as, free_of, given_once, has_body, is_defined, is_left_open, left_open, never_defined, nothing_yet, prefix_set, said_read, step_read, steps_read, test_of, type_kind, undefined_test, with_declared}
+use Rattle.scoped_names.specs.Faults.{base_added, base_test, based, with_base_at, declared as declared_plain, declared_as, free_of, given_once, has_body, is_defined, is_left_open, left_open, never_defined, new_test, nothing_yet, prefix_set, said_read, step_read, steps_read, test_of, type_kind, undefined_test, with_declared}
 use Rattle.scoped_names.specs.IdPragmas.{Said, SetsPrefix, Gives, said_by}
-use Rattle.scoped_names.specs.Introductions.{introduced_by, scope_behind}
+use Rattle.scoped_names.specs.Introductions.{Introduction, introduced_by, scope_behind}
 use Rattle.scoped_names.specs.Meanings.{const_meant, enum_meant, enumerator_meant, typedef_meant}
 use Rattle.scoped_names.specs.Reading.{Reading, State, Test, ◌>>◌, passed}
 use Rattle.scoped_names.specs.RepositoryIds.{given_to}
 use Rattle.scoped_names.specs.Steps.{Step, Declares, DeclaresEnum, DeclaresEnumerator, DeclaresTypedef, IsNew, DeclaresConst, DeclaresFeature, HasMember, IsUndefined, HasBase, Enters, Defines, Leaves, NamesType, NamesException, HasWorth, IsSize, Says, steps_of}
-use Rattle.scoped_names.specs.Tests.{at, at_entry, found_at, is_of, value_of_type}
+use Rattle.scoped_names.specs.Tests.{at, at_entry, found_at, resolved, value_of_type}
 use Rattle.scoped_names.specs.TypeKinds.{const_type_kind}
 use Rattle.scoped_names.specs.Whole.{AreNames, Whole}
 use Rattle.scoped_names.proofs.Asks.{Asks, all_ask, none as unasked, silent, joined as both_asked, plain, base, valued, declared, featured, undefined, inside, defines}
@@ -91,10 +94,20 @@ defines_moves st next l h =
         one false true before is h = inr (inl (eqb-true k st.scope is))
         one false false before is h = absurd cc
 
+-- a base more defines nothing
+based_defined : (st next : State) (inner : ℕ) (name : ScopedName) → base_added st inner name ≡ Ok next → (k : ℕ) → is_defined next k ≡ true → is_defined st k ≡ true
+based_defined st next inner name h k d =
+    let (e, finds, rest) = then_ok (resolved st.entries st.scope name) (λ e. with_base_at st inner (record { token = (name_start name).number; entry = e }) (at (name_start name))) next h in
+    let base : Base = record { token = (name_start name).number; entry = e } in
+    let (u, test, last) = then_ok (base_test st inner base (at (name_start name))) (λ u. let r : Reading = Ok (based st inner base) in r) next rest in
+    let same : based st inner base ≡ next = cc in
+    let there : is_defined (based st inner base) k ≡ true = subst (λ x. is_defined x k ≡ true) (sym same) d in
+    there
+
 flat_moves : (st next : State) (s : Step) → IsFlat s → step_read st s ≡ Ok next → Moves st s next
 flat_moves st next (Declares kind l) flat h = declares_moves (plain_meant l.number kind) st next l (Declares kind l) h
 flat_moves st next (DeclaresEnum l) flat h =
-    let m = enum_meant (Rattle.std.specs.Prelude.length st.entries) l in
+    let m = enum_meant (length st.entries) l in
     let (mid, declares, rest) = then_ok (declared_as m st l) (λ next. let r : Reading = Ok (record next { enumeration = length st.entries }) in r) next h in
     let last : State = record mid { enumeration = length st.entries } in
     let one = declares_moves m st mid l (DeclaresEnum l) declares in
@@ -182,6 +195,17 @@ none = record {
       let same : st ≡ next = cc in
       subst (Walked es st []) same (record { scope = refl; names = λ scope name n is. is; past = refl; bodies = λ k d. inl d });
 }
+
+step_names : (st next : State) (s : Step) → step_read st s ≡ Ok next → Keeps st.entries next.entries
+step_names st next (Enters l) h =
+    let inside : State = record st { scope = scope_of st.entries st.scope l } in
+    let same : inside ≡ next = cc in
+    subst (λ x. Keeps st.entries x.entries) same (λ scope name n is. is)
+step_names st next Leaves h =
+    let outside : State = record st { scope = around st.entries st.scope } in
+    let same : outside ≡ next = cc in
+    subst (λ x. Keeps st.entries x.entries) same (λ scope name n is. is)
+step_names st next s h = let moves = flat_moves st next s tt h in moves.names
 
 -- names are kept by all that is read
 names_kept : (st next : State) (xs : List Step) → steps_read st xs ≡ Ok next → Keeps st.entries next.entries

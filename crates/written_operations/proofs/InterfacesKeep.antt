@@ -81,7 +81,7 @@ each_below count xs (n ∷ ns) h g =
 range_below : (first len count : ℕ) → first + len ≤ count → All (Below count) (range_with_len first len)
 range_below first zero count le = All-nil (Below count)
 range_below first (suc len) count le =
-    All-cons (Below count) first (range_with_len (suc first) len) (omega (arith, le)) (range_below (suc first) len count (omega (arith, le)))
+    All-cons (Below count) first (range_with_len (first + 1) len) (omega (arith, le)) (range_below (first + 1) len count (omega (arith, le)))
 
 abbrev Offers : ℕ → ℕ → Option Offered → Type 0
 Offers entries operations o = IfSome o (IsSoundOffer entries operations)

@@ -11,3 +11,5 @@ pub mod InterfacesKeep
 pub mod BasesRead
 pub mod FileKeep
 pub mod SoundFile
+pub mod BodiesRead
+pub mod FileLaws

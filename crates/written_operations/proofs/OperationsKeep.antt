@@ -13,6 +13,8 @@ use Rattle.idl_tree.specs.declared.definitions.Attributes.TheVariants.{Silent, R
 use Rattle.idl_tree.specs.declared.definitions.Declaration.{Declaration}
 use Rattle.idl_tree.specs.declared.definitions.Direction.TheVariants.{In, Out}
 use Rattle.idl_tree.specs.declared.definitions.Operation.{Operation}
+use Rattle.idl_tree.specs.declared.definitions.Param.{Param}
+use Rattle.idl_tree.specs.declared.types.ParamType.{ParamType}
 use Rattle.idl_tree.specs.Lists.{parts}
 use Rattle.type_graph.specs.GraphRules.{IsPart}
 use Rattle.name_table.specs.declared.entry.EntryKind.{EntryKind}
@@ -282,7 +284,7 @@ all_carried_fine es g w scope o i result feature params =
 oneway_fine : (o : Operation) → Fine (λ u. Unit {0}) (oneway_test o)
 oneway_fine o = by (o.is_oneway && not (has_no_reply o))
   where
-    by : (b : Bool) → Fine (λ u. Unit {0}) (if b then Err (Types (BadOneway (line_of o.identifier))) else Ok tt)
+    by : (b : Bool) → (let r : Result (Unit {0}) BuildFault = if b then Err (Types (BadOneway (line_of o.identifier))) else Ok tt in Fine (λ u. Unit {0}) r)
     by true = tt
     by false = tt
 
