@@ -83,6 +83,7 @@ declared_either m st next l h =
     again e true true is = absurd cc
     again e true false is = cc
     again e false b is = absurd cc
+
     by : (o : Option Entry) → declares_over m st l o ≡ Ok next → (st ≡ next) ⊎ (with_declared m st l ≡ next)
     by None is = inr cc
     by (Some e) is = inl (again e (may_reappear m.kind e.kind && bytes_eq (word l) e.name) (keeps_prefix m.kind && not (bytes_eq st.prefix e.prefix)) is)

@@ -63,20 +63,22 @@ moves_to : (st mid next : State) (s : Step) → mid ≡ next → Moves st s mid 
 moves_to st mid next s same h = subst (Moves st s) same h
 
 said_moves : (st next : State) (l : Leaf) (o : Option Said) → said_read st l o ≡ Ok next → Moves st (Says l) next
-said_moves st next l None h = moves_to st st next (Says l) cc (still st (Says l))
+said_moves st next l None h = let same : st ≡ next = cc in moves_to st st next (Says l) same (still st (Says l))
 said_moves st next l (Some (SetsPrefix text)) h = by st.scope h
   where
     by : (scope : ℕ) → prefix_set st scope text (at l) ≡ Ok next → Moves st (Says l) next
     by zero is =
         let set : State = record st { prefix = text } in
-        moves_to st set next (Says l) cc (record { scope = refl; names = λ scope name n is. is; bodies = λ k d. inl d })
+        let same : set ≡ next = cc in
+        moves_to st set next (Says l) same (record { scope = refl; names = λ scope name n is. is; bodies = λ k d. inl d })
     by (suc e) is = absurd cc
 said_moves st next l (Some (Gives name given)) h =
     let (e, finds, h1) = then_ok (found_at st.entries (at l) (identifiers_see st.entries l.number st.scope (begins_at_root name) (words name)))
     (λ e. given_once st.given e given (at l) (given_to st.given e) >> λ ps. let r : Reading = Ok (record st { given = ps }) in r) next h in
     let (ps, gives, h2) = then_ok (given_once st.given e given (at l) (given_to st.given e)) (λ ps. let r : Reading = Ok (record st { given = ps }) in r) next h1 in
     let more : State = record st { given = ps } in
-    moves_to st more next (Says l) cc (record { scope = refl; names = λ scope name n is. is; bodies = λ k d. inl d })
+    let same : more ≡ next = cc in
+    moves_to st more next (Says l) same (record { scope = refl; names = λ scope name n is. is; bodies = λ k d. inl d })
 
 defines_moves : (st next : State) (l : Leaf) → step_read st (Defines l) ≡ Ok next → Moves st (Defines l) next
 defines_moves st next l h =
@@ -111,7 +113,8 @@ flat_moves st next (DeclaresEnum l) flat h =
     let (mid, declares, rest) = then_ok (declared_as m st l) (λ next. let r : Reading = Ok (record next { enumeration = length st.entries }) in r) next h in
     let last : State = record mid { enumeration = length st.entries } in
     let one = declares_moves m st mid l (DeclaresEnum l) declares in
-    moves_to st last next (DeclaresEnum l) cc (record { scope = one.scope; names = one.names; bodies = one.bodies })
+    let same : last ≡ next = cc in
+    moves_to st last next (DeclaresEnum l) same (record { scope = one.scope; names = one.names; bodies = one.bodies })
 flat_moves st next (DeclaresEnumerator l) flat h = declares_moves (enumerator_meant st.enumeration (length st.entries) l) st next l (DeclaresEnumerator l) h
 flat_moves st next (DeclaresTypedef t d) flat h = declares_moves (typedef_meant (type_kind st t) d) st next d.identifier (DeclaresTypedef t d) h
 flat_moves st next (DeclaresConst c) flat h =
@@ -125,7 +128,8 @@ flat_moves st next (HasMember l) flat h =
     let does = member_does st next l h in
     let more : State = record st { members = st.members ++ record { scope = st.scope; name = word l; at = at l } ∷ [] } in
     let (u, test, rest) = then_ok (new_test st l) (λ u. let r : Reading = Ok more in r) next h in
-    moves_to st more next (HasMember l) cc (record { scope = refl; names = λ scope name n is. is; bodies = λ k d. inl d })
+    let same : more ≡ next = cc in
+    moves_to st more next (HasMember l) same (record { scope = refl; names = λ scope name n is. is; bodies = λ k d. inl d })
 flat_moves st next (HasBase l name) flat h =
     let does = base_does st next (scope_of st.entries st.scope l) name h in
     record { scope = does.scope; names = does.adds.grows.names; bodies = λ k d. inl (based_defined st next (scope_of st.entries st.scope l) name h k d) }
@@ -161,10 +165,12 @@ both_walked es st mid next xs ys a b = record {
   where
     whole : (g : List Introduction) → behind es g st.scope (xs ++ ys) ≡ behind es (behind es g st.scope xs) mid.scope ys
     whole g = behind_split es g st.scope xs ys ∙ ap (λ k. behind es (behind es g st.scope xs) k ys) (a.past ∙ sym a.scope)
+
     first : (k : ℕ) → (is_defined st k ≡ true) ⊎ ((g : List Introduction) → IsDone (behind es g st.scope xs) k)
         → (is_defined st k ≡ true) ⊎ ((g : List Introduction) → IsDone (behind es g st.scope (xs ++ ys)) k)
     first k (inl before) = inl before
     first k (inr done) = inr (λ g. subst (λ h. IsDone h k) (sym (whole g)) (done_stays es (behind es g st.scope xs) mid.scope ys k (done g)))
+
     by : (k : ℕ) → (is_defined mid k ≡ true) ⊎ ((g : List Introduction) → IsDone (behind es g mid.scope ys) k)
         → (is_defined st k ≡ true) ⊎ ((g : List Introduction) → IsDone (behind es g st.scope (xs ++ ys)) k)
     by k (inl before) = first k (a.bodies k before)
@@ -311,6 +317,7 @@ none_left st place (x ∷ es) h k e is body = by k (is_left_open st place x) ref
     here true true h is = refl
     here true false h is = absurd cc
     here false b h is = absurd cc
+
     by : (k : ℕ) (b : Bool) → is_left_open st place x ≡ b → (let t : Test = never_defined (if b then at_entry (Some x) else left_open st (suc place) es) in t) ≡ Ok tt → slice_get (x ∷ es) k ≡ Some e
         → ((j : ℕ) → slice_get es j ≡ Some e → never_defined (left_open st (suc place) es) ≡ Ok tt → is_defined st (suc (suc place + j)) ≡ true)
         → is_defined st (suc (place + k)) ≡ true

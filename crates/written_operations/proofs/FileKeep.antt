@@ -55,28 +55,28 @@ first_keeps es =
     let count : length basic_nodes ≡ 14 = refl in
     let members : all_members basic_nodes ≡ 4 = refl in
     record {
-  long = length-replicate (length es) None;
-  known = λ e p is. absurd (no_places (length es) e p is);
-  has = λ e x none at. absurd none;
-  begun_known = λ e none. absurd none;
-  begun_done = λ e none body. absurd none;
-  done_known = λ e none. absurd none;
-  unplaced = λ e x none at. absurd none;
-  right = λ e p is. absurd (no_places (length es) e p is);
-  exceptions = λ k x is. absurd cc;
-  one = λ e f n body other first second. absurd (no_places (length es) e (Typed n) first);
-  ahead = λ e n body place yet. absurd (no_places (length es) e (Typed n) place);
-  left = λ n is. absurd (basic_defined n undefined is refl);
-  basic = λ n node is. is;
-  sound = record {
-    limited = omega (arith, count);
-    nodes = basic_right;
-    counted = le_refl (all_members basic_nodes);
-    members = omega (arith, members);
-    lines = refl;
-    exceptions = omega (arith, count);
-  };
-}
+      long = length-replicate (length es) None;
+      known = λ e p is. absurd (no_places (length es) e p is);
+      has = λ e x none at. absurd none;
+      begun_known = λ e none. absurd none;
+      begun_done = λ e none body. absurd none;
+      done_known = λ e none. absurd none;
+      unplaced = λ e x none at. absurd none;
+      right = λ e p is. absurd (no_places (length es) e p is);
+      exceptions = λ k x is. absurd cc;
+      one = λ e f n body other first second. absurd (no_places (length es) e (Typed n) first);
+      ahead = λ e n body place yet. absurd (no_places (length es) e (Typed n) place);
+      left = λ n is. absurd (basic_defined n undefined is refl);
+      basic = λ n node is. is;
+      sound = record {
+        limited = omega (arith, count);
+        nodes = basic_right;
+        counted = le_refl (all_members basic_nodes);
+        members = omega (arith, members);
+        lines = refl;
+        exceptions = omega (arith, count);
+      };
+    }
 
 first_all : (es : List Entry) → KeepsAll es [] (undefined_yet (length es))
 first_all es = record {

@@ -154,9 +154,11 @@ reference_fine es g d scope l n h =
         kind : (k : EntryKind) (o : Option (Option Place)) → k ≡ Kinds.Interface → HasPlace k ⊥ o → o ≡ Some (Some (Typed 13))
         kind Kinds.Interface o is has = has
         kind k o is has = absurd cc
+
     at : (o : Option (Option Place)) → slice_get d.types.places n.entry ≡ o → Fine (GoesAll es (Stands scope l Kinds.Interface ∷ g) d) (reference_at d n.entry (place_in o))
         → Fine (GoesAll es (Stands scope l Kinds.Interface ∷ g) d) (as_reference d n.entry)
     at o is fine = subst (λ k. Fine (GoesAll es (Stands scope l Kinds.Interface ∷ g) d) (reference_at d n.entry (place_in k))) (sym is) fine
+
     by : (o : Option Place) → slice_get d.types.places n.entry ≡ Some o → Fine (GoesAll es (Stands scope l Kinds.Interface ∷ g) d) (as_reference d n.entry)
     by None is =
         let new : Known es g n.entry → ⊥ = λ knows. let there = has_place knows in cc in
@@ -173,6 +175,7 @@ reference_fine es g d scope l n h =
       where
         placed_so : (k : EntryKind) (o : Option (Option Place)) → k ≡ Kinds.Interface → o ≡ Some (Some (Typed 13)) → HasPlace k ⊥ o
         placed_so k o is there = subst (λ j. HasPlace j ⊥ o) (sym is) there
+
         needs : (f : ℕ) (y : Entry) → named es scope (word l) ≡ Some f → slice_get es f ≡ Some y → slice_get d.types.places n.entry ≡ Some (Some (Typed 13))
             → HasPlace y.kind ⊥ (slice_get d.types.places f)
         needs f y stands here there =
