@@ -1,5 +1,5 @@
 -- Attributes: what is kept stays so.
-use Rattle.std.proofs.Common.{◌≡◌, ◌∙◌, ◌⊎◌, inl, inr, ℕ, zero, suc, ◌+◌, ◌<◌, ◌≤◌, le_refl, Bool, true, false, List, [], ◌∷◌, ◌++◌, length, length-append, All, map, Option, Some, None, Result, Ok, Err, refl, sym, ap, subst, subst₂, arith}
+use Rattle.std.proofs.Common.{◌≡◌, ◌∙◌, inl, inr, ℕ, ◌+◌, ◌<◌, le_refl, Bool, true, false, List, [], ◌∷◌, ◌++◌, length, length-append, All, map, Some, None, Ok, refl, sym, ap, subst, subst₂, arith}
 use Rattle.std.specs.Prelude.{slice_get}
 use Rattle.std.specs.List.{AllByRecursion}
 use Rattle.std.proofs.lemmas.List.Elements.{All-nil, All-push}
@@ -15,27 +15,24 @@ use Rattle.name_table.specs.declared.entry.EntryKind.TheVariants as Kinds
 use Rattle.name_table.specs.Entry.{Entry, named}
 use Rattle.name_table.specs.Search.{word}
 use Rattle.scoped_names.specs.Introductions.{Introduction, Stands}
-use Rattle.scoped_names.specs.Reading.{◌>>◌}
 use Rattle.scoped_names.specs.Steps.{DeclaresFeature, Step, attribute_steps, attributes_steps, optional_parts, param_type_steps, raises_steps}
 use Rattle.scoped_names.specs.Steps.{NamesException}
 use Rattle.scoped_names.proofs.Asks.{param_type_asks}
-use Rattle.scoped_names.proofs.Parts.{Closed, both_closed, closed, each_step_closed, one_closed}
+use Rattle.scoped_names.proofs.Parts.{closed, each_step_closed}
 use Rattle.written_types.specs.declared.place.Place.TheVariants.{Got, GotAndSet}
 use Rattle.written_types.specs.Faults.{each, line_of}
 use Rattle.written_types.specs.Sound.{IsFrameAt}
 use Rattle.written_types.specs.SimpleTypes.{entry_of, param_type}
-use Rattle.written_types.specs.Written.{Written, place_of, placed}
+use Rattle.written_types.specs.Written.{Written, placed}
 use Rattle.written_types.proofs.Fine.{Fine, and_then, given, weaker}
 use Rattle.written_types.proofs.Growing.{frame_stays, part_stays}
-use Rattle.written_types.proofs.Keeping.{IsRightPlace, Keeps, Later, later_none, later_on}
-use Rattle.written_types.proofs.Naming.{Goes, IsSilent, entered, entry_is, silent_append, silent_keeps}
+use Rattle.written_types.proofs.Keeping.{IsRightPlace, Keeps, later_none, later_on}
+use Rattle.written_types.proofs.Naming.{IsSilent, entered, entry_is, silent_append, silent_keeps}
 use Rattle.written_types.proofs.Settled.{AllSettled, Settled, behind, both, both_behind}
 use Rattle.written_types.proofs.SimpleKeep.{param_keeps, param_silent}
 use Rattle.written_types.proofs.Writing.{Adds, placed_is, with_placed}
 use Rattle.written_operations.specs.declared.signature.Role.TheVariants as Roles
-use Rattle.written_operations.specs.declared.signature.Signature.{Signature}
 use Rattle.written_operations.specs.Frames.{nothing_carried, with_carried}
-use Rattle.written_operations.specs.Oneway.{not, parts_of}
 use Rattle.written_operations.specs.Operations.{Defined, Requested, attribute, attribute_identifiers, get_raises, is_set, raised, set_raises, with_access, with_attribute, with_call, with_get, with_place, with_set, with_types}
 use Rattle.written_operations.specs.Sound.{IsSoundSignature}
 use Rattle.written_operations.proofs.Calls.{AreCarried, carried_fine, nothing_begun, nothing_right, raised_fine, same_parts}

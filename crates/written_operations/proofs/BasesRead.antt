@@ -1,5 +1,5 @@
 -- The bases of interfaces are entries: reading names adds no others.
-use Rattle.std.proofs.Common.{◌≡◌, ◌∙◌, ◌⊎◌, inl, inr, ℕ, zero, suc, ◌+◌, ◌<◌, ◌≤◌, Bool, true, false, not, ◌&&◌, nat_eq, List, [], ◌∷◌, ◌++◌, length, length-append, All, Option, Some, None, Result, Ok, Err, refl, sym, ap, subst, arith}
+use Rattle.std.proofs.Common.{◌≡◌, ◌∙◌, ◌⊎◌, inl, inr, ℕ, zero, suc, ◌<◌, ◌≤◌, Bool, true, false, not, ◌&&◌, nat_eq, List, [], ◌∷◌, ◌++◌, length, length-append, All, Option, Some, None, Result, Ok, Err, refl, sym, ap, subst, arith}
 use Rattle.std.specs.Prelude.{if◌then◌else◌, slice_get, slice_set}
 use Rattle.std.specs.List.{list_any}
 use Rattle.std.specs.Str.{bytes_eq}
@@ -13,7 +13,6 @@ use Rattle.idl_tree.specs.declared.names.ScopedName.{ScopedName}
 use Rattle.idl_tree.specs.declared.definitions.Definition.{Definition}
 use Rattle.idl_tree.specs.Starts.{name_start}
 use Rattle.name_table.specs.declared.entry.Base.{Base}
-use Rattle.name_table.specs.declared.entry.EntryKind.{EntryKind}
 use Rattle.name_table.specs.declared.entry.Meaning.{Meaning}
 use Rattle.name_table.specs.Entry.{Entry, around, bases_in, bases_of, named}
 use Rattle.name_table.specs.Entries.{entry_with_base, plain as plain_meant, scope_of, with_base}
@@ -23,12 +22,12 @@ use Rattle.scoped_names.specs.declared.fault.At.{At}
 use Rattle.scoped_names.specs.declared.fault.Unfit.TheVariants.{FeatureTwice, NamedTwice, NotDefined}
 use Rattle.scoped_names.specs.declared.fault.NameFault.{NameFault}
 use Rattle.scoped_names.specs.declared.fault.NameFault.TheVariants.{BadBase, Collides, PrefixDiffers}
-use Rattle.scoped_names.specs.Faults.{base_added, base_test, based, declared as declared_plain, declared_as, declares_over, entry_in, free_of, free_test, given_once, is_defined, is_defined_interface, is_interface, keeps_prefix, left_open, may_reappear, member_added, never_defined, new_test, nothing_yet, prefix_set, reappears, said_read, specification_read, step_read, steps_read, taken_by, test_of, type_kind, undefined_test, with_base_at, with_declared}
+use Rattle.scoped_names.specs.Faults.{base_added, base_test, based, declared as declared_plain, declared_as, declares_over, entry_in, free_of, free_test, given_once, is_defined, is_defined_interface, is_interface, keeps_prefix, left_open, may_reappear, never_defined, new_test, nothing_yet, prefix_set, said_read, specification_read, step_read, steps_read, taken_by, test_of, type_kind, undefined_test, with_base_at, with_declared}
 use Rattle.scoped_names.specs.IdPragmas.{Said, SetsPrefix, Gives, said_by}
 use Rattle.scoped_names.specs.Meanings.{const_meant, enum_meant, enumerator_meant, typedef_meant}
 use Rattle.scoped_names.specs.Reading.{Reading, State, Test, ◌>>◌, passed}
 use Rattle.scoped_names.specs.RepositoryIds.{given_to}
-use Rattle.scoped_names.specs.Steps.{Step, Declares, DeclaresEnum, DeclaresEnumerator, DeclaresTypedef, IsNew, DeclaresConst, DeclaresFeature, HasMember, IsUndefined, HasBase, Enters, Defines, Leaves, NamesType, NamesException, HasWorth, IsSize, Says, steps_of}
+use Rattle.scoped_names.specs.Steps.{Step, Declares, DeclaresEnum, DeclaresEnumerator, DeclaresTypedef, DeclaresConst, DeclaresFeature, HasMember, HasBase, Enters, Defines, Leaves, Says, steps_of}
 use Rattle.scoped_names.specs.Tests.{at, at_entry, found_at, is_of, resolved, value_of_type}
 use Rattle.scoped_names.specs.TypeKinds.{const_type_kind}
 use Rattle.scoped_names.specs.Whole.{AreNames, Whole, whole}

@@ -1,5 +1,5 @@
 -- What reading a specification's names takes for defined has its body among what the specification introduces.
-use Rattle.std.proofs.Common.{◌≡◌, ◌∙◌, ◌⊎◌, inl, inr, ℕ, zero, suc, ◌+◌, Bool, true, false, not, ◌&&◌, nat_eq, List, [], ◌∷◌, ◌++◌, length, Option, Some, None, Result, Ok, Err, refl, sym, ap, subst, arith}
+use Rattle.std.proofs.Common.{◌≡◌, ◌∙◌, ◌⊎◌, inl, inr, ℕ, zero, suc, ◌+◌, Bool, true, false, not, ◌&&◌, nat_eq, List, [], ◌∷◌, ◌++◌, length, Option, Some, None, Ok, refl, sym, ap, subst, arith}
 use Rattle.std.specs.Prelude.{◌||◌, if◌then◌else◌, slice_get}
 use Rattle.std.specs.List.{AllByRecursion, list_any}
 use Rattle.std.proofs.lemmas.Bool.{eqb-true}
@@ -17,22 +17,20 @@ use Rattle.name_table.specs.Entry.{Entry, around, named}
 use Rattle.name_table.specs.Entries.{plain as plain_meant, scope_number, scope_of}
 use Rattle.name_table.specs.Features.{features_of}
 use Rattle.name_table.specs.Search.{begins_at_root, identifiers_see, inherited, word}
-use Rattle.scoped_names.specs.declared.fault.At.{At}
 use Rattle.scoped_names.specs.Faults.{base_added, base_test, based, with_base_at, declared as declared_plain, declared_as, free_of, given_once, has_body, is_defined, is_left_open, left_open, never_defined, new_test, nothing_yet, prefix_set, said_read, step_read, steps_read, test_of, type_kind, undefined_test, with_declared}
 use Rattle.scoped_names.specs.IdPragmas.{Said, SetsPrefix, Gives, said_by}
 use Rattle.scoped_names.specs.Introductions.{Introduction, introduced_by, scope_behind}
 use Rattle.scoped_names.specs.Meanings.{const_meant, enum_meant, enumerator_meant, typedef_meant}
-use Rattle.scoped_names.specs.Reading.{Reading, State, Test, ◌>>◌, passed}
+use Rattle.scoped_names.specs.Reading.{Reading, State, Test, ◌>>◌}
 use Rattle.scoped_names.specs.RepositoryIds.{given_to}
-use Rattle.scoped_names.specs.Steps.{Step, Declares, DeclaresEnum, DeclaresEnumerator, DeclaresTypedef, IsNew, DeclaresConst, DeclaresFeature, HasMember, IsUndefined, HasBase, Enters, Defines, Leaves, NamesType, NamesException, HasWorth, IsSize, Says, steps_of}
+use Rattle.scoped_names.specs.Steps.{Step, Declares, DeclaresEnum, DeclaresEnumerator, DeclaresTypedef, IsNew, DeclaresConst, DeclaresFeature, HasMember, IsUndefined, HasBase, Enters, Defines, Leaves, Says, steps_of}
 use Rattle.scoped_names.specs.Tests.{at, at_entry, found_at, resolved, value_of_type}
 use Rattle.scoped_names.specs.TypeKinds.{const_type_kind}
 use Rattle.scoped_names.specs.Whole.{AreNames, Whole}
 use Rattle.scoped_names.proofs.Asks.{Asks, all_ask, none as unasked, silent, joined as both_asked, plain, base, valued, declared, featured, undefined, inside, defines}
 use Rattle.scoped_names.proofs.Introduced.{HasLeaf, IsFlat, around_named, flat_behind, plain_flat, read_append}
-use Rattle.scoped_names.proofs.Introducing.{Does, Keeps, all_map, base_does, declared_does, defined_does, keeps_on, member_does, passed_same, then_ok}
+use Rattle.scoped_names.proofs.Introducing.{Keeps, all_map, base_does, declared_does, defined_does, keeps_on, member_does, passed_same, then_ok}
 use Rattle.scoped_names.proofs.Parts.{scope_past}
-use Rattle.written_types.proofs.Keeping.{HasBody}
 use Rattle.written_types.proofs.Settled.{IsDone, behind, behind_split, done_stays, onto}
 use Rattle.written_types.proofs.Naming.{of_kind}
 use Rattle.written_operations.proofs.BasesRead.{declared_either, names_read}

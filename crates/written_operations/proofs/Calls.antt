@@ -1,5 +1,5 @@
 -- What requests and replies carry, their frames, and what is raised: what is kept stays so.
-use Rattle.std.proofs.Common.{◌≡◌, ◌∙◌, ◌⊎◌, inl, inr, ℕ, zero, suc, ◌+◌, ◌<◌, ◌≤◌, Bool, true, false, List, [], ◌∷◌, ◌++◌, length, All, map, Option, Some, None, Result, Ok, Err, refl, sym, ap, subst, arith}
+use Rattle.std.proofs.Common.{◌≡◌, ◌∙◌, inl, inr, ℕ, ◌+◌, ◌<◌, true, List, [], ◌∷◌, ◌++◌, length, All, Option, Some, None, Ok, refl, ap, subst, arith}
 use Rattle.std.specs.Prelude.{slice_get}
 use Rattle.std.specs.List.{AllByRecursion, flat_map}
 use Rattle.std.proofs.lemmas.List.Elements.{All-nil, All-push}
@@ -18,19 +18,18 @@ use Rattle.name_table.specs.declared.entry.EntryKind.TheVariants as Kinds
 use Rattle.name_table.specs.Entry.{Entry}
 use Rattle.scoped_names.specs.Introductions.{Introduction}
 use Rattle.scoped_names.specs.Reading.{◌>>◌}
-use Rattle.scoped_names.specs.Steps.{Enters, HasMember, Leaves, NamesException, Step, optional_parts, param_steps, param_type_steps, raises_steps, result_steps}
+use Rattle.scoped_names.specs.Steps.{Enters, HasMember, Leaves, NamesException, optional_parts, param_steps, param_type_steps, raises_steps, result_steps}
 use Rattle.scoped_names.specs.Tests.{is_exception}
 use Rattle.scoped_names.proofs.Asks.{param_asks}
 use Rattle.scoped_names.proofs.OnlyMemory.{finds_one}
-use Rattle.scoped_names.proofs.Parts.{Closed, closed, holds_split}
-use Rattle.type_paths.specs.Lines.{Lines}
+use Rattle.scoped_names.proofs.Parts.{Closed, closed}
 use Rattle.written_types.specs.declared.place.Place.{Place}
 use Rattle.written_types.specs.declared.place.Place.TheVariants.{Raised}
 use Rattle.written_types.specs.Faults.{each, line_of, of_names}
 use Rattle.written_types.specs.Members.{Members}
 use Rattle.written_types.specs.Sound.{IsFrame, IsFrameAt}
 use Rattle.written_types.specs.SimpleTypes.{entry_found, param_type}
-use Rattle.written_types.specs.Types.{member_added, no_members}
+use Rattle.written_types.specs.Types.{member_added}
 use Rattle.written_types.specs.Written.{Numbered, Written, already, place_in, place_of}
 use Rattle.written_types.proofs.DeclarationsKeep.{Frames, frame_fine}
 use Rattle.written_types.proofs.Each.{each_keeps}
@@ -38,7 +37,7 @@ use Rattle.written_types.proofs.Fine.{Fine, and_then, given, weaker}
 use Rattle.written_types.proofs.Growing.{frame_stays, node_stays}
 use Rattle.written_types.proofs.Keeping.{HasPlace, IsRaised, Keeps, Later, later_none, later_on}
 use Rattle.written_types.proofs.Naming.{IsSilent, of_kind, silent_append, silent_keeps}
-use Rattle.written_types.proofs.Settled.{AllSettled, Settled, behind, both, split}
+use Rattle.written_types.proofs.Settled.{AllSettled, Settled, behind, split}
 use Rattle.written_types.proofs.SimpleKeep.{param_keeps, param_silent}
 use Rattle.written_types.proofs.Spots.{is_some_and}
 use Rattle.written_types.proofs.StructsKeep.{none_right}

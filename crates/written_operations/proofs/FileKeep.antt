@@ -1,7 +1,6 @@
 -- What a whole file writes, where the names are its own.
-use Rattle.std.proofs.Common.{◌≡◌, ◌∙◌, ◌⊎◌, inl, inr, ℕ, zero, suc, ◌+◌, ◌<◌, ◌≤◌, le_refl, Bool, true, false, List, [], ◌∷◌, ◌++◌, length, replicate, All, Option, Some, None, Result, Ok, Err, refl, sym, ap, subst, arith}
+use Rattle.std.proofs.Common.{◌≡◌, inr, ℕ, zero, suc, le_refl, List, [], ◌∷◌, length, replicate, Option, Some, None, Result, Ok, Err, refl, subst, arith}
 use Rattle.std.specs.Prelude.{slice_get, IfSome}
-use Rattle.std.specs.List.{AllByRecursion, flat_map}
 use Rattle.std.proofs.lemmas.List.{length-replicate}
 use Rattle.std.proofs.lemmas.List.Elements.{All-cons, All-nil, All-replicate}
 use Rattle.idl_tree.specs.declared.definitions.Definition.{Definition}
@@ -10,27 +9,25 @@ use Rattle.basic_types.specs.BasicNodes.{basic_nodes}
 use Rattle.type_graph.specs.declared.node.Node.{Node}
 use Rattle.type_graph.specs.GraphRules.{AreMembers, IsNode, IsPart, all_members}
 use Rattle.name_table.specs.Entry.{Entry}
-use Rattle.scoped_names.specs.Introductions.{Introduction}
 use Rattle.scoped_names.specs.Steps.{definition_steps, steps_of}
 use Rattle.scoped_names.specs.Whole.{AreNames, Whole}
 use Rattle.written_types.specs.declared.fault.BuildFault.{BuildFault}
 use Rattle.written_types.specs.declared.place.Place.{Place}
 use Rattle.written_types.specs.declared.place.Place.TheVariants.{Typed}
-use Rattle.written_types.specs.Faults.{each}
-use Rattle.written_types.specs.Sound.{IsOfTypes, IsRight, IsSound}
-use Rattle.written_types.specs.Written.{Written, undefined, unwritten}
+use Rattle.written_types.specs.Sound.{IsOfTypes, IsRight}
+use Rattle.written_types.specs.Written.{undefined, unwritten}
 use Rattle.written_types.proofs.Defining.{basic_defined, each_there}
 use Rattle.written_types.proofs.Each.{each_keeps}
 use Rattle.written_types.proofs.Fine.{Fine, weaker}
 use Rattle.written_types.proofs.Keeping.{Keeps}
 use Rattle.written_types.proofs.Settled.{AllSettled, all_settled, behind}
 use Rattle.written_operations.specs.Definitions.{defined_by, definition}
-use Rattle.written_operations.specs.Operations.{Defined, undefined_yet}
+use Rattle.written_operations.specs.Operations.{undefined_yet}
 use Rattle.written_operations.specs.Sound.{IsSoundOffer, IsSoundSignature}
 use Rattle.written_operations.proofs.BasesRead.{bases_are_entries}
 use Rattle.written_operations.proofs.Calls.{nothing_begun}
-use Rattle.written_operations.proofs.InterfacesKeep.{AreBased, definition_closed, definition_fine, goes_none}
-use Rattle.written_operations.proofs.OperationsKeep.{GoesAll, KeepsAll, goes_on_all}
+use Rattle.written_operations.proofs.InterfacesKeep.{AreBased, definition_closed, definition_fine}
+use Rattle.written_operations.proofs.OperationsKeep.{GoesAll, KeepsAll}
 
 -- ---- before the first part
 

@@ -1,5 +1,5 @@
 -- What a file writes under its own names is sound.
-use Rattle.std.proofs.Common.{◌≡◌, List, [], length, Result, Ok, Err, subst}
+use Rattle.std.proofs.Common.{◌≡◌, [], length, Result, Ok, Err, subst}
 use Rattle.idl_tree.specs.declared.spec.Spec.{Spec}
 use Rattle.scoped_names.specs.Steps.{steps_of}
 use Rattle.scoped_names.specs.Whole.{AreNames, Whole}

@@ -1,5 +1,5 @@
 -- Interfaces and modules, and whole files: what is kept stays so.
-use Rattle.std.proofs.Common.{◌≡◌, ◌∙◌, ◌⊎◌, inl, inr, ℕ, zero, suc, ◌+◌, ◌-◌, ◌<◌, ◌≤◌, le_refl, Bool, true, false, cond, nat_eq, nat_lt, List, [], ◌∷◌, ◌++◌, length, All, get_or, map, Option, Some, None, Result, Ok, Err, append_assoc, refl, sym, ap, subst, arith}
+use Rattle.std.proofs.Common.{◌≡◌, ◌∙◌, inl, ℕ, zero, suc, ◌+◌, ◌-◌, ◌<◌, ◌≤◌, le_refl, Bool, true, false, cond, nat_eq, nat_lt, List, [], ◌∷◌, ◌++◌, length, All, map, Option, Some, None, Ok, Err, append_assoc, refl, sym, ap, subst, arith}
 use Rattle.std.specs.Prelude.{if◌then◌else◌, slice_get, slice_set, IfSome}
 use Rattle.std.specs.List.{AllByRecursion, flat_map, fold, list_any, range_with_len}
 use Rattle.std.proofs.lemmas.Bool.{lt-ltb}
@@ -22,30 +22,28 @@ use Rattle.name_table.specs.Search.{word}
 use Rattle.scoped_names.specs.Faults.{has_body}
 use Rattle.scoped_names.specs.Introductions.{Introduction, Stands, Body as BodyOf}
 use Rattle.scoped_names.specs.Reading.{◌>>◌}
-use Rattle.scoped_names.specs.Steps.{Declares, Defines, Enters, HasBase, IsUndefined, Leaves, Says, Step, definition_steps, definitions_steps, export_steps, interface_steps, optional_parts}
+use Rattle.scoped_names.specs.Steps.{Declares, Defines, Enters, HasBase, IsUndefined, Leaves, definition_steps, definitions_steps, export_steps, interface_steps, optional_parts}
 use Rattle.scoped_names.proofs.Asks.{definition_asks, definitions_ask, export_asks}
 use Rattle.scoped_names.proofs.Parts.{Closed, both_closed, closed, each_closed, each_step_closed, one_closed}
-use Rattle.written_types.specs.declared.fault.BuildFault.{BuildFault}
 use Rattle.written_types.specs.declared.fault.BuildFault.TheVariants.{OtherNames}
 use Rattle.written_types.specs.declared.place.Place.{Place}
 use Rattle.written_types.specs.declared.place.Place.TheVariants.{Typed}
 use Rattle.written_types.specs.Faults.{each}
 use Rattle.written_types.specs.SimpleTypes.{entry_of}
-use Rattle.written_types.specs.Written.{Written, place_in, place_of, placed}
+use Rattle.written_types.specs.Written.{Written, place_in, placed}
 use Rattle.written_types.proofs.Each.{each_keeps}
 use Rattle.written_types.proofs.Fine.{Fine, and_then, given, weaker}
-use Rattle.written_types.proofs.Keeping.{HasBody, HasPlace, Keeps, Later, NeedsNothing, later_none, later_on, more_known, no_body_of}
-use Rattle.written_types.proofs.Naming.{Entered, Goes, IsSilent, each_silent, entered, entry_is, place_given, silent_keeps, silent_name}
+use Rattle.written_types.proofs.Keeping.{HasBody, HasPlace, Keeps, later_none, later_on, more_known, no_body_of}
+use Rattle.written_types.proofs.Naming.{Entered, IsSilent, each_silent, entered, entry_is, place_given, silent_keeps, silent_name}
 use Rattle.written_types.proofs.Settled.{AllSettled, Known, behind, both, both_behind, known_stays, within}
 use Rattle.written_types.proofs.SimpleKeep.{basic_part}
 use Rattle.written_types.proofs.Spots.{there_at}
-use Rattle.written_types.proofs.Walks.{goes_on}
 use Rattle.written_types.proofs.Writing.{with_placed}
 use Rattle.written_operations.specs.declared.signature.Offered.{Offered}
 use Rattle.written_operations.specs.Definitions.{definition, definitions_after}
-use Rattle.written_operations.specs.Interfaces.{all_bases, all_bases_of, as_reference, bases_in_all, export, exports_of, from_on, identifier_of, inherited, interface, interface_as, interface_of, offered_in, offering, operations_in, operations_of, reference_at, with_base, with_base_and_above, with_interface, with_once}
-use Rattle.written_operations.specs.Operations.{Defined, declared, with_place, with_types}
-use Rattle.written_operations.specs.Sound.{IsSoundOffer, IsSoundSignature}
+use Rattle.written_operations.specs.Interfaces.{all_bases_of, as_reference, bases_in_all, export, from_on, inherited, interface, interface_as, interface_of, offered_in, offering, operations_in, operations_of, reference_at, with_base, with_base_and_above, with_interface, with_once}
+use Rattle.written_operations.specs.Operations.{Defined, with_types}
+use Rattle.written_operations.specs.Sound.{IsSoundOffer}
 use Rattle.written_operations.proofs.AttributesKeep.{attribute_fine}
 use Rattle.written_operations.proofs.Calls.{nothing_begun}
 use Rattle.written_operations.proofs.OperationsKeep.{GoesAll, KeepsAll, declared_fine, goes_on_all, operation_fine, types_written}

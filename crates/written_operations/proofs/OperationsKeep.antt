@@ -1,22 +1,15 @@
 -- Operations and attributes: what is kept stays so.
-use Rattle.std.proofs.Common.{◌≡◌, ◌∙◌, ◌⊎◌, inl, inr, ℕ, zero, suc, ◌+◌, ◌<◌, ◌≤◌, le_refl, Bool, true, false, List, [], ◌∷◌, ◌++◌, length, length-append, All, map, Option, Some, None, Result, Ok, Err, refl, sym, ap, subst, subst₂, arith}
-use Rattle.std.specs.Prelude.{◌&&◌, if◌then◌else◌, slice_get, slice_set, IfSome}
+use Rattle.std.proofs.Common.{◌≡◌, ◌∙◌, inl, inr, ℕ, ◌+◌, ◌<◌, ◌≤◌, le_refl, Bool, true, false, List, [], ◌∷◌, ◌++◌, length, length-append, All, Option, Some, None, Result, Ok, Err, refl, sym, ap, subst, subst₂, arith}
+use Rattle.std.specs.Prelude.{◌&&◌, if◌then◌else◌, slice_get, IfSome}
 use Rattle.std.specs.List.{AllByRecursion, flat_map}
 use Rattle.std.proofs.lemmas.List.Elements.{All-push, All-weaker}
 use Rattle.std.proofs.lemmas.Option.{slice_get_within}
 use Rattle.idl_tree.specs.declared.names.Leaf.{Leaf}
-use Rattle.idl_tree.specs.declared.names.Listed.{Listed}
 use Rattle.idl_tree.specs.declared.names.ScopedName.{ScopedName}
-use Rattle.idl_tree.specs.declared.definitions.Attribute.{Attribute}
-use Rattle.idl_tree.specs.declared.definitions.Attributes.{Attributes}
-use Rattle.idl_tree.specs.declared.definitions.Attributes.TheVariants.{Silent, Readonly, Get, Set}
 use Rattle.idl_tree.specs.declared.definitions.Declaration.{Declaration}
-use Rattle.idl_tree.specs.declared.definitions.Direction.TheVariants.{In, Out}
 use Rattle.idl_tree.specs.declared.definitions.Operation.{Operation}
 use Rattle.idl_tree.specs.declared.definitions.Param.{Param}
 use Rattle.idl_tree.specs.declared.types.ParamType.{ParamType}
-use Rattle.idl_tree.specs.Lists.{parts}
-use Rattle.type_graph.specs.GraphRules.{IsPart}
 use Rattle.name_table.specs.declared.entry.EntryKind.{EntryKind}
 use Rattle.name_table.specs.declared.entry.EntryKind.TheVariants as Kinds
 use Rattle.name_table.specs.Entry.{Entry, named}
@@ -24,40 +17,37 @@ use Rattle.name_table.specs.Search.{word}
 use Rattle.scoped_names.specs.Faults.{has_body, may_reappear}
 use Rattle.scoped_names.specs.Introductions.{Introduction, Stands}
 use Rattle.scoped_names.specs.Reading.{◌>>◌}
-use Rattle.scoped_names.specs.Steps.{DeclaresFeature, NamesException, Step, attribute_steps, attributes_steps, declaration_steps, operation_steps, optional_parts, param_steps, param_type_steps, raises_steps, result_steps}
-use Rattle.scoped_names.proofs.Asks.{param_type_asks, param_asks, result_asks}
-use Rattle.scoped_names.proofs.Parts.{Closed, both_closed, closed, each_closed, each_step_closed, one_closed}
+use Rattle.scoped_names.specs.Steps.{DeclaresFeature, NamesException, Step, declaration_steps, operation_steps, optional_parts, param_steps, raises_steps, result_steps}
+use Rattle.scoped_names.proofs.Asks.{param_asks, result_asks}
+use Rattle.scoped_names.proofs.Parts.{Closed, both_closed, closed, each_closed, one_closed}
 use Rattle.written_types.specs.declared.place.Place.{Place}
-use Rattle.written_types.specs.declared.place.Place.TheVariants.{Called, Got, GotAndSet, Raised, Typed}
+use Rattle.written_types.specs.declared.place.Place.TheVariants.{Called, Got, GotAndSet}
 use Rattle.written_types.specs.declared.fault.BuildFault.{BuildFault}
 use Rattle.written_types.specs.declared.fault.BuildFault.TheVariants.{Types}
 use Rattle.written_types.specs.declared.fault.TypeFault.TheVariants.{BadOneway}
 use Rattle.written_types.specs.Faults.{each, line_of}
 use Rattle.written_types.specs.Declarations.{declaration}
-use Rattle.written_types.specs.Sound.{IsFrameAt}
-use Rattle.written_types.specs.SimpleTypes.{entry_of, param_type}
-use Rattle.written_types.specs.Written.{Numbered, Written, place_in, place_of, placed}
+use Rattle.written_types.specs.SimpleTypes.{entry_of}
+use Rattle.written_types.specs.Written.{Written, place_in, place_of, placed}
 use Rattle.written_types.proofs.DeclarationsKeep.{declaration_keeps}
-use Rattle.written_types.proofs.Each.{each_keeps}
 use Rattle.written_types.proofs.Fine.{Fine, and_then, given, weaker}
-use Rattle.written_types.proofs.Growing.{frame_stays, grows_long, part_stays}
-use Rattle.written_types.proofs.Keeping.{HasPlace, IsRightPlace, Keeps, Later, later_none, later_on, no_body_of}
+use Rattle.written_types.proofs.Growing.{frame_stays, grows_long}
+use Rattle.written_types.proofs.Keeping.{HasPlace, IsRightPlace, Keeps, Later, later_on}
 use Rattle.written_types.proofs.Naming.{Entered, Goes, IsSilent, each_silent, entered, entry_is, exceptions_stay, needs_place, silent_keeps, silent_name, unknown, unplaced}
-use Rattle.written_types.proofs.Settled.{AllSettled, IsDone, Known, Settled, behind, both, both_behind, known_stays}
+use Rattle.written_types.proofs.Settled.{AllSettled, Known, Settled, behind, both, both_behind, known_stays}
 use Rattle.written_types.proofs.Spots.{set_here}
-use Rattle.written_types.proofs.SimpleKeep.{param_keeps, param_silent}
-use Rattle.written_types.proofs.Writing.{Adds, place_kept, place_later, placed_is, with_placed}
+use Rattle.written_types.proofs.SimpleKeep.{param_silent}
+use Rattle.written_types.proofs.Writing.{place_kept, place_later, placed_is, with_placed}
 use Rattle.written_operations.specs.declared.frames.Carried.{Carried}
-use Rattle.written_operations.specs.declared.frames.Carrying.{Carrying}
 use Rattle.written_operations.specs.declared.signature.Offered.{Offered}
 use Rattle.written_operations.specs.declared.signature.Role.{Role}
 use Rattle.written_operations.specs.declared.signature.Role.TheVariants as Roles
 use Rattle.written_operations.specs.declared.signature.Signature.{Signature}
-use Rattle.written_operations.specs.Frames.{all_carried, carrying, frames_added, nothing_carried, result_carried, with_carried, with_param}
+use Rattle.written_operations.specs.Frames.{all_carried, frames_added, result_carried, with_param}
 use Rattle.written_operations.specs.Oneway.{has_no_reply, not, oneway_test, parts_of}
-use Rattle.written_operations.specs.Operations.{Defined, Requested, attribute, attribute_identifiers, declared, get_raises, is_set, operation, raised, requested, set_raises, with_access, with_attribute, with_call, with_get, with_operation, with_place, with_set, with_types}
+use Rattle.written_operations.specs.Operations.{Defined, Requested, declared, operation, raised, with_call, with_operation, with_place, with_types}
 use Rattle.written_operations.specs.Sound.{HasFrames, IsSoundOffer, IsSoundSignature}
-use Rattle.written_operations.proofs.Calls.{AreCarried, AreFramed, Carries, carried_fine, frames_fine, nothing_begun, nothing_right, params_carried, raised_fine, result_fine, same_parts}
+use Rattle.written_operations.proofs.Calls.{AreCarried, AreFramed, Carries, frames_fine, nothing_begun, params_carried, raised_fine, result_fine, same_parts}
 
 -- ---- what is kept
 

@@ -1,5 +1,5 @@
 -- What a file writes is sound, where each structure and union that it declares is defined.
-use Rattle.std.proofs.Common.{◌≡◌, ◌∙◌, ◌⊎◌, inl, inr, ℕ, zero, suc, ◌+◌, ◌<◌, ◌≤◌, List, [], ◌∷◌, length, All, get_or, Option, Some, None, refl, sym, ap, subst, arith}
+use Rattle.std.proofs.Common.{◌≡◌, ◌∙◌, inl, inr, ℕ, suc, List, length, All, get_or, Option, Some, None, refl, ap, arith}
 use Rattle.std.specs.Prelude.{slice_get, IfSome}
 use Rattle.std.proofs.lemmas.Option.{slice_get-get_or, slice_get_within}
 use Rattle.type_graph.specs.declared.node.Node.{Node}
@@ -9,8 +9,8 @@ use Rattle.scoped_names.specs.Introductions.{Introduction}
 use Rattle.written_types.specs.declared.place.Place.{Place}
 use Rattle.written_types.specs.declared.place.Place.TheVariants.{Called, Got, GotAndSet, Raised, Typed}
 use Rattle.written_types.specs.Sound.{IsRight}
-use Rattle.written_types.specs.Written.{Written, place_in, undefined}
-use Rattle.written_types.proofs.Keeping.{HasBody, IsLeft, IsRightPlace, Keeps}
+use Rattle.written_types.specs.Written.{Written, place_in}
+use Rattle.written_types.proofs.Keeping.{HasBody, IsRightPlace, Keeps}
 use Rattle.written_types.proofs.Settled.{IsDone}
 use Rattle.written_operations.specs.Operations.{Defined}
 use Rattle.written_operations.specs.Sound.{AreFramesThere, IsSoundException, IsSoundFile}

@@ -1,5 +1,5 @@
 -- What the types, operations and interfaces of a file keep of the rules of graphs and models, where the names are its own.
-use Rattle.std.specs.Prelude.{◌≡◌, ◌⊎◌, ℕ, ◌+◌, ◌<◌, ◌≤◌, List, length, All, Option, Some, IfSome}
+use Rattle.std.specs.Prelude.{◌≡◌, ◌⊎◌, ℕ, ◌+◌, ◌<◌, ◌≤◌, length, All, Option, Some, IfSome}
 use Rattle.type_graph.specs.GraphRules.{IsNode, IsPart, all_members}
 use Rattle.written_types.specs.declared.place.Place.{Place}
 use Rattle.written_types.specs.declared.place.Place.TheVariants.{Typed, Raised, Called, Got, GotAndSet}
