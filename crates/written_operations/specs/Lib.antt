@@ -5,3 +5,4 @@ pub mod Operations
 pub mod Interfaces
 pub mod Definitions
 pub mod Kept
+pub mod Sound

@@ -6,3 +6,4 @@ pub mod SimpleTypes
 pub mod Labels
 pub mod Types
 pub mod Declarations
+pub mod Sound

@@ -1,0 +1,26 @@
+-- What a file writes under its own names is sound.
+use Rattle.std.proofs.Common.{◌≡◌, [], length, Result, Ok, Err, subst}
+use Rattle.idl_tree.specs.declared.spec.Spec.{Spec}
+use Rattle.scoped_names.specs.Steps.{steps_of}
+use Rattle.scoped_names.specs.Whole.{AreNames, Whole}
+use Rattle.written_types.specs.declared.fault.BuildFault.{BuildFault}
+use Rattle.written_types.proofs.Fine.{Fine}
+use Rattle.written_types.proofs.Settled.{behind}
+use Rattle.written_operations.specs.Definitions.{defined_by}
+use Rattle.written_operations.specs.Operations.{Defined}
+use Rattle.written_operations.specs.Sound.{IsSoundFile}
+use Rattle.written_operations.proofs.BodiesRead.{all_done}
+use Rattle.written_operations.proofs.FileKeep.{of_names_fine}
+use Rattle.written_operations.proofs.OperationsKeep.{KeepsAll}
+use Rattle.written_operations.proofs.SoundFile.{file_sound}
+
+given_by : {A : Type 0} (P : A → Type 0) (r : Result A BuildFault) (x : A) → Fine P r → r ≡ Ok x → P x
+given_by P (Ok y) x h is = let same : y ≡ x = cc in subst P same h
+given_by P (Err fault) x h is = absurd cc
+
+pub sound_written : (spec : Spec) (names : Whole) → AreNames spec.definitions.items names → (d : Defined) → defined_by names.entries spec.definitions.items ≡ Ok d
+    → IsSoundFile (length names.entries) d
+sound_written spec names h d is =
+    let g = behind names.entries [] 0 (steps_of spec.definitions.items) in
+    file_sound names.entries g d (given_by (KeepsAll names.entries g) (defined_by names.entries spec.definitions.items) d (of_names_fine spec names h) is)
+    (all_done spec.definitions.items names h)

@@ -1,0 +1,67 @@
+-- What the types, operations and interfaces of a file keep of the rules of graphs and models, where the names are its own.
+use Rattle.std.specs.Prelude.{◌≡◌, ◌⊎◌, ℕ, ◌+◌, ◌<◌, ◌≤◌, length, All, Option, Some, IfSome}
+use Rattle.type_graph.specs.GraphRules.{IsNode, IsPart, all_members}
+use Rattle.written_types.specs.declared.place.Place.{Place}
+use Rattle.written_types.specs.declared.place.Place.TheVariants.{Typed, Raised, Called, Got, GotAndSet}
+use Rattle.written_types.specs.Faults.{max_all_members, max_nodes}
+use Rattle.written_types.specs.Sound.{IsFrameAt, IsIdFrame}
+use Rattle.written_types.specs.Written.{Written, place_of}
+use Rattle.written_operations.specs.declared.signature.Offered.{Offered}
+use Rattle.written_operations.specs.declared.signature.Role.{Role}
+use Rattle.written_operations.specs.declared.signature.Role.TheVariants.{Operation, Getting, Setting}
+use Rattle.written_operations.specs.declared.signature.Signature.{Signature}
+use Rattle.written_operations.specs.Operations.{Defined}
+
+-- the place has the frames of a call in the role, from that of the request on
+abbrev pub HasFrames : Role → ℕ → Option Place → Type 0
+HasFrames Operation request p = p ≡ Some (Called request)
+HasFrames Getting request p = (p ≡ Some (Got request)) ⊎ (p ≡ Some (GotAndSet request))
+HasFrames Setting request p = (got : ℕ) × (p ≡ Some (GotAndSet got)) × (request ≡ got + 2)
+
+-- its entry is among so many and has its frames, and what it raises are exceptions that are written
+pub record IsSoundSignature (entries : ℕ) (w : Written) (s : Signature) : Type 0 where
+  pub entry : s.entry < entries
+  pub request : IsFrameAt w.nodes s.request
+  pub reply : IsFrameAt w.nodes (s.request + 1)
+  pub raises : All (λ place. place < length w.exceptions) s.raises
+  pub named : HasFrames s.role s.request (place_of w s.entry)
+
+-- its operations and bases are among so many
+pub record IsSoundOffer (entries operations : ℕ) (o : Offered) : Type 0 where
+  pub operations_there : All (λ place. place < operations) o.operations
+  pub bases : All (λ base. base < entries) o.bases
+
+-- an entry of so many has the exception, whose frame begins with a repository id
+pub record IsSoundException (entries : ℕ) (w : Written) (x : ℕ × ℕ) : Type 0 where
+  pub entry : x.0 < entries
+  pub frame : IsIdFrame w.nodes x.1
+  pub named : (place : ℕ) × (place_of w x.0 ≡ Some (Raised x.1 place))
+
+-- the frames of a place are there
+abbrev pub AreFramesThere : Written → Place → Type 0
+AreFramesThere w (Typed number) = IsPart w.nodes number
+AreFramesThere w (Raised frame place) = IsIdFrame w.nodes frame × (place < length w.exceptions)
+AreFramesThere w (Called request) = IsFrameAt w.nodes request × IsFrameAt w.nodes (request + 1)
+AreFramesThere w (Got request) = IsFrameAt w.nodes request × IsFrameAt w.nodes (request + 1)
+AreFramesThere w (GotAndSet request) =
+    IsFrameAt w.nodes request × IsFrameAt w.nodes (request + 1) × IsFrameAt w.nodes (request + 2) × IsFrameAt w.nodes (request + 3)
+
+-- The types keep the rules of a graph but that on paths, and each has its lines but for the basic ones.
+pub record AreSoundTypes (w : Written) : Type 0 where
+  pub limited : length w.nodes ≤ max_nodes
+  pub nodes : All (IsNode w.nodes) w.nodes
+  pub members : all_members w.nodes ≤ max_all_members
+  pub lines : length w.nodes ≡ length w.lines + 14
+
+-- What is written where there are so many entries. Each exception and each operation has a frame of its own, so there
+-- are no more than nodes.
+pub record IsSoundFile (entries : ℕ) (d : Defined) : Type 0 where
+  pub types_sound : AreSoundTypes d.types
+  pub places_long : length d.types.places ≡ entries
+  pub places : All (λ place. IfSome place (AreFramesThere d.types)) d.types.places
+  pub exceptions_few : length d.types.exceptions ≤ length d.types.nodes
+  pub exceptions : All (IsSoundException entries d.types) d.types.exceptions
+  pub operations_few : length d.operations ≤ length d.types.nodes
+  pub signatures : All (IsSoundSignature entries d.types) d.operations
+  pub interfaces_long : length d.interfaces ≡ entries
+  pub offers : All (λ offered. IfSome offered (IsSoundOffer entries (length d.operations))) d.interfaces

@@ -1,0 +1,182 @@
+-- The arms of a union rise, each by a label that is a value of the discriminator, and lead to types that are there.
+use Rattle.std.proofs.Common.{◌≡◌, ◌∙◌, ℕ, ◌+◌, ◌≤◌, Bool, true, false, List, [], ◌∷◌, ◌++◌, length, length-append, Option, Some, None, Ok, Err, refl, ap, arith, ℤ, int_lt}
+use Rattle.std.specs.Prelude.{◌||◌, if◌then◌else◌, IfSome}
+use Rattle.std.specs.List.{AllByRecursion, list_any}
+use Rattle.std.specs.Ordering.{int_eq}
+use Rattle.std.proofs.lemmas.Int.{ints}
+use Rattle.type_graph.specs.declared.node.Node.{Node}
+use Rattle.type_graph.specs.declared.fault.GraphLimit.TheVariants.{Members as MembersLimit}
+use Rattle.type_graph.specs.GraphRules.{IsPart}
+use Rattle.scoped_names.specs.Reading.{◌>>◌}
+use Rattle.written_types.specs.declared.arms.Arm.{Arm}
+use Rattle.written_types.specs.declared.arms.DefaultArm.{DefaultArm}
+use Rattle.written_types.specs.declared.fault.BuildFault.TheVariants.{Types}
+use Rattle.written_types.specs.declared.fault.TypeFault.TheVariants.{LabelTwice}
+use Rattle.written_types.specs.declared.labels.Switch.{Switch}
+use Rattle.written_types.specs.Faults.{at_most, max_members}
+use Rattle.written_types.specs.Labels.{Arms, CaseLabels, is_label, is_taken, is_value, value_added, with_arm, with_arms, with_case, with_default}
+use Rattle.written_types.proofs.Fine.{Fine, and_then, at_most_fine}
+use Rattle.written_types.proofs.Growing.{Grows, part_stays}
+
+-- ---- each label is less than those behind it
+
+abbrev pub Rise : List Arm → Type 0
+Rise [] = Unit {0}
+Rise (arm ∷ arms) = AllByRecursion (λ other. int_lt arm.label other.label ≡ true) arms × Rise arms
+
+all_with_arm : (P : Arm → Type 0) (arms : List Arm) (new : Arm) → P new → AllByRecursion P arms → AllByRecursion P (with_arm arms new)
+all_with_arm P [] new h hs = (h, tt)
+all_with_arm P (arm ∷ arms) new h (first, rest) = by (int_lt new.label arm.label) (all_with_arm P arms new h rest)
+  where
+    by : (b : Bool) → AllByRecursion P (with_arm arms new) → AllByRecursion P (if b then new ∷ arm ∷ arms else arm ∷ with_arm arms new)
+    by true others = (h, (first, rest))
+    by false others = (first, others)
+
+less_on : (a b c : ℤ) → int_lt a b ≡ true → int_lt b c ≡ true → int_lt a c ≡ true
+less_on a b c first second = grind (arith, ints)
+
+all_less : (a b : ℤ) (arms : List Arm) → int_lt a b ≡ true → AllByRecursion (λ other. int_lt b other.label ≡ true) arms → AllByRecursion (λ other. int_lt a other.label ≡ true) arms
+all_less a b [] less h = tt
+all_less a b (arm ∷ arms) less (h, hs) = (less_on a b arm.label less h, all_less a b arms less hs)
+
+-- another number that isn't less is greater
+greater : (new old : ℤ) → int_lt new old ≡ false → int_eq old new ≡ false → int_lt old new ≡ true
+greater new old not_less differs = grind (arith, ints)
+
+or_false : (a b : Bool) → (a || b) ≡ false → (a ≡ false) × (b ≡ false)
+or_false true b h = absurd cc
+or_false false b h = (refl, h)
+
+rise_with : (arms : List Arm) (new : Arm) → Rise arms → is_label arms new.label ≡ false → Rise (with_arm arms new)
+rise_with [] new h free = (tt, tt)
+rise_with (arm ∷ arms) new (first, rest) free =
+    let apart = or_false (int_eq arm.label new.label) (is_label arms new.label) free in
+    by (int_lt new.label arm.label) refl apart.0 (rise_with arms new rest apart.1)
+  where
+    by : (b : Bool) → int_lt new.label arm.label ≡ b → int_eq arm.label new.label ≡ false → Rise (with_arm arms new) → Rise (if b then new ∷ arm ∷ arms else arm ∷ with_arm arms new)
+    by true less differs others = ((less, all_less new.label arm.label arms less first), (first, rest))
+    by false not_less differs others =
+        (all_with_arm (λ other. int_lt arm.label other.label ≡ true) arms new (greater new.label arm.label not_less differs) first, others)
+
+-- ---- arms and the labels of a case
+
+pub record AreArms (graph : List Node) (s : Switch) (a : Arms) : Type 0 where
+  pub limited : length a.arms ≤ max_members
+  pub rise : Rise a.arms
+  pub each : AllByRecursion (λ arm. IsPart graph arm.number × (is_value s.values arm.label ≡ true)) a.arms
+  pub default : IfSome a.default (λ d. IsPart graph d.number)
+
+-- no two of them are one
+abbrev pub Apart : List ℤ → Type 0
+Apart [] = Unit {0}
+Apart (n ∷ ns) = AllByRecursion (λ m. int_eq n m ≡ false) ns × Apart ns
+
+pub record AreLabels (s : Switch) (a : Arms) (ls : CaseLabels) : Type 0 where
+  pub limited : length a.arms + length ls.values ≤ max_members
+  pub values : AllByRecursion (λ n. (is_value s.values n ≡ true) × (is_label a.arms n ≡ false)) ls.values
+  pub apart : Apart ls.values
+
+abbrev IsLabelOf : Switch → Arms → ℤ → Type 0
+IsLabelOf s a n = (is_value s.values n ≡ true) × (is_label a.arms n ≡ false)
+
+all_end : {T : Type 0} (P : T → Type 0) (xs : List T) (x : T) → AllByRecursion P xs → P x → AllByRecursion P (xs ++ x ∷ [])
+all_end P [] x h has = (has, tt)
+all_end P (y ∷ ys) x (h, hs) has = (h, all_end P ys x hs has)
+
+apart_end : (ns : List ℤ) (n : ℤ) → Apart ns → list_any (λ m. int_eq m n) ns ≡ false → Apart (ns ++ n ∷ [])
+apart_end [] n h free = (tt, tt)
+apart_end (m ∷ ms) n (first, rest) free =
+    let parts = or_false (int_eq m n) (list_any (λ k. int_eq k n) ms) free in
+    (all_end (λ k. int_eq m k ≡ false) ms n first parts.0, apart_end ms n rest parts.1)
+
+-- a value that no arm and no label before has
+pub value_fine : (s : Switch) (a : Arms) (ls : CaseLabels) (line : ℕ) (n : ℤ) → AreLabels s a ls → is_value s.values n ≡ true → Fine (AreLabels s a) (value_added a ls line n)
+value_fine s a ls line n h value = by (is_taken a ls n) refl
+  where
+    by : (b : Bool) → is_taken a ls n ≡ b → Fine (AreLabels s a) (if b then Err (Types (LabelTwice line))
+        else at_most max_members MembersLimit line (length a.arms + length ls.values + 1) >> λ count. Ok (record ls { values = ls.values ++ n ∷ [] }))
+    by true taken = tt
+    by false free =
+        let parts = or_false (is_label a.arms n) (list_any (λ m. int_eq m n) ls.values) free in
+        let more = length-append ls.values (n ∷ []) in
+        and_then (λ k. (k ≡ length a.arms + length ls.values + 1) × (length a.arms + length ls.values + 1 ≤ max_members)) (AreLabels s a)
+        (at_most max_members MembersLimit line (length a.arms + length ls.values + 1)) (λ count. Ok (record ls { values = ls.values ++ n ∷ [] }))
+        (at_most_fine max_members MembersLimit line (length a.arms + length ls.values + 1)) (λ k fits.
+        let le = fits.1 in
+        record {
+          limited = omega (arith, more, le);
+          values = all_end (IsLabelOf s a) ls.values n h.values (value, parts.0);
+          apart = apart_end ls.values n h.apart parts.1;
+        })
+
+-- ---- a case has its arms
+
+arm_label : (arms : List Arm) (new : Arm) (n : ℤ) → is_label arms n ≡ false → int_eq new.label n ≡ false → is_label (with_arm arms new) n ≡ false
+arm_label [] new n free differs = ap (λ b. b || false) differs
+arm_label (arm ∷ arms) new n free differs =
+    let parts = or_false (int_eq arm.label n) (is_label arms n) free in
+    by (int_lt new.label arm.label) parts.0 (arm_label arms new n parts.1 differs)
+  where
+    by : (b : Bool) → int_eq arm.label n ≡ false → is_label (with_arm arms new) n ≡ false → is_label (if b then new ∷ arm ∷ arms else arm ∷ with_arm arms new) n ≡ false
+    by true first others = ap (λ b. b || is_label (arm ∷ arms) n) differs ∙ free
+    by false first others = ap (λ b. b || is_label (with_arm arms new) n) first ∙ others
+
+length_with : (arms : List Arm) (new : Arm) → length (with_arm arms new) ≡ length arms + 1
+length_with [] new = omega arith
+length_with (arm ∷ arms) new = by (int_lt new.label arm.label) (length_with arms new)
+  where
+    by : (b : Bool) → length (with_arm arms new) ≡ length arms + 1 → length (if b then new ∷ arm ∷ arms else arm ∷ with_arm arms new) ≡ length (arm ∷ arms) + 1
+    by true others = omega arith
+    by false others = omega (arith, others)
+
+-- arms that rise, where these labels are free
+abbrev IsFree : Switch → List Arm → ℤ → Type 0
+IsFree s arms n = (is_value s.values n ≡ true) × (is_label arms n ≡ false)
+
+still_free : (s : Switch) (arms : List Arm) (new : Arm) (ns : List ℤ) → AllByRecursion (IsFree s arms) ns → AllByRecursion (λ m. int_eq new.label m ≡ false) ns
+    → AllByRecursion (IsFree s (with_arm arms new)) ns
+still_free s arms new [] h apart = tt
+still_free s arms new (n ∷ ns) (h, hs) (differs, rest) = ((h.0, arm_label arms new n h.1 differs), still_free s arms new ns hs rest)
+
+pub record AreRisen (graph : List Node) (s : Switch) (count : ℕ) (arms : List Arm) : Type 0 where
+  pub long : length arms ≡ count
+  pub rise : Rise arms
+  pub each : AllByRecursion (λ arm. IsPart graph arm.number × (is_value s.values arm.label ≡ true)) arms
+
+risen_with : (graph : List Node) (s : Switch) (count : ℕ) (arms : List Arm) (number line : ℕ) (ns : List ℤ) → AreRisen graph s count arms → IsPart graph number
+    → AllByRecursion (IsFree s arms) ns → Apart ns → AreRisen graph s (count + length ns) (with_arms arms number line ns)
+risen_with graph s count arms number line [] h part free apart = record { long = let long = h.long in omega (arith, long); rise = h.rise; each = h.each }
+risen_with graph s count arms number line (n ∷ ns) h part (free, rest) (differ, apart) =
+    let new : Arm = record { label = n; number = number; line = line } in
+    let one : AreRisen graph s (count + 1) (with_arm arms new) = record {
+      long = let long = h.long in omega (arith, long, length_with arms new);
+      rise = rise_with arms new h.rise free.1;
+      each = all_with_arm (λ arm. IsPart graph arm.number × (is_value s.values arm.label ≡ true)) arms new (part, free.0) h.each;
+    } in
+    let all = risen_with graph s (count + 1) (with_arm arms new) number line ns one part (still_free s arms new ns rest differ) apart in
+    record { long = let long = all.long in omega (arith, long); rise = all.rise; each = all.each }
+
+pub case_arms : (graph : List Node) (s : Switch) (a : Arms) (number line : ℕ) (ls : CaseLabels) → AreArms graph s a → AreLabels s a ls → IsPart graph number
+    → AreArms graph s (with_case a number line ls)
+case_arms graph s a number line ls h labels part =
+    let all = risen_with graph s (length a.arms) a.arms number line ls.values (record { long = refl; rise = h.rise; each = h.each }) part labels.values labels.apart in
+    let long = all.long in
+    let fits = labels.limited in
+    record { limited = omega (arith, long, fits); rise = all.rise; each = all.each; default = by a.default ls.default h.default }
+  where
+    by : (old : Option DefaultArm) (keyword : Option ℕ) → IfSome old (λ d. IsPart graph d.number) → IfSome (with_default old number line keyword) (λ d. IsPart graph d.number)
+    by old None before = before
+    by old (Some keyword) before = part
+
+-- where more is written
+pub arms_stay : (graph later : List Node) → Grows graph later → (s : Switch) (a : Arms) → AreArms graph s a → AreArms later s a
+arms_stay graph later grows s a h = record { limited = h.limited; rise = h.rise; each = all a.arms h.each; default = by a.default h.default }
+  where
+    all : (arms : List Arm) → AllByRecursion (λ arm. IsPart graph arm.number × (is_value s.values arm.label ≡ true)) arms
+        → AllByRecursion (λ arm. IsPart later arm.number × (is_value s.values arm.label ≡ true)) arms
+    all [] hs = tt
+    all (arm ∷ arms) (first, rest) = ((part_stays graph later grows arm.number first.0, first.1), all arms rest)
+
+    by : (o : Option DefaultArm) → IfSome o (λ d. IsPart graph d.number) → IfSome o (λ d. IsPart later d.number)
+    by None before = tt
+    by (Some d) before = part_stays graph later grows d.number before
