@@ -7,3 +7,5 @@ pub mod Good
 pub mod Parted
 pub mod Filed
 pub mod Signs
+pub mod Places
+pub mod FileNames

@@ -24,8 +24,6 @@ use Rattle.written_types.specs.Faults.{each, line_of}
 use Rattle.written_types.specs.Declarations.{declaration}
 use Rattle.written_types.specs.SimpleTypes.{entry_of, param_type}
 use Rattle.written_types.specs.Written.{Numbered, Written, place_of, placed}
-use Rattle.written_operations.specs.declared.frames.Carried.{Carried}
-use Rattle.written_operations.specs.declared.frames.Carrying.{Carrying}
 use Rattle.written_operations.specs.declared.signature.Role.{Role}
 use Rattle.written_operations.specs.declared.signature.Role.TheVariants as Roles
 use Rattle.written_operations.specs.declared.signature.Offered.{Offered}
@@ -111,14 +109,18 @@ each_signs Holds one signs d b (x ∷ xs) h =
 abbrev signature : ℕ → Role → Bool → List ℕ → ℕ → Signature
 signature e role oneway raises request = record { entry = e; role = role; is_oneway = oneway; request = request; raises = raises }
 
-call_signs : (d : Defined) (c : Carried) (oneway : Bool) (raises : List ℕ) (role : Role) (e line : ℕ) (r : Requested) → with_call d c oneway raises role e line ≡ Ok r
-    → Signs (λ final. HasCall final e role) d r.defined
-call_signs d c oneway raises role e line r h =
-    let (f, framed, told) = then_done (frames_added d.types c line) (λ f. let all : Result Requested BuildFault = Ok (requested (record {
-      types = f.written;
-      operations = d.operations ++ signature e role oneway raises f.number ∷ [];
-      interfaces = d.interfaces;
-    }) f.number) in all) r h in
+-- the frames of a call, and the call behind them
+abbrev called_by : Defined → Role → Bool → List ℕ → ℕ → Numbered → Result Requested BuildFault
+called_by d role oneway raises e f = Ok (requested (record {
+  types = f.written;
+  operations = d.operations ++ signature e role oneway raises f.number ∷ [];
+  interfaces = d.interfaces;
+}) f.number)
+
+call_signs : (d : Defined) (frames : Result Numbered BuildFault) (oneway : Bool) (raises : List ℕ) (role : Role) (e : ℕ) (r : Requested)
+    → (frames >> called_by d role oneway raises e) ≡ Ok r → Signs (λ final. HasCall final e role) d r.defined
+call_signs d frames oneway raises role e r h =
+    let (f, framed, told) = then_done frames (called_by d role oneway raises e) r h in
     let sig = signature e role oneway raises f.number in
     let is : requested (record { types = f.written; operations = d.operations ++ sig ∷ []; interfaces = d.interfaces }) f.number ≡ r = cc in
     let grows : r.defined.operations ≡ d.operations ++ sig ∷ [] = sym (ap (λ x. x.defined.operations) is) in
@@ -149,7 +151,7 @@ operation_signs es scope d b o h =
     signs_from (λ final. IsSigned es final scope o.identifier Roles.Operation) d dc b refl
     (signs_to (λ final. IsSigned es final scope o.identifier Roles.Operation) dc r.defined b (place_same r.defined b e (Called r.request) h5)
     (signs_weaker (λ final. HasCall final e Roles.Operation) (λ final. IsSigned es final scope o.identifier Roles.Operation) dc r.defined (λ final has. (e, named, has))
-    (call_signs dc c.carried o.is_oneway raises Roles.Operation e (line_of o.identifier) r calls)))
+    (call_signs dc (frames_added dc.types c.carried (line_of o.identifier)) o.is_oneway raises Roles.Operation e r calls)))
 
 abbrev MaySet : Bool → ℕ → List Signature → Type 0
 MaySet set e final = set ≡ true → HasCall final e Roles.Setting
@@ -163,7 +165,7 @@ access_signs got b number true raises e line h =
     let (c, carries, calls) = then_done (with_carried nothing_carried In number line) (λ c. with_call got.defined c false raises Roles.Setting e line) r sets in
     signs_to (MaySet true e) got.defined r.defined b (place_same r.defined b e (GotAndSet got.request) h1)
     (signs_weaker (λ final. HasCall final e Roles.Setting) (MaySet true e) got.defined r.defined (λ final has is. has)
-    (call_signs got.defined c false raises Roles.Setting e line r calls))
+    (call_signs got.defined (frames_added got.defined.types c line) false raises Roles.Setting e r calls))
 
 identifier_signs : (es : List Entry) (scope number : ℕ) (a : Attributes) (d b : Defined) (l : Leaf) → with_attribute es scope number a d l ≡ Ok b
     → Signs (λ final. IsAccessed es final scope a l) d b
@@ -174,7 +176,7 @@ identifier_signs es scope number a d b l h =
     let (e, named, h3) = then_done (entry_of es scope l) (λ e. behind get set e) b h2 in
     let (got, gets, h4) = then_done (with_get d number get e (line_of l)) (λ got. with_access got number (is_set a) set e (line_of l)) b h3 in
     let (c, carries, calls) = then_done (with_carried nothing_carried Out number (line_of l)) (λ c. with_call d c false get Roles.Getting e (line_of l)) got gets in
-    let first = call_signs d c false get Roles.Getting e (line_of l) got calls in
+    let first = call_signs d (frames_added d.types c (line_of l)) false get Roles.Getting e got calls in
     let second = access_signs got b number (is_set a) set e (line_of l) h4 in
     signs_weaker (λ final. HasCall final e Roles.Getting × MaySet (is_set a) e final) (λ final. IsAccessed es final scope a l) d b
     (λ final both. ((e, named, both.0), λ is. (e, named, both.1 is)))

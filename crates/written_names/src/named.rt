@@ -2,6 +2,7 @@
 
 ghost use Rattle.std.specs.Prelude.{◌≡◌, [], map, replicate, All, IfOk, OnOk};
 ghost use Rattle.part_names.specs.Names.{AreApart};
+ghost use Rattle.written_types.specs.declared.fault.BuildFault.TheVariants.{NoMemory};
 ghost use Rattle.written_names.specs.Named.{AreNamed, Writes, by_node, placed};
 
 use crate::definitions::parts_of_file;
@@ -70,6 +71,16 @@ fn table_of(
     Ok(PartNames::new(alloc, nodes))
 }
 
+/// Want of memory, where it is no other fault.
+fn memory_alone(fault: BuildFault) -> AllocError
+    requires { fault ≡ NoMemory }
+{
+    match fault {
+        BuildFault::NoMemory => AllocError,
+        BuildFault::Types(_) | BuildFault::OtherNames => unreachable!(),
+    }
+}
+
 /// The names of the parts of the nodes that a file writes: members and enumerators by their names,
 /// parameters too, a result as `_return`, an exception's repository id as `_id`.
 ///
@@ -87,7 +98,6 @@ pub fn name_parts<'a>(
 {
     match parts_of_file(alloc, names, types, signatures, spec) {
         Ok(list) => table_of(alloc, types.nodes().len(), &list),
-        Err(BuildFault::NoMemory) => Err(AllocError),
-        Err(_) => unreachable!(),
+        Err(fault) => Err(memory_alone(fault)),
     }
 }

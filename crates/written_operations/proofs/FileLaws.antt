@@ -14,7 +14,7 @@ use Rattle.written_operations.proofs.FileKeep.{of_names_fine}
 use Rattle.written_operations.proofs.OperationsKeep.{KeepsAll}
 use Rattle.written_operations.proofs.SoundFile.{file_sound}
 
-given_by : {A : Type 0} (P : A → Type 0) (r : Result A BuildFault) (x : A) → Fine P r → r ≡ Ok x → P x
+pub given_by : {A : Type 0} (P : A → Type 0) (r : Result A BuildFault) (x : A) → Fine P r → r ≡ Ok x → P x
 given_by P (Ok y) x h is = let same : y ≡ x = cc in subst P same h
 given_by P (Err fault) x h is = absurd cc
 

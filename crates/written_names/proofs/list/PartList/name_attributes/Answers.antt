@@ -26,16 +26,16 @@ pub returns-in-Get : goal.returns-in-Get
 returns-in-Get c =
     let es = c.args.names.now.entries in
     let ops = c.args.signatures.now in
-    subst (Tells c.name_attribute-2.result _)
+    subst (Tells c.name_attribute-in-Get.result _)
     (each_one (identifier_parts es ops c.args.scope true) c.args.self.now c.in-Get.identifier
     ∙ sym (ap (λ a. each (identifier_parts es ops c.args.scope (is_set a)) c.args.self.now (attribute_identifiers a)) c.in-Get.is))
-    c.name_attribute-2.ensures
+    c.name_attribute-in-Get.ensures
 
 pub returns-in-Set : goal.returns-in-Set
 returns-in-Set c =
     let es = c.args.names.now.entries in
     let ops = c.args.signatures.now in
-    subst (Tells c.name_attribute-3.result _)
+    subst (Tells c.name_attribute-in-Set.result _)
     (each_one (identifier_parts es ops c.args.scope true) c.args.self.now c.in-Set.identifier
     ∙ sym (ap (λ a. each (identifier_parts es ops c.args.scope (is_set a)) c.args.self.now (attribute_identifiers a)) c.in-Set.is))
-    c.name_attribute-3.ensures
+    c.name_attribute-in-Set.ensures
