@@ -21,12 +21,12 @@ use Rattle.scoped_names.proofs.Asks.{param_type_asks}
 use Rattle.scoped_names.proofs.Parts.{closed, each_step_closed}
 use Rattle.written_types.specs.declared.place.Place.TheVariants.{Got, GotAndSet}
 use Rattle.written_types.specs.Faults.{each, line_of}
-use Rattle.written_types.specs.Sound.{IsFrameAt}
+use Rattle.written_types.specs.Sound.{IsFrameAt, IsPlaceAmong}
 use Rattle.written_types.specs.SimpleTypes.{entry_of, param_type}
 use Rattle.written_types.specs.Written.{Written, placed}
 use Rattle.written_types.proofs.Fine.{Fine, and_then, given, weaker}
 use Rattle.written_types.proofs.Growing.{frame_stays, part_stays}
-use Rattle.written_types.proofs.Keeping.{IsRightPlace, Keeps, later_none, later_on}
+use Rattle.written_types.proofs.Keeping.{Keeps, later_none, later_on}
 use Rattle.written_types.proofs.Naming.{IsSilent, entered, entry_is, silent_append, silent_keeps}
 use Rattle.written_types.proofs.Settled.{AllSettled, Settled, behind, both, both_behind}
 use Rattle.written_types.proofs.SimpleKeep.{param_keeps, param_silent}
@@ -98,7 +98,7 @@ both_fine es g d gets sets e r t h below below_too pending called called_too =
     let more_too = second.more in
     let behind_it : t.request ≡ r.request + 2 = omega (arith, start, start_too, more) in
     let reply_behind : t.request + 1 ≡ r.request + 3 = omega (arith, behind_it) in
-    let right : IsRightPlace w.nodes (length w.exceptions) p = (
+    let right : IsPlaceAmong w.nodes (length w.exceptions) p = (
       frame_stays v.nodes w.nodes second.later.nodes r.request first.request,
       frame_stays v.nodes w.nodes second.later.nodes (r.request + 1) first.reply,
       subst (IsFrameAt w.nodes) behind_it second.request,

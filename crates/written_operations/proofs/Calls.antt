@@ -198,7 +198,7 @@ exception_fine es g w scope name i s =
     let (frame, place, there) = raised_kind x.kind (slice_get w.places e) kind (i.has e x (s.finds e found) at) in
     let told : entry_found es scope name ≡ Ok e = ap of_names found in
     let placed : place_of w e ≡ Some (Raised frame place) = ap place_in there in
-    (place, goes_on (entry_found es scope name) e (λ e. exception_in (place_of w e)) told ∙ ap exception_in placed, i.right e (Raised frame place) there)
+    (place, goes_on (entry_found es scope name) e (λ e. exception_in (place_of w e)) told ∙ ap exception_in placed, (i.right e (Raised frame place) there).1)
 
 names_fine : (es : List Entry) (g : List Introduction) (w : Written) (scope : ℕ) (places : List ℕ) (names : List ScopedName) → Keeps es g nothing_begun w
     → AllSettled es g scope (raises_steps names) → All (λ k. k < length w.exceptions) places

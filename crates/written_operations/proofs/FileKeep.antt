@@ -14,11 +14,12 @@ use Rattle.scoped_names.specs.Whole.{AreNames, Whole}
 use Rattle.written_types.specs.declared.fault.BuildFault.{BuildFault}
 use Rattle.written_types.specs.declared.place.Place.{Place}
 use Rattle.written_types.specs.declared.place.Place.TheVariants.{Typed}
-use Rattle.written_types.specs.Sound.{IsOfTypes, IsRight}
+use Rattle.written_types.specs.Sound.{IsOfTypes}
 use Rattle.written_types.specs.Written.{undefined, unwritten}
 use Rattle.written_types.proofs.Defining.{basic_defined, each_there}
 use Rattle.written_types.proofs.Each.{each_keeps}
 use Rattle.written_types.proofs.Fine.{Fine, weaker}
+use Rattle.written_types.proofs.Growing.{IsRight}
 use Rattle.written_types.proofs.Keeping.{Keeps}
 use Rattle.written_types.proofs.Settled.{AllSettled, all_settled, behind}
 use Rattle.written_operations.specs.Definitions.{defined_by, definition}

@@ -27,12 +27,13 @@ use Rattle.written_types.specs.declared.fault.BuildFault.TheVariants.{Types}
 use Rattle.written_types.specs.declared.fault.TypeFault.TheVariants.{BadOneway}
 use Rattle.written_types.specs.Faults.{each, line_of}
 use Rattle.written_types.specs.Declarations.{declaration}
+use Rattle.written_types.specs.Sound.{IsPlaceAmong}
 use Rattle.written_types.specs.SimpleTypes.{entry_of}
 use Rattle.written_types.specs.Written.{Written, place_in, place_of, placed}
 use Rattle.written_types.proofs.DeclarationsKeep.{declaration_keeps}
 use Rattle.written_types.proofs.Fine.{Fine, and_then, given, weaker}
 use Rattle.written_types.proofs.Growing.{frame_stays, grows_long}
-use Rattle.written_types.proofs.Keeping.{HasPlace, IsRightPlace, Keeps, Later, later_on}
+use Rattle.written_types.proofs.Keeping.{HasPlace, Keeps, Later, later_on}
 use Rattle.written_types.proofs.Naming.{Entered, Goes, IsSilent, each_silent, entered, entry_is, exceptions_stay, needs_place, silent_keeps, silent_name, unknown, unplaced}
 use Rattle.written_types.proofs.Settled.{AllSettled, Known, Settled, behind, both, both_behind, known_stays}
 use Rattle.written_types.proofs.Spots.{set_here}
@@ -148,7 +149,7 @@ feature_place Kinds.Attribute p is = tt
 feature_place kind p is = absurd cc
 
 pub feature_placed : (es : List Entry) (g : List Introduction) (w : Written) (e : ℕ) (x : Entry) (p : Place) → Keeps es g nothing_begun w → Known es g e → slice_get w.places e ≡ Some None
-    → slice_get es e ≡ Some x → is_feature_kind x.kind ≡ true → IsRightPlace w.nodes (length w.exceptions) p
+    → slice_get es e ≡ Some x → is_feature_kind x.kind ≡ true → IsPlaceAmong w.nodes (length w.exceptions) p
     → Goes es g nothing_begun w (with_placed w e p w.exceptions)
 feature_placed es g w e x p i knows none at feature right = record {
   keeps = place_kept es g g nothing_begun nothing_begun w e x p w.exceptions i

@@ -7,13 +7,13 @@ use Rattle.type_graph.specs.GraphRules.{IsNode}
 use Rattle.name_table.specs.Entry.{Entry}
 use Rattle.scoped_names.specs.Introductions.{Introduction}
 use Rattle.written_types.specs.declared.place.Place.{Place}
-use Rattle.written_types.specs.declared.place.Place.TheVariants.{Called, Got, GotAndSet, Raised, Typed}
-use Rattle.written_types.specs.Sound.{IsRight}
+use Rattle.written_types.specs.Sound.{IsPlaceAmong}
 use Rattle.written_types.specs.Written.{Written, place_in}
-use Rattle.written_types.proofs.Keeping.{HasBody, IsRightPlace, Keeps}
+use Rattle.written_types.proofs.Growing.{IsRight}
+use Rattle.written_types.proofs.Keeping.{HasBody, Keeps}
 use Rattle.written_types.proofs.Settled.{IsDone}
 use Rattle.written_operations.specs.Operations.{Defined}
-use Rattle.written_operations.specs.Sound.{AreFramesThere, IsSoundException, IsSoundFile}
+use Rattle.written_operations.specs.Sound.{IsSoundException, IsSoundFile}
 use Rattle.written_operations.proofs.Calls.{nothing_begun}
 use Rattle.written_operations.proofs.OperationsKeep.{KeepsAll}
 
@@ -31,13 +31,9 @@ node_defined es g w i done n node is (inl open_yet) =
     let left = i.left n (is ∙ ap Some open_yet) in
     absurd (left.again (done left.entry left.body))
 
-place_sound : (w : Written) (o : Option Place) → ((p : Place) → o ≡ Some p → IsRightPlace w.nodes (length w.exceptions) p) → IfSome o (AreFramesThere w)
+place_sound : (w : Written) (o : Option Place) → ((p : Place) → o ≡ Some p → IsPlaceAmong w.nodes (length w.exceptions) p) → IfSome o (IsPlaceAmong w.nodes (length w.exceptions))
 place_sound w None h = tt
-place_sound w (Some (Typed n)) h = h (Typed n) refl
-place_sound w (Some (Raised frame place)) h = h (Raised frame place) refl
-place_sound w (Some (Called request)) h = h (Called request) refl
-place_sound w (Some (Got request)) h = h (Got request) refl
-place_sound w (Some (GotAndSet request)) h = h (GotAndSet request) refl
+place_sound w (Some p) h = h p refl
 
 exception_sound : (es : List Entry) (g : List Introduction) (w : Written) → Keeps es g nothing_begun w → (k : ℕ) (x : ℕ × ℕ) → slice_get w.exceptions k ≡ Some x
     → IsSoundException (length es) w x
@@ -62,7 +58,7 @@ file_sound es g d h done =
         lines = s.lines;
       };
       places_long = i.long;
-      places = all_there (λ place. IfSome place (AreFramesThere w)) w.places (λ e o is. place_sound w o (λ p same. i.right e p (is ∙ ap Some same)));
+      places = all_there (λ p. IfSome p (IsPlaceAmong w.nodes (length w.exceptions))) w.places (λ e o is. place_sound w o (λ p same. i.right e p (is ∙ ap Some same)));
       exceptions_few = s.exceptions;
       exceptions = all_there (IsSoundException (length es) w) w.exceptions (exception_sound es g w i);
       operations_few = h.few;

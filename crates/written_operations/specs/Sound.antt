@@ -1,10 +1,8 @@
--- What the types, operations and interfaces of a file keep of the rules of graphs and models, where the names are its own.
+-- What the types, operations and interfaces of a file keep of the rules of graphs and models, under its own names.
 use Rattle.std.specs.Prelude.{◌≡◌, ◌⊎◌, ℕ, ◌+◌, ◌<◌, ◌≤◌, length, All, Option, Some, IfSome}
-use Rattle.type_graph.specs.GraphRules.{IsNode, IsPart, all_members}
 use Rattle.written_types.specs.declared.place.Place.{Place}
-use Rattle.written_types.specs.declared.place.Place.TheVariants.{Typed, Raised, Called, Got, GotAndSet}
-use Rattle.written_types.specs.Faults.{max_all_members, max_nodes}
-use Rattle.written_types.specs.Sound.{IsFrameAt, IsIdFrame}
+use Rattle.written_types.specs.declared.place.Place.TheVariants.{Raised, Called, Got, GotAndSet}
+use Rattle.written_types.specs.Sound.{AreSoundTypes, IsFrameAt, IsIdFrame, IsPlaceAmong}
 use Rattle.written_types.specs.Written.{Written, place_of}
 use Rattle.written_operations.specs.declared.signature.Offered.{Offered}
 use Rattle.written_operations.specs.declared.signature.Role.{Role}
@@ -37,28 +35,12 @@ pub record IsSoundException (entries : ℕ) (w : Written) (x : ℕ × ℕ) : Typ
   pub frame : IsIdFrame w.nodes x.1
   pub named : (place : ℕ) × (place_of w x.0 ≡ Some (Raised x.1 place))
 
--- the frames of a place are there
-abbrev pub AreFramesThere : Written → Place → Type 0
-AreFramesThere w (Typed number) = IsPart w.nodes number
-AreFramesThere w (Raised frame place) = place < length w.exceptions
-AreFramesThere w (Called request) = IsFrameAt w.nodes request × IsFrameAt w.nodes (request + 1)
-AreFramesThere w (Got request) = IsFrameAt w.nodes request × IsFrameAt w.nodes (request + 1)
-AreFramesThere w (GotAndSet request) =
-    IsFrameAt w.nodes request × IsFrameAt w.nodes (request + 1) × IsFrameAt w.nodes (request + 2) × IsFrameAt w.nodes (request + 3)
-
--- The types keep the rules of a graph but that on paths, and each has its lines but for the basic ones.
-pub record AreSoundTypes (w : Written) : Type 0 where
-  pub limited : length w.nodes ≤ max_nodes
-  pub nodes : All (IsNode w.nodes) w.nodes
-  pub members : all_members w.nodes ≤ max_all_members
-  pub lines : length w.nodes ≡ length w.lines + 14
-
 -- What is written where there are so many entries. Each exception and each operation has a frame of its own, so there
 -- are no more than nodes.
 pub record IsSoundFile (entries : ℕ) (d : Defined) : Type 0 where
   pub types_sound : AreSoundTypes d.types
   pub places_long : length d.types.places ≡ entries
-  pub places : All (λ place. IfSome place (AreFramesThere d.types)) d.types.places
+  pub places : All (λ p. IfSome p (IsPlaceAmong d.types.nodes (length d.types.exceptions))) d.types.places
   pub exceptions_few : length d.types.exceptions ≤ length d.types.nodes
   pub exceptions : All (IsSoundException entries d.types) d.types.exceptions
   pub operations_few : length d.operations ≤ length d.types.nodes

@@ -19,10 +19,10 @@ use Rattle.written_types.specs.declared.fault.BuildFault.TheVariants.{OtherNames
 use Rattle.written_types.specs.declared.place.Place.{Place}
 use Rattle.written_types.specs.declared.place.Place.TheVariants.{Typed, Raised}
 use Rattle.written_types.specs.Faults.{max_nodes}
-use Rattle.written_types.specs.Sound.{IsIdFrame, IsRight}
+use Rattle.written_types.specs.Sound.{IsIdFrame, IsPlaceAmong}
 use Rattle.written_types.specs.Written.{Written, held_at, is_undefined, next, node_set, placed, raised_at, undefined, with_held, with_node}
-use Rattle.written_types.proofs.Growing.{Grows, id_stays, node_stays, push_grows, right_stays, set_grows}
-use Rattle.written_types.proofs.Keeping.{HasBody, HasPlace, HasType, IsException, IsLeft, IsRightPlace, IsUnplaced, Keeps, Later, body_begun, place_stays, with_begun}
+use Rattle.written_types.proofs.Growing.{Grows, IsRight, id_stays, node_stays, push_grows, right_stays, set_grows}
+use Rattle.written_types.proofs.Keeping.{HasBody, HasPlace, HasType, IsException, IsLeft, IsUnplaced, Keeps, Later, body_begun, place_stays, with_begun}
 use Rattle.written_types.proofs.Settled.{IsDone, Known}
 use Rattle.written_types.proofs.Spots.{is_some_and, push_cases, push_low, same_or_not, set_cases, set_here, set_other, sum_set}
 use Rattle.written_types.proofs.Walks.{goes_on}
@@ -109,8 +109,8 @@ open_kept es g more begun w e x lines i widens none at body new fits =
     part_there = is_some_and (slice_get (w.nodes ++ undefined ∷ []) (next w)) IsNoFrame undefined (get_push_last w.nodes undefined) tt
 
     right_at : (f : ℕ) (q : Place) → ((f ≡ e) × (Some (Typed (next w)) ≡ Some q)) ⊎ ((f ≡ e → ⊥) × (slice_get w.places f ≡ Some (Some q)))
-        → IsRightPlace (w.nodes ++ undefined ∷ []) (length w.exceptions) q
-    right_at f q (inl (same, is)) = let one : Typed (next w) ≡ q = cc in subst (IsRightPlace (w.nodes ++ undefined ∷ []) (length w.exceptions)) one part_there
+        → IsPlaceAmong (w.nodes ++ undefined ∷ []) (length w.exceptions) q
+    right_at f q (inl (same, is)) = let one : Typed (next w) ≡ q = cc in subst (IsPlaceAmong (w.nodes ++ undefined ∷ []) (length w.exceptions)) one part_there
     right_at f q (inr (differs, is)) =
         place_stays w.nodes (w.nodes ++ undefined ∷ []) (length w.exceptions) (length w.exceptions) (push_grows w.nodes undefined) (le_refl (length w.exceptions)) q (i.right f q is)
 
@@ -303,7 +303,7 @@ raise_kept es g begun w e frame x i knows none at kind ended room id =
     let long = length-append w.exceptions ((e, frame) ∷ []) in
     place_kept es g g (with_begun e begun) begun w e x place (w.exceptions ++ (e, frame) ∷ []) i
     (record { grows = λ f k. k; only = λ f k. inr k; here = knows; done = λ s d. d; undone = λ s d. d }) none at (ap has_body kind)
-    (has x.kind kind) ended (λ f b. inr b) narrow (omega (arith, long)) (omega (arith, long, room)) (omega (arith, long)) (λ k y is. each k y (push_cases w.exceptions (e, frame) k y is))
+    (has x.kind kind) ended (λ f b. inr b) narrow (omega (arith, long)) (omega (arith, long, room)) (id, omega (arith, long)) (λ k y is. each k y (push_cases w.exceptions (e, frame) k y is))
   where
     has : (k : EntryKind) → k ≡ Kinds.Exception → HasPlace k (begun e) (Some (Some (Raised frame (length w.exceptions))))
     has k is = subst (λ j. HasPlace j (begun e) (Some (Some (Raised frame (length w.exceptions))))) (sym is) (inr (frame, length w.exceptions, refl))

@@ -7,7 +7,7 @@ use Rattle.type_graph.specs.declared.node.Node.{Node}
 use Rattle.type_graph.specs.declared.node.Node.TheVariants.{Whole, Octet, Char, Boolean, Enum, Text, Seq, Array, Struct, Union, Frame}
 use Rattle.type_graph.specs.Value.{IsNumber, node_at}
 use Rattle.type_graph.specs.GraphRules.{AreMembers, HasOther, IsNoFrame, IsNode, IsPart, IsSwitch, IsUnion}
-use Rattle.written_types.specs.Sound.{BeginsWithText, IsFrame, IsFrameAt, IsIdFrame, IsRight}
+use Rattle.written_types.specs.Sound.{BeginsWithText, IsFrame, IsFrameAt, IsIdFrame}
 use Rattle.written_types.specs.Written.{undefined}
 use Rattle.written_types.proofs.Spots.{is_some_and, push_low, set_here, set_other, same_or_not, some_is, there_at}
 
@@ -20,6 +20,10 @@ Grows graph later = (n : ℕ) (node : Node) → slice_get graph n ≡ Some node 
 
 pub grows_none : (graph : List Node) → Grows graph graph
 grows_none graph n node is = inl is
+
+-- it has no definition yet, or keeps the rules of nodes
+abbrev pub IsRight : List Node → Node → Type 0
+IsRight graph node = (node ≡ undefined) ⊎ IsNode graph node
 
 -- ---- what stays
 

@@ -1,11 +1,11 @@
 -- What is kept while the types of a file are written: each name that is introduced has what its kind has, no other name
 -- has anything, and the nodes are right.
-use Rattle.std.proofs.Common.{◌≡◌, ◌∙◌, ◌⊎◌, inl, inr, ℕ, suc, ◌+◌, ◌<◌, ◌≤◌, le_refl, true, false, List, ◌∷◌, length, Option, Some, None, sym, ap, subst, arith}
+use Rattle.std.proofs.Common.{◌≡◌, ◌∙◌, ◌⊎◌, inl, inr, ℕ, suc, ◌+◌, ◌≤◌, le_refl, true, false, List, ◌∷◌, length, Option, Some, None, sym, ap, subst, arith}
 use Rattle.std.specs.Prelude.{slice_get}
 use Rattle.idl_tree.specs.declared.names.Leaf.{Leaf}
 use Rattle.basic_types.specs.BasicNodes.{basic_nodes}
 use Rattle.type_graph.specs.declared.node.Node.{Node}
-use Rattle.type_graph.specs.GraphRules.{IsPart}
+use Rattle.type_graph.specs.GraphRules.{all_members}
 use Rattle.name_table.specs.declared.entry.EntryKind.{EntryKind}
 use Rattle.name_table.specs.declared.entry.EntryKind.TheVariants as Kinds
 use Rattle.name_table.specs.Entry.{Entry, named}
@@ -15,9 +15,10 @@ use Rattle.scoped_names.specs.Introductions.{Introduction, Stands, Body, StandsF
 use Rattle.scoped_names.specs.Tests.{is_of}
 use Rattle.written_types.specs.declared.place.Place.{Place}
 use Rattle.written_types.specs.declared.place.Place.TheVariants.{Typed, Raised, Called, Got, GotAndSet}
-use Rattle.written_types.specs.Sound.{IsFrameAt, IsIdFrame, IsSound}
+use Rattle.written_types.specs.Faults.{max_all_members, max_nodes}
+use Rattle.written_types.specs.Sound.{IsIdFrame, IsPlaceAmong}
 use Rattle.written_types.specs.Written.{Written, undefined}
-use Rattle.written_types.proofs.Growing.{Grows, frame_stays, grows_none, grows_on, part_stays}
+use Rattle.written_types.proofs.Growing.{Grows, IsRight, frame_stays, grows_none, grows_on, id_stays, part_stays}
 use Rattle.written_types.proofs.Settled.{IsBody, IsDone, Known}
 
 -- a structure or a union
@@ -48,14 +49,15 @@ abbrev pub IsUnplaced : EntryKind → Option (Option Place) → Type 0
 IsUnplaced Kinds.Exception o = o ≡ Some None
 IsUnplaced kind o = Unit {0}
 
--- what a place speaks of is there
-abbrev pub IsRightPlace : List Node → ℕ → Place → Type 0
-IsRightPlace graph exceptions (Typed n) = IsPart graph n
-IsRightPlace graph exceptions (Raised frame place) = place < exceptions
-IsRightPlace graph exceptions (Called request) = IsFrameAt graph request × IsFrameAt graph (request + 1)
-IsRightPlace graph exceptions (Got request) = IsFrameAt graph request × IsFrameAt graph (request + 1)
-IsRightPlace graph exceptions (GotAndSet request) =
-    IsFrameAt graph request × IsFrameAt graph (request + 1) × IsFrameAt graph (request + 2) × IsFrameAt graph (request + 3)
+-- no more types than the limit, each right, and no more members of all than are counted, within the limit; so many
+-- types have lines as there are behind the basic ones, and each exception has a frame
+pub record IsSound (w : Written) : Type 0 where
+  pub limited : length w.nodes ≤ max_nodes
+  pub nodes : (n : ℕ) (node : Node) → slice_get w.nodes n ≡ Some node → IsRight w.nodes node
+  pub counted : all_members w.nodes ≤ w.members
+  pub members : w.members ≤ max_all_members
+  pub lines : length w.nodes ≡ length w.lines + 14
+  pub exceptions : length w.exceptions ≤ length w.nodes
 
 -- a node without definition is that of a structure or a union that has none yet
 pub record IsLeft (es : List Entry) (g : List Introduction) (begun : ℕ → Type 0) (places : List (Option Place)) (n : ℕ) : Type 0 where
@@ -78,7 +80,7 @@ pub record Keeps (es : List Entry) (g : List Introduction) (begun : ℕ → Type
   pub begun_done : (e : ℕ) → begun e → HasBody es e → IsDone g (suc e)
   pub done_known : (e : ℕ) → IsDone g (suc e) → Known es g e
   pub unplaced : (e : ℕ) (x : Entry) → begun e → slice_get es e ≡ Some x → IsUnplaced x.kind (slice_get w.places e)
-  pub right : (e : ℕ) (p : Place) → slice_get w.places e ≡ Some (Some p) → IsRightPlace w.nodes (length w.exceptions) p
+  pub right : (e : ℕ) (p : Place) → slice_get w.places e ≡ Some (Some p) → IsPlaceAmong w.nodes (length w.exceptions) p
   pub exceptions : (k : ℕ) (x : ℕ × ℕ) → slice_get w.exceptions k ≡ Some x → IsException w.places w.nodes k x
   pub one : (e f n : ℕ) → HasBody es e → HasBody es f → slice_get w.places e ≡ Some (Some (Typed n)) → slice_get w.places f ≡ Some (Some (Typed n)) → e ≡ f
   pub ahead : (e n : ℕ) → HasBody es e → slice_get w.places e ≡ Some (Some (Typed n)) → (IsDone g (suc e) → ⊥) ⊎ begun e → slice_get w.nodes n ≡ Some undefined
@@ -102,9 +104,11 @@ later_on w v u f g = record {
   exceptions = omega (arith, f.exceptions, g.exceptions);
 }
 
-pub place_stays : (graph later : List Node) (m n : ℕ) → Grows graph later → m ≤ n → (p : Place) → IsRightPlace graph m p → IsRightPlace later n p
+pub place_stays : (graph later : List Node) (m n : ℕ) → Grows graph later → m ≤ n → (p : Place) → IsPlaceAmong graph m p → IsPlaceAmong later n p
 place_stays graph later m n grows le (Typed k) h = part_stays graph later grows k h
-place_stays graph later m n grows le (Raised frame place) h = omega (arith, h, le)
+place_stays graph later m n grows le (Raised frame place) h =
+    let below = h.1 in
+    (id_stays graph later grows frame h.0, omega (arith, below, le))
 place_stays graph later m n grows le (Called request) h = (frame_stays graph later grows request h.0, frame_stays graph later grows (request + 1) h.1)
 place_stays graph later m n grows le (Got request) h = (frame_stays graph later grows request h.0, frame_stays graph later grows (request + 1) h.1)
 place_stays graph later m n grows le (GotAndSet request) h = (

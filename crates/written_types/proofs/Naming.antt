@@ -29,9 +29,10 @@ use Rattle.scoped_names.proofs.OnlyMemory.{finds_one, there_is}
 use Rattle.written_types.specs.declared.place.Place.{Place}
 use Rattle.written_types.specs.declared.place.Place.TheVariants.{Raised, Typed}
 use Rattle.written_types.specs.Faults.{of_names, or_other}
+use Rattle.written_types.specs.Sound.{IsPlaceAmong}
 use Rattle.written_types.specs.SimpleTypes.{entry_found, entry_of, type_found}
 use Rattle.written_types.specs.Written.{Written, placed, type_in, type_of}
-use Rattle.written_types.proofs.Keeping.{HasPlace, HasType, IsException, IsRightPlace, Keeps, Later, NeedsNothing, more_known}
+use Rattle.written_types.proofs.Keeping.{HasPlace, HasType, IsException, Keeps, Later, NeedsNothing, more_known}
 use Rattle.written_types.proofs.Settled.{AllNew, AllSettled, IsBody, IsDone, Known, Settled, behind, onto}
 use Rattle.written_types.proofs.Spots.{there_at}
 use Rattle.written_types.proofs.Walks.{goes_on}
@@ -121,7 +122,7 @@ once kind is = absurd cc
 
 -- a name that is new has its place from here on
 pub place_given : (es : List Entry) (g : List Introduction) (begun : ℕ → Type 0) (w : Written) (scope : ℕ) (l : Leaf) (kind : EntryKind) (p : Place) (d : Entered es g scope l kind)
-    → Keeps es g begun w → (Known es g d.entry → ⊥) → has_body kind ≡ false → HasPlace kind (begun d.entry) (Some (Some p)) → IsRightPlace w.nodes (length w.exceptions) p
+    → Keeps es g begun w → (Known es g d.entry → ⊥) → has_body kind ≡ false → HasPlace kind (begun d.entry) (Some (Some p)) → IsPlaceAmong w.nodes (length w.exceptions) p
     → (placed w d.entry p ≡ Ok (with_placed w d.entry p w.exceptions)) × Goes es (Stands scope l kind ∷ g) begun w (with_placed w d.entry p w.exceptions)
 place_given es g begun w scope l kind p d i new bodiless has right =
     let none = unplaced es g begun w d.entry d.value i d.there new in

@@ -12,11 +12,11 @@ use Rattle.type_paths.specs.Lines.{Lines}
 use Rattle.written_types.specs.declared.place.Place.{Place}
 use Rattle.written_types.specs.declared.place.Place.TheVariants.{Typed}
 use Rattle.written_types.specs.Faults.{at_most, max_all_members, max_nodes}
-use Rattle.written_types.specs.Sound.{IsRight, IsSound}
+use Rattle.written_types.specs.Sound.{IsPlaceAmong}
 use Rattle.written_types.specs.Written.{Written, Numbered, added, counted, next, placed, placed_at, undefined, with_node}
 use Rattle.written_types.proofs.Fine.{Fine, and_then, at_most_fine}
-use Rattle.written_types.proofs.Growing.{id_stays, node_stays, push_grows, right_stays}
-use Rattle.written_types.proofs.Keeping.{HasBody, HasPlace, IsException, IsLeft, IsRightPlace, IsUnplaced, Keeps, Later, body_begun, no_body_of, place_stays}
+use Rattle.written_types.proofs.Growing.{IsRight, id_stays, node_stays, push_grows, right_stays}
+use Rattle.written_types.proofs.Keeping.{HasBody, HasPlace, IsException, IsLeft, IsSound, IsUnplaced, Keeps, Later, body_begun, no_body_of, place_stays}
 use Rattle.written_types.proofs.Settled.{IsDone, Known}
 use Rattle.written_types.proofs.Spots.{is_some_and, push_cases, push_low, same_or_not, set_cases, set_here, set_other, sum_push}
 use Rattle.name_table.proofs.Stability.{get_push_last}
@@ -156,7 +156,7 @@ with_placed w e p exceptions = record w { places = slice_set w.places e (Some p)
 pub place_kept : (es : List Entry) (g more : List Introduction) (before begun : ℕ → Type 0) (w : Written) (e : ℕ) (x : Entry) (p : Place) (exceptions : List (ℕ × ℕ))
     → Keeps es g before w → Widens es g e more → slice_get w.places e ≡ Some None → slice_get es e ≡ Some x → has_body x.kind ≡ false
     → HasPlace x.kind (begun e) (Some (Some p)) → (begun e → ⊥) → ((f : ℕ) → begun f → before f) → ((f : ℕ) → (f ≡ e → ⊥) → before f → begun f)
-    → length w.exceptions ≤ length exceptions → length exceptions ≤ length w.nodes → IsRightPlace w.nodes (length exceptions) p
+    → length w.exceptions ≤ length exceptions → length exceptions ≤ length w.nodes → IsPlaceAmong w.nodes (length exceptions) p
     → ((k : ℕ) (y : ℕ × ℕ) → slice_get exceptions k ≡ Some y → IsException (slice_set w.places e (Some p)) w.nodes k y)
     → Keeps es more begun (with_placed w e p exceptions)
 place_kept es g more before begun w e x p exceptions i widens none at no_body has ended narrower still le few right each = record {
@@ -197,8 +197,8 @@ place_kept es g more before begun w e x p exceptions i widens none at no_body ha
         old f differs (inl same) = absurd (differs same)
         old f differs (inr knows) = knows
 
-    right_at : (f : ℕ) (q : Place) → ((f ≡ e) × (Some p ≡ Some q)) ⊎ ((f ≡ e → ⊥) × (slice_get w.places f ≡ Some (Some q))) → IsRightPlace w.nodes (length exceptions) q
-    right_at f q (inl (same, is)) = let one : p ≡ q = cc in subst (IsRightPlace w.nodes (length exceptions)) one right
+    right_at : (f : ℕ) (q : Place) → ((f ≡ e) × (Some p ≡ Some q)) ⊎ ((f ≡ e → ⊥) × (slice_get w.places f ≡ Some (Some q))) → IsPlaceAmong w.nodes (length exceptions) q
+    right_at f q (inl (same, is)) = let one : p ≡ q = cc in subst (IsPlaceAmong w.nodes (length exceptions)) one right
     right_at f q (inr (differs, is)) = place_stays w.nodes w.nodes (length w.exceptions) (length exceptions) (λ n node there. inl there) le q (i.right f q is)
 
     other : (f : ℕ) → HasBody es f → f ≡ e → ⊥

@@ -1,12 +1,14 @@
--- What the types of a file keep of the rules of graphs, while they are written.
-use Rattle.std.specs.Prelude.{◌≡◌, ◌⊎◌, ℕ, ◌+◌, ◌≤◌, List, length, Some, slice_get, IsSomeAnd}
+-- What the types of a file keep of the rules of graphs, and what is there of what names have, under its own names.
+use Rattle.std.specs.Prelude.{◌≡◌, ℕ, ◌+◌, ◌<◌, ◌≤◌, List, length, All, Some, slice_get, IsSomeAnd}
 use Rattle.type_graph.specs.declared.node.Node.{Node}
 use Rattle.type_graph.specs.declared.node.Node.TheVariants.{Frame, Text}
-use Rattle.type_graph.specs.GraphRules.{IsNode, all_members}
+use Rattle.type_graph.specs.GraphRules.{IsNode, IsPart, all_members}
 use Rattle.written_types.specs.declared.fault.BuildFault.{BuildFault}
 use Rattle.written_types.specs.declared.fault.BuildFault.TheVariants.{Types, OtherNames, NoMemory}
+use Rattle.written_types.specs.declared.place.Place.{Place}
+use Rattle.written_types.specs.declared.place.Place.TheVariants.{Typed, Raised, Called, Got, GotAndSet}
 use Rattle.written_types.specs.Faults.{max_all_members, max_nodes}
-use Rattle.written_types.specs.Written.{Written, undefined}
+use Rattle.written_types.specs.Written.{Written}
 
 -- a fault of the types of a file, and none of its names
 abbrev pub IsOfTypes : BuildFault → Type 0
@@ -14,27 +16,20 @@ IsOfTypes (Types fault) = Unit {0}
 IsOfTypes OtherNames = ⊥
 IsOfTypes NoMemory = ⊥
 
--- it has no definition yet, or keeps the rules of nodes
-abbrev pub IsRight : List Node → Node → Type 0
-IsRight graph node = (node ≡ undefined) ⊎ IsNode graph node
-
--- no more types than the limit, each right, and no more members of all than are counted, within the limit; so many
--- types have lines as there are behind the basic ones, and each exception has a frame
-pub record IsSound (w : Written) : Type 0 where
+-- The types keep the rules of a graph but that on paths, and each has its lines but for the basic ones.
+pub record AreSoundTypes (w : Written) : Type 0 where
   pub limited : length w.nodes ≤ max_nodes
-  pub nodes : (n : ℕ) (node : Node) → slice_get w.nodes n ≡ Some node → IsRight w.nodes node
-  pub counted : all_members w.nodes ≤ w.members
-  pub members : w.members ≤ max_all_members
+  pub nodes : All (IsNode w.nodes) w.nodes
+  pub members : all_members w.nodes ≤ max_all_members
   pub lines : length w.nodes ≡ length w.lines + 14
-  pub exceptions : length w.exceptions ≤ length w.nodes
 
 -- ---- frames
 
--- the number is that of a frame
 abbrev pub IsFrame : Node → Type 0
 IsFrame (Frame members) = Unit {0}
 IsFrame node = ⊥
 
+-- the number is that of a frame
 abbrev pub IsFrameAt : List Node → ℕ → Type 0
 IsFrameAt graph n = IsSomeAnd (slice_get graph n) IsFrame
 
@@ -46,3 +41,12 @@ BeginsWithText graph node = ⊥
 -- the number is that of a frame that begins with a repository id
 abbrev pub IsIdFrame : List Node → ℕ → Type 0
 IsIdFrame graph n = IsSomeAnd (slice_get graph n) (BeginsWithText graph)
+
+-- what a name has is there, among the nodes and so many exceptions
+abbrev pub IsPlaceAmong : List Node → ℕ → Place → Type 0
+IsPlaceAmong graph exceptions (Typed n) = IsPart graph n
+IsPlaceAmong graph exceptions (Raised frame place) = IsIdFrame graph frame × (place < exceptions)
+IsPlaceAmong graph exceptions (Called request) = IsFrameAt graph request × IsFrameAt graph (request + 1)
+IsPlaceAmong graph exceptions (Got request) = IsFrameAt graph request × IsFrameAt graph (request + 1)
+IsPlaceAmong graph exceptions (GotAndSet request) =
+    IsFrameAt graph request × IsFrameAt graph (request + 1) × IsFrameAt graph (request + 2) × IsFrameAt graph (request + 3)
