@@ -46,7 +46,7 @@ IsIdFrame graph n = IsSomeAnd (slice_get graph n) (BeginsWithText graph)
 abbrev pub IsPlaceAmong : List Node → ℕ → Place → Type 0
 IsPlaceAmong graph exceptions (Typed n) = IsPart graph n
 IsPlaceAmong graph exceptions (Raised frame place) = IsIdFrame graph frame × (place < exceptions)
-IsPlaceAmong graph exceptions (Called request) = IsFrameAt graph request × IsFrameAt graph (request + 1)
-IsPlaceAmong graph exceptions (Got request) = IsFrameAt graph request × IsFrameAt graph (request + 1)
-IsPlaceAmong graph exceptions (GotAndSet request) =
-    IsFrameAt graph request × IsFrameAt graph (request + 1) × IsFrameAt graph (request + 2) × IsFrameAt graph (request + 3)
+IsPlaceAmong graph exceptions (Called n) = IsFrameAt graph n × IsFrameAt graph (n + 1)
+IsPlaceAmong graph exceptions (Got n) = IsFrameAt graph n × IsFrameAt graph (n + 1)
+IsPlaceAmong graph exceptions (GotAndSet n) =
+    IsFrameAt graph n × IsFrameAt graph (n + 1) × IsFrameAt graph (n + 2) × IsFrameAt graph (n + 3)
