@@ -21,12 +21,12 @@ use Rattle.written_operations.specs.declared.signature.Offered.{Offered}
 use Rattle.written_operations.specs.declared.signature.Role.{Role}
 use Rattle.written_operations.specs.declared.signature.Role.TheVariants.{Operation, Getting, Setting}
 use Rattle.written_operations.specs.declared.signature.Signature.{Signature}
-use Rattle.written_types.specs.Sound.{BeginsWithText, IsFrame as IsWrittenFrame, IsOfTypes}
+use Rattle.written_types.specs.Sound.{BeginsWithText, IsFrame as IsWrittenFrame, IsOfTypes, IsPlaceAmong}
 use Rattle.written_types.specs.declared.fault.BuildFault.{BuildFault}
 use Rattle.written_types.specs.declared.fault.BuildFault.TheVariants.{NoMemory, OtherNames}
 use Rattle.written_operations.specs.Definitions.{defined_by}
 use Rattle.written_operations.specs.Operations.{Defined}
-use Rattle.written_operations.specs.Sound.{AreFramesThere, HasFrames as HasCallFrames, IsSoundException, IsSoundFile, IsSoundOffer, IsSoundSignature}
+use Rattle.written_operations.specs.Sound.{HasFrames as HasCallFrames, IsSoundException, IsSoundFile, IsSoundOffer, IsSoundSignature}
 use Rattle.written_operations.proofs.FileKeep.{only_types}
 use Rattle.written_operations.proofs.FileLaws.{sound_written}
 use Rattle.model_builder.specs.Naming.{called, frames_of, mark_of, names_at, names_of, names_of_place}
@@ -92,7 +92,7 @@ node_low graph P n h = by (slice_get graph n) refl h
     by None is h = absurd h
     by (Some x) is h = slice_get_within graph n x is
 
-place_low : (w : Written) (p : Place) → AreFramesThere w p → IsPlaceOf w.nodes p
+place_low : (w : Written) (p : Place) → IsPlaceAmong w.nodes (length w.exceptions) p → IsPlaceOf w.nodes p
 place_low w (Typed n) h = node_low w.nodes IsNoFrame n h
 place_low w (Raised frame place) h = node_low w.nodes (BeginsWithText w.nodes) frame h.0
 place_low w (Called request) h = node_low w.nodes IsWrittenFrame (request + 1) h.1
@@ -139,7 +139,7 @@ place_right entries d r e = by (slice_get d.types.places e) refl
     by None h = tt
     by (Some None) h = tt
     by (Some (Some p)) h =
-        place_low d.types p (subst (λ o. IfSome o (AreFramesThere d.types)) (get_or_from_slice_get d.types.places e (Some p) (Some p) h)
+        place_low d.types p (subst (λ o. IfSome o (IsPlaceAmong d.types.nodes (length d.types.exceptions))) (get_or_from_slice_get d.types.places e (Some p) (Some p) h)
         (r.places e (Some p) (slice_get_within d.types.places e (Some p) h)))
 
 names_within : (es : List Entry) (entries : ℕ) (d : Defined) → IsSoundFile entries d → (k n : ℕ)
@@ -235,7 +235,7 @@ frames_small graph le (Called request) h = omega (arith, le, h)
 frames_small graph le (Got request) h = omega (arith, le, h)
 frames_small graph le (GotAndSet request) h = omega (arith, le, h)
 
-may_small : (w : Written) → length w.nodes ≤ 4096 → (o : Option Place) → IfSome o (AreFramesThere w) → IfSome o HasFrames
+may_small : (w : Written) → length w.nodes ≤ 4096 → (o : Option Place) → IfSome o (IsPlaceAmong w.nodes (length w.exceptions)) → IfSome o HasFrames
 may_small w le None h = tt
 may_small w le (Some p) h = frames_small w.nodes le p (place_low w p h)
 
@@ -267,7 +267,7 @@ theirs entries d r =
     let t = r.types_sound in
     let long = r.interfaces_long in
     record {
-      places = All-weaker (λ o. IfSome o (AreFramesThere d.types)) (λ o. IfSome o HasFrames) (may_small d.types t.limited) d.types.places r.places;
+      places = All-weaker (λ o. IfSome o (IsPlaceAmong d.types.nodes (length d.types.exceptions))) (λ o. IfSome o HasFrames) (may_small d.types t.limited) d.types.places r.places;
       exceptions = All-weaker (IsSoundException entries d.types) (λ x. x.0 < entries) (λ x h. h.entry) d.types.exceptions r.exceptions;
       operations = All-weaker (IsSoundSignature entries d.types) (IsSignature entries) (their_signature entries d r) d.operations r.signatures;
       interfaces = omega (arith, long);

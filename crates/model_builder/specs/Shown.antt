@@ -36,4 +36,4 @@ pub record Shows (definitions : List Definition) (names : Whole) (model : Parts)
 pub record AreParts (definitions : List Definition) (names : Whole) (nodes : List (List (List ℕ))) : Type 0 where
   pub written : Defined
   pub told : defined_by names.entries definitions ≡ Ok written
-  pub named : AreNamed definitions names written.types nodes
+  pub named : AreNamed definitions names written.types written.operations nodes

@@ -37,7 +37,7 @@ fn built_of<'a>(
     ensures refused { IfErr result (IsRefused spec.now.definitions.items names.now) }
 {
     let (types, operations, interfaces) = table.into_parts();
-    let parts = name_parts(alloc, names, &types, spec)?;
+    let parts = name_parts(alloc, names, &types, operations.as_slice(), spec)?;
     let model = model_of(alloc, names, types, operations, interfaces)?;
     Ok(Built { model, parts })
 }
