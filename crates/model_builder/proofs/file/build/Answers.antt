@@ -2,5 +2,6 @@ use Rattle.std.proofs.Common.{sym}
 use Rattle.model_builder.proofs.RightModel.{of_types}
 use Rattle.model_builder.proofs.file.build.Goals as goal
 
-pub built_of-requires : goal.built_of-requires
-built_of-requires c = record { own = c.requires; told = c.in-Ok.ensures }
+pub unreachable-requires : goal.unreachable-requires
+unreachable-requires c =
+    of_types c.args.spec.now c.args.names.now c.in-Err-OtherNames.field-0 c.requires c.in-Err-OtherNames.ensures c.in-Err-OtherNames.field-0-is

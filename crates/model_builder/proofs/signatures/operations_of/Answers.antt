@@ -1,4 +1,4 @@
-use Rattle.std.proofs.Common.{◌∙◌, ◌^◌, ◌++◌, ◌∷◌, map, length, ap, sym, subst, All}
+use Rattle.std.proofs.Common.{◌∙◌, ◌++◌, ◌∷◌, map, length, ap, sym, subst, All}
 use Rattle.std.proofs.Math.Seq.{append_snoc}
 use Rattle.std.proofs.lemmas.List.Elements.{All-tail}
 use Rattle.std.specs.Vec.Iter.{into_iter_items}
@@ -8,7 +8,7 @@ use Rattle.model_builder.proofs.signatures.operations_of.Goals as goal
 
 pub loop-signature-preserved : goal.loop-signature-preserved
 loop-signature-preserved c =
-    let Theirs = IsSignature (length c.args.names.now.entries) (2 ^ 32) in
+    let Theirs = IsSignature (length c.args.names.now.entries) in
     let its = operation_of c.args.names.now.entries in
     let done = c.loop-signature.list.items in
     let rest = into_iter_items c.next.new.self in

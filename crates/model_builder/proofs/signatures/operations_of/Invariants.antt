@@ -1,4 +1,4 @@
-use Rattle.std.proofs.Common.{◌≡◌, ◌^◌, ◌++◌, map, length, All}
+use Rattle.std.proofs.Common.{◌≡◌, ◌++◌, map, length, All}
 use Rattle.std.specs.Vec.Iter.{into_iter_items}
 use Rattle.model_builder.specs.Signatures.{operation_of}
 use Rattle.model_builder.specs.Theirs.{IsSignature}
@@ -9,5 +9,5 @@ abbrev pub invariant-loop-signature : goal.invariant-loop-signature
 invariant-loop-signature l = record {
   told : l.list.items ++ map (operation_of l.names.entries) (into_iter_items l.signature-iterator)
       ≡ map (operation_of l.names.entries) l.fn.signatures.items;
-  theirs : All (IsSignature (length l.names.entries) (2 ^ 32)) (into_iter_items l.signature-iterator);
+  theirs : All (IsSignature (length l.names.entries)) (into_iter_items l.signature-iterator);
 }
