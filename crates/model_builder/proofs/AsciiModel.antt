@@ -1,13 +1,11 @@
 -- The texts of a file's model are ASCII.
-use Rattle.std.proofs.Common.{◌≡◌, ◌+◌, ℕ, zero, suc, List, [], ◌∷◌, ◌++◌, codes, length, map, slice_get, Option, Some, None, refl, subst, sym}
+use Rattle.std.proofs.Common.{◌+◌, ℕ, zero, suc, List, [], ◌∷◌, ◌++◌, codes, length, map, slice_get, Option, Some, None, refl}
 use Rattle.std.specs.List.{AllByRecursion, flat_map, range_with_len}
 use Rattle.std.specs.Str.{IsAscii}
 use Rattle.std.proofs.lemmas.List.Elements.{All-from_recursion}
 use Rattle.std.proofs.lemmas.Str.{IsAscii-append}
 use Rattle.std.proofs.lemmas.Str.Ascii.{IsAscii-nil}
-use Rattle.type_model.specs.ModelRules.{Parts}
 use Rattle.name_table.specs.Entry.{Entry, around, name_in}
-use Rattle.scoped_names.specs.RepositoryIds.{names_to}
 use Rattle.scoped_names.specs.Whole.{Whole}
 use Rattle.written_types.specs.declared.place.Place.{Place}
 use Rattle.written_types.specs.declared.place.Place.TheVariants.{Typed, Raised, Called, Got, GotAndSet}
@@ -51,11 +49,11 @@ place_ascii es proper e (Some (Got request)) =
 place_ascii es proper e (Some (GotAndSet request)) = (
   called_ascii es proper Getting e (codes "/in") (told_ascii (codes "/in") refl),
   (
-      called_ascii es proper Getting e (codes "/out") (told_ascii (codes "/out") refl),
-      (
-          called_ascii es proper Setting e (codes "/in") (told_ascii (codes "/in") refl),
-          (called_ascii es proper Setting e (codes "/out") (told_ascii (codes "/out") refl), tt),
-      ),
+    called_ascii es proper Getting e (codes "/out") (told_ascii (codes "/out") refl),
+    (
+      called_ascii es proper Setting e (codes "/in") (told_ascii (codes "/in") refl),
+      (called_ascii es proper Setting e (codes "/out") (told_ascii (codes "/out") refl), tt),
+    ),
   ),
 )
 

@@ -1,6 +1,6 @@
 -- No two types, exceptions and frames of a file have one name.
-use Rattle.std.proofs.Common.{◌≡◌, ◌≢◌, ◌∙◌, ◌<◌, ◌≤◌, ◌+◌, ℕ, zero, suc, true, List, [], ◌∷◌, ◌++◌, All, length, slice_get, Option, Some, None, append_assoc, refl, sym, ap, subst, arith}
-use Rattle.std.specs.List.{AllByRecursion, AllPairs, flat_map, list_all, range_with_len}
+use Rattle.std.proofs.Common.{◌≡◌, ◌≢◌, ◌∙◌, ◌<◌, ◌≤◌, ◌+◌, ℕ, zero, suc, true, List, [], ◌∷◌, ◌++◌, length, slice_get, Option, Some, None, append_assoc, refl, sym, ap, subst, arith}
+use Rattle.std.specs.List.{AllByRecursion, flat_map, list_all, range_with_len}
 use Rattle.std.proofs.lemmas.Bool.{and_from}
 use Rattle.std.proofs.lemmas.List.Elements.{All-from_recursion}
 use Rattle.std.proofs.lemmas.List.Folds.{list_all-append}
@@ -15,7 +15,7 @@ use Rattle.written_types.specs.declared.place.Place.TheVariants.{Typed, Raised, 
 use Rattle.written_types.specs.Written.{Written, place_of}
 use Rattle.written_operations.specs.declared.signature.Role.{Role}
 use Rattle.written_operations.specs.declared.signature.Role.TheVariants.{Operation, Getting, Setting}
-use Rattle.model_builder.specs.Naming.{called, frames_of, mark_of, marked, names_at, names_of, names_of_place, scopes_of, with_colons}
+use Rattle.model_builder.specs.Naming.{called, mark_of, marked, names_at, names_of, names_of_place, scopes_of, with_colons}
 use Rattle.written_names.proofs.EntryWords.{AreProper, IsNameWord}
 use Rattle.model_builder.proofs.Joined.{IsFree, Ending, Bare, Request, Reply, colons_apart, ending, ending_colons, endings_apart, free_both, mark_word, marks_apart, word_colons, word_slashes}
 

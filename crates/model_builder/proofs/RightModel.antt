@@ -1,5 +1,5 @@
 -- What a file writes under its own names keeps the rules of models.
-use Rattle.std.proofs.Common.{◌≡◌, ◌∙◌, ◌<◌, ◌≤◌, ◌+◌, ◌^◌, ◌⊎◌, inl, inr, ℕ, zero, suc, List, [], ◌∷◌, ◌++◌, All, length, map, slice_get, Option, Some, None, Err, IfSome, refl, sym, ap, subst, arith}
+use Rattle.std.proofs.Common.{◌≡◌, ◌<◌, ◌≤◌, ◌+◌, ◌^◌, ◌⊎◌, inl, inr, ℕ, zero, suc, List, [], ◌∷◌, ◌++◌, All, length, map, slice_get, Option, Some, None, Err, IfSome, refl, sym, subst, arith}
 use Rattle.std.specs.Prelude.{EachIndex, IsSomeAnd}
 use Rattle.std.specs.List.{AllByRecursion, flat_map, range_with_len}
 use Rattle.std.proofs.lemmas.List.{length-map}
@@ -7,9 +7,8 @@ use Rattle.std.proofs.lemmas.List.Elements.{All-from_recursion, All-map, All-wea
 use Rattle.std.proofs.lemmas.Option.{get_or_from_slice_get, slice_get_within}
 use Rattle.type_graph.specs.declared.node.Node.{Node}
 use Rattle.type_graph.specs.declared.node.Node.TheVariants.{Frame}
-use Rattle.type_graph.specs.GraphRules.{IsGraph, IsNode, IsNoFrame, IsPart, IsShallow, all_members}
-use Rattle.type_model.specs.declared.signatures.Interface.{Interface}
-use Rattle.type_model.specs.ModelRules.{AreDeclared, BeginsWithId, IsException, IsFrame, IsIdFirst, IsInterface, IsModel, IsNamedFrame, IsOperation}
+use Rattle.type_graph.specs.GraphRules.{IsGraph, IsNoFrame, IsShallow}
+use Rattle.type_model.specs.ModelRules.{AreDeclared, IsException, IsFrame, IsIdFirst, IsInterface, IsOperation}
 use Rattle.type_model.specs.Names.{AreNames, IsNamed}
 use Rattle.name_table.specs.Entry.{Entry}
 use Rattle.idl_tree.specs.declared.spec.Spec.{Spec}
@@ -29,9 +28,8 @@ use Rattle.written_operations.specs.Operations.{Defined}
 use Rattle.written_operations.specs.Sound.{HasFrames as HasCallFrames, IsSoundException, IsSoundFile, IsSoundOffer, IsSoundSignature}
 use Rattle.written_operations.proofs.FileKeep.{only_types}
 use Rattle.written_operations.proofs.FileLaws.{sound_written}
-use Rattle.model_builder.specs.Naming.{called, frames_of, mark_of, names_at, names_of, names_of_place}
-use Rattle.model_builder.specs.Shown.{model_of}
-use Rattle.model_builder.specs.Signatures.{exception_of, interface_of, interfaces_from, operation_of}
+use Rattle.model_builder.specs.Naming.{names_at, names_of, names_of_place}
+use Rattle.model_builder.specs.Signatures.{exception_of, interfaces_from, operation_of}
 use Rattle.model_builder.specs.Own.{IsOwn, IsWritten}
 use Rattle.model_builder.specs.Theirs.{AreTheirs, HasFrames, IsOffered, IsSignature}
 use Rattle.written_names.proofs.EntryWords.{AreProper, entries_proper}

@@ -2,7 +2,6 @@
 use Rattle.std.specs.Prelude.{All}
 use Rattle.std.specs.Str.{IsAscii}
 use Rattle.type_model.specs.declared.signatures.Interface.{Interface}
-use Rattle.type_model.specs.declared.signatures.Operation.{Operation}
 use Rattle.type_model.specs.declared.signatures.Exception.{Exception}
 use Rattle.type_model.specs.ModelRules.{Parts}
 

@@ -48,11 +48,7 @@ fn built_of<'a>(
 /// # Errors
 /// The first fault of the file's types in the order of reading, with its line; a type that holds
 /// itself and too long a path come last. Want of memory.
-pub fn build<'a>(
-    alloc: Global,
-    spec: &Spec<'a>,
-    names: &Names<'a>,
-) -> Result<Built, ModelFault>
+pub fn build<'a>(alloc: Global, spec: &Spec<'a>, names: &Names<'a>) -> Result<Built, ModelFault>
     requires { AreNames spec.now.definitions.items names.now }
     ensures shows { IfOk result (λ built. Shows spec.now.definitions.items names.now built.model) }
     ensures named { IfOk result (λ built. AreParts spec.now.definitions.items names.now built.parts) }

@@ -115,7 +115,7 @@ except_named es w scope x placed g ps all =
     let picked = each_picked es inner member_steps member_names member_steps_closed (λ m h. member_picked es inner m.member_type m.declarators h) ms good in
     let names = flat_map member_names ms in
     let apart = marked_apart (codes "_id") refl names (picked_words inner names (introduced es inner body) good.words picked)
-        (picked_apart inner names (introduced es inner body) good.apart picked) in
+    (picked_apart inner names (introduced es inner body) good.apart picked) in
     named_by (entry_of es scope x.identifier) there.number _ (entry_told es scope x.identifier there.number there.is)
     (named_then (raising w there.number (with_id names) ps) _
     (raising_named w there.number (with_id names) (placed_as es w scope x.identifier Kinds.Exception placed there) apart ps all)

@@ -208,6 +208,7 @@ enum_named es w scope e placed g ps all =
     standing : (es : List Entry) (scope : ℕ) (ls : List Leaf) → introduced es scope (map DeclaresEnumerator ls) ≡ map (stands_enumerator scope) ls
     standing es scope [] = refl
     standing es scope (l ∷ ls) = ap (λ z. stands_enumerator scope l ∷ z) (standing es scope ls)
+
     enumerators_distinct : (es : List Entry) (scope : ℕ) (e : EnumType) → Good es scope (enum_steps e) → IsDistinct clashes (map (stands_enumerator scope) (parts e.enumerators))
     enumerators_distinct es scope e g =
         let behind = (good_tail es scope (DeclaresEnum e.identifier) (map DeclaresEnumerator (parts e.enumerators)) tt g).1 in
@@ -250,8 +251,8 @@ mutual
       let both = good_both es inner first (members_steps rest) (member_closed t ds) body in
       let walk = good_walk es inner first (members_steps rest) (member_closed t ds) body in
       let picked = subst (Picked inner names) (sym walk)
-          (picked_both inner (names_in ds) (names_of_members rest) (introduced es inner first) (introduced es inner (members_steps rest))
-          (member_picked es inner t ds both.0) (members_picked es inner rest both.1)) in
+      (picked_both inner (names_in ds) (names_of_members rest) (introduced es inner first) (introduced es inner (members_steps rest))
+      (member_picked es inner t ds both.0) (members_picked es inner rest both.1)) in
       let parted = good_both es inner (type_steps t) (flat_map declarator_steps (parts ds)) (type_closed t) both.0 in
       named_by (entry_of es scope id) there.number _ (entry_told es scope id there.number there.is)
       (named_then (typed w there.number names ps) _
@@ -275,10 +276,10 @@ mutual
       let begun = good_both es inner chosen first switch_closed both.0 in
       let begun_walk = good_walk es inner chosen first switch_closed both.0 in
       let own_picked = subst (Picked inner (name_of d ∷ [])) (sym begun_walk)
-          (picked_behind inner (name_of d ∷ []) (introduced es inner chosen) (introduced es inner first) (case_picked es inner labels t d begun.1)) in
+      (picked_behind inner (name_of d ∷ []) (introduced es inner chosen) (introduced es inner first) (case_picked es inner labels t d begun.1)) in
       let picked = subst (Picked inner names) (sym walk)
-          (picked_both inner (name_of d ∷ []) (names_of_cases rest) (introduced es inner (chosen ++ first)) (introduced es inner (cases_steps rest))
-          own_picked (cases_picked es inner rest both.1)) in
+      (picked_both inner (name_of d ∷ []) (names_of_cases rest) (introduced es inner (chosen ++ first)) (introduced es inner (cases_steps rest))
+      own_picked (cases_picked es inner rest both.1)) in
       let front_parts = good_both es inner (flat_map label_steps (parts labels) ++ type_steps t) (declarator_steps d) (case_closed labels t) begun.1 in
       let parted = good_both es inner (flat_map label_steps (parts labels)) (type_steps t) (each_closed label_steps (λ l. closed (label_asks {ls = []} l)) (parts labels)) front_parts.0 in
       named_by (entry_of es scope id) there.number _ (entry_told es scope id there.number there.is)

@@ -49,9 +49,11 @@ same_role Roles.Getting = refl
 same_role Roles.Setting = refl
 
 call_found : (xs : List Signature) (s : Signature) (ys : List Signature) → HasCall (xs ++ s ∷ ys) s.entry s.role
-call_found [] s ys =
-    (s.request, ap (λ b. if b && is_role s.role s.role then Some s.request else request_of ys s.entry s.role) (eq-eqb s.entry s.entry refl)
-    ∙ ap (λ b. if b then Some s.request else request_of ys s.entry s.role) (same_role s.role))
+call_found [] s ys = (
+  s.request,
+  ap (λ b. if b && is_role s.role s.role then Some s.request else request_of ys s.entry s.role) (eq-eqb s.entry s.entry refl)
+      ∙ ap (λ b. if b then Some s.request else request_of ys s.entry s.role) (same_role s.role),
+)
 call_found (x ∷ xs) s ys = by (nat_eq s.entry x.entry && is_role s.role x.role) (call_found xs s ys)
   where
     by : (b : Bool) → HasCall (xs ++ s ∷ ys) s.entry s.role → (request : ℕ) × ((if b then Some x.request else request_of (xs ++ s ∷ ys) s.entry s.role) ≡ Some request)

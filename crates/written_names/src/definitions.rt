@@ -76,7 +76,13 @@ impl<'a> PartList<'a> {
         match export {
             Export::Pragma(_) => Ok(()),
             Export::Declaration(d) => self.name_declaration(alloc, names, types, scope, d),
-            Export::Attribute(a) => self.name_attributes(alloc, names, signatures, scope, &a.declared),
+            Export::Attribute(a) => self.name_attributes(
+                alloc,
+                names,
+                signatures,
+                scope,
+                &a.declared,
+            ),
             Export::Operation(o) => self.name_operation(alloc, names, signatures, scope, o),
         }
     }
@@ -119,7 +125,14 @@ impl<'a> PartList<'a> {
                 ..
             } => {
                 let entry = declared_entry(names, scope, *identifier)?;
-                self.name_exports(alloc, names, types, signatures, entry + 1, exports.as_slice())
+                self.name_exports(
+                    alloc,
+                    names,
+                    types,
+                    signatures,
+                    entry + 1,
+                    exports.as_slice(),
+                )
             }
         }
     }
@@ -140,10 +153,19 @@ impl<'a> PartList<'a> {
         match definition {
             Definition::Pragma(_) => Ok(()),
             Definition::Declaration(d) => self.name_declaration(alloc, names, types, scope, d),
-            Definition::Interface(i) => self.name_interface(alloc, names, types, signatures, scope, i),
+            Definition::Interface(i) => self.name_interface(
+                alloc, names, types, signatures, scope, i,
+            ),
             Definition::Module(m) => {
                 let entry = declared_entry(names, scope, m.identifier)?;
-                self.name_definitions(alloc, names, types, signatures, entry + 1, m.definitions.as_slice())
+                self.name_definitions(
+                    alloc,
+                    names,
+                    types,
+                    signatures,
+                    entry + 1,
+                    m.definitions.as_slice(),
+                )
             }
         }
     }
@@ -182,6 +204,13 @@ pub(crate) fn parts_of_file<'a>(
     ensures { Tells result (λ list. list) (file_parts names.now.entries types.now signatures.now spec.now.definitions.items) }
 {
     let mut list = PartList::new(alloc);
-    list.name_definitions(alloc, names, types, signatures, 0, spec.definitions.as_slice())?;
+    list.name_definitions(
+        alloc,
+        names,
+        types,
+        signatures,
+        0,
+        spec.definitions.as_slice(),
+    )?;
     Ok(list)
 }

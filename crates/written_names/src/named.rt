@@ -56,11 +56,7 @@ fn place_part(
 }
 
 /// The names of parts, by node.
-fn table_of(
-    alloc: Global,
-    count: usize,
-    list: &PartList<'_>,
-) -> Result<PartNames, AllocError>
+fn table_of(alloc: Global, count: usize, list: &PartList<'_>) -> Result<PartNames, AllocError>
     requires { All (λ part. AreApart part.names) list.now }
     ensures { IfOk result (λ names. names ≡ by_node count list.now) }
 {

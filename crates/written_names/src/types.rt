@@ -10,7 +10,9 @@ ghost use Rattle.written_names.specs.Types.{all_case_names, all_member_names, ca
 use crate::list::{NameList, PartList};
 use idl_tree::definitions::{Declaration, Except, TypeDcl};
 use idl_tree::names::{Leaf, Listed};
-use idl_tree::types::{Case, Declarator, EnumType, Member, StructType, SwitchType, TypeSpec, UnionType};
+use idl_tree::types::{
+    Case, Declarator, EnumType, Member, StructType, SwitchType, TypeSpec, UnionType,
+};
 use scoped_names::Names;
 use std::alloc::{AllocError, Global};
 use written_types::{BuildFault, TypeTable, declared_entry};
@@ -112,9 +114,8 @@ impl<'a> PartList<'a> {
     {
         match switch {
             SwitchType::Enum(e) => self.name_enum(alloc, names, types, scope, e),
-            SwitchType::Integer(_) | SwitchType::Char | SwitchType::Boolean | SwitchType::Name(_) => {
-                Ok(())
-            }
+            SwitchType::Integer(_) | SwitchType::Char | SwitchType::Boolean | SwitchType::Name(_) =>
+                { Ok(()) }
         }
     }
 
@@ -221,7 +222,9 @@ impl<'a> PartList<'a> {
         ensures { Tells result (λ u. self.new) (type_dcl_parts names.now.entries types.now scope self.old t.now) }
     {
         match t {
-            TypeDcl::Typedef { original, .. } => self.name_type(alloc, names, types, scope, original),
+            TypeDcl::Typedef { original, .. } => self.name_type(
+                alloc, names, types, scope, original,
+            ),
             TypeDcl::Struct(s) => self.name_struct(alloc, names, types, scope, s),
             TypeDcl::Union(u) => self.name_union(alloc, names, types, scope, u),
             TypeDcl::Enum(e) => self.name_enum(alloc, names, types, scope, e),

@@ -1,4 +1,3 @@
-use Rattle.std.proofs.Common.{sym}
 use Rattle.model_builder.proofs.RightModel.{of_types}
 use Rattle.model_builder.proofs.file.build.Goals as goal
 

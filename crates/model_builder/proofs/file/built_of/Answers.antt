@@ -10,7 +10,7 @@ model_of-requires c =
     let parts = c.into_parts-types.result in
     let given = c.into_parts-types.ensures in
     let same : defined parts.0 parts.1.items parts.2.items ≡ d =
-        ap (λ types. defined types parts.1.items parts.2.items) given.types
-        ∙ ap (λ operations. defined d.types operations parts.2.items) given.operations
-        ∙ ap (λ interfaces. defined d.types d.operations interfaces) given.interfaces in
+    ap (λ types. defined types parts.1.items parts.2.items) given.types
+    ∙ ap (λ operations. defined d.types operations parts.2.items) given.operations
+    ∙ ap (λ interfaces. defined d.types d.operations interfaces) given.interfaces in
     subst (IsOwn c.args.names.now) (sym same) (own_of c.args.spec.now c.args.names.now d c.requires)

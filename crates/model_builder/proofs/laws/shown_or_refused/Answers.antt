@@ -3,7 +3,6 @@ use Rattle.idl_tree.specs.declared.definitions.Definition.{Definition}
 use Rattle.type_model.specs.ModelRules.{IsModel, Parts}
 use Rattle.scoped_names.specs.Whole.{Whole}
 use Rattle.written_types.specs.declared.fault.TypeFault.{TypeFault}
-use Rattle.written_operations.specs.Operations.{Defined}
 use Rattle.model_builder.specs.Faults.{IsFault, IsFaultOfPaths}
 use Rattle.model_builder.specs.Shown.{Shows}
 use Rattle.model_builder.proofs.Written.{written_once, written_or_not}
