@@ -1,9 +1,9 @@
 -- What the entries of a file are called: each has a word, and is the one that its scope and its word find.
-use Rattle.std.proofs.Common.{◌≡◌, ◌≢◌, ◌∙◌, ◌<◌, ◌≤◌, ◌+◌, ◌⊎◌, inl, inr, ℕ, zero, suc, Bool, true, false, List, [], ◌∷◌, ◌++◌, length, drop, slice_get, slice_index, Option, Some, None, refl, sym, ap, subst, arith}
+use Rattle.std.proofs.Common.{◌≡◌, ◌∙◌, ◌<◌, ◌+◌, inl, inr, ℕ, zero, suc, Bool, true, false, List, [], ◌∷◌, ◌++◌, length, drop, slice_get, slice_index, Some, refl, sym, ap, subst, arith}
 use Rattle.std.proofs.lemmas.Bool.Decides.{nat_tests}
 use Rattle.std.specs.Prelude.{◌==◌, if◌then◌else◌, slice_index_or}
 use Rattle.std.specs.Char.{is_ascii_alphabetic}
-use Rattle.std.specs.List.{AllByRecursion, Any, list_all, prefix_len}
+use Rattle.std.specs.List.{AllByRecursion, list_all}
 use Rattle.std.proofs.Math.Logic.{∥∥₁_elim}
 use Rattle.std.proofs.Props.{props}
 use Rattle.std.proofs.lemmas.List.Sums.{list_all-from_AllPass, prefix_len_passes}
@@ -11,15 +11,14 @@ use Rattle.std.proofs.lemmas.Option.{slice_get_within}
 use Rattle.idl_lexer.specs.declared.token.Kind.TheVariants.{Ident}
 use Rattle.idl_lexer.specs.Forms.{HasForm}
 use Rattle.idl_lexer.specs.Octets.{is_word, run}
-use Rattle.idl_lexer.specs.Words.{IsEscapedName, IsIdentifier, IsPlainName, unescaped}
+use Rattle.idl_lexer.specs.Words.{IsIdentifier, unescaped}
 use Rattle.idl_tree.specs.declared.names.Leaf.{Leaf}
-use Rattle.idl_tree.specs.declared.definitions.Definition.{Definition}
 use Rattle.idl_tree.specs.declared.spec.Spec.{Spec}
 use Rattle.idl_tree.specs.Forms.{HaveForms, IsLeafOf}
 use Rattle.idl_tree.specs.Pieces.{Piece, kept}
 use Rattle.idl_tree.specs.Yields.{const_expr_yield, identifier}
 use Rattle.idl_tree.specs.DefinitionYields.{definitions_spelled}
-use Rattle.idl_tree.proofs.SpelledForms.{HaveForms-append, Spec-forms, leaf_form}
+use Rattle.idl_tree.proofs.SpelledForms.{HaveForms-append, Spec-forms}
 use Rattle.name_table.specs.Entry.{AreNested, Entry, named}
 use Rattle.name_table.specs.Search.{word}
 use Rattle.scoped_names.specs.Asked.{asked, asked_by, is_asked, pieces_of}

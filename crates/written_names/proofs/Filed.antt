@@ -1,5 +1,5 @@
 -- The same of exceptions, operations, attributes, interfaces and modules.
-use Rattle.std.proofs.Common.{◌≡◌, ◌∙◌, ◌⊎◌, inl, inr, ℕ, suc, ◌+◌, Bool, true, false, List, [], ◌∷◌, ◌++◌, map, slice_index, codes, Option, Some, None, Ok, append_assoc, refl, sym, ap, subst, arith}
+use Rattle.std.proofs.Common.{◌≡◌, ◌∙◌, ℕ, suc, ◌+◌, Bool, true, false, List, [], ◌∷◌, ◌++◌, map, slice_index, codes, Option, Some, None, Ok, append_assoc, refl, sym, ap, subst, arith}
 use Rattle.std.proofs.lemmas.Bool.Decides.{nat_tests}
 use Rattle.std.specs.Char.{is_ascii_alphabetic, to_ascii_lowercase}
 use Rattle.std.specs.List.{AllByRecursion, IsDistinct, filter, flat_map}
@@ -15,7 +15,6 @@ use Rattle.idl_tree.specs.declared.definitions.Attributes.{Attributes}
 use Rattle.idl_tree.specs.declared.definitions.Except.{Except}
 use Rattle.idl_tree.specs.declared.definitions.Declaration.{Declaration}
 use Rattle.idl_tree.specs.declared.definitions.Declaration.TheVariants as Declarations
-use Rattle.idl_tree.specs.declared.definitions.Direction.{Direction}
 use Rattle.idl_tree.specs.declared.definitions.Export.{Export}
 use Rattle.idl_tree.specs.declared.definitions.Export.TheVariants as Exports
 use Rattle.idl_tree.specs.declared.definitions.Interface.{Interface}
@@ -27,17 +26,15 @@ use Rattle.idl_tree.specs.declared.spec.Spec.{Spec}
 use Rattle.idl_tree.specs.Lists.{parts}
 use Rattle.name_table.specs.declared.entry.EntryKind.TheVariants as Kinds
 use Rattle.name_table.specs.Entry.{Entry}
-use Rattle.name_table.specs.Entries.{scope_number, scope_of}
+use Rattle.name_table.specs.Entries.{scope_of}
 use Rattle.name_table.specs.Search.{word}
-use Rattle.scoped_names.specs.Holding.{Holds}
-use Rattle.scoped_names.specs.Introductions.{Introduction, Has, introduced}
-use Rattle.scoped_names.specs.Reading.{◌>>◌}
-use Rattle.scoped_names.specs.Steps.{Step, Declares, DeclaresFeature, DeclaresTypedef, Defines, Enters, HasBase, HasMember, IsUndefined, Leaves, attribute_steps, attributes_steps, declaration_steps, definition_steps, definitions_steps, except_steps, export_steps, interface_steps, member_steps, operation_steps, optional_parts, param_steps, param_type_steps, raises_steps, result_steps, steps_of, type_dcl_steps, type_steps, typedef_steps}
+use Rattle.scoped_names.specs.Introductions.{Introduction, introduced}
+use Rattle.scoped_names.specs.Steps.{Step, Declares, DeclaresFeature, Defines, Enters, HasBase, HasMember, IsUndefined, Leaves, declaration_steps, definition_steps, definitions_steps, except_steps, export_steps, interface_steps, member_steps, operation_steps, optional_parts, param_steps, param_type_steps, raises_steps, result_steps, type_dcl_steps, type_steps, typedef_steps}
 use Rattle.scoped_names.specs.Whole.{AreNames, Whole}
-use Rattle.scoped_names.proofs.Asks.{attribute_asks, bases_ask, definition_asks, definitions_ask, export_asks, member_asks, param_asks, param_type_asks, raises_ask, result_asks, may_raise, type_asks}
+use Rattle.scoped_names.proofs.Asks.{bases_ask, definition_asks, definitions_ask, export_asks, member_asks, param_asks, param_type_asks, result_asks, type_asks}
 use Rattle.scoped_names.proofs.Introducing.{all_map}
 use Rattle.scoped_names.proofs.Parts.{Closed, both_closed, closed, each_closed, one_closed}
-use Rattle.written_types.specs.Faults.{each, or_other}
+use Rattle.written_types.specs.Faults.{or_other}
 use Rattle.written_types.specs.SimpleTypes.{entry_of}
 use Rattle.written_types.specs.Written.{Written}
 use Rattle.written_operations.specs.Oneway.{parts_of}
@@ -47,11 +44,11 @@ use Rattle.written_operations.specs.Operations.{attribute_identifiers, is_set}
 use Rattle.part_names.specs.Names.{AreApart}
 use Rattle.written_names.specs.Apart.{HavePlaces}
 use Rattle.written_names.specs.Signed.{AreSigned, DefinitionSigned, DefinitionsSigned, ExportSigned, HasCall, InterfaceSigned, IsAccessed, IsSigned}
-use Rattle.written_names.specs.Types.{Part, Parted, declaration_parts, except_parts, member_names, member_parts, part, raising, type_dcl_parts, type_parts, with_id}
+use Rattle.written_names.specs.Types.{Part, declaration_parts, except_parts, member_names, member_parts, raising, type_dcl_parts, with_id}
 use Rattle.written_names.specs.Definitions.{call, definition_parts, definitions_parts, export_parts, file_parts, getting, goes_in, goes_out, identifier_parts, interface_parts, operation_parts, param_name, reply_names, request_names, request_of, result_names, setting, setting_parts}
 use Rattle.written_names.proofs.EntryWords.{IsNameWord, IsNamedByWord, name_word}
 use Rattle.written_names.proofs.Good.{Good, good_both, good_each, good_inside, good_tail, good_walk, spec_good}
-use Rattle.written_names.proofs.Parted.{AllApart, IsNamed, IsThere, both_apart, each_named, each_picked, ends, entry_told, enum_named, member_picked, member_closed, named_by, named_then, placed_as, raising_named, struct_named, there_of, type_named, union_named}
+use Rattle.written_names.proofs.Parted.{AllApart, IsNamed, both_apart, each_named, each_picked, ends, entry_told, enum_named, member_picked, named_by, named_then, placed_as, raising_named, struct_named, there_of, type_named, union_named}
 use Rattle.written_names.proofs.Picked.{Picked, picked_all, picked_apart, picked_behind, picked_both, picked_filter}
 
 -- ---- names with an underscore in front

@@ -1,5 +1,5 @@
 -- The scope of each entry of a file is the file's, or that of an earlier entry.
-use Rattle.std.proofs.Common.{◌≡◌, ◌∙◌, ◌≤◌, ◌<◌, ℕ, zero, suc, List, [], ◌∷◌, length, slice_get, Option, Some, None, Result, Ok, refl, sym, ap, subst, arith}
+use Rattle.std.proofs.Common.{◌≡◌, ◌∙◌, ◌≤◌, ℕ, zero, suc, List, [], ◌∷◌, length, slice_get, Option, Some, None, Result, Ok, refl, ap, subst, arith}
 use Rattle.std.proofs.lemmas.Option.{slice_get_within}
 use Rattle.idl_tree.specs.declared.definitions.Definition.{Definition}
 use Rattle.name_table.specs.Entry.{AreNested, Entry, around, named, scope_in}
@@ -8,7 +8,7 @@ use Rattle.name_table.specs.Search.{word}
 use Rattle.scoped_names.specs.declared.fault.NameFault.{NameFault}
 use Rattle.scoped_names.specs.Faults.{left_open, never_defined, nothing_yet, specification_read, step_read, steps_read, test_of, type_kind}
 use Rattle.scoped_names.specs.Meanings.{const_end, enumerator_meant, typedef_meant}
-use Rattle.scoped_names.specs.Reading.{State, passed, ◌>>◌}
+use Rattle.scoped_names.specs.Reading.{State, passed}
 use Rattle.scoped_names.specs.Steps.{Step, Declares, DeclaresConst, DeclaresFeature, DeclaresEnum, DeclaresEnumerator, DeclaresTypedef, HasBase, HasMember, Enters, Leaves, Defines, Says, steps_of}
 use Rattle.scoped_names.specs.Whole.{AreNames, Whole, whole}
 use Rattle.scoped_names.proofs.Going.{Goes, base_goes, const_goes, declared_goes, defined_goes, enum_goes, feature_goes, member_goes, passed_goes, said_goes}

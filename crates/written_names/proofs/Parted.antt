@@ -1,11 +1,7 @@
 -- The parts of a whole file have names, and those of each part are apart.
-use Rattle.std.proofs.Common.{◌≡◌, ◌∙◌, ◌⊎◌, inl, inr, ℕ, suc, ◌+◌, true, false, List, [], ◌∷◌, ◌++◌, map, slice_get, slice_index, codes, Option, Some, None, Result, Ok, Err, refl, sym, ap, subst, arith}
-use Rattle.std.specs.Char.{is_ascii_alphabetic, to_ascii_lowercase}
-use Rattle.std.specs.List.{AllByRecursion, IsDistinct, filter, flat_map}
+use Rattle.std.proofs.Common.{◌≡◌, ◌∙◌, ℕ, suc, ◌+◌, List, [], ◌∷◌, ◌++◌, map, slice_get, Some, Result, Ok, refl, sym, ap, subst, arith}
+use Rattle.std.specs.List.{AllByRecursion, IsDistinct, flat_map}
 use Rattle.std.proofs.lemmas.List.Concat.{flat_map_single}
-use Rattle.std.proofs.lemmas.Slice.Eq.{bytes_eq-Decides}
-use Rattle.idl_lexer.specs.declared.token.Kind.TheVariants.{Ident}
-use Rattle.idl_lexer.specs.Words.{same_but_for_case}
 use Rattle.idl_tree.specs.declared.names.Leaf.{Leaf}
 use Rattle.idl_tree.specs.declared.names.Listed.{Listed}
 use Rattle.idl_tree.specs.declared.const_expr.ConstExpr.{ConstExpr}
@@ -17,36 +13,25 @@ use Rattle.idl_tree.specs.declared.types.SwitchType.TheVariants as SwitchTypes
 use Rattle.idl_tree.specs.declared.types.TypeSpec.{TypeSpec, Simple, Struct as StructSpec, Union as UnionSpec, Enum as EnumSpec}
 use Rattle.idl_tree.specs.declared.types.StructType.{StructType, StructType', Row_of-Member, end_of-Member, more_of-Member}
 use Rattle.idl_tree.specs.declared.types.UnionType.{UnionType, UnionType', Row_of-Case, end_of-Case, more_of-Case}
-use Rattle.idl_tree.specs.declared.types.Member.{Member}
-use Rattle.idl_tree.specs.declared.definitions.TypeDcl.{TypeDcl}
-use Rattle.idl_tree.specs.declared.definitions.TypeDcl.TheVariants as TypeDcls
-use Rattle.idl_tree.specs.declared.definitions.Except.{Except}
-use Rattle.idl_tree.specs.declared.definitions.Declaration.{Declaration}
-use Rattle.idl_tree.specs.declared.definitions.Declaration.TheVariants as Declarations
-use Rattle.idl_tree.specs.Forms.{IsLeafOf}
 use Rattle.idl_tree.specs.Lists.{parts}
 use Rattle.name_table.specs.declared.entry.EntryKind.{EntryKind}
 use Rattle.name_table.specs.declared.entry.EntryKind.TheVariants as Kinds
 use Rattle.name_table.specs.Entry.{Entry, named}
 use Rattle.name_table.specs.Search.{word}
-use Rattle.scoped_names.specs.Holding.{Holds}
 use Rattle.scoped_names.specs.Introductions.{IsEntry, Stands, Has, clashes, introduced}
 use Rattle.scoped_names.specs.Reading.{◌>>◌}
-use Rattle.scoped_names.specs.Steps.{Step, Declares, DeclaresEnum, DeclaresEnumerator, Defines, Enters, HasMember, Leaves, case_steps, cases_steps, declaration_steps, declarator_steps, enum_steps, except_steps, label_steps, member_steps, members_steps, size_step, struct_steps, switch_steps, type_dcl_steps, type_steps, union_steps}
+use Rattle.scoped_names.specs.Steps.{Step, Declares, DeclaresEnum, DeclaresEnumerator, Defines, Enters, Leaves, cases_steps, declarator_steps, enum_steps, label_steps, members_steps, size_step, struct_steps, switch_steps, type_steps, union_steps}
 use Rattle.scoped_names.proofs.Asks.{cases_ask, declarator_asks, label_asks, members_ask, switch_asks, type_asks}
 use Rattle.scoped_names.proofs.Parts.{Closed, both_closed, closed, each_closed, one_closed}
 use Rattle.written_types.specs.declared.fault.BuildFault.{BuildFault}
-use Rattle.written_types.specs.declared.place.Place.{Place}
-use Rattle.written_types.specs.declared.place.Place.TheVariants.{Typed, Raised}
 use Rattle.written_types.specs.Faults.{each, or_other}
 use Rattle.written_types.specs.SimpleTypes.{entry_of}
 use Rattle.written_types.specs.Written.{Written, place_of}
 use Rattle.part_names.specs.Names.{AreApart}
 use Rattle.written_names.specs.Apart.{HasItsPlace, HavePlaces, IsRaised, IsType}
-use Rattle.written_names.specs.Types.{Part, Parted, case_name, declaration_parts, enum_parts, except_parts, frame_in, member_names, member_parts, members_parts, cases_parts, name_of, names_in, names_of_cases, names_of_members, part, raising, struct_parts, switch_parts, type_dcl_parts, type_in, type_parts, typed, union_parts, with_id}
-use Rattle.written_names.proofs.EntryWords.{IsNameWord, IsNamedByWord, name_word}
-use Rattle.written_names.proofs.Good.{Good, good_both, good_each, good_inside, good_tail, good_walk}
-use Rattle.written_names.proofs.Picked.{Picked, picked_all, picked_apart, picked_before, picked_behind, picked_both, stands_apart, stands_enumerator}
+use Rattle.written_names.specs.Types.{Part, Parted, enum_parts, frame_in, members_parts, cases_parts, name_of, names_in, names_of_cases, names_of_members, part, raising, struct_parts, switch_parts, type_in, type_parts, typed, union_parts}
+use Rattle.written_names.proofs.Good.{Good, good_both, good_inside, good_tail, good_walk}
+use Rattle.written_names.proofs.Picked.{Picked, picked_apart, picked_behind, picked_both, stands_apart, stands_enumerator}
 
 -- ---- what is to be shown
 

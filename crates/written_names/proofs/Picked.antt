@@ -1,5 +1,5 @@
 -- Names that are picked from what is introduced in a scope are apart, since nothing clashes.
-use Rattle.std.proofs.Common.{◌≡◌, ◌∙◌, ℕ, Bool, true, false, nat_eq, List, [], ◌∷◌, ◌++◌, map, append_assoc, refl, sym, ap, subst}
+use Rattle.std.proofs.Common.{◌≡◌, ◌∙◌, ℕ, Bool, true, false, List, [], ◌∷◌, ◌++◌, map, append_assoc, refl, sym, ap, subst}
 use Rattle.std.specs.Prelude.{◌&&◌}
 use Rattle.std.specs.List.{AllByRecursion, IsDistinct, filter}
 use Rattle.std.proofs.lemmas.Bool.{eq-eqb}
@@ -7,7 +7,7 @@ use Rattle.idl_lexer.specs.Words.{same_but_for_case}
 use Rattle.idl_tree.specs.declared.names.Leaf.{Leaf}
 use Rattle.name_table.specs.declared.entry.EntryKind.TheVariants as Kinds
 use Rattle.name_table.specs.Search.{word}
-use Rattle.scoped_names.specs.Introductions.{Introduction, Stands, Has, Body, clashes, is_one_name}
+use Rattle.scoped_names.specs.Introductions.{Introduction, Stands, Has, clashes, is_one_name}
 use Rattle.part_names.specs.Names.{AreApart}
 
 -- ---- lists

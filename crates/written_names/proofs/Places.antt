@@ -1,18 +1,16 @@
 -- The entries of types and exceptions have their places where a whole file is written.
-use Rattle.std.proofs.Common.{◌≡◌, ◌∙◌, ◌⊎◌, inl, inr, ◌<◌, ℕ, suc, List, [], ◌∷◌, ◌++◌, length, slice_get, Option, Some, Ok, refl, sym, ap, subst, arith}
-use Rattle.std.specs.List.{Any}
+use Rattle.std.proofs.Common.{◌≡◌, ◌∙◌, inl, inr, ◌<◌, ℕ, List, [], ◌∷◌, ◌++◌, length, slice_get, Option, Ok, refl, sym, ap, subst}
 use Rattle.std.proofs.lemmas.Option.{slice_get_within}
 use Rattle.idl_tree.specs.declared.spec.Spec.{Spec}
 use Rattle.name_table.specs.declared.entry.EntryKind.{EntryKind}
 use Rattle.name_table.specs.declared.entry.EntryKind.TheVariants as Kinds
 use Rattle.name_table.specs.Entry.{Entry}
-use Rattle.scoped_names.specs.Introductions.{Introduction, StandsFor, introduced, introduced_by, scope_behind}
+use Rattle.scoped_names.specs.Introductions.{Introduction, introduced, introduced_by, scope_behind}
 use Rattle.scoped_names.specs.Steps.{Step, steps_of}
 use Rattle.scoped_names.specs.Whole.{AreNames, Whole}
 use Rattle.scoped_names.proofs.Introduced.{nothing_else}
 use Rattle.written_types.specs.declared.place.Place.{Place}
-use Rattle.written_types.specs.declared.place.Place.TheVariants.{Typed, Raised}
-use Rattle.written_types.specs.Written.{Written, place_in, place_of}
+use Rattle.written_types.specs.Written.{place_in}
 use Rattle.written_types.proofs.Keeping.{HasPlace}
 use Rattle.written_types.proofs.Settled.{Known, behind, now_known, onto}
 use Rattle.written_operations.specs.Definitions.{defined_by}

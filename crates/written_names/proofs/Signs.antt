@@ -23,7 +23,7 @@ use Rattle.written_types.specs.declared.place.Place.TheVariants.{Typed, Called, 
 use Rattle.written_types.specs.Faults.{each, line_of}
 use Rattle.written_types.specs.Declarations.{declaration}
 use Rattle.written_types.specs.SimpleTypes.{entry_of, param_type}
-use Rattle.written_types.specs.Written.{Numbered, Written, place_of, placed}
+use Rattle.written_types.specs.Written.{Numbered, place_of, placed}
 use Rattle.written_operations.specs.declared.signature.Role.{Role}
 use Rattle.written_operations.specs.declared.signature.Role.TheVariants as Roles
 use Rattle.written_operations.specs.declared.signature.Offered.{Offered}
@@ -31,7 +31,7 @@ use Rattle.written_operations.specs.declared.signature.Signature.{Signature}
 use Rattle.written_operations.specs.Oneway.{oneway_test, parts_of}
 use Rattle.written_operations.specs.Frames.{all_carried, frames_added, nothing_carried, with_carried}
 use Rattle.written_operations.specs.Operations.{Defined, Requested, attribute, attribute_identifiers, declared, get_raises, is_set, operation, raised, requested, set_raises, undefined_yet, with_access, with_attribute, with_call, with_get, with_operation, with_place, with_set, with_types}
-use Rattle.written_operations.specs.Interfaces.{as_reference, export, exports_of, identifier_of, interface, interface_as, interface_of, offering, reference_at, with_interface}
+use Rattle.written_operations.specs.Interfaces.{as_reference, export, interface, interface_as, interface_of, offering, reference_at, with_interface}
 use Rattle.written_operations.specs.Definitions.{defined_by, definition, definitions_after}
 use Rattle.idl_tree.specs.declared.definitions.Direction.TheVariants.{In, Out}
 use Rattle.written_names.specs.Definitions.{is_role, request_of}

@@ -17,7 +17,7 @@ use Rattle.written_types.specs.SimpleTypes.{entry_of}
 use Rattle.written_types.specs.Written.{Written}
 use Rattle.written_operations.specs.declared.signature.Signature.{Signature}
 use Rattle.written_types.proofs.Walks.{goes_on}
-use Rattle.written_names.specs.Types.{Part, Parted, all_case_names, all_member_names, case_name, case_parts, cases_parts, member_names, member_parts, members_parts, name_of, names_in, names_of_cases, names_of_members, struct_parts, switch_parts, type_parts, typed, union_parts}
+use Rattle.written_names.specs.Types.{Part, Parted, all_case_names, all_member_names, case_name, case_parts, cases_parts, member_names, member_parts, members_parts, names_in, names_of_cases, names_of_members, struct_parts, switch_parts, type_parts, typed, union_parts}
 use Rattle.written_names.specs.Definitions.{definition_parts, definitions_parts}
 
 abbrev Walk : Type 0

@@ -4,7 +4,6 @@ use Rattle.std.specs.Prelude.{ℕ, ◌+◌, Bool, true, false, ◌&&◌, if◌th
 use Rattle.std.specs.List.{filter}
 use Rattle.idl_tree.specs.declared.names.Leaf.{Leaf}
 use Rattle.idl_tree.specs.declared.types.ParamType.{ParamType}
-use Rattle.idl_tree.specs.declared.definitions.Attribute.{Attribute}
 use Rattle.idl_tree.specs.declared.definitions.Direction.{Direction}
 use Rattle.idl_tree.specs.declared.definitions.Direction.TheVariants.{In, Out, InOut}
 use Rattle.idl_tree.specs.declared.definitions.Export.{Export}

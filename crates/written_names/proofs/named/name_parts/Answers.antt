@@ -1,4 +1,3 @@
-use Rattle.std.proofs.Common.{All, sym}
 use Rattle.std.proofs.lemmas.List.Elements.{All-from_recursion}
 use Rattle.part_names.specs.Names.{AreApart}
 use Rattle.written_names.proofs.FileNames.{only_memory, parts_apart}

@@ -1,4 +1,4 @@
-use Rattle.std.proofs.Common.{◌≡◌, All, drop, length}
+use Rattle.std.proofs.Common.{◌≡◌, All, drop}
 use Rattle.std.specs.List.{fold}
 use Rattle.part_names.specs.Names.{AreApart}
 use Rattle.written_names.specs.Named.{by_node, placed}

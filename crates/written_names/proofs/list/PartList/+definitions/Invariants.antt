@@ -1,6 +1,4 @@
-use Rattle.std.proofs.Common.{◌≡◌, ◌+◌, ◌*◌, drop, length}
-use Rattle.std.specs.List.{flat_map}
-use Rattle.idl_tree.specs.DefinitionYields.{definition_yield}
+use Rattle.std.proofs.Common.{◌≡◌, drop}
 use Rattle.written_types.specs.Faults.{each}
 use Rattle.written_names.specs.Definitions.{definition_parts}
 use Rattle.written_names.proofs.list.PartList.+definitions.Given as goal

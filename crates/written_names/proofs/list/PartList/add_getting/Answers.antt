@@ -1,4 +1,4 @@
-use Rattle.std.proofs.Common.{◌∙◌, ◌++◌, ◌∷◌, [], codes, Ok, ap, subst}
+use Rattle.std.proofs.Common.{◌∙◌, ◌++◌, [], Ok, ap, subst}
 use Rattle.written_types.specs.Faults.{Tells}
 use Rattle.written_names.specs.Types.{Parted}
 use Rattle.written_names.specs.Definitions.{call}
