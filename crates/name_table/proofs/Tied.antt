@@ -1,10 +1,8 @@
 -- What is kept of entries stays in step with them.
-use Rattle.std.proofs.Common.{◌≡◌, ◌∙◌, ℕ, zero, suc, ◌+◌, ◌<◌, ◌≤◌, Bool, true, false, cond, nat_eq, ◌&&◌, List, [], ◌∷◌, ◌++◌, map, length, length-append, get_or, slice_get, Option, Some, None, Vec, Global, refl, sym, ap, subst, arith}
+use Rattle.std.proofs.Common.{◌≡◌, ◌∙◌, ℕ, zero, suc, ◌+◌, ◌<◌, ◌≤◌, Bool, true, false, cond, nat_eq, List, [], ◌∷◌, ◌++◌, map, length, length-append, get_or, slice_get, Option, Some, None, Vec, Global, refl, sym, ap, subst, arith}
 use Rattle.std.specs.Prelude.{nat_lt, slice_set}
-use Rattle.std.proofs.lemmas.Bool.{and_parts, eq-eqb, eqb-true}
-use Rattle.std.specs.Char.{to_ascii_lowercase}
-use Rattle.std.proofs.lemmas.Slice.Eq.{bytes_eq-Decides}
-use Rattle.name_table.specs.Entries.{latest, scope_number}
+use Rattle.std.proofs.lemmas.Bool.{and_parts, eqb-true}
+use Rattle.name_table.specs.Entries.{latest}
 use Rattle.std.proofs.lemmas.Option.{slice_get-map, slice_get_read, slice_get_within}
 use Rattle.std.specs.Option.{option_map}
 use Rattle.std.specs.Map.{lookup}
@@ -195,14 +193,3 @@ tied_none words h = record {
 -- the words of a scope, where the list of them is read
 pub words_of_item : (words : List (Vec Word Global)) (scope : ℕ) (v : Vec Word Global) → scope < length words → v ≡ get_or words scope v → words_at words scope ≡ v.items
 words_of_item words scope v lt read = ap words_in (slice_get_read words (length words) scope v refl lt read)
-
--- ---- a declaration
-
-same_itself : (w : List ℕ) → same_but_for_case w w ≡ true
-same_itself w = (bytes_eq-Decides (map to_ascii_lowercase w) (map to_ascii_lowercase w)).1 refl
-
-pub scope_fresh : (es : List Entry) (e : Entry) → named es e.scope e.name ≡ None → length es + 1 ≡ scope_number (named (es ++ e ∷ []) e.scope e.name)
-scope_fresh es e h =
-    let is : is_named e.scope e.name e ≡ true = ap (λ b. b && same_but_for_case e.name e.name) (eq-eqb e.scope e.scope refl) ∙ same_itself e.name in
-    let next : length es + 1 ≡ suc (length es) = omega arith in
-    next ∙ sym (ap scope_number (named_push es e e.scope e.name ∙ ap (λ o. or_place o (cond (is_named e.scope e.name e) (Some (length es)) None)) h ∙ ap (λ b. cond b (Some (length es)) None) is))

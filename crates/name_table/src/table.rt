@@ -149,7 +149,7 @@ impl<'a> Table<'a> {
     {
         match found {
             Found::Nothing => Sight::Unseen,
-            Found::Several => Sight::Unclear,
+            Found::Several(one, other) => Sight::Unclear(one, other),
             Found::One(entry) => match self.records.get(entry) {
                 Some(record) if text == record.key.word.text => Sight::Seen(entry),
                 _ => Sight::OtherCase(entry),

@@ -40,14 +40,6 @@ abbrev pub all : {T : Type 0} → (T → Test) → List T → Test
 all test [] = Ok tt
 all test (x ∷ xs) = test x >> λ u. all test xs
 
-pub all_on : {T : Type 0} (test : T → Test) (xs : List T) (k : ℕ) (x : T) → k < length xs → x ≡ get_or xs k x
-    → test x ≡ Ok tt → all test (drop (k + 1) xs) ≡ all test (drop k xs)
-all_on test xs k x lt here is = sym (ap (all test) (split_at xs k x lt here) ∙ ap (λ r. r >> λ u. all test (drop (k + 1) xs)) is)
-
-pub all_off : {T : Type 0} (test : T → Test) (xs : List T) (k : ℕ) (x : T) (fault : NameFault) → k < length xs → x ≡ get_or xs k x
-    → test x ≡ Err fault → all test (drop k xs) ≡ Err fault
-all_off test xs k x fault lt here is = ap (all test) (split_at xs k x lt here) ∙ ap (λ r. r >> λ u. all test (drop (k + 1) xs)) is
-
 -- ---- clauses of functions
 
 pub or_told : {A B C : Type 0} → A ⊎ B → (B → C) → A ⊎ C

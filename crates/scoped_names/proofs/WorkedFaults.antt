@@ -122,7 +122,7 @@ prefix_inside l m p ds is =
 -- #pragma ID I "y"
 another_id : (l : Leaf) (i : HasForm Ident (codes "I")) (x : HasForm PragmaToken (codes "#pragma ID I \"x\"")) (y : HasForm PragmaToken (codes "#pragma ID I \"y\""))
     → names_of (interface l (codes "I") i 1 1 ∷ pragma l (codes "#pragma ID I \"x\"") x 3 2 ∷ pragma l (codes "#pragma ID I \"y\"") y 4 3 ∷ [])
-    ≡ Err (IdTwice (place 4 3))
+    ≡ Err (IdTwice (place 4 3) (place 3 2))
 another_id l i x y = refl
 
 -- #pragma ID I "x"

@@ -1,10 +1,10 @@
 //! The steps of declarations, operations, interfaces and modules.
 
-ghost use Rattle.std.specs.Prelude.{◌≡◌, ◌++◌, ◌∷◌, map, OnOk};
+ghost use Rattle.std.specs.Prelude.{◌≡◌, ◌++◌, ◌∷◌, [], map, OnOk};
 ghost use Rattle.std.specs.List.{flat_map};
 ghost use Rattle.idl_tree.specs.Lists.{parts};
 ghost use Rattle.scoped_names.specs.StepsKept.{flat_steps, steps_in};
-ghost use Rattle.scoped_names.specs.Steps.{attribute_steps, attributes_steps, const_steps, declaration_steps, except_steps, export_steps, interface_steps, operation_steps, optional_parts, param_steps, raises_steps, result_steps, type_dcl_steps, typedef_steps, DeclaresFeature as FeatureStep, HasBase as BaseStep};
+ghost use Rattle.scoped_names.specs.Steps.{attribute_steps, attributes_steps, const_steps, declaration_steps, except_steps, export_steps, interface_steps, operation_steps, optional_parts, param_steps, raises_steps, result_steps, type_dcl_steps, typedef_steps, Declares as DeclaresStep, DeclaresFeature as FeatureStep, IsUndefined as UndefinedStep, HasBase as BaseStep, Enters as EntersStep, Defines as DefinesStep, Leaves as LeavesStep};
 
 use crate::step::{Step, Steps};
 use idl_tree::definitions::{
@@ -55,8 +55,8 @@ impl<'t, 'a> Steps<'t, 'a> {
             TypeDcl::Struct(s) => self.add_struct(s),
             TypeDcl::Union(u) => self.add_union(u),
             TypeDcl::Enum(e) => self.add_enum(e),
-            TypeDcl::StructAhead(id) => self.push(Step::Declares(EntryKind::Struct, *id)),
-            TypeDcl::UnionAhead(id) => self.push(Step::Declares(EntryKind::Union, *id)),
+            TypeDcl::StructAhead(id) => self.declares(EntryKind::Struct, *id),
+            TypeDcl::UnionAhead(id) => self.declares(EntryKind::Union, *id),
         }
     }
 
@@ -71,12 +71,12 @@ impl<'t, 'a> Steps<'t, 'a> {
     fn add_except(&mut self, e: &'t Except<'a>) -> Result<(), AllocError>
         ensures { OnOk result (steps_in self.new ≡ steps_in self.old ++ except_steps e.now) }
     {
-        self.push(Step::Declares(EntryKind::Exception, e.identifier))?;
-        self.push(Step::Enters(e.identifier))?;
+        self.declares(EntryKind::Exception, e.identifier)?;
+        self.enters(e.identifier)?;
         for member in &e.members {
             self.add_member(member)?;
         }
-        self.push(Step::Leaves)
+        self.leaves()
     }
 
     fn add_declaration(&mut self, d: &'t Declaration<'a>) -> Result<(), AllocError>
@@ -115,7 +115,7 @@ impl<'t, 'a> Steps<'t, 'a> {
         ensures { OnOk result (steps_in self.new ≡ steps_in self.old ++ map (FeatureStep EntryKind.Attribute) (parts identifiers.now)) }
     {
         for identifier in identifiers.iter() {
-            self.push(Step::DeclaresFeature(EntryKind::Attribute, *identifier))?;
+            self.declares_feature(EntryKind::Attribute, *identifier)?;
         }
         Ok(())
     }
@@ -133,7 +133,7 @@ impl<'t, 'a> Steps<'t, 'a> {
                 identifier,
                 set: names,
             } => {
-                self.push(Step::DeclaresFeature(EntryKind::Attribute, *identifier))?;
+                self.declares_feature(EntryKind::Attribute, *identifier)?;
                 self.add_raises(names)
             }
             Attributes::Get {
@@ -141,7 +141,7 @@ impl<'t, 'a> Steps<'t, 'a> {
                 get,
                 set,
             } => {
-                self.push(Step::DeclaresFeature(EntryKind::Attribute, *identifier))?;
+                self.declares_feature(EntryKind::Attribute, *identifier)?;
                 self.add_raises(get)?;
                 self.add_optional_raises(set)
             }
@@ -160,9 +160,9 @@ impl<'t, 'a> Steps<'t, 'a> {
         ensures { OnOk result (steps_in self.new ≡ steps_in self.old ++ param_steps identifier.entry param.now) }
     {
         self.add_param_type(&param.param_type)?;
-        self.push(Step::Enters(identifier))?;
-        self.push(Step::HasMember(param.identifier))?;
-        self.push(Step::Leaves)
+        self.enters(identifier)?;
+        self.has_member(param.identifier)?;
+        self.leaves()
     }
 
     fn add_params(
@@ -194,7 +194,7 @@ impl<'t, 'a> Steps<'t, 'a> {
         ensures { OnOk result (steps_in self.new ≡ steps_in self.old ++ operation_steps o.now) }
     {
         self.add_result(&o.result_type)?;
-        self.push(Step::DeclaresFeature(EntryKind::Operation, o.identifier))?;
+        self.declares_feature(EntryKind::Operation, o.identifier)?;
         self.add_params(o.identifier, &o.params)?;
         self.add_optional_raises(&o.raises)
     }
@@ -236,23 +236,47 @@ impl<'t, 'a> Steps<'t, 'a> {
         Ok(())
     }
 
+    /// What stands before the body of an interface.
+    fn add_head(
+        &mut self,
+        identifier: Leaf<'a>,
+        bases: &'t Option<Listed<ScopedName<'a>>>,
+    ) -> Result<(), AllocError>
+        ensures { OnOk result (steps_in self.new ≡ steps_in self.old ++ DeclaresStep EntryKind.Interface identifier.entry
+            ∷ UndefinedStep identifier.entry ∷ map (BaseStep identifier.entry) (optional_parts bases.now)) }
+    {
+        self.declares(EntryKind::Interface, identifier)?;
+        self.is_undefined(identifier)?;
+        self.add_bases(identifier, bases)
+    }
+
+    /// The body of an interface.
+    fn add_body(
+        &mut self,
+        identifier: Leaf<'a>,
+        exports: &'t [Export<'a>],
+    ) -> Result<(), AllocError>
+        ensures { OnOk result (steps_in self.new ≡ steps_in self.old ++ EntersStep identifier.entry
+            ∷ DefinesStep identifier.entry ∷ flat_map export_steps exports.now ++ LeavesStep ∷ []) }
+    {
+        self.enters(identifier)?;
+        self.defines(identifier)?;
+        self.add_exports(exports)?;
+        self.leaves()
+    }
+
     fn add_interface(&mut self, i: &'t Interface<'a>) -> Result<(), AllocError>
         ensures { OnOk result (steps_in self.new ≡ steps_in self.old ++ interface_steps i.now) }
     {
         match i {
-            Interface::Ahead(id) => self.push(Step::Declares(EntryKind::Interface, *id)),
+            Interface::Ahead(id) => self.declares(EntryKind::Interface, *id),
             Interface::Defined {
                 identifier,
                 bases,
                 exports,
             } => {
-                self.push(Step::Declares(EntryKind::Interface, *identifier))?;
-                self.push(Step::IsUndefined(*identifier))?;
-                self.add_bases(*identifier, bases)?;
-                self.push(Step::Enters(*identifier))?;
-                self.push(Step::Defines(*identifier))?;
-                self.add_exports(&exports[..])?;
-                self.push(Step::Leaves)
+                self.add_head(*identifier, bases)?;
+                self.add_body(*identifier, &exports[..])
             }
         }
     }

@@ -76,15 +76,19 @@ pub enum NameFault {
     /// The name is declared in another case.
     #[error("22 CaseDiffers line {at}")]
     CaseDiffers { at: At, other: Option<At> },
-    /// Two bases of an interface give different entries.
+    /// Two bases of an interface give different entries, of which these are the first two.
     #[error("23 Ambiguous line {at}")]
-    Ambiguous { at: At },
+    Ambiguous {
+        at: At,
+        one: Option<At>,
+        other: Option<At>,
+    },
     /// The name is that of no type, or of no exception where one has to stand.
     #[error("24 NotAType line {at}")]
     NotAType { at: At, found: Option<EntryKind> },
-    /// Two pragmas give a name different ids or versions.
+    /// Two pragmas give a name different ids or versions. The first of them is told too.
     #[error("25 IdTwice line {at}")]
-    IdTwice { at: At },
+    IdTwice { at: At, other: At },
     /// A constant expression has no value, or none that its place allows.
     #[error("26 BadConstant line {at}")]
     BadConstant { at: At, why: Flaw },
@@ -110,9 +114,9 @@ impl NameFault {
             NameFault::Unknown { at }
             | NameFault::Collides { at, .. }
             | NameFault::CaseDiffers { at, .. }
-            | NameFault::Ambiguous { at }
+            | NameFault::Ambiguous { at, .. }
             | NameFault::NotAType { at, .. }
-            | NameFault::IdTwice { at }
+            | NameFault::IdTwice { at, .. }
             | NameFault::BadConstant { at, .. }
             | NameFault::BadBase { at, .. }
             | NameFault::PrefixInScope { at }

@@ -359,11 +359,10 @@ impl<'a> Reader<'a> {
         let at = At::leaf(&identifier);
         match self.tables.inherited(identifier.number, self.scope, word)? {
             Found::Nothing => Ok(()),
-            Found::One(entry) => Err(NameFault::Collides {
+            Found::One(entry) | Found::Several(entry, _) => Err(NameFault::Collides {
                 at,
                 other: declared_at(self.table(), entry),
             }),
-            Found::Several => Err(NameFault::Collides { at, other: None }),
         }
     }
 

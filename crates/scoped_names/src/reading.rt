@@ -1,6 +1,6 @@
 //! Reading a specification step by step.
 
-ghost use Rattle.std.specs.Prelude.{◌≡◌, ◌<◌, ◌≤◌, ◌^◌, length, map, IfErr, IfOk, Some, Ok};
+ghost use Rattle.std.specs.Prelude.{◌≡◌, ◌<◌, ◌≤◌, ◌^◌, [], length, map, IfErr, IfOk, Some, Ok};
 ghost use Rattle.name_table.specs.Entries.{latest};
 ghost use Rattle.scoped_names.specs.Faults.{base_added, const_declared, enum_declared, enumerator_declared, feature_declared, said_read, step_read, steps_read, test_of, type_kind, typedef_declared};
 ghost use Rattle.scoped_names.specs.IdPragmas.{Gives as GivesTo, said_by};
@@ -9,7 +9,7 @@ ghost use Rattle.scoped_names.specs.Meanings.{const_end};
 ghost use Rattle.scoped_names.specs.Reading.{Checks, Tells};
 ghost use Rattle.scoped_names.specs.Rising.{Follows, Rises};
 ghost use Rattle.scoped_names.specs.Steps.{definition_steps, module_body, steps_of};
-ghost use Rattle.scoped_names.specs.StepsKept.{flat_steps, step_of};
+ghost use Rattle.scoped_names.specs.StepsKept.{flat_steps, step_of, steps_in};
 ghost use Rattle.scoped_names.specs.Tests.{is_exception, is_type, raised_test, type_name_test};
 ghost use Rattle.scoped_names.specs.declared.fault.NameFault.TheVariants.{NoMemory};
 ghost use Rattle.idl_tree.specs.Starts.{name_start};
@@ -294,14 +294,28 @@ impl<'a> Reader<'a> {
         Ok(())
     }
 
-    /// A definition but for a module, of which nothing is read.
+    /// A definition but for a module, of which nothing is read, where its steps are listed.
+    fn read_listed<'t>(
+        &mut self,
+        alloc: Global,
+        steps: &mut Steps<'t, 'a>,
+        d: &'t Definition<'a>,
+    ) -> Result<(), NameFault>
+        requires none { steps_in steps.old ≡ [] }
+        requires rises { Rises (latest self.old.entries) (flat_steps d.now) }
+        ensures { Tells result self.new (steps_read self.old (flat_steps d.now)) }
+    {
+        steps.add_flat(d)?;
+        self.read_steps(alloc, steps.list.as_slice())
+    }
+
+    /// The same.
     fn read_flat(&mut self, alloc: Global, d: &Definition<'a>) -> Result<(), NameFault>
         requires { Rises (latest self.old.entries) (flat_steps d.now) }
         ensures { Tells result self.new (steps_read self.old (flat_steps d.now)) }
     {
         let mut steps = Steps::new(alloc);
-        steps.add_flat(d)?;
-        self.read_steps(alloc, steps.as_slice())
+        self.read_listed(alloc, &mut steps, d)
     }
 
     #[cycle(definitions)]

@@ -1,6 +1,7 @@
 //! What a specification asks of its names, step by step.
 
-ghost use Rattle.std.specs.Prelude.{◌≡◌, ◌++◌, ◌∷◌, [], map, OnOk};
+ghost use Rattle.std.specs.Prelude.{◌≡◌, ◌++◌, ◌∷◌, [], OnOk};
+ghost use Rattle.scoped_names.specs.Steps.{Declares as DeclaresStep, DeclaresFeature as FeatureStep, HasMember as MemberStep, IsUndefined as UndefinedStep, Enters as EntersStep, Defines as DefinesStep, Leaves as LeavesStep, NamesType as TypeStep, IsSize as SizeStep};
 ghost use Rattle.scoped_names.specs.StepsKept.{step_of, steps_in};
 
 use idl_tree::definitions::Const;
@@ -66,10 +67,70 @@ impl<'t, 'a> Steps<'t, 'a> {
         Ok(())
     }
 
-    /// The steps in order.
-    pub fn as_slice(&self) -> &[Step<'t, 'a>]
-        ensures { map step_of result.now ≡ steps_in self.now }
+    /// An identifier is declared as something of the kind.
+    pub fn declares(&mut self, kind: EntryKind, identifier: Leaf<'a>) -> Result<(), AllocError>
+        ensures { OnOk result (steps_in self.new ≡ steps_in self.old ++ DeclaresStep kind identifier.entry ∷ []) }
     {
-        self.list.as_slice()
+        self.push(Step::Declares(kind, identifier))
+    }
+
+    /// An operation or attribute is declared.
+    pub fn declares_feature(
+        &mut self,
+        kind: EntryKind,
+        identifier: Leaf<'a>,
+    ) -> Result<(), AllocError>
+        ensures { OnOk result (steps_in self.new ≡ steps_in self.old ++ FeatureStep kind identifier.entry ∷ []) }
+    {
+        self.push(Step::DeclaresFeature(kind, identifier))
+    }
+
+    /// The scope gets a member or a parameter.
+    pub fn has_member(&mut self, identifier: Leaf<'a>) -> Result<(), AllocError>
+        ensures { OnOk result (steps_in self.new ≡ steps_in self.old ++ MemberStep identifier.entry ∷ []) }
+    {
+        self.push(Step::HasMember(identifier))
+    }
+
+    /// What has the identifier has no definition yet.
+    pub fn is_undefined(&mut self, identifier: Leaf<'a>) -> Result<(), AllocError>
+        ensures { OnOk result (steps_in self.new ≡ steps_in self.old ++ UndefinedStep identifier.entry ∷ []) }
+    {
+        self.push(Step::IsUndefined(identifier))
+    }
+
+    /// The scope of an identifier is entered.
+    pub fn enters(&mut self, identifier: Leaf<'a>) -> Result<(), AllocError>
+        ensures { OnOk result (steps_in self.new ≡ steps_in self.old ++ EntersStep identifier.entry ∷ []) }
+    {
+        self.push(Step::Enters(identifier))
+    }
+
+    /// The scope gets its definition.
+    pub fn defines(&mut self, identifier: Leaf<'a>) -> Result<(), AllocError>
+        ensures { OnOk result (steps_in self.new ≡ steps_in self.old ++ DefinesStep identifier.entry ∷ []) }
+    {
+        self.push(Step::Defines(identifier))
+    }
+
+    /// The scope is left.
+    pub fn leaves(&mut self) -> Result<(), AllocError>
+        ensures { OnOk result (steps_in self.new ≡ steps_in self.old ++ LeavesStep ∷ []) }
+    {
+        self.push(Step::Leaves)
+    }
+
+    /// A name has to be that of a type.
+    pub fn names_type(&mut self, name: &'t ScopedName<'a>) -> Result<(), AllocError>
+        ensures { OnOk result (steps_in self.new ≡ steps_in self.old ++ TypeStep name.now ∷ []) }
+    {
+        self.push(Step::NamesType(name))
+    }
+
+    /// An expression has to be a size.
+    pub fn is_size(&mut self, expr: &'t Expr<'a>) -> Result<(), AllocError>
+        ensures { OnOk result (steps_in self.new ≡ steps_in self.old ++ SizeStep expr.now ∷ []) }
+    {
+        self.push(Step::IsSize(expr))
     }
 }

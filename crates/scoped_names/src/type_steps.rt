@@ -21,7 +21,7 @@ impl<'t, 'a> Steps<'t, 'a> {
         ensures { OnOk result (steps_in self.new ≡ steps_in self.old ++ bound_steps bound.now) }
     {
         match bound {
-            Some(bound) => self.push(Step::IsSize(&bound.expr)),
+            Some(bound) => self.is_size(&bound.expr),
             None => Ok(()),
         }
     }
@@ -35,7 +35,7 @@ impl<'t, 'a> Steps<'t, 'a> {
                 Ok(())
             }
             ConstType::String(bound) => self.add_bound(bound),
-            ConstType::Name(name) => self.push(Step::NamesType(name)),
+            ConstType::Name(name) => self.names_type(name),
         }
     }
 
@@ -66,7 +66,7 @@ impl<'t, 'a> Steps<'t, 'a> {
         ensures { OnOk result (steps_in self.new ≡ steps_in self.old ++ map size_step sizes.now) }
     {
         for size in sizes {
-            self.push(Step::IsSize(&size.expr))?;
+            self.is_size(&size.expr)?;
         }
         Ok(())
     }
@@ -75,7 +75,7 @@ impl<'t, 'a> Steps<'t, 'a> {
     fn add_declarator(&mut self, d: &'t Declarator<'a>) -> Result<(), AllocError>
         ensures { OnOk result (steps_in self.new ≡ steps_in self.old ++ declarator_steps d.now) }
     {
-        self.push(Step::HasMember(d.identifier))?;
+        self.has_member(d.identifier)?;
         self.add_sizes(d.sizes.as_slice())
     }
 
@@ -128,7 +128,7 @@ impl<'t, 'a> Steps<'t, 'a> {
         match switch {
             SwitchType::Enum(e) => self.add_enum(e),
             SwitchType::Integer(_) | SwitchType::Char | SwitchType::Boolean => Ok(()),
-            SwitchType::Name(name) => self.push(Step::NamesType(name)),
+            SwitchType::Name(name) => self.names_type(name),
         }
     }
 
@@ -136,9 +136,9 @@ impl<'t, 'a> Steps<'t, 'a> {
     fn open(&mut self, kind: EntryKind, identifier: Leaf<'a>) -> Result<(), AllocError>
         ensures { OnOk result (steps_in self.new ≡ steps_in self.old ++ opening kind identifier.entry) }
     {
-        self.push(Step::Declares(kind, identifier))?;
-        self.push(Step::Enters(identifier))?;
-        self.push(Step::Defines(identifier))
+        self.declares(kind, identifier)?;
+        self.enters(identifier)?;
+        self.defines(identifier)
     }
 
     #[cycle(types)]
@@ -171,7 +171,7 @@ impl<'t, 'a> Steps<'t, 'a> {
         for member in &s.rest {
             self.add_member(member)?;
         }
-        self.push(Step::Leaves)
+        self.leaves()
     }
 
     #[cycle(types)]
@@ -193,6 +193,6 @@ impl<'t, 'a> Steps<'t, 'a> {
         for case in &u.rest {
             self.add_case(case)?;
         }
-        self.push(Step::Leaves)
+        self.leaves()
     }
 }
