@@ -266,7 +266,6 @@ module _ (keys : List Key) (records : List Record) (words : List (Vec Word Globa
     keyed = tied.keyed ∙ sym keys_like;
     nested = nested_after;
     placed = placed_after;
-    scopes = let h = tied.scopes in let same = count in omega arith;
     listed = λ s k name h. tied.listed s k name (sym (named_like s name) ∙ h);
     searched = searched_after;
   }

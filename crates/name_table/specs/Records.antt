@@ -111,6 +111,5 @@ pub record AreTied (keys : List Key) (records : List Record) (words : List (Vec 
   pub keyed : keys ≡ map key_of records
   pub nested : AreNestedRecords records
   pub placed : ArePlaced records
-  pub scopes : suc (length records) ≤ length words
   pub listed : AreListed records words
   pub searched : AreSearched records

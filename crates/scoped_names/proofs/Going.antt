@@ -31,7 +31,7 @@ use Rattle.scoped_names.specs.Meanings.{const_end, const_meant, enum_meant, enum
 use Rattle.scoped_names.specs.Reading.{Reading, State, Test, passed, ◌>>◌}
 use Rattle.scoped_names.specs.RepositoryIds.{pragma_for}
 use Rattle.scoped_names.specs.Introductions.{Introduction, StandsFor, introduced_by}
-use Rattle.scoped_names.specs.Steps.{Step, Declares, DeclaresConst, DeclaresFeature, DeclaresEnum, DeclaresEnumerator, DeclaresTypedef, HasBase, HasMember, Enters, Leaves, Defines, Says, NamesType, NamesException, HasWorth, IsSize}
+use Rattle.name_steps.specs.Steps.{Step, Declares, DeclaresConst, DeclaresFeature, DeclaresEnum, DeclaresEnumerator, DeclaresTypedef, HasBase, HasMember, Enters, Leaves, Defines, Says, NamesType, NamesException, HasWorth, IsSize}
 use Rattle.scoped_names.specs.Tests.{at, found_at, is_of, kind_in, resolved, value_of_type}
 use Rattle.scoped_names.specs.TypeKinds.{const_type_kind}
 use Rattle.scoped_names.proofs.Introducing.{Does, appears, base_does, below_or_last, declared_does, defined_does, member_does, named_entry, passed_same, same_name, then_ok}

@@ -1,12 +1,10 @@
 -- What pragmas give to entries, by the lists that keep it.
-use Rattle.std.proofs.Common.{◌≡◌, ◌∙◌, ◌⊎◌, inl, inr, ℕ, suc, Bool, true, false, cond, nat_eq, List, [], ◌∷◌, ◌++◌, Option, Some, None, Result, Ok, Err, length, position, slice_get, refl, sym, ap, arith}
+use Rattle.std.proofs.Common.{◌≡◌, ◌∙◌, ℕ, suc, Bool, true, false, cond, nat_eq, List, [], ◌∷◌, ◌++◌, Option, Some, None, length, position, slice_get, refl, sym, ap, arith}
 use Rattle.std.specs.Option.{option_map}
 use Rattle.std.proofs.lemmas.Bool.{eqb-true}
-use Rattle.scoped_names.specs.declared.fault.NameFault.{NameFault}
 use Rattle.scoped_names.specs.declared.repository_ids.PlacedId.{PlacedId}
 use Rattle.scoped_names.specs.RepositoryIds.{IdPragma, pragma_for}
 use Rattle.scoped_names.specs.IdsKept.{pragma_of, pragmas_of}
-use Rattle.scoped_names.specs.Reading.{Checks, Tells, Test, ◌>>◌}
 use Rattle.name_table.proofs.Stability.{position_cons}
 
 abbrev pub id_at : List PlacedId → Option ℕ → Option PlacedId
@@ -42,9 +40,3 @@ module _ (ps : List IdPragma) (es : List ℕ) (gs : List PlacedId) (is : pragmas
 
   pub given_none : position (nat_eq e) es ≡ None → pragma_for ps e ≡ None
   given_none at = sym (ap (λ qs. pragma_for qs e) is) ∙ given_kept es gs e even ∙ ap (λ o. option_map (pragma_of e) (id_at gs o)) at
-
--- what a test lets pass, and then a value
-pub checked_then : {T S : Type 0} (r : Result T NameFault) (test : Test) (x : S) → Checks r test → Tells r x (test >> λ u. Ok x)
-checked_then (Ok y) test x h = ap (λ t. t >> λ u. Ok x) h
-checked_then (Err fault) test x (inl memory) = inl memory
-checked_then (Err fault) test x (inr is) = inr (ap (λ t. t >> λ u. Ok x) is)

@@ -19,11 +19,11 @@ use Rattle.scoped_names.specs.Introductions.{Introduction, Stands, Has, Body, Is
 use Rattle.scoped_names.specs.Meanings.{const_meant, enum_meant, enumerator_meant, typedef_meant}
 use Rattle.scoped_names.specs.Reading.{Reading, State, ◌>>◌, passed}
 use Rattle.scoped_names.specs.RepositoryIds.{pragma_for}
-use Rattle.scoped_names.specs.Steps.{Step, Declares, DeclaresEnum, DeclaresEnumerator, DeclaresTypedef, IsNew, DeclaresConst, DeclaresFeature, HasMember, IsUndefined, HasBase, Enters, Defines, Leaves, Says, steps_of}
+use Rattle.name_steps.specs.Steps.{Step, Declares, DeclaresEnum, DeclaresEnumerator, DeclaresTypedef, IsNew, DeclaresConst, DeclaresFeature, HasMember, IsUndefined, HasBase, Enters, Defines, Leaves, Says, steps_of}
 use Rattle.scoped_names.specs.Tests.{at, found_at, value_of_type}
 use Rattle.scoped_names.specs.TypeKinds.{const_type_kind}
 use Rattle.scoped_names.specs.Whole.{AreNames, Whole, whole}
-use Rattle.scoped_names.proofs.Asks.{Asks, IsPlain, all_ask, none as unasked, silent, joined as both_asked, plain, base, valued, declared, featured, undefined, inside, defines}
+use Rattle.name_steps.proofs.Asks.{Asks, IsPlain, all_ask, none as unasked, silent, joined as both_asked, plain, base, valued, declared, featured, undefined, inside, defines}
 use Rattle.scoped_names.proofs.Introducing.{Adds, Does, Grows, Holds, IsKnown, Keeps, Known, adds_both, adds_none, all_map, base_does, declared_does, defined_does, does_none, grows_none, grows_on, keeps_on, known, member_does, named_entry, passed_same, then_ok}
 
 -- ---- pragmas

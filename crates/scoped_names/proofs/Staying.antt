@@ -20,7 +20,7 @@ use Rattle.scoped_names.specs.declared.fault.NameFault.TheVariants.{Ambiguous, C
 use Rattle.scoped_names.specs.Constants.{meant_found, named_worth, of_type, worth_found}
 use Rattle.scoped_names.specs.Faults.{is_interface}
 use Rattle.scoped_names.specs.Reading.{Test, ◌>>◌}
-use Rattle.scoped_names.specs.Steps.{Step, DeclaresConst, HasBase, NamesType, NamesException, HasWorth, IsSize}
+use Rattle.name_steps.specs.Steps.{Step, DeclaresConst, HasBase, NamesType, NamesException, HasWorth, IsSize}
 use Rattle.scoped_names.specs.Tests.{at, at_entry, constant_test, found_at, found_of, is_exception, is_of, is_type, kind_in, names_test, operands_test, or_bad, resolved, size_read, value_of_type, value_read}
 use Rattle.scoped_names.specs.TypeKinds.{const_type_kind, known}
 use Rattle.scoped_names.specs.Following.{FindsKnown}

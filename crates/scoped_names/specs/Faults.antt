@@ -34,7 +34,7 @@ use Rattle.scoped_names.specs.Meanings.{const_meant, enum_meant, enumerator_mean
 use Rattle.scoped_names.specs.RepositoryIds.{GivenId, IdPragma, pragma_for}
 use Rattle.scoped_names.specs.IdPragmas.{Said, SetsPrefix, Gives, is_same_given, said_by}
 use Rattle.scoped_names.specs.Reading.{Member as Field, State, Reading, Test, ◌>>◌, passed}
-use Rattle.scoped_names.specs.Steps.{Step, Declares, DeclaresEnum, DeclaresEnumerator, DeclaresTypedef, IsNew, DeclaresConst, DeclaresFeature, HasMember, IsUndefined, HasBase, Enters, Defines, Leaves, NamesType, NamesException, HasWorth, IsSize, Says, steps_of}
+use Rattle.name_steps.specs.Steps.{Step, Declares, DeclaresEnum, DeclaresEnumerator, DeclaresTypedef, IsNew, DeclaresConst, DeclaresFeature, HasMember, IsUndefined, HasBase, Enters, Defines, Leaves, NamesType, NamesException, HasWorth, IsSize, Says, steps_of}
 use Rattle.scoped_names.specs.Tests.{at, at_entry, found_at, is_of, raised_test, resolved, size_read, type_name_test, value_of_type, value_read}
 
 -- ---- names that are taken

@@ -6,7 +6,8 @@ use Rattle.scoped_names.specs.RepositoryIds.{IdPragma}
 use Rattle.scoped_names.specs.IdsKept.{given_of, pragma_of, pragmas_of}
 use Rattle.scoped_names.specs.Faults.{again_test, given_once}
 use Rattle.scoped_names.specs.Reading.{Tells}
-use Rattle.scoped_names.proofs.IdsGiven.{checked_then, given_none, given_there, pragmas_push}
+use Rattle.scoped_names.proofs.IdsGiven.{given_none, given_there, pragmas_push}
+use Rattle.scoped_names.proofs.Readings.{checked_then}
 use Rattle.scoped_names.proofs.repository_ids.IdPragmas.give.Goals as goal
 
 pub returns-in-Some : goal.returns-in-Some
