@@ -68,7 +68,11 @@ impl<'t, 'a> Steps<'t, 'a> {
     }
 
     /// An identifier is declared as something of the kind.
-    pub(crate) fn declares(&mut self, kind: EntryKind, identifier: Leaf<'a>) -> Result<(), AllocError>
+    pub(crate) fn declares(
+        &mut self,
+        kind: EntryKind,
+        identifier: Leaf<'a>,
+    ) -> Result<(), AllocError>
         ensures { OnOk result (steps_in self.new ≡ steps_in self.old ++ DeclaresStep kind identifier.entry ∷ []) }
     {
         self.push(Step::Declares(kind, identifier))

@@ -56,11 +56,7 @@ pub(crate) fn heir_of<'r, 'a>(records: &'r [Record<'a>], scope: usize) -> Option
 }
 
 /// Makes room for the words of a scope.
-fn make_room(
-    alloc: Global,
-    words: &mut Vec<Vec<Word<'_>>>,
-    scope: usize,
-) -> Result<(), AllocError>
+fn make_room(alloc: Global, words: &mut Vec<Vec<Word<'_>>>, scope: usize) -> Result<(), AllocError>
     ensures same { (s : ℕ) → words_at words.new.items s ≡ words_at words.old.items s }
     ensures there { OnOk result (scope < length words.new.items) }
 {
