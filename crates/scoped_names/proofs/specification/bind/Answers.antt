@@ -1,4 +1,4 @@
-use Rattle.std.proofs.Common.{◌∙◌, Result, Ok, sym, ap}
+use Rattle.std.proofs.Common.{Result, Ok, ap}
 use Rattle.scoped_names.specs.declared.fault.NameFault.{NameFault}
 use Rattle.scoped_names.specs.Reading.{Reading, ◌>>◌}
 use Rattle.scoped_names.specs.Whole.{Whole, whole}

@@ -1,9 +1,9 @@
-use Rattle.std.proofs.Common.{◌≡◌, ◌∙◌, subst, sym, ap, arith}
+use Rattle.std.proofs.Common.{◌∙◌, subst, sym, ap, arith}
 use Rattle.std.proofs.lemmas.Result.{err_from_is_err_and}
 use Rattle.name_table.specs.Entries.{latest}
 use Rattle.name_steps.specs.Steps.{steps_of}
 use Rattle.scoped_names.specs.Faults.{left_open, never_defined, nothing_yet, steps_read}
-use Rattle.scoped_names.specs.Reading.{Reading, State, Tells, passed, ◌>>◌}
+use Rattle.scoped_names.specs.Reading.{Reading, Tells, passed, ◌>>◌}
 use Rattle.scoped_names.specs.Rising.{Rises}
 use Rattle.scoped_names.proofs.Readings.{checked_then, or_told}
 use Rattle.scoped_names.proofs.Rising.{rising}
