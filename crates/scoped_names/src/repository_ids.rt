@@ -119,7 +119,7 @@ fn is_same(one: PragmaId<'_>, other: PragmaId<'_>) -> bool
 impl PlacedId<'_> {
     /// That what is given once more is the same.
     fn given_again(self, given: PragmaId<'_>, at: At) -> Result<(), NameFault>
-        ensures { Checks result (again_test (given_of self.id) self.at (given_of given) at) }
+        ensures { Checks result (again_test (given_of self.entry.id) self.entry.at (given_of given.entry) at) }
     {
         if is_same(self.id, given) {
             return Ok(());
