@@ -1,8 +1,7 @@
 -- Whether a base gives another entry of some name than the bases before, by the words that are looked at.
-use Rattle.std.proofs.Common.{◌≡◌, ◌∙◌, ℕ, zero, suc, ◌+◌, ◌<◌, ◌⊎◌, inl, inr, Bool, true, false, not, cond, nat_eq, List, [], ◌∷◌, drop, get_or, length, slice_get, Option, Some, None, refl, sym, ap, subst, arith}
+use Rattle.std.proofs.Common.{◌≡◌, ◌∙◌, ℕ, zero, suc, ◌⊎◌, inl, inr, Bool, true, false, not, cond, nat_eq, List, [], ◌∷◌, get_or, slice_get, Option, Some, None, refl, sym, ap, subst}
 use Rattle.std.specs.Prelude.{◌||◌, nat_lt}
 use Rattle.std.specs.List.{list_any}
-use Rattle.std.proofs.Math.Seq.{drop-cons}
 use Rattle.std.proofs.lemmas.Bool.{and_parts}
 use Rattle.std.proofs.lemmas.List.Quantifiers.{position-Some}
 use Rattle.std.proofs.lemmas.Option.{slice_get-get_or}
@@ -21,18 +20,6 @@ use Rattle.name_table.specs.SeveralBases.{SaysNothingNew}
 use Rattle.name_table.proofs.MergedBases.{inherited_case, like_of, lower, within_case}
 
 -- ---- tests of elements
-
-pub any_on : {X : Type 0} (p : X → Bool) (xs : List X) (k : ℕ) (x : X) → k < length xs → x ≡ get_or xs k x → p x ≡ false → list_any p (drop (k + 1) xs) ≡ list_any p (drop k xs)
-any_on p xs k x lt here fails =
-    let next : suc k ≡ k + 1 = omega arith in
-    let split : drop k xs ≡ x ∷ drop (k + 1) xs = drop-cons xs k x lt ∙ ap (λ y. y ∷ drop (suc k) xs) (sym here) ∙ ap (λ j. x ∷ drop j xs) next in
-    sym (ap (list_any p) split ∙ ap (λ b. b || list_any p (drop (k + 1) xs)) fails)
-
-pub any_off : {X : Type 0} (p : X → Bool) (xs : List X) (k : ℕ) (x : X) → k < length xs → x ≡ get_or xs k x → p x ≡ true → true ≡ list_any p (drop k xs)
-any_off p xs k x lt here holds =
-    let next : suc k ≡ k + 1 = omega arith in
-    let split : drop k xs ≡ x ∷ drop (k + 1) xs = drop-cons xs k x lt ∙ ap (λ y. y ∷ drop (suc k) xs) (sym here) ∙ ap (λ j. x ∷ drop j xs) next in
-    sym (ap (list_any p) split ∙ ap (λ b. b || list_any p (drop (k + 1) xs)) holds)
 
 any_true : {X : Type 0} (p : X → Bool) (xs : List X) (k : ℕ) (x : X) → slice_get xs k ≡ Some x → p x ≡ true → list_any p xs ≡ true
 any_true p [] k x here holds = cc
@@ -84,16 +71,16 @@ both_one Nothing y b h = inr h
 both_one (One e) Nothing b h = inl h
 both_one (One e) (One f) b h = by (nat_eq e f) h
   where
-    by : (t : Bool) → cond t (One e) Several ≡ One b → (One e ≡ One b) ⊎ (One f ≡ One b)
+    by : (t : Bool) → cond t (One e) (Several e f) ≡ One b → (One e ≡ One b) ⊎ (One f ≡ One b)
     by true h = inl h
     by false h = absurd cc
-both_one (One e) Several b h = absurd cc
-both_one Several y b h = absurd cc
+both_one (One e) (Several a c) b h = absurd cc
+both_one (Several a c) y b h = absurd cc
 
 else_one : (x y : Found) (b : ℕ) → or_else x y ≡ One b → (x ≡ One b) ⊎ (y ≡ One b)
 else_one Nothing y b h = inr h
 else_one (One e) y b h = inl h
-else_one Several y b h = absurd cc
+else_one (Several a c) y b h = absurd cc
 
 own_named : (es : List Entry) (n s : ℕ) (w : List ℕ) (b : ℕ) → own es n s w ≡ One b → HasName es b w
 own_named es n s w b h = by (named es s w) refl h
@@ -145,18 +132,18 @@ other_is_new Nothing y h same = cc
 other_is_new (One a) Nothing h same = cc
 other_is_new (One a) (One b) h same = by (nat_eq a b) h same
   where
-    by : (t : Bool) → not t ≡ true → cond t (One a) Several ≡ One a → ⊥
+    by : (t : Bool) → not t ≡ true → cond t (One a) (Several a b) ≡ One a → ⊥
     by true h same = cc
     by false h same = cc
-other_is_new (One a) Several h same = cc
-other_is_new Several y h same = cc
+other_is_new (One a) (Several b c) h same = cc
+other_is_new (Several a b) y h same = cc
 
 other_gives : (x y : Found) → is_one_other x y ≡ true → (b : ℕ) × (y ≡ One b)
 other_gives Nothing y h = absurd cc
 other_gives (One a) Nothing h = absurd cc
 other_gives (One a) (One b) h = (b, refl)
-other_gives (One a) Several h = absurd cc
-other_gives Several y h = absurd cc
+other_gives (One a) (Several b c) h = absurd cc
+other_gives (Several a b) y h = absurd cc
 
 module _ (es : List Entry) (inner : ℕ) (base : Base) where
   differ_case : (w v : List ℕ) → lower w ≡ lower v → differ_in es inner base w ≡ differ_in es inner base v

@@ -75,7 +75,7 @@ module _ (records : List Record) (es : List Entry) (is : entries_in records ≡ 
 pub or_else_found : (a b : Found) → (a ≡ Nothing → ⊥) → a ≡ or_else a b
 or_else_found Nothing b h = absurd (h refl)
 or_else_found (One e) b h = refl
-or_else_found Several b h = refl
+or_else_found (Several a c) b h = refl
 
 -- ---- scopes around
 
@@ -113,4 +113,4 @@ scope_behind records nested e r there = nested e r there
 pub or_else_nothing : (a : Found) → or_else a Nothing ≡ a
 or_else_nothing Nothing = refl
 or_else_nothing (One e) = refl
-or_else_nothing Several = refl
+or_else_nothing (Several a b) = refl

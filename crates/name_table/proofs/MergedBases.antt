@@ -7,7 +7,7 @@ use Rattle.std.specs.Str.{bytes_eq}
 use Rattle.std.specs.Char.{to_ascii_lowercase}
 use Rattle.std.proofs.Math.Dec.{leb}
 use Rattle.std.proofs.Math.Seq.{drop-cons}
-use Rattle.std.proofs.lemmas.Bool.{le-ltb, leb-false, leb-true, lt-ltb, ltb-true}
+use Rattle.std.proofs.lemmas.Bool.{le-ltb, leb-false, leb-true, lt-ltb}
 use Rattle.std.proofs.lemmas.Slice.Eq.{bytes_eq-Decides}
 use Rattle.std.specs.BTreeMap.{insert_entry}
 use Rattle.std.specs.declared.cmp.Ordering.{Ordering}
@@ -15,6 +15,7 @@ use Rattle.std.specs.declared.cmp.Ordering.TheVariants.{Less, Equal, Greater}
 use Rattle.std.specs.Ordering.{match_ordering}
 use Rattle.name_table.specs.declared.entry.Base.{Base}
 use Rattle.name_table.specs.declared.key.Word.{Word}
+use Rattle.name_table.specs.declared.record.Clash.{Clash}
 use Rattle.name_table.specs.declared.record.Given.{Given}
 use Rattle.name_table.specs.declared.record.Heir.{Heir}
 use Rattle.name_table.specs.declared.record.Record.{Record}
@@ -23,7 +24,7 @@ use Rattle.name_table.specs.declared.search.Found.TheVariants.{Nothing, One, Sev
 use Rattle.name_table.specs.Keys.{folded, word_cmp}
 use Rattle.name_table.specs.Entry.{Entry, bases_of, is_named, named}
 use Rattle.name_table.specs.Search.{base_at, both, declared_before, from_base, inherited, or_else, own, within}
-use Rattle.name_table.specs.Records.{AreListed, HasWord, entries_in, words_at, by_given, by_heir, given_before, is_before, is_word}
+use Rattle.name_table.specs.Records.{AreListed, HasWord, entries_in, words_at, by_given, by_heir, alone_or_not, given_before, is_word}
 use Rattle.name_table.specs.SeveralBases.{HasNoneFrom, IsDone, IsKept, IsRight, Merges, SaysNothingNew, given_then, with_more}
 use Rattle.name_table.proofs.Lookups.{position_same}
 use Rattle.name_table.proofs.Orders.{equal_words, same_folded}
@@ -79,9 +80,9 @@ first_of h None = h.first.token
 first_of h (Some g) = g.token
 
 -- what they give alone they give from there on
-pub begins : (es : List Entry) (scope : ℕ) (h : Heir) (w : List ℕ) (m : ℕ) (x : Found) (o : Option Given) → IsKept es scope h → lookup (is_word w) h.others.entries ≡ o → x ≡ inherited es m scope w → (x ≡ Several → ⊥)
+pub begins : (es : List Entry) (scope : ℕ) (h : Heir) (w : List ℕ) (m : ℕ) (x : Found) (o : Option Given) → IsKept es scope h → lookup (is_word w) h.others.entries ≡ o → x ≡ inherited es m scope w → ((a b : ℕ) → x ≡ Several a b → ⊥)
     → (t : ℕ) → t ≤ m → cond (nat_lt (first_of h o) t) x Nothing ≡ inherited es t scope w
-begins es scope h w m Several o kept is there one t le = absurd (one refl)
+begins es scope h w m (Several a b) o kept is there one t le = absurd (one a b refl)
 begins es scope h w m Nothing o kept is there one t le = by (nat_lt (first_of h o) t) ∙ sym (nothing_earlier es scope w t m le (sym there))
   where
     by : (b : Bool) → cond b Nothing Nothing ≡ Nothing
@@ -100,14 +101,15 @@ begins es scope h w m (One e) None kept is there one t le =
     by true low = ap (λ y. cond (nat_lt h.first.token t) y Nothing) (there ∙ at m ∙ ap (λ b. cond b f Nothing) low) ∙ sym (at t)
     by false low = let wrong : One e ≡ Nothing = there ∙ at m ∙ ap (λ b. cond b f Nothing) low in cc
 begins es scope h w m (One e) (Some g) kept is there one t le =
-    by (nat_lt g.token m) (is_before g.clash m) refl refl
+    by (nat_lt g.token m) refl
   where
     at : (u : ℕ) → inherited es u scope w ≡ given_before u g
     at u = kept u w ∙ ap (by_given es u w h.first) is
 
-    earlier : (c : Option ℕ) → is_before c m ≡ false → is_before c t ≡ false
-    earlier None is_not = refl
-    earlier (Some c) is_not = let high = ltb_false c m is_not in le-ltb c t (omega arith)
+    -- what is alone is alone earlier
+    earlier : (c : Option Clash) → One e ≡ alone_or_not m g.entry c → One e ≡ alone_or_not t g.entry c
+    earlier None same = same
+    earlier (Some c) same = by_clash (nat_lt c.token m) refl same
       where
         ltb_false : (a b : ℕ) → nat_lt a b ≡ false → b ≤ a
         ltb_false a b h = by_leb (leb b a) refl
@@ -116,19 +118,21 @@ begins es scope h w m (One e) (Some g) kept is there one t le =
             by_leb true e = leb-true b a e
             by_leb false e = let lt = leb-false b a e in let yes = lt-ltb a b lt in cc
 
-    by : (b c : Bool) → nat_lt g.token m ≡ b → is_before g.clash m ≡ c → cond (nat_lt g.token t) (One e) Nothing ≡ inherited es t scope w
-    by false c low clash = let wrong : One e ≡ Nothing = there ∙ at m ∙ ap (λ b. cond b (cond (is_before g.clash m) Several (One g.entry)) Nothing) low in cc
-    by true true low clash =
-        let wrong : One e ≡ Several = there ∙ at m ∙ ap (λ b. cond b (cond (is_before g.clash m) Several (One g.entry)) Nothing) low ∙ ap (λ c. cond c Several (One g.entry)) clash in cc
-    by true false low clash =
-        let same : One e ≡ One g.entry = there ∙ at m ∙ ap (λ b. cond b (cond (is_before g.clash m) Several (One g.entry)) Nothing) low ∙ ap (λ c. cond c Several (One g.entry)) clash in
-        ap (λ y. cond (nat_lt g.token t) y Nothing) same
-        ∙ sym (ap (λ c. cond (nat_lt g.token t) (cond c Several (One g.entry)) Nothing) (earlier g.clash clash))
-        ∙ sym (at t)
+        by_clash : (q : Bool) → nat_lt c.token m ≡ q → One e ≡ cond q (Several g.entry c.entry) (One g.entry) → One e ≡ alone_or_not t g.entry (Some c)
+        by_clash true low same = cc
+        by_clash false low same =
+            let high = ltb_false c.token m low in
+            same ∙ sym (ap (λ q. cond q (Several g.entry c.entry) (One g.entry)) (le-ltb c.token t (omega arith)))
+
+    by : (b : Bool) → nat_lt g.token m ≡ b → cond (nat_lt g.token t) (One e) Nothing ≡ inherited es t scope w
+    by false low = let wrong : One e ≡ Nothing = there ∙ at m ∙ ap (λ b. cond b (alone_or_not m g.entry g.clash) Nothing) low in cc
+    by true low =
+        let same : One e ≡ alone_or_not m g.entry g.clash = there ∙ at m ∙ ap (λ b. cond b (alone_or_not m g.entry g.clash) Nothing) low in
+        ap (λ y. cond (nat_lt g.token t) y Nothing) (earlier g.clash same) ∙ sym (at t)
 
 -- so does what is kept of them with the new base
 pub given_is : (es : List Entry) (scope : ℕ) (h : Heir) (base : Base) (w : List ℕ) (x y : Found) (o : Option Given) (g : Given) → IsKept es scope h → lookup (is_word w) h.others.entries ≡ o
-    → x ≡ inherited es base.token scope w → y ≡ within es base.token (suc base.entry) w → (x ≡ Several → ⊥)
+    → x ≡ inherited es base.token scope w → y ≡ within es base.token (suc base.entry) w → ((a b : ℕ) → x ≡ Several a b → ⊥)
     → ((t : ℕ) → given_before t g ≡ given_then (first_of h o) base.token x y t) → (t : ℕ) → given_before t g ≡ with_more es scope base t w
 given_is es scope h base w x y o g kept is old new one given t = given t ∙ by (leb t base.token) refl
   where
@@ -146,23 +150,6 @@ given_is es scope h base w x y o g kept is old new one given t = given t ∙ by 
         ap (λ c. cond c (both x y) (cond (nat_lt (first_of h o) t) x Nothing)) (lt-ltb m t lt)
         ∙ ap (λ z. both z y) old ∙ ap (both (inherited es m scope w)) new
         ∙ sym (ap (λ c. cond c (both (inherited es m scope w) (within es m (suc base.entry) w)) (inherited es t scope w)) (lt-ltb m t lt))
-
--- a name that they give alone they give before the new base
-pub begins_before : (es : List Entry) (scope : ℕ) (h : Heir) (w : List ℕ) (m : ℕ) (o : Option Given) (e : ℕ) → IsKept es scope h → lookup (is_word w) h.others.entries ≡ o → inherited es m scope w ≡ One e → first_of h o < m
-begins_before es scope h w m None e kept is there =
-    by (nat_lt h.first.token m) refl
-  where
-    by : (b : Bool) → nat_lt h.first.token m ≡ b → h.first.token < m
-    by true low = ltb-true h.first.token m low
-    by false low =
-        let wrong : One e ≡ Nothing = sym there ∙ kept m w ∙ ap (by_given es m w h.first) is ∙ ap (λ b. cond b (within es h.first.token (suc h.first.entry) w) Nothing) low in cc
-begins_before es scope h w m (Some g) e kept is there =
-    by (nat_lt g.token m) refl
-  where
-    by : (b : Bool) → nat_lt g.token m ≡ b → g.token < m
-    by true low = ltb-true g.token m low
-    by false low =
-        let wrong : One e ≡ Nothing = sym there ∙ kept m w ∙ ap (by_given es m w h.first) is ∙ ap (λ b. cond b (cond (is_before g.clash m) Several (One g.entry)) Nothing) low in cc
 
 -- ---- the words that are left
 
@@ -323,10 +310,6 @@ pub given_listed : (es : List Entry) (n s : ℕ) (h : Heir) (y : Found) (ws vs :
 given_listed es n s h y ws vs w kept (inr has) more given = inr (more has)
 given_listed es n s h y ws vs w kept (inl is) more (inr has) = inr has
 given_listed es n s h y ws vs w kept (inl is) more (inl none) = inl (is ∙ kept n w ∙ ap (by_given es n w h.first) none)
-
-pub or_same : {X : Type 0} (y a b : X) (P : Type 0) → a ≡ b → (y ≡ a) ⊎ P → (y ≡ b) ⊎ P
-or_same y a b P same (inl is) = inl (is ∙ same)
-or_same y a b P same (inr p) = inr p
 
 -- ---- entries of a map one by one
 

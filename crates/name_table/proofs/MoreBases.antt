@@ -17,7 +17,7 @@ use Rattle.name_table.specs.declared.search.Found.TheVariants.{Nothing}
 use Rattle.name_table.specs.Entry.{Entry, bases_of, is_named, named}
 use Rattle.name_table.specs.Search.{base_at, before, both, declared_before, from_base, inherited, or_else, own, within}
 use Rattle.name_table.specs.Entries.{entry_with_base, latest, with_base}
-use Rattle.name_table.specs.Records.{AreNestedRecords, ArePlaced, AreSearched, AreTied, by_first, by_given, by_heir, entries_in, entry_of, heir_bases, heir_in, heir_of, is_word, key_of, unboxed}
+use Rattle.name_table.specs.Records.{AreNestedRecords, ArePlaced, AreSearched, AreTied, by_given, by_heir, entries_in, entry_of, heir_bases, heir_in, heir_of, is_word, key_of, unboxed}
 use Rattle.name_table.specs.SeveralBases.{HasNoneFrom, IsKept, Merges, with_more}
 use Rattle.name_table.proofs.Inheriting.{bases_kept, first_base, heir_list}
 use Rattle.name_table.proofs.Latest.{bases_low, latest_based}
@@ -266,7 +266,6 @@ module _ (keys : List Key) (records : List Record) (words : List (Vec Word Globa
     keyed = tied.keyed ∙ sym keys_like;
     nested = nested_after;
     placed = placed_after;
-    scopes = let h = tied.scopes in let same = count in omega arith;
     listed = λ s k name h. tied.listed s k name (sym (named_like s name) ∙ h);
     searched = searched_after;
   }
@@ -319,15 +318,3 @@ first_before records s token h there last = by (leb token h.first.token) refl
         let none : Some h.first.entry ≡ None = sym (first_base records s h there) ∙ last h.first.token (leb-true token h.first.token is) in
         cc
     by false is = let lt = leb-false token h.first.token is in omega arith
-
-pub first_merges : (records : List Record) → AreSearched records → (s : ℕ) (base : Base) (h : Heir) → heir_of records s ≡ None → h.first ≡ base → h.others.entries ≡ [] → Merges (entries_in records) s base h
-first_merges records searched s base h none first empty t w =
-    ap (λ o. by_given es t w h.first (lookup (is_word w) o)) empty ∙ ap (by_first es t w) first
-    ∙ ap (λ x. cond (nat_lt base.token t) (both x (within es base.token (suc base.entry) w)) Nothing) (sym (nothing base.token))
-    ∙ ap (cond (nat_lt base.token t) (both (inherited es base.token s w) (within es base.token (suc base.entry) w))) (sym (nothing t))
-  where
-    es : List Entry
-    es = entries_in records
-
-    nothing : (u : ℕ) → inherited es u s w ≡ Nothing
-    nothing u = searched u s w ∙ ap (by_heir es u w) none

@@ -40,7 +40,7 @@ module _ (es fs : List Entry) (cut : ℕ) (same_base : (s j : ℕ) → j < cut �
 pub both_nothing : (x : Found) → both x Nothing ≡ x
 both_nothing Nothing = refl
 both_nothing (One e) = refl
-both_nothing Several = refl
+both_nothing (Several a b) = refl
 
 split : (a b : ℕ) → a ≤ suc b → (a ≤ b) ⊎ (a ≡ suc b)
 split a b h = by (leb a b) refl
@@ -67,11 +67,11 @@ both_first Nothing b h = refl
 both_first (One e) Nothing h = h
 both_first (One e) (One f) h = absurd (by (nat_eq e f) h)
   where
-    by : (t : Bool) → cond t (One e) Several ≡ Nothing → ⊥
+    by : (t : Bool) → cond t (One e) (Several e f) ≡ Nothing → ⊥
     by true h = cc
     by false h = cc
-both_first (One e) Several h = cc
-both_first Several b h = h
+both_first (One e) (Several a b) h = cc
+both_first (Several a b) c h = h
 
 pub nothing_earlier : (es : List Entry) (s : ℕ) (w : List ℕ) (t u : ℕ) → t ≤ u → inherited es u s w ≡ Nothing → inherited es t s w ≡ Nothing
 nothing_earlier es s w t zero h e = let same : t ≡ 0 = omega arith in ap (λ x. inherited es x s w) same

@@ -1,10 +1,8 @@
 -- What is kept of entries stays in step with them.
-use Rattle.std.proofs.Common.{◌≡◌, ◌∙◌, ℕ, zero, suc, ◌+◌, ◌<◌, ◌≤◌, Bool, true, false, cond, nat_eq, ◌&&◌, List, [], ◌∷◌, ◌++◌, map, length, length-append, get_or, slice_get, Option, Some, None, Vec, Global, refl, sym, ap, subst, arith}
+use Rattle.std.proofs.Common.{◌≡◌, ◌∙◌, ℕ, zero, suc, ◌+◌, ◌<◌, ◌≤◌, Bool, true, false, cond, nat_eq, List, [], ◌∷◌, ◌++◌, map, length, length-append, get_or, slice_get, Option, Some, None, Vec, Global, refl, sym, ap, subst, arith}
 use Rattle.std.specs.Prelude.{nat_lt, slice_set}
-use Rattle.std.proofs.lemmas.Bool.{and_parts, eq-eqb, eqb-true}
-use Rattle.std.specs.Char.{to_ascii_lowercase}
-use Rattle.std.proofs.lemmas.Slice.Eq.{bytes_eq-Decides}
-use Rattle.name_table.specs.Entries.{latest, scope_number}
+use Rattle.std.proofs.lemmas.Bool.{and_parts, eqb-true}
+use Rattle.name_table.specs.Entries.{latest}
 use Rattle.std.proofs.lemmas.Option.{slice_get-map, slice_get_read, slice_get_within}
 use Rattle.std.specs.Option.{option_map}
 use Rattle.std.specs.Map.{lookup}
@@ -51,12 +49,11 @@ kept_room words v empty s = get_push words_in words v s empty
 
 -- the scopes' words with others behind them
 pub relisted : (keys : List Key) (records : List Record) (words more : List (Vec Word Global)) → AreTied keys records words
-    → length words ≤ length more → ((s : ℕ) (name : List ℕ) → HasWord (words_at words s) name → HasWord (words_at more s) name) → AreTied keys records more
-relisted keys records words more tied longer kept = record {
+    → ((s : ℕ) (name : List ℕ) → HasWord (words_at words s) name → HasWord (words_at more s) name) → AreTied keys records more
+relisted keys records words more tied kept = record {
   keyed = tied.keyed;
   nested = tied.nested;
   placed = tied.placed;
-  scopes = let h = tied.scopes in omega arith;
   listed = λ s k name h. kept s name (tied.listed s k name h);
   searched = tied.searched;
 }
@@ -139,15 +136,14 @@ module _ (keys : List Key) (records : List Record) (words : List (Vec Word Globa
       ∙ sym (ap (λ xs. by_heir xs t name (heir_of (records ++ r ∷ []) s)) (entries_push records r)
       ∙ ap (by_heir (entries_in records ++ entry_of r ∷ []) t name) (heir_push records r plain s))
 
-  pub tied_push : (more_keys : List Key) → more_keys ≡ keys ++ r.key ∷ [] → (more : List (Vec Word Global)) → length more ≡ length words + 1
+  pub tied_push : (more_keys : List Key) → more_keys ≡ keys ++ r.key ∷ [] → (more : List (Vec Word Global))
       → ((s : ℕ) (name : List ℕ) → HasWord (words_at words s) name → HasWord (words_at more s) name)
       → ((name : List ℕ) → is_word name r.key.word ≡ true → HasWord (words_at more r.key.scope) name) → AreTied more_keys (records ++ r ∷ []) more
-  tied_push more_keys keyed more one_more kept new = record {
+  tied_push more_keys keyed more kept new = record {
     keyed = keyed ∙ ap (λ ks. ks ++ r.key ∷ []) tied.keyed ∙ sym (map_push key_of records r);
     nested = λ k x h.
         let there = nested_push records r 0 (omega arith) (λ j z e. let le = tied.nested j z e in omega arith) k x h in omega arith;
     placed = placed_push;
-    scopes = let longer = length-append records (r ∷ []) in let h = tied.scopes in omega arith;
     listed = listed_push more kept new;
     searched = searched_push;
   }
@@ -172,12 +168,11 @@ nested_entries records nested k x at = by (slice_get records k) refl
 
 -- ---- none yet
 
-pub tied_none : (words : List (Vec Word Global)) → 1 ≤ length words → AreTied [] [] words
-tied_none words h = record {
+pub tied_none : (words : List (Vec Word Global)) → AreTied [] [] words
+tied_none words = record {
   keyed = refl;
   nested = λ k r e. cc;
   placed = λ s t b e. none s t b e;
-  scopes = omega arith;
   listed = λ s k name e. cc;
   searched = λ t s name. nothing t s name;
 }
@@ -195,14 +190,3 @@ tied_none words h = record {
 -- the words of a scope, where the list of them is read
 pub words_of_item : (words : List (Vec Word Global)) (scope : ℕ) (v : Vec Word Global) → scope < length words → v ≡ get_or words scope v → words_at words scope ≡ v.items
 words_of_item words scope v lt read = ap words_in (slice_get_read words (length words) scope v refl lt read)
-
--- ---- a declaration
-
-same_itself : (w : List ℕ) → same_but_for_case w w ≡ true
-same_itself w = (bytes_eq-Decides (map to_ascii_lowercase w) (map to_ascii_lowercase w)).1 refl
-
-pub scope_fresh : (es : List Entry) (e : Entry) → named es e.scope e.name ≡ None → length es + 1 ≡ scope_number (named (es ++ e ∷ []) e.scope e.name)
-scope_fresh es e h =
-    let is : is_named e.scope e.name e ≡ true = ap (λ b. b && same_but_for_case e.name e.name) (eq-eqb e.scope e.scope refl) ∙ same_itself e.name in
-    let next : length es + 1 ≡ suc (length es) = omega arith in
-    next ∙ sym (ap scope_number (named_push es e e.scope e.name ∙ ap (λ o. or_place o (cond (is_named e.scope e.name e) (Some (length es)) None)) h ∙ ap (λ b. cond b (Some (length es)) None) is))

@@ -6,7 +6,7 @@ use Rattle.std.specs.Map.{lookup}
 use Rattle.std.specs.declared.cmp.Ordering.{Ordering}
 use Rattle.std.specs.declared.cmp.Ordering.TheVariants.{Less, Equal, Greater}
 use Rattle.std.specs.Ordering.{match_ordering}
-use Rattle.std.proofs.lemmas.Bool.{eqb-true, eq-eqb, le-ltb, lt-ltb}
+use Rattle.std.proofs.lemmas.Bool.{eqb-true, eq-eqb, lt-ltb}
 use Rattle.name_table.specs.declared.entry.Base.{Base}
 use Rattle.name_table.specs.declared.key.Word.{Word}
 use Rattle.name_table.specs.declared.record.Heir.{Heir}
@@ -36,16 +36,6 @@ has_none (w ∷ ws) name none (k, x, at, is) = by (is_word name w) refl none (λ
     by false e none rest (suc k) at = rest none k at
 
 -- ---- steps behind one another
-
-pub then_passes : (es : List Entry) (ws vs : List Word) (one two three : Place) → Passes es ws one two → ((name : List ℕ) → HasWord ws name → HasWord vs name) → Passes es vs two three
-    → Passes es vs one three
-then_passes es ws vs one two three first kept second name = by (first name) (second name)
-  where
-    by : (given_at es name one ≡ given_at es name two) ⊎ HasWord ws name → (given_at es name two ≡ given_at es name three) ⊎ HasWord vs name
-        → (given_at es name one ≡ given_at es name three) ⊎ HasWord vs name
-    by (inr has) s = inr (kept name has)
-    by (inl is) (inr has) = inr has
-    by (inl is) (inl same) = inl (is ∙ same)
 
 pub or_more : {P : Type 0} (ws vs : List Word) (name : List ℕ) → P ⊎ HasWord ws name → ((n : List ℕ) → HasWord ws n → HasWord vs n) → P ⊎ HasWord vs name
 or_more ws vs name (inl p) kept = inl p
@@ -78,8 +68,8 @@ ways_insert es old new s k kept inserted low is q way there = by (nat_eq s q) re
 
 both_same : (x : Found) → both x x ≡ x
 both_same Nothing = refl
-both_same (One e) = ap (λ b. cond b (One e) Several) (eq-eqb e e refl)
-both_same Several = refl
+both_same (One e) = ap (λ b. cond b (One e) (Several e e)) (eq-eqb e e refl)
+both_same (Several a b) = refl
 
 -- a name that two bases give alike, and of which nothing else is kept, is inherited as it was
 pub nothing_new : (es : List Entry) (inner : ℕ) (heir : Heir) (base : Base) (words more : List Word) → IsKept es inner heir → heir.first.token < base.token
@@ -161,16 +151,6 @@ entered es t s next ws name is (inr has) = inr has
 entered es t s next ws name is (inl none) = inl (ap (λ x. within es t x name) is ∙ ap (λ x. or_else x (inherited es t s name)) none)
 
 -- down to the first base, but for the words of which later bases say something else
-pub passed_end : (es : List Entry) (place : Place) (scope : ℕ) (heir : Heir) (ws : List Word) → IsKept es place.scope heir → place.token ≤ heir.first.token
-    → ((name : List ℕ) → (lookup (is_word name) heir.others.entries ≡ None) ⊎ HasWord ws name) → Passes es ws place (record { token = 0; scope = scope })
-passed_end es place scope heir ws kept le listed name = by (listed name)
-  where
-    by : (lookup (is_word name) heir.others.entries ≡ None) ⊎ HasWord ws name → (given_at es name place ≡ Nothing) ⊎ HasWord ws name
-    by (inr has) = inr has
-    by (inl none) =
-        inl (kept place.token name ∙ ap (by_given es place.token name heir.first) none
-        ∙ ap (λ b. cond b (within es heir.first.token (suc heir.first.entry) name) Nothing) (le-ltb heir.first.token place.token le))
-
 pub passed : (es : List Entry) (place next : Place) (heir : Heir) (ws vs : List Word) → IsKept es place.scope heir → heir.first.token < place.token
     → ((name : List ℕ) → (lookup (is_word name) heir.others.entries ≡ None) ⊎ HasWord ws name) → ((name : List ℕ) → HasWord ws name → HasWord vs name)
     → LeadsTo es heir.first vs next → Passes es vs place next

@@ -23,7 +23,7 @@ two_that_differ =
     interface 0 (codes "A") 1 [] ∷ entry 1 (codes "T") 5 Typedef ∷ interface 0 (codes "B") 10 []
     ∷ entry 3 (codes "T") 14 Typedef ∷ interface 0 (codes "C") 19 (base 21 0 ∷ base 23 2 ∷ []) ∷ []
 
-two_bases_that_differ : finds_words two_that_differ 26 5 false (codes "T") [] ≡ Several
+two_bases_that_differ : finds_words two_that_differ 26 5 false (codes "T") [] ≡ Several 1 3
 unfolding two_that_differ
 two_bases_that_differ = refl
 

@@ -51,9 +51,9 @@ features_of es = map as_feature es
 abbrev pub is_one_other : Found → Found → Bool
 is_one_other (One a) (One b) = not (nat_eq a b)
 is_one_other (One a) Nothing = false
-is_one_other (One a) Several = false
+is_one_other (One a) (Several b c) = false
 is_one_other Nothing b = false
-is_one_other Several b = false
+is_one_other (Several a b) c = false
 
 -- of a name what the bases before give is another operation or attribute than the base gives
 abbrev pub differ_in : List Entry → ℕ → Base → List ℕ → Bool

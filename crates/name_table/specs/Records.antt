@@ -1,11 +1,12 @@
 -- What is kept of entries, and what it says of searches.
-use Rattle.std.specs.Prelude.{◌≡◌, ℕ, zero, suc, ◌<◌, ◌≤◌, Bool, false, true, cond, nat_lt, map, List, [], ◌∷◌, slice_get, length, Option, Some, None, Vec, Box}
+use Rattle.std.specs.Prelude.{◌≡◌, ℕ, zero, suc, ◌<◌, ◌≤◌, Bool, true, cond, nat_lt, map, List, [], ◌∷◌, slice_get, length, Option, Some, None, Vec, Box}
 use Rattle.std.specs.declared.alloc.Global.{Global}
 use Rattle.std.specs.Map.{lookup}
 use Rattle.idl_lexer.specs.Words.{same_but_for_case}
 use Rattle.name_table.specs.declared.entry.Base.{Base}
 use Rattle.name_table.specs.declared.key.Key.{Key}
 use Rattle.name_table.specs.declared.key.Word.{Word}
+use Rattle.name_table.specs.declared.record.Clash.{Clash}
 use Rattle.name_table.specs.declared.record.Given.{Given}
 use Rattle.name_table.specs.declared.record.Heir.{Heir}
 use Rattle.name_table.specs.declared.record.Record.{Record}
@@ -35,13 +36,14 @@ entry_of r = record {
 abbrev pub entries_in : List Record → List Entry
 entries_in records = map entry_of records
 
-abbrev pub is_before : Option ℕ → ℕ → Bool
-is_before None token = false
-is_before (Some clash) token = nat_lt clash token
+-- the entry, and behind the token of the clash another one too
+abbrev pub alone_or_not : ℕ → ℕ → Option Clash → Found
+alone_or_not token entry None = One entry
+alone_or_not token entry (Some clash) = cond (nat_lt clash.token token) (Several entry clash.entry) (One entry)
 
 -- what the bases before the token give
 abbrev pub given_before : ℕ → Given → Found
-given_before token g = cond (nat_lt g.token token) (cond (is_before g.clash token) Several (One g.entry)) Nothing
+given_before token g = cond (nat_lt g.token token) (alone_or_not token g.entry g.clash) Nothing
 
 abbrev pub is_word : List ℕ → Word → Bool
 is_word name w = same_but_for_case name w.text.now
@@ -109,6 +111,5 @@ pub record AreTied (keys : List Key) (records : List Record) (words : List (Vec 
   pub keyed : keys ≡ map key_of records
   pub nested : AreNestedRecords records
   pub placed : ArePlaced records
-  pub scopes : suc (length records) ≤ length words
   pub listed : AreListed records words
   pub searched : AreSearched records

@@ -14,19 +14,23 @@ use Rattle.name_table.specs.declared.search.Sight.{Sight}
 use Rattle.name_table.specs.declared.search.Sight.TheVariants.{Unseen, OtherCase, Unclear, Seen}
 use Rattle.name_table.specs.Entry.{Entry, named, bases_of, around}
 
--- what two ways give together: one entry by two ways is one
+-- of two entries the first that isn't e
+abbrev pub other_than : ℕ → ℕ → ℕ → ℕ
+other_than e a b = cond (nat_eq e a) b a
+
+-- what two ways give together: one entry by two ways is one, and of several that differ the first two are told
 abbrev pub both : Found → Found → Found
 both Nothing b = b
 both (One e) Nothing = One e
-both (One e) (One f) = cond (nat_eq e f) (One e) Several
-both (One e) Several = Several
-both Several b = Several
+both (One e) (One f) = cond (nat_eq e f) (One e) (Several e f)
+both (One e) (Several a b) = Several e (other_than e a b)
+both (Several a b) c = Several a b
 
 -- what comes first is taken
 abbrev pub or_else : Found → Found → Found
 or_else Nothing b = b
 or_else (One e) b = One e
-or_else Several b = Several
+or_else (Several a b) c = Several a b
 
 -- the entry, where it is declared before the token n
 abbrev pub before : ℕ → ℕ → Option Entry → Found
@@ -87,14 +91,14 @@ is_spelled name (Some e) = bytes_eq name e.name
 abbrev pub sight : List Entry → List ℕ → Found → Sight
 sight entries name Nothing = Unseen
 sight entries name (One e) = cond (is_spelled name (slice_get entries e)) (Seen e) (OtherCase e)
-sight entries name Several = Unclear
+sight entries name (Several a b) = Unclear a b
 
 -- what words find one inside another
 abbrev pub inside : List Entry → ℕ → Sight → List (List ℕ) → Sight
 inside entries n seen [] = seen
 inside entries n Unseen (w ∷ ws) = Unseen
 inside entries n (OtherCase e) (w ∷ ws) = OtherCase e
-inside entries n Unclear (w ∷ ws) = Unclear
+inside entries n (Unclear a b) (w ∷ ws) = Unclear a b
 inside entries n (Seen e) (w ∷ ws) = inside entries n (sight entries w (within entries n (suc e) w)) ws
 
 -- what is seen where words with `::` between them, and maybe before the first, are sought before the token n from the
@@ -106,7 +110,7 @@ sees_words entries n scope rooted first rest =
 abbrev pub found_by : Sight → Found
 found_by Unseen = Nothing
 found_by (OtherCase e) = Nothing
-found_by Unclear = Several
+found_by (Unclear a b) = Several a b
 found_by (Seen e) = One e
 
 -- what they find

@@ -7,43 +7,64 @@ ghost use Rattle.std.specs.Map.{lookup};
 ghost use Rattle.name_table.specs.declared.search.Found.{Found};
 ghost use Rattle.name_table.specs.Entry.{bases_of};
 ghost use Rattle.name_table.specs.Entries.{latest};
-ghost use Rattle.name_table.specs.Search.{both as what_both_give, own as own_of, inherited as inherited_by, within as within_of};
+ghost use Rattle.name_table.specs.Search.{both as what_both_give, other_than, own as own_of, inherited as inherited_by, within as within_of};
 ghost use Rattle.name_table.specs.Records.{given_before, heir_of as heir_in_records, is_word, HasWord};
 ghost use Rattle.name_table.specs.SeveralBases.{given_then, HasNoneFrom, IsKept, Merges, SaysNothingNew, with_more, IsDone};
 
 use crate::entry::Base;
 use crate::key::Word;
-use crate::record::{Given, Heir};
+use crate::record::{Clash, Given, Heir};
 use crate::search::Found;
 use crate::table::{Table, heir_of};
 use std::alloc::{AllocError, Global};
 use std::collections::BTreeMap;
+
+/// Of two entries the first that isn't the entry.
+fn other_than(entry: usize, one: usize, other: usize) -> usize
+    ensures { result ≡ other_than entry one other }
+{
+    if entry == one { other } else { one }
+}
 
 /// What is kept of a name that the bases before give from the token `first` on, where a base that
 /// is named at the token gives something else; nothing where it says nothing new.
 fn merged(old: Found, new: Found, first: usize, token: usize) -> Option<Given>
     requires { (e : ℕ) → old ≡ Found.One e → first < token }
     ensures given { IfSome result (λ g. (t : ℕ) → given_before t g ≡ given_then first token old new t) }
-    ensures told { IfSome result (λ g. (old ≡ Found.Several) → ⊥) }
+    ensures told { IfSome result (λ g. (a b : ℕ) → old ≡ Found.Several a b → ⊥) }
     ensures same { result ≡ None → what_both_give old new ≡ old }
 {
     match (old, new) {
-        (Found::Several, _) | (_, Found::Nothing) => None,
+        (Found::Several(..), _) | (_, Found::Nothing) => None,
         (Found::One(one), Found::One(same)) if one == same => None,
         (Found::Nothing, Found::One(entry)) => Some(Given {
             entry,
             token,
             clash: None,
         }),
-        (Found::Nothing, Found::Several) => Some(Given {
-            entry: 0,
+        (Found::Nothing, Found::Several(entry, other)) => Some(Given {
+            entry,
             token,
-            clash: Some(token),
+            clash: Some(Clash {
+                entry: other,
+                token,
+            }),
         }),
-        (Found::One(entry), _) => Some(Given {
+        (Found::One(entry), Found::One(other)) => Some(Given {
             entry,
             token: first,
-            clash: Some(token),
+            clash: Some(Clash {
+                entry: other,
+                token,
+            }),
+        }),
+        (Found::One(entry), Found::Several(one, other)) => Some(Given {
+            entry,
+            token: first,
+            clash: Some(Clash {
+                entry: other_than(entry, one, other),
+                token,
+            }),
         }),
     }
 }

@@ -20,8 +20,16 @@ pub(crate) struct Given {
     pub entry: usize,
     /// The token of that base.
     pub token: usize,
-    /// The token of the first base that gives another entry, or several.
-    pub clash: Option<usize>,
+    /// What the first base gives that gives another entry.
+    pub clash: Option<Clash>,
+}
+
+/// Another entry that a base gives for a name.
+#[derive(Clone, Copy)]
+pub(crate) struct Clash {
+    pub entry: usize,
+    /// The token of that base.
+    pub token: usize,
 }
 
 /// What an interface has from its bases. A name is sought as in the first base, but for those in
@@ -63,7 +71,7 @@ impl Given {
             return Found::Nothing;
         }
         match self.clash {
-            Some(clash) if clash < token => Found::Several,
+            Some(clash) if clash.token < token => Found::Several(self.entry, clash.entry),
             _ => Found::One(self.entry),
         }
     }

@@ -55,38 +55,44 @@ pub(crate) fn heir_of<'r, 'a>(records: &'r [Record<'a>], scope: usize) -> Option
     records.get(number)?.heir.as_deref()
 }
 
-/// Lists a word of a scope, and makes room for the words of one more.
+/// Makes room for the words of a scope.
+fn make_room(alloc: Global, words: &mut Vec<Vec<Word<'_>>>, scope: usize) -> Result<(), AllocError>
+    ensures same { (s : ℕ) → words_at words.new.items s ≡ words_at words.old.items s }
+    ensures there { OnOk result (scope < length words.new.items) }
+{
+    while words.len() <= scope {
+        words.push(Vec::new(alloc))?;
+    }
+    Ok(())
+}
+
+/// Lists a word of a scope.
 fn list_word<'a>(
     alloc: Global,
     words: &mut Vec<Vec<Word<'a>>>,
     scope: usize,
     word: Word<'a>,
 ) -> Result<(), AllocError>
-    requires { scope < length words.old.items }
     ensures kept { (s : ℕ) (name : List ℕ) → HasWord (words_at words.old.items s) name → HasWord (words_at words.new.items s) name }
     ensures listed { OnOk result ((name : List ℕ) → is_word name word.entry ≡ true → HasWord (words_at words.new.items scope) name) }
-    ensures longer { length words.old.items ≤ length words.new.items }
-    ensures one_more { OnOk result (length words.new.items ≡ length words.old.items + 1) }
 {
+    make_room(alloc, words, scope)?;
     words[scope].push(word)?;
-    words.push(Vec::new(alloc))?;
     Ok(())
 }
 
 impl<'a> Table<'a> {
-    /// No names yet.
-    pub fn new(alloc: Global) -> Result<Self, AllocError>
-        ensures { IfOk result (λ names. names ≡ []) }
+    /// No names yet. Takes no memory.
+    pub fn new(alloc: Global) -> Self
+        ensures { result ≡ [] }
     {
-        let mut words = Vec::new(alloc);
-        words.push(Vec::new(alloc))?;
-        Ok(Table {
+        Table {
             keys: Numbered::new(alloc),
             records: Vec::new(alloc),
-            words,
+            words: Vec::new(alloc),
             shortcuts: Vec::new(alloc),
             noted: 0,
-        })
+        }
     }
 
     /// The scope's own entry of the name that is declared before the token.
@@ -149,7 +155,7 @@ impl<'a> Table<'a> {
     {
         match found {
             Found::Nothing => Sight::Unseen,
-            Found::Several => Sight::Unclear,
+            Found::Several(one, other) => Sight::Unclear(one, other),
             Found::One(entry) => match self.records.get(entry) {
                 Some(record) if text == record.key.word.text => Sight::Seen(entry),
                 _ => Sight::OtherCase(entry),
@@ -385,13 +391,14 @@ impl<'a> Table<'a> {
     ///
     /// # Errors
     ///
-    /// `AllocError`.
+    /// `AllocError`, and then nothing has changed.
     pub fn add_base(&mut self, alloc: Global, inner: usize, base: Base) -> Result<(), AllocError>
         requires inner { inner ≤ length self.old }
         requires placed { base.entry < length self.old }
         requires late { latest self.old < base.token }
         ensures told { OnOk result (self.new ≡ with_base self.old inner base) }
         ensures count { length self.new ≡ length self.old }
+        ensures err { OnErr result (self.new ≡ self.old) }
     {
         let Some(number) = inner.checked_sub(1) else {
             return Ok(());

@@ -84,5 +84,5 @@ explained at w v e less (inr (none, is)) = inr (less none, is)
 pub not_found : (es : List Entry) (at : At) (seen : Sight) (fault : NameFault) → found_at es at seen ≡ Err fault → worth_found es (found_by seen) ≡ None
 not_found es at Unseen fault is = refl
 not_found es at (OtherCase e) fault is = refl
-not_found es at Unclear fault is = refl
+not_found es at (Unclear a b) fault is = refl
 not_found es at (Seen e) fault is = absurd cc

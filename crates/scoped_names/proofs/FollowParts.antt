@@ -3,7 +3,7 @@ use Rattle.std.proofs.Common.{◌⊎◌, inl, inr, ℕ, List, [], ◌∷◌, ◌
 use Rattle.std.specs.List.{Any}
 use Rattle.name_table.specs.Entry.{Entry}
 use Rattle.scoped_names.specs.Introductions.{StandsFor, introduced, introduced_by, scope_behind}
-use Rattle.scoped_names.specs.Steps.{Step, HasBase, NamesType, NamesException}
+use Rattle.name_steps.specs.Steps.{Step, HasBase, NamesType, NamesException}
 use Rattle.scoped_names.specs.Following.{AllFollow, FindsKnown}
 use Rattle.scoped_names.specs.Holding.{AllHold}
 use Rattle.scoped_names.proofs.Introducing.{any_left, any_right}

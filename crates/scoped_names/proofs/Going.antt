@@ -29,9 +29,9 @@ use Rattle.scoped_names.specs.Faults.{may_reappear, base_added, base_test, based
 use Rattle.scoped_names.specs.IdPragmas.{Said, SetsPrefix, Gives, said_by}
 use Rattle.scoped_names.specs.Meanings.{const_end, const_meant, enum_meant, enumerator_meant, typedef_meant}
 use Rattle.scoped_names.specs.Reading.{Reading, State, Test, passed, ◌>>◌}
-use Rattle.scoped_names.specs.RepositoryIds.{given_to}
+use Rattle.scoped_names.specs.RepositoryIds.{pragma_for}
 use Rattle.scoped_names.specs.Introductions.{Introduction, StandsFor, introduced_by}
-use Rattle.scoped_names.specs.Steps.{Step, Declares, DeclaresConst, DeclaresFeature, DeclaresEnum, DeclaresEnumerator, DeclaresTypedef, HasBase, HasMember, Enters, Leaves, Defines, Says, NamesType, NamesException, HasWorth, IsSize}
+use Rattle.name_steps.specs.Steps.{Step, Declares, DeclaresConst, DeclaresFeature, DeclaresEnum, DeclaresEnumerator, DeclaresTypedef, HasBase, HasMember, Enters, Leaves, Defines, Says, NamesType, NamesException, HasWorth, IsSize}
 use Rattle.scoped_names.specs.Tests.{at, found_at, is_of, kind_in, resolved, value_of_type}
 use Rattle.scoped_names.specs.TypeKinds.{const_type_kind}
 use Rattle.scoped_names.proofs.Introducing.{Does, appears, base_does, below_or_last, declared_does, defined_does, member_does, named_entry, passed_same, same_name, then_ok}
@@ -82,9 +82,6 @@ goes_like n st next same scope = record {
 
 pub goes_same : (n : ℕ) (st next : State) → st ≡ next → Goes n st next
 goes_same n st next is = goes_like n st next (ap (λ s. s.entries) is) (sym (ap (λ s. s.scope) is))
-
-pub passed_goes : (n : ℕ) (st : State) (test : Test) (next : State) → passed st test ≡ Ok next → Goes n st next
-passed_goes n st test next h = goes_same n st next (passed_same st test next h)
 
 declares_goes : (n : ℕ) (m : Meaning) (st next : State) (l : Leaf) (o : Option Entry) → declares_over m st l o ≡ Ok next → n ≤ m.token → Goes n st next
 declares_goes n m st next l None h le =
@@ -149,8 +146,8 @@ said_same st next l None h = let is : st ≡ next = cc in (ap (λ s. s.entries) 
 said_same st next l (Some (SetsPrefix text)) h = prefix_same st next st.scope text (at l) h
 said_same st next l (Some (Gives name given)) h =
     let (e, finds, h1) = then_ok (found_at st.entries (at l) (identifiers_see st.entries l.number st.scope (begins_at_root name) (words name)))
-    (λ e. given_once st.given e given (at l) (given_to st.given e) >> λ ps. let r : Reading = Ok (record st { given = ps }) in r) next h in
-    let (ps, gives, h2) = then_ok (given_once st.given e given (at l) (given_to st.given e)) (λ ps. let r : Reading = Ok (record st { given = ps }) in r) next h1 in
+    (λ e. given_once st.given e given (at l) (pragma_for st.given e) >> λ ps. let r : Reading = Ok (record st { given = ps }) in r) next h in
+    let (ps, gives, h2) = then_ok (given_once st.given e given (at l) (pragma_for st.given e)) (λ ps. let r : Reading = Ok (record st { given = ps }) in r) next h1 in
     let more : State = record st { given = ps } in
     let is : more ≡ next = cc in
     (ap (λ s. s.entries) is, sym (ap (λ s. s.scope) is))

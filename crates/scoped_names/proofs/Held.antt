@@ -24,14 +24,14 @@ use Rattle.scoped_names.specs.Faults.{entry_in, declared as declared_plain, free
 use Rattle.scoped_names.specs.Introductions.{Introduction, Stands, Has, Body, IsEntry, StandsFor, introduced, introduced_by, scope_behind}
 use Rattle.scoped_names.specs.Meanings.{const_end, enumerator_meant, typedef_meant}
 use Rattle.scoped_names.specs.Reading.{State, passed}
-use Rattle.scoped_names.specs.Steps.{Step, Declares, DeclaresEnum, DeclaresEnumerator, DeclaresTypedef, IsNew, DeclaresConst, DeclaresFeature, HasMember, IsUndefined, HasBase, Enters, Defines, Leaves, NamesType, NamesException, HasWorth, IsSize, Says, steps_of}
-use Rattle.scoped_names.specs.Asked.{pieces_of}
+use Rattle.name_steps.specs.Steps.{Step, Declares, DeclaresEnum, DeclaresEnumerator, DeclaresTypedef, IsNew, DeclaresConst, DeclaresFeature, HasMember, IsUndefined, HasBase, Enters, Defines, Leaves, NamesType, NamesException, HasWorth, IsSize, Says, steps_of}
+use Rattle.name_steps.specs.Asked.{pieces_of}
 use Rattle.scoped_names.specs.Whole.{AreNames, Whole, whole}
 use Rattle.scoped_names.proofs.Introduced.{HasLeaf, IsFlat, around_named, declared_once, flat_behind, plain_flat, read_append}
 use Rattle.scoped_names.proofs.Introducing.{all_map, declared_does, passed_same, then_ok}
 use Rattle.scoped_names.specs.Following.{AllFollow, FindsKnown}
 use Rattle.scoped_names.specs.Holding.{AllHold, HasItsWorth, IsThere, asks}
-use Rattle.scoped_names.proofs.Asks.{Asks, IsPlain, all_ask, none as unasked, silent, joined as both_asked, plain, base, valued, declared, featured, undefined, inside, defines}
+use Rattle.name_steps.proofs.Asks.{Asks, IsPlain, all_ask, none as unasked, silent, joined as both_asked, plain, base, valued, declared, featured, undefined, inside, defines}
 use Rattle.scoped_names.proofs.FollowParts.{finds_more}
 use Rattle.scoped_names.proofs.Going.{Goes, all_new, answered, base_goes, const_goes, const_worth, declared_goes, defined_goes, enum_goes, feature_goes, goes_same, member_goes, said_goes}
 use Rattle.scoped_names.proofs.Later.{Later, later_from, later_none, later_on}

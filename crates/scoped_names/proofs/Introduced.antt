@@ -18,12 +18,12 @@ use Rattle.scoped_names.specs.IdPragmas.{Said, SetsPrefix, Gives, said_by}
 use Rattle.scoped_names.specs.Introductions.{Introduction, Stands, Has, Body, IsEntry, StandsFor, clashes, introduced, introduced_by, scope_behind}
 use Rattle.scoped_names.specs.Meanings.{const_meant, enum_meant, enumerator_meant, typedef_meant}
 use Rattle.scoped_names.specs.Reading.{Reading, State, ◌>>◌, passed}
-use Rattle.scoped_names.specs.RepositoryIds.{given_to}
-use Rattle.scoped_names.specs.Steps.{Step, Declares, DeclaresEnum, DeclaresEnumerator, DeclaresTypedef, IsNew, DeclaresConst, DeclaresFeature, HasMember, IsUndefined, HasBase, Enters, Defines, Leaves, Says, steps_of}
+use Rattle.scoped_names.specs.RepositoryIds.{pragma_for}
+use Rattle.name_steps.specs.Steps.{Step, Declares, DeclaresEnum, DeclaresEnumerator, DeclaresTypedef, IsNew, DeclaresConst, DeclaresFeature, HasMember, IsUndefined, HasBase, Enters, Defines, Leaves, Says, steps_of}
 use Rattle.scoped_names.specs.Tests.{at, found_at, value_of_type}
 use Rattle.scoped_names.specs.TypeKinds.{const_type_kind}
 use Rattle.scoped_names.specs.Whole.{AreNames, Whole, whole}
-use Rattle.scoped_names.proofs.Asks.{Asks, IsPlain, all_ask, none as unasked, silent, joined as both_asked, plain, base, valued, declared, featured, undefined, inside, defines}
+use Rattle.name_steps.proofs.Asks.{Asks, IsPlain, all_ask, none as unasked, silent, joined as both_asked, plain, base, valued, declared, featured, undefined, inside, defines}
 use Rattle.scoped_names.proofs.Introducing.{Adds, Does, Grows, Holds, IsKnown, Keeps, Known, adds_both, adds_none, all_map, base_does, declared_does, defined_does, does_none, grows_none, grows_on, keeps_on, known, member_does, named_entry, passed_same, then_ok}
 
 -- ---- pragmas
@@ -40,8 +40,8 @@ said_does st next l None h = does_none st next cc
 said_does st next l (Some (SetsPrefix text)) h = prefix_does st next st.scope text (at l) h
 said_does st next l (Some (Gives name given)) h =
     let (e, finds, h1) = then_ok (found_at st.entries (at l) (identifiers_see st.entries l.number st.scope (begins_at_root name) (words name)))
-    (λ e. given_once st.given e given (at l) (given_to st.given e) >> λ ps. let r : Reading = Ok (record st { given = ps }) in r) next h in
-    let (ps, gives, h2) = then_ok (given_once st.given e given (at l) (given_to st.given e)) (λ ps. let r : Reading = Ok (record st { given = ps }) in r) next h1 in
+    (λ e. given_once st.given e given (at l) (pragma_for st.given e) >> λ ps. let r : Reading = Ok (record st { given = ps }) in r) next h in
+    let (ps, gives, h2) = then_ok (given_once st.given e given (at l) (pragma_for st.given e)) (λ ps. let r : Reading = Ok (record st { given = ps }) in r) next h1 in
     let more : State = record st { given = ps } in
     let is : more ≡ next = cc in
     subst (Does st []) is (record { adds = adds_none (known st); scope = refl })

@@ -9,10 +9,6 @@ pub mod MembersKept
 pub mod WorkedIds
 pub mod FeatureTables
 pub mod Readings
-pub mod Behind
-pub mod Asks
-pub mod Asked
-pub mod ListedSteps
 pub mod Introducing
 pub mod Introduced
 pub mod WorkedFaults

@@ -7,11 +7,11 @@ use Rattle.name_table.specs.Entry.{Entry, around, named, scope_in}
 use Rattle.name_table.specs.Entries.{scope_number}
 use Rattle.name_table.specs.Search.{word}
 use Rattle.scoped_names.specs.Introductions.{scope_behind}
-use Rattle.scoped_names.specs.Steps.{Step, Enters, Leaves}
+use Rattle.name_steps.specs.Steps.{Step, Enters, Leaves}
 use Rattle.scoped_names.proofs.Introduced.{IsFlat, flat_behind, plain_flat}
 use Rattle.scoped_names.proofs.Introducing.{named_entry}
 use Rattle.scoped_names.specs.Holding.{AllHold, Holds}
-use Rattle.scoped_names.proofs.Asks.{Asks, none, silent, joined, plain, base, valued, declared, featured, undefined, inside, defines}
+use Rattle.name_steps.proofs.Asks.{Asks, none, silent, joined, plain, base, valued, declared, featured, undefined, inside, defines}
 
 -- the scope behind steps
 abbrev pub scope_past : List Entry → ℕ → List Step → ℕ

@@ -8,9 +8,9 @@ use Rattle.scoped_names.specs.declared.fault.NameFault.{NameFault}
 use Rattle.scoped_names.specs.Faults.{step_read, steps_read}
 use Rattle.scoped_names.specs.Reading.{Reading, State, ◌>>◌}
 use Rattle.scoped_names.specs.Rising.{Rises, reached}
-use Rattle.scoped_names.specs.Steps.{Step, Leaves, definition_steps, steps_of}
+use Rattle.name_steps.specs.Steps.{Step, Leaves, definition_steps, steps_of}
 use Rattle.scoped_names.proofs.Introducing.{then_ok}
-use Rattle.scoped_names.proofs.ListedSteps.{module_listed}
+use Rattle.name_steps.proofs.ListedSteps.{module_listed}
 use Rattle.scoped_names.proofs.Rising.{Follows-mono, Rises-mono}
 use Rattle.scoped_names.proofs.Steady.{step_low}
 

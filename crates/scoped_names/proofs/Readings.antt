@@ -17,8 +17,8 @@ use Rattle.scoped_names.specs.declared.fault.NameFault.{NameFault}
 use Rattle.scoped_names.specs.declared.fault.NameFault.TheVariants.{BadBase}
 use Rattle.scoped_names.specs.declared.fault.Unfit.TheVariants.{NotDefined, NamedTwice, FeatureTwice}
 use Rattle.scoped_names.specs.Faults.{declared_as, declares_over, entry_in, free_test, is_left_open, left_open, reappears, step_read, steps_read, taken_by}
-use Rattle.scoped_names.specs.Reading.{State, Tells, Test, ◌>>◌}
-use Rattle.scoped_names.specs.Steps.{Step}
+use Rattle.scoped_names.specs.Reading.{Checks, State, Tells, Test, ◌>>◌}
+use Rattle.name_steps.specs.Steps.{Step}
 use Rattle.scoped_names.specs.Tests.{at_entry, names_test, operand_test, operands_test}
 
 -- ---- one behind another
@@ -40,19 +40,17 @@ abbrev pub all : {T : Type 0} → (T → Test) → List T → Test
 all test [] = Ok tt
 all test (x ∷ xs) = test x >> λ u. all test xs
 
-pub all_on : {T : Type 0} (test : T → Test) (xs : List T) (k : ℕ) (x : T) → k < length xs → x ≡ get_or xs k x
-    → test x ≡ Ok tt → all test (drop (k + 1) xs) ≡ all test (drop k xs)
-all_on test xs k x lt here is = sym (ap (all test) (split_at xs k x lt here) ∙ ap (λ r. r >> λ u. all test (drop (k + 1) xs)) is)
-
-pub all_off : {T : Type 0} (test : T → Test) (xs : List T) (k : ℕ) (x : T) (fault : NameFault) → k < length xs → x ≡ get_or xs k x
-    → test x ≡ Err fault → all test (drop k xs) ≡ Err fault
-all_off test xs k x fault lt here is = ap (all test) (split_at xs k x lt here) ∙ ap (λ r. r >> λ u. all test (drop (k + 1) xs)) is
-
 -- ---- clauses of functions
 
 pub or_told : {A B C : Type 0} → A ⊎ B → (B → C) → A ⊎ C
 or_told (inl a) tells = inl a
 or_told (inr b) tells = inr (tells b)
+
+-- what a test lets pass, and then a value
+pub checked_then : {T S : Type 0} (r : Result T NameFault) (test : Test) (x : S) → Checks r test → Tells r x (test >> λ u. Ok x)
+checked_then (Ok y) test x h = ap (λ t. t >> λ u. Ok x) h
+checked_then (Err fault) test x (inl memory) = inl memory
+checked_then (Err fault) test x (inr is) = inr (ap (λ t. t >> λ u. Ok x) is)
 
 -- ---- what is left open
 

@@ -14,11 +14,11 @@ use Rattle.idl_tree.specs.Yields.{boolean_text, const_expr_yield, expr_yield, id
 use Rattle.idl_tree.specs.Starts.{expr_start, name_start, root_or}
 use Rattle.idl_tree.proofs.SpelledForms.{AreNumbered-append, Spec-length, Spec-numbers, kept_number}
 use Rattle.name_table.specs.declared.entry.EntryKind.{EntryKind}
-use Rattle.scoped_names.specs.Asked.{pieces_of}
+use Rattle.name_steps.specs.Asked.{pieces_of}
 use Rattle.scoped_names.specs.Meanings.{const_end}
 use Rattle.scoped_names.specs.Rising.{Follows, Rises, reached}
-use Rattle.scoped_names.specs.Steps.{Step, Declares, DeclaresEnum, DeclaresEnumerator, DeclaresTypedef, IsNew, DeclaresConst, DeclaresFeature, HasMember, IsUndefined, HasBase, Enters, Defines, Leaves, NamesType, NamesException, HasWorth, IsSize, Says, steps_of}
-use Rattle.scoped_names.proofs.Asks.{Asks, IsPlain, all_ask, none, silent as unasked, joined as both_asked, plain, base, valued, declared, featured, undefined, inside, defines}
+use Rattle.name_steps.specs.Steps.{Step, Declares, DeclaresEnum, DeclaresEnumerator, DeclaresTypedef, IsNew, DeclaresConst, DeclaresFeature, HasMember, IsUndefined, HasBase, Enters, Defines, Leaves, NamesType, NamesException, HasWorth, IsSize, Says, steps_of}
+use Rattle.name_steps.proofs.Asks.{Asks, IsPlain, all_ask, none, silent as unasked, joined as both_asked, plain, base, valued, declared, featured, undefined, inside, defines}
 
 -- ---- steps that rise from a token rise from one before it
 

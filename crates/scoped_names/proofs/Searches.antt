@@ -18,23 +18,27 @@ use Rattle.scoped_names.proofs.Later.{Later, bare}
 abbrev IsIn : ℕ → Found → Type 0
 IsIn n Nothing = Unit {0}
 IsIn n (One e) = e < n
-IsIn n Several = Unit {0}
+IsIn n (Several a b) = (a < n) × (b < n)
 
 both_in : (n : ℕ) (a b : Found) → IsIn n a → IsIn n b → IsIn n (both a b)
 both_in n Nothing b h k = k
 both_in n (One e) Nothing h k = h
 both_in n (One e) (One f) h k = by (nat_eq e f)
   where
-    by : (t : Bool) → IsIn n (cond t (One e) Several)
+    by : (t : Bool) → IsIn n (cond t (One e) (Several e f))
     by true = h
-    by false = tt
-both_in n (One e) Several h k = tt
-both_in n Several b h k = tt
+    by false = (h, k)
+both_in n (One e) (Several a b) h k = (h, by (nat_eq e a))
+  where
+    by : (t : Bool) → cond t b a < n
+    by true = k.1
+    by false = k.0
+both_in n (Several a b) c h k = h
 
 or_else_in : (n : ℕ) (a b : Found) → IsIn n a → IsIn n b → IsIn n (or_else a b)
 or_else_in n Nothing b h k = k
 or_else_in n (One e) b h k = h
-or_else_in n Several b h k = tt
+or_else_in n (Several a b) c h k = h
 
 module _ (es : List Entry) where
   own_in : (m scope : ℕ) (w : List ℕ) → IsIn (length es) (own es m scope w)
@@ -74,7 +78,7 @@ module _ (es : List Entry) where
 abbrev pub IsSeenIn : ℕ → Sight → Type 0
 IsSeenIn n Unseen = Unit {0}
 IsSeenIn n (OtherCase e) = e < n
-IsSeenIn n Unclear = Unit {0}
+IsSeenIn n (Unclear a b) = (a < n) × (b < n)
 IsSeenIn n (Seen e) = e < n
 
 module _ (es : List Entry) where
@@ -85,13 +89,13 @@ module _ (es : List Entry) where
       by : (t : Bool) → IsSeenIn (length es) (cond t (Seen e) (OtherCase e))
       by true = h
       by false = h
-  sight_in w Several h = tt
+  sight_in w (Several a b) h = h
 
   inside_in : (m : ℕ) (seen : Sight) (ws : List (List ℕ)) → IsSeenIn (length es) seen → IsSeenIn (length es) (inside es m seen ws)
   inside_in m seen [] h = h
   inside_in m Unseen (w ∷ ws) h = tt
   inside_in m (OtherCase e) (w ∷ ws) h = h
-  inside_in m Unclear (w ∷ ws) h = tt
+  inside_in m (Unclear a b) (w ∷ ws) h = h
   inside_in m (Seen e) (w ∷ ws) h =
       inside_in m (sight es w (within es m (suc e) w)) ws (sight_in w (within es m (suc e) w) (within_in es m (suc e) w))
 
@@ -149,13 +153,13 @@ module _ (n : ℕ) (es fs : List Entry) (l : Later n es fs) where
   sight_stays : (w : List ℕ) (x : Found) → IsIn (length es) x → sight fs w x ≡ sight es w x
   sight_stays w Nothing h = refl
   sight_stays w (One e) h = ap (λ t. cond t (Seen e) (OtherCase e)) (stays (is_spelled w) (λ x. refl) l e h)
-  sight_stays w Several h = refl
+  sight_stays w (Several a b) h = refl
 
   inside_stays : (seen : Sight) (ws : List (List ℕ)) → inside fs n seen ws ≡ inside es n seen ws
   inside_stays seen [] = refl
   inside_stays Unseen (w ∷ ws) = refl
   inside_stays (OtherCase e) (w ∷ ws) = refl
-  inside_stays Unclear (w ∷ ws) = refl
+  inside_stays (Unclear a b) (w ∷ ws) = refl
   inside_stays (Seen e) (w ∷ ws) =
       ap (λ x. inside fs n (sight fs w x) ws) (within_stays (suc e) w)
       ∙ ap (λ x. inside fs n x ws) (sight_stays w (within es n (suc e) w) (within_in es n (suc e) w))

@@ -12,5 +12,5 @@ use Rattle.scoped_names.specs.Tests.{found_at}
 pub found_finds : (es : List Entry) (at : At) (seen : Sight) (e : ℕ) → (found_at es at seen ≡ Ok e) ↔ (found_by seen ≡ One e)
 found_finds es at Unseen e = (λ h. cc, λ h. cc)
 found_finds es at (OtherCase k) e = (λ h. cc, λ h. cc)
-found_finds es at Unclear e = (λ h. cc, λ h. cc)
+found_finds es at (Unclear a b) e = (λ h. cc, λ h. cc)
 found_finds es at (Seen k) e = (λ h. cc, λ h. cc)

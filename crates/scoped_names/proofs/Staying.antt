@@ -16,11 +16,11 @@ use Rattle.name_table.specs.Entry.{Entry, meant_in, worth_in}
 use Rattle.name_table.specs.Search.{found_by, sees}
 use Rattle.scoped_names.specs.declared.fault.Flaw.TheVariants.{NoConstant, NoWorth, NotOfType, NotPositive}
 use Rattle.scoped_names.specs.declared.fault.NameFault.{NameFault}
-use Rattle.scoped_names.specs.declared.fault.NameFault.TheVariants.{CaseDiffers, NotAType}
+use Rattle.scoped_names.specs.declared.fault.NameFault.TheVariants.{Ambiguous, CaseDiffers, NotAType}
 use Rattle.scoped_names.specs.Constants.{meant_found, named_worth, of_type, worth_found}
 use Rattle.scoped_names.specs.Faults.{is_interface}
 use Rattle.scoped_names.specs.Reading.{Test, ◌>>◌}
-use Rattle.scoped_names.specs.Steps.{Step, DeclaresConst, HasBase, NamesType, NamesException, HasWorth, IsSize}
+use Rattle.name_steps.specs.Steps.{Step, DeclaresConst, HasBase, NamesType, NamesException, HasWorth, IsSize}
 use Rattle.scoped_names.specs.Tests.{at, at_entry, constant_test, found_at, found_of, is_exception, is_of, is_type, kind_in, names_test, operands_test, or_bad, resolved, size_read, value_of_type, value_read}
 use Rattle.scoped_names.specs.TypeKinds.{const_type_kind, known}
 use Rattle.scoped_names.specs.Following.{FindsKnown}
@@ -82,7 +82,9 @@ module _ (n : ℕ) (es fs : List Entry) (l : Later n es fs) (scope : ℕ) (is : 
       by : (seen : Sight) → IsSeenIn (length es) seen → found_at fs (at (name_start name)) seen ≡ found_at es (at (name_start name)) seen
       by Unseen lt = refl
       by (OtherCase e) lt = ap (λ o. Err (CaseDiffers (at (name_start name)) o)) (stays at_entry (λ x. refl) l e lt)
-      by Unclear lt = refl
+      by (Unclear a b) lt =
+          ap (λ o. let r : Result ℕ NameFault = Err (Ambiguous (at (name_start name)) o (at_entry (slice_get fs b))) in r) (stays at_entry (λ x. refl) l a lt.0)
+          ∙ ap (λ o. let r : Result ℕ NameFault = Err (Ambiguous (at (name_start name)) (at_entry (slice_get es a)) o) in r) (stays at_entry (λ x. refl) l b lt.1)
       by (Seen e) lt = refl
 
   resolved_in : (name : ScopedName) (e : ℕ) → resolved es scope name ≡ Ok e → e < length es
@@ -91,7 +93,7 @@ module _ (n : ℕ) (es fs : List Entry) (l : Later n es fs) (scope : ℕ) (is : 
       by : (seen : Sight) → IsSeenIn (length es) seen → found_at es (at (name_start name)) seen ≡ Ok e → e < length es
       by Unseen lt h = absurd cc
       by (OtherCase k) lt h = absurd cc
-      by Unclear lt h = absurd cc
+      by (Unclear a b) lt h = absurd cc
       by (Seen k) lt h = let same : k ≡ e = cc in omega arith
 
   -- what is asked of the entry that a name finds
@@ -115,7 +117,7 @@ module _ (n : ℕ) (es fs : List Entry) (l : Later n es fs) (scope : ℕ) (is : 
       by : (seen : Sight) → IsSeenIn (length es) seen → worth_found fs (found_by seen) ≡ worth_found es (found_by seen)
       by Unseen lt = refl
       by (OtherCase e) lt = refl
-      by Unclear lt = refl
+      by (Unclear a b) lt = refl
       by (Seen e) lt = stays worth_in (λ x. refl) l e lt
 
   meant_stays : (name : ScopedName) → (name_start name).number ≤ n → meant_found fs (found_by (sees fs scope name)) ≡ meant_found es (found_by (sees es scope name))
@@ -124,7 +126,7 @@ module _ (n : ℕ) (es fs : List Entry) (l : Later n es fs) (scope : ℕ) (is : 
       by : (seen : Sight) → IsSeenIn (length es) seen → meant_found fs (found_by seen) ≡ meant_found es (found_by seen)
       by Unseen lt = refl
       by (OtherCase e) lt = refl
-      by Unclear lt = refl
+      by (Unclear a b) lt = refl
       by (Seen e) lt = stays meant_in (λ x. refl) l e lt
 
   mutual

@@ -16,9 +16,9 @@ use Rattle.scoped_names.specs.Faults.{base_added, base_test, based, declared, de
 use Rattle.scoped_names.specs.IdPragmas.{Said, SetsPrefix, Gives, said_by}
 use Rattle.scoped_names.specs.Meanings.{const_meant, enum_meant, enumerator_meant, typedef_meant}
 use Rattle.scoped_names.specs.Reading.{Reading, State, Test, passed, ◌>>◌}
-use Rattle.scoped_names.specs.RepositoryIds.{given_to}
+use Rattle.scoped_names.specs.RepositoryIds.{pragma_for}
 use Rattle.scoped_names.specs.Rising.{Follows, reached}
-use Rattle.scoped_names.specs.Steps.{Step, Declares, DeclaresEnum, DeclaresEnumerator, DeclaresTypedef, IsNew, DeclaresConst, DeclaresFeature, HasMember, IsUndefined, HasBase, Enters, Defines, Leaves, NamesType, NamesException, HasWorth, IsSize, Says}
+use Rattle.name_steps.specs.Steps.{Step, Declares, DeclaresEnum, DeclaresEnumerator, DeclaresTypedef, IsNew, DeclaresConst, DeclaresFeature, HasMember, IsUndefined, HasBase, Enters, Defines, Leaves, NamesType, NamesException, HasWorth, IsSize, Says}
 use Rattle.scoped_names.specs.Tests.{at, found_at, resolved, value_of_type}
 use Rattle.scoped_names.specs.TypeKinds.{const_type_kind}
 use Rattle.scoped_names.proofs.Introducing.{appears, passed_same, then_ok}
@@ -57,8 +57,8 @@ said_low st l None next h = let is : st ≡ next = cc in subst (IsLow st) is (om
 said_low st l (Some (SetsPrefix text)) next h = prefix_low st st.scope text (at l) next h
 said_low st l (Some (Gives name given)) next h =
     let (e, finds, h1) = then_ok (found_at st.entries (at l) (identifiers_see st.entries l.number st.scope (begins_at_root name) (words name)))
-    (λ e. given_once st.given e given (at l) (given_to st.given e) >> λ ps. let r : Reading = Ok (record st { given = ps }) in r) next h in
-    let (ps, gives, h2) = then_ok (given_once st.given e given (at l) (given_to st.given e)) (λ ps. let r : Reading = Ok (record st { given = ps }) in r) next h1 in
+    (λ e. given_once st.given e given (at l) (pragma_for st.given e) >> λ ps. let r : Reading = Ok (record st { given = ps }) in r) next h in
+    let (ps, gives, h2) = then_ok (given_once st.given e given (at l) (pragma_for st.given e)) (λ ps. let r : Reading = Ok (record st { given = ps }) in r) next h1 in
     let more : State = record st { given = ps } in
     let is : more ≡ next = cc in
     subst (IsLow st) is (omega arith)

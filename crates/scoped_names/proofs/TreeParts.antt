@@ -26,11 +26,11 @@ use Rattle.name_table.specs.Search.{word}
 use Rattle.name_table.specs.declared.entry.EntryKind.TheVariants as Kinds
 use Rattle.idl_tree.specs.declared.types.ParamType.{ParamType}
 use Rattle.idl_tree.specs.declared.definitions.Interface.TheVariants.{Defined}
-use Rattle.scoped_names.specs.Steps.{Step, DeclaresFeature, DeclaresTypedef, Defines, Enters, HasBase, HasMember, IsSize, Leaves, NamesException, attribute_steps, attributes_steps, case_steps, declarator_steps, definition_steps, except_steps, export_steps, interface_steps, label_steps, member_steps, operation_steps, optional_parts, param_steps, param_type_steps, raises_steps, result_steps, size_step, steps_of, struct_steps, switch_steps, type_steps, typedef_steps, union_steps}
+use Rattle.name_steps.specs.Steps.{Step, DeclaresFeature, DeclaresTypedef, Defines, Enters, HasBase, HasMember, IsSize, Leaves, NamesException, attribute_steps, attributes_steps, case_steps, declarator_steps, definition_steps, except_steps, export_steps, interface_steps, label_steps, member_steps, operation_steps, optional_parts, param_steps, param_type_steps, raises_steps, result_steps, size_step, steps_of, struct_steps, switch_steps, type_steps, typedef_steps, union_steps}
 use Rattle.scoped_names.proofs.Introducing.{all_map}
-use Rattle.scoped_names.proofs.ListedSteps.{module_listed, struct_listed, union_listed}
+use Rattle.name_steps.proofs.ListedSteps.{module_listed, struct_listed, union_listed}
 use Rattle.scoped_names.specs.Holding.{AllHold, Holds}
-use Rattle.scoped_names.proofs.Asks.{definition_asks, export_asks, label_asks, param_asks, param_type_asks, result_asks, switch_asks, type_asks}
+use Rattle.name_steps.proofs.Asks.{definition_asks, export_asks, label_asks, param_asks, param_type_asks, result_asks, switch_asks, type_asks}
 use Rattle.scoped_names.proofs.Parts.{Closed, both_closed, both_hold, closed, each_closed, each_holds, each_step_closed, each_step_holds, holds_split, inside_holds, one_closed}
 
 -- ---- members

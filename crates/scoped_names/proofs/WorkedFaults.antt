@@ -18,9 +18,9 @@ use Rattle.name_table.specs.Entry.{Entry}
 use Rattle.scoped_names.specs.Introductions.{clashes, introduced}
 use Rattle.scoped_names.specs.Faults.{left_open, never_defined as never_defined_test, nothing_yet, steps_read}
 use Rattle.scoped_names.specs.Reading.{Reading, ◌>>◌, passed}
-use Rattle.scoped_names.specs.Steps.{definition_steps, module_body, steps_of}
+use Rattle.name_steps.specs.Steps.{definition_steps, module_body, steps_of}
 use Rattle.scoped_names.specs.Whole.{Whole, names_of, whole}
-use Rattle.scoped_names.proofs.ListedSteps.{module_listed}
+use Rattle.name_steps.proofs.ListedSteps.{module_listed}
 
 -- any leaf, with this token in its place
 abbrev leaf : Leaf → (k : Kind) → (text : List ℕ) → HasForm k text → ℕ → ℕ → Leaf
@@ -122,7 +122,7 @@ prefix_inside l m p ds is =
 -- #pragma ID I "y"
 another_id : (l : Leaf) (i : HasForm Ident (codes "I")) (x : HasForm PragmaToken (codes "#pragma ID I \"x\"")) (y : HasForm PragmaToken (codes "#pragma ID I \"y\""))
     → names_of (interface l (codes "I") i 1 1 ∷ pragma l (codes "#pragma ID I \"x\"") x 3 2 ∷ pragma l (codes "#pragma ID I \"y\"") y 4 3 ∷ [])
-    ≡ Err (IdTwice (place 4 3))
+    ≡ Err (IdTwice (place 4 3) (place 3 2))
 another_id l i x y = refl
 
 -- #pragma ID I "x"

@@ -16,7 +16,7 @@ use Rattle.name_table.specs.declared.entry.EntryKind.TheVariants as Kinds
 use Rattle.name_table.specs.Entry.{Entry}
 use Rattle.name_table.specs.Entries.{scope_of}
 use Rattle.scoped_names.specs.Introductions.{Stands, Has, Body, introduced}
-use Rattle.scoped_names.specs.Steps.{DeclaresEnumerator, steps_of}
+use Rattle.name_steps.specs.Steps.{DeclaresEnumerator, steps_of}
 
 -- enum e {a, b};
 enumeration : (es : List Entry) (e a b : Leaf) (more : Vec Leaf Global) → more.items ≡ b ∷ []

@@ -19,7 +19,7 @@ use Rattle.name_table.specs.Search.{finds}
 abbrev pub worth_found : List Entry → Found → Option Constant
 worth_found es Nothing = None
 worth_found es (One e) = worth_in (slice_get es e)
-worth_found es Several = None
+worth_found es (Several a b) = None
 
 -- a name is worth what the constant or the enumerator is worth that it finds
 abbrev pub named_worth : List Entry → ℕ → ScopedName → Option Constant
@@ -42,7 +42,7 @@ Explains here w fault = (fault ≡ NoMemory) ⊎ ((w ≡ None) × (fault ≡ Bad
 abbrev pub meant_found : List Entry → Found → Option ConstKind
 meant_found es Nothing = None
 meant_found es (One e) = meant_in (slice_get es e)
-meant_found es Several = None
+meant_found es (Several a b) = None
 
 -- an array is none
 abbrev pub declarator_kind : Option ConstKind → Declarator → Option ConstKind

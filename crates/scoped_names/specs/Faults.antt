@@ -31,10 +31,10 @@ use Rattle.scoped_names.specs.TypeKinds.{const_type_kind, simple_type_kind}
 use Rattle.name_table.specs.Entries.{entry_declared, plain, scope_of, with_base}
 use Rattle.name_table.specs.OwnNames.{is_own_name}
 use Rattle.scoped_names.specs.Meanings.{const_meant, enum_meant, enumerator_meant, typedef_meant}
-use Rattle.scoped_names.specs.RepositoryIds.{GivenId, IdPragma, given_to}
+use Rattle.scoped_names.specs.RepositoryIds.{GivenId, IdPragma, pragma_for}
 use Rattle.scoped_names.specs.IdPragmas.{Said, SetsPrefix, Gives, is_same_given, said_by}
 use Rattle.scoped_names.specs.Reading.{Member as Field, State, Reading, Test, ◌>>◌, passed}
-use Rattle.scoped_names.specs.Steps.{Step, Declares, DeclaresEnum, DeclaresEnumerator, DeclaresTypedef, IsNew, DeclaresConst, DeclaresFeature, HasMember, IsUndefined, HasBase, Enters, Defines, Leaves, NamesType, NamesException, HasWorth, IsSize, Says, steps_of}
+use Rattle.name_steps.specs.Steps.{Step, Declares, DeclaresEnum, DeclaresEnumerator, DeclaresTypedef, IsNew, DeclaresConst, DeclaresFeature, HasMember, IsUndefined, HasBase, Enters, Defines, Leaves, NamesType, NamesException, HasWorth, IsSize, Says, steps_of}
 use Rattle.scoped_names.specs.Tests.{at, at_entry, found_at, is_of, raised_test, resolved, size_read, type_name_test, value_of_type, value_read}
 
 -- ---- names that are taken
@@ -161,7 +161,7 @@ defined_here st l = undefined_test st st.scope l >> λ u. Ok (record st { define
 abbrev pub free_of : List Entry → Leaf → Found → Test
 free_of es l Nothing = Ok tt
 free_of es l (One e) = Err (Collides (at l) (at_entry (slice_get es e)))
-free_of es l Several = Err (Collides (at l) None)
+free_of es l (Several a b) = Err (Collides (at l) (at_entry (slice_get es a)))
 
 -- an operation or attribute, whose name isn't that of one that the interface inherits
 abbrev pub feature_declared : EntryKind → State → Leaf → Reading
@@ -200,10 +200,14 @@ base_added st inner name = resolved st.entries st.scope name >> λ e.
 
 -- ---- pragmas for repository ids
 
--- what is given to an entry once; what it has already may be given to it again
-abbrev pub given_once : List IdPragma → ℕ → GivenId → At → Option GivenId → Result (List IdPragma) NameFault
-given_once ps entry given here None = Ok (ps ++ record { entry = entry; given = given } ∷ [])
-given_once ps entry given here (Some other) = (if is_same_given other given then Ok ps else Err (IdTwice here))
+-- what is given already may be given again
+abbrev pub again_test : GivenId → At → GivenId → At → Test
+again_test first there given here = (if is_same_given first given then Ok tt else Err (IdTwice here there))
+
+-- what is given to an entry once
+abbrev pub given_once : List IdPragma → ℕ → GivenId → At → Option IdPragma → Result (List IdPragma) NameFault
+given_once ps entry given here None = Ok (ps ++ record { entry = entry; given = given; at = here } ∷ [])
+given_once ps entry given here (Some first) = again_test first.given first.at given here >> λ u. Ok ps
 
 -- prefixes are set in the file's scope alone
 abbrev pub prefix_set : State → ℕ → List ℕ → At → Reading
@@ -215,7 +219,7 @@ said_read st l None = Ok st
 said_read st l (Some (SetsPrefix text)) = prefix_set st st.scope text (at l)
 said_read st l (Some (Gives name given)) =
     found_at st.entries (at l) (identifiers_see st.entries l.number st.scope (begins_at_root name) (words name)) >> λ e.
-    given_once st.given e given (at l) (given_to st.given e) >> λ ps. Ok (record st { given = ps })
+    given_once st.given e given (at l) (pragma_for st.given e) >> λ ps. Ok (record st { given = ps })
 
 -- ---- steps
 

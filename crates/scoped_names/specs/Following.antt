@@ -3,7 +3,7 @@ use Rattle.std.specs.Prelude.{◌≡◌, ◌⊎◌, ℕ, List, [], ◌∷◌, Ok
 use Rattle.std.specs.List.{Any}
 use Rattle.name_table.specs.Entry.{Entry}
 use Rattle.scoped_names.specs.Introductions.{StandsFor, introduced_by, scope_behind}
-use Rattle.scoped_names.specs.Steps.{Step, HasBase, NamesType, NamesException}
+use Rattle.name_steps.specs.Steps.{Step, HasBase, NamesType, NamesException}
 use Rattle.scoped_names.specs.Tests.{resolved}
 
 -- what the name of a step finds is known, if it is the name of a type, an exception or a base

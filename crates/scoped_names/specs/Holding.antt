@@ -7,7 +7,7 @@ use Rattle.name_table.specs.Search.{word}
 use Rattle.scoped_names.specs.Faults.{entry_in, is_interface}
 use Rattle.scoped_names.specs.Introductions.{IsEntry, introduced_by, scope_behind}
 use Rattle.scoped_names.specs.Reading.{Test, ◌>>◌}
-use Rattle.scoped_names.specs.Steps.{Step, DeclaresConst, HasBase, Enters, NamesType, NamesException, HasWorth, IsSize}
+use Rattle.name_steps.specs.Steps.{Step, DeclaresConst, HasBase, Enters, NamesType, NamesException, HasWorth, IsSize}
 use Rattle.scoped_names.specs.Tests.{found_of, raised_test, size_read, type_name_test, value_of_type, value_read}
 use Rattle.scoped_names.specs.TypeKinds.{const_type_kind}
 

@@ -10,7 +10,7 @@ use Rattle.name_table.specs.Entry.{Entry, around, named}
 use Rattle.name_table.specs.Entries.{scope_of}
 use Rattle.name_table.specs.Search.{word}
 use Rattle.scoped_names.specs.Faults.{may_reappear}
-use Rattle.scoped_names.specs.Steps.{Step, Declares, DeclaresEnum, DeclaresEnumerator, DeclaresTypedef, DeclaresConst, DeclaresFeature, HasMember, Enters, Defines, Leaves}
+use Rattle.name_steps.specs.Steps.{Step, Declares, DeclaresEnum, DeclaresEnumerator, DeclaresTypedef, DeclaresConst, DeclaresFeature, HasMember, Enters, Defines, Leaves}
 
 pub data Introduction : Type 0 where
   -- an identifier that stands for something of the kind

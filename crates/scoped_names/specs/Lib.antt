@@ -6,14 +6,11 @@ pub mod TypeKinds
 pub mod Meanings
 pub mod RepositoryIds
 pub mod IdPragmas
-pub mod Steps
 pub mod Faults
 pub mod Whole
 pub mod Introductions
-pub mod Asked
 pub mod Rising
 pub mod IdsKept
 pub mod StateKept
-pub mod StepsKept
 pub mod Holding
 pub mod Following

@@ -4,16 +4,18 @@
 use Rattle.std.specs.Prelude.{ℕ, zero, suc, cond, nat_eq, List, [], ◌∷◌, ◌++◌, Option, Some, None, slice_get, codes}
 use Rattle.std.specs.List.{flat_map}
 use Rattle.name_table.specs.Entry.{Entry, around, name_in, prefix_in}
+use Rattle.scoped_names.specs.declared.fault.At.{At}
 
 -- what a pragma gives to a name: its whole id, or its version
 pub data GivenId : Type 0 where
   WholeId : List ℕ → GivenId
   VersionOf : List ℕ → GivenId
 
--- what is given to an entry
+-- what is given to an entry, and where it is said first
 pub record IdPragma : Type 0 where
   pub entry : ℕ
   pub given : GivenId
+  pub at : At
 
 -- an empty prefix is none
 abbrev pub prefix_part : List ℕ → List ℕ
@@ -39,10 +41,18 @@ abbrev pub idl_format : List ℕ → List (List ℕ) → List ℕ → List ℕ
 idl_format prefix names version =
     codes "IDL:" ++ prefix_part prefix ++ with_slashes names ++ codes ":" ++ version
 
--- what is given to the entry, to which one thing is given at most
+-- the pragma for the entry, to which one thing is given at most
+abbrev pub pragma_for : List IdPragma → ℕ → Option IdPragma
+pragma_for [] e = None
+pragma_for (p ∷ ps) e = cond (nat_eq e p.entry) (Some p) (pragma_for ps e)
+
+abbrev pub given_in : Option IdPragma → Option GivenId
+given_in None = None
+given_in (Some p) = Some p.given
+
+-- what is given to the entry
 abbrev pub given_to : List IdPragma → ℕ → Option GivenId
-given_to [] e = None
-given_to (p ∷ ps) e = cond (nat_eq e p.entry) (Some p.given) (given_to ps e)
+given_to ps e = given_in (pragma_for ps e)
 
 abbrev pub id_by : Option GivenId → List ℕ → List (List ℕ) → List ℕ
 id_by None prefix names = idl_format prefix names (codes "1.0")

@@ -39,7 +39,7 @@ abbrev pub found_at : List Entry → At → Sight → Result ℕ NameFault
 found_at es here (Seen e) = Ok e
 found_at es here Unseen = Err (Unknown here)
 found_at es here (OtherCase e) = Err (CaseDiffers here (at_entry (slice_get es e)))
-found_at es here Unclear = Err (Ambiguous here)
+found_at es here (Unclear a b) = Err (Ambiguous here (at_entry (slice_get es a)) (at_entry (slice_get es b)))
 
 -- the entry that a name finds that stands in the scope
 abbrev pub resolved : List Entry → ℕ → ScopedName → Result ℕ NameFault

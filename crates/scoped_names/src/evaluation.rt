@@ -92,7 +92,11 @@ pub(crate) fn found_at(table: &Table<'_>, at: At, seen: Sight) -> Result<usize, 
             at,
             other: declared_at(table, entry),
         }),
-        Sight::Unclear => Err(NameFault::Ambiguous { at }),
+        Sight::Unclear(one, other) => Err(NameFault::Ambiguous {
+            at,
+            one: declared_at(table, one),
+            other: declared_at(table, other),
+        }),
     }
 }
 

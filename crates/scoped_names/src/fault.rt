@@ -68,36 +68,65 @@ pub enum NameFault {
     /// Nothing of the name is declared before it, or a type that was declared ahead is never
     /// defined.
     #[error("20 Unknown line {at}")]
-    Unknown { at: At },
+    Unknown {
+        at: At,
+    },
     /// The scope has another declaration of the name, or the name is that of the scope itself, or a
     /// second definition. The other declaration is told where it is one.
     #[error("21 Collides line {at}")]
-    Collides { at: At, other: Option<At> },
+    Collides {
+        at: At,
+        other: Option<At>,
+    },
     /// The name is declared in another case.
     #[error("22 CaseDiffers line {at}")]
-    CaseDiffers { at: At, other: Option<At> },
-    /// Two bases of an interface give different entries.
+    CaseDiffers {
+        at: At,
+        other: Option<At>,
+    },
+    /// Two bases of an interface give different entries, of which these are the first two.
     #[error("23 Ambiguous line {at}")]
-    Ambiguous { at: At },
+    Ambiguous {
+        at: At,
+        one: Option<At>,
+        other: Option<At>,
+    },
     /// The name is that of no type, or of no exception where one has to stand.
     #[error("24 NotAType line {at}")]
-    NotAType { at: At, found: Option<EntryKind> },
-    /// Two pragmas give a name different ids or versions.
+    NotAType {
+        at: At,
+        found: Option<EntryKind>,
+    },
+    /// Two pragmas give a name different ids or versions. The first of them is told too.
     #[error("25 IdTwice line {at}")]
-    IdTwice { at: At },
+    IdTwice {
+        at: At,
+        other: At,
+    },
     /// A constant expression has no value, or none that its place allows.
     #[error("26 BadConstant line {at}")]
-    BadConstant { at: At, why: Flaw },
+    BadConstant {
+        at: At,
+        why: Flaw,
+    },
     /// A base is no interface that was defined before, or is listed twice, or has an operation or
     /// attribute of the name of another base's.
     #[error("27 BadBase line {at}")]
-    BadBase { at: At, why: Unfit },
+    BadBase {
+        at: At,
+        why: Unfit,
+    },
     /// A prefix stands in a scope other than the file's.
     #[error("28 PrefixInScope line {at}")]
-    PrefixInScope { at: At },
+    PrefixInScope {
+        at: At,
+    },
     /// A type that was declared ahead appears again under another prefix.
     #[error("29 PrefixDiffers line {at}")]
-    PrefixDiffers { at: At, other: Option<At> },
+    PrefixDiffers {
+        at: At,
+        other: Option<At>,
+    },
     /// Memory was refused.
     #[error("no memory")]
     NoMemory,
@@ -110,9 +139,9 @@ impl NameFault {
             NameFault::Unknown { at }
             | NameFault::Collides { at, .. }
             | NameFault::CaseDiffers { at, .. }
-            | NameFault::Ambiguous { at }
+            | NameFault::Ambiguous { at, .. }
             | NameFault::NotAType { at, .. }
-            | NameFault::IdTwice { at }
+            | NameFault::IdTwice { at, .. }
             | NameFault::BadConstant { at, .. }
             | NameFault::BadBase { at, .. }
             | NameFault::PrefixInScope { at }

@@ -3,24 +3,16 @@
 ghost use Rattle.std.specs.Prelude.{◌≡◌, ◌<◌, ℕ, List, length};
 ghost use Rattle.std.specs.List.{AllByRecursion, Any, IsDistinct};
 ghost use Rattle.idl_tree.specs.declared.definitions.Definition.{Definition};
-ghost use Rattle.idl_tree.specs.DefinitionYields.{definitions_spelled};
-ghost use Rattle.scoped_names.specs.Asked.{asked, asked_by};
 ghost use Rattle.idl_tree.specs.declared.spec.Spec.{Spec};
 ghost use Rattle.scoped_names.specs.Following.{AllFollow};
 ghost use Rattle.scoped_names.specs.Holding.{AllHold};
 ghost use Rattle.scoped_names.specs.Introductions.{IsEntry, StandsFor, clashes, introduced};
-ghost use Rattle.scoped_names.specs.Steps.{steps_of};
+ghost use Rattle.name_steps.specs.Steps.{steps_of};
 ghost use Rattle.scoped_names.specs.Whole.{Whole, AreNames};
 
 /// A specification has one list of entries, and what pragmas say of each is one thing.
 pub fn names_are_one()
     ensures { (definitions : List Definition) (one other : Whole) → AreNames definitions one → AreNames definitions other → one ≡ other }
-{}
-
-/// Each identifier, literal and pragma of a specification is asked for by one step, in the order of
-/// the source.
-pub fn all_is_asked()
-    ensures { (definitions : List Definition) → asked (definitions_spelled definitions) ≡ asked_by (steps_of definitions) }
 {}
 
 /// Where a specification has no fault of names, each identifier that it declares is the entry that

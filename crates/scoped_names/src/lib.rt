@@ -1,7 +1,6 @@
 //! What the names of an IDL specification mean (ISO/IEC 19500-1, names and scoping).
 #![tactic(auto)]
 
-mod declaration_steps;
 mod evaluation;
 pub mod fault;
 mod kinds;
@@ -12,9 +11,7 @@ mod reader;
 mod reading;
 mod repository_ids;
 mod specification;
-mod step;
 mod tables;
-mod type_steps;
 
 pub use fault::{At, Flaw, NameFault, Unfit};
 pub use name_table::{Base, EntryKind};

@@ -114,20 +114,19 @@ fn never_defined(at: Option<At>) -> Result<(), NameFault>
 }
 
 impl<'a> Reader<'a> {
-    /// Nothing yet.
-    pub fn new(alloc: Global) -> Result<Self, NameFault>
-        ensures empty { IfOk result (λ reader. reader ≡ nothing_yet) }
-        ensures memory { IfErr result (λ fault. fault ≡ NoMemory) }
+    /// Nothing yet. Takes no memory.
+    pub fn new(alloc: Global) -> Self
+        ensures { result ≡ nothing_yet }
     {
-        Ok(Reader {
-            tables: Tables::new(alloc)?,
+        Reader {
+            tables: Tables::new(alloc),
             members: Members::new(alloc),
             defined: Numbered::new(alloc),
             prefix: "",
             ids: IdPragmas::new(alloc),
             scope: 0,
             enumeration: 0,
-        })
+        }
     }
 
     /// What is declared so far.
@@ -220,8 +219,13 @@ impl<'a> Reader<'a> {
             Some(number) => self.appears_again(number, identifier, meaning.kind),
             None => {
                 let prefix = self.prefix;
-                self.tables.add(alloc, prefix, scope, identifier, meaning)?;
-                Ok(())
+                match self.tables.add(alloc, prefix, scope, identifier, meaning) {
+                    Ok(()) => Ok(()),
+                    Err(_) => {
+                        self.scope = 0;
+                        Err(NameFault::NoMemory)
+                    }
+                }
             }
         }
     }
@@ -357,13 +361,12 @@ impl<'a> Reader<'a> {
     {
         let word = Word::new(identifier.name());
         let at = At::leaf(&identifier);
-        match self.tables.inherited(identifier.number, self.scope, word)? {
+        match self.tables.inherited(identifier.number, self.scope, word) {
             Found::Nothing => Ok(()),
-            Found::One(entry) => Err(NameFault::Collides {
+            Found::One(entry) | Found::Several(entry, _) => Err(NameFault::Collides {
                 at,
                 other: declared_at(self.table(), entry),
             }),
-            Found::Several => Err(NameFault::Collides { at, other: None }),
         }
     }
 
@@ -430,8 +433,13 @@ impl<'a> Reader<'a> {
         ensures { Tells result self.new (with_base_at self.old inner base at) }
     {
         self.may_be_base(alloc, inner, base, at)?;
-        self.tables.add_base(alloc, inner, base)?;
-        Ok(())
+        match self.tables.add_base(alloc, inner, base) {
+            Ok(()) => Ok(()),
+            Err(_) => {
+                self.scope = 0;
+                Err(NameFault::NoMemory)
+            }
+        }
     }
 
     /// Whether it is a structure or a union that was declared ahead and isn't defined.

@@ -1,15 +1,15 @@
 //! Reading a specification step by step.
 
-ghost use Rattle.std.specs.Prelude.{◌≡◌, ◌<◌, ◌≤◌, ◌^◌, length, map, IfErr, IfOk, Some, Ok};
+ghost use Rattle.std.specs.Prelude.{◌≡◌, ◌<◌, ◌≤◌, ◌^◌, [], length, map, IfErr, IfOk, Some, Ok};
 ghost use Rattle.name_table.specs.Entries.{latest};
-ghost use Rattle.scoped_names.specs.Faults.{base_added, const_declared, enum_declared, enumerator_declared, feature_declared, said_read, step_read, steps_read, test_of, type_kind, typedef_declared};
+ghost use Rattle.scoped_names.specs.Faults.{base_added, const_declared, enum_declared, enumerator_declared, feature_declared, nothing_yet, said_read, specification_read, step_read, steps_read, test_of, type_kind, typedef_declared};
 ghost use Rattle.scoped_names.specs.IdPragmas.{Gives as GivesTo, said_by};
 ghost use Rattle.scoped_names.specs.IdsKept.{given_of};
 ghost use Rattle.scoped_names.specs.Meanings.{const_end};
 ghost use Rattle.scoped_names.specs.Reading.{Checks, Tells};
 ghost use Rattle.scoped_names.specs.Rising.{Follows, Rises};
-ghost use Rattle.scoped_names.specs.Steps.{definition_steps, module_body, steps_of};
-ghost use Rattle.scoped_names.specs.StepsKept.{flat_steps, step_of};
+ghost use Rattle.name_steps.specs.Steps.{definition_steps, module_body, steps_of};
+ghost use Rattle.name_steps.specs.StepsKept.{flat_steps, step_of, steps_in};
 ghost use Rattle.scoped_names.specs.Tests.{is_exception, is_type, raised_test, type_name_test};
 ghost use Rattle.scoped_names.specs.declared.fault.NameFault.TheVariants.{NoMemory};
 ghost use Rattle.idl_tree.specs.Starts.{name_start};
@@ -19,12 +19,13 @@ use crate::fault::{At, NameFault};
 use crate::kinds::{const_type_kind, simple_type_kind};
 use crate::reader::Reader;
 use crate::repository_ids::PragmaId;
-use crate::step::{Step, Steps};
 use const_values::{ConstKind, Constant};
 use idl_lexer::{Kind, Pragma};
 use idl_tree::definitions::{Const, Definition, Module};
 use idl_tree::names::{Leaf, ScopedName};
+use idl_tree::spec::Spec;
 use idl_tree::types::{Declarator, TypeSpec};
+use name_steps::{Step, Steps};
 use name_table::{Base, EntryKind, Meaning};
 use std::alloc::Global;
 
@@ -294,14 +295,28 @@ impl<'a> Reader<'a> {
         Ok(())
     }
 
-    /// A definition but for a module, of which nothing is read.
+    /// A definition but for a module, of which nothing is read, where its steps are listed.
+    fn read_listed<'t>(
+        &mut self,
+        alloc: Global,
+        steps: &mut Steps<'t, 'a>,
+        d: &'t Definition<'a>,
+    ) -> Result<(), NameFault>
+        requires none { steps_in steps.old ≡ [] }
+        requires rises { Rises (latest self.old.entries) (flat_steps d.now) }
+        ensures { Tells result self.new (steps_read self.old (flat_steps d.now)) }
+    {
+        steps.add_flat(d)?;
+        self.read_steps(alloc, steps.list.as_slice())
+    }
+
+    /// The same.
     fn read_flat(&mut self, alloc: Global, d: &Definition<'a>) -> Result<(), NameFault>
         requires { Rises (latest self.old.entries) (flat_steps d.now) }
         ensures { Tells result self.new (steps_read self.old (flat_steps d.now)) }
     {
         let mut steps = Steps::new(alloc);
-        steps.add_flat(d)?;
-        self.read_steps(alloc, steps.as_slice())
+        self.read_listed(alloc, &mut steps, d)
     }
 
     #[cycle(definitions)]
@@ -329,9 +344,20 @@ impl<'a> Reader<'a> {
         }
     }
 
+    /// A whole specification, before which nothing was read.
+    pub fn read_whole(&mut self, alloc: Global, spec: &Spec<'a>) -> Result<(), NameFault>
+        requires { self.old ≡ nothing_yet }
+        ensures { Tells result self.new (specification_read spec.now.definitions.items) }
+    {
+        // which is a number, so no token's number passes the largest
+        let _count = spec.tokens.len();
+        self.read_definitions(alloc, spec.definitions.as_slice())?;
+        self.all_defined()
+    }
+
     /// Definitions one behind another.
     #[cycle(definitions)]
-    pub fn read_definitions(
+    fn read_definitions(
         &mut self,
         alloc: Global,
         definitions: &[Definition<'a>],

@@ -3,10 +3,10 @@
 ghost use Rattle.std.specs.Prelude.{◌≡◌, ◌++◌, ◌<◌, ◌≤◌, ◌↔◌, ℕ, [], ◌∷◌, length, map, IfOk, OnOk};
 ghost use Rattle.std.specs.Option.{option_map};
 ghost use Rattle.std.specs.String.{string_bytes};
-ghost use Rattle.scoped_names.specs.RepositoryIds.{given_to, path, with_slashes, idl_format, repository_id};
+ghost use Rattle.scoped_names.specs.RepositoryIds.{given_to, pragma_for, path, with_slashes, idl_format, repository_id};
 ghost use Rattle.scoped_names.specs.IdsKept.{given_of};
-ghost use Rattle.scoped_names.specs.Faults.{given_once};
-ghost use Rattle.scoped_names.specs.Reading.{Tells};
+ghost use Rattle.scoped_names.specs.Faults.{again_test, given_once};
+ghost use Rattle.scoped_names.specs.Reading.{Checks, Tells};
 ghost use Rattle.scoped_names.specs.IdPragmas.{is_same_given};
 
 use crate::fault::{At, NameFault};
@@ -25,12 +25,19 @@ pub(crate) enum PragmaId<'a> {
     Version(&'a str),
 }
 
+/// What is given to an entry, and where it is said first.
+#[derive(Clone, Copy)]
+pub(crate) struct PlacedId<'a> {
+    pub id: PragmaId<'a>,
+    pub at: At,
+}
+
 /// What the pragmas of a specification say of repository ids.
 #[derive(Drop)]
 pub(crate) struct IdPragmas<'a> {
     entries: Numbered<usize>,
     /// What is given to each of them.
-    ids: Vec<PragmaId<'a>>,
+    ids: Vec<PlacedId<'a>>,
 }
 
 impl<'a> Model for IdPragmas<'a> {
@@ -109,6 +116,18 @@ fn is_same(one: PragmaId<'_>, other: PragmaId<'_>) -> bool
     }
 }
 
+impl PlacedId<'_> {
+    /// That what is given once more is the same.
+    fn given_again(self, given: PragmaId<'_>, at: At) -> Result<(), NameFault>
+        ensures { Checks result (again_test (given_of self.entry.id) self.entry.at (given_of given.entry) at) }
+    {
+        if is_same(self.id, given) {
+            return Ok(());
+        }
+        Err(NameFault::IdTwice { at, other: self.at })
+    }
+}
+
 impl<'a> IdPragmas<'a> {
     /// No pragmas. Takes no memory.
     pub fn new(alloc: Global) -> Self
@@ -126,15 +145,14 @@ impl<'a> IdPragmas<'a> {
     ///
     /// `IdTwice` where the entry has another, `NoMemory`.
     pub fn give(&mut self, entry: usize, given: PragmaId<'a>, at: At) -> Result<(), NameFault>
-        ensures { Tells result self.new (given_once self.old entry (given_of given.entry) at (given_to self.old entry)) }
+        ensures { Tells result self.new (given_once self.old entry (given_of given.entry) at (pragma_for self.old entry)) }
     {
         match self.entries.number_of(&entry) {
-            Some(number) if is_same(self.ids[number], given) => Ok(()),
-            Some(_) => Err(NameFault::IdTwice { at }),
+            Some(number) => self.ids[number].given_again(given, at),
             None => {
                 self.ids.reserve(1)?;
                 self.entries.push(entry)?;
-                self.ids.push_reserved(given);
+                self.ids.push_reserved(PlacedId { id: given, at });
                 Ok(())
             }
         }
@@ -145,7 +163,7 @@ impl<'a> IdPragmas<'a> {
         ensures { option_map given_of result ≡ given_to self.now entry }
     {
         match self.entries.number_of(&entry) {
-            Some(number) => Some(self.ids[number]),
+            Some(number) => Some(self.ids[number].id),
             None => None,
         }
     }

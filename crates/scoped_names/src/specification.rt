@@ -22,10 +22,9 @@ pub fn bind<'a>(alloc: Global, spec: &Spec<'a>) -> Result<Names<'a>, NameFault>
     ensures told { Gives result (names_of spec.now.definitions.items) }
     ensures distinct { IfOk result (λ names. AreDistinct names.entries) }
 {
-    // which is a number, so no token's number passes the largest
-    let _count = spec.tokens.len();
-    let mut reader = Reader::new(alloc)?;
-    reader.read_definitions(alloc, spec.definitions.as_slice())?;
-    reader.all_defined()?;
-    Ok(reader.names())
+    let mut reader = Reader::new(alloc);
+    match reader.read_whole(alloc, spec) {
+        Ok(()) => Ok(reader.names()),
+        Err(fault) => Err(fault),
+    }
 }

@@ -17,12 +17,10 @@ use std::marker::Model;
 pub(crate) struct Tables<'a> {
     all: Table<'a>,
     features: Table<'a>,
-    /// Memory was refused between the two: they answer no more.
-    is_spoilt: bool,
 }
 
 impl<'a> Model for Tables<'a> {
-    ghost use Rattle.std.specs.Prelude.{List, ◌≡◌, false};
+    ghost use Rattle.std.specs.Prelude.{List, ◌≡◌};
     ghost use Rattle.name_table.specs.Entry.{Entry};
     ghost use Rattle.name_table.specs.Features.{features_of};
 
@@ -30,19 +28,18 @@ impl<'a> Model for Tables<'a> {
 
     ghost view = { λ t. t.all };
 
-    ghost invariant = { λ t. t.is_spoilt ≡ false → t.features ≡ features_of t.all };
+    ghost invariant = { λ t. t.features ≡ features_of t.all };
 }
 
 impl<'a> Tables<'a> {
-    /// No entries yet.
-    pub fn new(alloc: Global) -> Result<Self, AllocError>
-        ensures { IfOk result (λ t. t ≡ []) }
+    /// No entries yet. Takes no memory.
+    pub fn new(alloc: Global) -> Self
+        ensures { result ≡ [] }
     {
-        Ok(Tables {
-            all: Table::new(alloc)?,
-            features: Table::new(alloc)?,
-            is_spoilt: false,
-        })
+        Tables {
+            all: Table::new(alloc),
+            features: Table::new(alloc),
+        }
     }
 
     /// All entries.
@@ -59,7 +56,8 @@ impl<'a> Tables<'a> {
         self.all
     }
 
-    /// One entry more, of a name that is new in its scope.
+    /// One entry more, of a name that is new in its scope. Where memory is refused between the two
+    /// tables, both are left without entries.
     pub fn add(
         &mut self,
         alloc: Global,
@@ -72,50 +70,46 @@ impl<'a> Tables<'a> {
         requires new { named self.old scope (word identifier) ≡ None }
         requires late { latest self.old ≤ meaning.token }
         ensures added { OnOk result (self.new ≡ self.old ++ entry_declared meaning prefix.entry.now scope identifier.entry ∷ []) }
-        ensures longer { length self.old ≤ length self.new }
     {
-        if self.is_spoilt {
-            return Err(AllocError);
-        }
-        self.is_spoilt = true;
         let feature = meaning.as_feature();
         self.features
             .add(alloc, Record::new(prefix, scope, identifier, feature))?;
-        self.all
-            .add(alloc, Record::new(prefix, scope, identifier, meaning))?;
-        self.is_spoilt = false;
-        Ok(())
+        let entry = Record::new(prefix, scope, identifier, meaning);
+        match self.all.add(alloc, entry) {
+            Ok(()) => Ok(()),
+            Err(refused) => {
+                *self = Tables::new(alloc);
+                Err(refused)
+            }
+        }
     }
 
-    /// Puts a base behind those that an interface has.
+    /// Puts a base behind those that an interface has. A refusal leaves what it leaves of `add`.
     pub fn add_base(&mut self, alloc: Global, inner: usize, base: Base) -> Result<(), AllocError>
         requires inner { inner ≤ length self.old }
         requires placed { base.entry < length self.old }
         requires late { latest self.old < base.token }
         ensures told { OnOk result (self.new ≡ with_base self.old inner base) }
-        ensures count { length self.new ≡ length self.old }
+        ensures count { OnOk result (length self.new ≡ length self.old) }
     {
-        if self.is_spoilt {
-            return Err(AllocError);
-        }
-        self.is_spoilt = true;
         let scope = base.entry.saturating_add(1);
         self.features.shorten(alloc, scope)?;
-        self.features.add_base(alloc, inner, base)?;
         self.all.shorten(alloc, scope)?;
-        self.all.add_base(alloc, inner, base)?;
-        self.is_spoilt = false;
-        Ok(())
+        self.features.add_base(alloc, inner, base)?;
+        match self.all.add_base(alloc, inner, base) {
+            Ok(()) => Ok(()),
+            Err(refused) => {
+                *self = Tables::new(alloc);
+                Err(refused)
+            }
+        }
     }
 
     /// Which operation or attribute of the word a scope inherits.
-    pub fn inherited(&self, token: usize, scope: usize, word: Word<'a>) -> Result<Found, AllocError>
-        ensures { IfOk result (λ found. found ≡ inherited_by (features_of self.now) token scope word.entry.text.now) }
+    pub fn inherited(&self, token: usize, scope: usize, word: Word<'a>) -> Found
+        ensures { result ≡ inherited_by (features_of self.now) token scope word.entry.text.now }
     {
-        if self.is_spoilt {
-            return Err(AllocError);
-        }
-        Ok(self.features.inherited(token, scope, word))
+        self.features.inherited(token, scope, word)
     }
 
     /// Whether a base that is named behind all others has another operation or attribute of some name
@@ -125,9 +119,6 @@ impl<'a> Tables<'a> {
         requires late { latest self.now < base.token }
         ensures { IfOk result (λ r. r ≡ differ_by (features_of self.now) inner base) }
     {
-        if self.is_spoilt {
-            return Err(AllocError);
-        }
         self.features.differ(alloc, inner, base)
     }
 }

@@ -21,11 +21,11 @@ use Rattle.idl_tree.specs.DefinitionYields.{definitions_spelled}
 use Rattle.idl_tree.proofs.SpelledForms.{HaveForms-append, Spec-forms}
 use Rattle.name_table.specs.Entry.{AreNested, Entry, named}
 use Rattle.name_table.specs.Search.{word}
-use Rattle.scoped_names.specs.Asked.{asked, asked_by, is_asked, pieces_of}
+use Rattle.name_steps.specs.Asked.{asked, asked_by, is_asked, pieces_of}
 use Rattle.scoped_names.specs.Introductions.{Introduction, Stands, Has, Body, IsEntry, StandsFor, introduced, introduced_by, scope_behind}
-use Rattle.scoped_names.specs.Steps.{Step, Declares, DeclaresEnum, DeclaresEnumerator, DeclaresTypedef, DeclaresConst, DeclaresFeature, HasMember, Defines, steps_of}
+use Rattle.name_steps.specs.Steps.{Step, Declares, DeclaresEnum, DeclaresEnumerator, DeclaresTypedef, DeclaresConst, DeclaresFeature, HasMember, Defines, steps_of}
 use Rattle.scoped_names.specs.Whole.{AreNames, Whole}
-use Rattle.scoped_names.proofs.Asked.{all_asked}
+use Rattle.name_steps.proofs.Asked.{all_asked}
 use Rattle.scoped_names.proofs.Introduced.{declared_once, nothing_else}
 use Rattle.scoped_names.proofs.Introducing.{named_entry}
 use Rattle.written_names.proofs.Nested.{entries_nested}

@@ -29,9 +29,9 @@ use Rattle.name_table.specs.Entry.{Entry}
 use Rattle.name_table.specs.Entries.{scope_of}
 use Rattle.name_table.specs.Search.{word}
 use Rattle.scoped_names.specs.Introductions.{Introduction, introduced}
-use Rattle.scoped_names.specs.Steps.{Step, Declares, DeclaresFeature, Defines, Enters, HasBase, HasMember, IsUndefined, Leaves, declaration_steps, definition_steps, definitions_steps, except_steps, export_steps, interface_steps, member_steps, operation_steps, optional_parts, param_steps, param_type_steps, raises_steps, result_steps, type_dcl_steps, type_steps, typedef_steps}
+use Rattle.name_steps.specs.Steps.{Step, Declares, DeclaresFeature, Defines, Enters, HasBase, HasMember, IsUndefined, Leaves, declaration_steps, definition_steps, definitions_steps, except_steps, export_steps, interface_steps, member_steps, operation_steps, optional_parts, param_steps, param_type_steps, raises_steps, result_steps, type_dcl_steps, type_steps, typedef_steps}
 use Rattle.scoped_names.specs.Whole.{AreNames, Whole}
-use Rattle.scoped_names.proofs.Asks.{bases_ask, definition_asks, definitions_ask, export_asks, member_asks, param_asks, param_type_asks, result_asks, type_asks}
+use Rattle.name_steps.proofs.Asks.{bases_ask, definition_asks, definitions_ask, export_asks, member_asks, param_asks, param_type_asks, result_asks, type_asks}
 use Rattle.scoped_names.proofs.Introducing.{all_map}
 use Rattle.scoped_names.proofs.Parts.{Closed, both_closed, closed, each_closed, one_closed}
 use Rattle.written_types.specs.Faults.{or_other}

@@ -9,7 +9,7 @@ use Rattle.name_table.specs.Entries.{scope_number, scope_of}
 use Rattle.name_table.specs.Search.{word}
 use Rattle.scoped_names.specs.Holding.{AllHold, Holds}
 use Rattle.scoped_names.specs.Introductions.{clashes, introduced, introduced_by, scope_behind}
-use Rattle.scoped_names.specs.Steps.{Step, Enters, Leaves, steps_of}
+use Rattle.name_steps.specs.Steps.{Step, Enters, Leaves, steps_of}
 use Rattle.scoped_names.specs.Whole.{AreNames, Whole}
 use Rattle.scoped_names.proofs.Held.{names_hold}
 use Rattle.scoped_names.proofs.Introduced.{IsFlat, flat_behind, nothing_clashes}

@@ -9,7 +9,7 @@ use Rattle.scoped_names.specs.declared.fault.NameFault.{NameFault}
 use Rattle.scoped_names.specs.Faults.{left_open, never_defined, nothing_yet, specification_read, step_read, steps_read, test_of, type_kind}
 use Rattle.scoped_names.specs.Meanings.{const_end, enumerator_meant, typedef_meant}
 use Rattle.scoped_names.specs.Reading.{State, passed}
-use Rattle.scoped_names.specs.Steps.{Step, Declares, DeclaresConst, DeclaresFeature, DeclaresEnum, DeclaresEnumerator, DeclaresTypedef, HasBase, HasMember, Enters, Leaves, Defines, Says, steps_of}
+use Rattle.name_steps.specs.Steps.{Step, Declares, DeclaresConst, DeclaresFeature, DeclaresEnum, DeclaresEnumerator, DeclaresTypedef, HasBase, HasMember, Enters, Leaves, Defines, Says, steps_of}
 use Rattle.scoped_names.specs.Whole.{AreNames, Whole, whole}
 use Rattle.scoped_names.proofs.Going.{Goes, base_goes, const_goes, declared_goes, defined_goes, enum_goes, feature_goes, member_goes, passed_goes, said_goes}
 use Rattle.scoped_names.proofs.Introduced.{IsFlat}

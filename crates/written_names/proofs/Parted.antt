@@ -20,8 +20,8 @@ use Rattle.name_table.specs.Entry.{Entry, named}
 use Rattle.name_table.specs.Search.{word}
 use Rattle.scoped_names.specs.Introductions.{IsEntry, Stands, Has, clashes, introduced}
 use Rattle.scoped_names.specs.Reading.{◌>>◌}
-use Rattle.scoped_names.specs.Steps.{Step, Declares, DeclaresEnum, DeclaresEnumerator, Defines, Enters, Leaves, cases_steps, declarator_steps, enum_steps, label_steps, members_steps, size_step, struct_steps, switch_steps, type_steps, union_steps}
-use Rattle.scoped_names.proofs.Asks.{cases_ask, declarator_asks, label_asks, members_ask, switch_asks, type_asks}
+use Rattle.name_steps.specs.Steps.{Step, Declares, DeclaresEnum, DeclaresEnumerator, Defines, Enters, Leaves, cases_steps, declarator_steps, enum_steps, label_steps, members_steps, size_step, struct_steps, switch_steps, type_steps, union_steps}
+use Rattle.name_steps.proofs.Asks.{cases_ask, declarator_asks, label_asks, members_ask, switch_asks, type_asks}
 use Rattle.scoped_names.proofs.Parts.{Closed, both_closed, closed, each_closed, one_closed}
 use Rattle.written_types.specs.declared.fault.BuildFault.{BuildFault}
 use Rattle.written_types.specs.Faults.{each, or_other}

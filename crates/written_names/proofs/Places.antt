@@ -6,7 +6,7 @@ use Rattle.name_table.specs.declared.entry.EntryKind.{EntryKind}
 use Rattle.name_table.specs.declared.entry.EntryKind.TheVariants as Kinds
 use Rattle.name_table.specs.Entry.{Entry}
 use Rattle.scoped_names.specs.Introductions.{Introduction, introduced, introduced_by, scope_behind}
-use Rattle.scoped_names.specs.Steps.{Step, steps_of}
+use Rattle.name_steps.specs.Steps.{Step, steps_of}
 use Rattle.scoped_names.specs.Whole.{AreNames, Whole}
 use Rattle.scoped_names.proofs.Introduced.{nothing_else}
 use Rattle.written_types.specs.declared.place.Place.{Place}

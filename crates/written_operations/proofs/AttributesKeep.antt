@@ -15,9 +15,9 @@ use Rattle.name_table.specs.declared.entry.EntryKind.TheVariants as Kinds
 use Rattle.name_table.specs.Entry.{Entry, named}
 use Rattle.name_table.specs.Search.{word}
 use Rattle.scoped_names.specs.Introductions.{Introduction, Stands}
-use Rattle.scoped_names.specs.Steps.{DeclaresFeature, Step, attribute_steps, attributes_steps, optional_parts, param_type_steps, raises_steps}
-use Rattle.scoped_names.specs.Steps.{NamesException}
-use Rattle.scoped_names.proofs.Asks.{param_type_asks}
+use Rattle.name_steps.specs.Steps.{DeclaresFeature, Step, attribute_steps, attributes_steps, optional_parts, param_type_steps, raises_steps}
+use Rattle.name_steps.specs.Steps.{NamesException}
+use Rattle.name_steps.proofs.Asks.{param_type_asks}
 use Rattle.scoped_names.proofs.Parts.{closed, each_step_closed}
 use Rattle.written_types.specs.declared.place.Place.TheVariants.{Got, GotAndSet}
 use Rattle.written_types.specs.Faults.{each, line_of}

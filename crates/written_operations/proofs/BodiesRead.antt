@@ -23,11 +23,11 @@ use Rattle.scoped_names.specs.Introductions.{Introduction, introduced_by, scope_
 use Rattle.scoped_names.specs.Meanings.{const_meant, enum_meant, enumerator_meant, typedef_meant}
 use Rattle.scoped_names.specs.Reading.{Reading, State, Test, ◌>>◌}
 use Rattle.scoped_names.specs.RepositoryIds.{given_to}
-use Rattle.scoped_names.specs.Steps.{Step, Declares, DeclaresEnum, DeclaresEnumerator, DeclaresTypedef, IsNew, DeclaresConst, DeclaresFeature, HasMember, IsUndefined, HasBase, Enters, Defines, Leaves, Says, steps_of}
+use Rattle.name_steps.specs.Steps.{Step, Declares, DeclaresEnum, DeclaresEnumerator, DeclaresTypedef, IsNew, DeclaresConst, DeclaresFeature, HasMember, IsUndefined, HasBase, Enters, Defines, Leaves, Says, steps_of}
 use Rattle.scoped_names.specs.Tests.{at, at_entry, found_at, resolved, value_of_type}
 use Rattle.scoped_names.specs.TypeKinds.{const_type_kind}
 use Rattle.scoped_names.specs.Whole.{AreNames, Whole}
-use Rattle.scoped_names.proofs.Asks.{Asks, all_ask, none as unasked, silent, joined as both_asked, plain, base, valued, declared, featured, undefined, inside, defines}
+use Rattle.name_steps.proofs.Asks.{Asks, all_ask, none as unasked, silent, joined as both_asked, plain, base, valued, declared, featured, undefined, inside, defines}
 use Rattle.scoped_names.proofs.Introduced.{HasLeaf, IsFlat, around_named, flat_behind, plain_flat, read_append}
 use Rattle.scoped_names.proofs.Introducing.{Keeps, all_map, base_does, declared_does, defined_does, keeps_on, member_does, passed_same, then_ok}
 use Rattle.scoped_names.proofs.Parts.{scope_past}

@@ -18,9 +18,9 @@ use Rattle.name_table.specs.declared.entry.EntryKind.TheVariants as Kinds
 use Rattle.name_table.specs.Entry.{Entry}
 use Rattle.scoped_names.specs.Introductions.{Introduction}
 use Rattle.scoped_names.specs.Reading.{◌>>◌}
-use Rattle.scoped_names.specs.Steps.{Enters, HasMember, Leaves, NamesException, optional_parts, param_steps, param_type_steps, raises_steps, result_steps}
+use Rattle.name_steps.specs.Steps.{Enters, HasMember, Leaves, NamesException, optional_parts, param_steps, param_type_steps, raises_steps, result_steps}
 use Rattle.scoped_names.specs.Tests.{is_exception}
-use Rattle.scoped_names.proofs.Asks.{param_asks}
+use Rattle.name_steps.proofs.Asks.{param_asks}
 use Rattle.scoped_names.proofs.OnlyMemory.{finds_one}
 use Rattle.scoped_names.proofs.Parts.{Closed, closed}
 use Rattle.written_types.specs.declared.place.Place.{Place}

@@ -9,7 +9,7 @@ use Rattle.basic_types.specs.BasicNodes.{basic_nodes}
 use Rattle.type_graph.specs.declared.node.Node.{Node}
 use Rattle.type_graph.specs.GraphRules.{AreMembers, IsNode, IsPart, all_members}
 use Rattle.name_table.specs.Entry.{Entry}
-use Rattle.scoped_names.specs.Steps.{definition_steps, steps_of}
+use Rattle.name_steps.specs.Steps.{definition_steps, steps_of}
 use Rattle.scoped_names.specs.Whole.{AreNames, Whole}
 use Rattle.written_types.specs.declared.fault.BuildFault.{BuildFault}
 use Rattle.written_types.specs.declared.place.Place.{Place}

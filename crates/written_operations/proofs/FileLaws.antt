@@ -1,7 +1,7 @@
 -- What a file writes under its own names is sound.
 use Rattle.std.proofs.Common.{◌≡◌, [], length, Result, Ok, Err, subst}
 use Rattle.idl_tree.specs.declared.spec.Spec.{Spec}
-use Rattle.scoped_names.specs.Steps.{steps_of}
+use Rattle.name_steps.specs.Steps.{steps_of}
 use Rattle.scoped_names.specs.Whole.{AreNames, Whole}
 use Rattle.written_types.specs.declared.fault.BuildFault.{BuildFault}
 use Rattle.written_types.proofs.Fine.{Fine}

@@ -22,8 +22,8 @@ use Rattle.name_table.specs.Search.{word}
 use Rattle.scoped_names.specs.Faults.{has_body}
 use Rattle.scoped_names.specs.Introductions.{Introduction, Stands, Body as BodyOf}
 use Rattle.scoped_names.specs.Reading.{◌>>◌}
-use Rattle.scoped_names.specs.Steps.{Declares, Defines, Enters, HasBase, IsUndefined, Leaves, definition_steps, definitions_steps, export_steps, interface_steps, optional_parts}
-use Rattle.scoped_names.proofs.Asks.{definition_asks, definitions_ask, export_asks}
+use Rattle.name_steps.specs.Steps.{Declares, Defines, Enters, HasBase, IsUndefined, Leaves, definition_steps, definitions_steps, export_steps, interface_steps, optional_parts}
+use Rattle.name_steps.proofs.Asks.{definition_asks, definitions_ask, export_asks}
 use Rattle.scoped_names.proofs.Parts.{Closed, both_closed, closed, each_closed, each_step_closed, one_closed}
 use Rattle.written_types.specs.declared.fault.BuildFault.TheVariants.{OtherNames}
 use Rattle.written_types.specs.declared.place.Place.{Place}

@@ -17,8 +17,8 @@ use Rattle.name_table.specs.Search.{word}
 use Rattle.scoped_names.specs.Faults.{has_body, may_reappear}
 use Rattle.scoped_names.specs.Introductions.{Introduction, Stands}
 use Rattle.scoped_names.specs.Reading.{◌>>◌}
-use Rattle.scoped_names.specs.Steps.{DeclaresFeature, NamesException, Step, declaration_steps, operation_steps, optional_parts, param_steps, raises_steps, result_steps}
-use Rattle.scoped_names.proofs.Asks.{param_asks, result_asks}
+use Rattle.name_steps.specs.Steps.{DeclaresFeature, NamesException, Step, declaration_steps, operation_steps, optional_parts, param_steps, raises_steps, result_steps}
+use Rattle.name_steps.proofs.Asks.{param_asks, result_asks}
 use Rattle.scoped_names.proofs.Parts.{Closed, both_closed, closed, each_closed, one_closed}
 use Rattle.written_types.specs.declared.place.Place.{Place}
 use Rattle.written_types.specs.declared.place.Place.TheVariants.{Called, Got, GotAndSet}

@@ -24,8 +24,8 @@ use Rattle.name_table.proofs.Stability.{get_push_last}
 use Rattle.scoped_names.specs.Faults.{has_body}
 use Rattle.scoped_names.specs.Introductions.{Introduction, Stands}
 use Rattle.scoped_names.specs.Reading.{◌>>◌}
-use Rattle.scoped_names.specs.Steps.{Declares, DeclaresConst, DeclaresTypedef, IsNew as TestsNew, const_steps, const_type_steps, declaration_steps, declarator_steps, except_steps, member_steps, size_step, type_dcl_steps, type_steps, typedef_steps}
-use Rattle.scoped_names.proofs.Asks.{const_type_asks, sizes_ask}
+use Rattle.name_steps.specs.Steps.{Declares, DeclaresConst, DeclaresTypedef, IsNew as TestsNew, const_steps, const_type_steps, declaration_steps, declarator_steps, except_steps, member_steps, size_step, type_dcl_steps, type_steps, typedef_steps}
+use Rattle.name_steps.proofs.Asks.{const_type_asks, sizes_ask}
 use Rattle.scoped_names.proofs.Parts.{Closed, both_closed, closed, each_closed, one_closed}
 use Rattle.type_paths.specs.Lines.{Lines}
 use Rattle.written_types.specs.declared.fault.BuildFault.{BuildFault}

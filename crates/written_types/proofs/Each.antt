@@ -3,7 +3,7 @@ use Rattle.std.proofs.Common.{ℕ, List, [], ◌∷◌, Result, sym, subst}
 use Rattle.std.specs.List.{flat_map}
 use Rattle.name_table.specs.Entry.{Entry}
 use Rattle.scoped_names.specs.Introductions.{Introduction}
-use Rattle.scoped_names.specs.Steps.{Step}
+use Rattle.name_steps.specs.Steps.{Step}
 use Rattle.scoped_names.proofs.Parts.{Closed}
 use Rattle.written_types.specs.declared.fault.BuildFault.{BuildFault}
 use Rattle.written_types.specs.Faults.{each}

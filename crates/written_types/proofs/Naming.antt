@@ -22,7 +22,7 @@ use Rattle.scoped_names.specs.declared.fault.Flaw.TheVariants.{NotPositive}
 use Rattle.scoped_names.specs.Faults.{has_body, may_reappear}
 use Rattle.scoped_names.specs.Holding.{Holds}
 use Rattle.scoped_names.specs.Introductions.{Introduction, Stands, Has, IsEntry, introduced_by, scope_behind}
-use Rattle.scoped_names.specs.Steps.{Step, Declares, DeclaresEnum, DeclaresEnumerator, DeclaresTypedef, DeclaresConst, DeclaresFeature, HasMember, Defines, NamesType, IsSize}
+use Rattle.name_steps.specs.Steps.{Step, Declares, DeclaresEnum, DeclaresEnumerator, DeclaresTypedef, DeclaresConst, DeclaresFeature, HasMember, Defines, NamesType, IsSize}
 use Rattle.scoped_names.specs.Tests.{at, is_of, is_type, or_bad, size_read, value_read}
 use Rattle.scoped_names.proofs.Introducing.{then_ok}
 use Rattle.scoped_names.proofs.OnlyMemory.{finds_one, there_is}

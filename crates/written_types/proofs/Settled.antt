@@ -19,7 +19,7 @@ use Rattle.scoped_names.specs.Faults.{may_reappear}
 use Rattle.scoped_names.specs.Following.{AllFollow, FindsKnown}
 use Rattle.scoped_names.specs.Holding.{AllHold, Holds}
 use Rattle.scoped_names.specs.Introductions.{Introduction, Stands, Has, Body, StandsFor, clashes, introduced, introduced_by, is_one_name, scope_behind}
-use Rattle.scoped_names.specs.Steps.{Step, Declares, Defines, Enters, Leaves, steps_of}
+use Rattle.name_steps.specs.Steps.{Step, Declares, Defines, Enters, Leaves, steps_of}
 use Rattle.scoped_names.specs.Whole.{AreNames, Whole}
 use Rattle.scoped_names.proofs.FollowParts.{finds_more}
 use Rattle.scoped_names.proofs.Held.{names_follow, names_hold}

@@ -26,9 +26,9 @@ use Rattle.type_graph.specs.GraphRules.{IsNoFrame, IsPart}
 use Rattle.name_table.specs.declared.entry.EntryKind.TheVariants as Kinds
 use Rattle.name_table.specs.Entry.{Entry}
 use Rattle.scoped_names.specs.Introductions.{Introduction, Stands}
-use Rattle.scoped_names.specs.Steps.{DeclaresEnumerator, bound_steps, const_type_steps, enum_steps, param_type_steps, simple_type_steps, size_step}
+use Rattle.name_steps.specs.Steps.{DeclaresEnumerator, bound_steps, const_type_steps, enum_steps, param_type_steps, simple_type_steps, size_step}
 use Rattle.scoped_names.specs.Tests.{size_read}
-use Rattle.scoped_names.proofs.Asks.{type_asks}
+use Rattle.name_steps.proofs.Asks.{type_asks}
 use Rattle.scoped_names.proofs.Parts.{closed}
 use Rattle.written_types.specs.declared.place.Place.TheVariants.{Typed}
 use Rattle.written_types.specs.Faults.{at_most, line_of, max_bound, max_enumerators, max_size, of_names}

@@ -24,9 +24,9 @@ use Rattle.name_table.specs.Search.{word}
 use Rattle.scoped_names.specs.Faults.{has_body}
 use Rattle.scoped_names.specs.Introductions.{Introduction, Stands, Body}
 use Rattle.scoped_names.specs.Reading.{◌>>◌}
-use Rattle.scoped_names.specs.Steps.{cases_steps, declarator_steps, label_steps, members_steps, simple_type_steps, struct_steps, switch_steps, type_steps, union_steps}
+use Rattle.name_steps.specs.Steps.{cases_steps, declarator_steps, label_steps, members_steps, simple_type_steps, struct_steps, switch_steps, type_steps, union_steps}
 use Rattle.scoped_names.specs.Tests.{is_of}
-use Rattle.scoped_names.proofs.Asks.{cases_ask, members_ask, switch_asks}
+use Rattle.name_steps.proofs.Asks.{cases_ask, members_ask, switch_asks}
 use Rattle.scoped_names.proofs.Parts.{Closed, both_closed, closed, each_closed}
 use Rattle.written_types.specs.declared.fault.BuildFault.{BuildFault}
 use Rattle.written_types.specs.declared.labels.Switch.{Switch}

@@ -23,9 +23,9 @@ use Rattle.name_table.specs.declared.entry.EntryKind.TheVariants as Kinds
 use Rattle.name_table.specs.Entry.{Entry}
 use Rattle.name_table.specs.Search.{word}
 use Rattle.scoped_names.specs.Introductions.{Introduction}
-use Rattle.scoped_names.specs.Steps.{declarator_steps, label_steps, size_step, switch_steps, type_steps}
+use Rattle.name_steps.specs.Steps.{declarator_steps, label_steps, size_step, switch_steps, type_steps}
 use Rattle.scoped_names.specs.Tests.{value_read}
-use Rattle.scoped_names.proofs.Asks.{declarator_asks, label_asks, type_asks}
+use Rattle.name_steps.proofs.Asks.{declarator_asks, label_asks, type_asks}
 use Rattle.scoped_names.proofs.OnlyMemory.{there_is}
 use Rattle.scoped_names.proofs.Parts.{Closed, both_closed, closed, each_closed}
 use Rattle.written_types.specs.declared.fault.BuildFault.{BuildFault}

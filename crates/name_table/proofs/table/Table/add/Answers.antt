@@ -25,8 +25,7 @@ invariant_of-self-2 c =
     subst (λ rs. AreTied c.push.new.self rs c.list_word.new.words.items × AreShort (entries_in rs) inside.shortcuts.items)
     (sym (c.push_reserved.ensures.items ∙ ap (λ rs. rs ++ r ∷ []) c.in_ok-reserve.ensures.items)) (
       tied_push inside.keys records inside.words.items c.self.invariant.0 r (omega arith) c.requires.plain (omega arith) c.push.new.self c.in_ok-push.ensures.pushed
-          c.list_word.new.words.items
-          c.in_ok-list_word.ensures.one_more c.in_ok-list_word.ensures.kept c.in_ok-list_word.ensures.listed,
+          c.list_word.new.words.items c.in_ok-list_word.ensures.kept c.in_ok-list_word.ensures.listed,
       ways_push inside.keys records inside.words.items c.self.invariant.0 r (omega arith) c.requires.plain (omega arith) inside.shortcuts.items c.self.invariant.1,
     )
 
@@ -37,7 +36,7 @@ invariant_of-self-in_err-push c =
     (sym c.in_ok-reserve.ensures.items) (
       subst (λ ks. AreTied ks inside.records.items c.list_word.new.words.items) (sym c.in_err-push.ensures.err)
           (relisted inside.keys inside.records.items inside.words.items c.list_word.new.words.items c.self.invariant.0
-          c.in_ok-list_word.ensures.longer c.in_ok-list_word.ensures.kept),
+          c.in_ok-list_word.ensures.kept),
       c.self.invariant.1,
     )
 
@@ -47,6 +46,6 @@ invariant_of-self-in_err-reserve c =
     subst (λ rs. AreTied inside.keys rs c.list_word.new.words.items × AreShort (entries_in rs) inside.shortcuts.items)
     (sym c.in_err-reserve.ensures.items) (
       relisted inside.keys inside.records.items inside.words.items c.list_word.new.words.items c.self.invariant.0
-          c.in_ok-list_word.ensures.longer c.in_ok-list_word.ensures.kept,
+          c.in_ok-list_word.ensures.kept,
       c.self.invariant.1,
     )

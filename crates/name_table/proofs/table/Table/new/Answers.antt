@@ -1,4 +1,4 @@
-use Rattle.std.proofs.Common.{◌≡◌, ◌≤◌, ◌∷◌, [], ap, sym, subst, length, length-append, arith}
+use Rattle.std.proofs.Common.{[], sym, subst}
 use Rattle.name_table.specs.Records.{AreTied, entries_in}
 use Rattle.name_table.specs.Shortcuts.{AreShort}
 use Rattle.name_table.proofs.WaysKept.{no_ways}
@@ -7,9 +7,8 @@ use Rattle.name_table.proofs.table.Table.new.Goals as goal
 
 pub invariant_of-result : goal.invariant_of-result
 invariant_of-result c =
-    let words = c.push.new.self.items in
-    let some : 1 ≤ length words = omega (arith, ap length c.in_ok-push.ensures.items, length-append c.new-words.result.items (c.new.result ∷ [])) in
-    let keys : c.new-2.result ≡ [] = c.new-2.ensures in (
-      subst (λ ks. AreTied ks c.new-3.result.items words) (sym keys) (subst (λ rs. AreTied [] rs words) (sym c.new-3.ensures.items) (tied_none words some)),
-      subst (AreShort (entries_in c.new-3.result.items)) (sym c.new-4.ensures.items) (no_ways (entries_in c.new-3.result.items)),
+    let records = c.new-2.result.items in
+    let words = c.new-3.result.items in (
+      subst (λ ks. AreTied ks records words) (sym c.new.ensures) (subst (λ rs. AreTied [] rs words) (sym c.new-2.ensures.items) (tied_none words)),
+      subst (AreShort (entries_in records)) (sym c.new-4.ensures.items) (no_ways (entries_in records)),
     )

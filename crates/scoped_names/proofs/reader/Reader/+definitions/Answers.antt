@@ -6,8 +6,8 @@ use Rattle.name_table.specs.Entries.{latest}
 use Rattle.scoped_names.specs.Faults.{steps_read}
 use Rattle.scoped_names.specs.Reading.{Tells, ◌>>◌}
 use Rattle.scoped_names.specs.Rising.{Rises}
-use Rattle.scoped_names.specs.Steps.{Declares, Enters, Leaves, definition_steps, steps_of}
-use Rattle.scoped_names.proofs.ListedSteps.{module_listed}
+use Rattle.name_steps.specs.Steps.{Declares, Enters, Leaves, definition_steps, steps_of}
+use Rattle.name_steps.proofs.ListedSteps.{module_listed}
 use Rattle.scoped_names.proofs.Readings.{or_told}
 use Rattle.scoped_names.proofs.Reached.{Rises-split, definitions_at, module_longer, rises_behind, steps_joined, steps_stopped}
 use Rattle.scoped_names.proofs.reader.Reader.+definitions.Goals as goal

@@ -2,7 +2,7 @@ use Rattle.std.proofs.Common.{◌≡◌, ◌+◌, ◌*◌, drop, length}
 use Rattle.name_table.specs.Entries.{latest}
 use Rattle.scoped_names.specs.Faults.{steps_read}
 use Rattle.scoped_names.specs.Rising.{Rises}
-use Rattle.scoped_names.specs.Steps.{definition_steps, steps_of}
+use Rattle.name_steps.specs.Steps.{definition_steps, steps_of}
 use Rattle.scoped_names.proofs.reader.Reader.+definitions.Given as goal
 
 abbrev pub invariant-read_definitions-loop-definition : goal.invariant-read_definitions-loop-definition

@@ -2,7 +2,7 @@ use Rattle.std.proofs.Common.{◌∙◌, ◌<◌, ◌+◌, drop, length, map, su
 use Rattle.std.proofs.lemmas.Result.{err_from_is_err_and}
 use Rattle.name_table.specs.Entries.{latest}
 use Rattle.scoped_names.specs.Rising.{Rises, reached}
-use Rattle.scoped_names.specs.StepsKept.{step_of}
+use Rattle.name_steps.specs.StepsKept.{step_of}
 use Rattle.scoped_names.proofs.Readings.{or_told, steps_at, steps_off, steps_on}
 use Rattle.scoped_names.proofs.Rising.{Rises-mono}
 use Rattle.scoped_names.proofs.Steady.{step_low}

@@ -10,7 +10,7 @@ use Rattle.scoped_names.proofs.tables.Tables.add.Goals as goal
 
 pub add-requires-clause-scope : goal.add-requires-clause-scope
 add-requires-clause-scope c =
-    let kept = c.self.invariant c.if-self.false in
+    let kept = c.self.invariant in
     let many = ap length kept ∙ as_many c.self.inside.all ∙ ap length c.self.view_is in
     let at = c.new.ensures.scope in
     let low = c.requires.scope in
@@ -20,7 +20,7 @@ pub add-requires-clause-fresh : goal.add-requires-clause-fresh
 add-requires-clause-fresh c =
     let scope = c.args.scope in
     let name = word c.args.identifier in
-    let kept = c.self.invariant c.if-self.false in
+    let kept = c.self.invariant in
     ap (λ e. named c.self.inside.features e.scope e.name) c.new.ensures.entry ∙ ap (λ es. named es scope name) kept
     ∙ named_features c.self.inside.all scope name ∙ ap (λ es. named es scope name) c.self.view_is ∙ c.requires.new
 
@@ -28,7 +28,7 @@ pub add-requires-clause-late : goal.add-requires-clause-late
 add-requires-clause-late c =
     let table = c.self.inside.all in
     let m = c.args.meaning in
-    let kept = c.self.invariant c.if-self.false in
+    let kept = c.self.invariant in
     let same : latest c.self.inside.features ≡ latest table = ap latest kept ∙ latest_features table in
     let whole = ap latest c.self.view_is in
     let low = c.requires.late in
@@ -36,15 +36,15 @@ add-requires-clause-late c =
     let late = late_either (is_feature m.kind) (latest table) m.token no_token (omega (arith, whole, low)) (omega (arith, whole, low)) in
     omega (arith, same, token, late)
 
-pub invariant_of-self-2 : goal.invariant_of-self-2
-invariant_of-self-2 c = λ same.
+pub invariant_of-self-in-Ok : goal.invariant_of-self-in-Ok
+invariant_of-self-in-Ok c =
     let table = c.self.inside.all in
     let feature = entry_of c.new.result in
-    let entry = entry_of c.new-2.result in
-    let kept = c.self.invariant c.if-self.false in
+    let entry = entry_of c.new-entry.result in
+    let kept = c.self.invariant in
     let is : feature ≡ as_feature entry =
     c.new.ensures.entry
     ∙ ap (λ m. entry_declared m c.args.prefix.now c.args.scope c.args.identifier) c.as_feature-feature.ensures
-    ∙ sym (ap as_feature c.new-2.ensures.entry) in
+    ∙ sym (ap as_feature c.new-entry.ensures.entry) in
     c.in_ok-add.ensures.added ∙ ap (λ es. es ++ feature ∷ []) kept ∙ ap (λ f. features_of table ++ f ∷ []) is
-    ∙ sym (features_more table entry) ∙ sym (ap features_of c.in_ok-add-2.ensures.added)
+    ∙ sym (features_more table entry) ∙ sym (ap features_of c.in-Ok.ensures.added)

@@ -7,14 +7,14 @@ use Rattle.scoped_names.proofs.tables.Tables.add_base.Goals as goal
 
 pub add_base-requires-clause-inner : goal.add_base-requires-clause-inner
 add_base-requires-clause-inner c =
-    let kept = c.self.invariant c.if-self.false in
+    let kept = c.self.invariant in
     let many = ap length (c.shorten.ensures ∙ kept) ∙ as_many c.self.inside.all ∙ ap length c.self.view_is in
     let low = c.requires.inner in
     omega (arith, many, low)
 
 pub add_base-requires-clause-placed : goal.add_base-requires-clause-placed
 add_base-requires-clause-placed c =
-    let kept = c.self.invariant c.if-self.false in
+    let kept = c.self.invariant in
     let many = ap length (c.shorten.ensures ∙ kept) ∙ as_many c.self.inside.all ∙ ap length c.self.view_is in
     let low = c.requires.placed in
     omega (arith, many, low)
@@ -22,19 +22,18 @@ add_base-requires-clause-placed c =
 pub add_base-requires-clause-late : goal.add_base-requires-clause-late
 add_base-requires-clause-late c =
     let table = c.self.inside.all in
-    let kept = c.self.invariant c.if-self.false in
+    let kept = c.self.invariant in
     let same : latest c.shorten.new.self ≡ latest table = ap latest (c.shorten.ensures ∙ kept) ∙ latest_features table in
     let whole = ap latest c.self.view_is in
     let late = c.requires.late in
     omega (arith, same, whole, late)
 
-pub invariant_of-self-2 : goal.invariant_of-self-2
-invariant_of-self-2 c = λ same.
+pub invariant_of-self-in-Ok : goal.invariant_of-self-in-Ok
+invariant_of-self-in-Ok c =
     let inner = c.args.inner in
     let base = c.args.base in
-    let kept = c.self.invariant c.if-self.false in
-    let more = c.in_ok-add_base-2.ensures.told ∙ ap (λ es. with_base es inner base) c.shorten-2.ensures in
+    let more = c.in-Ok.ensures.told ∙ ap (λ es. with_base es inner base) c.shorten-2.ensures in
     c.in_ok-add_base.ensures.told
-    ∙ ap (λ es. with_base es inner base) (c.shorten.ensures ∙ kept)
+    ∙ ap (λ es. with_base es inner base) (c.shorten.ensures ∙ c.self.invariant)
     ∙ sym (features_based c.self.inside.all inner base)
     ∙ sym (ap features_of more)

@@ -1,0 +1,4 @@
+pub mod Asks
+pub mod Asked
+pub mod ListedSteps
+pub mod Behind

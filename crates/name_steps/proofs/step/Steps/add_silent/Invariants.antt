@@ -1,0 +1,10 @@
+use Rattle.std.proofs.Common.{◌≡◌, ◌++◌, map}
+use Rattle.idl_tree.specs.Lists.{parts}
+use Rattle.idl_tree.specs.PartsLeft.{parts_left}
+use Rattle.name_steps.specs.Steps.{DeclaresFeature}
+use Rattle.name_table.specs.declared.entry.EntryKind.TheVariants.{Attribute}
+use Rattle.name_steps.specs.StepsKept.{steps_in}
+use Rattle.name_steps.proofs.step.Steps.add_silent.Given as goal
+
+abbrev pub invariant-loop-identifier : goal.invariant-loop-identifier
+invariant-loop-identifier l = steps_in l.self ++ map (DeclaresFeature Attribute) (parts_left l.identifier-iterator) ≡ steps_in l.fn.self ++ map (DeclaresFeature Attribute) (parts l.identifiers)

@@ -1,0 +1,140 @@
+//! What a specification asks of its names, step by step.
+
+ghost use Rattle.std.specs.Prelude.{◌≡◌, ◌++◌, ◌∷◌, [], OnOk};
+ghost use Rattle.name_steps.specs.Steps.{Declares as DeclaresStep, DeclaresFeature as FeatureStep, HasMember as MemberStep, IsUndefined as UndefinedStep, Enters as EntersStep, Defines as DefinesStep, Leaves as LeavesStep, NamesType as TypeStep, IsSize as SizeStep};
+ghost use Rattle.name_steps.specs.StepsKept.{step_of, steps_in};
+
+use idl_tree::definitions::Const;
+use idl_tree::expression::Expr;
+use idl_tree::names::{Leaf, ScopedName};
+use idl_tree::types::{Declarator, TypeSpec};
+use name_table::EntryKind;
+use std::alloc::{AllocError, Global};
+
+/// One thing that is asked, in the scope that was entered last and not left yet. `'t` is the tree's.
+#[derive(Clone, Copy)]
+pub enum Step<'t, 'a> {
+    Declares(EntryKind, Leaf<'a>),
+    DeclaresEnum(Leaf<'a>),
+    /// An enumerator of the last enumeration.
+    DeclaresEnumerator(Leaf<'a>),
+    DeclaresTypedef(&'t TypeSpec<'a>, &'t Declarator<'a>),
+    /// The identifier is nothing yet.
+    IsNew(Leaf<'a>),
+    DeclaresConst(&'t Const<'a>),
+    /// An operation or an attribute.
+    DeclaresFeature(EntryKind, Leaf<'a>),
+    /// The scope gets a member or a parameter.
+    HasMember(Leaf<'a>),
+    /// What has the identifier has no definition yet.
+    IsUndefined(Leaf<'a>),
+    /// The interface of the identifier gets a base.
+    HasBase(Leaf<'a>, &'t ScopedName<'a>),
+    /// The scope of what has the identifier.
+    Enters(Leaf<'a>),
+    /// The scope gets its definition, of which that is the identifier.
+    Defines(Leaf<'a>),
+    Leaves,
+    NamesType(&'t ScopedName<'a>),
+    NamesException(&'t ScopedName<'a>),
+    HasWorth(&'t Expr<'a>),
+    IsSize(&'t Expr<'a>),
+    /// A pragma.
+    Says(Leaf<'a>),
+}
+
+/// Steps in order. A contract sees them as steps of the tree.
+#[derive(Drop)]
+pub struct Steps<'t, 'a> {
+    pub list: Vec<Step<'t, 'a>>,
+}
+
+impl<'t, 'a> Steps<'t, 'a> {
+    /// No steps. Takes no memory.
+    pub fn new(alloc: Global) -> Self
+        ensures { steps_in result ≡ [] }
+    {
+        Steps {
+            list: Vec::new(alloc),
+        }
+    }
+
+    /// One step more.
+    pub(crate) fn push(&mut self, step: Step<'t, 'a>) -> Result<(), AllocError>
+        ensures { OnOk result (steps_in self.new ≡ steps_in self.old ++ step_of step.entry ∷ []) }
+    {
+        self.list.push(step)?;
+        Ok(())
+    }
+
+    /// An identifier is declared as something of the kind.
+    pub(crate) fn declares(
+        &mut self,
+        kind: EntryKind,
+        identifier: Leaf<'a>,
+    ) -> Result<(), AllocError>
+        ensures { OnOk result (steps_in self.new ≡ steps_in self.old ++ DeclaresStep kind identifier.entry ∷ []) }
+    {
+        self.push(Step::Declares(kind, identifier))
+    }
+
+    /// An operation or attribute is declared.
+    pub(crate) fn declares_feature(
+        &mut self,
+        kind: EntryKind,
+        identifier: Leaf<'a>,
+    ) -> Result<(), AllocError>
+        ensures { OnOk result (steps_in self.new ≡ steps_in self.old ++ FeatureStep kind identifier.entry ∷ []) }
+    {
+        self.push(Step::DeclaresFeature(kind, identifier))
+    }
+
+    /// The scope gets a member or a parameter.
+    pub(crate) fn has_member(&mut self, identifier: Leaf<'a>) -> Result<(), AllocError>
+        ensures { OnOk result (steps_in self.new ≡ steps_in self.old ++ MemberStep identifier.entry ∷ []) }
+    {
+        self.push(Step::HasMember(identifier))
+    }
+
+    /// What has the identifier has no definition yet.
+    pub(crate) fn is_undefined(&mut self, identifier: Leaf<'a>) -> Result<(), AllocError>
+        ensures { OnOk result (steps_in self.new ≡ steps_in self.old ++ UndefinedStep identifier.entry ∷ []) }
+    {
+        self.push(Step::IsUndefined(identifier))
+    }
+
+    /// The scope of an identifier is entered.
+    pub(crate) fn enters(&mut self, identifier: Leaf<'a>) -> Result<(), AllocError>
+        ensures { OnOk result (steps_in self.new ≡ steps_in self.old ++ EntersStep identifier.entry ∷ []) }
+    {
+        self.push(Step::Enters(identifier))
+    }
+
+    /// The scope gets its definition.
+    pub(crate) fn defines(&mut self, identifier: Leaf<'a>) -> Result<(), AllocError>
+        ensures { OnOk result (steps_in self.new ≡ steps_in self.old ++ DefinesStep identifier.entry ∷ []) }
+    {
+        self.push(Step::Defines(identifier))
+    }
+
+    /// The scope is left.
+    pub(crate) fn leaves(&mut self) -> Result<(), AllocError>
+        ensures { OnOk result (steps_in self.new ≡ steps_in self.old ++ LeavesStep ∷ []) }
+    {
+        self.push(Step::Leaves)
+    }
+
+    /// A name has to be that of a type.
+    pub(crate) fn names_type(&mut self, name: &'t ScopedName<'a>) -> Result<(), AllocError>
+        ensures { OnOk result (steps_in self.new ≡ steps_in self.old ++ TypeStep name.now ∷ []) }
+    {
+        self.push(Step::NamesType(name))
+    }
+
+    /// An expression has to be a size.
+    pub(crate) fn is_size(&mut self, expr: &'t Expr<'a>) -> Result<(), AllocError>
+        ensures { OnOk result (steps_in self.new ≡ steps_in self.old ++ SizeStep expr.now ∷ []) }
+    {
+        self.push(Step::IsSize(expr))
+    }
+}
