@@ -29,7 +29,7 @@ pub record IsCompiledFile (source : List ℕ) (file : Compiled) : Type 0 where
 
 -- ---- refusals
 
--- no octets that a file may have spell the table: its texts are ASCII, so there are too many, or 2 ^ 32 or more of something
+-- no octets that a file may have spell the table: its texts are ASCII, so they are too many, or 2 ^ 32 of something
 abbrev pub IsTooLong : TableParts → Type 0
 IsTooLong table = (octets : List ℕ) → Spells table octets → 16777216 < length octets
 

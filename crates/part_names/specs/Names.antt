@@ -1,4 +1,4 @@
--- The names of the parts of nodes, by the numbers of the nodes: of the members of a structure, a union or a frame and of
+-- The names of the parts of nodes, by the numbers of the nodes: of the members of a structure, a union or a frame and
 -- the enumerators of an enumeration. A node whose parts have no names has none.
 use Rattle.std.specs.Prelude.{ℕ, List, [], Option, Some, None, slice_get}
 use Rattle.std.specs.List.{IsDistinct}

@@ -93,7 +93,8 @@ identifier_parts es ops scope set ps id =
 abbrev pub export_parts : List Entry → Written → List Signature → ℕ → List Part → Export → Parted
 export_parts es w ops scope ps (Exports.Pragma p) = Ok ps
 export_parts es w ops scope ps (Exports.Declaration x) = declaration_parts es w scope ps x
-export_parts es w ops scope ps (Exports.Attribute a) = each (identifier_parts es ops scope (is_set a.declared)) ps (attribute_identifiers a.declared)
+export_parts es w ops scope ps (Exports.Attribute a) =
+    each (identifier_parts es ops scope (is_set a.declared)) ps (attribute_identifiers a.declared)
 export_parts es w ops scope ps (Exports.Operation o) = operation_parts es ops scope ps o
 
 abbrev pub interface_parts : List Entry → Written → List Signature → ℕ → List Part → Interface → Parted

@@ -27,7 +27,8 @@ pub record Writes (definitions : List Definition) (names : Whole) (w : Written) 
   pub operations : written.operations ≡ ops
 
 -- the names are those of the parts that the definitions declare
-pub record AreNamed (definitions : List Definition) (names : Whole) (w : Written) (ops : List Signature) (nodes : List (List (List ℕ))) : Type 0 where
+pub record AreNamed (definitions : List Definition) (names : Whole) (w : Written) (ops : List Signature)
+    (nodes : List (List (List ℕ))) : Type 0 where
   pub parts : List Part
   pub named : file_parts names.entries w ops definitions ≡ Ok parts
   pub by : nodes ≡ by_node (length w.nodes) parts
