@@ -31,11 +31,11 @@ use Rattle.idl_lexer.specs.Identifiers.{words as words_in}
 use Rattle.scoped_names.specs.declared.fault.At.{At}
 use Rattle.scoped_names.specs.declared.fault.NameFault.{NameFault}
 use Rattle.scoped_names.specs.declared.fault.NameFault.TheVariants.{IdTwice}
-use Rattle.scoped_names.specs.Faults.{base_added, base_test, based, declared_as, declares_over, entry_in, free_of, free_test, given_once, left_open, never_defined, new_test, nothing_yet, prefix_set, said_read, specification_read, step_read, steps_read, taken_by, test_of, type_kind, undefined_test, with_base_at, with_declared, declared as declared_plain}
+use Rattle.scoped_names.specs.Faults.{again_test, base_added, base_test, based, declared_as, declares_over, entry_in, free_of, free_test, given_once, left_open, never_defined, new_test, nothing_yet, prefix_set, said_read, specification_read, step_read, steps_read, taken_by, test_of, type_kind, undefined_test, with_base_at, with_declared, declared as declared_plain}
 use Rattle.scoped_names.specs.IdPragmas.{Said, SetsPrefix, Gives, is_same_given, said_by, said_by_kind, said_by_word}
 use Rattle.scoped_names.specs.Meanings.{const_meant, enum_meant, enumerator_meant, typedef_meant}
 use Rattle.scoped_names.specs.Reading.{Reading, State, passed, ◌>>◌}
-use Rattle.scoped_names.specs.RepositoryIds.{GivenId, IdPragma, VersionOf, WholeId, given_to, id_by, idl_format, names_to, path, prefix_part, repository_id, with_slashes}
+use Rattle.scoped_names.specs.RepositoryIds.{GivenId, IdPragma, VersionOf, WholeId, given_to, id_by, idl_format, names_to, path, pragma_for, prefix_part, repository_id, with_slashes}
 use Rattle.name_steps.specs.Steps.{Step, Declares, DeclaresConst, DeclaresFeature, DeclaresEnum, DeclaresEnumerator, DeclaresTypedef, HasBase, HasMember, Enters, Leaves, Defines, Says, steps_of}
 use Rattle.scoped_names.specs.Tests.{at, found_at, resolved, value_of_type}
 use Rattle.scoped_names.specs.TypeKinds.{const_type_kind}
@@ -131,21 +131,19 @@ declared_keeps m st next l h p =
     let (u, test, rest) = then_ok (free_test l (taken_by st (word l))) (λ u. declares_over m st l o) next h in
     declares_plain m st next l o rest p
 
-given_once_plain : (ps qs : List IdPragma) (entry : ℕ) (given : GivenId) (here : At) (o : Option GivenId) → given_once ps entry given here o ≡ Ok qs
+given_once_plain : (ps qs : List IdPragma) (entry : ℕ) (given : GivenId) (here : At) (o : Option IdPragma) → given_once ps entry given here o ≡ Ok qs
     → AllByRecursion (λ p. GivenAscii p.given) ps → GivenAscii given → AllByRecursion (λ p. GivenAscii p.given) qs
 given_once_plain ps qs entry given here None h all own =
-    let is : ps ++ record { entry = entry; given = given } ∷ [] ≡ qs = cc in
+    let is : ps ++ record { entry = entry; given = given; at = here } ∷ [] ≡ qs = cc in
     subst (AllByRecursion (λ p. GivenAscii p.given)) is (push ps all)
   where
-    push : (xs : List IdPragma) → AllByRecursion (λ p. GivenAscii p.given) xs → AllByRecursion (λ p. GivenAscii p.given) (xs ++ record { entry = entry; given = given } ∷ [])
+    push : (xs : List IdPragma) → AllByRecursion (λ p. GivenAscii p.given) xs → AllByRecursion (λ p. GivenAscii p.given) (xs ++ record { entry = entry; given = given; at = here } ∷ [])
     push [] h = (own, tt)
     push (x ∷ xs) h = (h.0, push xs h.1)
-given_once_plain ps qs entry given here (Some other) h all own = by (is_same_given other given) h
-  where
-    by : (b : Bool) → (let r : Result (List IdPragma) NameFault = if b then Ok ps else Err (IdTwice here) in r) ≡ Ok qs
-        → AllByRecursion (λ p. GivenAscii p.given) qs
-    by true h = let is : ps ≡ qs = cc in subst (AllByRecursion (λ p. GivenAscii p.given)) is all
-    by false h = absurd cc
+given_once_plain ps qs entry given here (Some first) h all own =
+    let (u, test, rest) = then_ok (again_test first.given first.at given here) (λ u. let r : Result (List IdPragma) NameFault = Ok ps in r) qs h in
+    let is : ps ≡ qs = cc in
+    subst (AllByRecursion (λ p. GivenAscii p.given)) is all
 
 prefix_plain : (st next : State) (scope : ℕ) (text : List ℕ) (here : At) → prefix_set st scope text here ≡ Ok next → IsAscii text → IsPlain st → IsPlain next
 prefix_plain st next zero text here h own p =
@@ -159,14 +157,14 @@ said_plain st next l None h own p = let is : st ≡ next = cc in subst IsPlain i
 said_plain st next l (Some (SetsPrefix text)) h own p = prefix_plain st next st.scope text (at l) h own p
 said_plain st next l (Some (Gives name given)) h own p =
     let (e, finds, h1) = then_ok (found_at st.entries (at l) (identifiers_see st.entries l.number st.scope (begins_at_root name) (words_in name)))
-    (λ e. given_once st.given e given (at l) (given_to st.given e) >> λ ps. let r : Reading = Ok (record st { given = ps }) in r) next h in
-    let (ps, gives, h2) = then_ok (given_once st.given e given (at l) (given_to st.given e)) (λ ps. let r : Reading = Ok (record st { given = ps }) in r) next h1 in
+    (λ e. given_once st.given e given (at l) (pragma_for st.given e) >> λ ps. let r : Reading = Ok (record st { given = ps }) in r) next h in
+    let (ps, gives, h2) = then_ok (given_once st.given e given (at l) (pragma_for st.given e)) (λ ps. let r : Reading = Ok (record st { given = ps }) in r) next h1 in
     let more : State = record st { given = ps } in
     let is : more ≡ next = cc in
     subst IsPlain is (record {
       prefix = p.prefix;
       entries = p.entries;
-      given = given_once_plain st.given ps e given (at l) (given_to st.given e) gives p.given own;
+      given = given_once_plain st.given ps e given (at l) (pragma_for st.given e) gives p.given own;
     })
 
 -- entries that differ in their bases alone

@@ -26,7 +26,7 @@ use Rattle.scoped_names.specs.Faults.{base_added, base_test, based, declared as 
 use Rattle.scoped_names.specs.IdPragmas.{Said, SetsPrefix, Gives, said_by}
 use Rattle.scoped_names.specs.Meanings.{const_meant, enum_meant, enumerator_meant, typedef_meant}
 use Rattle.scoped_names.specs.Reading.{Reading, State, Test, ◌>>◌, passed}
-use Rattle.scoped_names.specs.RepositoryIds.{given_to}
+use Rattle.scoped_names.specs.RepositoryIds.{pragma_for}
 use Rattle.name_steps.specs.Steps.{Step, Declares, DeclaresEnum, DeclaresEnumerator, DeclaresTypedef, DeclaresConst, DeclaresFeature, HasMember, HasBase, Enters, Defines, Leaves, Says, steps_of}
 use Rattle.scoped_names.specs.Tests.{at, at_entry, found_at, is_of, resolved, value_of_type}
 use Rattle.scoped_names.specs.TypeKinds.{const_type_kind}
@@ -118,8 +118,8 @@ said_based st next l (Some (SetsPrefix text)) h i = by st.scope h
     by (suc e) is = absurd cc
 said_based st next l (Some (Gives name given)) h i =
     let (e, finds, h1) = then_ok (found_at st.entries (at l) (identifiers_see st.entries l.number st.scope (begins_at_root name) (words name)))
-    (λ e. given_once st.given e given (at l) (given_to st.given e) >> λ ps. let r : Reading = Ok (record st { given = ps }) in r) next h in
-    let (ps, gives, h2) = then_ok (given_once st.given e given (at l) (given_to st.given e)) (λ ps. let r : Reading = Ok (record st { given = ps }) in r) next h1 in
+    (λ e. given_once st.given e given (at l) (pragma_for st.given e) >> λ ps. let r : Reading = Ok (record st { given = ps }) in r) next h in
+    let (ps, gives, h2) = then_ok (given_once st.given e given (at l) (pragma_for st.given e)) (λ ps. let r : Reading = Ok (record st { given = ps }) in r) next h1 in
     let more : State = record st { given = ps } in
     let same : more ≡ next = cc in
     subst IsBased same i
