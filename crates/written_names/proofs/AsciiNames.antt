@@ -30,9 +30,8 @@ use Rattle.name_table.proofs.Stability.{get_push_last, get_push_low}
 use Rattle.idl_lexer.specs.Identifiers.{words as words_in}
 use Rattle.scoped_names.specs.declared.fault.At.{At}
 use Rattle.scoped_names.specs.declared.fault.NameFault.{NameFault}
-use Rattle.scoped_names.specs.declared.fault.NameFault.TheVariants.{IdTwice}
 use Rattle.scoped_names.specs.Faults.{again_test, base_added, base_test, based, declared_as, declares_over, entry_in, free_of, free_test, given_once, left_open, never_defined, new_test, nothing_yet, prefix_set, said_read, specification_read, step_read, steps_read, taken_by, test_of, type_kind, undefined_test, with_base_at, with_declared, declared as declared_plain}
-use Rattle.scoped_names.specs.IdPragmas.{Said, SetsPrefix, Gives, is_same_given, said_by, said_by_kind, said_by_word}
+use Rattle.scoped_names.specs.IdPragmas.{Said, SetsPrefix, Gives, said_by, said_by_kind, said_by_word}
 use Rattle.scoped_names.specs.Meanings.{const_meant, enum_meant, enumerator_meant, typedef_meant}
 use Rattle.scoped_names.specs.Reading.{Reading, State, passed, ◌>>◌}
 use Rattle.scoped_names.specs.RepositoryIds.{GivenId, IdPragma, VersionOf, WholeId, given_to, id_by, idl_format, names_to, path, pragma_for, prefix_part, repository_id, with_slashes}
