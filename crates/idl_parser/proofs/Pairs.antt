@@ -15,9 +15,6 @@ group_two p x y = sym (append_assoc p x y)
 pub group_three : (p x y z : List Piece) → p ++ (x ++ y ++ z) ≡ p ++ x ++ y ++ z
 group_three p x y z = group_two p (x ++ y) z ∙ ap (λ l. l ++ z) (group_two p x y)
 
-pub group_within : (p x y z : List Piece) → p ++ (x ++ (y ++ z)) ≡ p ++ x ++ y ++ z
-group_within p x y z = group_two p x (y ++ z) ∙ group_two (p ++ x) y z
-
 pub group_four : (p w x y z : List Piece) → p ++ (w ++ x ++ y ++ z) ≡ p ++ w ++ x ++ y ++ z
 group_four p w x y z = group_two p (w ++ x ++ y) z ∙ ap (λ l. l ++ z) (group_three p w x y)
 
@@ -89,12 +86,6 @@ pub first_handed_level : {T U E : Type 0} (f : T → ℕ) (room : ℕ) (first : 
     → f first ≤ room → IfOk r (λ p. p.0 ≡ first) → IfOk r (λ p. f p.0 ≤ room)
 first_handed_level f room first (Ok p) front same = first_level f room first p.0 front same
 first_handed_level f room first (Err e) front same = tt
-
-pub both_handed_levels : {T U E : Type 0} (f : T → ℕ) (g : U → ℕ) (room : ℕ) (first : T) (second : Result U E) (r : Result (T × U) E)
-    → f first ≤ room → IfOk second (λ u. g u ≤ room)
-    → IfOk r (λ p. p.0 ≡ first) → IfOk r (λ p. second ≡ Ok p.1) → IfOk r (λ p. max (f p.0) (g p.1) ≤ room)
-both_handed_levels f g room first second (Ok p) front back same is = both_levels f g room first second p front back same is
-both_handed_levels f g room first second (Err e) front back same is = tt
 
 -- below a number
 pub second_under : {U E : Type 0} (g : U → ℕ) (room : ℕ) (second : Result U E) (p : U) → IfOk second (λ u. g u < room) → second ≡ Ok p → g p < room

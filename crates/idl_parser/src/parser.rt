@@ -3,6 +3,7 @@
 
 ghost use Rattle.std.specs.Prelude.{◌≡◌, ◌++◌, ◌≤◌, [], Ok, IfOk};
 ghost use Rattle.idl_tree.specs.Pieces.{Spell};
+ghost use Rattle.idl_parser.specs.Reading.{Whole};
 ghost use Rattle.idl_tree.specs.DefinitionYields.{definitions_spelled};
 ghost use Rattle.idl_tree.specs.DefinitionLevels.{levels_of};
 
@@ -27,29 +28,25 @@ fn told(cursor: &Cursor<'_>, stop: Stop) -> ParseFault {
     }
 }
 
-/// What is read where nothing stands behind it.
-fn whole<T: Drop>(cursor: &Cursor<'_>, read: Result<T, Stop>) -> Result<T, ParseFault>
+/// What was read, where nothing stands behind it.
+fn whole<T: Drop>(cursor: &Cursor<'_>, read: Result<T, Stop>) -> Result<T, Stop>
     ensures same { IfOk result (λ part. read ≡ Ok part) }
     ensures ended { IfOk result (λ part. cursor.now ≡ []) }
 {
-    let part = match read {
-        Ok(part) => part,
-        Err(stop) => return Err(told(cursor, stop)),
-    };
-    if !cursor.is_at_end() {
-        return Err(cursor.fault());
+    let part = got!(read);
+    if cursor.is_at_end() {
+        Ok(part)
+    } else {
+        Err(Stop::Unexpected)
     }
-    Ok(part)
 }
 
-/// The definitions that tokens spell from the first to the last.
-fn read_all<'a>(alloc: Global, tokens: &'a [Token<'a>]) -> Result<Vec<Definition<'a>>, ParseFault>
-    ensures spells { IfOk result (λ d. Spell (definitions_spelled d.items) tokens.now) }
-    ensures levels { IfOk result (λ d. levels_of d.items ≤ 64) }
+/// Reads definitions to the end.
+fn read_all<'a>(cursor: &mut Cursor<'a>) -> Result<Vec<Definition<'a>>, Stop>
+    ensures { IfOk result (λ d. Whole cursor.old d.items) }
 {
-    let mut cursor = Cursor::new(alloc, tokens);
-    let read = read_definitions(&mut cursor, MAX_LEVELS);
-    whole(&cursor, read)
+    let read = read_definitions(cursor, MAX_LEVELS);
+    whole(cursor, read)
 }
 
 /// The tree of an IDL specification, given as its tokens (ISO/IEC 19500-1, IDL grammar).
@@ -65,11 +62,12 @@ pub fn parse<'a>(alloc: Global, tokens: &'a [Token<'a>]) -> Result<Spec<'a>, Par
     ensures spells { IfOk result (λ spec. Spell (definitions_spelled spec.definitions.items) tokens.now) }
     ensures levels { IfOk result (λ spec. levels_of spec.definitions.items ≤ 64) }
 {
-    match read_all(alloc, tokens) {
+    let mut cursor = Cursor::new(alloc, tokens);
+    match read_all(&mut cursor) {
         Ok(definitions) => Ok(Spec {
             tokens,
             definitions,
         }),
-        Err(fault) => Err(fault),
+        Err(stop) => Err(told(&cursor, stop)),
     }
 }

@@ -24,8 +24,8 @@ fn read_single<'a>(cursor: &mut Cursor<'a>, room: usize) -> Result<Definition<'a
     ensures spells { IfOk result (λ d. Parsed cursor.old (definition_yield d) cursor.new) }
     ensures levels { IfOk result (λ d. definition_levels d ≤ room) }
 {
-    if let Some(pragma) = cursor.take_leaf(Kind::Pragma) {
-        return Ok(Definition::Pragma(pragma));
+    if let Some(Kind::Pragma) = cursor.kind() {
+        return cursor.leaf(Kind::Pragma).map(Definition::Pragma);
     }
     if cursor.is_keyword("interface") {
         return read_ended_interface(cursor, room).map(Definition::Interface);
@@ -64,15 +64,22 @@ fn read_named<'a>(
     Ok((name, definitions))
 }
 
+/// The module of a name and definitions.
+fn module<'a>(parts: (Leaf<'a>, Vec<Definition<'a>>)) -> Definition<'a>
+    ensures spells { definition_yield result ≡ keyword (codes "module") ++ identifier parts.entry.0 ++ mark (codes "{")
+        ++ flat_map definition_yield parts.entry.1.items ++ mark (codes "}") ++ mark (codes ";") }
+    ensures levels { definition_levels result ≡ suc (highest definition_levels parts.entry.1.items) }
+{
+    let (name, definitions) = parts;
+    Definition::new_module(name, definitions)
+}
+
 #[cycle(definitions)]
 fn read_module<'a>(cursor: &mut Cursor<'a>, room: usize) -> Result<Definition<'a>, Stop>
     ensures spells { IfOk result (λ d. Parsed cursor.old (definition_yield d) cursor.new) }
     ensures levels { IfOk result (λ d. definition_levels d ≤ room) }
 {
-    match read_named(cursor, room) {
-        Ok((name, definitions)) => Ok(Definition::new_module(name, definitions)),
-        Err(stop) => Err(stop),
-    }
+    read_named(cursor, room).map(module)
 }
 
 /// Reads definitions up to a closing brace or the end.

@@ -219,8 +219,8 @@ fn read_export<'a>(cursor: &mut Cursor<'a>, room: usize) -> Result<Export<'a>, S
     ensures spells { IfOk result (λ e. Parsed cursor.old (export_yield e) cursor.new) }
     ensures levels { IfOk result (λ e. export_levels e ≤ room) }
 {
-    if let Some(pragma) = cursor.take_leaf(Kind::Pragma) {
-        return Ok(Export::Pragma(pragma));
+    if let Some(Kind::Pragma) = cursor.kind() {
+        return cursor.leaf(Kind::Pragma).map(Export::Pragma);
     }
     if is_declaration(cursor) {
         return read_ended_declaration(cursor, room).map(Export::Declaration);

@@ -32,9 +32,3 @@ read_named-returns-clause-levels t c =
     let few = handed (λ d. highest definition_levels d.items ≤ c.in-Ok.part.1) c.read_definitions-read.result c.closed-read.result c.read_definitions-read.ensures.levels c.closed-read.ensures.same in
     let inside = IfOk-at_ok (λ d. highest definition_levels d.items ≤ c.in-Ok.part.1) c.in-Ok-closed.ensures.same few in
     omega (arith, c.in-Ok.ensures.levels, inside)
-
-pub read_module-returns-in-Ok-clause-spells : goal.read_module-returns-in-Ok-clause-spells
-read_module-returns-in-Ok-clause-spells t c = rw c.new_module.ensures.spells c.in-Ok.ensures.spells
-
-pub read_module-returns-in-Ok-clause-levels : goal.read_module-returns-in-Ok-clause-levels
-read_module-returns-in-Ok-clause-levels t c = omega (arith, c.new_module.ensures.levels, c.in-Ok.ensures.levels)
