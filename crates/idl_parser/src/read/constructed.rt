@@ -25,7 +25,7 @@ fn read_label<'a>(cursor: &mut Cursor<'a>, room: usize) -> Result<Label<'a>, Sto
 {
     if cursor.take_keyword("case") {
         let value = read_expr(cursor, room);
-        return cursor.closed(value, ":").map(Label::Case);
+        return Ok(Label::Case(got!(cursor.closed(value, ":"))));
     }
     let Some(word) = cursor.take(Kind::Keyword, "default") else {
         return Err(Stop::Unexpected);
@@ -87,10 +87,10 @@ pub(crate) fn read_type<'a>(cursor: &mut Cursor<'a>, room: usize) -> Result<Type
     ensures levels { IfOk result (λ t. type_levels t ≤ room) }
 {
     match next_shape(cursor) {
-        Shape::Struct => read_struct(cursor, room).map(TypeSpec::Struct),
-        Shape::Union => read_union(cursor, room).map(TypeSpec::Union),
-        Shape::Enum => read_enum(cursor, room).map(TypeSpec::Enum),
-        Shape::Other => read_simple_type(cursor, room).map(TypeSpec::Simple),
+        Shape::Struct => Ok(TypeSpec::Struct(got!(read_struct(cursor, room)))),
+        Shape::Union => Ok(TypeSpec::Union(got!(read_union(cursor, room)))),
+        Shape::Enum => Ok(TypeSpec::Enum(got!(read_enum(cursor, room)))),
+        Shape::Other => Ok(TypeSpec::Simple(got!(read_simple_type(cursor, room)))),
     }
 }
 

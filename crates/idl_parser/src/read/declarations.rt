@@ -49,10 +49,10 @@ fn read_struct_dcl<'a>(cursor: &mut Cursor<'a>, room: usize) -> Result<TypeDcl<'
     ensures levels { IfOk result (λ t. type_dcl_levels t ≤ room) }
 {
     if !cursor.is_ahead() {
-        return read_struct(cursor, room).map(TypeDcl::Struct);
+        return Ok(TypeDcl::Struct(got!(read_struct(cursor, room))));
     }
     got!(cursor.keyword("struct"));
-    cursor.identifier().map(TypeDcl::StructAhead)
+    Ok(TypeDcl::StructAhead(got!(cursor.identifier())))
 }
 
 /// Reads a union, or one that is declared ahead, which a semicolon tells.
@@ -61,10 +61,10 @@ fn read_union_dcl<'a>(cursor: &mut Cursor<'a>, room: usize) -> Result<TypeDcl<'a
     ensures levels { IfOk result (λ t. type_dcl_levels t ≤ room) }
 {
     if !cursor.is_ahead() {
-        return read_union(cursor, room).map(TypeDcl::Union);
+        return Ok(TypeDcl::Union(got!(read_union(cursor, room))));
     }
     got!(cursor.keyword("union"));
-    cursor.identifier().map(TypeDcl::UnionAhead)
+    Ok(TypeDcl::UnionAhead(got!(cursor.identifier())))
 }
 
 fn read_type_dcl<'a>(cursor: &mut Cursor<'a>, room: usize) -> Result<TypeDcl<'a>, Stop>
@@ -74,7 +74,7 @@ fn read_type_dcl<'a>(cursor: &mut Cursor<'a>, room: usize) -> Result<TypeDcl<'a>
     match next_shape(cursor) {
         Shape::Struct => read_struct_dcl(cursor, room),
         Shape::Union => read_union_dcl(cursor, room),
-        Shape::Enum => read_enum(cursor, room).map(TypeDcl::Enum),
+        Shape::Enum => Ok(TypeDcl::Enum(got!(read_enum(cursor, room)))),
         Shape::Other => read_typedef(cursor, room),
     }
 }
@@ -133,12 +133,12 @@ fn read_declaration<'a>(cursor: &mut Cursor<'a>, room: usize) -> Result<Declarat
     ensures levels { IfOk result (λ d. declaration_levels d ≤ room) }
 {
     if cursor.is_keyword("const") {
-        return read_const(cursor, room).map(Declaration::Const);
+        return Ok(Declaration::Const(got!(read_const(cursor, room))));
     }
     if cursor.is_keyword("exception") {
-        return read_except(cursor, room).map(Declaration::Except);
+        return Ok(Declaration::Except(got!(read_except(cursor, room))));
     }
-    read_type_dcl(cursor, room).map(Declaration::TypeDcl)
+    Ok(Declaration::TypeDcl(got!(read_type_dcl(cursor, room))))
 }
 
 /// Reads a declaration and the semicolon behind it.

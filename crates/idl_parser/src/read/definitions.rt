@@ -25,13 +25,13 @@ fn read_single<'a>(cursor: &mut Cursor<'a>, room: usize) -> Result<Definition<'a
     ensures levels { IfOk result (λ d. definition_levels d ≤ room) }
 {
     if let Some(Kind::Pragma) = cursor.kind() {
-        return cursor.leaf(Kind::Pragma).map(Definition::Pragma);
+        return Ok(Definition::Pragma(got!(cursor.leaf(Kind::Pragma))));
     }
     if cursor.is_keyword("interface") {
-        return read_ended_interface(cursor, room).map(Definition::Interface);
+        return Ok(Definition::Interface(got!(read_ended_interface(cursor, room))));
     }
     if is_declaration(cursor) {
-        return read_ended_declaration(cursor, room).map(Definition::Declaration);
+        return Ok(Definition::Declaration(got!(read_ended_declaration(cursor, room))));
     }
     Err(Stop::Unexpected)
 }

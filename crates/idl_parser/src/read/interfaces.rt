@@ -220,15 +220,15 @@ fn read_export<'a>(cursor: &mut Cursor<'a>, room: usize) -> Result<Export<'a>, S
     ensures levels { IfOk result (λ e. export_levels e ≤ room) }
 {
     if let Some(Kind::Pragma) = cursor.kind() {
-        return cursor.leaf(Kind::Pragma).map(Export::Pragma);
+        return Ok(Export::Pragma(got!(cursor.leaf(Kind::Pragma))));
     }
     if is_declaration(cursor) {
-        return read_ended_declaration(cursor, room).map(Export::Declaration);
+        return Ok(Export::Declaration(got!(read_ended_declaration(cursor, room))));
     }
     if cursor.is_keyword("readonly") || cursor.is_keyword("attribute") {
-        return read_ended_attribute(cursor, room).map(Export::Attribute);
+        return Ok(Export::Attribute(got!(read_ended_attribute(cursor, room))));
     }
-    read_ended_operation(cursor, room).map(Export::Operation)
+    Ok(Export::Operation(got!(read_ended_operation(cursor, room))))
 }
 
 /// Reads exports between braces.

@@ -127,7 +127,7 @@ pub(crate) fn read_param_type<'a>(
     if cursor.take_keyword("Object") {
         return Ok(ParamType::Object);
     }
-    read_const_type(cursor, room).map(ParamType::Plain)
+    Ok(ParamType::Plain(got!(read_const_type(cursor, room))))
 }
 
 /// Reads the bound of a sequence, if it has one.
@@ -149,7 +149,7 @@ pub(crate) fn read_simple_type<'a>(
     ensures levels { IfOk result (λ t. simple_type_levels t ≤ room) }
 {
     if !cursor.take_keyword("sequence") {
-        return read_param_type(cursor, room).map(SimpleType::Plain);
+        return Ok(SimpleType::Plain(got!(read_param_type(cursor, room))));
     }
     let left = got!(cursor.open("<", room));
     let element = got!(read_simple_type(cursor, left));
