@@ -43,6 +43,22 @@ made_levels levels most room node (Ok n) is same few =
     omega (arith, levels_is, few)
 made_levels levels most room node (Err e) is same few = tt
 
+-- the same of a node that is handed on as it was made
+pub spelled_by : {T E : Type 0} (a c : List Seen) (yield : T → List Piece) (y : List Piece) (r : Result T E)
+    → IfOk r (λ n. yield n ≡ y) → Parsed a y c → IfOk r (λ n. Parsed a (yield n) c)
+spelled_by a c yield y (Ok n) is read = spelled_as (sym is) read
+spelled_by a c yield y (Err e) is read = tt
+
+pub levels_by : {T E : Type 0} (levels : T → ℕ) (most room : ℕ) (r : Result T E)
+    → IfOk r (λ n. levels n ≡ most) → most ≤ room → IfOk r (λ n. levels n ≤ room)
+levels_by levels most room (Ok n) is few = omega (arith, is, few)
+levels_by levels most room (Err e) is few = tt
+
+-- levels inside another one
+pub under_suc : {T E : Type 0} (levels : T → ℕ) (left room : ℕ) (r : Result T E) → suc left ≡ room → IfOk r (λ n. levels n ≤ left) → IfOk r (λ n. levels n < room)
+under_suc levels left room (Ok n) is few = omega (arith, is, few)
+under_suc levels left room (Err e) is few = tt
+
 -- ---- both parts
 
 pub both_read : {T U E : Type 0} {a b c : List Seen} (f : T → List Piece) (g : U → List Piece) (first : T) (second : Result U E) (p : T × U)

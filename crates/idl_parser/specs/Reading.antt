@@ -1,5 +1,5 @@
 -- From where to where a part of a tree is read.
-use Rattle.std.specs.Prelude.{◌≡◌, ◌<◌, ◌≤◌, List, Some, true, length}
+use Rattle.std.specs.Prelude.{◌≡◌, ◌<◌, ◌≤◌, ◌++◌, ◌∷◌, ℕ, List, [], Some, true, length}
 use Rattle.idl_tree.specs.declared.definitions.Definition.{Definition}
 use Rattle.idl_tree.specs.DefinitionYields.{definitions_spelled}
 use Rattle.idl_tree.specs.DefinitionLevels.{levels_of}
@@ -19,3 +19,10 @@ pub record Continued (tokens : List Seen) (spelled : List Piece) (left : List Se
 pub record Whole (tokens : List Seen) (definitions : List Definition) : Type 0 where
   pub spells : is_end (past (definitions_spelled definitions) (Some tokens)) ≡ true
   pub levels : levels_of definitions ≤ 64
+
+-- one more part stands at the end of a list: these tokens spell it, and it has no more levels than there is room for
+pub record Added {T : Type 0} (yield : T → List Piece) (levels : T → ℕ) (room : ℕ) (before after : List T) (tokens left : List Seen) : Type 0 where
+  pub part : T
+  pub is : after ≡ before ++ part ∷ []
+  pub spells : Parsed tokens (yield part) left
+  pub few : levels part ≤ room

@@ -17,16 +17,17 @@ use crate::read::expressions::read_expr;
 use crate::read::lists::{both, then};
 use crate::read::types::{read_const_type, read_enum};
 use crate::stop::Stop;
+use idl_lexer::Kind;
 use idl_tree::const_expr::ConstExpr;
 use idl_tree::definitions::{Const, Declaration, Except, TypeDcl};
 use idl_tree::names::Leaf;
 
-/// The keywords with which types, constants and exceptions begin.
-const DECLARED: [&str; 6] = ["typedef", "struct", "union", "enum", "const", "exception"];
-
 /// Whether a type, a constant or an exception is next.
 pub(crate) fn is_declaration(cursor: &Cursor<'_>) -> bool {
-    cursor.is_one_of(&DECLARED)
+    matches!(
+        cursor.text(Kind::Keyword),
+        Some("typedef" | "struct" | "union" | "enum" | "const" | "exception")
+    )
 }
 
 fn read_typedef<'a>(cursor: &mut Cursor<'a>, room: usize) -> Result<TypeDcl<'a>, Stop>
@@ -121,6 +122,13 @@ fn read_except<'a>(cursor: &mut Cursor<'a>, room: usize) -> Result<Except<'a>, S
     ensures levels { IfOk result (λ e. except_levels e ≤ room) }
 {
     let identifier = got!(read_except_name(cursor));
+    if cursor.take_mark("}") {
+        let members = Vec::new(cursor.alloc());
+        return Ok(Except {
+            identifier,
+            members,
+        });
+    }
     let members = got!(read_members(cursor, room));
     Ok(Except {
         identifier,
@@ -128,7 +136,10 @@ fn read_except<'a>(cursor: &mut Cursor<'a>, room: usize) -> Result<Except<'a>, S
     })
 }
 
-fn read_declaration<'a>(cursor: &mut Cursor<'a>, room: usize) -> Result<Declaration<'a>, Stop>
+pub(crate) fn read_declaration<'a>(
+    cursor: &mut Cursor<'a>,
+    room: usize,
+) -> Result<Declaration<'a>, Stop>
     ensures spells { IfOk result (λ d. Parsed cursor.old (declaration_yield d) cursor.new) }
     ensures levels { IfOk result (λ d. declaration_levels d ≤ room) }
 {
@@ -139,16 +150,4 @@ fn read_declaration<'a>(cursor: &mut Cursor<'a>, room: usize) -> Result<Declarat
         return Ok(Declaration::Except(got!(read_except(cursor, room))));
     }
     Ok(Declaration::TypeDcl(got!(read_type_dcl(cursor, room))))
-}
-
-/// Reads a declaration and the semicolon behind it.
-pub(crate) fn read_ended_declaration<'a>(
-    cursor: &mut Cursor<'a>,
-    room: usize,
-) -> Result<Declaration<'a>, Stop>
-    ensures spells { IfOk result (λ d. Parsed cursor.old (declaration_yield d ++ mark (codes ";")) cursor.new) }
-    ensures levels { IfOk result (λ d. declaration_levels d ≤ room) }
-{
-    let read = read_declaration(cursor, room);
-    cursor.closed(read, ";")
 }

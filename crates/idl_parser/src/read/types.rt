@@ -67,23 +67,15 @@ enum Word {
     Other,
 }
 
-/// The keywords with which integer types begin.
-const INTEGERS: [&str; 3] = ["short", "long", "unsigned"];
-
 /// Which of these is next.
 fn next_word(cursor: &Cursor<'_>) -> Word {
-    if cursor.is_one_of(&INTEGERS) {
-        Word::Integer
-    } else if cursor.is_keyword("char") {
-        Word::Char
-    } else if cursor.is_keyword("boolean") {
-        Word::Boolean
-    } else if cursor.is_keyword("octet") {
-        Word::Octet
-    } else if cursor.is_keyword("string") {
-        Word::String
-    } else {
-        Word::Other
+    match cursor.text(Kind::Keyword) {
+        Some("short" | "long" | "unsigned") => Word::Integer,
+        Some("char") => Word::Char,
+        Some("boolean") => Word::Boolean,
+        Some("octet") => Word::Octet,
+        Some("string") => Word::String,
+        _ => Word::Other,
     }
 }
 
