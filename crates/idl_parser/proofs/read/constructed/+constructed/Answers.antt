@@ -10,8 +10,15 @@ use Rattle.idl_tree.specs.Levels.{highest, highest_listed}
 use Rattle.idl_tree.specs.TypeLevels.{type_levels, switch_levels, label_levels, declarator_levels, member_levels, case_levels, struct_levels, union_levels}
 use Rattle.idl_parser.proofs.Parts.{part_then}
 use Rattle.idl_parser.proofs.Pairs.{spelled_as, group_two, group_three, both_read, first_level, second_level, second_under, handed, closed_list, spelled_by, levels_by, behind_part, under_suc}
-use Rattle.idl_parser.proofs.Adding.{longer, longer_level, some_more, added}
+use Rattle.idl_parser.proofs.Adding.{longer, longer_level, alone, alone_level, some_more, added}
 use Rattle.idl_parser.proofs.read.constructed.+constructed.Goals as goal
+
+pub read_members-parts-init : goal.read_members-parts-init
+read_members-parts-init t c = record {
+  spells = alone member_yield member_levels _ _ _ _ _ c.new.ensures.items c.in-Ok.ensures;
+  levels = alone_level member_yield member_levels _ _ _ _ _ c.new.ensures.items c.in-Ok.ensures;
+  some = some_more member_yield member_levels _ _ _ _ _ c.in-Ok.ensures;
+}
 
 pub read_members-parts-preserved : goal.read_members-parts-preserved
 read_members-parts-preserved t c = record {
@@ -34,6 +41,13 @@ pub read_members-returns-clause-some : goal.read_members-returns-clause-some
 read_members-returns-clause-some t c =
     handed (λ m. 0 < length m.items) (Ok c.shrink_to_fit.new.self) c.closed.result
     (rw c.shrink_to_fit.ensures.items c.parts.invariant.some) c.closed.ensures.same
+
+pub read_cases-parts-init : goal.read_cases-parts-init
+read_cases-parts-init t c = record {
+  spells = alone case_yield case_levels _ _ _ _ _ c.new.ensures.items c.in-Ok.ensures;
+  levels = alone_level case_yield case_levels _ _ _ _ _ c.new.ensures.items c.in-Ok.ensures;
+  some = some_more case_yield case_levels _ _ _ _ _ c.in-Ok.ensures;
+}
 
 pub read_cases-parts-preserved : goal.read_cases-parts-preserved
 read_cases-parts-preserved t c = record {

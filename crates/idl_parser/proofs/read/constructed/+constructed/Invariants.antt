@@ -32,7 +32,7 @@ decreases-read_union l = 10 * length l.cursor.now + 2
 
 abbrev pub invariant-read_members-parts : goal.invariant-read_members-parts
 invariant-read_members-parts l = record {
-  spells : Continued l.initial.cursor (flat_map member_yield l.members.items) l.cursor;
+  spells : Continued l.fn.cursor (flat_map member_yield l.members.items) l.cursor;
   levels : highest member_levels l.members.items ≤ l.room;
   some : 0 < length l.members.items;
 }
@@ -42,7 +42,7 @@ decreases-read_members-parts l = length l.cursor
 
 abbrev pub invariant-read_cases-parts : goal.invariant-read_cases-parts
 invariant-read_cases-parts l = record {
-  spells : Continued l.initial.cursor (flat_map case_yield l.cases.items) l.cursor;
+  spells : Continued l.fn.cursor (flat_map case_yield l.cases.items) l.cursor;
   levels : highest case_levels l.cases.items ≤ l.room;
   some : 0 < length l.cases.items;
 }
