@@ -15,8 +15,8 @@ use Rattle.idl_parser.proofs.read.constructed.+constructed.Goals as goal
 
 pub read_members-parts-init : goal.read_members-parts-init
 read_members-parts-init t c = record {
-  spells = alone member_yield member_levels _ _ _ _ _ c.new.ensures.items c.in-Ok.ensures;
-  levels = alone_level member_yield member_levels _ _ _ _ _ c.new.ensures.items c.in-Ok.ensures;
+  spells = alone member_yield member_levels _ _ _ _ _ c.new-members.ensures.items c.in-Ok.ensures;
+  levels = alone_level member_yield member_levels _ _ _ _ _ c.new-members.ensures.items c.in-Ok.ensures;
   some = some_more member_yield member_levels _ _ _ _ _ c.in-Ok.ensures;
 }
 
@@ -44,8 +44,8 @@ read_members-returns-clause-some t c =
 
 pub read_cases-parts-init : goal.read_cases-parts-init
 read_cases-parts-init t c = record {
-  spells = alone case_yield case_levels _ _ _ _ _ c.new.ensures.items c.in-Ok.ensures;
-  levels = alone_level case_yield case_levels _ _ _ _ _ c.new.ensures.items c.in-Ok.ensures;
+  spells = alone case_yield case_levels _ _ _ _ _ c.new-cases.ensures.items c.in-Ok.ensures;
+  levels = alone_level case_yield case_levels _ _ _ _ _ c.new-cases.ensures.items c.in-Ok.ensures;
   some = some_more case_yield case_levels _ _ _ _ _ c.in-Ok.ensures;
 }
 
