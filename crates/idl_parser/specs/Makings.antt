@@ -16,7 +16,8 @@ use Rattle.idl_tree.specs.DefinitionYields.{definition_yield}
 -- a module up to its closing brace
 abbrev pub module_front : Leaf → List Definition → List Piece
 module_front name inside =
-    keyword (codes "module") ++ identifier name ++ mark (codes "{") ++ flat_map definition_yield inside ++ mark (codes "}")
+    keyword (codes "module") ++ identifier name ++ mark (codes "{") ++ flat_map definition_yield inside
+    ++ mark (codes "}")
 
 -- an interface by its name and what stands behind it: its bases and what it exports, or nothing
 abbrev pub interface_of : Leaf → Option (Option (Listed ScopedName) × Vec Export Global) → Interface

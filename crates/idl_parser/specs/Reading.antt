@@ -21,7 +21,8 @@ pub record Whole (tokens : List Seen) (definitions : List Definition) : Type 0 w
   pub levels : levels_of definitions ≤ 64
 
 -- one more part stands at the end of a list: these tokens spell it, and it has no more levels than there is room for
-pub record Added {T : Type 0} (yield : T → List Piece) (levels : T → ℕ) (room : ℕ) (before after : List T) (tokens left : List Seen) : Type 0 where
+pub record Added {T : Type 0} (yield : T → List Piece) (levels : T → ℕ) (room : ℕ)
+    (before after : List T) (tokens left : List Seen) : Type 0 where
   pub part : T
   pub is : after ≡ before ++ part ∷ []
   pub spells : Parsed tokens (yield part) left

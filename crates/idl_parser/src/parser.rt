@@ -1,7 +1,7 @@
 //! The tree of a whole specification.
 #![tactic(auto, using(crate::proofs::Reading::past_append, crate::proofs::Reading::past_none))]
 
-ghost use Rattle.std.specs.Prelude.{◌≡◌, ◌++◌, ◌≤◌, [], Ok, IfOk};
+ghost use Rattle.std.specs.Prelude.{◌≡◌, ◌++◌, ◌≤◌, IfOk};
 ghost use Rattle.idl_tree.specs.Pieces.{Spell, seen_from};
 ghost use Rattle.idl_parser.specs.Reading.{Whole};
 ghost use Rattle.idl_tree.specs.DefinitionYields.{definitions_spelled};
@@ -28,25 +28,16 @@ fn told(cursor: &Cursor<'_>, stop: Stop) -> ParseFault {
     }
 }
 
-/// What was read, where nothing stands behind it.
-fn whole<T: Drop>(cursor: &Cursor<'_>, read: Result<T, Stop>) -> Result<T, Stop>
-    ensures same { IfOk result (λ part. read ≡ Ok part) }
-    ensures ended { IfOk result (λ part. cursor.now ≡ []) }
-{
-    let part = got!(read);
-    if cursor.is_at_end() {
-        Ok(part)
-    } else {
-        Err(Stop::Unexpected)
-    }
-}
-
 /// Reads definitions to the end.
 fn read_all<'a>(cursor: &mut Cursor<'a>) -> Result<Vec<Definition<'a>>, Stop>
     ensures { IfOk result (λ d. Whole cursor.old d.items) }
 {
-    let read = read_definitions(cursor, MAX_LEVELS);
-    whole(cursor, read)
+    let definitions = got!(read_definitions(cursor, MAX_LEVELS));
+    if cursor.is_at_end() {
+        Ok(definitions)
+    } else {
+        Err(Stop::Unexpected)
+    }
 }
 
 /// The tree of definitions and the tokens that they spell.

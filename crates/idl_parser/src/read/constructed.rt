@@ -109,7 +109,8 @@ fn read_member<'a>(
     room: usize,
     members: &mut Vec<Member<'a>>,
 ) -> Result<(), Stop>
-    ensures { IfOk result (λ _. Added member_yield member_levels room members.old.items members.new.items cursor.old cursor.new) }
+    ensures { IfOk result (λ _. Added member_yield member_levels room
+        members.old.items members.new.items cursor.old cursor.new) }
 {
     let (member_type, declarators) = got!(then_ended(read_type(cursor, room), cursor, room));
     let member = Member {
@@ -182,7 +183,8 @@ fn read_case<'a>(
     room: usize,
     cases: &mut Vec<Case<'a>>,
 ) -> Result<(), Stop>
-    ensures { IfOk result (λ _. Added case_yield case_levels room cases.old.items cases.new.items cursor.old cursor.new) }
+    ensures { IfOk result (λ _. Added case_yield case_levels room
+        cases.old.items cases.new.items cursor.old cursor.new) }
 {
     let labels = got!(read_labels(cursor, room));
     let (member_type, declarator) = got!(then_ended(read_type(cursor, room), cursor, room));

@@ -140,7 +140,8 @@ fn read_except_name<'a>(cursor: &mut Cursor<'a>) -> Result<Leaf<'a>, Stop>
 
 /// Reads the members of an exception, if it has any, and the closing brace.
 fn read_except_members<'a>(cursor: &mut Cursor<'a>, room: usize) -> Result<Vec<Member<'a>>, Stop>
-    ensures spells { IfOk result (λ m. Parsed cursor.old (flat_map member_yield m.items ++ mark (codes "}")) cursor.new) }
+    ensures spells { IfOk result (λ m. Parsed cursor.old
+        (flat_map member_yield m.items ++ mark (codes "}")) cursor.new) }
     ensures levels { IfOk result (λ m. highest member_levels m.items ≤ room) }
 {
     if cursor.take_mark("}") {

@@ -36,7 +36,8 @@ fn read_single<'a>(
     room: usize,
     definitions: &mut Vec<Definition<'a>>,
 ) -> Result<(), Stop>
-    ensures { IfOk result (λ _. Added definition_yield definition_levels room definitions.old.items definitions.new.items cursor.old cursor.new) }
+    ensures { IfOk result (λ _. Added definition_yield definition_levels room
+        definitions.old.items definitions.new.items cursor.old cursor.new) }
 {
     if let Some(Kind::Pragma) = cursor.kind() {
         let pragma = got!(cursor.leaf(Kind::Pragma));
@@ -62,7 +63,8 @@ fn read_definition<'a>(
     room: usize,
     definitions: &mut Vec<Definition<'a>>,
 ) -> Result<(), Stop>
-    ensures { IfOk result (λ _. Added definition_yield definition_levels room definitions.old.items definitions.new.items cursor.old cursor.new) }
+    ensures { IfOk result (λ _. Added definition_yield definition_levels room
+        definitions.old.items definitions.new.items cursor.old cursor.new) }
 {
     if !cursor.is_keyword("module") {
         return read_single(cursor, room, definitions);

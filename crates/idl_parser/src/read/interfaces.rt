@@ -212,7 +212,8 @@ fn read_export<'a>(
     room: usize,
     exports: &mut Vec<Export<'a>>,
 ) -> Result<(), Stop>
-    ensures { IfOk result (λ _. Added export_yield export_levels room exports.old.items exports.new.items cursor.old cursor.new) }
+    ensures { IfOk result (λ _. Added export_yield export_levels room
+        exports.old.items exports.new.items cursor.old cursor.new) }
 {
     if let Some(Kind::Pragma) = cursor.kind() {
         let pragma = got!(cursor.leaf(Kind::Pragma));

@@ -121,10 +121,7 @@ pub(crate) fn then_ended<'a, T: Drop, U: Part<'a>>(
 }
 
 /// The first part of a list in a box, and the others.
-pub(crate) fn first_boxed<T: Drop>(
-    alloc: Global,
-    list: Vec<T>,
-) -> Result<(Box<T>, Vec<T>), Stop>
+pub(crate) fn first_boxed<T: Drop>(alloc: Global, list: Vec<T>) -> Result<(Box<T>, Vec<T>), Stop>
     requires { 0 < length list.items }
     ensures { IfOk result (λ parts. list.items ≡ parts.0.value ∷ parts.1.items) }
 {
