@@ -3,3 +3,4 @@ pub mod Parts
 pub mod Operands
 pub mod Skips
 pub mod Pairs
+pub mod Adding

@@ -15,36 +15,35 @@ group_two p x y = sym (append_assoc p x y)
 pub group_three : (p x y z : List Piece) → p ++ (x ++ y ++ z) ≡ p ++ x ++ y ++ z
 group_three p x y z = group_two p (x ++ y) z ∙ ap (λ l. l ++ z) (group_two p x y)
 
-pub group_within : (p x y z : List Piece) → p ++ (x ++ (y ++ z)) ≡ p ++ x ++ y ++ z
-group_within p x y z = group_two p x (y ++ z) ∙ group_two (p ++ x) y z
-
 pub group_four : (p w x y z : List Piece) → p ++ (w ++ x ++ y ++ z) ≡ p ++ w ++ x ++ y ++ z
 group_four p w x y z = group_two p (w ++ x ++ y) z ∙ ap (λ l. l ++ z) (group_three p w x y)
-
-pub group_five : (p v w x y z : List Piece) → p ++ (v ++ w ++ x ++ (y ++ z)) ≡ p ++ v ++ w ++ x ++ y ++ z
-group_five p v w x y z =
-    group_two p (v ++ w ++ x) (y ++ z) ∙ group_two (p ++ (v ++ w ++ x)) y z ∙ ap (λ l. l ++ y ++ z) (group_three p v w x)
 
 -- what holds of a part that was read holds of it where it is handed on
 pub handed : {T E F : Type 0} (P : T → Type 0) (read : Result T E) (r : Result T F) → IfOk read P → IfOk r (λ p. read ≡ Ok p) → IfOk r P
 handed P read (Ok p) all same = subst (λ r. IfOk r P) same all
 handed P read (Err e) all same = tt
 
+-- what holds of a part holds of what is read as that part
+pub stated : {T E : Type 0} (P : T → Type 0) (x : T) (r : Result T E) → P x → IfOk r (λ d. d ≡ x) → IfOk r P
+stated P x (Ok d) holds is = subst P (sym is) holds
+stated P x (Err e) holds is = tt
+
 -- ---- a node that was made
 
-pub made_spelled : {T E F : Type 0} (a c : List Seen) (yield : T → List Piece) (y : List Piece) (node : Result T E) (r : Result T F)
-    → IfOk node (λ n. yield n ≡ y) → IfOk r (λ n. node ≡ Ok n) → Parsed a y c → IfOk r (λ n. Parsed a (yield n) c)
-made_spelled a c yield y node (Ok n) is same read =
-    let spells : yield n ≡ y = subst (λ q. IfOk q (λ n. yield n ≡ y)) same is in
-    spelled_as (sym spells) read
-made_spelled a c yield y node (Err e) is same read = tt
+pub spelled_by : {T E : Type 0} (a c : List Seen) (yield : T → List Piece) (y : List Piece) (r : Result T E)
+    → IfOk r (λ n. yield n ≡ y) → Parsed a y c → IfOk r (λ n. Parsed a (yield n) c)
+spelled_by a c yield y (Ok n) is read = spelled_as (sym is) read
+spelled_by a c yield y (Err e) is read = tt
 
-pub made_levels : {T E F : Type 0} (levels : T → ℕ) (most room : ℕ) (node : Result T E) (r : Result T F)
-    → IfOk node (λ n. levels n ≡ most) → IfOk r (λ n. node ≡ Ok n) → most ≤ room → IfOk r (λ n. levels n ≤ room)
-made_levels levels most room node (Ok n) is same few =
-    let levels_is : levels n ≡ most = subst (λ q. IfOk q (λ n. levels n ≡ most)) same is in
-    omega (arith, levels_is, few)
-made_levels levels most room node (Err e) is same few = tt
+pub levels_by : {T E : Type 0} (levels : T → ℕ) (most room : ℕ) (r : Result T E)
+    → IfOk r (λ n. levels n ≡ most) → most ≤ room → IfOk r (λ n. levels n ≤ room)
+levels_by levels most room (Ok n) is few = omega (arith, is, few)
+levels_by levels most room (Err e) is few = tt
+
+-- levels inside another one
+pub under_suc : {T E : Type 0} (levels : T → ℕ) (left room : ℕ) (r : Result T E) → suc left ≡ room → IfOk r (λ n. levels n ≤ left) → IfOk r (λ n. levels n < room)
+under_suc levels left room (Ok n) is few = omega (arith, is, few)
+under_suc levels left room (Err e) is few = tt
 
 -- ---- both parts
 
@@ -69,14 +68,7 @@ both_levels f g room first second p front back same is =
     let two : g p.1 ≤ room = second_level g room second p.1 back is in
     omega (arith, one, two)
 
--- the same of an answer that is handed on
-pub both_handed : {T U E : Type 0} {a b : List Seen} (c : List Seen) (f : T → List Piece) (g : U → List Piece) (first : T) (second : Result U E) (r : Result (T × U) E)
-    → Parsed a (f first) b → IfOk second (λ u. Parsed b (g u) c)
-    → IfOk r (λ p. p.0 ≡ first) → IfOk r (λ p. second ≡ Ok p.1) → IfOk r (λ p. Parsed a (f p.0 ++ g p.1) c)
-both_handed c f g first second (Ok p) front back same is = both_read f g first second p front back same is
-both_handed c f g first second (Err e) front back same is = tt
-
--- where nothing may stand behind
+-- the same of an answer that is handed on, where nothing may stand behind
 pub both_handed_more : {T U E : Type 0} {a b : List Seen} (c : List Seen) (f : T → List Piece) (g : U → List Piece) (first : T) (second : Result U E) (r : Result (T × U) E)
     → Parsed a (f first) b → IfOk second (λ u. Continued b (g u) c)
     → IfOk r (λ p. p.0 ≡ first) → IfOk r (λ p. second ≡ Ok p.1) → IfOk r (λ p. Parsed a (f p.0 ++ g p.1) c)
@@ -90,23 +82,9 @@ pub first_handed_level : {T U E : Type 0} (f : T → ℕ) (room : ℕ) (first : 
 first_handed_level f room first (Ok p) front same = first_level f room first p.0 front same
 first_handed_level f room first (Err e) front same = tt
 
-pub both_handed_levels : {T U E : Type 0} (f : T → ℕ) (g : U → ℕ) (room : ℕ) (first : T) (second : Result U E) (r : Result (T × U) E)
-    → f first ≤ room → IfOk second (λ u. g u ≤ room)
-    → IfOk r (λ p. p.0 ≡ first) → IfOk r (λ p. second ≡ Ok p.1) → IfOk r (λ p. max (f p.0) (g p.1) ≤ room)
-both_handed_levels f g room first second (Ok p) front back same is = both_levels f g room first second p front back same is
-both_handed_levels f g room first second (Err e) front back same is = tt
-
 -- below a number
 pub second_under : {U E : Type 0} (g : U → ℕ) (room : ℕ) (second : Result U E) (p : U) → IfOk second (λ u. g u < room) → second ≡ Ok p → g p < room
 second_under g room second p back is = subst (λ r. IfOk r (λ u. g u < room)) is back
-
-pub both_handed_under : {T U E : Type 0} (f : T → ℕ) (g : U → ℕ) (left : ℕ) (first : T) (second : Result U E) (r : Result (T × U) E)
-    → f first ≤ left → IfOk second (λ u. g u ≤ left)
-    → IfOk r (λ p. p.0 ≡ first) → IfOk r (λ p. second ≡ Ok p.1) → IfOk r (λ p. max (f p.0) (g p.1) < suc left)
-both_handed_under f g left first second (Ok p) front back same is =
-    let most = both_levels f g left first second p front back same is in
-    omega (arith, most)
-both_handed_under f g left first second (Err e) front back same is = tt
 
 -- ---- a part behind pieces
 
@@ -119,22 +97,6 @@ pub behind_list : {T E : Type 0} (a b c : List Seen) (front : List Piece) (f : T
     → Parsed a front b → IfOk read (λ t. Continued b (f t) c) → IfOk read (λ t. Parsed a (front ++ f t) c)
 behind_list a b c front f (Ok t) p q = part_then_more p q
 behind_list a b c front f (Err e) p q = tt
-
--- ---- a part that is read behind what was read
-
-pub pair_read : {T U E F : Type 0} (a b c : List Seen) (f : T → List Piece) (g : U → List Piece) (first : Result T E) (r : Result (T × U) F)
-    → IfOk first (λ t. Parsed a (f t) b) → IfOk r (λ p. first ≡ Ok p.0) → IfOk r (λ p. Parsed b (g p.1) c) → IfOk r (λ p. Parsed a (f p.0 ++ g p.1) c)
-pair_read a b c f g first (Ok p) front same back =
-    let one : Parsed a (f p.0) b = subst (λ q. IfOk q (λ t. Parsed a (f t) b)) same front in
-    part_then one back
-pair_read a b c f g first (Err e) front same back = tt
-
-pub pair_levels : {T U E F : Type 0} (f : T → ℕ) (g : U → ℕ) (room : ℕ) (first : Result T E) (r : Result (T × U) F)
-    → IfOk first (λ t. f t ≤ room) → IfOk r (λ p. first ≡ Ok p.0) → IfOk r (λ p. g p.1 ≤ room) → IfOk r (λ p. max (f p.0) (g p.1) ≤ room)
-pair_levels f g room first (Ok p) front same back =
-    let one : f p.0 ≤ room = subst (λ q. IfOk q (λ t. f t ≤ room)) same front in
-    omega (arith, one, back)
-pair_levels f g room first (Err e) front same back = tt
 
 -- ---- a mark behind what was read
 

@@ -1,2 +1,3 @@
--- From where to where a part of a tree is read.
+-- From where to where a part of a tree is read, and what is made of parts.
 pub mod Reading
+pub mod Makings

@@ -89,14 +89,6 @@ impl<'a> Cursor<'a> {
         self.text(Kind::Keyword) == Some(word)
     }
 
-    /// Whether one of these keywords is the next token.
-    pub(crate) fn is_one_of(&self, words: &[&str]) -> bool {
-        match self.text(Kind::Keyword) {
-            Some(text) => words.iter().any(|word| word.as_bytes() == text.as_bytes()),
-            None => false,
-        }
-    }
-
     /// Whether a semicolon stands behind the next two tokens.
     pub(crate) fn is_ahead(&self) -> bool {
         match self.rest {

@@ -1,8 +1,9 @@
 //! The tree of a whole specification.
 #![tactic(auto, using(crate::proofs::Reading::past_append, crate::proofs::Reading::past_none))]
 
-ghost use Rattle.std.specs.Prelude.{◌≡◌, ◌++◌, ◌≤◌, [], Ok, IfOk};
-ghost use Rattle.idl_tree.specs.Pieces.{Spell};
+ghost use Rattle.std.specs.Prelude.{◌≡◌, ◌++◌, ◌≤◌, IfOk};
+ghost use Rattle.idl_tree.specs.Pieces.{Spell, seen_from};
+ghost use Rattle.idl_parser.specs.Reading.{Whole};
 ghost use Rattle.idl_tree.specs.DefinitionYields.{definitions_spelled};
 ghost use Rattle.idl_tree.specs.DefinitionLevels.{levels_of};
 
@@ -27,29 +28,32 @@ fn told(cursor: &Cursor<'_>, stop: Stop) -> ParseFault {
     }
 }
 
-/// What is read where nothing stands behind it.
-fn whole<T: Drop>(cursor: &Cursor<'_>, read: Result<T, Stop>) -> Result<T, ParseFault>
-    ensures same { IfOk result (λ part. read ≡ Ok part) }
-    ensures ended { IfOk result (λ part. cursor.now ≡ []) }
+/// Reads definitions to the end.
+fn read_all<'a>(cursor: &mut Cursor<'a>) -> Result<Vec<Definition<'a>>, Stop>
+    ensures { IfOk result (λ d. Whole cursor.old d.items) }
 {
-    let part = match read {
-        Ok(part) => part,
-        Err(stop) => return Err(told(cursor, stop)),
-    };
-    if !cursor.is_at_end() {
-        return Err(cursor.fault());
+    let definitions = got!(read_definitions(cursor, MAX_LEVELS));
+    if cursor.is_at_end() {
+        Ok(definitions)
+    } else {
+        Err(Stop::Unexpected)
     }
-    Ok(part)
 }
 
-/// The definitions that tokens spell from the first to the last.
-fn read_all<'a>(alloc: Global, tokens: &'a [Token<'a>]) -> Result<Vec<Definition<'a>>, ParseFault>
-    ensures spells { IfOk result (λ d. Spell (definitions_spelled d.items) tokens.now) }
-    ensures levels { IfOk result (λ d. levels_of d.items ≤ 64) }
+/// The tree of definitions and the tokens that they spell.
+fn specification<'a>(
+    tokens: &'a [Token<'a>],
+    definitions: Vec<Definition<'a>>,
+) -> Result<Spec<'a>, ParseFault>
+    requires { Whole (seen_from 0 tokens.now) definitions.items }
+    ensures tokens { IfOk result (λ spec. spec.tokens.now ≡ tokens.now) }
+    ensures spells { IfOk result (λ spec. Spell (definitions_spelled spec.definitions.items) tokens.now) }
+    ensures levels { IfOk result (λ spec. levels_of spec.definitions.items ≤ 64) }
 {
-    let mut cursor = Cursor::new(alloc, tokens);
-    let read = read_definitions(&mut cursor, MAX_LEVELS);
-    whole(&cursor, read)
+    Ok(Spec {
+        tokens,
+        definitions,
+    })
 }
 
 /// The tree of an IDL specification, given as its tokens (ISO/IEC 19500-1, IDL grammar).
@@ -65,11 +69,9 @@ pub fn parse<'a>(alloc: Global, tokens: &'a [Token<'a>]) -> Result<Spec<'a>, Par
     ensures spells { IfOk result (λ spec. Spell (definitions_spelled spec.definitions.items) tokens.now) }
     ensures levels { IfOk result (λ spec. levels_of spec.definitions.items ≤ 64) }
 {
-    match read_all(alloc, tokens) {
-        Ok(definitions) => Ok(Spec {
-            tokens,
-            definitions,
-        }),
-        Err(fault) => Err(fault),
+    let mut cursor = Cursor::new(alloc, tokens);
+    match read_all(&mut cursor) {
+        Ok(definitions) => specification(tokens, definitions),
+        Err(stop) => Err(told(&cursor, stop)),
     }
 }

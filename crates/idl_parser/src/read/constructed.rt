@@ -1,23 +1,24 @@
 //! Structures and unions, whose members may declare further types.
 #![tactic(auto, using(crate::proofs::Reading::past_append, crate::proofs::Reading::past_none))]
 
-ghost use Rattle.std.specs.Prelude.{◌≡◌, ◌++◌, ◌≤◌, ◌<◌, max, suc, IfOk, List, codes};
+ghost use Rattle.std.specs.Prelude.{◌≡◌, ◌++◌, ◌∷◌, [], ◌≤◌, ◌<◌, max, suc, length, IfOk, List, codes};
 ghost use Rattle.std.specs.List.{flat_map};
-ghost use Rattle.idl_parser.specs.Reading.{Parsed, Continued};
+ghost use Rattle.idl_parser.specs.Reading.{Parsed, Continued, Added};
 ghost use Rattle.idl_tree.specs.Pieces.{keyword, mark};
 ghost use Rattle.idl_tree.specs.Yields.{identifier, in_order};
-ghost use Rattle.idl_tree.specs.TypeYields.{declarator_yield, label_yield, member_yield, case_yield, type_yield, struct_yield, union_yield};
+ghost use Rattle.idl_tree.specs.TypeYields.{label_yield, member_yield, case_yield, switch_yield, type_yield, struct_yield, union_yield};
 ghost use Rattle.idl_tree.specs.Levels.{highest, highest_listed};
-ghost use Rattle.idl_tree.specs.TypeLevels.{declarator_levels, label_levels, member_levels, case_levels, type_levels, struct_levels, union_levels};
+ghost use Rattle.idl_tree.specs.TypeLevels.{label_levels, member_levels, case_levels, switch_levels, type_levels, struct_levels, union_levels};
 
 use crate::cursor::Cursor;
 use crate::read::expressions::read_expr;
-use crate::read::lists::{add_read, both, made, read_opened, then};
+use crate::read::lists::{add, add_read, both, first_boxed, read_opened, then_ended};
 use crate::read::types::{read_enum, read_simple_type, read_switch};
 use crate::stop::Stop;
 use idl_lexer::Kind;
 use idl_tree::names::{Leaf, Listed};
-use idl_tree::types::{Case, Declarator, Label, Member, StructType, TypeSpec, UnionType};
+use idl_tree::types::{Case, Label, Member, StructType, SwitchType, TypeSpec, UnionType};
+use std::alloc::Global;
 
 fn read_label<'a>(cursor: &mut Cursor<'a>, room: usize) -> Result<Label<'a>, Stop>
     ensures spells { IfOk result (λ l. Parsed cursor.old (label_yield l) cursor.new) }
@@ -25,7 +26,7 @@ fn read_label<'a>(cursor: &mut Cursor<'a>, room: usize) -> Result<Label<'a>, Sto
 {
     if cursor.take_keyword("case") {
         let value = read_expr(cursor, room);
-        return cursor.closed(value, ":").map(Label::Case);
+        return Ok(Label::Case(got!(cursor.closed(value, ":"))));
     }
     let Some(word) = cursor.take(Kind::Keyword, "default") else {
         return Err(Stop::Unexpected);
@@ -87,29 +88,39 @@ pub(crate) fn read_type<'a>(cursor: &mut Cursor<'a>, room: usize) -> Result<Type
     ensures levels { IfOk result (λ t. type_levels t ≤ room) }
 {
     match next_shape(cursor) {
-        Shape::Struct => read_struct(cursor, room).map(TypeSpec::Struct),
-        Shape::Union => read_union(cursor, room).map(TypeSpec::Union),
-        Shape::Enum => read_enum(cursor, room).map(TypeSpec::Enum),
-        Shape::Other => read_simple_type(cursor, room).map(TypeSpec::Simple),
+        Shape::Struct => Ok(TypeSpec::Struct(got!(read_struct(cursor, room)))),
+        Shape::Union => Ok(TypeSpec::Union(got!(read_union(cursor, room)))),
+        Shape::Enum => Ok(TypeSpec::Enum(got!(read_enum(cursor, room)))),
+        Shape::Other => Ok(TypeSpec::Simple(got!(read_simple_type(cursor, room)))),
     }
 }
 
-#[cycle(constructed)]
-fn read_member<'a>(cursor: &mut Cursor<'a>, room: usize) -> Result<Member<'a>, Stop>
-    ensures spells { IfOk result (λ m. Parsed cursor.old (member_yield m) cursor.new) }
-    ensures levels { IfOk result (λ m. member_levels m ≤ room) }
+/// Adds a member. What holds one goes through this function, so that few functions do.
+fn add_member<'a>(members: &mut Vec<Member<'a>>, member: Member<'a>) -> Result<(), Stop>
+    ensures { IfOk result (λ _. members.new.items ≡ members.old.items ++ member.entry ∷ []) }
 {
-    let read = then(read_type(cursor, room), cursor, room);
-    match cursor.closed(read, ";") {
-        Ok((member_type, declarators)) => Ok(Member {
-            member_type,
-            declarators,
-        }),
-        Err(stop) => Err(stop),
-    }
+    add(members, member)
 }
 
-/// Reads members and the closing brace behind them.
+/// Reads a member and adds it.
+#[cycle(constructed)]
+fn read_member<'a>(
+    cursor: &mut Cursor<'a>,
+    room: usize,
+    members: &mut Vec<Member<'a>>,
+) -> Result<(), Stop>
+    ensures { IfOk result (λ _. Added member_yield member_levels room
+        members.old.items members.new.items cursor.old cursor.new) }
+{
+    let (member_type, declarators) = got!(then_ended(read_type(cursor, room), cursor, room));
+    let member = Member {
+        member_type,
+        declarators,
+    };
+    add_member(members, member)
+}
+
+/// Reads members, one or more, and the closing brace behind them.
 #[cycle(constructed)]
 pub(crate) fn read_members<'a>(
     cursor: &mut Cursor<'a>,
@@ -118,13 +129,34 @@ pub(crate) fn read_members<'a>(
     ensures spells { IfOk result (λ m. Parsed cursor.old
         (flat_map member_yield m.items ++ mark (codes "}")) cursor.new) }
     ensures levels { IfOk result (λ m. highest member_levels m.items ≤ room) }
+    ensures some { IfOk result (λ m. 0 < length m.items) }
 {
     let mut members = Vec::new(cursor.alloc());
+    got!(read_member(cursor, room, &mut members));
     'parts: while !cursor.is_mark("}") {
-        got!(add_read(&mut members, read_member(cursor, room)));
+        got!(read_member(cursor, room, &mut members));
     }
     members.shrink_to_fit();
     cursor.closed(Ok(members), "}")
+}
+
+/// The structure of a name and members.
+fn structure<'a>(
+    alloc: Global,
+    name: Leaf<'a>,
+    members: Vec<Member<'a>>,
+) -> Result<StructType<'a>, Stop>
+    requires { 0 < length members.items }
+    ensures spells { IfOk result (λ s. struct_yield s ≡ keyword (codes "struct") ++ identifier name.entry
+        ++ mark (codes "{") ++ (flat_map member_yield members.entry.items ++ mark (codes "}"))) }
+    ensures levels { IfOk result (λ s. struct_levels s ≡ suc (highest member_levels members.entry.items)) }
+{
+    let (first, rest) = got!(first_boxed(alloc, members));
+    Ok(StructType {
+        identifier: name,
+        first,
+        rest,
+    })
 }
 
 #[cycle(constructed)]
@@ -133,49 +165,49 @@ pub(crate) fn read_struct<'a>(cursor: &mut Cursor<'a>, room: usize) -> Result<St
     ensures levels { IfOk result (λ s. struct_levels s ≤ room) }
 {
     let (name, left) = got!(read_opened(cursor, "struct", room));
-    let front = got!(read_member(cursor, left));
-    let (first, rest) = got!(both(front, read_members(cursor, left)));
-    made(StructType::new(cursor.alloc(), name, first, rest))
+    let members = got!(read_members(cursor, left));
+    structure(cursor.alloc(), name, members)
 }
 
-/// Reads what stands behind the labels of a case.
+/// Adds a case. What holds one goes through this function, so that few functions do.
+fn add_case<'a>(cases: &mut Vec<Case<'a>>, case: Case<'a>) -> Result<(), Stop>
+    ensures { IfOk result (λ _. cases.new.items ≡ cases.old.items ++ case.entry ∷ []) }
+{
+    add(cases, case)
+}
+
+/// Reads a case and adds it.
 #[cycle(constructed)]
-fn read_element<'a>(
+fn read_case<'a>(
     cursor: &mut Cursor<'a>,
     room: usize,
-) -> Result<(TypeSpec<'a>, Declarator<'a>), Stop>
-    ensures spells { IfOk result (λ e. Parsed cursor.old
-        (type_yield e.0 ++ declarator_yield e.1 ++ mark (codes ";")) cursor.new) }
-    ensures levels { IfOk result (λ e. max (type_levels e.0) (declarator_levels e.1) ≤ room) }
+    cases: &mut Vec<Case<'a>>,
+) -> Result<(), Stop>
+    ensures { IfOk result (λ _. Added case_yield case_levels room
+        cases.old.items cases.new.items cursor.old cursor.new) }
 {
-    let read = then(read_type(cursor, room), cursor, room);
-    cursor.closed(read, ";")
-}
-
-#[cycle(constructed)]
-fn read_case<'a>(cursor: &mut Cursor<'a>, room: usize) -> Result<Case<'a>, Stop>
-    ensures spells { IfOk result (λ c. Parsed cursor.old (case_yield c) cursor.new) }
-    ensures levels { IfOk result (λ c. case_levels c ≤ room) }
-{
-    let front = got!(read_labels(cursor, room));
-    let (labels, (member_type, declarator)) = got!(both(front, read_element(cursor, room)));
-    Ok(Case {
+    let labels = got!(read_labels(cursor, room));
+    let (member_type, declarator) = got!(then_ended(read_type(cursor, room), cursor, room));
+    let case = Case {
         labels,
         member_type,
         declarator,
-    })
+    };
+    add_case(cases, case)
 }
 
-/// Reads cases and the closing brace behind them.
+/// Reads cases, one or more, and the closing brace behind them.
 #[cycle(constructed)]
 fn read_cases<'a>(cursor: &mut Cursor<'a>, room: usize) -> Result<Vec<Case<'a>>, Stop>
     ensures spells { IfOk result (λ c. Parsed cursor.old
         (flat_map case_yield c.items ++ mark (codes "}")) cursor.new) }
     ensures levels { IfOk result (λ c. highest case_levels c.items ≤ room) }
+    ensures some { IfOk result (λ c. 0 < length c.items) }
 {
     let mut cases = Vec::new(cursor.alloc());
+    got!(read_case(cursor, room, &mut cases));
     'parts: while !cursor.is_mark("}") {
-        got!(add_read(&mut cases, read_case(cursor, room)));
+        got!(read_case(cursor, room, &mut cases));
     }
     cases.shrink_to_fit();
     cursor.closed(Ok(cases), "}")
@@ -183,17 +215,15 @@ fn read_cases<'a>(cursor: &mut Cursor<'a>, room: usize) -> Result<Vec<Case<'a>>,
 
 /// Reads what stands behind the type of a union's discriminator.
 #[cycle(constructed)]
-fn read_union_body<'a>(
-    cursor: &mut Cursor<'a>,
-    room: usize,
-) -> Result<(Case<'a>, Vec<Case<'a>>), Stop>
-    ensures spells { IfOk result (λ b. Parsed cursor.old (mark (codes ")") ++ mark (codes "{")
-        ++ case_yield b.0 ++ (flat_map case_yield b.1.items ++ mark (codes "}"))) cursor.new) }
-    ensures levels { IfOk result (λ b. max (case_levels b.0) (highest case_levels b.1.items) < room) }
+fn read_union_body<'a>(cursor: &mut Cursor<'a>, room: usize) -> Result<Vec<Case<'a>>, Stop>
+    ensures spells { IfOk result (λ c. Parsed cursor.old (mark (codes ")") ++ mark (codes "{")
+        ++ (flat_map case_yield c.items ++ mark (codes "}"))) cursor.new) }
+    ensures levels { IfOk result (λ c. highest case_levels c.items < room) }
+    ensures some { IfOk result (λ c. 0 < length c.items) }
 {
-    let left = got!(read_cases_front(cursor, room));
-    let first = got!(read_case(cursor, left));
-    both(first, read_cases(cursor, left))
+    got!(cursor.mark(")"));
+    let left = got!(cursor.open("{", room));
+    read_cases(cursor, left)
 }
 
 /// Reads what stands before the type of a union's discriminator.
@@ -208,13 +238,27 @@ fn read_union_name<'a>(cursor: &mut Cursor<'a>) -> Result<Leaf<'a>, Stop>
     Ok(name)
 }
 
-/// Reads what opens the cases of a union, and how many levels are left inside.
-fn read_cases_front(cursor: &mut Cursor<'_>, room: usize) -> Result<usize, Stop>
-    ensures spells { IfOk result (λ l. Parsed cursor.old (mark (codes ")") ++ mark (codes "{")) cursor.new) }
-    ensures levels { IfOk result (λ l. suc l ≡ room) }
+/// The union of a name, the type of its discriminator and cases.
+fn union_of<'a>(
+    alloc: Global,
+    name: Leaf<'a>,
+    switch: SwitchType<'a>,
+    cases: Vec<Case<'a>>,
+) -> Result<UnionType<'a>, Stop>
+    requires { 0 < length cases.items }
+    ensures spells { IfOk result (λ u. union_yield u ≡ keyword (codes "union") ++ identifier name.entry
+        ++ keyword (codes "switch") ++ mark (codes "(") ++ switch_yield switch.entry ++ mark (codes ")")
+        ++ mark (codes "{") ++ (flat_map case_yield cases.entry.items ++ mark (codes "}"))) }
+    ensures levels { IfOk result (λ u. union_levels u ≡
+        suc (max (switch_levels switch.entry) (highest case_levels cases.entry.items))) }
 {
-    got!(cursor.mark(")"));
-    cursor.open("{", room)
+    let (switch, (first, rest)) = got!(both(switch, first_boxed(alloc, cases)));
+    Ok(UnionType {
+        identifier: name,
+        switch,
+        first,
+        rest,
+    })
 }
 
 #[cycle(constructed)]
@@ -225,6 +269,6 @@ pub(crate) fn read_union<'a>(cursor: &mut Cursor<'a>, room: usize) -> Result<Uni
     let name = got!(read_union_name(cursor));
     // an enumeration here is declared inside the union
     let front = got!(read_switch(cursor, room.saturating_sub(1)));
-    let (switch, (first, rest)) = got!(both(front, read_union_body(cursor, room)));
-    made(UnionType::new(cursor.alloc(), name, switch, first, rest))
+    let (switch, cases) = got!(both(front, read_union_body(cursor, room)));
+    union_of(cursor.alloc(), name, switch, cases)
 }

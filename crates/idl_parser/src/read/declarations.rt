@@ -5,9 +5,12 @@ ghost use Rattle.std.specs.Prelude.{◌≡◌, ◌++◌, ◌≤◌, max, IfOk, L
 ghost use Rattle.idl_parser.specs.Reading.{Parsed};
 ghost use Rattle.idl_tree.specs.Pieces.{keyword, mark};
 ghost use Rattle.idl_tree.specs.Yields.{identifier as identifier_yield, const_expr_yield};
-ghost use Rattle.idl_tree.specs.Levels.{const_expr_levels};
-ghost use Rattle.idl_tree.specs.DefinitionYields.{type_dcl_yield, const_yield, except_yield, declaration_yield};
-ghost use Rattle.idl_tree.specs.DefinitionLevels.{type_dcl_levels, const_levels, except_levels, declaration_levels};
+ghost use Rattle.std.specs.List.{flat_map};
+ghost use Rattle.idl_tree.specs.Levels.{highest, const_expr_levels};
+ghost use Rattle.idl_tree.specs.TypeYields.{member_yield};
+ghost use Rattle.idl_tree.specs.TypeLevels.{member_levels};
+ghost use Rattle.idl_tree.specs.DefinitionYields.{declaration_yield};
+ghost use Rattle.idl_tree.specs.DefinitionLevels.{declaration_levels};
 
 use crate::cursor::Cursor;
 use crate::read::constructed::{
@@ -17,64 +20,83 @@ use crate::read::expressions::read_expr;
 use crate::read::lists::{both, then};
 use crate::read::types::{read_const_type, read_enum};
 use crate::stop::Stop;
+use idl_lexer::Kind;
 use idl_tree::const_expr::ConstExpr;
 use idl_tree::definitions::{Const, Declaration, Except, TypeDcl};
 use idl_tree::names::Leaf;
-
-/// The keywords with which types, constants and exceptions begin.
-const DECLARED: [&str; 6] = ["typedef", "struct", "union", "enum", "const", "exception"];
+use idl_tree::types::Member;
 
 /// Whether a type, a constant or an exception is next.
 pub(crate) fn is_declaration(cursor: &Cursor<'_>) -> bool {
-    cursor.is_one_of(&DECLARED)
+    matches!(
+        cursor.text(Kind::Keyword),
+        Some("typedef" | "struct" | "union" | "enum" | "const" | "exception")
+    )
 }
 
-fn read_typedef<'a>(cursor: &mut Cursor<'a>, room: usize) -> Result<TypeDcl<'a>, Stop>
-    ensures spells { IfOk result (λ t. Parsed cursor.old (type_dcl_yield t) cursor.new) }
-    ensures levels { IfOk result (λ t. type_dcl_levels t ≤ room) }
+/// A declaration that was read. What makes one ends with this function, so that few functions hold one.
+fn declared<'a>(declaration: Declaration<'a>) -> Result<Declaration<'a>, Stop>
+    ensures { IfOk result (λ d. d ≡ declaration.entry) }
+{
+    Ok(declaration)
+}
+
+fn read_typedef<'a>(cursor: &mut Cursor<'a>, room: usize) -> Result<Declaration<'a>, Stop>
+    ensures spells { IfOk result (λ d. Parsed cursor.old (declaration_yield d) cursor.new) }
+    ensures levels { IfOk result (λ d. declaration_levels d ≤ room) }
 {
     got!(cursor.keyword("typedef"));
-    match then(read_type(cursor, room), cursor, room) {
-        Ok((original, declarators)) => Ok(TypeDcl::Typedef {
-            original,
-            declarators,
-        }),
-        Err(stop) => Err(stop),
-    }
+    let (original, declarators) = got!(then(read_type(cursor, room), cursor, room));
+    declared(Declaration::TypeDcl(TypeDcl::Typedef {
+        original,
+        declarators,
+    }))
 }
 
 /// Reads a structure, or one that is declared ahead, which a semicolon tells.
-fn read_struct_dcl<'a>(cursor: &mut Cursor<'a>, room: usize) -> Result<TypeDcl<'a>, Stop>
-    ensures spells { IfOk result (λ t. Parsed cursor.old (type_dcl_yield t) cursor.new) }
-    ensures levels { IfOk result (λ t. type_dcl_levels t ≤ room) }
+fn read_struct_dcl<'a>(cursor: &mut Cursor<'a>, room: usize) -> Result<Declaration<'a>, Stop>
+    ensures spells { IfOk result (λ d. Parsed cursor.old (declaration_yield d) cursor.new) }
+    ensures levels { IfOk result (λ d. declaration_levels d ≤ room) }
 {
-    if !cursor.is_ahead() {
-        return read_struct(cursor, room).map(TypeDcl::Struct);
+    if cursor.is_ahead() {
+        got!(cursor.keyword("struct"));
+        let name = got!(cursor.identifier());
+        return declared(Declaration::TypeDcl(TypeDcl::StructAhead(name)));
     }
-    got!(cursor.keyword("struct"));
-    cursor.identifier().map(TypeDcl::StructAhead)
+    let structure = got!(read_struct(cursor, room));
+    declared(Declaration::TypeDcl(TypeDcl::Struct(structure)))
 }
 
 /// Reads a union, or one that is declared ahead, which a semicolon tells.
-fn read_union_dcl<'a>(cursor: &mut Cursor<'a>, room: usize) -> Result<TypeDcl<'a>, Stop>
-    ensures spells { IfOk result (λ t. Parsed cursor.old (type_dcl_yield t) cursor.new) }
-    ensures levels { IfOk result (λ t. type_dcl_levels t ≤ room) }
+fn read_union_dcl<'a>(cursor: &mut Cursor<'a>, room: usize) -> Result<Declaration<'a>, Stop>
+    ensures spells { IfOk result (λ d. Parsed cursor.old (declaration_yield d) cursor.new) }
+    ensures levels { IfOk result (λ d. declaration_levels d ≤ room) }
 {
-    if !cursor.is_ahead() {
-        return read_union(cursor, room).map(TypeDcl::Union);
+    if cursor.is_ahead() {
+        got!(cursor.keyword("union"));
+        let name = got!(cursor.identifier());
+        return declared(Declaration::TypeDcl(TypeDcl::UnionAhead(name)));
     }
-    got!(cursor.keyword("union"));
-    cursor.identifier().map(TypeDcl::UnionAhead)
+    let union = got!(read_union(cursor, room));
+    declared(Declaration::TypeDcl(TypeDcl::Union(union)))
 }
 
-fn read_type_dcl<'a>(cursor: &mut Cursor<'a>, room: usize) -> Result<TypeDcl<'a>, Stop>
-    ensures spells { IfOk result (λ t. Parsed cursor.old (type_dcl_yield t) cursor.new) }
-    ensures levels { IfOk result (λ t. type_dcl_levels t ≤ room) }
+fn read_enum_dcl<'a>(cursor: &mut Cursor<'a>, room: usize) -> Result<Declaration<'a>, Stop>
+    ensures spells { IfOk result (λ d. Parsed cursor.old (declaration_yield d) cursor.new) }
+    ensures levels { IfOk result (λ d. declaration_levels d ≤ room) }
+{
+    let enumeration = got!(read_enum(cursor, room));
+    declared(Declaration::TypeDcl(TypeDcl::Enum(enumeration)))
+}
+
+fn read_type_dcl<'a>(cursor: &mut Cursor<'a>, room: usize) -> Result<Declaration<'a>, Stop>
+    ensures spells { IfOk result (λ d. Parsed cursor.old (declaration_yield d) cursor.new) }
+    ensures levels { IfOk result (λ d. declaration_levels d ≤ room) }
 {
     match next_shape(cursor) {
         Shape::Struct => read_struct_dcl(cursor, room),
         Shape::Union => read_union_dcl(cursor, room),
-        Shape::Enum => read_enum(cursor, room).map(TypeDcl::Enum),
+        Shape::Enum => read_enum_dcl(cursor, room),
         Shape::Other => read_typedef(cursor, room),
     }
 }
@@ -91,18 +113,18 @@ fn read_value<'a>(cursor: &mut Cursor<'a>, room: usize) -> Result<(Leaf<'a>, Con
     Ok((identifier, value))
 }
 
-fn read_const<'a>(cursor: &mut Cursor<'a>, room: usize) -> Result<Const<'a>, Stop>
-    ensures spells { IfOk result (λ c. Parsed cursor.old (const_yield c) cursor.new) }
-    ensures levels { IfOk result (λ c. const_levels c ≤ room) }
+fn read_const<'a>(cursor: &mut Cursor<'a>, room: usize) -> Result<Declaration<'a>, Stop>
+    ensures spells { IfOk result (λ d. Parsed cursor.old (declaration_yield d) cursor.new) }
+    ensures levels { IfOk result (λ d. declaration_levels d ≤ room) }
 {
     got!(cursor.keyword("const"));
     let front = got!(read_const_type(cursor, room));
     let (const_type, (identifier, value)) = got!(both(front, read_value(cursor, room)));
-    Ok(Const {
+    declared(Declaration::Const(Const {
         const_type,
         identifier,
         value,
-    })
+    }))
 }
 
 /// Reads what stands before the members of an exception.
@@ -116,39 +138,43 @@ fn read_except_name<'a>(cursor: &mut Cursor<'a>) -> Result<Leaf<'a>, Stop>
     Ok(identifier)
 }
 
-fn read_except<'a>(cursor: &mut Cursor<'a>, room: usize) -> Result<Except<'a>, Stop>
-    ensures spells { IfOk result (λ e. Parsed cursor.old (except_yield e) cursor.new) }
-    ensures levels { IfOk result (λ e. except_levels e ≤ room) }
+/// Reads the members of an exception, if it has any, and the closing brace.
+fn read_except_members<'a>(cursor: &mut Cursor<'a>, room: usize) -> Result<Vec<Member<'a>>, Stop>
+    ensures spells { IfOk result (λ m. Parsed cursor.old
+        (flat_map member_yield m.items ++ mark (codes "}")) cursor.new) }
+    ensures levels { IfOk result (λ m. highest member_levels m.items ≤ room) }
 {
-    let identifier = got!(read_except_name(cursor));
-    let members = got!(read_members(cursor, room));
-    Ok(Except {
-        identifier,
-        members,
-    })
+    if cursor.take_mark("}") {
+        return Ok(Vec::new(cursor.alloc()));
+    }
+    read_members(cursor, room)
 }
 
-fn read_declaration<'a>(cursor: &mut Cursor<'a>, room: usize) -> Result<Declaration<'a>, Stop>
+fn read_except<'a>(cursor: &mut Cursor<'a>, room: usize) -> Result<Declaration<'a>, Stop>
+    ensures spells { IfOk result (λ d. Parsed cursor.old (declaration_yield d) cursor.new) }
+    ensures levels { IfOk result (λ d. declaration_levels d ≤ room) }
+{
+    let identifier = got!(read_except_name(cursor));
+    let members = got!(read_except_members(cursor, room));
+    declared(Declaration::Except(Except {
+        identifier,
+        members,
+    }))
+}
+
+/// Reads a type, a constant or an exception that is declared.
+pub(crate) fn read_declaration<'a>(
+    cursor: &mut Cursor<'a>,
+    room: usize,
+) -> Result<Declaration<'a>, Stop>
     ensures spells { IfOk result (λ d. Parsed cursor.old (declaration_yield d) cursor.new) }
     ensures levels { IfOk result (λ d. declaration_levels d ≤ room) }
 {
     if cursor.is_keyword("const") {
-        return read_const(cursor, room).map(Declaration::Const);
+        return read_const(cursor, room);
     }
     if cursor.is_keyword("exception") {
-        return read_except(cursor, room).map(Declaration::Except);
+        return read_except(cursor, room);
     }
-    read_type_dcl(cursor, room).map(Declaration::TypeDcl)
-}
-
-/// Reads a declaration and the semicolon behind it.
-pub(crate) fn read_ended_declaration<'a>(
-    cursor: &mut Cursor<'a>,
-    room: usize,
-) -> Result<Declaration<'a>, Stop>
-    ensures spells { IfOk result (λ d. Parsed cursor.old (declaration_yield d ++ mark (codes ";")) cursor.new) }
-    ensures levels { IfOk result (λ d. declaration_levels d ≤ room) }
-{
-    let read = read_declaration(cursor, room);
-    cursor.closed(read, ";")
+    read_type_dcl(cursor, room)
 }

@@ -1,9 +1,10 @@
 //! Definitions and modules.
 #![tactic(auto, using(crate::proofs::Reading::past_append, crate::proofs::Reading::past_none))]
 
-ghost use Rattle.std.specs.Prelude.{◌≡◌, ◌++◌, ◌≤◌, suc, max, IfOk, List, codes};
+ghost use Rattle.std.specs.Prelude.{◌≡◌, ◌++◌, ◌≤◌, ◌∷◌, [], suc, max, IfOk, List, codes};
 ghost use Rattle.std.specs.List.{flat_map};
-ghost use Rattle.idl_parser.specs.Reading.{Parsed, Continued};
+ghost use Rattle.idl_parser.specs.Reading.{Parsed, Continued, Added};
+ghost use Rattle.idl_parser.specs.Makings.{module_front};
 ghost use Rattle.idl_tree.specs.Pieces.{keyword, mark};
 ghost use Rattle.idl_tree.specs.Yields.{identifier};
 ghost use Rattle.idl_tree.specs.DefinitionYields.{definition_yield};
@@ -11,66 +12,81 @@ ghost use Rattle.idl_tree.specs.Levels.{highest};
 ghost use Rattle.idl_tree.specs.DefinitionLevels.{definition_levels};
 
 use crate::cursor::Cursor;
-use crate::read::declarations::{is_declaration, read_ended_declaration};
-use crate::read::interfaces::read_ended_interface;
-use crate::read::lists::{add_read, read_opened};
+use crate::read::declarations::{is_declaration, read_declaration};
+use crate::read::interfaces::{interface, read_interface};
+use crate::read::lists::{add, read_opened};
 use crate::stop::Stop;
 use idl_lexer::Kind;
 use idl_tree::definitions::Definition;
 use idl_tree::names::Leaf;
 
-/// Reads a pragma, or a definition that holds no others.
-fn read_single<'a>(cursor: &mut Cursor<'a>, room: usize) -> Result<Definition<'a>, Stop>
-    ensures spells { IfOk result (λ d. Parsed cursor.old (definition_yield d) cursor.new) }
-    ensures levels { IfOk result (λ d. definition_levels d ≤ room) }
+/// Adds a definition. What holds one goes through this function, so that few functions do.
+fn add_definition<'a>(
+    definitions: &mut Vec<Definition<'a>>,
+    definition: Definition<'a>,
+) -> Result<(), Stop>
+    ensures { IfOk result (λ _. definitions.new.items ≡ definitions.old.items ++ definition.entry ∷ []) }
 {
-    if let Some(pragma) = cursor.take_leaf(Kind::Pragma) {
-        return Ok(Definition::Pragma(pragma));
+    add(definitions, definition)
+}
+
+/// Reads a pragma, or a definition that holds no others, and adds it.
+fn read_single<'a>(
+    cursor: &mut Cursor<'a>,
+    room: usize,
+    definitions: &mut Vec<Definition<'a>>,
+) -> Result<(), Stop>
+    ensures { IfOk result (λ _. Added definition_yield definition_levels room
+        definitions.old.items definitions.new.items cursor.old cursor.new) }
+{
+    if let Some(Kind::Pragma) = cursor.kind() {
+        let pragma = got!(cursor.leaf(Kind::Pragma));
+        return add_definition(definitions, Definition::Pragma(pragma));
     }
     if cursor.is_keyword("interface") {
-        return read_ended_interface(cursor, room).map(Definition::Interface);
+        let (name, body) = got!(read_interface(cursor, room));
+        got!(add_definition(definitions, interface(name, body)));
+        return cursor.mark(";");
     }
     if is_declaration(cursor) {
-        return read_ended_declaration(cursor, room).map(Definition::Declaration);
+        let declaration = got!(read_declaration(cursor, room));
+        got!(add_definition(definitions, Definition::Declaration(declaration)));
+        return cursor.mark(";");
     }
     Err(Stop::Unexpected)
 }
 
+/// Reads a definition and adds it.
 #[cycle(definitions)]
-fn read_definition<'a>(cursor: &mut Cursor<'a>, room: usize) -> Result<Definition<'a>, Stop>
-    ensures spells { IfOk result (λ d. Parsed cursor.old (definition_yield d) cursor.new) }
-    ensures levels { IfOk result (λ d. definition_levels d ≤ room) }
+fn read_definition<'a>(
+    cursor: &mut Cursor<'a>,
+    room: usize,
+    definitions: &mut Vec<Definition<'a>>,
+) -> Result<(), Stop>
+    ensures { IfOk result (λ _. Added definition_yield definition_levels room
+        definitions.old.items definitions.new.items cursor.old cursor.new) }
 {
-    if cursor.is_keyword("module") {
-        return read_module(cursor, room);
+    if !cursor.is_keyword("module") {
+        return read_single(cursor, room, definitions);
     }
-    read_single(cursor, room)
+    let (name, inside) = got!(read_module(cursor, room));
+    got!(add_definition(definitions, Definition::new_module(name, inside)));
+    cursor.mark(";")
 }
 
 /// Reads the name of a module and its definitions.
 #[cycle(definitions)]
-fn read_named<'a>(
+fn read_module<'a>(
     cursor: &mut Cursor<'a>,
     room: usize,
 ) -> Result<(Leaf<'a>, Vec<Definition<'a>>), Stop>
-    ensures spells { IfOk result (λ m. Parsed cursor.old (keyword (codes "module") ++ identifier m.0
-        ++ mark (codes "{") ++ flat_map definition_yield m.1.items ++ mark (codes "}") ++ mark (codes ";")) cursor.new) }
+    ensures spells { IfOk result (λ m. Parsed cursor.old (module_front m.0 m.1.items) cursor.new) }
     ensures levels { IfOk result (λ m. suc (highest definition_levels m.1.items) ≤ room) }
 {
     let (name, left) = got!(read_opened(cursor, "module", room));
     let read = read_definitions(cursor, left);
-    let read = cursor.closed(read, "}");
-    let definitions = got!(cursor.closed(read, ";"));
-    Ok((name, definitions))
-}
-
-#[cycle(definitions)]
-fn read_module<'a>(cursor: &mut Cursor<'a>, room: usize) -> Result<Definition<'a>, Stop>
-    ensures spells { IfOk result (λ d. Parsed cursor.old (definition_yield d) cursor.new) }
-    ensures levels { IfOk result (λ d. definition_levels d ≤ room) }
-{
-    match read_named(cursor, room) {
-        Ok((name, definitions)) => Ok(Definition::new_module(name, definitions)),
+    match cursor.closed(read, "}") {
+        Ok(definitions) => Ok((name, definitions)),
         Err(stop) => Err(stop),
     }
 }
@@ -86,7 +102,7 @@ pub(crate) fn read_definitions<'a>(
 {
     let mut definitions = Vec::new(cursor.alloc());
     'parts: while !cursor.is_at_end() && !cursor.is_mark("}") {
-        got!(add_read(&mut definitions, read_definition(cursor, room)));
+        got!(read_definition(cursor, room, &mut definitions));
     }
     definitions.shrink_to_fit();
     Ok(definitions)

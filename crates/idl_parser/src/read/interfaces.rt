@@ -1,25 +1,27 @@
 //! Interfaces, their operations and attributes.
 #![tactic(auto, using(crate::proofs::Reading::past_append, crate::proofs::Reading::past_none))]
 
-ghost use Rattle.std.specs.Prelude.{◌≡◌, ◌++◌, ◌≤◌, ℕ, Bool, max, IfOk, List, codes};
+ghost use Rattle.std.specs.Prelude.{◌≡◌, ◌++◌, ◌≤◌, ◌∷◌, [], ℕ, Bool, max, IfOk, List, codes};
 ghost use Rattle.std.specs.List.{flat_map};
-ghost use Rattle.idl_parser.specs.Reading.{Parsed, Continued};
+ghost use Rattle.idl_parser.specs.Reading.{Parsed, Continued, Added};
+ghost use Rattle.idl_parser.specs.Makings.{interface_of};
 ghost use Rattle.idl_tree.specs.Pieces.{mark};
 ghost use Rattle.idl_tree.specs.Yields.{optional, listed};
 ghost use Rattle.idl_tree.specs.Levels.{highest, highest_listed, optional_levels};
 ghost use Rattle.idl_tree.specs.TypeLevels.{param_type_levels};
 ghost use Rattle.idl_tree.specs.DefinitionYields.{raises_yield, readonly_yield, is_readonly as attributes_are_readonly, attributes_yield, attribute_yield, direction_yield, param_yield, oneway_yield, result_yield, operation_yield, export_yield, bases_yield, interface_yield};
 ghost use Rattle.idl_tree.specs.declared.definitions.Attributes.TheVariants.{Silent};
+ghost use Rattle.idl_tree.specs.declared.definitions.Definition.{Interface as InterfaceDcl};
 ghost use Rattle.idl_tree.specs.DefinitionLevels.{attribute_levels, param_levels, operation_levels, export_levels, interface_levels};
 
 use crate::cursor::Cursor;
-use crate::read::declarations::{is_declaration, read_ended_declaration};
-use crate::read::lists::{Part, add_read, both, read_listed, read_rest, then};
+use crate::read::declarations::{is_declaration, read_declaration};
+use crate::read::lists::{Part, add, both, read_listed, read_rest, then};
 use crate::read::types::read_param_type;
 use crate::stop::Stop;
 use idl_lexer::Kind;
 use idl_tree::definitions::{
-    Attribute, Attributes, Direction, Export, Interface, Operation, Param,
+    Attribute, Attributes, Definition, Direction, Export, Interface, Operation, Param,
 };
 use idl_tree::names::{Leaf, Listed, ScopedName};
 use idl_tree::types::ParamType;
@@ -197,38 +199,39 @@ fn read_operation<'a>(cursor: &mut Cursor<'a>, room: usize) -> Result<Operation<
     })
 }
 
-/// Reads attributes and the semicolon behind them.
-fn read_ended_attribute<'a>(cursor: &mut Cursor<'a>, room: usize) -> Result<Attribute<'a>, Stop>
-    ensures spells { IfOk result (λ a. Parsed cursor.old (attribute_yield a ++ mark (codes ";")) cursor.new) }
-    ensures levels { IfOk result (λ a. attribute_levels a ≤ room) }
+/// Adds what stands in an interface. What holds an export goes through this function, so that few functions do.
+fn add_export<'a>(exports: &mut Vec<Export<'a>>, export: Export<'a>) -> Result<(), Stop>
+    ensures { IfOk result (λ _. exports.new.items ≡ exports.old.items ++ export.entry ∷ []) }
 {
-    let read = read_attribute(cursor, room);
-    cursor.closed(read, ";")
+    add(exports, export)
 }
 
-/// Reads an operation and the semicolon behind it.
-fn read_ended_operation<'a>(cursor: &mut Cursor<'a>, room: usize) -> Result<Operation<'a>, Stop>
-    ensures spells { IfOk result (λ o. Parsed cursor.old (operation_yield o ++ mark (codes ";")) cursor.new) }
-    ensures levels { IfOk result (λ o. operation_levels o ≤ room) }
+/// Reads what stands in an interface, and adds it.
+fn read_export<'a>(
+    cursor: &mut Cursor<'a>,
+    room: usize,
+    exports: &mut Vec<Export<'a>>,
+) -> Result<(), Stop>
+    ensures { IfOk result (λ _. Added export_yield export_levels room
+        exports.old.items exports.new.items cursor.old cursor.new) }
 {
-    let read = read_operation(cursor, room);
-    cursor.closed(read, ";")
-}
-
-fn read_export<'a>(cursor: &mut Cursor<'a>, room: usize) -> Result<Export<'a>, Stop>
-    ensures spells { IfOk result (λ e. Parsed cursor.old (export_yield e) cursor.new) }
-    ensures levels { IfOk result (λ e. export_levels e ≤ room) }
-{
-    if let Some(pragma) = cursor.take_leaf(Kind::Pragma) {
-        return Ok(Export::Pragma(pragma));
+    if let Some(Kind::Pragma) = cursor.kind() {
+        let pragma = got!(cursor.leaf(Kind::Pragma));
+        return add_export(exports, Export::Pragma(pragma));
     }
     if is_declaration(cursor) {
-        return read_ended_declaration(cursor, room).map(Export::Declaration);
+        let declaration = got!(read_declaration(cursor, room));
+        got!(add_export(exports, Export::Declaration(declaration)));
+        return cursor.mark(";");
     }
     if cursor.is_keyword("readonly") || cursor.is_keyword("attribute") {
-        return read_ended_attribute(cursor, room).map(Export::Attribute);
+        let attribute = got!(read_attribute(cursor, room));
+        got!(add_export(exports, Export::Attribute(attribute)));
+        return cursor.mark(";");
     }
-    read_ended_operation(cursor, room).map(Export::Operation)
+    let operation = got!(read_operation(cursor, room));
+    got!(add_export(exports, Export::Operation(operation)));
+    cursor.mark(";")
 }
 
 /// Reads exports between braces.
@@ -240,7 +243,7 @@ fn read_exports<'a>(cursor: &mut Cursor<'a>, room: usize) -> Result<Vec<Export<'
     got!(cursor.mark("{"));
     let mut exports = Vec::new(cursor.alloc());
     'parts: while !cursor.is_mark("}") {
-        got!(add_read(&mut exports, read_export(cursor, room)));
+        got!(read_export(cursor, room, &mut exports));
     }
     exports.shrink_to_fit();
     cursor.closed(Ok(exports), "}")
@@ -256,33 +259,39 @@ fn read_bases<'a>(cursor: &mut Cursor<'a>) -> Result<Option<Listed<ScopedName<'a
     read_listed(cursor, 0).map(Some)
 }
 
+/// The bases of an interface, and what stands in it.
+type Body<'a> = (Option<Listed<ScopedName<'a>>>, Vec<Export<'a>>);
+
 /// Reads an interface, or one that is declared ahead, which a semicolon tells.
-fn read_interface<'a>(cursor: &mut Cursor<'a>, room: usize) -> Result<Interface<'a>, Stop>
-    ensures spells { IfOk result (λ i. Parsed cursor.old (interface_yield i) cursor.new) }
-    ensures levels { IfOk result (λ i. interface_levels i ≤ room) }
+pub(crate) fn read_interface<'a>(
+    cursor: &mut Cursor<'a>,
+    room: usize,
+) -> Result<(Leaf<'a>, Option<Body<'a>>), Stop>
+    ensures spells { IfOk result (λ i. Parsed cursor.old (interface_yield (interface_of i.0 i.1)) cursor.new) }
+    ensures levels { IfOk result (λ i. interface_levels (interface_of i.0 i.1) ≤ room) }
 {
     got!(cursor.keyword("interface"));
     let identifier = got!(cursor.identifier());
     if cursor.is_mark(";") {
-        return Ok(Interface::Ahead(identifier));
+        return Ok((identifier, None));
     }
     let front = got!(read_bases(cursor));
-    let (bases, exports) = got!(both(front, read_exports(cursor, room)));
-    Ok(Interface::Defined {
-        identifier,
-        bases,
-        exports,
-    })
+    match both(front, read_exports(cursor, room)) {
+        Ok(body) => Ok((identifier, Some(body))),
+        Err(stop) => Err(stop),
+    }
 }
 
-/// Reads an interface and the semicolon behind it.
-pub(crate) fn read_ended_interface<'a>(
-    cursor: &mut Cursor<'a>,
-    room: usize,
-) -> Result<Interface<'a>, Stop>
-    ensures spells { IfOk result (λ i. Parsed cursor.old (interface_yield i ++ mark (codes ";")) cursor.new) }
-    ensures levels { IfOk result (λ i. interface_levels i ≤ room) }
+/// The interface of a name and what stands behind it.
+pub(crate) fn interface<'a>(identifier: Leaf<'a>, body: Option<Body<'a>>) -> Definition<'a>
+    ensures { result ≡ InterfaceDcl (interface_of identifier.entry body.entry) }
 {
-    let read = read_interface(cursor, room);
-    cursor.closed(read, ";")
+    match body {
+        Some((bases, exports)) => Definition::Interface(Interface::Defined {
+            identifier,
+            bases,
+            exports,
+        }),
+        None => Definition::Interface(Interface::Ahead(identifier)),
+    }
 }

@@ -1,7 +1,7 @@
 //! Lists with commas, and parts one behind another.
 #![tactic(auto, using(crate::proofs::Reading::past_append, crate::proofs::Reading::past_none))]
 
-ghost use Rattle.std.specs.Prelude.{◌≡◌, ◌++◌, ◌≤◌, ◌∷◌, [], ℕ, suc, List, Ok, IfOk, IsOkAnd, codes};
+ghost use Rattle.std.specs.Prelude.{◌≡◌, ◌++◌, ◌≤◌, ◌<◌, ◌∷◌, [], ℕ, suc, length, List, Ok, IfOk, IsOkAnd, codes};
 ghost use Rattle.std.specs.List.{flat_map};
 ghost use Rattle.idl_parser.specs.Reading.{Parsed, Continued};
 ghost use Rattle.idl_tree.specs.Pieces.{Piece, keyword, mark};
@@ -104,6 +104,32 @@ pub(crate) fn then<'a, T: Drop, U: Part<'a>>(
     let first = got!(first);
     let second = got!(U::read(cursor, room));
     Ok((first, second))
+}
+
+/// What was read, and the part that is read behind it up to a semicolon.
+pub(crate) fn then_ended<'a, T: Drop, U: Part<'a>>(
+    first: Result<T, Stop>,
+    cursor: &mut Cursor<'a>,
+    room: usize,
+) -> Result<(T, U), Stop>
+    ensures first { IfOk result (λ both. first ≡ Ok both.0) }
+    ensures spells { IfOk result (λ both. Parsed cursor.old (U.yield_of both.1 ++ mark (codes ";")) cursor.new) }
+    ensures levels { IfOk result (λ both. U.levels_of both.1 ≤ room) }
+{
+    let read = then(first, cursor, room);
+    cursor.closed(read, ";")
+}
+
+/// The first part of a list in a box, and the others.
+pub(crate) fn first_boxed<T: Drop>(alloc: Global, list: Vec<T>) -> Result<(Box<T>, Vec<T>), Stop>
+    requires { 0 < length list.items }
+    ensures { IfOk result (λ parts. list.items ≡ parts.0.value ∷ parts.1.items) }
+{
+    let mut rest = list;
+    let first = rest.remove(0);
+    rest.shrink_to_fit();
+    let first = got!(boxed(alloc, first));
+    Ok((first, rest))
 }
 
 /// Reads further parts, each behind a comma.

@@ -67,23 +67,15 @@ enum Word {
     Other,
 }
 
-/// The keywords with which integer types begin.
-const INTEGERS: [&str; 3] = ["short", "long", "unsigned"];
-
 /// Which of these is next.
 fn next_word(cursor: &Cursor<'_>) -> Word {
-    if cursor.is_one_of(&INTEGERS) {
-        Word::Integer
-    } else if cursor.is_keyword("char") {
-        Word::Char
-    } else if cursor.is_keyword("boolean") {
-        Word::Boolean
-    } else if cursor.is_keyword("octet") {
-        Word::Octet
-    } else if cursor.is_keyword("string") {
-        Word::String
-    } else {
-        Word::Other
+    match cursor.text(Kind::Keyword) {
+        Some("short" | "long" | "unsigned") => Word::Integer,
+        Some("char") => Word::Char,
+        Some("boolean") => Word::Boolean,
+        Some("octet") => Word::Octet,
+        Some("string") => Word::String,
+        _ => Word::Other,
     }
 }
 
@@ -127,7 +119,7 @@ pub(crate) fn read_param_type<'a>(
     if cursor.take_keyword("Object") {
         return Ok(ParamType::Object);
     }
-    read_const_type(cursor, room).map(ParamType::Plain)
+    Ok(ParamType::Plain(got!(read_const_type(cursor, room))))
 }
 
 /// Reads the bound of a sequence, if it has one.
@@ -149,7 +141,7 @@ pub(crate) fn read_simple_type<'a>(
     ensures levels { IfOk result (λ t. simple_type_levels t ≤ room) }
 {
     if !cursor.take_keyword("sequence") {
-        return read_param_type(cursor, room).map(SimpleType::Plain);
+        return Ok(SimpleType::Plain(got!(read_param_type(cursor, room))));
     }
     let left = got!(cursor.open("<", room));
     let element = got!(read_simple_type(cursor, left));

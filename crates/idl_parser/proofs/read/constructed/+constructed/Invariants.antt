@@ -1,4 +1,4 @@
-use Rattle.std.proofs.Common.{◌+◌, ◌*◌, ◌≤◌, length}
+use Rattle.std.proofs.Common.{◌+◌, ◌*◌, ◌≤◌, ◌<◌, length}
 use Rattle.std.specs.List.{flat_map}
 use Rattle.idl_parser.specs.Reading.{Continued}
 use Rattle.idl_tree.specs.Levels.{highest}
@@ -18,9 +18,6 @@ decreases-read_member l = 10 * length l.cursor.now + 4
 abbrev pub decreases-read_case : goal.decreases-read_case
 decreases-read_case l = 10 * length l.cursor.now + 4
 
-abbrev pub decreases-read_element : goal.decreases-read_element
-decreases-read_element l = 10 * length l.cursor.now + 4
-
 abbrev pub decreases-read_union_body : goal.decreases-read_union_body
 decreases-read_union_body l = 10 * length l.cursor.now + 2
 
@@ -35,8 +32,9 @@ decreases-read_union l = 10 * length l.cursor.now + 2
 
 abbrev pub invariant-read_members-parts : goal.invariant-read_members-parts
 invariant-read_members-parts l = record {
-  spells : Continued l.initial.cursor (flat_map member_yield l.members.items) l.cursor;
+  spells : Continued l.fn.cursor (flat_map member_yield l.members.items) l.cursor;
   levels : highest member_levels l.members.items ≤ l.room;
+  some : 0 < length l.members.items;
 }
 
 abbrev pub decreases-read_members-parts : goal.decreases-read_members-parts
@@ -44,8 +42,9 @@ decreases-read_members-parts l = length l.cursor
 
 abbrev pub invariant-read_cases-parts : goal.invariant-read_cases-parts
 invariant-read_cases-parts l = record {
-  spells : Continued l.initial.cursor (flat_map case_yield l.cases.items) l.cursor;
+  spells : Continued l.fn.cursor (flat_map case_yield l.cases.items) l.cursor;
   levels : highest case_levels l.cases.items ≤ l.room;
+  some : 0 < length l.cases.items;
 }
 
 abbrev pub decreases-read_cases-parts : goal.decreases-read_cases-parts

@@ -7,13 +7,13 @@ use Rattle.idl_tree.specs.DefinitionYields.{export_yield}
 use Rattle.idl_tree.specs.DefinitionLevels.{export_levels}
 use Rattle.idl_tree.specs.Levels.{highest}
 use Rattle.idl_parser.proofs.Pairs.{closed_part, handed}
-use Rattle.idl_parser.proofs.Reading.{one_read, one_read_level}
+use Rattle.idl_parser.proofs.Adding.{longer, longer_level}
 use Rattle.idl_parser.proofs.read.interfaces.read_exports.Goals as goal
 
 pub parts-preserved : goal.parts-preserved
 parts-preserved c = record {
-  spells = one_read export_yield _ _ _ _ _ c.read_export.result c.parts.invariant.spells c.read_export.ensures.spells c.in-Ok-add_read.ensures;
-  levels = one_read_level export_levels _ _ _ c.read_export.result c.parts.invariant.levels c.read_export.ensures.levels c.in-Ok-add_read.ensures;
+  spells = longer export_yield export_levels _ _ _ _ _ _ c.parts.invariant.spells c.in-Ok-read_export.ensures;
+  levels = longer_level export_yield export_levels _ _ _ _ _ c.parts.invariant.levels c.in-Ok-read_export.ensures;
 }
 
 pub returns-clause-spells : goal.returns-clause-spells

@@ -1,0 +1,24 @@
+use Rattle.std.proofs.Common.{◌++◌, ◌∙◌, suc, ap, sym}
+use Rattle.std.specs.Prelude.{codes}
+use Rattle.std.specs.List.{flat_map}
+use Rattle.idl_tree.specs.Pieces.{keyword, mark}
+use Rattle.idl_tree.specs.Yields.{identifier}
+use Rattle.idl_tree.specs.TypeYields.{member_yield}
+use Rattle.idl_tree.specs.Levels.{highest}
+use Rattle.idl_tree.specs.TypeLevels.{member_levels}
+use Rattle.idl_tree.proofs.Members.{struct_yields, struct_nests}
+use Rattle.idl_parser.proofs.Pairs.{group_three}
+use Rattle.idl_parser.proofs.read.constructed.structure.Goals as goal
+
+pub returns-clause-spells : goal.returns-clause-spells
+returns-clause-spells c =
+    let p = c.in-Ok.part in
+    let pre = keyword (codes "struct") ++ identifier c.args.name ++ mark (codes "{") in
+    struct_yields c.args.name p.0 p.1
+    ∙ sym (group_three pre (member_yield p.0.value) (flat_map member_yield p.1.items) (mark (codes "}")))
+    ∙ ap (λ ms. pre ++ (flat_map member_yield ms ++ mark (codes "}"))) (sym c.in-Ok.ensures)
+
+pub returns-clause-levels : goal.returns-clause-levels
+returns-clause-levels c =
+    let p = c.in-Ok.part in
+    struct_nests c.args.name p.0 p.1 ∙ ap (λ ms. suc (highest member_levels ms)) (sym c.in-Ok.ensures)

@@ -1,0 +1,26 @@
+use Rattle.idl_parser.proofs.Parts.{part_then}
+use Rattle.std.proofs.Common.{◌++◌, ◌≤◌, max, arith}
+use Rattle.std.specs.Prelude.{codes}
+use Rattle.idl_tree.specs.declared.definitions.Declaration.TheVariants as Declarations
+use Rattle.idl_tree.specs.declared.definitions.TypeDcl.TheVariants as TypeDcls
+use Rattle.idl_tree.specs.DefinitionYields.{declaration_yield}
+use Rattle.idl_tree.specs.DefinitionLevels.{declaration_levels}
+use Rattle.idl_parser.specs.Reading.{Parsed}
+use Rattle.idl_parser.proofs.Pairs.{stated}
+use Rattle.idl_parser.proofs.read.declarations.read_union_dcl.Goals as goal
+
+pub returns-then-is_ahead-clause-spells : goal.returns-then-is_ahead-clause-spells
+returns-then-is_ahead-clause-spells c =
+    stated (λ d. Parsed _ (declaration_yield d) _) (Declarations.TypeDcl (TypeDcls.UnionAhead c.in-Ok-identifier.part)) c.declared.result (part_then c.in-Ok.ensures c.in-Ok-identifier.ensures) c.declared.ensures
+
+pub returns-then-is_ahead-clause-levels : goal.returns-then-is_ahead-clause-levels
+returns-then-is_ahead-clause-levels c =
+    stated (λ d. declaration_levels d ≤ c.args.room) (Declarations.TypeDcl (TypeDcls.UnionAhead c.in-Ok-identifier.part)) c.declared.result (omega arith) c.declared.ensures
+
+pub returns-clause-spells : goal.returns-clause-spells
+returns-clause-spells c =
+    stated (λ d. Parsed _ (declaration_yield d) _) (Declarations.TypeDcl (TypeDcls.Union c.in-Ok-read_union.part)) c.declared-2.result (c.in-Ok-read_union.ensures.spells) c.declared-2.ensures
+
+pub returns-clause-levels : goal.returns-clause-levels
+returns-clause-levels c =
+    stated (λ d. declaration_levels d ≤ c.args.room) (Declarations.TypeDcl (TypeDcls.Union c.in-Ok-read_union.part)) c.declared-2.result (c.in-Ok-read_union.ensures.levels) c.declared-2.ensures

@@ -1,0 +1,25 @@
+-- What is made of parts that were read.
+use Rattle.std.specs.Prelude.{◌++◌, List, Option, Some, None, Vec, codes}
+use Rattle.std.specs.Global.{Global}
+use Rattle.std.specs.List.{flat_map}
+use Rattle.idl_tree.specs.declared.names.Leaf.{Leaf}
+use Rattle.idl_tree.specs.declared.names.Listed.{Listed}
+use Rattle.idl_tree.specs.declared.names.ScopedName.{ScopedName}
+use Rattle.idl_tree.specs.declared.definitions.Export.{Export}
+use Rattle.idl_tree.specs.declared.definitions.Interface.{Interface}
+use Rattle.idl_tree.specs.declared.definitions.Interface.TheVariants.{Ahead, Defined}
+use Rattle.idl_tree.specs.declared.definitions.Definition.{Definition}
+use Rattle.idl_tree.specs.Pieces.{Piece, keyword, mark}
+use Rattle.idl_tree.specs.Yields.{identifier}
+use Rattle.idl_tree.specs.DefinitionYields.{definition_yield}
+
+-- a module up to its closing brace
+abbrev pub module_front : Leaf → List Definition → List Piece
+module_front name inside =
+    keyword (codes "module") ++ identifier name ++ mark (codes "{") ++ flat_map definition_yield inside
+    ++ mark (codes "}")
+
+-- an interface by its name and what stands behind it: its bases and what it exports, or nothing
+abbrev pub interface_of : Leaf → Option (Option (Listed ScopedName) × Vec Export Global) → Interface
+interface_of name None = Ahead name
+interface_of name (Some body) = Defined name body.0 body.1
