@@ -34,7 +34,7 @@ use Rattle.scoped_names.specs.Faults.{again_test, base_added, base_test, based, 
 use Rattle.scoped_names.specs.IdPragmas.{Said, SetsPrefix, Gives, said_by, said_by_kind, said_by_word}
 use Rattle.scoped_names.specs.Meanings.{const_meant, enum_meant, enumerator_meant, typedef_meant}
 use Rattle.scoped_names.specs.Reading.{Reading, State, passed, ◌>>◌}
-use Rattle.scoped_names.specs.RepositoryIds.{GivenId, IdPragma, VersionOf, WholeId, given_to, id_by, idl_format, names_to, path, pragma_for, prefix_part, repository_id, with_slashes}
+use Rattle.scoped_names.specs.RepositoryIds.{GivenId, IdPragma, VersionOf, WholeId, given_in, given_to, id_by, idl_format, names_to, path, pragma_for, prefix_part, repository_id, with_slashes}
 use Rattle.name_steps.specs.Steps.{Step, Declares, DeclaresConst, DeclaresFeature, DeclaresEnum, DeclaresEnumerator, DeclaresTypedef, HasBase, HasMember, Enters, Leaves, Defines, Says, steps_of}
 use Rattle.scoped_names.specs.Tests.{at, found_at, resolved, value_of_type}
 use Rattle.scoped_names.specs.TypeKinds.{const_type_kind}
@@ -315,7 +315,7 @@ given_ascii : (ps : List IdPragma) → AllByRecursion (λ p. GivenAscii p.given)
 given_ascii [] h e = tt
 given_ascii (p ∷ ps) h e = by (nat_eq e p.entry) (given_ascii ps h.1 e)
   where
-    by : (b : Bool) → MayGive (given_to ps e) → MayGive (cond b (Some p.given) (given_to ps e))
+    by : (b : Bool) → MayGive (given_to ps e) → MayGive (given_in (cond b (Some p) (pragma_for ps e)))
     by true rest = h.0
     by false rest = rest
 

@@ -11,7 +11,7 @@ use Rattle.scoped_names.specs.Meanings.{const_end, enumerator_meant, typedef_mea
 use Rattle.scoped_names.specs.Reading.{State, passed}
 use Rattle.name_steps.specs.Steps.{Step, Declares, DeclaresConst, DeclaresFeature, DeclaresEnum, DeclaresEnumerator, DeclaresTypedef, HasBase, HasMember, Enters, Leaves, Defines, Says, steps_of}
 use Rattle.scoped_names.specs.Whole.{AreNames, Whole, whole}
-use Rattle.scoped_names.proofs.Going.{Goes, base_goes, const_goes, declared_goes, defined_goes, enum_goes, feature_goes, member_goes, passed_goes, said_goes}
+use Rattle.scoped_names.proofs.Going.{Goes, base_goes, const_goes, declared_goes, defined_goes, enum_goes, feature_goes, goes_same, member_goes, said_goes}
 use Rattle.scoped_names.proofs.Introduced.{IsFlat}
 use Rattle.scoped_names.proofs.Introducing.{named_entry, passed_same, then_ok}
 use Rattle.scoped_names.proofs.Searches.{IsScope}
@@ -33,7 +33,7 @@ flat_goes st next (Enters l) flat h = absurd flat
 flat_goes st next (Defines l) flat h = (0, defined_goes 0 st next l h)
 flat_goes st next Leaves flat h = absurd flat
 flat_goes st next (Says l) flat h = (0, said_goes 0 st next l h)
-flat_goes st next s flat h = (0, passed_goes 0 st (test_of st s) next h)
+flat_goes st next s flat h = (0, goes_same 0 st next (passed_same st (test_of st s) next h))
 
 entered_low : (es : List Entry) (o : Option ℕ) (scope : ℕ) (name : List ℕ) → named es scope name ≡ o → scope_number o ≤ length es
 entered_low es None scope name h = omega arith
