@@ -1,15 +1,15 @@
-use Rattle.std.proofs.Common.{◌++◌, ◌≤◌, ◌<◌, max, length, sym, subst, arith}
-use Rattle.std.specs.Prelude.{Ok, IfOk, codes}
+use Rattle.std.proofs.Common.{◌++◌, ◌≤◌, ◌<◌, length, arith}
+use Rattle.std.specs.Prelude.{Ok, codes}
 use Rattle.std.specs.List.{flat_map}
 use Rattle.std.proofs.lemmas.Result.{IfOk-at_ok}
 use Rattle.idl_parser.specs.Reading.{Parsed}
 use Rattle.idl_tree.specs.Pieces.{keyword, mark}
 use Rattle.idl_tree.specs.Yields.{identifier, listed, in_order}
 use Rattle.idl_tree.specs.TypeYields.{type_yield, switch_yield, label_yield, declarator_yield, member_yield, case_yield, struct_yield, union_yield}
-use Rattle.idl_tree.specs.Levels.{highest, highest_listed}
-use Rattle.idl_tree.specs.TypeLevels.{type_levels, switch_levels, label_levels, declarator_levels, member_levels, case_levels, struct_levels, union_levels}
+use Rattle.idl_tree.specs.Levels.{highest}
+use Rattle.idl_tree.specs.TypeLevels.{type_levels, switch_levels, member_levels, case_levels, struct_levels, union_levels}
 use Rattle.idl_parser.proofs.Parts.{part_then}
-use Rattle.idl_parser.proofs.Pairs.{spelled_as, group_two, group_three, both_read, first_level, second_level, second_under, handed, closed_list, spelled_by, levels_by, behind_part, under_suc}
+use Rattle.idl_parser.proofs.Pairs.{spelled_as, group_two, group_three, both_read, first_level, second_under, handed, closed_list, spelled_by, levels_by, behind_part, under_suc}
 use Rattle.idl_parser.proofs.Adding.{longer, longer_level, alone, alone_level, some_more, added}
 use Rattle.idl_parser.proofs.read.constructed.+constructed.Goals as goal
 

@@ -5,10 +5,9 @@ use Rattle.idl_tree.specs.Levels.{const_expr_levels}
 use Rattle.idl_tree.specs.TypeLevels.{const_type_levels}
 use Rattle.idl_parser.proofs.Parts.{part_then}
 use Rattle.idl_parser.proofs.Pairs.{spelled_as, group_three, both_read, both_levels}
-use Rattle.std.proofs.Common.{◌++◌, ◌≤◌, max, arith}
+use Rattle.std.proofs.Common.{◌++◌, ◌≤◌}
 use Rattle.std.specs.Prelude.{codes}
 use Rattle.idl_tree.specs.declared.definitions.Declaration.TheVariants as Declarations
-use Rattle.idl_tree.specs.declared.definitions.TypeDcl.TheVariants as TypeDcls
 use Rattle.idl_tree.specs.DefinitionYields.{declaration_yield}
 use Rattle.idl_tree.specs.DefinitionLevels.{declaration_levels}
 use Rattle.idl_parser.specs.Reading.{Parsed}

@@ -1,5 +1,4 @@
-use Rattle.std.proofs.Common.{◌++◌, ◌≤◌, max, arith}
-use Rattle.std.specs.Prelude.{codes}
+use Rattle.std.proofs.Common.{◌≤◌}
 use Rattle.idl_tree.specs.declared.definitions.Declaration.TheVariants as Declarations
 use Rattle.idl_tree.specs.declared.definitions.TypeDcl.TheVariants as TypeDcls
 use Rattle.idl_tree.specs.DefinitionYields.{declaration_yield}

@@ -4,10 +4,9 @@ use Rattle.idl_tree.specs.Yields.{identifier}
 use Rattle.idl_tree.specs.TypeYields.{member_yield}
 use Rattle.idl_parser.proofs.Parts.{part_then}
 use Rattle.idl_parser.proofs.Pairs.{spelled_as, group_two}
-use Rattle.std.proofs.Common.{◌++◌, ◌≤◌, max, arith}
+use Rattle.std.proofs.Common.{◌++◌, ◌≤◌}
 use Rattle.std.specs.Prelude.{codes}
 use Rattle.idl_tree.specs.declared.definitions.Declaration.TheVariants as Declarations
-use Rattle.idl_tree.specs.declared.definitions.TypeDcl.TheVariants as TypeDcls
 use Rattle.idl_tree.specs.DefinitionYields.{declaration_yield}
 use Rattle.idl_tree.specs.DefinitionLevels.{declaration_levels}
 use Rattle.idl_parser.specs.Reading.{Parsed}

@@ -2,8 +2,7 @@ use Rattle.std.proofs.lemmas.Result.{IfOk-at_ok}
 use Rattle.idl_tree.specs.TypeYields.{type_yield}
 use Rattle.idl_tree.specs.TypeLevels.{type_levels}
 use Rattle.idl_parser.proofs.Parts.{part_then}
-use Rattle.std.proofs.Common.{◌++◌, ◌≤◌, max, arith}
-use Rattle.std.specs.Prelude.{codes}
+use Rattle.std.proofs.Common.{◌≤◌, arith}
 use Rattle.idl_tree.specs.declared.definitions.Declaration.TheVariants as Declarations
 use Rattle.idl_tree.specs.declared.definitions.TypeDcl.TheVariants as TypeDcls
 use Rattle.idl_tree.specs.DefinitionYields.{declaration_yield}

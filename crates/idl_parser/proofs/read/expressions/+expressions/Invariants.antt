@@ -1,4 +1,4 @@
-use Rattle.std.proofs.Common.{◌≡◌, ◌+◌, ◌-◌, ◌*◌, ◌≤◌, length}
+use Rattle.std.proofs.Common.{◌+◌, ◌-◌, ◌*◌, ◌≤◌, length}
 use Rattle.std.specs.List.{AllByRecursion, flat_map}
 use Rattle.idl_parser.specs.Reading.{Continued}
 use Rattle.idl_tree.specs.Levels.{highest}
