@@ -1,2 +1,3 @@
 pub mod NamesMore
 pub mod Written
+pub mod Sound

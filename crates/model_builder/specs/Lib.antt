@@ -4,3 +4,4 @@ pub mod Signatures
 pub mod Theirs
 pub mod Shown
 pub mod Faults
+pub mod DeclaredBy
