@@ -1,14 +1,14 @@
 -- What is written soundly is of the names, and keeps the rules of models but those on graphs and on names.
-use Rattle.std.proofs.Common.{◌≡◌, ◌∙◌, ◌⊎◌, inl, inr, ℕ, zero, suc, ◌+◌, ◌^◌, ◌<◌, ◌≤◌, All, Contains, List, [], ◌∷◌, ◌++◌, length, map, get_or, Option, Some, None, Ok, refl, sym, ap, subst, arith}
+use Rattle.std.proofs.Common.{◌≡◌, ◌∙◌, ◌⊎◌, inl, inr, ℕ, zero, suc, ◌+◌, ◌^◌, ◌<◌, ◌≤◌, All, Contains, List, [], ◌∷◌, ◌++◌, length, map, Option, Some, None, Ok, refl, sym, ap, subst, arith}
 use Rattle.std.specs.Prelude.{slice_get, IfSome, IsSomeAnd}
 use Rattle.std.specs.List.{flat_map, range_with_len}
 use Rattle.std.proofs.lemmas.List.{get_or-map, length-map}
 use Rattle.std.proofs.lemmas.List.Elements.{All-append, All-cons, All-map, All-nil, All-weaker, Contains-append_left, Contains-append_right}
 use Rattle.std.proofs.lemmas.Option.{get_or_from_slice_get, slice_get_within}
 use Rattle.type_graph.specs.declared.node.Node.{Node}
-use Rattle.type_graph.specs.declared.node.Node.TheVariants.{Frame, Text}
+use Rattle.type_graph.specs.declared.node.Node.TheVariants.{Frame}
 use Rattle.type_graph.specs.GraphRules.{IsNoFrame}
-use Rattle.type_model.specs.ModelRules.{AreDeclared, BeginsWithId, IsException, IsIdFirst, IsInterface, IsNamedFrame, IsOperation}
+use Rattle.type_model.specs.ModelRules.{AreDeclared, BeginsWithId, IsException, IsIdFirst, IsInterface, IsOperation}
 use Rattle.type_model.specs.ModelRules.{IsFrame as IsFrameNode}
 use Rattle.type_model.specs.Names.{IsNamed}
 use Rattle.name_table.specs.Entry.{Entry}
@@ -25,7 +25,7 @@ use Rattle.written_operations.specs.declared.signature.Role.TheVariants as Roles
 use Rattle.written_operations.specs.declared.signature.Signature.{Signature}
 use Rattle.written_operations.specs.Operations.{Defined}
 use Rattle.written_operations.specs.Sound.{HasFrames, IsSoundException, IsSoundFile, IsSoundOffer, IsSoundSignature}
-use Rattle.model_builder.specs.Naming.{called, frames_of, mark_of, name_of, names_at, names_of, names_of_place}
+use Rattle.model_builder.specs.Naming.{frames_of, name_of, names_at, names_of, names_of_place}
 use Rattle.model_builder.specs.Signatures.{exception_of, interface_of, interfaces_from, operation_of}
 use Rattle.written_operations.specs.Definitions.{defined_by}
 use Rattle.written_operations.proofs.FileLaws.{sound_written}
