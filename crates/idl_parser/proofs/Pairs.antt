@@ -113,3 +113,19 @@ closed_list a b c mark f read (Ok p) front same back =
     let one : Continued a (f p) b = subst (λ q. IfOk q (λ t. Continued a (f t) b)) same front in
     more_then_part one back
 closed_list a b c mark f read (Err e) front same back = tt
+
+-- the same, where another part stands in front
+pub closed_pair : {N T E F : Type 0} (a b c d : List Seen) (f : N → List Piece) (g : T → List Piece) (end : List Piece) (name : N) (read : Result T E) (r : Result (N × T) F)
+    → Parsed a (f name) b → IfOk read (λ t. Continued b (g t) c)
+    → IfOk r (λ m. m.0 ≡ name) → IfOk r (λ m. read ≡ Ok m.1) → IfOk r (λ _. Parsed c end d) → IfOk r (λ m. Parsed a (f m.0 ++ g m.1 ++ end) d)
+closed_pair a b c d f g end name read (Ok m) front inside named same ended =
+    let one : Continued b (g m.1) c = subst (λ q. IfOk q (λ t. Continued b (g t) c)) same inside in
+    subst (λ n. Parsed a (f n ++ g m.1 ++ end) d) (sym named) (part_then (part_then_more front one) ended)
+closed_pair a b c d f g end name read (Err e) front inside named same ended = tt
+
+pub closed_pair_level : {N T E F : Type 0} (levels : T → ℕ) (left room : ℕ) (read : Result T E) (r : Result (N × T) F)
+    → suc left ≡ room → IfOk read (λ t. levels t ≤ left) → IfOk r (λ m. read ≡ Ok m.1) → IfOk r (λ m. suc (levels m.1) ≤ room)
+closed_pair_level levels left room read (Ok m) one few same =
+    let most : levels m.1 ≤ left = subst (λ q. IfOk q (λ t. levels t ≤ left)) same few in
+    omega (arith, one, most)
+closed_pair_level levels left room read (Err e) one few same = tt

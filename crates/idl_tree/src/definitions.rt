@@ -1,13 +1,5 @@
 //! What modules and interfaces define.
 
-ghost use Rattle.std.specs.Prelude.{◌≡◌, ◌++◌, suc, codes};
-ghost use Rattle.std.specs.List.{flat_map};
-ghost use Rattle.idl_tree.specs.Pieces.{keyword, mark};
-ghost use Rattle.idl_tree.specs.Yields.{identifier as identifier_yield};
-ghost use Rattle.idl_tree.specs.DefinitionYields.{definition_yield};
-ghost use Rattle.idl_tree.specs.Levels.{highest};
-ghost use Rattle.idl_tree.specs.DefinitionLevels.{definition_levels};
-
 use crate::const_expr::ConstExpr;
 use crate::names::{Leaf, Listed, ScopedName};
 use crate::types::{
@@ -143,20 +135,4 @@ pub enum Definition<'a> {
 pub struct Module<'a> {
     pub identifier: Leaf<'a>,
     pub definitions: Vec<Definition<'a>>,
-}
-
-impl<'a> Definition<'a> {
-    /// A module of these definitions.
-    pub fn new_module(identifier: Leaf<'a>, definitions: Vec<Definition<'a>>) -> Definition<'a>
-        ensures spells { definition_yield result ≡
-            keyword (codes "module") ++ identifier_yield identifier.entry ++ mark (codes "{")
-            ++ flat_map definition_yield definitions.entry.items ++ mark (codes "}") ++ mark (codes ";") }
-        ensures levels { definition_levels result ≡
-            suc (highest definition_levels definitions.entry.items) }
-    {
-        Definition::Module(Module {
-            identifier,
-            definitions,
-        })
-    }
 }

@@ -1,12 +1,13 @@
 //! The tree of an IDL specification (ISO/IEC 19500-1, IDL grammar), and what tokens it spells.
 //!
-//! Public functions make the nodes that hold a list or a box, and say what they spell.
+//! Public functions make expressions and sequences, and say what they spell.
 #![tactic(auto)]
 
 pub mod const_expr;
 mod counts;
 pub mod definitions;
 pub mod expression;
+pub mod kinds;
 pub mod lists;
 pub mod names;
 mod readers;

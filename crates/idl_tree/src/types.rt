@@ -1,12 +1,11 @@
 //! Types and their declarators.
 
 ghost use Rattle.std.specs.Prelude.{◌≡◌, ◌++◌, suc, max, IfOk, codes};
-ghost use Rattle.std.specs.List.{flat_map};
 ghost use Rattle.idl_tree.specs.Pieces.{keyword, mark};
-ghost use Rattle.idl_tree.specs.Yields.{identifier as identifier_yield, optional};
-ghost use Rattle.idl_tree.specs.TypeYields.{simple_type_yield, sequence_bound_yield, switch_yield, struct_yield, union_yield, member_yield, case_yield};
-ghost use Rattle.idl_tree.specs.Levels.{highest, optional_levels, bound_levels};
-ghost use Rattle.idl_tree.specs.TypeLevels.{simple_type_levels, switch_levels, struct_levels, union_levels, member_levels, case_levels};
+ghost use Rattle.idl_tree.specs.Yields.{optional};
+ghost use Rattle.idl_tree.specs.TypeYields.{simple_type_yield, sequence_bound_yield};
+ghost use Rattle.idl_tree.specs.Levels.{optional_levels, bound_levels};
+ghost use Rattle.idl_tree.specs.TypeLevels.{simple_type_levels};
 
 use crate::const_expr::{Bound, ConstExpr};
 use crate::names::{Leaf, Listed, ScopedName};
@@ -146,52 +145,6 @@ impl<'a> SimpleType<'a> {
         Ok(SimpleType::Sequence {
             element: Box::new(alloc, element)?,
             bound,
-        })
-    }
-}
-
-impl<'a> StructType<'a> {
-    pub fn new(
-        alloc: Global,
-        identifier: Leaf<'a>,
-        first: Member<'a>,
-        rest: Vec<Member<'a>>,
-    ) -> Result<StructType<'a>, AllocError>
-        ensures spells { IfOk result (λ s. struct_yield s ≡
-            keyword (codes "struct") ++ identifier_yield identifier.entry ++ mark (codes "{")
-            ++ member_yield first.entry ++ flat_map member_yield rest.entry.items ++ mark (codes "}")) }
-        ensures levels { IfOk result (λ s. struct_levels s ≡
-            suc (max (member_levels first.entry) (highest member_levels rest.entry.items))) }
-    {
-        Ok(StructType {
-            identifier,
-            first: Box::new(alloc, first)?,
-            rest,
-        })
-    }
-}
-
-impl<'a> UnionType<'a> {
-    pub fn new(
-        alloc: Global,
-        identifier: Leaf<'a>,
-        switch: SwitchType<'a>,
-        first: Case<'a>,
-        rest: Vec<Case<'a>>,
-    ) -> Result<UnionType<'a>, AllocError>
-        ensures spells { IfOk result (λ u. union_yield u ≡
-            keyword (codes "union") ++ identifier_yield identifier.entry ++ keyword (codes "switch")
-            ++ mark (codes "(") ++ switch_yield switch.entry ++ mark (codes ")") ++ mark (codes "{")
-            ++ case_yield first.entry ++ flat_map case_yield rest.entry.items ++ mark (codes "}")) }
-        ensures levels { IfOk result (λ u. union_levels u ≡
-            suc (max (switch_levels switch.entry)
-            (max (case_levels first.entry) (highest case_levels rest.entry.items)))) }
-    {
-        Ok(UnionType {
-            identifier,
-            switch,
-            first: Box::new(alloc, first)?,
-            rest,
         })
     }
 }

@@ -49,8 +49,8 @@ use Rattle.idl_tree.specs.Yields.{const_expr_yield, identifier, in_order, listed
 use Rattle.idl_tree.specs.TypeYields.{cases_yield, const_type_yield, declarator_yield, enum_yield, integer_size_yield, integer_yield, label_yield, member_yield, members_yield, param_type_yield, sequence_bound_yield, simple_type_yield, size_yield, string_bound_yield, struct_yield, switch_yield, type_yield, union_yield}
 use Rattle.idl_tree.specs.DefinitionYields.{attribute_yield, attributes_yield, bases_yield, const_yield, declaration_yield, definition_yield, definitions_spelled, definitions_yield, direction_yield, except_yield, export_yield, interface_yield, is_readonly, oneway_yield, operation_yield, param_yield, raises_yield, readonly_yield, result_yield, type_dcl_yield}
 use Rattle.idl_tree.specs.Lists.{parts}
-use Rattle.name_table.specs.declared.entry.EntryKind.{EntryKind}
-use Rattle.name_table.specs.declared.entry.EntryKind.TheVariants as Kinds
+use Rattle.idl_tree.specs.declared.kinds.EntryKind.{EntryKind}
+use Rattle.idl_tree.specs.declared.kinds.EntryKind.TheVariants as Kinds
 use Rattle.name_steps.specs.Steps.{Step, Declares, DeclaresEnum, DeclaresEnumerator, DeclaresTypedef, IsNew, DeclaresConst, DeclaresFeature, HasMember, IsUndefined, HasBase, Enters, Defines, Leaves, NamesType, NamesException, HasWorth, IsSize, Says, attribute_steps, attributes_steps, bound_steps, cases_steps, const_steps, const_type_steps, declaration_steps, declarator_steps, definition_steps, definitions_steps, enum_steps, except_steps, export_steps, interface_steps, label_steps, member_steps, members_steps, operation_steps, optional_parts, param_steps, param_type_steps, raises_steps, result_steps, simple_type_steps, size_step, steps_of, struct_steps, switch_steps, type_dcl_steps, type_steps, typedef_steps, union_steps}
 use Rattle.name_steps.specs.Asked.{is_asked, pieces_of}
 

@@ -10,7 +10,7 @@ use Rattle.idl_tree.specs.declared.types.Case.{Case}
 use Rattle.idl_tree.specs.declared.definitions.Definition.{Module}
 use Rattle.idl_tree.specs.declared.definitions.Module.{Module as ModuleRecord}
 use Rattle.idl_tree.proofs.Rows.{module_walk, struct_walk, union_walk}
-use Rattle.name_table.specs.declared.entry.EntryKind.TheVariants as Kinds
+use Rattle.idl_tree.specs.declared.kinds.EntryKind.TheVariants as Kinds
 use Rattle.name_steps.specs.Steps.{Step, Leaves, case_steps, cases_steps, definition_steps, definitions_steps, member_steps, members_steps, module_body, opening, struct_steps, switch_steps, union_steps}
 
 abbrev pub struct_body : Leaf → Member → List Step → List Step

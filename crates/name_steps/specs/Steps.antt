@@ -41,8 +41,8 @@ use Rattle.idl_tree.specs.declared.definitions.Interface.{Interface}
 use Rattle.idl_tree.specs.declared.definitions.Interface.TheVariants.{Ahead, Defined}
 use Rattle.idl_tree.specs.declared.definitions.Definition.{Definition, Pragma, Declaration as Declared, Interface as InterfaceDcl, Module', Row_of-Definition, end_of-Definition, more_of-Definition}
 use Rattle.idl_tree.specs.Lists.{parts}
-use Rattle.name_table.specs.declared.entry.EntryKind.{EntryKind}
-use Rattle.name_table.specs.declared.entry.EntryKind.TheVariants as Kinds
+use Rattle.idl_tree.specs.declared.kinds.EntryKind.{EntryKind}
+use Rattle.idl_tree.specs.declared.kinds.EntryKind.TheVariants as Kinds
 
 -- each is done in the scope that was entered last and not left yet, the file's at first
 pub data Step : Type 0 where

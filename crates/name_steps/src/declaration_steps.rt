@@ -11,9 +11,9 @@ use idl_tree::definitions::{
     Attribute, Attributes, Const, Declaration, Definition, Except, Export, Interface, Operation,
     Param, TypeDcl,
 };
+use idl_tree::kinds::EntryKind;
 use idl_tree::names::{Leaf, Listed, ScopedName};
 use idl_tree::types::{Declarator, ParamType, TypeSpec};
-use name_table::EntryKind;
 use std::alloc::AllocError;
 
 impl<'t, 'a> Steps<'t, 'a> {

@@ -6,9 +6,9 @@ ghost use Rattle.name_steps.specs.StepsKept.{step_of, steps_in};
 
 use idl_tree::definitions::Const;
 use idl_tree::expression::Expr;
+use idl_tree::kinds::EntryKind;
 use idl_tree::names::{Leaf, ScopedName};
 use idl_tree::types::{Declarator, TypeSpec};
-use name_table::EntryKind;
 use std::alloc::{AllocError, Global};
 
 /// One thing that is asked, in the scope that was entered last and not left yet. `'t` is the tree's.

@@ -8,12 +8,12 @@ ghost use Rattle.name_steps.specs.Steps.{bound_steps, case_steps, const_type_ste
 
 use crate::step::{Step, Steps};
 use idl_tree::const_expr::{Bound, ConstExpr};
+use idl_tree::kinds::EntryKind;
 use idl_tree::names::{Leaf, Listed};
 use idl_tree::types::{
     Case, ConstType, Declarator, EnumType, Label, Member, ParamType, SimpleType, StructType,
     SwitchType, TypeSpec, UnionType,
 };
-use name_table::EntryKind;
 use std::alloc::AllocError;
 
 impl<'t, 'a> Steps<'t, 'a> {

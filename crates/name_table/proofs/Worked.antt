@@ -1,7 +1,7 @@
 -- Names worked out by hand: what each finds. The tokens of a source count from 0.
 use Rattle.std.proofs.Common.{◌≡◌, ℕ, true, false, List, [], ◌∷◌, codes, None, refl}
-use Rattle.name_table.specs.declared.entry.EntryKind.{EntryKind}
-use Rattle.name_table.specs.declared.entry.EntryKind.TheVariants.{Module, Interface, Struct, Enum, Enumerator, Typedef, Const}
+use Rattle.idl_tree.specs.declared.kinds.EntryKind.{EntryKind}
+use Rattle.idl_tree.specs.declared.kinds.EntryKind.TheVariants.{Module, Interface, Struct, Enum, Enumerator, Typedef, Const}
 use Rattle.name_table.specs.declared.entry.Base.{Base}
 use Rattle.name_table.specs.Entry.{Entry}
 use Rattle.name_table.specs.declared.search.Found.TheVariants.{Nothing, One, Several}

@@ -1,7 +1,7 @@
 -- What is declared, as entries, and lists of entries that grow.
 use Rattle.std.specs.Prelude.{ℕ, zero, suc, max, List, [], ◌∷◌, ◌++◌, Option, Some, None, slice_get, slice_set}
 use Rattle.idl_tree.specs.declared.names.Leaf.{Leaf}
-use Rattle.name_table.specs.declared.entry.EntryKind.{EntryKind}
+use Rattle.idl_tree.specs.declared.kinds.EntryKind.{EntryKind}
 use Rattle.name_table.specs.declared.entry.Base.{Base}
 use Rattle.name_table.specs.declared.entry.Meaning.{Meaning}
 use Rattle.name_table.specs.Entry.{Entry, named}

@@ -1,8 +1,8 @@
 -- Operations and attributes, and whether bases give different ones of a name.
 use Rattle.std.specs.Prelude.{ℕ, suc, Bool, true, false, not, if◌then◌else◌, nat_eq, map, List, None}
 use Rattle.std.specs.List.{list_any}
-use Rattle.name_table.specs.declared.entry.EntryKind.{EntryKind}
-use Rattle.name_table.specs.declared.entry.EntryKind.TheVariants.{Module, Interface, Struct, Union, Enum, Enumerator, Typedef, Const, Exception, Operation, Attribute}
+use Rattle.idl_tree.specs.declared.kinds.EntryKind.{EntryKind}
+use Rattle.idl_tree.specs.declared.kinds.EntryKind.TheVariants.{Module, Interface, Struct, Union, Enum, Enumerator, Typedef, Const, Exception, Operation, Attribute}
 use Rattle.name_table.specs.declared.entry.Base.{Base}
 use Rattle.name_table.specs.declared.entry.Meaning.{Meaning}
 use Rattle.name_table.specs.declared.search.Found.{Found}

@@ -1,8 +1,8 @@
 -- The names that a scope has itself, and in which nothing of the same name is declared.
 use Rattle.std.specs.Prelude.{ℕ, zero, suc, Bool, true, false, ◌&&◌, List, Option, Some, None, slice_get}
 use Rattle.idl_lexer.specs.Words.{same_but_for_case}
-use Rattle.name_table.specs.declared.entry.EntryKind.{EntryKind}
-use Rattle.name_table.specs.declared.entry.EntryKind.TheVariants as Entries
+use Rattle.idl_tree.specs.declared.kinds.EntryKind.{EntryKind}
+use Rattle.idl_tree.specs.declared.kinds.EntryKind.TheVariants as Entries
 use Rattle.name_table.specs.Entry.{Entry}
 
 -- a module, an interface, a structure, a union or an exception: its name isn't declared directly inside it

@@ -2,40 +2,20 @@
 
 ghost use Rattle.std.specs.Prelude.{◌≡◌};
 ghost use Rattle.name_table.specs.Entries.{plain as plain_meaning};
-ghost use Rattle.name_table.specs.OwnNames.{keeps_its_name};
+ghost use Rattle.name_table.specs.OwnNames.{keeps_its_name as keeps_name};
 ghost use Rattle.name_table.specs.Features.{feature_meant};
 
 use const_values::{ConstKind, Constant};
+use idl_tree::kinds::EntryKind;
 
-/// What a name was declared as.
-#[derive(Clone, Copy, Debug, PartialEq, Eq)]
-pub enum EntryKind {
-    Module,
-    /// An interface, declared ahead or defined.
-    Interface,
-    /// A structure, declared ahead or defined.
-    Struct,
-    /// A union, declared ahead or defined.
-    Union,
-    Enum,
-    Enumerator,
-    Typedef,
-    Const,
-    Exception,
-    Operation,
-    Attribute,
-}
-
-impl EntryKind {
-    /// Whether the name of what has a scope isn't declared directly in it. A parameter may have the
-    /// name of its operation.
-    pub(crate) fn keeps_its_name(self) -> bool
-        ensures { result ≡ keeps_its_name self }
-    {
-        match self {
-            EntryKind::Operation => false,
-            _ => true,
-        }
+/// Whether the name of what has a scope isn't declared directly in it. A parameter may have the
+/// name of its operation.
+pub(crate) fn keeps_its_name(kind: EntryKind) -> bool
+    ensures { result ≡ keeps_name kind }
+{
+    match kind {
+        EntryKind::Operation => false,
+        _ => true,
     }
 }
 

@@ -12,7 +12,7 @@ mod shortcuts;
 pub mod table;
 mod word_order;
 
-pub use entry::{Base, EntryKind, Meaning};
+pub use entry::{Base, Meaning};
 pub use key::{Key, Word};
 pub use numbered::Numbered;
 pub use record::Record;

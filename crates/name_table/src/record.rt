@@ -6,10 +6,11 @@ ghost use Rattle.name_table.specs.OwnNames.{is_named_so};
 ghost use Rattle.name_table.specs.Entries.{entry_declared};
 ghost use Rattle.name_table.specs.Records.{entry_of, given_before, is_word};
 
-use crate::entry::{Base, EntryKind, Meaning};
+use crate::entry::{Base, Meaning, keeps_its_name};
 use crate::key::{Key, Word};
 use crate::search::Found;
 use const_values::{ConstKind, Constant};
+use idl_tree::kinds::EntryKind;
 use idl_tree::names::Leaf;
 use std::collections::BTreeMap;
 
@@ -113,6 +114,6 @@ impl<'a> Record<'a> {
     pub fn is_named_so(&self, word: &Word<'a>) -> bool
         ensures { result ≡ is_named_so word.now.text.now (Some (entry_of self.now)) }
     {
-        self.kind.keeps_its_name() && self.key.word == *word
+        keeps_its_name(self.kind) && self.key.word == *word
     }
 }

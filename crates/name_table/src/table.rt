@@ -9,7 +9,7 @@ ghost use Rattle.idl_lexer.specs.Identifiers.{words};
 ghost use Rattle.name_table.specs.Entries.{latest, scope_of, with_base};
 ghost use Rattle.name_table.specs.Records.{heir_of as heir_in_records, entry_of, words_at, HasWord, is_word};
 
-use crate::entry::{Base, EntryKind};
+use crate::entry::Base;
 use crate::key::{Key, Word};
 use crate::numbered::Numbered;
 use crate::record::{Heir, Record};
@@ -17,6 +17,7 @@ use crate::search::{Found, Sight};
 use crate::shortcuts::{Place, Shortcut, Step, drop_way};
 use const_values::{ConstKind, Constant};
 use idl_lexer::{Identifiers, is_rooted};
+use idl_tree::kinds::EntryKind;
 use idl_tree::names::{Leaf, ScopedName, unescaped};
 use std::alloc::{AllocError, Global};
 use std::marker::Model;

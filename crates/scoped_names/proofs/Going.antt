@@ -13,8 +13,8 @@ use Rattle.idl_tree.specs.declared.definitions.Const.{Const}
 use Rattle.idl_tree.specs.Starts.{name_start}
 use Rattle.const_values.specs.declared.constant.Constant.{Constant}
 use Rattle.name_table.specs.declared.entry.Base.{Base}
-use Rattle.name_table.specs.declared.entry.EntryKind.{EntryKind}
-use Rattle.name_table.specs.declared.entry.EntryKind.TheVariants as Entries
+use Rattle.idl_tree.specs.declared.kinds.EntryKind.{EntryKind}
+use Rattle.idl_tree.specs.declared.kinds.EntryKind.TheVariants as Entries
 use Rattle.name_table.specs.declared.entry.Meaning.{Meaning}
 use Rattle.name_table.specs.Entry.{AreNested, Entry, around, is_named, named, worth_in}
 use Rattle.name_table.specs.Entries.{entry_declared, plain, scope_of, with_base}

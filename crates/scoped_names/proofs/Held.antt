@@ -13,7 +13,7 @@ use Rattle.idl_tree.specs.TypeYields.{const_type_yield}
 use Rattle.idl_tree.specs.DefinitionYields.{definitions_spelled}
 use Rattle.idl_tree.specs.Starts.{name_start}
 use Rattle.idl_tree.proofs.SpelledForms.{AreNumbered-append, Spec-numbers}
-use Rattle.name_table.specs.declared.entry.EntryKind.{EntryKind}
+use Rattle.idl_tree.specs.declared.kinds.EntryKind.{EntryKind}
 use Rattle.name_table.specs.Entry.{Entry, around, is_named, named, worth_in}
 use Rattle.name_table.specs.Entries.{plain as plain_meant, scope_number, scope_of}
 use Rattle.name_table.specs.Features.{features_of}

@@ -6,7 +6,7 @@ use Rattle.idl_tree.specs.declared.names.Leaf.{Leaf}
 use Rattle.idl_tree.specs.declared.expression.Expr.{Expr, Chain}
 use Rattle.idl_tree.specs.declared.expression.Operand.{Operand}
 use Rattle.idl_tree.proofs.Rows.{chain_walk}
-use Rattle.name_table.specs.declared.entry.EntryKind.TheVariants.{Module as ModuleKind}
+use Rattle.idl_tree.specs.declared.kinds.EntryKind.TheVariants.{Module as ModuleKind}
 use Rattle.name_table.specs.declared.entry.Meaning.{Meaning}
 use Rattle.name_table.specs.Entry.{Entry, named}
 use Rattle.name_table.specs.Search.{word}

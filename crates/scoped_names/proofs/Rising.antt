@@ -13,7 +13,7 @@ use Rattle.idl_tree.specs.Forms.{AreNumbered}
 use Rattle.idl_tree.specs.Yields.{boolean_text, const_expr_yield, expr_yield, identifier, name_yield, operands_yield, optional, root_yield, sign_text}
 use Rattle.idl_tree.specs.Starts.{expr_start, name_start, root_or}
 use Rattle.idl_tree.proofs.SpelledForms.{AreNumbered-append, Spec-length, Spec-numbers, kept_number}
-use Rattle.name_table.specs.declared.entry.EntryKind.{EntryKind}
+use Rattle.idl_tree.specs.declared.kinds.EntryKind.{EntryKind}
 use Rattle.name_steps.specs.Asked.{pieces_of}
 use Rattle.scoped_names.specs.Meanings.{const_end}
 use Rattle.scoped_names.specs.Rising.{Follows, Rises, reached}

@@ -9,7 +9,7 @@ use Rattle.idl_tree.specs.declared.types.ConstType.TheVariants as ConstTypes
 use Rattle.idl_tree.specs.Starts.{expr_start, name_start}
 use Rattle.const_values.specs.declared.kind.ConstKind.TheVariants as Kinds
 use Rattle.const_values.specs.Worth.{chain_worth, operator_applied, positive, sign_applied, whole_constant, whole_number, worth}
-use Rattle.name_table.specs.declared.entry.EntryKind.{EntryKind}
+use Rattle.idl_tree.specs.declared.kinds.EntryKind.{EntryKind}
 use Rattle.name_table.specs.declared.search.Sight.{Sight}
 use Rattle.name_table.specs.declared.search.Sight.TheVariants.{Unseen, OtherCase, Unclear, Seen}
 use Rattle.name_table.specs.Entry.{Entry, meant_in, worth_in}

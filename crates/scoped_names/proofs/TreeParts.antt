@@ -23,7 +23,7 @@ use Rattle.idl_tree.specs.declared.definitions.Module.{Module as ModuleRecord}
 use Rattle.idl_tree.specs.Lists.{parts}
 use Rattle.name_table.specs.Entry.{Entry, named}
 use Rattle.name_table.specs.Search.{word}
-use Rattle.name_table.specs.declared.entry.EntryKind.TheVariants as Kinds
+use Rattle.idl_tree.specs.declared.kinds.EntryKind.TheVariants as Kinds
 use Rattle.idl_tree.specs.declared.types.ParamType.{ParamType}
 use Rattle.idl_tree.specs.declared.definitions.Interface.TheVariants.{Defined}
 use Rattle.name_steps.specs.Steps.{Step, DeclaresFeature, DeclaresTypedef, Defines, Enters, HasBase, HasMember, IsSize, Leaves, NamesException, attribute_steps, attributes_steps, case_steps, declarator_steps, definition_steps, except_steps, export_steps, interface_steps, label_steps, member_steps, operation_steps, optional_parts, param_steps, param_type_steps, raises_steps, result_steps, size_step, steps_of, struct_steps, switch_steps, type_steps, typedef_steps, union_steps}

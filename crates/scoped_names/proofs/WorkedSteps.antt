@@ -12,7 +12,7 @@ use Rattle.idl_tree.specs.declared.definitions.Export.{Export}
 use Rattle.idl_tree.specs.declared.definitions.Export.TheVariants as Exports
 use Rattle.idl_tree.specs.declared.definitions.Interface.TheVariants.{Defined}
 use Rattle.idl_tree.specs.declared.definitions.Definition.{Declaration, Interface}
-use Rattle.name_table.specs.declared.entry.EntryKind.TheVariants as Kinds
+use Rattle.idl_tree.specs.declared.kinds.EntryKind.TheVariants as Kinds
 use Rattle.name_table.specs.Entry.{Entry}
 use Rattle.name_table.specs.Entries.{scope_of}
 use Rattle.scoped_names.specs.Introductions.{Stands, Has, Body, introduced}

@@ -4,7 +4,7 @@ use Rattle.idl_tree.specs.declared.names.Leaf.{Leaf}
 use Rattle.idl_tree.specs.declared.definitions.Const.{Const}
 use Rattle.idl_tree.specs.declared.types.Declarator.{Declarator}
 use Rattle.idl_tree.specs.Yields.{const_expr_yield}
-use Rattle.name_table.specs.declared.entry.EntryKind.TheVariants.{Enum, Enumerator, Typedef, Const as Const'}
+use Rattle.idl_tree.specs.declared.kinds.EntryKind.TheVariants.{Enum, Enumerator, Typedef, Const as Const'}
 use Rattle.name_table.specs.declared.entry.Meaning.{Meaning}
 use Rattle.scoped_names.specs.Constants.{declarator_kind}
 use Rattle.const_values.specs.declared.constant.Constant.{Constant}

@@ -10,8 +10,8 @@ use Rattle.idl_tree.specs.Starts.{name_start, expr_start}
 use Rattle.const_values.specs.declared.constant.Constant.{Constant}
 use Rattle.const_values.specs.declared.kind.ConstKind.{ConstKind}
 use Rattle.const_values.specs.Worth.{whole_number, positive}
-use Rattle.name_table.specs.declared.entry.EntryKind.{EntryKind}
-use Rattle.name_table.specs.declared.entry.EntryKind.TheVariants.{Module, Interface, Struct, Union, Enum, Enumerator, Typedef, Const, Exception, Operation, Attribute}
+use Rattle.idl_tree.specs.declared.kinds.EntryKind.{EntryKind}
+use Rattle.idl_tree.specs.declared.kinds.EntryKind.TheVariants.{Module, Interface, Struct, Union, Enum, Enumerator, Typedef, Const, Exception, Operation, Attribute}
 use Rattle.scoped_names.specs.declared.fault.At.{At}
 use Rattle.scoped_names.specs.declared.fault.Flaw.{Flaw}
 use Rattle.scoped_names.specs.declared.fault.Flaw.TheVariants.{NoConstant, NoWorth, NotOfType, NotPositive}

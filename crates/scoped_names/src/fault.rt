@@ -4,8 +4,8 @@ ghost use Rattle.std.specs.Prelude.{◌≡◌};
 ghost use Rattle.scoped_names.specs.Tests.{at as at_leaf};
 ghost use Rattle.scoped_names.specs.declared.fault.NameFault.TheVariants.{NoMemory};
 
+use idl_tree::kinds::EntryKind;
 use idl_tree::names::Leaf;
-use name_table::EntryKind;
 use std::alloc::{AllocError, AllocFailed};
 use std::fmt::{Display, Error as FmtError, Formatter, Write};
 use thiserror::Error;

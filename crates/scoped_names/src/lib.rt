@@ -14,6 +14,7 @@ mod specification;
 mod tables;
 
 pub use fault::{At, Flaw, NameFault, Unfit};
-pub use name_table::{Base, EntryKind};
+pub use idl_tree::kinds::EntryKind;
+pub use name_table::Base;
 pub use names::Names;
 pub use specification::bind;

@@ -14,8 +14,9 @@ use crate::fault::NameFault;
 use crate::repository_ids::{IdPragmas, path_to};
 use const_values::{ConstKind, Constant};
 use idl_tree::expression::Expr;
+use idl_tree::kinds::EntryKind;
 use idl_tree::names::{Leaf, ScopedName};
-use name_table::{Base, EntryKind, Table};
+use name_table::{Base, Table};
 use std::alloc::{AllocError, Global};
 use std::marker::Model;
 

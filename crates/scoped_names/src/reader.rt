@@ -16,8 +16,9 @@ use crate::members::Members;
 use crate::names::Names;
 use crate::repository_ids::IdPragmas;
 use crate::tables::Tables;
+use idl_tree::kinds::EntryKind;
 use idl_tree::names::Leaf;
-use name_table::{Base, EntryKind, Found, Key, Meaning, Numbered, Table, Word};
+use name_table::{Base, Found, Key, Meaning, Numbered, Table, Word};
 use std::alloc::Global;
 use std::marker::Model;
 

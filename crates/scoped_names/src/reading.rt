@@ -22,11 +22,12 @@ use crate::repository_ids::PragmaId;
 use const_values::{ConstKind, Constant};
 use idl_lexer::{Kind, Pragma};
 use idl_tree::definitions::{Const, Definition, Module};
+use idl_tree::kinds::EntryKind;
 use idl_tree::names::{Leaf, ScopedName};
 use idl_tree::spec::Spec;
 use idl_tree::types::{Declarator, TypeSpec};
 use name_steps::{Step, Steps};
-use name_table::{Base, EntryKind, Meaning};
+use name_table::{Base, Meaning};
 use std::alloc::Global;
 
 /// What may stand for a type.

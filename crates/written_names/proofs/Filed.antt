@@ -24,7 +24,7 @@ use Rattle.idl_tree.specs.declared.definitions.Param.{Param}
 use Rattle.idl_tree.specs.declared.definitions.Definition.{Definition, Pragma, Declaration as Declared, Interface as InterfaceDcl, Module', Row_of-Definition, end_of-Definition, more_of-Definition}
 use Rattle.idl_tree.specs.declared.spec.Spec.{Spec}
 use Rattle.idl_tree.specs.Lists.{parts}
-use Rattle.name_table.specs.declared.entry.EntryKind.TheVariants as Kinds
+use Rattle.idl_tree.specs.declared.kinds.EntryKind.TheVariants as Kinds
 use Rattle.name_table.specs.Entry.{Entry}
 use Rattle.name_table.specs.Entries.{scope_of}
 use Rattle.name_table.specs.Search.{word}

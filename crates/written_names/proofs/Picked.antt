@@ -5,7 +5,7 @@ use Rattle.std.specs.List.{AllByRecursion, IsDistinct, filter}
 use Rattle.std.proofs.lemmas.Bool.{eq-eqb}
 use Rattle.idl_lexer.specs.Words.{same_but_for_case}
 use Rattle.idl_tree.specs.declared.names.Leaf.{Leaf}
-use Rattle.name_table.specs.declared.entry.EntryKind.TheVariants as Kinds
+use Rattle.idl_tree.specs.declared.kinds.EntryKind.TheVariants as Kinds
 use Rattle.name_table.specs.Search.{word}
 use Rattle.scoped_names.specs.Introductions.{Introduction, Stands, Has, clashes, is_one_name}
 use Rattle.part_names.specs.Names.{AreApart}

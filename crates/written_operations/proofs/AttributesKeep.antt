@@ -11,7 +11,7 @@ use Rattle.idl_tree.specs.declared.definitions.Attributes.TheVariants.{Silent, R
 use Rattle.idl_tree.specs.declared.definitions.Direction.TheVariants.{In, Out}
 use Rattle.idl_tree.specs.Lists.{parts}
 use Rattle.type_graph.specs.GraphRules.{IsPart}
-use Rattle.name_table.specs.declared.entry.EntryKind.TheVariants as Kinds
+use Rattle.idl_tree.specs.declared.kinds.EntryKind.TheVariants as Kinds
 use Rattle.name_table.specs.Entry.{Entry, named}
 use Rattle.name_table.specs.Search.{word}
 use Rattle.scoped_names.specs.Introductions.{Introduction, Stands}

@@ -11,7 +11,7 @@ use Rattle.idl_tree.specs.Starts.{name_start}
 use Rattle.idl_tree.specs.declared.definitions.Definition.{Definition}
 use Rattle.idl_tree.specs.Pieces.{Piece}
 use Rattle.name_table.specs.declared.entry.Base.{Base}
-use Rattle.name_table.specs.declared.entry.EntryKind.{EntryKind}
+use Rattle.idl_tree.specs.declared.kinds.EntryKind.{EntryKind}
 use Rattle.name_table.specs.declared.entry.Meaning.{Meaning}
 use Rattle.name_table.specs.Entry.{Entry, around, named}
 use Rattle.name_table.specs.Entries.{plain as plain_meant, scope_number, scope_of}

@@ -10,8 +10,8 @@ use Rattle.idl_tree.specs.declared.definitions.Declaration.{Declaration}
 use Rattle.idl_tree.specs.declared.definitions.Operation.{Operation}
 use Rattle.idl_tree.specs.declared.definitions.Param.{Param}
 use Rattle.idl_tree.specs.declared.types.ParamType.{ParamType}
-use Rattle.name_table.specs.declared.entry.EntryKind.{EntryKind}
-use Rattle.name_table.specs.declared.entry.EntryKind.TheVariants as Kinds
+use Rattle.idl_tree.specs.declared.kinds.EntryKind.{EntryKind}
+use Rattle.idl_tree.specs.declared.kinds.EntryKind.TheVariants as Kinds
 use Rattle.name_table.specs.Entry.{Entry, named}
 use Rattle.name_table.specs.Search.{word}
 use Rattle.scoped_names.specs.Faults.{has_body, may_reappear}

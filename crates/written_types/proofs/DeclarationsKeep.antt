@@ -17,8 +17,8 @@ use Rattle.idl_tree.specs.Lists.{parts}
 use Rattle.type_graph.specs.declared.fault.GraphLimit.TheVariants.{Nodes}
 use Rattle.type_graph.specs.declared.node.Node.TheVariants.{Frame, Text}
 use Rattle.type_graph.specs.GraphRules.{IsNode, IsPart, all_members}
-use Rattle.name_table.specs.declared.entry.EntryKind.{EntryKind}
-use Rattle.name_table.specs.declared.entry.EntryKind.TheVariants as Kinds
+use Rattle.idl_tree.specs.declared.kinds.EntryKind.{EntryKind}
+use Rattle.idl_tree.specs.declared.kinds.EntryKind.TheVariants as Kinds
 use Rattle.name_table.specs.Entry.{Entry}
 use Rattle.name_table.proofs.Stability.{get_push_last}
 use Rattle.scoped_names.specs.Faults.{has_body}

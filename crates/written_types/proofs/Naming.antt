@@ -11,8 +11,8 @@ use Rattle.idl_tree.specs.Starts.{expr_start}
 use Rattle.type_graph.specs.GraphRules.{IsPart}
 use Rattle.const_values.specs.Arithmetic.{where_true}
 use Rattle.const_values.specs.Worth.{positive, whole_number}
-use Rattle.name_table.specs.declared.entry.EntryKind.{EntryKind}
-use Rattle.name_table.specs.declared.entry.EntryKind.TheVariants as Kinds
+use Rattle.idl_tree.specs.declared.kinds.EntryKind.{EntryKind}
+use Rattle.idl_tree.specs.declared.kinds.EntryKind.TheVariants as Kinds
 use Rattle.name_table.specs.Entry.{Entry, named}
 use Rattle.name_table.specs.Search.{word}
 use Rattle.scoped_names.specs.declared.fault.NameFault.{NameFault}

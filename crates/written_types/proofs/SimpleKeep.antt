@@ -23,7 +23,7 @@ use Rattle.type_graph.specs.declared.fault.GraphLimit.TheVariants.{Bound as Boun
 use Rattle.type_graph.specs.declared.node.Node.{Node}
 use Rattle.type_graph.specs.declared.node.Node.TheVariants.{Text, Seq, Array, Enum}
 use Rattle.type_graph.specs.GraphRules.{IsNoFrame, IsPart}
-use Rattle.name_table.specs.declared.entry.EntryKind.TheVariants as Kinds
+use Rattle.idl_tree.specs.declared.kinds.EntryKind.TheVariants as Kinds
 use Rattle.name_table.specs.Entry.{Entry}
 use Rattle.scoped_names.specs.Introductions.{Introduction, Stands}
 use Rattle.name_steps.specs.Steps.{DeclaresEnumerator, bound_steps, const_type_steps, enum_steps, param_type_steps, simple_type_steps, size_step}

@@ -1,10 +1,10 @@
 //! Definitions and modules.
 #![tactic(auto, using(crate::proofs::Reading::past_append, crate::proofs::Reading::past_none))]
 
-ghost use Rattle.std.specs.Prelude.{◌≡◌, ◌++◌, ◌≤◌, ◌∷◌, [], suc, max, IfOk, List, codes};
+ghost use Rattle.std.specs.Prelude.{◌≡◌, ◌++◌, ◌≤◌, ◌∷◌, [], suc, max, Ok, IfOk, List, codes};
 ghost use Rattle.std.specs.List.{flat_map};
 ghost use Rattle.idl_parser.specs.Reading.{Parsed, Continued, Added};
-ghost use Rattle.idl_parser.specs.Makings.{module_front};
+ghost use Rattle.idl_parser.specs.Makings.{module_front, HasModule};
 ghost use Rattle.idl_tree.specs.Pieces.{keyword, mark};
 ghost use Rattle.idl_tree.specs.Yields.{identifier};
 ghost use Rattle.idl_tree.specs.DefinitionYields.{definition_yield};
@@ -17,7 +17,7 @@ use crate::read::interfaces::{interface, read_interface};
 use crate::read::lists::{add, read_opened};
 use crate::stop::Stop;
 use idl_lexer::Kind;
-use idl_tree::definitions::Definition;
+use idl_tree::definitions::{Definition, Module};
 use idl_tree::names::Leaf;
 
 /// Adds a definition. What holds one goes through this function, so that few functions do.
@@ -56,6 +56,22 @@ fn read_single<'a>(
     Err(Stop::Unexpected)
 }
 
+/// Adds the module of a name and definitions.
+fn add_module<'a>(
+    definitions: &mut Vec<Definition<'a>>,
+    name: Leaf<'a>,
+    inside: Vec<Definition<'a>>,
+) -> Result<(), Stop>
+    ensures { IfOk result (λ _. HasModule name.entry inside.entry.items
+        definitions.old.items definitions.new.items) }
+{
+    let module = Module {
+        identifier: name,
+        definitions: inside,
+    };
+    add_definition(definitions, Definition::Module(module))
+}
+
 /// Reads a definition and adds it.
 #[cycle(definitions)]
 fn read_definition<'a>(
@@ -70,8 +86,25 @@ fn read_definition<'a>(
         return read_single(cursor, room, definitions);
     }
     let (name, inside) = got!(read_module(cursor, room));
-    got!(add_definition(definitions, Definition::new_module(name, inside)));
+    got!(add_module(definitions, name, inside));
     cursor.mark(";")
+}
+
+/// Takes the brace behind the definitions of a module that were read.
+fn closed_module<'a>(
+    cursor: &mut Cursor<'a>,
+    name: Leaf<'a>,
+    read: Result<Vec<Definition<'a>>, Stop>,
+) -> Result<(Leaf<'a>, Vec<Definition<'a>>), Stop>
+    ensures name { IfOk result (λ m. m.0 ≡ name.entry) }
+    ensures same { IfOk result (λ m. read.entry ≡ Ok m.1) }
+    ensures read { IfOk result (λ _. Parsed cursor.old (mark (codes "}")) cursor.new) }
+{
+    let inside = got!(read);
+    match cursor.mark("}") {
+        Ok(()) => Ok((name, inside)),
+        Err(stop) => Err(stop),
+    }
 }
 
 /// Reads the name of a module and its definitions.
@@ -85,10 +118,7 @@ fn read_module<'a>(
 {
     let (name, left) = got!(read_opened(cursor, "module", room));
     let read = read_definitions(cursor, left);
-    match cursor.closed(read, "}") {
-        Ok(definitions) => Ok((name, definitions)),
-        Err(stop) => Err(stop),
-    }
+    closed_module(cursor, name, read)
 }
 
 /// Reads definitions up to a closing brace or the end.

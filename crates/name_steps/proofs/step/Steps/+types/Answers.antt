@@ -2,7 +2,7 @@ use Rattle.std.proofs.Common.{◌∙◌, ◌++◌, ◌∷◌, [], sym, ap}
 use Rattle.std.specs.List.{flat_map}
 use Rattle.idl_tree.specs.declared.types.StructType.{out-StructType}
 use Rattle.idl_tree.specs.declared.types.UnionType.{out-UnionType}
-use Rattle.name_table.specs.declared.entry.EntryKind.TheVariants as Kinds
+use Rattle.idl_tree.specs.declared.kinds.EntryKind.TheVariants as Kinds
 use Rattle.name_steps.specs.Steps.{Leaves, case_steps, member_steps, opening, switch_steps}
 use Rattle.name_steps.specs.StepsKept.{steps_in}
 use Rattle.name_steps.proofs.Behind.{behind_three, behind_two}

@@ -2,7 +2,7 @@ use Rattle.std.proofs.Common.{◌≡◌, ◌++◌, map}
 use Rattle.idl_tree.specs.Lists.{parts}
 use Rattle.idl_tree.specs.PartsLeft.{parts_left}
 use Rattle.name_steps.specs.Steps.{DeclaresFeature}
-use Rattle.name_table.specs.declared.entry.EntryKind.TheVariants.{Attribute}
+use Rattle.idl_tree.specs.declared.kinds.EntryKind.TheVariants.{Attribute}
 use Rattle.name_steps.specs.StepsKept.{steps_in}
 use Rattle.name_steps.proofs.step.Steps.add_silent.Given as goal
 
