@@ -7,7 +7,6 @@ use crate::expression::Expr;
 
 /// An expression whose operands and operators group by the levels of the IDL grammar, so that a
 /// multiplication binds tighter than an addition.
-#[derive(Drop)]
 pub struct ConstExpr<'a> {
     pub expr: Expr<'a>,
     ghost groups: { IsOfLevel true 0 expr },
@@ -15,8 +14,21 @@ pub struct ConstExpr<'a> {
 
 /// The same between the `<` and the `>` of a sequence or a string, where a right shift stands in
 /// parentheses only.
-#[derive(Drop)]
 pub struct Bound<'a> {
     pub expr: Expr<'a>,
     ghost groups: { IsOfLevel false 0 expr },
+}
+
+// A derived drop would be proved again in each crate that lets go of a tree.
+
+impl<'a> Drop for ConstExpr<'a> {
+    fn drop(self) {
+        let ConstExpr { expr: _ } = self;
+    }
+}
+
+impl<'a> Drop for Bound<'a> {
+    fn drop(self) {
+        let Bound { expr: _ } = self;
+    }
 }

@@ -7,7 +7,6 @@ use crate::types::{
 };
 
 /// A type that is declared.
-#[derive(Drop)]
 pub enum TypeDcl<'a> {
     Typedef {
         original: TypeSpec<'a>,
@@ -22,21 +21,18 @@ pub enum TypeDcl<'a> {
     UnionAhead(Leaf<'a>),
 }
 
-#[derive(Drop)]
 pub struct Const<'a> {
     pub const_type: ConstType<'a>,
     pub identifier: Leaf<'a>,
     pub value: ConstExpr<'a>,
 }
 
-#[derive(Drop)]
 pub struct Except<'a> {
     pub identifier: Leaf<'a>,
     pub members: Vec<Member<'a>>,
 }
 
 /// What modules and interfaces both declare.
-#[derive(Drop)]
 pub enum Declaration<'a> {
     TypeDcl(TypeDcl<'a>),
     Const(Const<'a>),
@@ -44,7 +40,6 @@ pub enum Declaration<'a> {
 }
 
 /// Attributes, and what they raise: only one that is declared alone raises something.
-#[derive(Drop)]
 pub enum Attributes<'a> {
     /// One or more that raise nothing.
     Silent {
@@ -70,7 +65,6 @@ pub enum Attributes<'a> {
 }
 
 /// Attributes of one type.
-#[derive(Drop)]
 pub struct Attribute<'a> {
     pub attribute_type: ParamType<'a>,
     pub declared: Attributes<'a>,
@@ -83,14 +77,12 @@ pub enum Direction {
     InOut,
 }
 
-#[derive(Drop)]
 pub struct Param<'a> {
     pub direction: Direction,
     pub param_type: ParamType<'a>,
     pub identifier: Leaf<'a>,
 }
 
-#[derive(Drop)]
 pub struct Operation<'a> {
     pub is_oneway: bool,
     /// None is `void`.
@@ -101,7 +93,6 @@ pub struct Operation<'a> {
 }
 
 /// What stands in an interface.
-#[derive(Drop)]
 pub enum Export<'a> {
     Pragma(Leaf<'a>),
     Declaration(Declaration<'a>),
@@ -109,7 +100,6 @@ pub enum Export<'a> {
     Operation(Operation<'a>),
 }
 
-#[derive(Drop)]
 pub enum Interface<'a> {
     /// An interface that is declared ahead.
     Ahead(Leaf<'a>),
@@ -122,7 +112,6 @@ pub enum Interface<'a> {
 
 /// What stands in a specification or a module.
 #[cycle(definitions)]
-#[derive(Drop)]
 pub enum Definition<'a> {
     Pragma(Leaf<'a>),
     Declaration(Declaration<'a>),
@@ -131,8 +120,155 @@ pub enum Definition<'a> {
 }
 
 #[cycle(definitions)]
-#[derive(Drop)]
 pub struct Module<'a> {
     pub identifier: Leaf<'a>,
     pub definitions: Vec<Definition<'a>>,
+}
+
+// A derived drop would be proved again in each crate that lets go of a tree.
+
+impl<'a> Drop for TypeDcl<'a> {
+    fn drop(self) {
+        match self {
+            TypeDcl::Typedef {
+                original: _,
+                declarators: _,
+            } => {}
+            TypeDcl::Struct(_) => {}
+            TypeDcl::Union(_) => {}
+            TypeDcl::Enum(_) => {}
+            TypeDcl::StructAhead(_) => {}
+            TypeDcl::UnionAhead(_) => {}
+        }
+    }
+}
+
+impl<'a> Drop for Const<'a> {
+    fn drop(self) {
+        let Const {
+            const_type: _,
+            identifier: _,
+            value: _,
+        } = self;
+    }
+}
+
+impl<'a> Drop for Except<'a> {
+    fn drop(self) {
+        let Except {
+            identifier: _,
+            members: _,
+        } = self;
+    }
+}
+
+impl<'a> Drop for Declaration<'a> {
+    fn drop(self) {
+        match self {
+            Declaration::TypeDcl(_) => {}
+            Declaration::Const(_) => {}
+            Declaration::Except(_) => {}
+        }
+    }
+}
+
+impl<'a> Drop for Attributes<'a> {
+    fn drop(self) {
+        match self {
+            Attributes::Silent {
+                is_readonly: _,
+                identifiers: _,
+            } => {}
+            Attributes::Readonly {
+                identifier: _,
+                raises: _,
+            } => {}
+            Attributes::Get {
+                identifier: _,
+                get: _,
+                set: _,
+            } => {}
+            Attributes::Set {
+                identifier: _,
+                set: _,
+            } => {}
+        }
+    }
+}
+
+impl<'a> Drop for Attribute<'a> {
+    fn drop(self) {
+        let Attribute {
+            attribute_type: _,
+            declared: _,
+        } = self;
+    }
+}
+
+impl<'a> Drop for Param<'a> {
+    fn drop(self) {
+        let Param {
+            direction: _,
+            param_type: _,
+            identifier: _,
+        } = self;
+    }
+}
+
+impl<'a> Drop for Operation<'a> {
+    fn drop(self) {
+        let Operation {
+            is_oneway: _,
+            result_type: _,
+            identifier: _,
+            params: _,
+            raises: _,
+        } = self;
+    }
+}
+
+impl<'a> Drop for Export<'a> {
+    fn drop(self) {
+        match self {
+            Export::Pragma(_) => {}
+            Export::Declaration(_) => {}
+            Export::Attribute(_) => {}
+            Export::Operation(_) => {}
+        }
+    }
+}
+
+impl<'a> Drop for Interface<'a> {
+    fn drop(self) {
+        match self {
+            Interface::Ahead(_) => {}
+            Interface::Defined {
+                identifier: _,
+                bases: _,
+                exports: _,
+            } => {}
+        }
+    }
+}
+
+impl<'a> Drop for Definition<'a> {
+    #[cycle(drop_definition)]
+    fn drop(self) {
+        match self {
+            Definition::Pragma(_) => {}
+            Definition::Declaration(_) => {}
+            Definition::Interface(_) => {}
+            Definition::Module(_) => {}
+        }
+    }
+}
+
+impl<'a> Drop for Module<'a> {
+    #[cycle(drop_definition)]
+    fn drop(self) {
+        let Module {
+            identifier: _,
+            definitions: _,
+        } = self;
+    }
 }

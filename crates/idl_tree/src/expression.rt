@@ -35,7 +35,6 @@ pub enum Sign {
 
 /// A constant expression.
 #[cycle(expression)]
-#[derive(Drop)]
 pub enum Expr<'a> {
     Name(ScopedName<'a>),
     Number(Leaf<'a>),
@@ -66,7 +65,6 @@ pub enum Expr<'a> {
 
 /// An operator and the operand behind it.
 #[cycle(expression)]
-#[derive(Drop)]
 pub struct Operand<'a> {
     pub operator: Operator,
     pub operand: Expr<'a>,
@@ -152,5 +150,37 @@ impl<'a> Expr<'a> {
             paren,
             inner: Box::new(alloc, inner)?,
         })
+    }
+}
+
+// A derived drop would be proved again in each crate that lets go of a tree.
+
+impl<'a> Drop for Expr<'a> {
+    #[cycle(drop_expression)]
+    fn drop(self) {
+        match self {
+            Expr::Name(_) => {}
+            Expr::Number(_) => {}
+            Expr::Character(_) => {}
+            Expr::Text(_) => {}
+            Expr::Boolean { value: _, word: _ } => {}
+            Expr::Parenthesized { paren: _, inner: _ } => {}
+            Expr::Signed {
+                mark: _,
+                sign: _,
+                operand: _,
+            } => {}
+            Expr::Chain { first: _, rest: _ } => {}
+        }
+    }
+}
+
+impl<'a> Drop for Operand<'a> {
+    #[cycle(drop_expression)]
+    fn drop(self) {
+        let Operand {
+            operator: _,
+            operand: _,
+        } = self;
     }
 }

@@ -14,7 +14,6 @@ pub struct Leaf<'a> {
 }
 
 /// A name with a `::` in it.
-#[derive(Drop)]
 pub struct Path<'a> {
     /// The `::` that it begins with, if it does.
     pub root: Option<Leaf<'a>>,
@@ -26,7 +25,6 @@ pub struct Path<'a> {
 }
 
 /// A scoped name: identifiers with `::` between them, and maybe one before the first.
-#[derive(Drop)]
 pub enum ScopedName<'a> {
     /// An identifier alone.
     Plain(Leaf<'a>),
@@ -34,7 +32,6 @@ pub enum ScopedName<'a> {
 }
 
 /// One part or more, with commas or nothing between them.
-#[derive(Drop)]
 pub struct Listed<T> {
     pub first: T,
     pub rest: Vec<T>,
@@ -54,5 +51,32 @@ impl<'a> Leaf<'a> {
         ensures { result.now ≡ unescaped_text self.now.token.now.text.now }
     {
         unescaped(self.token.text)
+    }
+}
+
+// A derived drop would be proved again in each crate that lets go of a tree.
+
+impl<'a> Drop for Path<'a> {
+    fn drop(self) {
+        let Path {
+            root: _,
+            first: _,
+            rest: _,
+        } = self;
+    }
+}
+
+impl<'a> Drop for ScopedName<'a> {
+    fn drop(self) {
+        match self {
+            ScopedName::Plain(_) => {}
+            ScopedName::Scoped(_) => {}
+        }
+    }
+}
+
+impl<T: Drop> Drop for Listed<T> {
+    fn drop(self) {
+        let Listed { first: _, rest: _ } = self;
     }
 }

@@ -26,7 +26,6 @@ pub enum Integer {
 }
 
 /// The types that a constant may have.
-#[derive(Drop)]
 pub enum ConstType<'a> {
     Integer(Integer),
     Char,
@@ -38,14 +37,12 @@ pub enum ConstType<'a> {
 }
 
 /// The types that parameters, results and attributes may have.
-#[derive(Drop)]
 pub enum ParamType<'a> {
     Plain(ConstType<'a>),
     Object,
 }
 
 /// A type that declares nothing.
-#[derive(Drop)]
 pub enum SimpleType<'a> {
     Plain(ParamType<'a>),
     Sequence {
@@ -55,20 +52,17 @@ pub enum SimpleType<'a> {
 }
 
 /// An identifier, and the sizes of an array of it.
-#[derive(Drop)]
 pub struct Declarator<'a> {
     pub identifier: Leaf<'a>,
     pub sizes: Vec<ConstExpr<'a>>,
 }
 
-#[derive(Drop)]
 pub struct EnumType<'a> {
     pub identifier: Leaf<'a>,
     pub enumerators: Listed<Leaf<'a>>,
 }
 
 /// The type of a union's discriminator.
-#[derive(Drop)]
 pub enum SwitchType<'a> {
     Integer(Integer),
     Char,
@@ -78,7 +72,6 @@ pub enum SwitchType<'a> {
 }
 
 /// A label of a union's case.
-#[derive(Drop)]
 pub enum Label<'a> {
     Case(ConstExpr<'a>),
     /// The keyword `default`.
@@ -86,7 +79,6 @@ pub enum Label<'a> {
 }
 
 #[cycle(types)]
-#[derive(Drop)]
 pub enum TypeSpec<'a> {
     Simple(SimpleType<'a>),
     Struct(StructType<'a>),
@@ -96,7 +88,6 @@ pub enum TypeSpec<'a> {
 
 /// A structure, which has one member or more.
 #[cycle(types)]
-#[derive(Drop)]
 pub struct StructType<'a> {
     pub identifier: Leaf<'a>,
     pub first: Box<Member<'a>>,
@@ -105,7 +96,6 @@ pub struct StructType<'a> {
 
 /// Members of one type: of a structure or an exception.
 #[cycle(types)]
-#[derive(Drop)]
 pub struct Member<'a> {
     pub member_type: TypeSpec<'a>,
     pub declarators: Listed<Declarator<'a>>,
@@ -113,7 +103,6 @@ pub struct Member<'a> {
 
 /// A union, which has one case or more.
 #[cycle(types)]
-#[derive(Drop)]
 pub struct UnionType<'a> {
     pub identifier: Leaf<'a>,
     pub switch: SwitchType<'a>,
@@ -123,7 +112,6 @@ pub struct UnionType<'a> {
 
 /// A member of a union, with one label or more.
 #[cycle(types)]
-#[derive(Drop)]
 pub struct Case<'a> {
     pub labels: Listed<Label<'a>>,
     pub member_type: TypeSpec<'a>,
@@ -146,5 +134,136 @@ impl<'a> SimpleType<'a> {
             element: Box::new(alloc, element)?,
             bound,
         })
+    }
+}
+
+// A derived drop would be proved again in each crate that lets go of a tree.
+
+impl<'a> Drop for ConstType<'a> {
+    fn drop(self) {
+        match self {
+            ConstType::Integer(_) => {}
+            ConstType::Char => {}
+            ConstType::Boolean => {}
+            ConstType::Octet => {}
+            ConstType::String(_) => {}
+            ConstType::Name(_) => {}
+        }
+    }
+}
+
+impl<'a> Drop for ParamType<'a> {
+    fn drop(self) {
+        match self {
+            ParamType::Plain(_) => {}
+            ParamType::Object => {}
+        }
+    }
+}
+
+impl<'a> Drop for SimpleType<'a> {
+    fn drop(self) {
+        match self {
+            SimpleType::Plain(_) => {}
+            SimpleType::Sequence {
+                element: _,
+                bound: _,
+            } => {}
+        }
+    }
+}
+
+impl<'a> Drop for Declarator<'a> {
+    fn drop(self) {
+        let Declarator {
+            identifier: _,
+            sizes: _,
+        } = self;
+    }
+}
+
+impl<'a> Drop for EnumType<'a> {
+    fn drop(self) {
+        let EnumType {
+            identifier: _,
+            enumerators: _,
+        } = self;
+    }
+}
+
+impl<'a> Drop for SwitchType<'a> {
+    fn drop(self) {
+        match self {
+            SwitchType::Integer(_) => {}
+            SwitchType::Char => {}
+            SwitchType::Boolean => {}
+            SwitchType::Enum(_) => {}
+            SwitchType::Name(_) => {}
+        }
+    }
+}
+
+impl<'a> Drop for Label<'a> {
+    fn drop(self) {
+        match self {
+            Label::Case(_) => {}
+            Label::Default(_) => {}
+        }
+    }
+}
+
+impl<'a> Drop for TypeSpec<'a> {
+    #[cycle(drop_type)]
+    fn drop(self) {
+        match self {
+            TypeSpec::Simple(_) => {}
+            TypeSpec::Struct(_) => {}
+            TypeSpec::Union(_) => {}
+            TypeSpec::Enum(_) => {}
+        }
+    }
+}
+
+impl<'a> Drop for StructType<'a> {
+    #[cycle(drop_type)]
+    fn drop(self) {
+        let StructType {
+            identifier: _,
+            first: _,
+            rest: _,
+        } = self;
+    }
+}
+
+impl<'a> Drop for Member<'a> {
+    #[cycle(drop_type)]
+    fn drop(self) {
+        let Member {
+            member_type: _,
+            declarators: _,
+        } = self;
+    }
+}
+
+impl<'a> Drop for UnionType<'a> {
+    #[cycle(drop_type)]
+    fn drop(self) {
+        let UnionType {
+            identifier: _,
+            switch: _,
+            first: _,
+            rest: _,
+        } = self;
+    }
+}
+
+impl<'a> Drop for Case<'a> {
+    #[cycle(drop_type)]
+    fn drop(self) {
+        let Case {
+            labels: _,
+            member_type: _,
+            declarator: _,
+        } = self;
     }
 }
