@@ -74,11 +74,11 @@ class Reader:
                 owner, trait = self.implemented(at)
             elif line == "}":
                 owner = trait = None
-            found = re.match(r"( {4})?(pub )?(?:const )?fn (\w+)", line)
+            found = re.match(r"( {4})?(pub |pub\(crate\) )?(?:const )?fn (\w+)", line)
             if found and bool(found[1]) == bool(owner):
                 opening = self.opening(at, found[1] or "")
                 if opening is not None:
-                    yield self.function(at, opening, found[3], owner, trait, bool(found[2]))
+                    yield self.function(at, opening, found[3], owner, trait, found[2] == "pub ")
 
     def implemented(self, at):
         """The names of the type and of the trait of an implementation."""
@@ -99,7 +99,7 @@ class Reader:
 
     def opening(self, at, indent):
         """The line that opens the body of the function that begins here, None where that has nothing in it."""
-        while not re.match(rf"{indent}(\{{|(pub |fn |const |\)).* \{{|.*\{{\}}|.*;)$", self.lines[at]):
+        while not re.match(rf"{indent}(\{{|(pub |pub\(crate\) |fn |const |\)).* \{{|.*\{{\}}|.*;)$", self.lines[at]):
             at += 1
         return at if self.lines[at].endswith("{") else None
 

@@ -2,7 +2,7 @@
 
 use marshal_program::{Program, Routine};
 use std::alloc::{AllocError, Global};
-use table_listing::ShownInstr;
+use table_commands::ShownInstr;
 
 fn head(alloc: Global, routine: &Routine) -> Result<String, AllocError> {
     format!(in alloc; "{} {:02x} {}:", routine.node, routine.entry, routine.rank)

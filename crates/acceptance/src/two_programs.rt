@@ -6,9 +6,8 @@ use position_checker::Accepted;
 use routine_checker::check_names;
 use std::alloc::Global;
 use std::test::Fail;
-use table_commands::{Request, Way, listing, marshal};
+use table_commands::{Request, ShownInstr, Way, listing, marshal};
 use table_file::Use;
-use table_listing::ShownInstr;
 use type_graph::{Arms, Order, Width};
 
 /// The plain program of the sample.

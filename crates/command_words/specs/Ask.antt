@@ -1,7 +1,7 @@
 -- What a run may be asked for.
 use Rattle.std.specs.Prelude.{ℕ, List, Option, Some, None, codes}
 use Rattle.table_commands.specs.Answer.{Ask as Marshalling, ask_of as marshalling_of}
-use Rattle.reference_commands.specs.Lines.{Ask as Parts, ask_of as parts_of}
+use Rattle.table_commands.specs.References.{ReferenceParts, reference_parts_of}
 use Rattle.command_words.specs.declared.task.Asked.{Asked}
 use Rattle.command_words.specs.declared.task.AskedReference.{AskedReference}
 use Rattle.command_words.specs.declared.task.Task.{Task}
@@ -16,7 +16,7 @@ pub record ValueAsk : Type 0 where
 -- a reference to an object of a table's interface
 pub record ReferenceAsk : Type 0 where
   pub table : List ℕ
-  pub parts : Parts
+  pub parts : ReferenceParts
 
 pub data Ask : Type 0 where
   Value : ValueAsk → Ask
@@ -28,7 +28,7 @@ abbrev pub value_ask_of : Asked → ValueAsk
 value_ask_of asked = record { table = asked.table.now; value = marshalling_of asked.request }
 
 abbrev pub reference_ask_of : AskedReference → ReferenceAsk
-reference_ask_of asked = record { table = asked.table.now; parts = parts_of asked.wanted }
+reference_ask_of asked = record { table = asked.table.now; parts = reference_parts_of asked.wanted }
 
 -- what a task answers, but for tables
 abbrev pub ask_of : Task → Option Ask

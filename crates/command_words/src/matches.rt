@@ -9,8 +9,7 @@ ghost use Rattle.command_words.specs.Words.{Tells, TellsNumber, TellsReference, 
 
 use crate::task::{Asked, AskedReference, Service, Task};
 use clap::ArgMatches;
-use reference_commands::Wanted;
-use table_commands::{Request, Way};
+use table_commands::{Request, WantedReference, Way};
 use type_graph::Order;
 
 fn asked_in<'a>(way: Way, matches: &ArgMatches<'a>) -> Option<Asked<'a>>
@@ -79,7 +78,7 @@ fn reference_in<'a>(matches: &ArgMatches<'a>) -> Option<AskedReference<'a>>
 {
     Some(AskedReference {
         table: matches.get_str("T")?,
-        wanted: Wanted {
+        wanted: WantedReference {
             host: matches.get_str("host")?,
             port: matches.get_one::<u16>("port")?,
             object: matches.get_str("object")?,

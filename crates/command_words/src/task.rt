@@ -1,7 +1,6 @@
 //! What a run of the program may be asked to do.
 
-use reference_commands::Wanted;
-use table_commands::Request;
+use table_commands::{Request, WantedReference};
 
 /// A value of a table.
 #[derive(Clone, Copy)]
@@ -16,7 +15,7 @@ pub struct Asked<'a> {
 pub struct AskedReference<'a> {
     /// The name of the table.
     pub table: &'a str,
-    pub wanted: Wanted<'a>,
+    pub wanted: WantedReference<'a>,
 }
 
 /// Calls to an object of a table's interface, that come by a socket.

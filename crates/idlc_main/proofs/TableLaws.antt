@@ -4,10 +4,10 @@ use Rattle.table_commands.specs.Answer.{IsRefusalOf}
 use Rattle.table_commands.specs.Lines.{accepted}
 use Rattle.table_commands.specs.declared.refusal.Refusal.{Refusal}
 use Rattle.table_commands.specs.declared.refusal.Refusal.TheVariants as refusals
+use Rattle.table_commands.specs.ReferenceRefusal.{IsReferenceRefusal}
+use Rattle.table_commands.specs.declared.reference_refusal.ReferenceRefusal.{ReferenceRefusal}
+use Rattle.table_commands.specs.declared.reference_refusal.ReferenceRefusal.TheVariants as reference_refusals
 use Rattle.table_file.specs.Table.{TableParts}
-use Rattle.reference_commands.specs.Refusal.{IsRefusalOf as IsRefusalWith}
-use Rattle.reference_commands.specs.declared.refusal.Refusal.{Refusal as ReferenceRefusal}
-use Rattle.reference_commands.specs.declared.refusal.Refusal.TheVariants as reference_refusals
 use Rattle.command_words.specs.Ask.{Reference, ReferenceAsk, Value, ValueAsk}
 use Rattle.idlc_main.specs.declared.fault.Fault.{Fault}
 use Rattle.idlc_main.specs.declared.told.Answer.{Answer}
@@ -40,12 +40,12 @@ value_refused Reads ask table fault refusal same is refused =
     record { line = tt; fault = subst (λ (f : Fault). IsValueFault Reads ask f) (sym same) (value_fault Reads ask table refusal is refused) }
 
 reference_fault : (Reads : Passing) (ask : ReferenceAsk) (table : TableParts) (refusal : ReferenceRefusal) → IsTableOf Reads ask.table table
-    → IsRefusalWith table.model ask.parts refusal → IsReferenceFault Reads ask (fault_of_reference refusal)
+    → IsReferenceRefusal table.model ask.parts refusal → IsReferenceFault Reads ask (fault_of_reference refusal)
 reference_fault Reads ask table reference_refusals.NoMemory is refused = tt
 reference_fault Reads ask table refusal is refused = record { table = table; is = is; refused = refused }
 
 -- it has no such reference
 pub reference_refused : (Reads : Passing) (ask : ReferenceAsk) (table : TableParts) (fault : Fault) (refusal : ReferenceRefusal) → fault ≡ fault_of_reference refusal
-    → IsTableOf Reads ask.table table → IsRefusalWith table.model ask.parts refusal → IsAnswer Reads (Reference ask) (Err fault)
+    → IsTableOf Reads ask.table table → IsReferenceRefusal table.model ask.parts refusal → IsAnswer Reads (Reference ask) (Err fault)
 reference_refused Reads ask table fault refusal same is refused =
     record { line = tt; fault = subst (λ (f : Fault). IsReferenceFault Reads ask f) (sym same) (reference_fault Reads ask table refusal is refused) }

@@ -4,13 +4,13 @@ use Rattle.std.specs.String.{string_bytes}
 use Rattle.std.specs.Io.KnownBytes.{Appends, Keeps}
 use Rattle.table_file.specs.Table.{TableParts}
 use Rattle.fault_texts.specs.Headings.{first_line, heading, is_refusal}
-use Rattle.reference_commands.specs.Lines.{IsLine as IsLineWith}
-use Rattle.reference_commands.specs.Refusal.{IsRefusalOf as IsRefusalWith}
-use Rattle.reference_commands.specs.declared.refusal.Refusal.{Refusal as ReferenceRefusal}
 use Rattle.socket_server.specs.Lines.{serving}
 use Rattle.table_commands.specs.Answer.{IsLine as IsLineOf, IsRefusalOf}
 use Rattle.table_commands.specs.declared.refusal.Refusal.{Refusal}
 use Rattle.table_commands.specs.declared.refusal.Refusal.TheVariants.{NoTable, NotRight, TooLong}
+use Rattle.table_commands.specs.ReferenceRefusal.{IsReferenceRefusal}
+use Rattle.table_commands.specs.References.{IsReferenceLine as IsLineWith}
+use Rattle.table_commands.specs.declared.reference_refusal.ReferenceRefusal.{ReferenceRefusal}
 use Rattle.idlc_main.specs.declared.fault.Fault.{Fault}
 use Rattle.idlc_main.specs.declared.fault.Fault.TheVariants.{Unread, Refused, NoReference, NoRefusal, Unwritten, NoMemory}
 use Rattle.idlc_main.specs.Fault.{status_of}
@@ -62,7 +62,7 @@ pub record IsRefused (Reads : Passing) (ask : ValueAsk) (refusal : Refusal) : Ty
 pub record HasNoReference (Reads : Passing) (ask : ReferenceAsk) (refusal : ReferenceRefusal) : Type 0 where
   pub table : TableParts
   pub is : IsTableOf Reads ask.table table
-  pub refused : IsRefusalWith table.model ask.parts refusal
+  pub refused : IsReferenceRefusal table.model ask.parts refusal
 
 -- the fault that answers
 abbrev pub IsValueFault : Passing → ValueAsk → Fault → Type 0

@@ -7,8 +7,8 @@ use Rattle.compile_command.specs.declared.refusal.Refusal.{Refusal as CompileRef
 use Rattle.compile_command.specs.declared.refusal.Refusal.TheVariants as compile_refusals
 use Rattle.table_commands.specs.declared.refusal.Refusal.{Refusal}
 use Rattle.table_commands.specs.declared.refusal.Refusal.TheVariants as refusals
-use Rattle.reference_commands.specs.declared.refusal.Refusal.{Refusal as ReferenceRefusal}
-use Rattle.reference_commands.specs.declared.refusal.Refusal.TheVariants as reference_refusals
+use Rattle.table_commands.specs.declared.reference_refusal.ReferenceRefusal.{ReferenceRefusal}
+use Rattle.table_commands.specs.declared.reference_refusal.ReferenceRefusal.TheVariants as reference_refusals
 use Rattle.socket_server.specs.declared.fault.ServeFault.{ServeFault}
 use Rattle.socket_server.specs.declared.fault.ServeFault.TheVariants as serve_faults
 use Rattle.idlc_main.specs.declared.fault.Fault.{Fault}

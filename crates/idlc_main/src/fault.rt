@@ -6,10 +6,9 @@ ghost use Rattle.idlc_main.specs.declared.fault.Fault.TheVariants.{NoMemory};
 
 use command_words::Mistake;
 use compile_command::Refusal as CompileRefusal;
-use reference_commands::Refusal as ReferenceRefusal;
 use socket_server::ServeFault;
 use std::alloc::AllocError;
-use table_commands::Refusal;
+use table_commands::{ReferenceRefusal, Refusal};
 use thiserror::Error;
 
 /// A fault has as its text the line that stands behind `idlc: ` on standard error, but for words.

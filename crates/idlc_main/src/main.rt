@@ -27,7 +27,7 @@ use std::net::Net;
 use std::process::ExitCode;
 use std::rt::Env;
 use std::{env, io};
-use whole_files::WholeFiles;
+use table_commands::WholeFiles;
 
 /// The status of a run that did what was asked for, help included.
 const DONE: u8 = 0;

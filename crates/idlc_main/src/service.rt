@@ -14,7 +14,7 @@ use command_words::Service;
 use socket_server::{Asked, serve};
 use std::io::Write;
 use std::net::Net;
-use whole_files::WholeFiles;
+use table_commands::WholeFiles;
 
 /// Serves calls by a table, which is checked before anything listens.
 pub fn served<'a, R: WholeFiles + Net + AllocGlobal, O: Write>(

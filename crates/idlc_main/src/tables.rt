@@ -8,8 +8,7 @@ ghost use Rattle.idlc_main.specs.Files.{IsReadAs, IsTableOf};
 
 use crate::fault::Fault;
 use position_checker::Accepted;
-use table_commands::{MAX_LEN, Refusal, accepted, sample};
-use whole_files::{ReadFault, WholeFiles, WriteFault};
+use table_commands::{MAX_LEN, ReadFault, Refusal, WholeFiles, WriteFault, accepted, sample};
 
 /// The name by which the commands know the sample table.
 pub const SAMPLE: &str = "builtin";

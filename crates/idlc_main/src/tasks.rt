@@ -18,10 +18,8 @@ use command_words::{Asked, AskedReference, Task};
 use compile_command::{Compiled, compile_file};
 use fault_texts::explanation;
 use position_checker::Accepted;
-use reference_commands::reference_line;
 use std::alloc::Global;
-use table_commands::{accepted_line, listing, marshal, upgraded};
-use whole_files::WholeFiles;
+use table_commands::{WholeFiles, accepted_line, listing, marshal, reference_line, upgraded};
 
 fn value<'a, R: WholeFiles + AllocGlobal>(rt: &R, asked: &Asked<'a>) -> Result<Answer, Fault<'a>>
     ensures answers { IsAnswer (R.reads rt.now) (Value (value_ask_of asked.now)) result }

@@ -2,7 +2,7 @@ use crate::run;
 use std::io;
 use std::net::Net;
 use std::process::Abort;
-use whole_files::WholeFiles;
+use table_commands::WholeFiles;
 
 /// Runs the program over memory with the words of a line, which blanks part.
 fn run_line<R: WholeFiles + Net + AllocGlobal, O: io::Write, E: io::Write>(

@@ -9,8 +9,8 @@ use attribute_keeper::Keeper;
 use giop::Giop;
 use iiop_broker::Broker;
 use position_checker::Accepted;
-use reference_commands::{interface_place, object_in};
 use std::alloc::{AllocError, Global};
+use table_commands::{interface_place, object_in};
 
 /// The key of the object, and the place of its interface. The table of a file has fewer than
 /// 4,294,967,296 interfaces; one that has more is refused for want of memory.

@@ -1,2 +1,4 @@
 pub mod SampleRules
 pub mod AnswerLaws
+pub mod Objects
+pub mod References

@@ -3,3 +3,5 @@ pub mod Lines
 pub mod Answer
 pub mod Refusal
 pub mod Files
+pub mod References
+pub mod ReferenceRefusal

@@ -1,15 +1,33 @@
-//! What the commands of the program do with a table: how one is had from octets, and what is
-//! answered to one who asks it.
+//! What the commands of the program do with a table: how files are read and written whole, how a
+//! table is had from octets, shown as text, and what is answered to one who asks it for a value or
+//! for a reference to an object of its interfaces.
 #![tactic(auto)]
 
 mod builtin;
+mod object;
+mod reference;
+mod reference_refusal;
 mod refusal;
+mod shown_instr;
+mod shown_program;
+mod shown_table;
 mod source;
 mod summary;
 mod values;
+mod whole_files;
+mod whole_read;
+mod whole_write;
 
 pub use builtin::sample;
+pub use object::{interface_place, object_in};
+pub use reference::{WantedReference, reference_line};
+pub use reference_refusal::ReferenceRefusal;
 pub use refusal::Refusal;
-pub use source::{MAX_LEN, accepted, listing, upgraded};
+pub use shown_instr::ShownInstr;
+pub use shown_table::listing;
+pub use source::{MAX_LEN, accepted, upgraded};
 pub use summary::accepted_line;
 pub use values::{Request, Way, marshal};
+pub use whole_files::WholeFiles;
+pub use whole_read::ReadFault;
+pub use whole_write::WriteFault;

@@ -8,9 +8,8 @@ ghost use Rattle.table_commands.specs.Refusal.{IsOfTable};
 
 use crate::refusal::Refusal;
 use position_checker::{Accepted, check};
-use std::alloc::{AllocError, Global};
+use std::alloc::Global;
 use table_file::{decode_table, encode_table};
-use table_listing::Listing;
 
 /// So many octets a table file has at most.
 pub const MAX_LEN: u32 = 16_777_216;
@@ -51,9 +50,4 @@ pub fn upgraded<'a>(alloc: Global, table: &Accepted) -> Result<Vec<u8>, Refusal<
         Ok(octets) => Ok(octets),
         Err(fault) => Err(Refusal::from(fault)),
     }
-}
-
-/// The listing of a table.
-pub fn listing(alloc: Global, table: &Accepted) -> Result<String, AllocError> {
-    format!(in alloc; "{}", Listing(table))
 }

@@ -1,7 +1,7 @@
 use Rattle.std.proofs.Common.{arith}
 use Rattle.std.proofs.lemmas.Bool.Decides.{nat_tests}
-use Rattle.reference_commands.proofs.Objects.{no_object, object_found}
-use Rattle.reference_commands.proofs.object.object_in.Goals as goal
+use Rattle.table_commands.proofs.Objects.{no_object, object_found}
+use Rattle.table_commands.proofs.object.object_in.Goals as goal
 
 pub returns-in_default-clause-refused : goal.returns-in_default-clause-refused
 returns-in_default-clause-refused c = no_object c.args.word.now c.in_default.ensures.cases

@@ -1,7 +1,7 @@
 use Rattle.object_references.specs.References.{reference_of}
 use Rattle.object_references.proofs.Faults.{err_weaker, weaker}
-use Rattle.reference_commands.proofs.References.{no_profile, text_there}
-use Rattle.reference_commands.proofs.line.reference_text.Goals as goal
+use Rattle.table_commands.proofs.References.{no_profile, text_there}
+use Rattle.table_commands.proofs.reference.reference_text.Goals as goal
 
 pub returns-in-Err-clause-refused : goal.returns-in-Err-clause-refused
 returns-in-Err-clause-refused c =

@@ -1,12 +1,12 @@
 //! Programs as text: for each routine a line, and for each instruction one below it.
 
-use crate::instr::ShownInstr;
+use crate::shown_instr::ShownInstr;
 use marshal_program::{Program, Routine};
 use std::fmt;
 
 /// The routines of a program as the listing shows them, each line with its end.
 #[derive(Clone, Copy)]
-pub struct ShownProgram<'p>(pub &'p Program);
+pub(crate) struct ShownProgram<'p>(pub(crate) &'p Program);
 
 /// A routine with its number in the program.
 #[derive(Clone, Copy)]

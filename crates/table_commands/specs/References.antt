@@ -6,16 +6,16 @@ use Rattle.type_model.specs.ModelRules.{Parts}
 use Rattle.object_references.specs.References.{Reference}
 use Rattle.object_references.specs.Profiles.{IsProfile}
 use Rattle.object_references.specs.Texts.{IsTextOf}
-use Rattle.reference_commands.specs.declared.line.Wanted.{Wanted}
+use Rattle.table_commands.specs.declared.reference.WantedReference.{WantedReference}
 
 -- what is asked for
-pub record Ask : Type 0 where
+pub record ReferenceParts : Type 0 where
   pub host : List ℕ
   pub port : ℕ
   pub object : List ℕ
 
-abbrev pub ask_of : Wanted → Ask
-ask_of wanted = record { host = wanted.host.now; port = wanted.port; object = wanted.object.now }
+abbrev pub reference_parts_of : WantedReference → ReferenceParts
+reference_parts_of wanted = record { host = wanted.host.now; port = wanted.port; object = wanted.object.now }
 
 -- A word for an object: the key is what stands before the first equals sign, and isn't empty.
 pub record IsObject (word key name : List ℕ) : Type 0 where
@@ -40,7 +40,7 @@ pub record IsReferenceText (host : List ℕ) (port : ℕ) (key id text : List �
   pub text_is : IsTextOf (reference_with id octets) text
 
 -- the reference to an object of an interface
-pub record IsText (model : Parts) (ask : Ask) (text : List ℕ) : Type 0 where
+pub record IsText (model : Parts) (ask : ReferenceParts) (text : List ℕ) : Type 0 where
   pub key : List ℕ
   pub name : List ℕ
   pub object : IsObject ask.object key name
@@ -48,7 +48,7 @@ pub record IsText (model : Parts) (ask : Ask) (text : List ℕ) : Type 0 where
   pub named : interface_named name model.interfaces ≡ Some interface
   pub reference : IsReferenceText ask.host ask.port key interface.id text
 
-pub record IsLine (model : Parts) (ask : Ask) (line : List ℕ) : Type 0 where
+pub record IsReferenceLine (model : Parts) (ask : ReferenceParts) (line : List ℕ) : Type 0 where
   pub text : List ℕ
   pub line_is : line ≡ text ++ 10 ∷ []
   pub text_is : IsText model ask text

@@ -18,7 +18,7 @@ pub enum ReadFault {
 ///
 /// # Errors
 /// `Unread` where the file can't be opened or read, `TooLong` where it has more octets.
-pub fn read_whole<R: Files + AllocGlobal>(
+pub(crate) fn read_whole<R: Files + AllocGlobal>(
     rt: &R,
     path: &str,
     limit: u32,

@@ -9,10 +9,10 @@ use Rattle.object_references.specs.Profiles.{IsProfile}
 use Rattle.object_references.specs.Refusal.{OnlyIf}
 use Rattle.object_references.specs.Texts.{IsTextOf}
 use Rattle.object_references.proofs.ProfileLaws.{profile_once}
-use Rattle.reference_commands.specs.declared.refusal.Refusal.{Refusal}
-use Rattle.reference_commands.specs.Lines.{Ask, IsObject, IsReferenceText, IsText, interface_named, reference_with}
-use Rattle.reference_commands.specs.Refusal.{IsRefusalOf, refusal_of}
-use Rattle.reference_commands.proofs.Objects.{object_once}
+use Rattle.table_commands.specs.declared.reference_refusal.ReferenceRefusal.{ReferenceRefusal}
+use Rattle.table_commands.specs.References.{ReferenceParts, IsObject, IsReferenceText, IsText, interface_named, reference_with}
+use Rattle.table_commands.specs.ReferenceRefusal.{IsReferenceRefusal, reference_refusal_of}
+use Rattle.table_commands.proofs.Objects.{object_once}
 
 -- of a host and a key that were lent
 lent : (host key h k : List ℕ) (port : ℕ) (octets : List ℕ) → h ≡ host → k ≡ key → IsProfile host port key octets
@@ -36,7 +36,7 @@ some_same : (a b : Interface) → Some a ≡ Some b → a ≡ b
 some_same a b e = cc
 
 -- the object and its interface are the ones that were found
-text_of_it : (model : Parts) (ask : Ask) (key name id : List ℕ) (interface : Interface) → IsObject ask.object key name
+text_of_it : (model : Parts) (ask : ReferenceParts) (key name id : List ℕ) (interface : Interface) → IsObject ask.object key name
     → interface_named name model.interfaces ≡ Some interface → id ≡ interface.id → (text : List ℕ) → IsText model ask text
     → IsReferenceText ask.host ask.port key id text
 text_of_it model ask key name id interface o found e text t =
@@ -47,17 +47,17 @@ text_of_it model ask key name id interface o found e text t =
     subst (λ (i : List ℕ). IsReferenceText ask.host ask.port key i text) ids
     (subst (λ (k : List ℕ). IsReferenceText ask.host ask.port k t.interface.id text) same.0 t.reference)
 
-by_fault : (model : Parts) (ask : Ask) (key name id : List ℕ) (interface : Interface) (fault : ReferenceFault)
+by_fault : (model : Parts) (ask : ReferenceParts) (key name id : List ℕ) (interface : Interface) (fault : ReferenceFault)
     → IsObject ask.object key name → interface_named name model.interfaces ≡ Some interface → id ≡ interface.id
     → OnlyIf fault ((text : List ℕ) → IsReferenceText ask.host ask.port key id text → ⊥)
-    → IsRefusalOf model ask (refusal_of fault)
+    → IsReferenceRefusal model ask (reference_refusal_of fault)
 by_fault model ask key name id interface faults.NoMemory o found e h = tt
 by_fault model ask key name id interface faults.BadIor o found e h =
     λ text t. h text (text_of_it model ask key name id interface o found e text t)
 
-pub refused : (model : Parts) (ask : Ask) (key name id : List ℕ) (interface : Interface) (fault : ReferenceFault)
-    (refusal : Refusal) → refusal ≡ refusal_of fault → IsObject ask.object key name
+pub refused : (model : Parts) (ask : ReferenceParts) (key name id : List ℕ) (interface : Interface) (fault : ReferenceFault)
+    (refusal : ReferenceRefusal) → refusal ≡ reference_refusal_of fault → IsObject ask.object key name
     → interface_named name model.interfaces ≡ Some interface → id ≡ interface.id
-    → OnlyIf fault ((text : List ℕ) → IsReferenceText ask.host ask.port key id text → ⊥) → IsRefusalOf model ask refusal
+    → OnlyIf fault ((text : List ℕ) → IsReferenceText ask.host ask.port key id text → ⊥) → IsReferenceRefusal model ask refusal
 refused model ask key name id interface fault refusal is o found e h =
-    subst (λ (r : Refusal). IsRefusalOf model ask r) (sym is) (by_fault model ask key name id interface fault o found e h)
+    subst (λ (r : ReferenceRefusal). IsReferenceRefusal model ask r) (sym is) (by_fault model ask key name id interface fault o found e h)

@@ -1,14 +1,15 @@
 //! Tables as text.
 
-use crate::program::ShownProgram;
+use crate::shown_program::ShownProgram;
 use position_checker::Accepted;
+use std::alloc::{AllocError, Global};
 use std::fmt;
 use table_file::Use;
 
 /// An accepted table as the listing shows it: a line for each name, with its node and the routine
 /// that serves it; then the two programs, each with its routines.
 #[derive(Clone, Copy)]
-pub struct Listing<'t>(pub &'t Accepted);
+struct ShownTable<'t>(&'t Accepted);
 
 /// The line of a name.
 #[derive(Clone, Copy)]
@@ -39,7 +40,7 @@ impl fmt::Display for ShownName<'_> {
     }
 }
 
-impl fmt::Display for Listing<'_> {
+impl fmt::Display for ShownTable<'_> {
     fn fmt<W: fmt::Write>(&self, f: &mut fmt::Formatter<W>) -> fmt::Result {
         let table = self.0;
         let names = table.table().model().names();
@@ -53,4 +54,9 @@ impl fmt::Display for Listing<'_> {
         }
         Ok(())
     }
+}
+
+/// The listing of a table.
+pub fn listing(alloc: Global, table: &Accepted) -> Result<String, AllocError> {
+    format!(in alloc; "{}", ShownTable(table))
 }

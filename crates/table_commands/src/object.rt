@@ -1,7 +1,7 @@
 //! Objects as words name them, and interfaces by name.
 
 ghost use Rattle.std.specs.Prelude.{◌≡◌, ◌<◌, ℕ, List, length, slice_get, option_and_then, option_map, IfSome, IfNone};
-ghost use Rattle.reference_commands.specs.Lines.{IsObject, interface_named as interface_of_name};
+ghost use Rattle.table_commands.specs.References.{IsObject, interface_named as interface_of_name};
 
 use type_model::Interface;
 

@@ -96,7 +96,7 @@ fn write_there<R: Files>(rt: &R, path: &str, octets: &[u8]) -> Result<(), WriteF
 ///
 /// # Errors
 /// `Unwritten` where the file can't be made or written.
-pub fn write_whole<R: Files + AllocGlobal>(
+pub(crate) fn write_whole<R: Files + AllocGlobal>(
     rt: &R,
     path: &str,
     octets: &[u8],

@@ -2,8 +2,8 @@ use Rattle.std.proofs.Common.{◌≡◌, rules, refl, true, sym, ap, ◌∙◌}
 use Rattle.std.proofs.lemmas.Option.{slice_get_read}
 use Rattle.std.specs.Str.{bytes_eq}
 use Rattle.type_model.specs.declared.signatures.Interface.{Interface}
-use Rattle.reference_commands.proofs.Objects.{first_place}
-use Rattle.reference_commands.proofs.object.interface_place.Goals as goal
+use Rattle.table_commands.proofs.Objects.{first_place}
+use Rattle.table_commands.proofs.object.interface_place.Goals as goal
 
 pub returns-then-eq-clause-named : goal.returns-then-eq-clause-named
 returns-then-eq-clause-named c =

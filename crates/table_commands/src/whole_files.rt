@@ -2,8 +2,8 @@
 
 ghost use Rattle.std.specs.Prelude.{ℕ, ◌≤◌, List, length, IfOk, OnOk};
 
-use crate::read::{ReadFault, read_whole};
-use crate::write::{WriteFault, write_whole};
+use crate::whole_read::{ReadFault, read_whole};
+use crate::whole_write::{WriteFault, write_whole};
 use std::fs::Files;
 
 /// Files by their names. What is so of their octets is the implementor's to say. A caller that is
@@ -19,15 +19,15 @@ pub trait WholeFiles {
     /// The octets of a file, of which there are at most `limit`.
     ///
     /// # Errors
-    /// As `read_whole`.
+    /// `Unread` where the file can't be opened or read, `TooLong` where it has more octets.
     fn octets_in(&self, path: &str, limit: u32) -> Result<Vec<u8>, ReadFault>
         ensures within { IfOk result (λ octets. length octets.items ≤ limit) }
         ensures read { IfOk result (λ octets. reads self.now path.now octets.items) };
 
-    /// Writes the octets to a file.
+    /// Writes the octets to a file, whole or not at all.
     ///
     /// # Errors
-    /// As `write_whole`.
+    /// `Unwritten` where the file can't be made or written.
     fn put_octets(&self, path: &str, octets: &[u8]) -> Result<(), WriteFault>
         ensures { OnOk result (takes self.now path.now octets.now) };
 }

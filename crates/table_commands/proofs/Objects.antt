@@ -4,7 +4,7 @@ use Rattle.std.specs.Borrow.{Bor}
 use Rattle.std.proofs.lemmas.Str.Pattern.{IsSplitOnceResult, split_after, split_parts}
 use Rattle.std.specs.Str.{bytes_eq}
 use Rattle.type_model.specs.declared.signatures.Interface.{Interface}
-use Rattle.reference_commands.specs.Lines.{IsObject, interface_named}
+use Rattle.table_commands.specs.References.{IsObject, interface_named}
 
 pub object_found : (word : List ℕ) (key name : Bor (List ℕ)) → IsSplitOnceResult 61 word (Some (key, name))
     → 0 < length key.now → IsObject word key.now name.now

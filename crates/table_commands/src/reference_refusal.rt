@@ -1,8 +1,8 @@
 //! Why no reference is printed.
 
 ghost use Rattle.std.specs.Prelude.{◌≡◌};
-ghost use Rattle.reference_commands.specs.Refusal.{refusal_of};
-ghost use Rattle.reference_commands.specs.declared.refusal.Refusal.TheVariants.{NoMemory};
+ghost use Rattle.table_commands.specs.ReferenceRefusal.{reference_refusal_of};
+ghost use Rattle.table_commands.specs.declared.reference_refusal.ReferenceRefusal.TheVariants.{NoMemory};
 
 use object_references::ReferenceFault;
 use std::alloc::AllocError;
@@ -10,7 +10,7 @@ use thiserror::Error;
 
 /// A refusal has as its text the line that the program puts behind its name.
 #[derive(Debug, Drop, Error)]
-pub enum Refusal<'a> {
+pub enum ReferenceRefusal<'a> {
     /// No equals sign, or no key before it.
     #[error("bad object")]
     BadObject,
@@ -24,21 +24,21 @@ pub enum Refusal<'a> {
     NoMemory,
 }
 
-impl<'a> From<AllocError> for Refusal<'a> {
+impl<'a> From<AllocError> for ReferenceRefusal<'a> {
     ghost from_gives = { λ _ refusal. refusal ≡ NoMemory };
 
-    fn from(_error: AllocError) -> Refusal<'a> {
-        Refusal::NoMemory
+    fn from(_error: AllocError) -> ReferenceRefusal<'a> {
+        ReferenceRefusal::NoMemory
     }
 }
 
-impl<'a> From<ReferenceFault> for Refusal<'a> {
-    ghost from_gives = { λ fault refusal. refusal ≡ refusal_of fault };
+impl<'a> From<ReferenceFault> for ReferenceRefusal<'a> {
+    ghost from_gives = { λ fault refusal. refusal ≡ reference_refusal_of fault };
 
-    fn from(fault: ReferenceFault) -> Refusal<'a> {
+    fn from(fault: ReferenceFault) -> ReferenceRefusal<'a> {
         match fault {
-            ReferenceFault::NoMemory => Refusal::NoMemory,
-            fault => Refusal::Refused(fault),
+            ReferenceFault::NoMemory => ReferenceRefusal::NoMemory,
+            fault => ReferenceRefusal::Refused(fault),
         }
     }
 }

@@ -1,14 +1,14 @@
-//! The line that the command prints.
+//! The line of a reference to an object of a table's interface.
 
 ghost use Rattle.std.specs.Prelude.{◌≡◌, ℕ, List, [], ◌∷◌, ◌++◌, IfOk, IfErr};
 ghost use Rattle.std.specs.String.{string_bytes};
 ghost use Rattle.object_references.specs.References.{reference_of};
 ghost use Rattle.object_references.specs.Refusal.{OnlyIf};
-ghost use Rattle.reference_commands.specs.Lines.{IsLine, IsReferenceText, ask_of, reference_with};
-ghost use Rattle.reference_commands.specs.Refusal.{IsRefusalOf};
+ghost use Rattle.table_commands.specs.References.{IsReferenceLine, IsReferenceText, reference_parts_of, reference_with};
+ghost use Rattle.table_commands.specs.ReferenceRefusal.{IsReferenceRefusal};
 
 use crate::object::{interface_named, object_in};
-use crate::refusal::Refusal;
+use crate::reference_refusal::ReferenceRefusal;
 use giop_types::GiopTypes;
 use object_references::{Ior, ReferenceFault, ior_to_text, profile};
 use position_checker::Accepted;
@@ -19,7 +19,7 @@ const IIOP: u32 = 0;
 
 /// A reference to print.
 #[derive(Clone, Copy)]
-pub struct Wanted<'a> {
+pub struct WantedReference<'a> {
     pub host: &'a str,
     pub port: u16,
     /// The key of the object, an equals sign, and the name of its interface.
@@ -67,16 +67,17 @@ fn reference_text(
 pub fn reference_line<'a>(
     alloc: Global,
     table: &Accepted,
-    wanted: &Wanted<'a>,
-) -> Result<String, Refusal<'a>>
-    ensures line { IfOk result (λ line. IsLine table.now.model (ask_of wanted.now) (string_bytes line)) }
-    ensures refused { IfErr result (IsRefusalOf table.now.model (ask_of wanted.now)) }
+    wanted: &WantedReference<'a>,
+) -> Result<String, ReferenceRefusal<'a>>
+    ensures line { IfOk result (λ line.
+        IsReferenceLine table.now.model (reference_parts_of wanted.now) (string_bytes line)) }
+    ensures refused { IfErr result (IsReferenceRefusal table.now.model (reference_parts_of wanted.now)) }
 {
     let Some((key, name)) = object_in(wanted.object) else {
-        return Err(Refusal::BadObject);
+        return Err(ReferenceRefusal::BadObject);
     };
     let Some(interface) = interface_named(table.table().model().interfaces(), name) else {
-        return Err(Refusal::NoInterface { name });
+        return Err(ReferenceRefusal::NoInterface { name });
     };
     let id = interface.id.as_str();
     match reference_text(alloc, wanted.host, wanted.port, key, id) {
@@ -84,6 +85,6 @@ pub fn reference_line<'a>(
             text.push_str("\n")?;
             Ok(text)
         }
-        Err(fault) => Err(Refusal::from(fault)),
+        Err(fault) => Err(ReferenceRefusal::from(fault)),
     }
 }
