@@ -1,1 +1,3 @@
+pub mod FileFacts
 pub mod Refusals
+pub mod TableFacts

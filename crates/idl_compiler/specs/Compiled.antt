@@ -10,8 +10,8 @@ use Rattle.scoped_names.specs.Whole.{AreNames, Whole}
 use Rattle.type_model.specs.ModelRules.{Parts}
 use Rattle.marshal_program.specs.declared.fault.GenFault.{GenFault}
 use Rattle.marshal_program.specs.declared.instr.Routine.{Routine}
-use Rattle.settled_tables.specs.Settlement.{IsSettled}
-use Rattle.settled_tables.specs.declared.choice.Settled.{Settled}
+use Rattle.idl_compiler.specs.Settlement.{IsSettled}
+use Rattle.idl_compiler.specs.declared.choice.Settled.{Settled}
 use Rattle.model_builder.specs.Shown.{Shows}
 
 -- the tokens of which the text consists spell the definitions, which stand at most 64 levels one inside another

@@ -1,3 +1,5 @@
--- What the table of an IDL file is, and why a file has none.
+-- What the table of an IDL file is, and its table file, and why a file has none.
 pub mod Compiled
+pub mod Files
 pub mod Refused
+pub mod Settlement

@@ -5,6 +5,7 @@ ghost use Rattle.idl_compiler.specs.Compiled.{HasTable, IsCompiled, IsModelOf, I
 ghost use Rattle.idl_compiler.specs.Refused.{IsFaultOf, IsRefused};
 ghost use Rattle.idl_compiler.specs.declared.fault.CompileFault.TheVariants.{NoMemory};
 
+use crate::choice::{Settled, settle};
 use crate::fault::CompileFault;
 use generator::plain;
 use idl_lexer::lex;
@@ -13,7 +14,6 @@ use idl_tree::spec::Spec;
 use model_builder::build;
 use optimiser::planned;
 use scoped_names::bind;
-use settled_tables::{Settled, settle};
 use std::alloc::Global;
 use type_model::Model;
 

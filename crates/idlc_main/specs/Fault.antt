@@ -3,8 +3,8 @@ use Rattle.std.specs.Prelude.{ℕ}
 use Rattle.command_words.specs.declared.mistake.Mistake.{Mistake}
 use Rattle.command_words.specs.declared.mistake.Mistake.TheVariants as mistakes
 use Rattle.command_words.specs.Mistake.{IsOfWords as IsWrong}
-use Rattle.compile_command.specs.declared.refusal.Refusal.{Refusal as CompileRefusal}
-use Rattle.compile_command.specs.declared.refusal.Refusal.TheVariants as compile_refusals
+use Rattle.idl_compiler.specs.declared.refusal.CompileRefusal.{CompileRefusal}
+use Rattle.idl_compiler.specs.declared.refusal.CompileRefusal.TheVariants as compile_refusals
 use Rattle.table_commands.specs.declared.refusal.Refusal.{Refusal}
 use Rattle.table_commands.specs.declared.refusal.Refusal.TheVariants as refusals
 use Rattle.table_commands.specs.declared.reference_refusal.ReferenceRefusal.{ReferenceRefusal}

@@ -3,8 +3,8 @@ use Rattle.std.specs.Prelude.{◌≡◌, ◌≢◌, ◌⊎◌, ℕ, List, codes}
 use Rattle.std.specs.String.{string_bytes}
 use Rattle.command_words.specs.declared.task.Task.{Task}
 use Rattle.command_words.specs.declared.task.Task.TheVariants.{Check, Upgrade, Compile}
-use Rattle.compile_command.specs.Files.{IsCompiledFile}
-use Rattle.compile_command.specs.declared.file.Compiled.{Compiled}
+use Rattle.idl_compiler.specs.Files.{IsCompiledFile}
+use Rattle.idl_compiler.specs.declared.file.CompiledFile.{CompiledFile}
 use Rattle.position_checker.specs.Acceptance.{IsRight}
 use Rattle.table_commands.specs.Lines.{accepted}
 use Rattle.table_commands.specs.Sample.{sample_table}
@@ -58,7 +58,7 @@ pub record IsUpgraded (Reads Takes : Passing) (name output line : List ℕ) : Ty
 pub record IsCompiledTo (Reads Takes : Passing) (source output line : List ℕ) : Type 0 where
   pub octets : List ℕ
   pub read : Reads source octets
-  pub file : Compiled
+  pub file : CompiledFile
   pub is : IsCompiledFile octets file
   pub taken : Takes output file.octets.items
   pub line_is : line ≡ string_bytes file.line

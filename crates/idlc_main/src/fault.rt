@@ -5,7 +5,7 @@ ghost use Rattle.idlc_main.specs.Fault.{fault_of, fault_of_reference, fault_of_s
 ghost use Rattle.idlc_main.specs.declared.fault.Fault.TheVariants.{NoMemory};
 
 use command_words::Mistake;
-use compile_command::Refusal as CompileRefusal;
+use idl_compiler::CompileRefusal;
 use socket_server::ServeFault;
 use std::alloc::AllocError;
 use table_commands::{ReferenceRefusal, Refusal};

@@ -2,10 +2,10 @@
 
 ghost use Rattle.std.specs.Prelude.{◌≡◌, ℕ, IfErr, IfOk, OnOk};
 ghost use Rattle.std.specs.String.{string_bytes};
-ghost use Rattle.compile_command.specs.Files.{IsCompiledFile};
 ghost use Rattle.command_words.specs.Ask.{Explanation, Reference, Value, reference_ask_of, value_ask_of};
 ghost use Rattle.command_words.specs.declared.task.Asked.{Asked};
 ghost use Rattle.command_words.specs.declared.task.AskedReference.{AskedReference};
+ghost use Rattle.idl_compiler.specs.Files.{IsCompiledFile};
 ghost use Rattle.idlc_main.specs.Answer.{IsAnswer};
 ghost use Rattle.idlc_main.specs.Fault.{IsTold};
 ghost use Rattle.idlc_main.specs.Files.{IsCompiledTo, IsCounted, IsDone, IsUpgraded, IsWritten};
@@ -15,8 +15,8 @@ use crate::fault::Fault;
 use crate::tables::{octets_in, put, table_of};
 use crate::told::{Answer, Notice};
 use command_words::{Asked, AskedReference, Task};
-use compile_command::{Compiled, compile_file};
 use fault_texts::explanation;
+use idl_compiler::{CompiledFile, compile_file};
 use position_checker::Accepted;
 use std::alloc::Global;
 use table_commands::{WholeFiles, accepted_line, listing, marshal, reference_line, upgraded};
@@ -137,7 +137,7 @@ fn put_compiled<'a, R: WholeFiles + AllocGlobal>(
     rt: &R,
     output: &'a str,
     source: &[u8],
-    file: &Compiled,
+    file: &CompiledFile,
 ) -> Result<(), Fault<'a>>
     requires { IsCompiledFile source.now file.now }
     ensures taken { OnOk result (R.takes rt.now output.now file.now.octets.items) }

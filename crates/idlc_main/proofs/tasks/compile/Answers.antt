@@ -1,5 +1,5 @@
 use Rattle.std.proofs.Common.{refl, subst}
-use Rattle.compile_command.specs.Files.{IsCompiledFile}
+use Rattle.idl_compiler.specs.Files.{IsCompiledFile}
 use Rattle.idlc_main.proofs.tasks.compile.Goals as goal
 
 pub returns-clause-compiled : goal.returns-clause-compiled

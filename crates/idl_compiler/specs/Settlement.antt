@@ -8,7 +8,7 @@ use Rattle.type_model.specs.ModelRules.{Parts}
 use Rattle.table_file.specs.declared.table.Use.TheVariants.{First, Second}
 use Rattle.table_file.specs.Table.{TableParts, table_of}
 use Rattle.position_checker.specs.Verdict.{table_fault}
-use Rattle.settled_tables.specs.declared.choice.Settled.{Settled}
+use Rattle.idl_compiler.specs.declared.choice.Settled.{Settled}
 
 -- with the plain program alone
 abbrev pub plain_table : Parts → TableParts

@@ -10,7 +10,7 @@ use Rattle.table_file.specs.declared.table.Use.{Use}
 use Rattle.table_file.specs.declared.table.Use.TheVariants.{First}
 use Rattle.table_file.specs.Table.{AreUses}
 use Rattle.position_checker.specs.Acceptance.{IsLone}
-use Rattle.settled_tables.specs.Settlement.{plain_table}
+use Rattle.idl_compiler.specs.Settlement.{plain_table}
 
 pub no_routine : IsProgram []
 no_routine = record { limited = omega arith; instrs = omega arith; routines = All-from_recursion (IsRoutine []) [] tt }

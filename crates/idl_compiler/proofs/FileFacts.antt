@@ -4,20 +4,20 @@ use Rattle.std.specs.Str.{IsUtf8}
 use Rattle.std.specs.String.{string_bytes}
 use Rattle.idl_compiler.specs.Compiled.{IsCompiled}
 use Rattle.position_checker.specs.Acceptance.{IsRight}
-use Rattle.settled_tables.specs.declared.choice.Settled.{Settled}
+use Rattle.idl_compiler.specs.declared.choice.Settled.{Settled}
 use Rattle.table_commands.specs.Lines.{accepted}
 use Rattle.table_file.specs.TableSpelling.{Spells}
-use Rattle.compile_command.specs.declared.file.Compiled.{Compiled}
-use Rattle.compile_command.specs.declared.refusal.Refusal.{Refusal}
-use Rattle.compile_command.specs.declared.refusal.Refusal.TheVariants.{Fault, TooLong, NoMemory}
-use Rattle.compile_command.specs.Files.{IsCompiledFile, IsNoText, IsRefusedFile, IsTold}
+use Rattle.idl_compiler.specs.declared.file.CompiledFile.{CompiledFile}
+use Rattle.idl_compiler.specs.declared.refusal.CompileRefusal.{CompileRefusal}
+use Rattle.idl_compiler.specs.declared.refusal.CompileRefusal.TheVariants.{Fault, TooLong, NoMemory}
+use Rattle.idl_compiler.specs.Files.{IsCompiledFile, IsNoText, IsRefusedFile, IsTold}
 
-pub no_text : (source : List ℕ) (refusal : Refusal) → IsNoText source → IsTold refusal → IsRefusedFile source refusal
+pub no_text : (source : List ℕ) (refusal : CompileRefusal) → IsNoText source → IsTold refusal → IsRefusedFile source refusal
 no_text source (Fault text) none told = inl none
 no_text source TooLong none told = absurd told
 no_text source NoMemory none told = tt
 
-pub compiled : (source : List ℕ) (settled : Settled) (result : Result Compiled Refusal) → IsUtf8 source → IsCompiled source settled → IsRight settled.table
+pub compiled : (source : List ℕ) (settled : Settled) (result : Result CompiledFile CompileRefusal) → IsUtf8 source → IsCompiled source settled → IsRight settled.table
     → IfOk result (λ file. Spells settled.table file.octets.items) → IfOk result (λ file. length file.octets.items ≤ 16777216)
     → IfOk result (λ file. string_bytes file.line ≡ accepted settled.table) → IfOk result (λ file. file.is_planned ≡ settled.is_planned)
     → IfOk result (IsCompiledFile source)

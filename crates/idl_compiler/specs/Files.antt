@@ -7,17 +7,17 @@ use Rattle.idl_compiler.specs.declared.fault.CompileFault.TheVariants as Compili
 use Rattle.idl_compiler.specs.Compiled.{IsCompiled}
 use Rattle.idl_compiler.specs.Refused.{IsRefused}
 use Rattle.position_checker.specs.Acceptance.{IsRight}
-use Rattle.settled_tables.specs.declared.choice.Settled.{Settled}
+use Rattle.idl_compiler.specs.declared.choice.Settled.{Settled}
 use Rattle.table_file.specs.Table.{TableParts}
 use Rattle.table_file.specs.TableSpelling.{Spells}
 use Rattle.table_commands.specs.Lines.{accepted}
-use Rattle.compile_command.specs.declared.file.Compiled.{Compiled}
-use Rattle.compile_command.specs.declared.refusal.Refusal.{Refusal}
-use Rattle.compile_command.specs.declared.refusal.Refusal.TheVariants.{Fault, TooLong, NoMemory}
+use Rattle.idl_compiler.specs.declared.file.CompiledFile.{CompiledFile}
+use Rattle.idl_compiler.specs.declared.refusal.CompileRefusal.{CompileRefusal}
+use Rattle.idl_compiler.specs.declared.refusal.CompileRefusal.TheVariants.{Fault, TooLong, NoMemory}
 
 -- The octets spell the table of the definitions that the text's tokens spell, each routine of that table does just what
 -- its node means; it is told how many routines it has, and whether the planned program serves the names.
-pub record IsCompiledFile (source : List ℕ) (file : Compiled) : Type 0 where
+pub record IsCompiledFile (source : List ℕ) (file : CompiledFile) : Type 0 where
   pub text : IsUtf8 source
   pub settled : Settled
   pub compiled : IsCompiled source settled
@@ -34,13 +34,13 @@ abbrev pub IsTooLong : TableParts → Type 0
 IsTooLong table = (octets : List ℕ) → Spells table octets → 16777216 < length octets
 
 -- why a table has no file
-abbrev pub RefusesTable : TableParts → Refusal → Type 0
+abbrev pub RefusesTable : TableParts → CompileRefusal → Type 0
 RefusesTable table (Fault text) = ⊥
 RefusesTable table TooLong = IsTooLong table
 RefusesTable table NoMemory = Unit {0}
 
 -- a step refuses the text
-pub record HasFault (source : List ℕ) : Type 0 where
+pub record IsRefusedText (source : List ℕ) : Type 0 where
   pub fault : CompileFault
   pub refused : IsRefused source fault
   pub told : fault ≢ Compiling.NoMemory
@@ -54,13 +54,13 @@ pub record HasLongTable (source : List ℕ) : Type 0 where
 abbrev pub IsNoText : List ℕ → Type 0
 IsNoText source = IsUtf8 source → ⊥
 
-abbrev pub IsRefusedFile : List ℕ → Refusal → Type 0
-IsRefusedFile source (Fault text) = IsNoText source ⊎ HasFault source
+abbrev pub IsRefusedFile : List ℕ → CompileRefusal → Type 0
+IsRefusedFile source (Fault text) = IsNoText source ⊎ IsRefusedText source
 IsRefusedFile source TooLong = HasLongTable source
 IsRefusedFile source NoMemory = Unit {0}
 
 -- what is told of a fault
-abbrev pub IsTold : Refusal → Type 0
+abbrev pub IsTold : CompileRefusal → Type 0
 IsTold (Fault text) = Unit {0}
 IsTold TooLong = ⊥
 IsTold NoMemory = Unit {0}

@@ -3,7 +3,7 @@
 ghost use Rattle.std.specs.Prelude.{◌≡◌, false, [], length, replicate, Ok, IfOk};
 ghost use Rattle.marshal_program.specs.Plain.{plain_program};
 ghost use Rattle.table_file.specs.Table.{AreUses, table_of};
-ghost use Rattle.settled_tables.specs.Settlement.{IsSettled, plain_table};
+ghost use Rattle.idl_compiler.specs.Settlement.{IsSettled, plain_table};
 
 use marshal_program::{GenFault, Program};
 use position_checker::{Accepted, CheckFault, check};

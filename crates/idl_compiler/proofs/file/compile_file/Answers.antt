@@ -1,7 +1,7 @@
 use Rattle.std.proofs.Common.{subst}
 use Rattle.idl_compiler.specs.Compiled.{IsCompiled}
-use Rattle.compile_command.proofs.FileFacts.{compiled, no_text}
-use Rattle.compile_command.proofs.file.compile_file.Goals as goal
+use Rattle.idl_compiler.proofs.FileFacts.{compiled, no_text}
+use Rattle.idl_compiler.proofs.file.compile_file.Goals as goal
 
 pub returns-in_default-clause-refused : goal.returns-in_default-clause-refused
 returns-in_default-clause-refused c = no_text c.args.source.now c.told.result c.in_default.ensures.cases.0 c.told.ensures

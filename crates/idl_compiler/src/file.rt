@@ -3,22 +3,23 @@
 ghost use Rattle.std.specs.Prelude.{◌≡◌, ◌≤◌, length, IfErr, IfOk};
 ghost use Rattle.std.specs.String.{string_bytes};
 ghost use Rattle.table_commands.specs.Lines.{accepted};
-ghost use Rattle.compile_command.specs.Files.{IsCompiledFile, IsRefusedFile, RefusesTable};
+ghost use Rattle.idl_compiler.specs.Files.{IsCompiledFile, IsRefusedFile, RefusesTable};
 ghost use Rattle.position_checker.specs.Acceptance.{IsRight};
 ghost use Rattle.table_file.specs.TableSpelling.{Spells};
 
-use crate::refusal::{Refusal, told, unwritten};
-use idl_compiler::{CompileFault, compile};
+use crate::choice::Settled;
+use crate::fault::CompileFault;
+use crate::refusal::{CompileRefusal, told, unwritten};
+use crate::steps::compile;
 use idl_lexer::LexFault;
 use position_checker::Accepted;
-use settled_tables::Settled;
 use std::alloc::Global;
 use std::str;
 use table_commands::{accepted_line, upgraded};
 
 /// The table file of an IDL file, and what is told of it.
 #[derive(Drop)]
-pub struct Compiled {
+pub struct CompiledFile {
     /// The octets of the table file, of the newest version.
     pub octets: Vec<u8>,
     /// The line that says how many routines were accepted.
@@ -28,7 +29,7 @@ pub struct Compiled {
 }
 
 /// The octets of an accepted table's file.
-fn octets_of(alloc: Global, table: &Accepted) -> Result<Vec<u8>, Refusal>
+fn octets_of(alloc: Global, table: &Accepted) -> Result<Vec<u8>, CompileRefusal>
     ensures spelled { IfOk result (λ octets. Spells table.now octets.items) }
     ensures right { IsRight table.now }
     ensures within { IfOk result (λ octets. length octets.items ≤ 16777216) }
@@ -40,7 +41,7 @@ fn octets_of(alloc: Global, table: &Accepted) -> Result<Vec<u8>, Refusal>
     }
 }
 
-fn file_of(alloc: Global, settled: &Settled) -> Result<Compiled, Refusal>
+fn file_of(alloc: Global, settled: &Settled) -> Result<CompiledFile, CompileRefusal>
     ensures spelled { IfOk result (λ file. Spells settled.now.table file.octets.items) }
     ensures within { IfOk result (λ file. length file.octets.items ≤ 16777216) }
     ensures line { IfOk result (λ file. string_bytes file.line ≡ accepted settled.now.table) }
@@ -50,7 +51,7 @@ fn file_of(alloc: Global, settled: &Settled) -> Result<Compiled, Refusal>
 {
     let octets = octets_of(alloc, &settled.table)?;
     let line = accepted_line(alloc, &settled.table)?;
-    Ok(Compiled {
+    Ok(CompiledFile {
         octets,
         line,
         is_planned: settled.is_planned,
@@ -63,7 +64,7 @@ fn file_of(alloc: Global, settled: &Settled) -> Result<Compiled, Refusal>
 /// `Fault` with the first fault of the file and its line, 0 where the file isn't UTF-8: tokens
 /// before grammar, grammar before names, names before types. `TooLong` where the table has more
 /// octets than a file may have. Want of memory.
-pub fn compile_file(alloc: Global, source: &[u8]) -> Result<Compiled, Refusal>
+pub fn compile_file(alloc: Global, source: &[u8]) -> Result<CompiledFile, CompileRefusal>
     ensures compiled { IfOk result (IsCompiledFile source.now) }
     ensures refused { IfErr result (IsRefusedFile source.now) }
 {
@@ -72,7 +73,7 @@ pub fn compile_file(alloc: Global, source: &[u8]) -> Result<Compiled, Refusal>
     };
     match compile(alloc, text) {
         Ok(settled) => file_of(alloc, &settled),
-        Err(CompileFault::NoMemory) => Err(Refusal::NoMemory),
+        Err(CompileFault::NoMemory) => Err(CompileRefusal::NoMemory),
         Err(fault) => Err(told(alloc, &fault)),
     }
 }
