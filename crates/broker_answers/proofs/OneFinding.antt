@@ -11,7 +11,7 @@ use Rattle.type_graph.proofs.OneTape.{graph_fits_words}
 use Rattle.type_graph.proofs.OneReading.{means_once}
 use Rattle.type_model.specs.declared.signatures.Interface.{Interface}
 use Rattle.type_model.specs.declared.signatures.Operation.{Operation}
-use Rattle.tapes.specs.Parts.{counted}
+use Rattle.giop_types.specs.TapeParts.{counted}
 use Rattle.giop_types.specs.GiopNodes.{giop_nodes}
 use Rattle.giop_types.proofs.GraphFacts.{giop_is_graph}
 use Rattle.giop_messages.specs.Messages.{Asked}

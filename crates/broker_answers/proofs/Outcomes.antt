@@ -3,7 +3,7 @@ use Rattle.std.proofs.Common.{inl, inr, ℕ, List, refl}
 use Rattle.type_model.specs.declared.signatures.Operation.{Operation}
 use Rattle.type_model.specs.declared.signatures.Exception.{Exception}
 use Rattle.type_model.specs.ModelRules.{Parts}
-use Rattle.tapes.specs.Parts.{IsCounted}
+use Rattle.giop_types.specs.TapeParts.{IsCounted}
 use Rattle.giop_messages.specs.Messages.{Asked}
 use Rattle.broker_answers.specs.Servants.{Done, Raised}
 use Rattle.broker_answers.specs.Replies.{Replies, Succeeds, FailsToSucceed, Throws, FailsToThrow, ThrowsUnknown, IsThrown, success, throw}

@@ -6,8 +6,8 @@ use Rattle.type_graph.specs.Words.{reading}
 use Rattle.type_graph.specs.Value.{Tree, Number, Bytes, Items, Choice, NoTree, AndTree, node_at, Fits, tape_of}
 use Rattle.type_graph.specs.Encoding.{Means}
 use Rattle.type_model.specs.Names.{IsNamed}
-use Rattle.tapes.specs.Parts.{counted, IsCounted}
-use Rattle.tapes.proofs.PartLaws.{counted_front}
+use Rattle.giop_types.specs.TapeParts.{counted, IsCounted}
+use Rattle.giop_types.proofs.PartLaws.{counted_front}
 use Rattle.table_file.specs.Table.{TableParts}
 use Rattle.giop_types.specs.GiopModel.{giop_table}
 use Rattle.giop_types.specs.GiopNodes.{giop_nodes}

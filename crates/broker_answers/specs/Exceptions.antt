@@ -3,7 +3,7 @@ use Rattle.std.specs.Prelude.{ℕ, pos, List, ◌++◌, codes}
 use Rattle.type_graph.specs.declared.width.Width.TheVariants.{Four}
 use Rattle.type_graph.specs.declared.width.Order.TheVariants.{Big}
 use Rattle.type_graph.specs.Words.{word}
-use Rattle.tapes.specs.Parts.{counted}
+use Rattle.giop_types.specs.TapeParts.{counted}
 use Rattle.broker_answers.specs.declared.exception.SystemException.{SystemException}
 use Rattle.broker_answers.specs.declared.exception.SystemException.TheVariants.{ObjectNotExist, BadOperation, Marshal, NoImplement, Unknown, Internal}
 

@@ -5,7 +5,7 @@ use Rattle.type_graph.specs.Words.{reading}
 use Rattle.type_graph.specs.Encoding.{Means}
 use Rattle.type_model.specs.declared.signatures.Interface.{Interface}
 use Rattle.type_model.specs.declared.signatures.Operation.{Operation}
-use Rattle.tapes.specs.Parts.{counted}
+use Rattle.giop_types.specs.TapeParts.{counted}
 use Rattle.giop_types.specs.GiopNodes.{giop_nodes}
 use Rattle.giop_messages.specs.Messages.{Asked}
 use Rattle.broker_answers.specs.declared.exception.SystemException.{SystemException}

@@ -3,7 +3,7 @@ use Rattle.std.specs.Prelude.{◌≡◌, ℕ, ◌⊎◌, List, Option, Some, Non
 use Rattle.type_model.specs.declared.signatures.Exception.{Exception}
 use Rattle.type_model.specs.declared.signatures.Operation.{Operation}
 use Rattle.type_model.specs.ModelRules.{Parts}
-use Rattle.tapes.specs.Parts.{IsCounted}
+use Rattle.giop_types.specs.TapeParts.{IsCounted}
 use Rattle.broker_answers.specs.declared.exception.SystemException.TheVariants.{Internal, Unknown}
 use Rattle.giop_messages.specs.Messages.{Asked}
 use Rattle.broker_answers.specs.Replies.{Reply, IsSent, IsThrown, IsUnsendable, exception_reply, throw}

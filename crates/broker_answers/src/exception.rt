@@ -3,8 +3,8 @@
 ghost use Rattle.std.specs.Prelude.{◌≡◌, IfOk};
 ghost use Rattle.broker_answers.specs.Exceptions.{completion as completion_of, exception_id, exception_tape};
 
+use giop_types::push_u32;
 use std::alloc::{AllocError, Global};
-use tapes::push_u32;
 
 /// A standard system exception (ISO/IEC 19500-1).
 #[derive(Clone, Copy, Debug, PartialEq, Eq)]

@@ -10,11 +10,10 @@ ghost use Rattle.broker_answers.specs.FindingSteps.{HasId, IsCallAsked, IsTypeAs
 use crate::exception::SystemException;
 use crate::objects::is_a;
 use giop_messages::Request;
-use giop_types::{GiopTypes, ID_ARGUMENT};
+use giop_types::{GiopTypes, ID_ARGUMENT, split_octets};
 use position_checker::Accepted;
 use program_runner::RunFault;
 use std::alloc::{AllocError, Global};
-use tapes::split_octets;
 use type_model::{Interface, Operation};
 
 /// What a request asks for.

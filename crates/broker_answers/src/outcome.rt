@@ -2,8 +2,8 @@
 
 ghost use Rattle.std.specs.Prelude.{◌≡◌, ◌++◌, IfOk, IfErr, IfSome, IfNone, OnOk, None, Some, option_map, slice_get};
 ghost use Rattle.type_model.specs.Names.{IsNamed};
-ghost use Rattle.tapes.specs.Parts.{counted, IsCounted};
-ghost use Rattle.tapes.specs.Refusal.{RefusesWriting};
+ghost use Rattle.giop_types.specs.TapeParts.{counted, IsCounted};
+ghost use Rattle.giop_types.specs.TapeRefusal.{RefusesWriting};
 ghost use Rattle.giop_messages.specs.Messages.{asked_of};
 ghost use Rattle.broker_answers.specs.Replies.{IsThrown, Replies, reply_of, success};
 ghost use Rattle.broker_answers.specs.Sending.{IsRaising, IsThrowing, IsTried};
@@ -13,10 +13,9 @@ use crate::exception::SystemException;
 use crate::reply::{send, send_exception};
 use crate::servant::Outcome;
 use giop_messages::{ReplyStatus, Request};
-use giop_types::GiopTypes;
+use giop_types::{GiopTypes, TapeFault, push_octets};
 use position_checker::Accepted;
 use std::alloc::{AllocError, Global};
-use tapes::{TapeFault, push_octets};
 use type_model::{Exception, Model, Operation};
 
 /// A reply with this body, or else the exception that tells that there is none.

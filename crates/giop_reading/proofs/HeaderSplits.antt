@@ -7,8 +7,8 @@ use Rattle.type_graph.specs.Words.{word}
 use Rattle.type_graph.specs.Value.{Tree, Trees}
 use Rattle.type_graph.proofs.WordLaws.{plain_word_same}
 use Rattle.type_graph.proofs.OneTape.{cut_same}
-use Rattle.tapes.specs.Parts.{counted, IsCounted}
-use Rattle.tapes.proofs.PartLaws.{word_front, counted_front}
+use Rattle.giop_types.specs.TapeParts.{counted, IsCounted}
+use Rattle.giop_types.proofs.PartLaws.{word_front, counted_front}
 use Rattle.giop_messages.specs.Headers.{request_tree, reply_tree, locate_tree, number_of}
 use Rattle.giop_messages.specs.declared.message.ReplyStatus.{ReplyStatus}
 use Rattle.giop_messages.specs.declared.message.ReplyStatus.TheVariants.{NoException, UserException, SystemException, LocationForward, LocationForwardPerm, NeedsAddressingMode}

@@ -16,8 +16,8 @@ use Rattle.giop_types.specs.GiopNodes.{giop_nodes}
 use Rattle.giop_types.specs.Fields.{Holds, octets_tree, tagged_list_tree}
 use Rattle.giop_types.proofs.GraphFacts.{giop_is_graph}
 use Rattle.giop_types.proofs.PartTrees.{octet_shape, short_shape, struct_shape, text_shape, text_counted}
-use Rattle.tapes.specs.Parts.{counted, IsCounted}
-use Rattle.tapes.proofs.PartLaws.{counted_front}
+use Rattle.giop_types.specs.TapeParts.{counted, IsCounted}
+use Rattle.giop_types.proofs.PartLaws.{counted_front}
 use Rattle.object_references.specs.Profiles.{Body, body_node, body_tree, HasKey}
 use Rattle.object_references.specs.Encapsulations.{flag_of}
 use Rattle.object_references.proofs.Encapsulated.{orders_same}

@@ -5,12 +5,12 @@ use Rattle.type_graph.specs.declared.width.Width.TheVariants.{Two, Four}
 use Rattle.type_graph.specs.declared.width.Order.TheVariants.{Big}
 use Rattle.type_graph.specs.Words.{word}
 use Rattle.type_graph.specs.Value.{Tree}
-use Rattle.tapes.specs.declared.fault.TapeFault.{TapeFault}
-use Rattle.tapes.specs.declared.fault.TapeFault.TheVariants.{NotATape, TooLong, NoMemory}
-use Rattle.tapes.specs.declared.reading.Tagged.{Tagged}
-use Rattle.tapes.specs.Parts.{counted, IsCounted, tagged, IsTagged, tagged_list, AreTagged, pair_of, pairs_of}
-use Rattle.tapes.specs.Refusal.{RefusesReading}
-use Rattle.tapes.proofs.PartLaws.{word_front, counted_front, tagged_front, tagged_list_front}
+use Rattle.giop_types.specs.declared.tapes.fault.TapeFault.{TapeFault}
+use Rattle.giop_types.specs.declared.tapes.fault.TapeFault.TheVariants.{NotATape, TooLong, NoMemory}
+use Rattle.giop_types.specs.declared.tapes.reading.Tagged.{Tagged}
+use Rattle.giop_types.specs.TapeParts.{counted, IsCounted, tagged, IsTagged, tagged_list, AreTagged, pair_of, pairs_of}
+use Rattle.giop_types.specs.TapeRefusal.{RefusesReading}
+use Rattle.giop_types.proofs.PartLaws.{word_front, counted_front, tagged_front, tagged_list_front}
 use Rattle.giop_messages.specs.Headers.{IsKeyOf, reference_target}
 use Rattle.giop_reading.specs.Tapes.{Begins, BeginsBehind, IsAt, IsIn}
 use Rattle.giop_reading.proofs.Targets.{key_part, profile_part, ReferencePart, reference_part, has_label}

@@ -6,7 +6,7 @@ use Rattle.type_graph.specs.declared.width.Width.TheVariants.{Two}
 use Rattle.type_graph.specs.Words.{reading, word}
 use Rattle.type_graph.specs.Value.{Tree}
 use Rattle.giop_types.specs.Fields.{Holds}
-use Rattle.tapes.specs.Parts.{counted, IsCounted}
+use Rattle.giop_types.specs.TapeParts.{counted, IsCounted}
 use Rattle.object_references.specs.Profiles.{Body, body_node, body_tree}
 use Rattle.giop_reading.specs.Tapes.{Begins}
 use Rattle.giop_reading.specs.declared.profile.BodyStart.{BodyStart}

@@ -8,7 +8,7 @@ use Rattle.type_graph.specs.Value.{Tree, node_at, Fits, tape_of}
 use Rattle.giop_types.specs.GiopNodes.{giop_nodes}
 use Rattle.object_references.specs.Profiles.{HasKey}
 use Rattle.giop_messages.specs.Messages.{HasHeader}
-use Rattle.tapes.specs.Parts.{counted, IsCounted, tagged, IsTagged, tagged_list, AreTagged}
+use Rattle.giop_types.specs.TapeParts.{counted, IsCounted, tagged, IsTagged, tagged_list, AreTagged}
 
 -- the tape of this value of the node, and then the rest
 pub record Begins (node : ℕ) (value : Tree) (tape rest : List ℕ) : Type 0 where

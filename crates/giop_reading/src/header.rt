@@ -2,7 +2,7 @@
 
 ghost use Rattle.std.specs.Prelude.{◌≡◌, ◌≢◌, ℕ, List, ◌++◌, length, IfOk, IfErr, IfSome, IfNone};
 ghost use Rattle.type_graph.specs.Value.{Tree};
-ghost use Rattle.tapes.specs.Refusal.{RefusesReading};
+ghost use Rattle.giop_types.specs.TapeRefusal.{RefusesReading};
 ghost use Rattle.giop_messages.specs.declared.message.ReplyStatus.{ReplyStatus};
 ghost use Rattle.giop_messages.specs.Headers.{cancel_tree, number_of};
 ghost use Rattle.giop_reading.specs.Tapes.{Begins};
@@ -10,8 +10,8 @@ ghost use Rattle.giop_reading.specs.Targets.{IsLocateHeader, IsReplyHeader, IsRe
 
 use crate::target::{Target, split_target};
 use giop_messages::ReplyStatus as Status;
+use giop_types::{TapeFault, split_octets, split_u8, split_u32};
 use std::alloc::Global;
-use tapes::{TapeFault, split_octets, split_u8, split_u32};
 
 /// The header of a request, without its service contexts.
 #[derive(Clone, Copy)]

@@ -13,11 +13,12 @@ ghost use Rattle.giop_reading.specs.Profiles.{IsAddress, IsBodyStart, IsTapeIn, 
 ghost use Rattle.giop_reading.specs.Tapes.{Begins, IsIn};
 
 use crate::key::copy;
-use giop_types::{GiopTypes, PROFILE_BODY_1_0, PROFILE_BODY_1_1};
+use giop_types::{
+    GiopTypes, PROFILE_BODY_1_0, PROFILE_BODY_1_1, split_octets, split_u8, split_u16,
+};
 use object_references::split_flag;
 use program_runner::RunFault;
 use std::alloc::{AllocError, Global};
-use tapes::{split_octets, split_u8, split_u16};
 use type_graph::Order as ByteOrder;
 
 /// The tag of the profiles of IIOP.

@@ -15,9 +15,9 @@ use giop_framing::{Head, Kind};
 use giop_messages::{Locate, Message, Reply, Request};
 use giop_types::{
     CANCEL_REQUEST_HEADER, GiopTypes, LOCATE_REQUEST_HEADER, REPLY_HEADER, REQUEST_HEADER,
+    TapeFault,
 };
 use std::alloc::{AllocError, Global};
-use tapes::TapeFault;
 
 /// The number of a request that is given up.
 fn read_cancel(

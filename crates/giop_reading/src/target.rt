@@ -2,14 +2,14 @@
 
 ghost use Rattle.std.specs.Prelude.{◌≡◌, ℕ, List, IfOk, IfErr};
 ghost use Rattle.type_graph.specs.Value.{Tree};
-ghost use Rattle.tapes.specs.Refusal.{RefusesReading};
+ghost use Rattle.giop_types.specs.TapeRefusal.{RefusesReading};
 ghost use Rattle.giop_reading.specs.Tapes.{Begins, BeginsBehind};
 ghost use Rattle.giop_reading.specs.Targets.{Tells};
 
-use std::alloc::Global;
-use tapes::{
+use giop_types::{
     Tagged, TapeFault, split_octets, split_tagged, split_tagged_list, split_u16, split_u32,
 };
+use std::alloc::Global;
 
 /// How a target tells the key of an object.
 #[derive(Clone, Copy)]

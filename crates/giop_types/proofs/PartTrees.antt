@@ -7,7 +7,7 @@ use Rattle.type_graph.specs.declared.node.Node.TheVariants.{Struct}
 use Rattle.type_graph.specs.Words.{AllBelow, word}
 use Rattle.type_graph.specs.Value.{Tree, Number, Bytes, Items, Choice, Trees, NoTree, AndTree, count, node_at, Fits, FitAll, IsText, tape_of, tapes_of}
 use Rattle.type_graph.proofs.WordLaws.{plain_word_one}
-use Rattle.tapes.specs.Parts.{counted, IsCounted, tagged, IsTagged, tagged_each, tagged_list, AreTagged}
+use Rattle.giop_types.specs.TapeParts.{counted, IsCounted, tagged, IsTagged, tagged_each, tagged_list, AreTagged}
 use Rattle.giop_types.specs.GiopNodes.{giop_nodes}
 use Rattle.giop_types.specs.Fields.{number_tree, octet_trees, octets_tree, tagged_tree, tagged_trees, tagged_list_tree}
 

@@ -1,11 +1,12 @@
 //! The types of GIOP 1.2 and IIOP as an accepted table, by which headers and profiles are read and
-//! written.
+//! written, and the parts of their tapes.
 #![tactic(auto)]
 
 mod graph;
 pub mod laws;
 mod names;
 mod table;
+mod tapes;
 mod types;
 
 pub use basic_types::OBJECT;
@@ -15,4 +16,9 @@ pub use graph::{
     SYSTEM_EXCEPTION,
 };
 pub use table::giop_types;
+pub use tapes::fault::TapeFault;
+pub use tapes::reading::{
+    Tagged, split_octets, split_tagged, split_tagged_list, split_u8, split_u16, split_u32,
+};
+pub use tapes::writing::{push_octets, push_tagged, push_u8, push_u16, push_u32};
 pub use types::GiopTypes;

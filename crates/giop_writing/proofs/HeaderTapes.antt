@@ -5,7 +5,7 @@ use Rattle.type_graph.specs.declared.width.Width.TheVariants.{One, Two, Four}
 use Rattle.type_graph.specs.declared.width.Order.TheVariants.{Big}
 use Rattle.type_graph.specs.Words.{AllBelow, word}
 use Rattle.type_graph.specs.Value.{Tree, NoTree, count, node_at, Fits, FitAll, IsText, IsCount, tape_of}
-use Rattle.tapes.specs.Parts.{counted, IsCounted}
+use Rattle.giop_types.specs.TapeParts.{counted, IsCounted}
 use Rattle.giop_types.specs.GiopNodes.{giop_nodes}
 use Rattle.giop_types.specs.Fields.{octet_trees, octets_tree}
 use Rattle.giop_types.proofs.PartTrees.{count_octets, octets_counted, octets_tape}

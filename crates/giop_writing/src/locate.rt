@@ -10,9 +10,8 @@ ghost use Rattle.giop_writing.specs.Refusal.{IsRefused};
 
 use crate::message::write_message;
 use giop_messages::GiopFault;
-use giop_types::{GiopTypes, LOCATE_REPLY_HEADER};
+use giop_types::{GiopTypes, LOCATE_REPLY_HEADER, push_u32};
 use std::alloc::{AllocError, Global};
-use tapes::push_u32;
 use type_graph::Order;
 
 /// The number of this type of messages.

@@ -14,9 +14,8 @@ ghost use Rattle.giop_writing.specs.Refusal.{IsRefused};
 use crate::body::Body;
 use crate::message::write_message;
 use giop_messages::{GiopFault, ReplyStatus};
-use giop_types::{GiopTypes, REPLY_HEADER};
+use giop_types::{GiopTypes, REPLY_HEADER, push_u32};
 use std::alloc::{AllocError, Global};
-use tapes::push_u32;
 use type_graph::Order;
 
 /// The number of this type of messages.

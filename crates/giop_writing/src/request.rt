@@ -7,8 +7,8 @@ ghost use Rattle.type_graph.specs.declared.width.Width.TheVariants.{One, Two, Fo
 ghost use Rattle.type_graph.specs.Words.{word};
 ghost use Rattle.type_graph.specs.Value.{IsText, NoTree, node_at, tape_of};
 ghost use Rattle.type_model.specs.Names.{IsNamed};
-ghost use Rattle.tapes.specs.Parts.{counted, IsCounted};
-ghost use Rattle.tapes.specs.Refusal.{RefusesWriting};
+ghost use Rattle.giop_types.specs.TapeParts.{counted, IsCounted};
+ghost use Rattle.giop_types.specs.TapeRefusal.{RefusesWriting};
 ghost use Rattle.giop_framing.specs.Heads.{max_size};
 ghost use Rattle.giop_types.specs.GiopNodes.{giop_nodes};
 ghost use Rattle.giop_types.specs.Fields.{octet_trees};
@@ -22,9 +22,8 @@ ghost use Rattle.giop_writing.specs.Refusal.{IsRefused};
 use crate::body::Body;
 use crate::message::write_message;
 use giop_messages::GiopFault;
-use giop_types::{GiopTypes, REQUEST_HEADER};
+use giop_types::{GiopTypes, REQUEST_HEADER, TapeFault, push_octets, push_u8, push_u16, push_u32};
 use std::alloc::{AllocError, Global};
-use tapes::{TapeFault, push_octets, push_u8, push_u16, push_u32};
 use type_graph::Order;
 
 /// The number of this type of messages.

@@ -3,9 +3,9 @@ use Rattle.std.proofs.Common.{◌≡◌, Result, Ok, Err, IfErr, sym, subst}
 use Rattle.program_runner.specs.declared.fault.RunFault.{RunFault}
 use Rattle.program_runner.specs.declared.fault.RunFault.TheVariants as runs
 use Rattle.program_runner.specs.Refusal.{OnlyIf as RunOnlyIf}
-use Rattle.tapes.specs.declared.fault.TapeFault.{TapeFault}
-use Rattle.tapes.specs.declared.fault.TapeFault.TheVariants as tapes
-use Rattle.tapes.specs.Refusal.{RefusesReading, RefusesWriting}
+use Rattle.giop_types.specs.declared.tapes.fault.TapeFault.{TapeFault}
+use Rattle.giop_types.specs.declared.tapes.fault.TapeFault.TheVariants as tapes
+use Rattle.giop_types.specs.TapeRefusal.{RefusesReading, RefusesWriting}
 use Rattle.object_references.specs.declared.fault.ReferenceFault.{ReferenceFault}
 use Rattle.object_references.specs.declared.fault.ReferenceFault.TheVariants as faults
 use Rattle.object_references.specs.Refusal.{OnlyIf, of_run, of_tape}

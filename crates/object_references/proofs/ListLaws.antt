@@ -5,11 +5,11 @@ use Rattle.std.specs.declared.vec.Vec.{Vec}
 use Rattle.std.specs.declared.alloc.Global.{Global}
 use Rattle.std.proofs.lemmas.List.{map-append, take_more}
 use Rattle.type_graph.proofs.WordLaws.{all_append}
-use Rattle.tapes.specs.declared.fault.TapeFault.{TapeFault}
-use Rattle.tapes.specs.declared.fault.TapeFault.TheVariants.{NotATape, TooLong, NoMemory}
-use Rattle.tapes.specs.Refusal.{RefusesReading, RefusesWriting}
-use Rattle.tapes.specs.Parts.{counted, IsCounted, IsTagged, tagged, tagged_each, tagged_list, AreTagged}
-use Rattle.tapes.proofs.PartLaws.{counted_front, tagged_each-append}
+use Rattle.giop_types.specs.declared.tapes.fault.TapeFault.{TapeFault}
+use Rattle.giop_types.specs.declared.tapes.fault.TapeFault.TheVariants.{NotATape, TooLong, NoMemory}
+use Rattle.giop_types.specs.TapeRefusal.{RefusesReading, RefusesWriting}
+use Rattle.giop_types.specs.TapeParts.{counted, IsCounted, IsTagged, tagged, tagged_each, tagged_list, AreTagged}
+use Rattle.giop_types.proofs.PartLaws.{counted_front, tagged_each-append}
 use Rattle.object_references.specs.References.{Reference, IsFront, owned_pairs}
 
 -- one more of a list

@@ -10,8 +10,8 @@ use Rattle.type_graph.proofs.OneTape.{cut_same}
 use Rattle.giop_types.specs.GiopNodes.{giop_nodes}
 use Rattle.giop_types.specs.Fields.{octets_tree, tagged_list_tree}
 use Rattle.giop_types.proofs.PartTrees.{octet_shape, short_shape, struct_shape, text_shape, text_counted, octets_below, octets_counted, octets_tape}
-use Rattle.tapes.specs.Parts.{counted, IsCounted, tagged_list, AreTagged}
-use Rattle.tapes.proofs.PartLaws.{counted_front, tagged_list_front}
+use Rattle.giop_types.specs.TapeParts.{counted, IsCounted, tagged_list, AreTagged}
+use Rattle.giop_types.proofs.PartLaws.{counted_front, tagged_list_front}
 use Rattle.object_references.specs.Encapsulations.{IsWritten, IsOfTape}
 use Rattle.object_references.specs.Profiles.{body_tree, new_body, profile_tape, IsProfile}
 use Rattle.object_references.proofs.Shapes.{peel, none_left, counted_value, tag_list}

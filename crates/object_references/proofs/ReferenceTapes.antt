@@ -4,8 +4,8 @@ use Rattle.type_graph.specs.Value.{Tree, Items, AndTree, node_at, Fits, tape_of}
 use Rattle.giop_types.specs.GiopNodes.{giop_nodes}
 use Rattle.giop_types.specs.Fields.{tagged_list_tree}
 use Rattle.giop_types.proofs.PartTrees.{struct_shape, text_shape, text_counted, tagged_list_fits, tagged_list_tape}
-use Rattle.tapes.specs.Parts.{counted, tagged_list}
-use Rattle.tapes.proofs.PartLaws.{counted_front, tagged_list_front}
+use Rattle.giop_types.specs.TapeParts.{counted, tagged_list}
+use Rattle.giop_types.proofs.PartLaws.{counted_front, tagged_list_front}
 use Rattle.object_references.specs.Encapsulations.{Encapsulates, IsWritten, HasTape, IsOfTape}
 use Rattle.object_references.specs.References.{Reference, reference_tree, reference_tape, IsReference, IsFront}
 use Rattle.object_references.proofs.Shapes.{peel, none_left, tag_list}

@@ -5,7 +5,7 @@ use Rattle.type_graph.specs.Value.{Tree, Number, Bytes, Items, Choice, Trees, No
 use Rattle.giop_types.specs.GiopNodes.{giop_nodes}
 use Rattle.giop_types.specs.Fields.{octets_tree, tagged_tree, tagged_list_tree}
 use Rattle.giop_types.proofs.PartTrees.{OfNumber, octets_shape, octets_tape, tagged_shape, tagged_tape, tagged_list_shape, tagged_list_tape}
-use Rattle.tapes.specs.Parts.{counted, IsCounted, tagged, IsTagged, tagged_list, AreTagged}
+use Rattle.giop_types.specs.TapeParts.{counted, IsCounted, tagged, IsTagged, tagged_list, AreTagged}
 
 -- ---- what a value is made of
 

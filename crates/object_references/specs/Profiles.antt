@@ -4,7 +4,7 @@ use Rattle.type_graph.specs.declared.width.Width.TheVariants.{One, Two, Four}
 use Rattle.type_graph.specs.declared.width.Order.TheVariants.{Big}
 use Rattle.type_graph.specs.Words.{word}
 use Rattle.type_graph.specs.Value.{Tree, Bytes}
-use Rattle.tapes.specs.Parts.{counted}
+use Rattle.giop_types.specs.TapeParts.{counted}
 use Rattle.giop_types.specs.Fields.{number_tree, octets_tree, struct_tree, tagged_list_tree}
 use Rattle.object_references.specs.Encapsulations.{Encapsulates, IsWritten}
 

@@ -3,7 +3,7 @@ use Rattle.std.specs.Prelude.{◌≡◌, ℕ, List, [], ◌∷◌, ◌++◌, map
 use Rattle.std.specs.declared.vec.Vec.{Vec}
 use Rattle.std.specs.declared.alloc.Global.{Global}
 use Rattle.type_graph.specs.Value.{Tree, Bytes}
-use Rattle.tapes.specs.Parts.{counted, IsCounted, tagged_list, AreTagged}
+use Rattle.giop_types.specs.TapeParts.{counted, IsCounted, tagged_list, AreTagged}
 use Rattle.giop_types.specs.Fields.{struct_tree, tagged_list_tree}
 use Rattle.object_references.specs.declared.reference.Ior.{Ior}
 

@@ -1,8 +1,8 @@
 -- What a fault says, and what faults of other calls are here.
 use Rattle.program_runner.specs.declared.fault.RunFault.{RunFault}
 use Rattle.program_runner.specs.declared.fault.RunFault.TheVariants as runs
-use Rattle.tapes.specs.declared.fault.TapeFault.{TapeFault}
-use Rattle.tapes.specs.declared.fault.TapeFault.TheVariants as tapes
+use Rattle.giop_types.specs.declared.tapes.fault.TapeFault.{TapeFault}
+use Rattle.giop_types.specs.declared.tapes.fault.TapeFault.TheVariants as tapes
 use Rattle.object_references.specs.declared.fault.ReferenceFault.{ReferenceFault}
 use Rattle.object_references.specs.declared.fault.ReferenceFault.TheVariants.{BadIor, NoMemory}
 

@@ -4,9 +4,9 @@ ghost use Rattle.std.specs.Prelude.{◌≡◌};
 ghost use Rattle.object_references.specs.Refusal.{of_run, of_tape};
 ghost use Rattle.object_references.specs.declared.fault.ReferenceFault.TheVariants.{NoMemory};
 
+use giop_types::TapeFault;
 use program_runner::RunFault;
 use std::alloc::AllocError;
-use tapes::TapeFault;
 use thiserror::Error;
 
 /// A fault has its number and name as its text.

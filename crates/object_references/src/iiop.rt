@@ -1,16 +1,17 @@
 //! The profiles of IIOP written.
 
 ghost use Rattle.std.specs.Prelude.{◌≡◌, ℕ, List, IfOk, IfErr, OnOk};
-ghost use Rattle.tapes.specs.Parts.{IsCounted};
-ghost use Rattle.tapes.specs.Refusal.{RefusesWriting};
+ghost use Rattle.giop_types.specs.TapeParts.{IsCounted};
+ghost use Rattle.giop_types.specs.TapeRefusal.{RefusesWriting};
 ghost use Rattle.object_references.specs.Profiles.{IsProfile, profile_tape as tape_of_profile};
 ghost use Rattle.object_references.specs.Refusal.{OnlyIf};
 
 use crate::encapsulation::write_encapsulation;
 use crate::fault::ReferenceFault;
-use giop_types::{GiopTypes, PROFILE_BODY_1_1};
+use giop_types::{
+    GiopTypes, PROFILE_BODY_1_1, TapeFault, push_octets, push_u8, push_u16, push_u32,
+};
 use std::alloc::Global;
-use tapes::{TapeFault, push_octets, push_u8, push_u16, push_u32};
 
 /// The version that is written, 1.2.
 const MAJOR: u8 = 1;

@@ -2,14 +2,14 @@
 
 ghost use Rattle.std.specs.Prelude.{◌≡◌, ◌++◌, List, ℕ, IfOk, IfErr, OnOk};
 ghost use Rattle.std.specs.List.{AllByRecursion};
-ghost use Rattle.tapes.specs.Parts.{IsTagged, tagged_each, pairs_of};
-ghost use Rattle.tapes.specs.Refusal.{RefusesReading, RefusesWriting};
+ghost use Rattle.giop_types.specs.TapeParts.{IsTagged, tagged_each, pairs_of};
+ghost use Rattle.giop_types.specs.TapeRefusal.{RefusesReading, RefusesWriting};
 ghost use Rattle.object_references.specs.References.{Reference, reference_of, reference_tape, IsReference, IsFront, owned_pairs};
 
-use std::alloc::{AllocError, Global};
-use tapes::{
+use giop_types::{
     Tagged, TapeFault, push_octets, push_tagged, push_u32, split_octets, split_tagged_list,
 };
+use std::alloc::{AllocError, Global};
 
 /// An object reference (ISO/IEC 19500-2, IOP: IOR). The nil reference has an empty id and no
 /// profiles.

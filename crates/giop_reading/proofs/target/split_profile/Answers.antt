@@ -1,4 +1,4 @@
-use Rattle.tapes.specs.Parts.{pair_of}
+use Rattle.giop_types.specs.TapeParts.{pair_of}
 use Rattle.giop_reading.proofs.TargetSplits.{profile_found, no_profile}
 use Rattle.giop_reading.proofs.target.split_profile.Goals as goal
 

@@ -1,6 +1,6 @@
 use Rattle.std.proofs.Common.{ℕ, List, Some, None, refl}
 use Rattle.type_graph.specs.Value.{Tree}
-use Rattle.tapes.specs.Parts.{pair_of, pairs_of}
+use Rattle.giop_types.specs.TapeParts.{pair_of, pairs_of}
 use Rattle.giop_reading.specs.Tapes.{BeginsBehind}
 use Rattle.giop_reading.proofs.TargetSplits.{reads_or, no_list, selected_found, pair_there, pair_past}
 use Rattle.giop_reading.proofs.target.split_reference.Goals as goal

@@ -1,5 +1,5 @@
 use Rattle.std.proofs.Common.{◌≡◌, take}
-use Rattle.tapes.specs.Parts.{pairs_of}
+use Rattle.giop_types.specs.TapeParts.{pairs_of}
 use Rattle.object_references.specs.References.{owned_pairs}
 use Rattle.object_references.proofs.reference.owned.Given as goal
 

@@ -1,5 +1,5 @@
 use Rattle.std.proofs.Common.{◌≡◌, ◌++◌, List, ℕ, ap, subst, ◌∙◌}
-use Rattle.tapes.specs.Parts.{tagged, IsTagged}
+use Rattle.giop_types.specs.TapeParts.{tagged, IsTagged}
 use Rattle.object_references.proofs.ListLaws.{tape_more, each_more, each_at, writing_weaker}
 use Rattle.object_references.proofs.reference.push_profiles.Goals as goal
 

@@ -1,6 +1,6 @@
 use Rattle.std.proofs.Common.{◌≡◌, ◌++◌, take}
 use Rattle.std.specs.List.{AllByRecursion}
-use Rattle.tapes.specs.Parts.{IsTagged, tagged_each}
+use Rattle.giop_types.specs.TapeParts.{IsTagged, tagged_each}
 use Rattle.object_references.specs.References.{owned_pairs}
 use Rattle.object_references.proofs.reference.push_profiles.Given as goal
 

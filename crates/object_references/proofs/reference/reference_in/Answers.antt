@@ -1,6 +1,6 @@
 use Rattle.std.proofs.Common.{List, ap, ◌∙◌}
-use Rattle.tapes.specs.declared.reading.Tagged.{Tagged}
-use Rattle.tapes.specs.Parts.{pairs_of}
+use Rattle.giop_types.specs.declared.tapes.reading.Tagged.{Tagged}
+use Rattle.giop_types.specs.TapeParts.{pairs_of}
 use Rattle.object_references.proofs.ListLaws.{front_found, front_behind, reading_weaker}
 use Rattle.object_references.proofs.reference.reference_in.Goals as goal
 

@@ -1,6 +1,6 @@
 -- What a fault says.
-use Rattle.tapes.specs.declared.fault.TapeFault.{TapeFault}
-use Rattle.tapes.specs.declared.fault.TapeFault.TheVariants.{NotATape, TooLong, NoMemory}
+use Rattle.giop_types.specs.declared.tapes.fault.TapeFault.{TapeFault}
+use Rattle.giop_types.specs.declared.tapes.fault.TapeFault.TheVariants.{NotATape, TooLong, NoMemory}
 
 -- of reading: want of memory is the cause, or there is no such tape, and then the fact holds
 abbrev pub RefusesReading : TapeFault → Type 0 → Type 0

@@ -7,8 +7,8 @@ use Rattle.type_graph.specs.declared.width.Order.TheVariants.{Big}
 use Rattle.type_graph.specs.Words.{word}
 use Rattle.type_graph.proofs.WordLaws.{plain_word_same, all_append}
 use Rattle.type_graph.proofs.OneTape.{cut_same}
-use Rattle.tapes.specs.declared.reading.Tagged.{Tagged}
-use Rattle.tapes.specs.Parts.{counted, IsCounted, tagged, IsTagged, tagged_each, tagged_list, AreTagged, AreFront, pair_of, pairs_of}
+use Rattle.giop_types.specs.declared.tapes.reading.Tagged.{Tagged}
+use Rattle.giop_types.specs.TapeParts.{counted, IsCounted, tagged, IsTagged, tagged_each, tagged_list, AreTagged, AreFront, pair_of, pairs_of}
 
 -- a number
 pub word_front : (m n : ℕ) (r s : List ℕ) → m < 2 ^ 32 → n < 2 ^ 32 → word Big Four (pos m) ++ r ≡ word Big Four (pos n) ++ s

@@ -1,7 +1,7 @@
 //! Why a tape isn't read or written.
 
 ghost use Rattle.std.specs.Prelude.{◌≡◌};
-ghost use Rattle.tapes.specs.declared.fault.TapeFault.TheVariants.{NoMemory};
+ghost use Rattle.giop_types.specs.declared.tapes.fault.TapeFault.TheVariants.{NoMemory};
 
 use std::alloc::AllocError;
 use thiserror::Error;

@@ -4,10 +4,10 @@ ghost use Rattle.std.specs.Prelude.{◌≡◌, ◌<◌, ◌^◌, ◌++◌, ℕ, 
 ghost use Rattle.type_graph.specs.declared.width.Width.TheVariants.{One, Two, Four};
 ghost use Rattle.type_graph.specs.declared.width.Order.TheVariants.{Big};
 ghost use Rattle.type_graph.specs.Words.{word};
-ghost use Rattle.tapes.specs.Parts.{counted, IsCounted, tagged, IsTagged, tagged_list, AreFront, AreTagged, pair_of, pairs_of};
-ghost use Rattle.tapes.specs.Refusal.{RefusesReading};
+ghost use Rattle.giop_types.specs.TapeParts.{counted, IsCounted, tagged, IsTagged, tagged_list, AreFront, AreTagged, pair_of, pairs_of};
+ghost use Rattle.giop_types.specs.TapeRefusal.{RefusesReading};
 
-use crate::fault::TapeFault;
+use crate::tapes::fault::TapeFault;
 use std::alloc::Global;
 
 /// A tag with its octets: a profile, a component, a service context.

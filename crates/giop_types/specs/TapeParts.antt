@@ -4,7 +4,7 @@ use Rattle.std.specs.List.{AllByRecursion}
 use Rattle.type_graph.specs.declared.width.Width.TheVariants.{Four}
 use Rattle.type_graph.specs.declared.width.Order.TheVariants.{Big}
 use Rattle.type_graph.specs.Words.{word}
-use Rattle.tapes.specs.declared.reading.Tagged.{Tagged}
+use Rattle.giop_types.specs.declared.tapes.reading.Tagged.{Tagged}
 
 -- octets behind their count, or a string behind its length
 abbrev pub counted : List ℕ → List ℕ

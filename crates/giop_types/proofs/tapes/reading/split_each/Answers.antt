@@ -1,8 +1,8 @@
 use Rattle.std.proofs.Common.{List, ◌+◌, subst, sym}
-use Rattle.tapes.specs.declared.reading.Tagged.{Tagged}
-use Rattle.tapes.specs.Parts.{AreFront, pairs_of}
-use Rattle.tapes.proofs.PartLaws.{front_more, no_next}
-use Rattle.tapes.proofs.reading.split_each.Goals as goal
+use Rattle.giop_types.specs.declared.tapes.reading.Tagged.{Tagged}
+use Rattle.giop_types.specs.TapeParts.{AreFront, pairs_of}
+use Rattle.giop_types.proofs.PartLaws.{front_more, no_next}
+use Rattle.giop_types.proofs.tapes.reading.split_each.Goals as goal
 
 pub returns-in_default-clause-refused : goal.returns-in_default-clause-refused
 returns-in_default-clause-refused c =

@@ -4,10 +4,10 @@ ghost use Rattle.std.specs.Prelude.{◌≡◌, ◌++◌, ◌<◌, pos, length, I
 ghost use Rattle.type_graph.specs.declared.width.Width.TheVariants.{One, Two, Four};
 ghost use Rattle.type_graph.specs.declared.width.Order.TheVariants.{Big};
 ghost use Rattle.type_graph.specs.Words.{word};
-ghost use Rattle.tapes.specs.Parts.{counted, IsCounted, tagged, IsTagged};
-ghost use Rattle.tapes.specs.Refusal.{RefusesWriting};
+ghost use Rattle.giop_types.specs.TapeParts.{counted, IsCounted, tagged, IsTagged};
+ghost use Rattle.giop_types.specs.TapeRefusal.{RefusesWriting};
 
-use crate::fault::TapeFault;
+use crate::tapes::fault::TapeFault;
 use std::alloc::AllocError;
 
 /// Puts an octet, character or boolean behind a tape.
