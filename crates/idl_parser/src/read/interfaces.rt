@@ -11,7 +11,6 @@ ghost use Rattle.idl_tree.specs.Levels.{highest, highest_listed, optional_levels
 ghost use Rattle.idl_tree.specs.TypeLevels.{param_type_levels};
 ghost use Rattle.idl_tree.specs.DefinitionYields.{raises_yield, readonly_yield, is_readonly as attributes_are_readonly, attributes_yield, attribute_yield, direction_yield, param_yield, oneway_yield, result_yield, operation_yield, export_yield, bases_yield, interface_yield};
 ghost use Rattle.idl_tree.specs.declared.definitions.Attributes.TheVariants.{Silent};
-ghost use Rattle.idl_tree.specs.declared.definitions.Definition.{Interface as InterfaceDcl};
 ghost use Rattle.idl_tree.specs.DefinitionLevels.{attribute_levels, param_levels, operation_levels, export_levels, interface_levels};
 
 use crate::cursor::Cursor;
@@ -21,7 +20,7 @@ use crate::read::types::read_param_type;
 use crate::stop::Stop;
 use idl_lexer::Kind;
 use idl_tree::definitions::{
-    Attribute, Attributes, Definition, Direction, Export, Interface, Operation, Param,
+    Attribute, Attributes, Direction, Export, Interface, Operation, Param,
 };
 use idl_tree::names::{Leaf, Listed, ScopedName};
 use idl_tree::types::ParamType;
@@ -254,6 +253,48 @@ fn add_export<'a>(exports: &mut Vec<Export<'a>>, export: Export<'a>) -> Result<(
     add(exports, export)
 }
 
+/// Reads a type, a constant or an exception and adds it.
+fn read_declared<'a>(
+    cursor: &mut Cursor<'a>,
+    room: usize,
+    exports: &mut Vec<Export<'a>>,
+) -> Result<(), Stop>
+    ensures { IfOk result (λ _. Added export_yield export_levels room
+        exports.old.items exports.new.items cursor.old cursor.new) }
+{
+    let declaration = got!(read_declaration(cursor, room));
+    got!(add_export(exports, Export::Declaration(declaration)));
+    cursor.mark(";")
+}
+
+/// Reads an attribute or several and adds it.
+fn read_attribute_dcl<'a>(
+    cursor: &mut Cursor<'a>,
+    room: usize,
+    exports: &mut Vec<Export<'a>>,
+) -> Result<(), Stop>
+    ensures { IfOk result (λ _. Added export_yield export_levels room
+        exports.old.items exports.new.items cursor.old cursor.new) }
+{
+    let attribute = got!(read_attribute(cursor, room));
+    got!(add_export(exports, Export::Attribute(attribute)));
+    cursor.mark(";")
+}
+
+/// Reads an operation and adds it.
+fn read_operation_dcl<'a>(
+    cursor: &mut Cursor<'a>,
+    room: usize,
+    exports: &mut Vec<Export<'a>>,
+) -> Result<(), Stop>
+    ensures { IfOk result (λ _. Added export_yield export_levels room
+        exports.old.items exports.new.items cursor.old cursor.new) }
+{
+    let operation = got!(read_operation(cursor, room));
+    got!(add_export(exports, Export::Operation(operation)));
+    cursor.mark(";")
+}
+
 /// Reads what stands in an interface, and adds it.
 fn read_export<'a>(
     cursor: &mut Cursor<'a>,
@@ -268,18 +309,12 @@ fn read_export<'a>(
         return add_export(exports, Export::Pragma(pragma));
     }
     if is_declaration(cursor) {
-        let declaration = got!(read_declaration(cursor, room));
-        got!(add_export(exports, Export::Declaration(declaration)));
-        return cursor.mark(";");
+        return read_declared(cursor, room, exports);
     }
     if cursor.is_keyword("readonly") || cursor.is_keyword("attribute") {
-        let attribute = got!(read_attribute(cursor, room));
-        got!(add_export(exports, Export::Attribute(attribute)));
-        return cursor.mark(";");
+        return read_attribute_dcl(cursor, room, exports);
     }
-    let operation = got!(read_operation(cursor, room));
-    got!(add_export(exports, Export::Operation(operation)));
-    cursor.mark(";")
+    read_operation_dcl(cursor, room, exports)
 }
 
 /// Reads exports between braces.
@@ -308,7 +343,7 @@ fn read_bases<'a>(cursor: &mut Cursor<'a>) -> Result<Option<Listed<ScopedName<'a
 }
 
 /// The bases of an interface, and what stands in it.
-type Body<'a> = (Option<Listed<ScopedName<'a>>>, Vec<Export<'a>>);
+pub(crate) type Body<'a> = (Option<Listed<ScopedName<'a>>>, Vec<Export<'a>>);
 
 /// Reads an interface, or one that is declared ahead, which a semicolon tells.
 pub(crate) fn read_interface<'a>(
@@ -331,15 +366,15 @@ pub(crate) fn read_interface<'a>(
 }
 
 /// The interface of a name and what stands behind it.
-pub(crate) fn interface<'a>(identifier: Leaf<'a>, body: Option<Body<'a>>) -> Definition<'a>
-    ensures { result ≡ InterfaceDcl (interface_of identifier.entry body.entry) }
+pub(crate) fn interface<'a>(identifier: Leaf<'a>, body: Option<Body<'a>>) -> Interface<'a>
+    ensures { result ≡ interface_of identifier.entry body.entry }
 {
     match body {
-        Some((bases, exports)) => Definition::Interface(Interface::Defined {
+        Some((bases, exports)) => Interface::Defined {
             identifier,
             bases,
             exports,
-        }),
-        None => Definition::Interface(Interface::Ahead(identifier)),
+        },
+        None => Interface::Ahead(identifier),
     }
 }
