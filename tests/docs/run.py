@@ -1,0 +1,84 @@
+"""Runs the sessions that stand in the documents, and compares what each command prints.
+
+A session is a code block with lines that begin with `$ `: a command, and below it what it prints on both streams.
+`examples/` and the files of `examples/idl/` are at hand where it runs. Sessions with a program that isn't `idlc` aren't
+run.
+"""
+import re
+import shutil
+import socket
+import subprocess
+
+from driver.suite import Count
+from driver.workspace import TOP
+
+PROGRAM = TOP / "crates" / "idlc_main" / "out" / "idlc_main"
+DOCUMENTS = [TOP / "README.md", *sorted((TOP / "docs").glob("*.md"))]
+
+
+def blocks(text):
+    """The code blocks of a document, fenced or indented, as lists of lines."""
+    found, block, is_fenced = [], [], False
+    for line in text.splitlines():
+        if line.startswith("```"):
+            is_fenced = not is_fenced
+            found, block = [*found, block], []
+        elif is_fenced:
+            block.append(line)
+        elif line.startswith("    "):
+            block.append(line[4:])
+        elif block:
+            found, block = [*found, block], []
+    return [*found, block]
+
+
+def steps(block):
+    """The commands of a block, each with what it prints."""
+    found = []
+    for line in block:
+        if line.startswith("$ "):
+            found.append((line[2:], []))
+        elif found:
+            found[-1][1].append(line)
+    return [(command, "".join(f"{line}\n" for line in said)) for command, said in found]
+
+
+def served(words, folder):
+    """What `serve` prints where one client connects to it and leaves."""
+    port = int(re.search(r"--port (\d+)", words)[1])
+    server = subprocess.Popen(words, shell=True, cwd=folder, stdout=subprocess.PIPE, text=True)
+    said = server.stdout.readline()
+    if said:
+        socket.create_connection(("127.0.0.1", port), timeout=10).close()
+    return said + server.communicate(timeout=60)[0]
+
+
+def run_session(test, count, document, session, folder):
+    for command, wanted in session:
+        words = re.sub(r"^idlc\b", str(PROGRAM), command)
+        if words.startswith(f"{PROGRAM} serve"):
+            said = served(words, folder)
+        else:
+            done = test.call(["bash", "-c", f"{words} 2>&1"], cwd=folder)
+            said = done.out + done.err
+        # the rest of an explanation may be left out
+        is_right = said == wanted or (not wanted and command.startswith("idlc explain") and said)
+        count.add(is_right, f"{document.name}: {command}: {said}")
+
+
+def run(test):
+    built = test.call([TOP / "idlc", "check", "builtin"])
+    count = Count(0, [])
+    if built.status:
+        return Count(0, [built.out + built.err])
+    for document in DOCUMENTS:
+        folder = test.room / document.stem
+        folder.mkdir()
+        (folder / "examples").symlink_to(TOP / "examples")
+        for file in (TOP / "examples" / "idl").glob("*.idl"):
+            shutil.copy(file, folder)
+        for block in blocks(document.read_text()):
+            session = steps(block)
+            if all(command.startswith("idlc ") for command, _ in session):
+                run_session(test, count, document, session, folder)
+    return count
