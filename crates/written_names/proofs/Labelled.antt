@@ -1,5 +1,5 @@
 -- Each case of a union has a label or more, so that a union has no more cases than labels.
-use Rattle.std.proofs.Common.{◌≡◌, ◌∙◌, ℕ, ◌+◌, ◌≤◌, Bool, true, false, List, [], ◌∷◌, ◌++◌, length, length-append, map, Option, Some, None, Result, Ok, Err, refl, sym, ap, subst, arith, ℤ, int_lt}
+use Rattle.std.proofs.Common.{◌≡◌, ◌∙◌, ℕ, suc, ◌+◌, ◌≤◌, Bool, true, false, List, [], ◌∷◌, ◌++◌, length, length-append, map, Option, Some, None, Result, Ok, Err, refl, sym, ap, subst, arith, ℤ, int_lt}
 use Rattle.std.specs.Prelude.{◌||◌, if◌then◌else◌, is_some, option_to_list}
 use Rattle.std.proofs.lemmas.List.{length-map}
 use Rattle.idl_tree.specs.declared.types.Label.{Label}
@@ -9,17 +9,25 @@ use Rattle.type_graph.specs.declared.fault.GraphLimit.TheVariants.{Members as Me
 use Rattle.type_graph.specs.declared.node.Node.TheVariants.{Union}
 use Rattle.name_table.specs.Entry.{Entry}
 use Rattle.scoped_names.specs.Reading.{◌>>◌}
-use Rattle.written_types.specs.declared.arms.Arm.{Arm}
-use Rattle.written_types.specs.declared.arms.DefaultArm.{DefaultArm}
 use Rattle.written_types.specs.declared.fault.BuildFault.{BuildFault}
 use Rattle.written_types.specs.declared.fault.BuildFault.TheVariants.{Types}
 use Rattle.written_types.specs.declared.fault.TypeFault.TheVariants.{LabelTwice}
-use Rattle.written_types.specs.declared.labels.Switch.{Switch}
 use Rattle.written_types.specs.Faults.{at_most, each, line_of, max_members}
-use Rattle.written_types.specs.Labels.{Arms, CaseLabels, is_taken, label_added, label_value, value_added, with_arm, with_arms, with_case, with_default}
-use Rattle.written_types.specs.Types.{default_number, numbered_arm}
+use Rattle.written_types.specs.Labels.{Arms, CaseLabels, is_taken, label_added, label_value, no_arms, value_added, switched, with_arm, with_arms, with_case, with_default}
+use Rattle.written_types.specs.Types.{arm_line, default_number, numbered_arm}
+use Rattle.written_types.specs.Written.{unwritten}
 use Rattle.written_names.specs.OneForOne.{HaveNames}
 use Rattle.written_names.proofs.Signs.{then_done}
+
+-- what a function takes
+abbrev domain : {A B : Type 0} → (A → B) → Type 0
+domain {A = A} f = A
+
+abbrev Arm : Type 0
+Arm = domain arm_line
+
+abbrev pub Switch : Type 0
+Switch = domain (switched (unwritten 0))
 
 abbrev pub one_if : {T : Type 0} → Option T → ℕ
 one_if None = 0
@@ -127,13 +135,14 @@ case_more a ls count number line read some = by ls.default read.long read.free
         let none : one_if a.default ≡ 0 = ap one_if (free k refl) in
         omega (arith, more, none)
 
--- the node of a union with so many labels
-pub union_names : (switch : ℕ) (a : Arms) (n : ℕ) → 1 ≤ n → n ≤ labels_in a → HaveNames (Union switch (map numbered_arm a.arms) (default_number a.default)) n
-union_names switch a n some most =
+-- the node of a union with so many cases
+pub union_names : (switch : ℕ) (a : Arms) (cases : ℕ) → labels_in no_arms + suc cases ≤ labels_in a
+    → HaveNames (Union switch (map numbered_arm a.arms) (default_number a.default)) (suc cases)
+union_names switch a cases most =
     let long = length-map a.arms numbered_arm in
     let told = by a.default in
-    (some, omega (arith, long, told, most))
+    (omega arith, omega (arith, long, told, most))
   where
-    by : (d : Option DefaultArm) → length (option_to_list (default_number d)) ≡ one_if d
+    by : (d : domain default_number) → length (option_to_list (default_number d)) ≡ one_if d
     by None = refl
     by (Some d) = refl

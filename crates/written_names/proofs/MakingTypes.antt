@@ -1,5 +1,5 @@
 -- Structures, unions, enumerations and exceptions: their nodes are made, with a name for each part.
-use Rattle.std.proofs.Common.{◌≡◌, ◌∙◌, ℕ, suc, ◌+◌, ◌≤◌, List, [], ◌∷◌, ◌++◌, length, length-append, map, Some, None, Result, Ok, refl, sym, ap, subst, arith}
+use Rattle.std.proofs.Common.{◌≡◌, ◌∙◌, ℕ, suc, ◌+◌, ◌≤◌, List, [], ◌∷◌, ◌++◌, length, length-append, map, Option, Some, None, Result, Ok, refl, sym, ap, subst, arith, ℤ}
 use Rattle.std.specs.Prelude.{codes, slice_get}
 use Rattle.std.specs.List.{flat_map}
 use Rattle.std.proofs.lemmas.List.{length-map}
@@ -28,19 +28,18 @@ use Rattle.name_table.specs.Search.{word}
 use Rattle.scoped_names.specs.Reading.{◌>>◌}
 use Rattle.type_paths.specs.Lines.{Lines}
 use Rattle.written_types.specs.declared.fault.BuildFault.{BuildFault}
-use Rattle.written_types.specs.declared.labels.Switch.{Switch}
 use Rattle.written_types.specs.declared.place.Place.TheVariants.{Typed, Raised}
 use Rattle.written_types.specs.Declarations.{ahead, declaration, except, exception_added, id_member, type_dcl, with_typedef}
 use Rattle.written_types.specs.Faults.{at_most, each, line_of, max_enumerators, or_other}
 use Rattle.written_types.specs.Labels.{no_arms, no_labels, label_added, switch_kind, switch_line, switch_of, switch_read, switch_type, switched, Switched, values_of, with_case}
-use Rattle.written_types.specs.SimpleTypes.{array_type, const_type, declarator_line, entry_of, enum_type, integer_number, named_type, simple_type, type_found}
+use Rattle.written_types.specs.SimpleTypes.{array_type, const_type, declarator_line, entry_of, enum_type, integer_number, simple_type, type_found}
 use Rattle.written_types.specs.Types.{Cases, WithMembers, arm_line, case_added, cases_of, default_lines, default_number, default_test, members_added, no_members, numbered_arm, struct_defined, struct_type, type_spec, union_defined, union_type, with_cases, with_declarators, with_member, with_members, with_members_of}
 use Rattle.written_types.specs.Written.{Numbered, Written, added, already, counted, node_set, opened, place_in, place_of, placed, raised_at, undefined}
 use Rattle.written_types.proofs.Writing.{with_placed}
 use Rattle.written_operations.specs.declared.signature.Signature.{Signature}
 use Rattle.written_names.specs.OneForOne.{HaveNames}
 use Rattle.written_names.specs.Types.{Part, cases_parts, declaration_parts, enum_parts, except_parts, member_names, member_parts, members_parts, name_of, names_in, names_of_cases, names_of_members, part, raising, struct_parts, switch_parts, type_dcl_parts, type_in, type_parts, typed, frame_in, union_parts, with_id}
-use Rattle.written_names.proofs.Labelled.{AreRead, case_more, labels_are_read, labels_in, union_names}
+use Rattle.written_names.proofs.Labelled.{AreRead, Switch, case_more, labels_are_read, labels_in, union_names}
 use Rattle.written_names.proofs.Making.{HasNode, IsLate, Makes, Naming, between_one, makes_at, makes_back, makes_from, makes_none, makes_on, makes_to, silent}
 use Rattle.written_names.proofs.Signs.{then_done}
 use Rattle.written_names.proofs.Stays.{IsMade, Stays, added_gives, added_stays, added_there, already_stays, counted_same, most_is, named_gives, not_made, open_gives, placed_gives, placed_here, placed_stays, set_gives, set_stays, set_there, stays_none, stays_on, stays_same}
@@ -190,6 +189,12 @@ switch_makes es w scope line s r h =
 
 -- ---- types
 
+union_defined_now : (switch : ℕ) (arms : List (ℤ × ℕ)) (default : Option ℕ) → Union switch arms default ≡ undefined → ⊥
+union_defined_now switch arms default is = cc
+
+ok_same : (n m : Numbered) → (let r : Result Numbered BuildFault = Ok n in r) ≡ Ok m → n ≡ m
+ok_same n m h = cc
+
 some_members : (ns : List ℕ) → 1 ≤ length ns → Struct ns ≡ undefined → ⊥
 some_members [] some is = omega (arith, some)
 some_members (n ∷ ns) some is = cc
@@ -228,7 +233,7 @@ mutual
       let made = open_gives w e line o opens in
       let last = defined_made m.written c b (length m.members.numbers) line e o.number (Struct m.members.numbers) m.members.lines names counts sets
       (body.makes.stays.places e (Typed o.number) made.place) (some_members m.members.numbers some) long in
-      let same : already b o.number ≡ n = cc in
+      let same = ok_same (already b o.number) n told in
       subst (λ z. Makes (λ v ops ps. struct_parts es v scope ps (StructType' id p t ds shape rest)) w z.written) same
       (makes_at (entry_of es scope id) e (λ x v ops ps. typed v x names ps >> λ own. type_parts es v (x + 1) own t >> λ next. members_parts es v (x + 1) next rest) w b is
       (makes_back (λ v ops ps. typed v e names ps) inner w m.written b last (makes_from inner w o.written m.written made.stays body.makes)))
@@ -257,13 +262,12 @@ mutual
       (case_made es (e + 1) s.switch own start first labels type d (λ k typed_as. type_makes es s.written (e + 1) (declarator_line d) t k typed_as) begins)
       (cases_make es (e + 1) s.switch first rest c others) in
       let whole = makes_on chosen cases o.written s.written c.written (switch_makes es o.written (e + 1) line switch s switches) body.makes in
-      let most = body.most in
       let node = Union s.switch.number (map numbered_arm c.arms.arms) (default_number c.arms.default) in
-      let has : HaveNames node (length names) = union_names s.switch.number c.arms (length names) (omega arith) (omega (arith, most)) in
+      let has : HaveNames node (length names) = union_names s.switch.number c.arms (length (names_of_cases rest)) body.most in
       let made = open_gives w e line o opens in
       let last = defined_made c.written m b (length c.arms.arms) line e o.number node (map arm_line c.arms.arms ++ default_lines c.arms.default) names counts sets
-      (whole.stays.places e (Typed o.number) made.place) (λ is. cc) has in
-      let same : already b o.number ≡ n = cc in
+      (whole.stays.places e (Typed o.number) made.place) (union_defined_now s.switch.number (map numbered_arm c.arms.arms) (default_number c.arms.default)) has in
+      let same = ok_same (already b o.number) n told in
       subst (λ z. Makes (λ v ops ps. union_parts es v scope ps (UnionType' id switch p labels t d shape rest)) w z.written) same
       (makes_at (entry_of es scope id) e
       (λ x v ops ps. typed v x names ps >> λ own. switch_parts es v (x + 1) own switch >> λ s. type_parts es v (x + 1) s t >> λ next. cases_parts es v (x + 1) next rest) w b is
