@@ -4,7 +4,8 @@
 ghost use Rattle.std.specs.Prelude.{◌≡◌, ◌++◌, ◌≤◌, ◌∷◌, [], suc, max, Ok, IfOk, List, codes};
 ghost use Rattle.std.specs.List.{flat_map};
 ghost use Rattle.idl_parser.specs.Reading.{Parsed, Continued, Added};
-ghost use Rattle.idl_parser.specs.Makings.{module_front, HasModule};
+ghost use Rattle.idl_parser.specs.Makings.{module_front, interface_of, HasModule};
+ghost use Rattle.idl_tree.specs.declared.definitions.Definition.{Declaration as Declarations, Interface as Interfaces};
 ghost use Rattle.idl_tree.specs.Pieces.{keyword, mark};
 ghost use Rattle.idl_tree.specs.Yields.{identifier};
 ghost use Rattle.idl_tree.specs.DefinitionYields.{definition_yield};
@@ -13,11 +14,11 @@ ghost use Rattle.idl_tree.specs.DefinitionLevels.{definition_levels};
 
 use crate::cursor::Cursor;
 use crate::read::declarations::{is_declaration, read_declaration};
-use crate::read::interfaces::{interface, read_interface};
+use crate::read::interfaces::{Body, interface, read_interface};
 use crate::read::lists::{add, read_opened};
 use crate::stop::Stop;
 use idl_lexer::Kind;
-use idl_tree::definitions::{Definition, Module};
+use idl_tree::definitions::{Declaration, Definition, Module};
 use idl_tree::names::Leaf;
 
 /// Adds a definition. What holds one goes through this function, so that few functions do.
@@ -30,6 +31,70 @@ fn add_definition<'a>(
     add(definitions, definition)
 }
 
+/// Adds the interface of a name and what stands behind it.
+fn add_interface<'a>(
+    definitions: &mut Vec<Definition<'a>>,
+    name: Leaf<'a>,
+    body: Option<Body<'a>>,
+) -> Result<(), Stop>
+    ensures { IfOk result (λ _. definitions.new.items
+        ≡ definitions.old.items ++ Interfaces (interface_of name.entry body.entry) ∷ []) }
+{
+    add_definition(definitions, Definition::Interface(interface(name, body)))
+}
+
+/// Adds a declaration.
+fn add_declaration<'a>(
+    definitions: &mut Vec<Definition<'a>>,
+    declaration: Declaration<'a>,
+) -> Result<(), Stop>
+    ensures { IfOk result (λ _. definitions.new.items
+        ≡ definitions.old.items ++ Declarations declaration.entry ∷ []) }
+{
+    add_definition(definitions, Definition::Declaration(declaration))
+}
+
+/// Reads a pragma and adds it.
+fn read_pragma<'a>(
+    cursor: &mut Cursor<'a>,
+    room: usize,
+    definitions: &mut Vec<Definition<'a>>,
+) -> Result<(), Stop>
+    ensures { IfOk result (λ _. Added definition_yield definition_levels room
+        definitions.old.items definitions.new.items cursor.old cursor.new) }
+{
+    let pragma = got!(cursor.leaf(Kind::Pragma));
+    add_definition(definitions, Definition::Pragma(pragma))
+}
+
+/// Reads an interface and adds it.
+fn read_interface_dcl<'a>(
+    cursor: &mut Cursor<'a>,
+    room: usize,
+    definitions: &mut Vec<Definition<'a>>,
+) -> Result<(), Stop>
+    ensures { IfOk result (λ _. Added definition_yield definition_levels room
+        definitions.old.items definitions.new.items cursor.old cursor.new) }
+{
+    let (name, body) = got!(read_interface(cursor, room));
+    got!(add_interface(definitions, name, body));
+    cursor.mark(";")
+}
+
+/// Reads a type, a constant or an exception and adds it.
+fn read_declared<'a>(
+    cursor: &mut Cursor<'a>,
+    room: usize,
+    definitions: &mut Vec<Definition<'a>>,
+) -> Result<(), Stop>
+    ensures { IfOk result (λ _. Added definition_yield definition_levels room
+        definitions.old.items definitions.new.items cursor.old cursor.new) }
+{
+    let declaration = got!(read_declaration(cursor, room));
+    got!(add_declaration(definitions, declaration));
+    cursor.mark(";")
+}
+
 /// Reads a pragma, or a definition that holds no others, and adds it.
 fn read_single<'a>(
     cursor: &mut Cursor<'a>,
@@ -40,18 +105,13 @@ fn read_single<'a>(
         definitions.old.items definitions.new.items cursor.old cursor.new) }
 {
     if let Some(Kind::Pragma) = cursor.kind() {
-        let pragma = got!(cursor.leaf(Kind::Pragma));
-        return add_definition(definitions, Definition::Pragma(pragma));
+        return read_pragma(cursor, room, definitions);
     }
     if cursor.is_keyword("interface") {
-        let (name, body) = got!(read_interface(cursor, room));
-        got!(add_definition(definitions, interface(name, body)));
-        return cursor.mark(";");
+        return read_interface_dcl(cursor, room, definitions);
     }
     if is_declaration(cursor) {
-        let declaration = got!(read_declaration(cursor, room));
-        got!(add_definition(definitions, Definition::Declaration(declaration)));
-        return cursor.mark(";");
+        return read_declared(cursor, room, definitions);
     }
     Err(Stop::Unexpected)
 }

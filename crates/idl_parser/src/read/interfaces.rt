@@ -1,17 +1,16 @@
 //! Interfaces, their operations and attributes.
 #![tactic(auto, using(crate::proofs::Reading::past_append, crate::proofs::Reading::past_none))]
 
-ghost use Rattle.std.specs.Prelude.{◌≡◌, ◌++◌, ◌≤◌, ◌∷◌, [], ℕ, Bool, max, IfOk, List, codes};
+ghost use Rattle.std.specs.Prelude.{◌≡◌, ◌++◌, ◌≤◌, ◌∷◌, [], ℕ, Bool, true, false, max, IfOk, List, codes};
 ghost use Rattle.std.specs.List.{flat_map};
 ghost use Rattle.idl_parser.specs.Reading.{Parsed, Continued, Added};
 ghost use Rattle.idl_parser.specs.Makings.{interface_of};
-ghost use Rattle.idl_tree.specs.Pieces.{mark};
-ghost use Rattle.idl_tree.specs.Yields.{optional, listed};
+ghost use Rattle.idl_tree.specs.Pieces.{Seen, mark};
+ghost use Rattle.idl_tree.specs.Yields.{identifier as identifier_yield, optional, listed};
 ghost use Rattle.idl_tree.specs.Levels.{highest, highest_listed, optional_levels};
 ghost use Rattle.idl_tree.specs.TypeLevels.{param_type_levels};
 ghost use Rattle.idl_tree.specs.DefinitionYields.{raises_yield, readonly_yield, is_readonly as attributes_are_readonly, attributes_yield, attribute_yield, direction_yield, param_yield, oneway_yield, result_yield, operation_yield, export_yield, bases_yield, interface_yield};
 ghost use Rattle.idl_tree.specs.declared.definitions.Attributes.TheVariants.{Silent};
-ghost use Rattle.idl_tree.specs.declared.definitions.Definition.{Interface as InterfaceDcl};
 ghost use Rattle.idl_tree.specs.DefinitionLevels.{attribute_levels, param_levels, operation_levels, export_levels, interface_levels};
 
 use crate::cursor::Cursor;
@@ -21,10 +20,11 @@ use crate::read::types::read_param_type;
 use crate::stop::Stop;
 use idl_lexer::Kind;
 use idl_tree::definitions::{
-    Attribute, Attributes, Definition, Direction, Export, Interface, Operation, Param,
+    Attribute, Attributes, Direction, Export, Interface, Operation, Param,
 };
 use idl_tree::names::{Leaf, Listed, ScopedName};
 use idl_tree::types::ParamType;
+use std::alloc::Global;
 
 /// The parameters of an operation, and what it raises.
 type Signature<'a> = (Option<Listed<Param<'a>>>, Option<Listed<ScopedName<'a>>>);
@@ -61,36 +61,83 @@ fn silent<'a>(is_readonly: bool, first: Leaf<'a>, rest: Vec<Leaf<'a>>) -> Attrib
     }
 }
 
+/// A readonly attribute, and what it raises.
+fn readonly<'a>(
+    alloc: Global,
+    identifier: Leaf<'a>,
+    raises: Option<Listed<ScopedName<'a>>>,
+) -> Attributes<'a>
+    ensures spells { attributes_yield result ≡ identifier_yield identifier.entry
+        ++ optional (raises_yield (codes "raises")) raises.entry }
+    ensures kind { attributes_are_readonly result ≡ true }
+{
+    match raises {
+        Some(raises) => Attributes::Readonly { identifier, raises },
+        None => silent(true, identifier, Vec::new(alloc)),
+    }
+}
+
+/// An attribute that can be set, and what it raises where it is got and where it is set.
+fn settable<'a>(
+    alloc: Global,
+    identifier: Leaf<'a>,
+    get: Option<Listed<ScopedName<'a>>>,
+    set: Option<Listed<ScopedName<'a>>>,
+) -> Attributes<'a>
+    ensures spells { attributes_yield result ≡ identifier_yield identifier.entry
+        ++ optional (raises_yield (codes "getraises")) get.entry
+        ++ optional (raises_yield (codes "setraises")) set.entry }
+    ensures kind { attributes_are_readonly result ≡ false }
+{
+    match (get, set) {
+        (Some(get), set) => Attributes::Get {
+            identifier,
+            get,
+            set,
+        },
+        (None, Some(set)) => Attributes::Set { identifier, set },
+        (None, None) => silent(false, identifier, Vec::new(alloc)),
+    }
+}
+
+/// Reads what a readonly attribute raises whose identifier stands before.
+fn read_readonly<'a>(cursor: &mut Cursor<'a>, identifier: Leaf<'a>) -> Result<Attributes<'a>, Stop>
+    ensures spells { IfOk result (λ a. (front : List Seen)
+        → Parsed front (identifier_yield identifier.entry) cursor.old → Parsed front (attributes_yield a) cursor.new) }
+    ensures kind { IfOk result (λ a. attributes_are_readonly a ≡ true) }
+{
+    let raises = got!(read_raises(cursor, "raises"));
+    Ok(readonly(cursor.alloc(), identifier, raises))
+}
+
+/// Reads what an attribute raises that can be set, whose identifier stands before.
+fn read_settable<'a>(cursor: &mut Cursor<'a>, identifier: Leaf<'a>) -> Result<Attributes<'a>, Stop>
+    ensures spells { IfOk result (λ a. (front : List Seen)
+        → Parsed front (identifier_yield identifier.entry) cursor.old → Parsed front (attributes_yield a) cursor.new) }
+    ensures kind { IfOk result (λ a. attributes_are_readonly a ≡ false) }
+{
+    let get = got!(read_raises(cursor, "getraises"));
+    match both(get, read_raises(cursor, "setraises")) {
+        Ok((get, set)) => Ok(settable(cursor.alloc(), identifier, get, set)),
+        Err(stop) => Err(stop),
+    }
+}
+
 /// Reads the identifiers of attributes, and what one that stands alone raises.
 fn read_attributes<'a>(cursor: &mut Cursor<'a>, is_readonly: bool) -> Result<Attributes<'a>, Stop>
     ensures spells { IfOk result (λ a. Parsed cursor.old (attributes_yield a) cursor.new) }
     ensures kind { IfOk result (λ a. attributes_are_readonly a ≡ is_readonly) }
 {
     let identifier = got!(cursor.identifier());
-    let rest = got!(read_rest(cursor, 0));
-    if !rest.is_empty() {
+    if cursor.is_mark(",") {
+        let rest = got!(read_rest(cursor, 0));
         return Ok(silent(is_readonly, identifier, rest));
     }
     if is_readonly {
-        let raised = got!(read_raises(cursor, "raises"));
-        if let Some(raises) = raised {
-            return Ok(Attributes::Readonly { identifier, raises });
-        }
-        return Ok(silent(is_readonly, identifier, rest));
+        read_readonly(cursor, identifier)
+    } else {
+        read_settable(cursor, identifier)
     }
-    let got = got!(read_raises(cursor, "getraises"));
-    let set = got!(read_raises(cursor, "setraises"));
-    if let Some(get) = got {
-        return Ok(Attributes::Get {
-            identifier,
-            get,
-            set,
-        });
-    }
-    if let Some(set) = set {
-        return Ok(Attributes::Set { identifier, set });
-    }
-    Ok(silent(is_readonly, identifier, rest))
 }
 
 fn read_attribute<'a>(cursor: &mut Cursor<'a>, room: usize) -> Result<Attribute<'a>, Stop>
@@ -206,6 +253,48 @@ fn add_export<'a>(exports: &mut Vec<Export<'a>>, export: Export<'a>) -> Result<(
     add(exports, export)
 }
 
+/// Reads a type, a constant or an exception and adds it.
+fn read_declared<'a>(
+    cursor: &mut Cursor<'a>,
+    room: usize,
+    exports: &mut Vec<Export<'a>>,
+) -> Result<(), Stop>
+    ensures { IfOk result (λ _. Added export_yield export_levels room
+        exports.old.items exports.new.items cursor.old cursor.new) }
+{
+    let declaration = got!(read_declaration(cursor, room));
+    got!(add_export(exports, Export::Declaration(declaration)));
+    cursor.mark(";")
+}
+
+/// Reads an attribute or several and adds it.
+fn read_attribute_dcl<'a>(
+    cursor: &mut Cursor<'a>,
+    room: usize,
+    exports: &mut Vec<Export<'a>>,
+) -> Result<(), Stop>
+    ensures { IfOk result (λ _. Added export_yield export_levels room
+        exports.old.items exports.new.items cursor.old cursor.new) }
+{
+    let attribute = got!(read_attribute(cursor, room));
+    got!(add_export(exports, Export::Attribute(attribute)));
+    cursor.mark(";")
+}
+
+/// Reads an operation and adds it.
+fn read_operation_dcl<'a>(
+    cursor: &mut Cursor<'a>,
+    room: usize,
+    exports: &mut Vec<Export<'a>>,
+) -> Result<(), Stop>
+    ensures { IfOk result (λ _. Added export_yield export_levels room
+        exports.old.items exports.new.items cursor.old cursor.new) }
+{
+    let operation = got!(read_operation(cursor, room));
+    got!(add_export(exports, Export::Operation(operation)));
+    cursor.mark(";")
+}
+
 /// Reads what stands in an interface, and adds it.
 fn read_export<'a>(
     cursor: &mut Cursor<'a>,
@@ -220,18 +309,12 @@ fn read_export<'a>(
         return add_export(exports, Export::Pragma(pragma));
     }
     if is_declaration(cursor) {
-        let declaration = got!(read_declaration(cursor, room));
-        got!(add_export(exports, Export::Declaration(declaration)));
-        return cursor.mark(";");
+        return read_declared(cursor, room, exports);
     }
     if cursor.is_keyword("readonly") || cursor.is_keyword("attribute") {
-        let attribute = got!(read_attribute(cursor, room));
-        got!(add_export(exports, Export::Attribute(attribute)));
-        return cursor.mark(";");
+        return read_attribute_dcl(cursor, room, exports);
     }
-    let operation = got!(read_operation(cursor, room));
-    got!(add_export(exports, Export::Operation(operation)));
-    cursor.mark(";")
+    read_operation_dcl(cursor, room, exports)
 }
 
 /// Reads exports between braces.
@@ -260,7 +343,7 @@ fn read_bases<'a>(cursor: &mut Cursor<'a>) -> Result<Option<Listed<ScopedName<'a
 }
 
 /// The bases of an interface, and what stands in it.
-type Body<'a> = (Option<Listed<ScopedName<'a>>>, Vec<Export<'a>>);
+pub(crate) type Body<'a> = (Option<Listed<ScopedName<'a>>>, Vec<Export<'a>>);
 
 /// Reads an interface, or one that is declared ahead, which a semicolon tells.
 pub(crate) fn read_interface<'a>(
@@ -283,15 +366,15 @@ pub(crate) fn read_interface<'a>(
 }
 
 /// The interface of a name and what stands behind it.
-pub(crate) fn interface<'a>(identifier: Leaf<'a>, body: Option<Body<'a>>) -> Definition<'a>
-    ensures { result ≡ InterfaceDcl (interface_of identifier.entry body.entry) }
+pub(crate) fn interface<'a>(identifier: Leaf<'a>, body: Option<Body<'a>>) -> Interface<'a>
+    ensures { result ≡ interface_of identifier.entry body.entry }
 {
     match body {
-        Some((bases, exports)) => Definition::Interface(Interface::Defined {
+        Some((bases, exports)) => Interface::Defined {
             identifier,
             bases,
             exports,
-        }),
-        None => Definition::Interface(Interface::Ahead(identifier)),
+        },
+        None => Interface::Ahead(identifier),
     }
 }

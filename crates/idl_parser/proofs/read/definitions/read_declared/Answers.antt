@@ -1,0 +1,14 @@
+use Rattle.std.proofs.Common.{refl}
+use Rattle.std.specs.Prelude.{codes}
+use Rattle.idl_tree.specs.declared.definitions.Definition.{Declaration as Declared}
+use Rattle.idl_tree.specs.Pieces.{mark}
+use Rattle.idl_tree.specs.DefinitionYields.{declaration_yield, definition_yield}
+use Rattle.idl_tree.specs.DefinitionLevels.{definition_levels}
+use Rattle.idl_parser.proofs.Adding.{added_ended}
+use Rattle.idl_parser.proofs.read.definitions.read_declared.Goals as goal
+
+pub returns : goal.returns
+returns c =
+    let d = c.in-Ok.part in
+    added_ended definition_yield definition_levels c.args.room _ _ _ (declaration_yield d) (mark (codes ";")) _ _ (Declared d) c.mark.result
+    c.in-Ok.ensures.spells refl c.in-Ok.ensures.levels c.in-Ok-add_declaration.ensures c.mark.ensures
