@@ -20,7 +20,7 @@ use Rattle.written_names.specs.OneForOne.{HaveNames}
 use Rattle.written_names.proofs.Signs.{then_done}
 
 -- what a function takes
-abbrev domain : {A B : Type 0} → (A → B) → Type 0
+abbrev pub domain : {A B : Type 0} → (A → B) → Type 0
 domain {A = A} f = A
 
 abbrev Arm : Type 0

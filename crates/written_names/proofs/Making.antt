@@ -69,7 +69,7 @@ nodes_made : (w : Written) (ps : List Part) → AllByRecursion (HasNode w.nodes)
 nodes_made w ps made = all_map (HasNode w.nodes) (λ p. IsMade w.nodes p.node) (λ p has. (has.0, has.1, has.2)) ps made
 
 -- those that are made first, and then the others
-between_on : (w m b : Written) (xs ys : List Part) → Stays w m → Stays m b → Between w m xs → Between m b ys → Between w b (xs ++ ys)
+pub between_on : (w m b : Written) (xs ys : List Part) → Stays w m → Stays m b → Between w m xs → Between m b ys → Between w b (xs ++ ys)
 between_on w m b xs ys first second f g = record {
   late = all_append (IsLate w.nodes) xs ys f.late (later_late w m first ys g.late);
   made = all_append (HasNode b.nodes) xs ys (still_made m b second xs f.made) g.made;

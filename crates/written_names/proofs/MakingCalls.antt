@@ -25,8 +25,6 @@ use Rattle.written_types.specs.Members.{Members}
 use Rattle.written_types.specs.SimpleTypes.{entry_of, param_type}
 use Rattle.written_types.specs.Types.{member_added, no_members}
 use Rattle.written_types.specs.Written.{Numbered, Written, added, already, counted, place_in, place_of, placed}
-use Rattle.written_operations.specs.declared.frames.Carried.{Carried}
-use Rattle.written_operations.specs.declared.frames.Carrying.{Carrying}
 use Rattle.written_operations.specs.declared.signature.Role.{Role}
 use Rattle.written_operations.specs.declared.signature.Role.TheVariants as Roles
 use Rattle.written_operations.specs.declared.signature.Signature.{Signature}
@@ -36,20 +34,27 @@ use Rattle.written_operations.specs.Operations.{Defined, Requested, attribute, a
 use Rattle.written_operations.specs.Sound.{HasFrames}
 use Rattle.written_names.specs.Definitions.{call, getting, goes_in, goes_out, identifier_parts, is_role, operation_parts, param_name, reply_names, request_names, request_of, result_names, setting, setting_parts}
 use Rattle.written_names.specs.Types.{Part, part}
+use Rattle.written_names.proofs.Labelled.{domain}
 use Rattle.written_names.proofs.Making.{AreCalled, Between, Makes, Naming, between_on, each_makes, makes_at, makes_from, two_apart}
 use Rattle.written_names.proofs.Signs.{then_done}
-use Rattle.written_names.proofs.Stays.{IsAdded, IsMade, Stays, added_gives, added_long, added_stays, added_there, counted_same, not_made, placed_gives, placed_here, placed_stays, stays_none, stays_on}
+use Rattle.written_names.proofs.Stays.{IsAdded, IsMade, Stays, added_gives, added_long, added_stays, added_there, counted_same, frame_is_defined, not_made, placed_gives, placed_here, placed_stays, stays_none, stays_on}
 use Rattle.written_names.proofs.StaysSimple.{member_more, param_stays}
 
 -- ---- how much is carried
+
+abbrev Carried : Type 0
+Carried = domain with_carried
+
+abbrev Carrying : Type 0
+Carrying = domain (with_param [] 0)
 
 abbrev one_if : Bool → ℕ
 one_if b = cond b 1 0
 
 -- so much more of a request and of its reply
-record CarriesMore (c b : Carried) (request reply : ℕ) : Type 0 where
-  request : length b.request.numbers ≡ length c.request.numbers + request
-  reply : length b.reply.numbers ≡ length c.reply.numbers + reply
+record CarriesMore (c b : Carried) (sent back : ℕ) : Type 0 where
+  request : length b.request.numbers ≡ length c.request.numbers + sent
+  reply : length b.reply.numbers ≡ length c.reply.numbers + back
 
 carried_more : (c b : Carried) (d : Direction) (number line : ℕ) → with_carried c d number line ≡ Ok b → CarriesMore c b (one_if (goes_in d)) (one_if (goes_out d))
 carried_more c b In number line h =
@@ -67,9 +72,9 @@ carried_more c b InOut number line h =
     let same : both ≡ b = cc in
     subst (λ z. CarriesMore c z 1 1) same (record { request = member_more c.request ms number line adds; reply = member_more c.reply ns number line also })
 
-record Carries (m b : Carrying) (request reply : ℕ) : Type 0 where
+record Carries (m b : Carrying) (sent back : ℕ) : Type 0 where
   stays : Stays m.types b.types
-  more : CarriesMore m.carried b.carried request reply
+  more : CarriesMore m.carried b.carried sent back
 
 carries_on : (m k b : Carrying) (q r s t : ℕ) → Carries m k q r → Carries k b s t → Carries m b (q + s) (r + t)
 carries_on m k b q r s t one other =
@@ -125,7 +130,8 @@ result_carries es w scope line None c h =
     subst (λ z. Carries (carrying w nothing_carried) z 0 0) same (record { stays = stays_none w; more = record { request = omega arith; reply = omega arith } })
 result_carries es w scope line (Some t) c h =
     let (n, typed, h1) = then_done (param_type es w scope t) _ c h in
-    let (more, carries, told) = then_done (with_carried nothing_carried Out n.number line) _ c h1 in
+    let (more, carries, told) = then_done (with_carried nothing_carried Out n.number line)
+    (λ more. let r : Result Carrying BuildFault = Ok (carrying n.written more) in r) c h1 in
     let same : carrying n.written more ≡ c = cc in
     subst (λ z. Carries (carrying w nothing_carried) z 0 1) same (record {
       stays = param_stays es w scope t n typed;
@@ -191,7 +197,7 @@ frames_give w c line f h =
       stays = stays_on w a.written b.written (added_stays w sent a one) later;
       number = one.number;
       long = omega (arith, long, longer);
-      request = later.nodes a.number sent (added_there w sent a one) (λ is. cc);
+      request = later.nodes a.number sent (added_there w sent a one) (frame_is_defined c.request.numbers);
       reply = subst (λ k. slice_get b.written.nodes k ≡ Some back) next (added_there a.written back b two);
     })
 
@@ -204,8 +210,10 @@ call_between w b c f sent back h later named =
     record {
       late = (not_made w f.number (omega (arith, at)), (not_made w (f.number + 1) (omega (arith, at)), tt));
       made = (
-        (Frame c.request.numbers, later.nodes f.number (Frame c.request.numbers) h.request (λ is. cc), (λ is. cc), named.request),
-        ((Frame c.reply.numbers, later.nodes (f.number + 1) (Frame c.reply.numbers) h.reply (λ is. cc), (λ is. cc), named.reply), tt),
+        (Frame c.request.numbers, later.nodes f.number (Frame c.request.numbers) h.request (frame_is_defined c.request.numbers),
+            frame_is_defined c.request.numbers, named.request),
+        ((Frame c.reply.numbers, later.nodes (f.number + 1) (Frame c.reply.numbers) h.reply (frame_is_defined c.reply.numbers),
+            frame_is_defined c.reply.numbers, named.reply), tt),
       );
       apart = two_apart request reply (λ same. omega (arith, same));
     }
@@ -352,7 +360,8 @@ getting_makes d got c e false name raises number line b frames counted_as h =
     }
 getting_makes d got c e true name raises number line b frames counted_as h =
     let (r, sets, places) = then_done (with_set got.defined number raises e line) _ b h in
-    let (s, carries, calls) = then_done (with_carried nothing_carried In number line) _ r sets in
+    let (s, carries, calls) = then_done (with_carried nothing_carried In number line)
+    (λ s. with_call got.defined s false raises Roles.Setting e line) r sets in
     let place = place_gives r.defined b e (GotAndSet got.request) places in
     let f = already got.defined.types got.request in
     let g = already r.defined.types r.request in
@@ -390,7 +399,8 @@ identifier_makes es scope number a d b id h =
     let (set, setting_raises, h2) = then_done (raised es d.types scope (set_raises a)) _ b h1 in
     let (e, is, h3) = then_done (entry_of es scope id) _ b h2 in
     let (got, gets, sets) = then_done (with_get d number get e line) _ b h3 in
-    let (c, carries, calls) = then_done (with_carried nothing_carried Out number line) _ got gets in
+    let (c, carries, calls) = then_done (with_carried nothing_carried Out number line)
+    (λ c. with_call d c false get Roles.Getting e line) got gets in
     let frames = call_gives d c false get Roles.Getting e line got calls in
     makes_at (entry_of es scope id) e
     (λ x v ops ps. or_other (request_of ops x Roles.Getting) >> λ request. setting_parts ops x (word id) (is_set a) (ps ++ getting request)) d.types b.types is

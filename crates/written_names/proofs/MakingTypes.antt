@@ -42,7 +42,7 @@ use Rattle.written_names.specs.Types.{Part, cases_parts, declaration_parts, enum
 use Rattle.written_names.proofs.Labelled.{AreRead, Switch, case_more, labels_are_read, labels_in, union_names}
 use Rattle.written_names.proofs.Making.{HasNode, IsLate, Makes, Naming, between_one, makes_at, makes_back, makes_from, makes_none, makes_on, makes_to, silent}
 use Rattle.written_names.proofs.Signs.{then_done}
-use Rattle.written_names.proofs.Stays.{IsMade, Stays, added_gives, added_stays, added_there, already_stays, counted_same, most_is, named_gives, not_made, open_gives, placed_gives, placed_here, placed_stays, set_gives, set_stays, set_there, stays_none, stays_on, stays_same}
+use Rattle.written_names.proofs.Stays.{IsMade, Stays, added_gives, added_stays, added_there, already_stays, counted_same, frame_is_defined, most_is, named_gives, not_made, open_gives, placed_gives, placed_here, placed_stays, set_gives, set_stays, set_there, stays_none, stays_on, stays_same, union_is_defined}
 use Rattle.written_names.proofs.StaysSimple.{HasMore, array_stays, const_stays, declarators_more, simple_stays, typedefs_stay}
 
 -- ---- the parts of a node that an entry has
@@ -189,9 +189,6 @@ switch_makes es w scope line s r h =
 
 -- ---- types
 
-union_defined_now : (switch : ℕ) (arms : List (ℤ × ℕ)) (default : Option ℕ) → Union switch arms default ≡ undefined → ⊥
-union_defined_now switch arms default is = cc
-
 ok_same : (n m : Numbered) → (let r : Result Numbered BuildFault = Ok n in r) ≡ Ok m → n ≡ m
 ok_same n m h = cc
 
@@ -266,7 +263,7 @@ mutual
       let has : HaveNames node (length names) = union_names s.switch.number c.arms (length (names_of_cases rest)) body.most in
       let made = open_gives w e line o opens in
       let last = defined_made c.written m b (length c.arms.arms) line e o.number node (map arm_line c.arms.arms ++ default_lines c.arms.default) names counts sets
-      (whole.stays.places e (Typed o.number) made.place) (union_defined_now s.switch.number (map numbered_arm c.arms.arms) (default_number c.arms.default)) has in
+      (whole.stays.places e (Typed o.number) made.place) (union_is_defined s.switch.number (map numbered_arm c.arms.arms) (default_number c.arms.default)) has in
       let same = ok_same (already b o.number) n told in
       subst (λ z. Makes (λ v ops ps. union_parts es v scope ps (UnionType' id switch p labels t d shape rest)) w z.written) same
       (makes_at (entry_of es scope id) e
@@ -339,7 +336,7 @@ except_makes es w scope x b h =
     (stays_on c a.written v (added_stays c (Frame numbers) a added_as) (placed_stays a.written v e place placed_as)) in
     let there = ap (λ graph. slice_get graph a.number) placed_as.nodes ∙ added_there c (Frame numbers) a added_as in
     let last = one_made own m.written v (part a.number names) stays (not_made m.written a.number (omega (arith, number, counted_long)))
-    (Frame numbers, there, (λ same. cc), long)
+    (Frame numbers, there, frame_is_defined numbers, long)
     (λ u ops ps later. raising_told u e a.number (length a.written.exceptions) names ps (later.places e place (placed_here a.written v e place placed_as))) in
     let same : record v { exceptions = v.exceptions ++ (e, a.number) ∷ [] } ≡ b = cc in
     makes_at (entry_of es scope x.identifier) e (λ k u ops ps. raising u k names ps >> λ own. each (member_parts es u (k + 1)) own xs) w b is

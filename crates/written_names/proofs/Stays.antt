@@ -1,11 +1,11 @@
 -- What is written stays so: nodes that have their definitions, and what entries have.
-use Rattle.std.proofs.Common.{◌≡◌, ◌∙◌, ◌⊎◌, inl, inr, ℕ, ◌+◌, ◌≤◌, le_refl, List, [], ◌∷◌, ◌++◌, length, length-append, Option, Some, None, Result, Ok, Err, refl, sym, ap, subst, arith}
+use Rattle.std.proofs.Common.{◌≡◌, ◌∙◌, ◌⊎◌, inl, inr, ℕ, ◌+◌, ◌≤◌, le_refl, List, [], ◌∷◌, ◌++◌, length, length-append, Option, Some, None, Result, Ok, Err, refl, sym, ap, subst, arith, ℤ}
 use Rattle.std.specs.Prelude.{if◌then◌else◌, slice_get, slice_set}
 use Rattle.std.proofs.lemmas.Option.{slice_get_within}
 use Rattle.type_graph.specs.declared.fault.GraphLimit.{GraphLimit}
 use Rattle.type_graph.specs.declared.fault.GraphLimit.TheVariants.{Nodes, AllMembers}
 use Rattle.type_graph.specs.declared.node.Node.{Node}
-use Rattle.type_graph.specs.declared.node.Node.TheVariants.{Struct}
+use Rattle.type_graph.specs.declared.node.Node.TheVariants.{Frame, Struct, Union}
 use Rattle.name_table.proofs.Stability.{get_push_last}
 use Rattle.type_paths.specs.Lines.{Lines}
 use Rattle.written_types.specs.declared.fault.BuildFault.{BuildFault}
@@ -52,6 +52,13 @@ made_stays w v n stays (node, is, defined) = (node, stays.nodes n node is define
 pub already_stays : (w : Written) (k : ℕ) (n : Numbered) → (let r : Result Numbered BuildFault = Ok (already w k) in r) ≡ Ok n
     → Stays w n.written
 already_stays w k n h = let same : already w k ≡ n = cc in subst (λ m. Stays w m.written) same (stays_none w)
+
+-- nodes of other kinds don't wait
+pub union_is_defined : (switch : ℕ) (arms : List (ℤ × ℕ)) (default : Option ℕ) → Union switch arms default ≡ undefined → ⊥
+union_is_defined switch arms default is = cc
+
+pub frame_is_defined : (members : List ℕ) → Frame members ≡ undefined → ⊥
+frame_is_defined members is = cc
 
 -- ---- a node more
 
