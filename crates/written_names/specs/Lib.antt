@@ -2,5 +2,7 @@
 pub mod Types
 pub mod Definitions
 pub mod Named
+pub mod OneForOne
+pub mod ByNode
 pub mod Apart
 pub mod Signed
