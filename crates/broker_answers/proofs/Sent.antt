@@ -24,8 +24,8 @@ use Rattle.giop_messages.specs.Headers.{here_number, here_tree, reply_tree, numb
 use Rattle.giop_messages.specs.Messages.{Asked, body_after}
 use Rattle.giop_messages.specs.Written.{Given, IsBody, IsWritten, body_gap, head_octets}
 use Rattle.giop_messages.proofs.OneWritten.{tape_written_once}
-use Rattle.giop_writing.specs.Refusal.{IsRefused}
-use Rattle.giop_writing.proofs.MadeFacts.{length-head_octets}
+use Rattle.giop.specs.Refusal.{IsNotWritten}
+use Rattle.giop.proofs.MadeFacts.{length-head_octets}
 use Rattle.broker_answers.specs.declared.exception.SystemException.{SystemException}
 use Rattle.broker_answers.specs.declared.exception.SystemException.TheVariants as raised
 use Rattle.broker_answers.specs.Exceptions.{completion, exception_id, exception_tape}
@@ -64,7 +64,7 @@ written_once order kind node value body x y rules a b =
 
 pub unsendable : (fault : GiopFault) (asked : Asked) (reply : Reply) → (fault ≡ faults.NoMemory → ⊥)
     → ((given : Given) → reply.body ≡ Some given → IsGraph given.graph)
-    → IsRefused fault asked.order 1 19 (reply_tree asked.id (number_of reply.status) NoTree) reply.body
+    → IsNotWritten fault asked.order 1 19 (reply_tree asked.id (number_of reply.status) NoTree) reply.body
     → IsUnsendable asked reply
 unsendable faults.NoMemory asked reply other rules h = absurd (other refl)
 unsendable faults.TooLong asked reply other rules h = λ octets s.
@@ -236,14 +236,14 @@ none_given a e = absurd (cc)
 
 pub body_unsendable : (fault : GiopFault) (asked : Asked) (status : ReplyStatus) (body : Given)
     → (fault ≡ faults.NoMemory → ⊥) → IsGraph body.graph
-    → IsRefused fault asked.order 1 19 (reply_tree asked.id (number_of status) NoTree) (Some body)
+    → IsNotWritten fault asked.order 1 19 (reply_tree asked.id (number_of status) NoTree) (Some body)
     → IsUnsendable asked (record { status = status; body = Some body })
 body_unsendable fault asked status body other rules h =
     unsendable fault asked (record { status = status; body = Some body }) other
     (λ there e. subst (λ (g : Given). IsGraph g.graph) (some_given body there e) rules) h
 
 pub acceptance_isnt_refused : (fault : GiopFault) (asked : Asked) → (fault ≡ faults.NoMemory → ⊥) → asked.id < 2 ^ 32
-    → IsRefused fault asked.order 1 19 (reply_tree asked.id 0 NoTree) None → ⊥
+    → IsNotWritten fault asked.order 1 19 (reply_tree asked.id 0 NoTree) None → ⊥
 acceptance_isnt_refused fault asked other id h =
     acceptance_there asked id
     (unsendable fault asked acceptance other (λ there e. absurd (none_given there e)) h)
@@ -252,7 +252,7 @@ acceptance_isnt_refused fault asked other id h =
 
 isnt_refused : (fault : GiopFault) (order : Order) (kind node : ℕ) (value : Tree) (octets : List ℕ)
     → (fault ≡ faults.NoMemory → ⊥) → IsWritten order kind node value None octets → length octets ≤ 12 + max_size
-    → IsRefused fault order kind node value None → ⊥
+    → IsNotWritten fault order kind node value None → ⊥
 isnt_refused faults.NoMemory order kind node value octets other written short h = other refl
 isnt_refused faults.TooLong order kind node value octets other written short h =
     let same = written_once order kind node value None octets h.octets (λ there e. absurd (none_given there e)) written h.is in
@@ -268,7 +268,7 @@ here_below true = omega arith
 here_below false = omega arith
 
 pub locate_isnt_refused : (fault : GiopFault) (order : Order) (id : ℕ) (here : Bool) → (fault ≡ faults.NoMemory → ⊥)
-    → id < 2 ^ 32 → IsRefused fault order 4 21 (here_tree id (here_number here)) None → ⊥
+    → id < 2 ^ 32 → IsNotWritten fault order 4 21 (here_tree id (here_number here)) None → ⊥
 locate_isnt_refused fault order id here other below h =
     let value = here_tree id (here_number here) in
     let fits : Fits giop_nodes (node_at giop_nodes 21) value 64 = (below, (here_below here, tt)) in

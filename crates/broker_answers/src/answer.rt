@@ -16,13 +16,13 @@ use crate::reply::{send_acceptance, send_exception, send_truth};
 use crate::servant::{Outcome, Servant};
 use crate::service::Service;
 use crate::wanted::{Wanted, wish};
-use giop_messages::Request;
+use giop::Request;
 use std::alloc::{AllocError, Global};
 use type_model::Operation;
 
 impl Service {
     /// The answer that nothing can be done.
-    fn refuse(
+    fn refuse_request(
         &self,
         alloc: Global,
         request: &Request<'_>,
@@ -32,7 +32,7 @@ impl Service {
     {
         match wish(request.flags) {
             Wanted::AllOfIt | Wanted::Acceptance => {
-                send_exception(&self.types, alloc, request, exception)
+                send_exception(&self.giop, alloc, request, exception)
             }
             Wanted::Silence => Ok(Vec::new(alloc)),
         }
@@ -43,8 +43,8 @@ impl Service {
         ensures { IfOk result (λ octets. (says : Call → Said) → IsAnswered self.now (asked_of request.now) (Tells truth) says octets.items) }
     {
         match wish(request.flags) {
-            Wanted::AllOfIt => send_truth(&self.types, alloc, request, truth),
-            Wanted::Acceptance => send_acceptance(&self.types, alloc, request),
+            Wanted::AllOfIt => send_truth(&self.giop, alloc, request, truth),
+            Wanted::Acceptance => send_acceptance(&self.giop, alloc, request),
             Wanted::Silence => Ok(Vec::new(alloc)),
         }
     }
@@ -64,7 +64,7 @@ impl Service {
     {
         match wish(request.flags) {
             Wanted::AllOfIt => reply_to(
-                &self.types,
+                &self.giop,
                 alloc,
                 request,
                 &self.accepted,
@@ -72,7 +72,7 @@ impl Service {
                 operation,
                 outcome,
             ),
-            Wanted::Acceptance => send_acceptance(&self.types, alloc, request),
+            Wanted::Acceptance => send_acceptance(&self.giop, alloc, request),
             Wanted::Silence => Ok(Vec::new(alloc)),
         }
     }
@@ -115,7 +115,7 @@ impl Service {
         ensures given_up { OnErr result (MayMove (acts S.says S.after) self.now (asked_of request.now) servant.old servant.new) }
     {
         match self.find(alloc, request)? {
-            Finding::Refuses(exception) => self.refuse(alloc, request, exception),
+            Finding::Refuses(exception) => self.refuse_request(alloc, request, exception),
             Finding::Tells(truth) => self.tell(alloc, request, truth),
             Finding::Calls {
                 object,

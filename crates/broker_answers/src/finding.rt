@@ -9,8 +9,8 @@ ghost use Rattle.broker_answers.specs.FindingSteps.{HasId, IsCallAsked, IsTypeAs
 
 use crate::exception::SystemException;
 use crate::objects::is_a;
-use giop_messages::Request;
-use giop_types::{GiopTypes, ID_ARGUMENT, split_octets};
+use giop::{Giop, Request};
+use giop_types::{ID_ARGUMENT, split_octets};
 use position_checker::Accepted;
 use program_runner::RunFault;
 use std::alloc::{AllocError, Global};
@@ -79,14 +79,14 @@ fn has_type(interface: &Interface, request: &Request<'_>, tape: &[u8]) -> bool
 /// What `_is_a` asks of an object with this interface.
 #[tactic(auto, using(crate::proofs::Readings::id_named))]
 pub(crate) fn type_asked(
-    types: &GiopTypes,
+    giop: &Giop,
     alloc: Global,
     interface: &Interface,
     request: &Request<'_>,
 ) -> Result<Finding, AllocError>
     ensures { IfOk result (λ f. IsTypeAsked interface.now (asked_of request.now) (finding_of f)) }
 {
-    match read_body(alloc, types.table(), ID_ARGUMENT, request)? {
+    match read_body(alloc, giop.table(), ID_ARGUMENT, request)? {
         Some(tape) => Ok(Finding::Tells(has_type(interface, request, tape.as_slice()))),
         None => Ok(Finding::Refuses(SystemException::Marshal)),
     }

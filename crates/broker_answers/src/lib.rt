@@ -17,4 +17,4 @@ mod wanted;
 pub use exception::SystemException;
 pub use servant::{Outcome, Servant};
 pub use service::Service;
-pub use serving::{Answer, refuse};
+pub use serving::Answer;

@@ -7,8 +7,7 @@ ghost use Rattle.broker_answers.specs.Serving.{AnswersItem, IsLocated, MovesItem
 
 use crate::servant::Servant;
 use crate::service::Service;
-use giop_messages::{GiopFault, Locate, Message};
-use giop_writing::{write_locate_reply, write_message_error};
+use giop::{GiopFault, Locate, Message};
 use std::alloc::{AllocError, Global};
 
 /// The number of a locate request, which its reply repeats.
@@ -27,7 +26,10 @@ impl Service {
         // its size, which a proof needs
         let _id = number(locate);
         let here = self.object_with(&locate.key).is_some();
-        match write_locate_reply(&self.types, alloc, locate.order, locate.id, here) {
+        match self
+            .giop
+            .write_locate_reply(alloc, locate.order, locate.id, here)
+        {
             Ok(octets) => Ok(octets),
             Err(fault) => match fault {
                 GiopFault::NoMemory => Err(AllocError),
@@ -53,7 +55,7 @@ impl Service {
         match message {
             Message::Request(request) => self.answer_request(alloc, servant, request),
             Message::Locate(locate) => self.locate(alloc, locate),
-            Message::Reply(_) => write_message_error(alloc),
+            Message::Reply(_) => self.giop.write_message_error(alloc),
             Message::Cancel(_) | Message::Bye | Message::PeerError => Ok(Vec::new(alloc)),
         }
     }

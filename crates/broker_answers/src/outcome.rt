@@ -12,15 +12,15 @@ ghost use Rattle.broker_answers.specs.Servants.{said_of};
 use crate::exception::SystemException;
 use crate::reply::{send, send_exception};
 use crate::servant::Outcome;
-use giop_messages::{ReplyStatus, Request};
-use giop_types::{GiopTypes, TapeFault, push_octets};
+use giop::{Giop, ReplyStatus, Request};
+use giop_types::{TapeFault, push_octets};
 use position_checker::Accepted;
 use std::alloc::{AllocError, Global};
 use type_model::{Exception, Model, Operation};
 
 /// A reply with this body, or else the exception that tells that there is none.
 fn try_send(
-    types: &GiopTypes,
+    giop: &Giop,
     alloc: Global,
     request: &Request<'_>,
     status: ReplyStatus,
@@ -31,9 +31,9 @@ fn try_send(
     requires { IsNamed accepted.now.model.names node }
     ensures { IfOk result (λ octets. IsTried (asked_of request.now) (reply_of status accepted.now.model.graph node tape.now) octets.items) }
 {
-    match send(types, alloc, request, status, accepted, node, tape)? {
+    match send(giop, alloc, request, status, accepted, node, tape)? {
         Some(octets) => Ok(octets),
-        None => send_exception(types, alloc, request, SystemException::Internal),
+        None => send_exception(giop, alloc, request, SystemException::Internal),
     }
 }
 
@@ -92,7 +92,7 @@ fn exception_tape(
 
 /// The reply that an exception was raised.
 fn throw(
-    types: &GiopTypes,
+    giop: &Giop,
     alloc: Global,
     request: &Request<'_>,
     accepted: &Accepted,
@@ -104,7 +104,7 @@ fn throw(
 {
     match exception_tape(alloc, exception, members) {
         Ok(tape) => try_send(
-            types,
+            giop,
             alloc,
             request,
             ReplyStatus::UserException,
@@ -114,14 +114,14 @@ fn throw(
         ),
         Err(fault) => match fault {
             TapeFault::NoMemory => Err(AllocError),
-            _ => send_exception(types, alloc, request, SystemException::Internal),
+            _ => send_exception(giop, alloc, request, SystemException::Internal),
         },
     }
 }
 
 /// The reply that a call was done, with what it gave.
 fn succeed(
-    types: &GiopTypes,
+    giop: &Giop,
     alloc: Global,
     request: &Request<'_>,
     accepted: &Accepted,
@@ -136,7 +136,7 @@ fn succeed(
     let _model = accepted.table().model();
     let status = ReplyStatus::NoException;
     try_send(
-        types,
+        giop,
         alloc,
         request,
         status,
@@ -149,7 +149,7 @@ fn succeed(
 /// The reply that the exception at a place of the operation's list was raised.
 #[tactic(auto, using(crate::proofs::Lookups::thrown_named))]
 fn raise(
-    types: &GiopTypes,
+    giop: &Giop,
     alloc: Global,
     request: &Request<'_>,
     accepted: &Accepted,
@@ -163,14 +163,14 @@ fn raise(
 {
     let model = accepted.table().model();
     match exception_at(model, number, operation, place) {
-        Some(exception) => throw(types, alloc, request, accepted, exception, members),
-        None => send_exception(types, alloc, request, SystemException::Unknown),
+        Some(exception) => throw(giop, alloc, request, accepted, exception, members),
+        None => send_exception(giop, alloc, request, SystemException::Unknown),
     }
 }
 
 /// The reply to what the servant says to a call of an operation.
 pub(crate) fn reply_to(
-    types: &GiopTypes,
+    giop: &Giop,
     alloc: Global,
     request: &Request<'_>,
     accepted: &Accepted,
@@ -183,7 +183,7 @@ pub(crate) fn reply_to(
 {
     match outcome {
         Outcome::Done(tape) => succeed(
-            types,
+            giop,
             alloc,
             request,
             accepted,
@@ -192,7 +192,7 @@ pub(crate) fn reply_to(
             tape.as_slice(),
         ),
         Outcome::Raised(place, members) => raise(
-            types,
+            giop,
             alloc,
             request,
             accepted,
@@ -202,7 +202,7 @@ pub(crate) fn reply_to(
             members.as_slice(),
         ),
         Outcome::NoImplement => {
-            send_exception(types, alloc, request, SystemException::NoImplement)
+            send_exception(giop, alloc, request, SystemException::NoImplement)
         }
     }
 }

@@ -12,15 +12,14 @@ ghost use Rattle.broker_answers.specs.Replies.{IsSent, IsUnsendable, acceptance,
 ghost use Rattle.broker_answers.specs.Sending.{IsSending};
 
 use crate::exception::SystemException;
-use giop_messages::{GiopFault, ReplyStatus, Request};
-use giop_types::{BOOLEAN_RESULT, GiopTypes, SYSTEM_EXCEPTION};
-use giop_writing::write_reply;
+use giop::{Giop, GiopFault, ReplyStatus, Request};
+use giop_types::{BOOLEAN_RESULT, SYSTEM_EXCEPTION};
 use position_checker::Accepted;
 use std::alloc::{AllocError, Global};
 
 /// The octets of a reply to a request, if the tape is one of the node and they aren't too many.
 pub(crate) fn send(
-    types: &GiopTypes,
+    giop: &Giop,
     alloc: Global,
     request: &Request<'_>,
     status: ReplyStatus,
@@ -31,10 +30,10 @@ pub(crate) fn send(
     requires { IsNamed accepted.now.model.names node }
     ensures { IfOk result (λ sent. IsSending (asked_of request.now) (reply_of status accepted.now.model.graph node tape.now) (option_map (λ o. o.items) sent)) }
 {
-    // the rules of the types, which a proof needs
+    // the rules of the giop, which a proof needs
     let _model = accepted.table().model();
     let body = Some((accepted, node, tape));
-    match write_reply(types, alloc, request.order, request.id, status, body) {
+    match giop.write_reply(alloc, request.order, request.id, status, body) {
         Ok(octets) => Ok(Some(octets)),
         Err(fault) => match fault {
             GiopFault::NoMemory => Err(AllocError),
@@ -53,7 +52,7 @@ fn number(request: &Request<'_>) -> u32
 
 /// A reply whose body is of the types of GIOP, and which can be sent.
 fn send_own(
-    types: &GiopTypes,
+    giop: &Giop,
     alloc: Global,
     request: &Request<'_>,
     status: ReplyStatus,
@@ -64,7 +63,7 @@ fn send_own(
     requires sendable { IsUnsendable (asked_of request.now) (reply_of status giop_nodes node tape.now) → ⊥ }
     ensures { IfOk result (λ octets. IsSent (asked_of request.now) (reply_of status giop_nodes node tape.now) octets.items) }
 {
-    match send(types, alloc, request, status, types.table(), node, tape)? {
+    match send(giop, alloc, request, status, giop.table(), node, tape)? {
         Some(octets) => Ok(octets),
         None => unreachable!(),
     }
@@ -72,7 +71,7 @@ fn send_own(
 
 /// The reply that a system exception was raised.
 pub(crate) fn send_exception(
-    types: &GiopTypes,
+    giop: &Giop,
     alloc: Global,
     request: &Request<'_>,
     exception: SystemException,
@@ -83,7 +82,7 @@ pub(crate) fn send_exception(
     let _id = number(request);
     let tape = exception.tape(alloc)?;
     send_own(
-        types,
+        giop,
         alloc,
         request,
         ReplyStatus::SystemException,
@@ -101,7 +100,7 @@ fn truth_tape(truth: bool) -> [u8; 1]
 
 /// The reply to `_is_a` or `_non_existent`.
 pub(crate) fn send_truth(
-    types: &GiopTypes,
+    giop: &Giop,
     alloc: Global,
     request: &Request<'_>,
     truth: bool,
@@ -112,7 +111,7 @@ pub(crate) fn send_truth(
     let _id = number(request);
     let tape = truth_tape(truth);
     send_own(
-        types,
+        giop,
         alloc,
         request,
         ReplyStatus::NoException,
@@ -123,7 +122,7 @@ pub(crate) fn send_truth(
 
 /// The reply that a call was made, and nothing more.
 pub(crate) fn send_acceptance(
-    types: &GiopTypes,
+    giop: &Giop,
     alloc: Global,
     request: &Request<'_>,
 ) -> Result<Vec<u8>, AllocError>
@@ -131,8 +130,7 @@ pub(crate) fn send_acceptance(
 {
     // its size, which a proof needs
     let _id = number(request);
-    match write_reply(
-        types,
+    match giop.write_reply(
         alloc,
         request.order,
         request.id,

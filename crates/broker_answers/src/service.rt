@@ -9,8 +9,7 @@ ghost use Rattle.broker_answers.specs.Objects.{AreServed, interface_of, object_w
 use crate::exception::SystemException;
 use crate::finding::{Finding, call_asked, is_called, type_asked};
 use crate::objects::{Object, object_with, operation_named};
-use giop_messages::Request;
-use giop_types::GiopTypes;
+use giop::{Giop, Request};
 use position_checker::Accepted;
 use std::alloc::{AllocError, Global};
 use std::marker::Model;
@@ -20,7 +19,7 @@ use type_model::Interface;
 /// model of these, and each object's key with the place of its interface.
 #[derive(Drop)]
 pub struct Service {
-    pub(crate) types: GiopTypes,
+    pub(crate) giop: Giop,
     pub(crate) accepted: Accepted,
     objects: Vec<Object>,
 }
@@ -35,17 +34,17 @@ impl Model for Service {
 
     ghost view = { λ s. served s.accepted.model (objects_of s.objects.items) };
 
-    ghost invariant = { λ s. (s.types ≡ giop_table) × IsModel s.accepted.model × AreServed s.accepted.model (objects_of s.objects.items) };
+    ghost invariant = { λ s. (s.giop ≡ giop_table) × IsModel s.accepted.model × AreServed s.accepted.model (objects_of s.objects.items) };
 }
 
 impl Service {
     /// These objects of accepted types. Takes no memory.
-    pub fn new(types: GiopTypes, accepted: Accepted, objects: Vec<(Vec<u8>, u32)>) -> Service
+    pub fn new(giop: Giop, accepted: Accepted, objects: Vec<(Vec<u8>, u32)>) -> Service
         requires { AreServed accepted.model (objects_of objects.items) }
         ensures { result ≡ served accepted.model (objects_of objects.items) }
     {
         Service {
-            types,
+            giop,
             accepted,
             objects,
         }
@@ -106,7 +105,7 @@ impl Service {
         ensures { IfOk result (λ f. Finds self.now (asked_of request.now) (finding_of f)) }
     {
         if is_called(request, "_is_a") {
-            return type_asked(&self.types, alloc, interface, request);
+            return type_asked(&self.giop, alloc, interface, request);
         }
         if is_called(request, "_non_existent") {
             return Ok(Finding::Tells(false));

@@ -9,10 +9,8 @@ ghost use Rattle.broker_answers.specs.Serving.{ServesRaw, closes as closes_item,
 
 use crate::servant::Servant;
 use crate::service::Service;
+use giop::Message;
 use giop_framing::Head;
-use giop_messages::Message;
-use giop_reading::read_whole;
-use giop_writing::write_message_error;
 use std::alloc::{AllocError, Global};
 
 /// The answer to a message, and whether the connection is closed then.
@@ -32,24 +30,24 @@ fn closes(message: &Message<'_>) -> bool
     }
 }
 
-/// The answer to what is no message.
-///
-/// # Errors
-/// Want of memory.
-pub fn refuse(alloc: Global) -> Result<Answer, AllocError>
-    ensures octets { IfOk result (λ answer. answer.octets.items ≡ message_error) }
-    ensures closes { IfOk result (λ answer. answer.closes ≡ true) }
-{
-    match write_message_error(alloc) {
-        Ok(octets) => Ok(Answer {
-            octets,
-            closes: true,
-        }),
-        Err(error) => Err(error),
-    }
-}
-
 impl Service {
+    /// The answer to what is no message.
+    ///
+    /// # Errors
+    /// Want of memory.
+    pub fn refuse(&self, alloc: Global) -> Result<Answer, AllocError>
+        ensures octets { IfOk result (λ answer. answer.octets.items ≡ message_error) }
+        ensures closes { IfOk result (λ answer. answer.closes ≡ true) }
+    {
+        match self.giop.write_message_error(alloc) {
+            Ok(octets) => Ok(Answer {
+                octets,
+                closes: true,
+            }),
+            Err(error) => Err(error),
+        }
+    }
+
     /// The answer to the octets of a whole message, whose head this is.
     ///
     /// # Errors
@@ -67,9 +65,9 @@ impl Service {
         ensures served { IfOk result (λ answer. ServesRaw (acts S.says S.after) self.now (Some octets.now) servant.old answer.octets.items answer.closes servant.new) }
         ensures given_up { OnErr result (MayMoveRaw (acts S.says S.after) self.now (Some octets.now) servant.old servant.new) }
     {
-        let message = match read_whole(&self.types, alloc, head, octets) {
+        let message = match self.giop.read_whole(alloc, head, octets) {
             Ok(Some(message)) => message,
-            Ok(None) => return refuse(alloc),
+            Ok(None) => return self.refuse(alloc),
             Err(error) => return Err(error),
         };
         let closes = closes(&message);

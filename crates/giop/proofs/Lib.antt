@@ -1,3 +1,15 @@
+pub mod Bodies
+pub mod Contents
 pub mod EmptyTapes
 pub mod Frames
+pub mod HeaderParts
+pub mod HeaderSplits
+pub mod HeaderTapes
+pub mod MadeFacts
+pub mod Places
+pub mod ProfileParts
+pub mod Refusals
 pub mod RoundTrips
+pub mod TargetSplits
+pub mod Targets
+pub mod Told

@@ -23,7 +23,7 @@ use Rattle.giop_messages.specs.declared.message.ReplyStatus.{ReplyStatus}
 use Rattle.giop_messages.specs.Headers.{ByKey, key_target, number_of, reply_tree, request_tree}
 use Rattle.giop_messages.specs.Messages.{HasHeader, body_after}
 use Rattle.giop_messages.specs.Written.{Given, IsBody, IsGiven, IsWritten, body_gap, head_octets}
-use Rattle.giop_writing.proofs.MadeFacts.{length-head_octets, length_made}
+use Rattle.giop.proofs.MadeFacts.{length-head_octets, length_made}
 use Rattle.giop.specs.RoundTrips.{HoldsBody, HoldsTape, IsEmpty, SaysReply, SaysRequest}
 use Rattle.giop.proofs.EmptyTapes.{none_meant}
 

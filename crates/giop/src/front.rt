@@ -1,16 +1,15 @@
 //! What stands at the front of a stream.
 
-ghost use Rattle.std.specs.Prelude.{◌≡◌, ◌≤◌, false, true, length, take, not, option_map, IfOk, IfErr, IfSome, IfNone};
+ghost use Rattle.std.specs.Prelude.{◌≡◌, ◌≤◌, length, option_map, None, IfOk, IfErr};
 ghost use Rattle.giop_framing.specs.Framing.{id_in, is_fragment};
 ghost use Rattle.giop_framing.specs.Heads.{number_in};
 ghost use Rattle.giop_framing.specs.Runs.{IsFrame, IsMessage};
 ghost use Rattle.giop.specs.Fronts.{IsFound, IsRefused, numbered};
 
+use crate::giop_calls::Giop;
 use byteorder::{BigEndian, ByteOrder, LittleEndian};
 use giop_framing::{Frame, HEAD_LEN, Run, frame_in};
 use giop_messages::{GiopFault, Message};
-use giop_reading::read_whole;
-use giop_types::GiopTypes;
 use std::alloc::Global;
 use type_graph::Order;
 
@@ -50,50 +49,69 @@ fn id_of(order: Order, piece: &[u8]) -> u32
     }
 }
 
-/// A message, or a piece of one.
-fn read_frame<'b>(
-    types: &GiopTypes,
-    alloc: Global,
-    run: Option<&Run>,
-    frame: &Frame,
-    octets: &'b [u8],
-) -> Result<Front<'b>, GiopFault>
-    requires { IsFrame (option_map (λ r. r.now) run) octets.now frame.now }
-    ensures found { IfOk result (λ front. IsFound (option_map (λ r. r.now) run.entry) octets.now front) }
-    ensures refused { IfErr result (λ fault. IsRefused (option_map (λ r. r.now) run.entry) octets.now fault) }
-{
-    let piece = octets.split_at(frame.len).0;
-    let is_fragment = frame.head.is_fragment();
-    if is_fragment || frame.head.goes_on {
-        return Ok(Front::Part {
-            id: id_of(frame.head.order, piece),
-            first: !is_fragment,
-            last: !frame.head.goes_on,
-            taken: frame.len,
-        });
+impl Giop {
+    /// A message, or a piece of one.
+    fn read_frame<'b>(
+        &self,
+        alloc: Global,
+        run: Option<&Run>,
+        frame: &Frame,
+        octets: &'b [u8],
+    ) -> Result<Front<'b>, GiopFault>
+        requires { IsFrame (option_map (λ r. r.now) run) octets.now frame.now }
+        ensures found { IfOk result (λ front. IsFound (option_map (λ r. r.now) run.entry) octets.now front) }
+        ensures refused { IfErr result (λ fault. IsRefused (option_map (λ r. r.now) run.entry) octets.now fault) }
+    {
+        let piece = octets.split_at(frame.len).0;
+        let is_fragment = frame.head.is_fragment();
+        if is_fragment || frame.head.goes_on {
+            return Ok(Front::Part {
+                id: id_of(frame.head.order, piece),
+                first: !is_fragment,
+                last: !frame.head.goes_on,
+                taken: frame.len,
+            });
+        }
+        match self.read_whole(alloc, &frame.head, piece)? {
+            Some(message) => Ok(Front::Whole {
+                message,
+                taken: frame.len,
+            }),
+            None => Err(GiopFault::BadHead),
+        }
     }
-    match read_whole(types, alloc, &frame.head, piece)? {
-        Some(message) => Ok(Front::Whole {
-            message,
-            taken: frame.len,
-        }),
-        None => Err(GiopFault::BadHead),
-    }
-}
 
-/// What stands at the front of a stream, while a run may be open.
-pub(crate) fn front_of<'b>(
-    types: &GiopTypes,
-    alloc: Global,
-    run: Option<&Run>,
-    octets: &'b [u8],
-) -> Result<Front<'b>, GiopFault>
-    ensures found { IfOk result (λ front. IsFound (option_map (λ r. r.now) run.entry) octets.now front) }
-    ensures refused { IfErr result (λ fault. IsRefused (option_map (λ r. r.now) run.entry) octets.now fault) }
-{
-    match frame_in(run, octets) {
-        Ok(Some(frame)) => read_frame(types, alloc, run, &frame, octets),
-        Ok(None) => Ok(Front::More),
-        Err(fault) => Err(GiopFault::from(fault)),
+    /// What stands at the front of a stream.
+    ///
+    /// # Errors
+    /// As `read_message_in`.
+    pub fn read_message<'b>(&self, alloc: Global, octets: &'b [u8]) -> Result<Front<'b>, GiopFault>
+        ensures found { IfOk result (λ front. IsFound None octets.now front) }
+        ensures refused { IfErr result (λ fault. IsRefused None octets.now fault) }
+    {
+        self.read_message_in(alloc, None, octets)
+    }
+
+    /// What stands at the front of a stream while a run of fragments may be open. A piece is to
+    /// be given to `Run::begin` where it is the first, else to `Run::add`.
+    ///
+    /// # Errors
+    /// What is wrong with the head at the front, as soon as its 12 octets are there: `NotGiop`,
+    /// `Version`, `TooLong`, `BadHead`, then `BadFragment` where a rule of fragments is broken.
+    /// `BadHead` also where a whole message says nothing. Want of memory.
+    pub fn read_message_in<'b>(
+        &self,
+        alloc: Global,
+        run: Option<&Run>,
+        octets: &'b [u8],
+    ) -> Result<Front<'b>, GiopFault>
+        ensures found { IfOk result (λ front. IsFound (option_map (λ r. r.now) run.entry) octets.now front) }
+        ensures refused { IfErr result (λ fault. IsRefused (option_map (λ r. r.now) run.entry) octets.now fault) }
+    {
+        match frame_in(run, octets) {
+            Ok(Some(frame)) => self.read_frame(alloc, run, &frame, octets),
+            Ok(None) => Ok(Front::More),
+            Err(fault) => Err(GiopFault::from(fault)),
+        }
     }
 }

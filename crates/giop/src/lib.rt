@@ -3,12 +3,15 @@
 #![tactic(auto)]
 
 mod front;
+mod gap;
 mod giop_calls;
 pub mod laws;
+mod reading;
+mod writing;
 
 pub use front::Front;
 pub use giop_calls::Giop;
 pub use giop_framing::Run;
 pub use giop_messages::{GiopFault, Locate, Message, Reply, ReplyStatus, Request};
-pub use giop_writing::Body;
 pub use object_references::{Ior, ReferenceFault};
+pub use writing::body::Body;

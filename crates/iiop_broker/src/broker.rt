@@ -53,7 +53,7 @@ impl<S: Servant> Broker<S> {
     {
         Broker {
             alloc,
-            service: Service::new(giop.into_types(), accepted, objects),
+            service: Service::new(giop, accepted, objects),
             servant,
             connections: Vec::new(alloc),
         }

@@ -9,7 +9,7 @@ ghost use Rattle.iiop_broker.specs.Progress.{Stopped};
 ghost use Rattle.iiop_broker.specs.Turns.{IsServedTurn, IsTurnOf, IsTurned};
 
 use crate::taking::{Taken, take_front};
-use broker_answers::{Answer, Servant, Service, refuse};
+use broker_answers::{Answer, Servant, Service};
 use giop_framing::{Head, Run};
 use std::alloc::{AllocError, Global};
 
@@ -99,7 +99,7 @@ pub(crate) fn serve_front<S: Servant>(
     };
     match taken {
         Taken::Nothing(run) => Ok(Turn::Waits(run)),
-        Taken::Broken(_) => match refuse(alloc) {
+        Taken::Broken(_) => match service.refuse(alloc) {
             Ok(answer) => Ok(Turn::Ends(answer.octets)),
             Err(error) => Err(error),
         },

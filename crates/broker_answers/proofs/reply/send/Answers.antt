@@ -2,7 +2,7 @@ use Rattle.std.proofs.Common.{subst}
 use Rattle.type_graph.specs.GraphRules.{IsGraph}
 use Rattle.table_file.specs.Table.{TableParts}
 use Rattle.giop_messages.specs.Messages.{asked_of}
-use Rattle.giop_writing.specs.Made.{given}
+use Rattle.giop.specs.Made.{given}
 use Rattle.broker_answers.proofs.Sent.{body_unsendable}
 use Rattle.broker_answers.proofs.reply.send.Goals as goal
 

@@ -17,9 +17,9 @@ returns-in-Refuses-clause-answered g c =
     let finding = Refuses c.in-Refuses.exception in
     let says = g.S.Servant.says c.args.servant.now in
     let finds = subst (λ f. Finds self asked (finding_of f)) c.in-Refuses.is c.in_ok-exception.ensures in
-    if_ok c.refuse.result (λ octets. (says : Call → Said) → IsAnswered self asked finding says octets.items)
+    if_ok c.refuse_request.result (λ octets. (says : Call → Said) → IsAnswered self asked finding says octets.items)
     (λ octets. AnswersRequest self asked says octets.items)
-    (λ octets h. is_answered self asked finding says octets.items finds (h says)) c.refuse.ensures
+    (λ octets h. is_answered self asked finding says octets.items finds (h says)) c.refuse_request.ensures
 
 pub returns-in-Refuses-clause-moved : goal.returns-in-Refuses-clause-moved
 returns-in-Refuses-clause-moved g c =
@@ -28,7 +28,7 @@ returns-in-Refuses-clause-moved g c =
     let servant = c.args.servant.now in
     let acting = acts g.S.Servant.says g.S.Servant.after in
     let finds = subst (λ f. Finds self asked (finding_of f)) c.in-Refuses.is c.in_ok-exception.ensures in
-    on_ok c.refuse.result (MovesRequest acting self asked servant servant)
+    on_ok c.refuse_request.result (MovesRequest acting self asked servant servant)
     (is_moved acting self asked (Refuses c.in-Refuses.exception) servant servant finds refl)
 
 pub returns-in-Tells-clause-answered : goal.returns-in-Tells-clause-answered

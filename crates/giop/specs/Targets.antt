@@ -1,0 +1,45 @@
+-- What readers of a header's tape tell.
+use Rattle.std.specs.Prelude.{◌≡◌, ℕ, List, Option, Some, None}
+use Rattle.type_graph.specs.Value.{Tree, Trees}
+use Rattle.giop_types.specs.TapeParts.{pair_of}
+use Rattle.giop_messages.specs.Headers.{IsKeyOf, request_tree, reply_tree, locate_tree, number_of}
+use Rattle.giop_framing.specs.declared.head.Head.{Head}
+use Rattle.giop_messages.specs.declared.message.Request.{Request}
+use Rattle.giop.specs.Tapes.{IsIn}
+use Rattle.giop.specs.declared.reading.target.Target.{Target}
+use Rattle.giop.specs.declared.reading.target.Target.TheVariants.{Key, Profile, Nothing}
+use Rattle.giop.specs.declared.reading.header.RequestHeader.{RequestHeader}
+use Rattle.giop.specs.declared.reading.header.ReplyHeader.{ReplyHeader}
+use Rattle.giop.specs.declared.reading.header.LocateHeader.{LocateHeader}
+
+-- what a target tells: this key, the key of this profile, or none
+abbrev pub Tells : Tree → Target → Type 0
+Tells target (Key key) = IsKeyOf target (Some key.now)
+Tells target (Profile profile) = (key : Option (List ℕ)) → IsIn (pair_of profile) key → IsKeyOf target key
+Tells target Nothing = IsKeyOf target None
+
+-- the value of the header of a request
+pub record IsRequestHeader (value : Tree) (header : RequestHeader) : Type 0 where
+  pub reserved : Trees
+  pub target : Tree
+  pub contexts : Trees
+  pub is : value ≡ request_tree header.id header.flags reserved target header.operation.now contexts
+  pub tells : Tells target header.target
+
+-- that of a reply
+pub record IsReplyHeader (value : Tree) (header : ReplyHeader) : Type 0 where
+  pub contexts : Trees
+  pub is : value ≡ reply_tree header.id (number_of header.status) contexts
+
+-- that of a locate request
+pub record IsLocateHeader (value : Tree) (header : LocateHeader) : Type 0 where
+  pub target : Tree
+  pub is : value ≡ locate_tree header.id target
+  pub tells : Tells target header.target
+
+-- a request with the fields of a header
+pub record HasFields (request : Request) (header : RequestHeader) (head : Head) : Type 0 where
+  pub id : request.id ≡ header.id
+  pub flags : request.flags ≡ header.flags
+  pub operation : request.operation.items ≡ header.operation.now
+  pub order : request.order ≡ head.order

@@ -1,0 +1,52 @@
+//! Where headers and bodies stand.
+
+ghost use Rattle.std.specs.Prelude.{◌≡◌, ◌≤◌, ℕ, length, IfOk, IfSome, IfNone, IsTrue};
+ghost use Rattle.type_graph.specs.Value.{Tree};
+ghost use Rattle.giop_types.specs.Named.{has_name};
+ghost use Rattle.giop_messages.specs.Messages.{HasBody, HasHeader};
+ghost use Rattle.giop.specs.Tapes.{IsTapeAt};
+
+use crate::gap::gap_at;
+use giop_framing::HEAD_LEN;
+use giop_types::GiopTypes;
+use program_runner::RunFault;
+use std::alloc::{AllocError, Global};
+use type_graph::Order;
+
+/// The tape of the header behind the head, and the place where it ends; none where no header of
+/// the node stands there.
+pub(crate) fn header_tape(
+    types: &GiopTypes,
+    alloc: Global,
+    node: u32,
+    order: Order,
+    octets: &[u8],
+) -> Result<Option<(Vec<u8>, usize)>, AllocError>
+    requires named { IsTrue (has_name node) }
+    requires long { 12 ≤ length octets.now }
+    ensures found { IfOk result (λ o. IfSome o (λ r. IsTapeAt octets.now order node r.0.items r.1)) }
+    ensures within { IfOk result (λ o. IfSome o (λ r. r.1 ≤ length octets.now)) }
+    ensures refused { IfOk result (λ o. IfNone o ((value : Tree) (stop : ℕ) → HasHeader octets.now order node value stop → ⊥)) }
+{
+    let behind = octets.split_at(HEAD_LEN).1;
+    match types.read(alloc, node, order, HEAD_LEN as u64, behind) {
+        Ok((tape, taken)) => Ok(Some((tape, HEAD_LEN + taken))),
+        Err(fault) => match fault {
+            RunFault::NoMemory => Err(AllocError),
+            _ => Ok(None),
+        },
+    }
+}
+
+/// Where the body behind a header stands, and the octets from there on.
+pub(crate) fn body_behind(octets: &[u8], stop: usize) -> (usize, &[u8])
+    requires { stop ≤ length octets.now }
+    ensures { HasBody octets.now stop result.0 result.1.now }
+{
+    let place = stop + gap_at(stop);
+    if place < octets.len() {
+        (place, octets.split_at(place).1)
+    } else {
+        (place, &[])
+    }
+}

@@ -1,3 +1,0 @@
-pub mod Tapes
-pub mod Targets
-pub mod Profiles

@@ -1,4 +1,0 @@
-pub mod MadeFacts
-pub mod HeaderTapes
-pub mod Bodies
-pub mod Refusals
