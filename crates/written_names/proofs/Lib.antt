@@ -9,3 +9,10 @@ pub mod Filed
 pub mod Signs
 pub mod Places
 pub mod FileNames
+pub mod Stays
+pub mod StaysSimple
+pub mod Labelled
+pub mod Making
+pub mod MakingTypes
+pub mod MakingCalls
+pub mod MakingFile

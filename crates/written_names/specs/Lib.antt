@@ -2,5 +2,6 @@
 pub mod Types
 pub mod Definitions
 pub mod Named
+pub mod OneForOne
 pub mod Apart
 pub mod Signed

@@ -8,6 +8,7 @@ ghost use Rattle.written_operations.specs.declared.signature.Signature.{Signatur
 ghost use Rattle.part_names.specs.Names.{AreApart};
 ghost use Rattle.written_names.specs.Definitions.{file_parts};
 ghost use Rattle.written_names.specs.Named.{Writes};
+ghost use Rattle.written_names.specs.OneForOne.{AreOneForOne};
 ghost use Rattle.written_names.specs.Types.{Part};
 
 /// The names of the parts of one node are apart: no two members, enumerators or parameters of a
@@ -17,4 +18,13 @@ pub fn names_are_apart()
         → Writes spec.definitions.items names w ops
         → file_parts names.entries w ops spec.definitions.items ≡ Ok parts
         → All (λ part. AreApart part.names) parts }
+{}
+
+/// Names stand one for one for the parts of nodes: each part of a file is of a node that is there,
+/// with a name for each of its members, enumerators or parameters, and no two are of one node.
+pub fn names_are_one_for_one()
+    ensures { (spec : Spec) (names : Whole) (w : Written) (ops : List Signature) (parts : List Part)
+        → Writes spec.definitions.items names w ops
+        → file_parts names.entries w ops spec.definitions.items ≡ Ok parts
+        → AreOneForOne w.nodes parts }
 {}
