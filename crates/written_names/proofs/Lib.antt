@@ -16,3 +16,4 @@ pub mod Making
 pub mod MakingTypes
 pub mod MakingCalls
 pub mod MakingFile
+pub mod Placing

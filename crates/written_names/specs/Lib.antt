@@ -3,5 +3,6 @@ pub mod Types
 pub mod Definitions
 pub mod Named
 pub mod OneForOne
+pub mod ByNode
 pub mod Apart
 pub mod Signed

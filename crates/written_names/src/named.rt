@@ -3,7 +3,8 @@
 ghost use Rattle.std.specs.Prelude.{◌≡◌, [], map, replicate, All, IfOk, OnOk};
 ghost use Rattle.part_names.specs.Names.{AreApart};
 ghost use Rattle.written_types.specs.declared.fault.BuildFault.TheVariants.{NoMemory};
-ghost use Rattle.written_names.specs.Named.{AreNamed, Writes, by_node, placed};
+ghost use Rattle.written_names.specs.ByNode.{by_node, placed};
+ghost use Rattle.written_names.specs.Named.{AreNamed, Writes};
 
 use crate::definitions::parts_of_file;
 use crate::list::{NamedPart, PartList};
