@@ -1,5 +1,6 @@
 -- Each case of a union has a label or more, so that a union has no more cases than labels.
-use Rattle.std.proofs.Common.{◌≡◌, ◌∙◌, ℕ, suc, ◌+◌, ◌≤◌, Bool, true, false, List, [], ◌∷◌, ◌++◌, length, length-append, map, Option, Some, None, Result, Ok, Err, refl, sym, ap, subst, arith, ℤ, int_lt}
+use Rattle.std.proofs.Common.{◌≡◌, ℕ, suc, ◌+◌, ◌≤◌, Bool, true, false, List, [], ◌∷◌, ◌++◌, length, length-append, map}
+use Rattle.std.proofs.Common.{Option, Some, None, Result, Ok, Err, refl, ap, subst, arith, ℤ, int_lt}
 use Rattle.std.specs.Prelude.{◌||◌, if◌then◌else◌, is_some, option_to_list}
 use Rattle.std.proofs.lemmas.List.{length-map}
 use Rattle.idl_tree.specs.declared.types.Label.{Label}
@@ -13,7 +14,8 @@ use Rattle.written_types.specs.declared.fault.BuildFault.{BuildFault}
 use Rattle.written_types.specs.declared.fault.BuildFault.TheVariants.{Types}
 use Rattle.written_types.specs.declared.fault.TypeFault.TheVariants.{LabelTwice}
 use Rattle.written_types.specs.Faults.{at_most, each, line_of, max_members}
-use Rattle.written_types.specs.Labels.{Arms, CaseLabels, is_taken, label_added, label_value, no_arms, value_added, switched, with_arm, with_arms, with_case, with_default}
+use Rattle.written_types.specs.Labels.{Arms, CaseLabels, is_taken, label_added, label_value, no_arms, value_added}
+use Rattle.written_types.specs.Labels.{switched, with_arm, with_arms, with_case, with_default}
 use Rattle.written_types.specs.Types.{arm_line, default_number, numbered_arm}
 use Rattle.written_types.specs.Written.{unwritten}
 use Rattle.written_names.specs.OneForOne.{HaveNames}
@@ -56,44 +58,57 @@ is_none : {T : Type 0} (o : Option T) → is_some o ≡ false → o ≡ None
 is_none None h = refl
 is_none (Some x) h = absurd cc
 
-value_read : (a : Arms) (ls more : CaseLabels) (count line : ℕ) (n : ℤ) → AreRead a ls count → value_added a ls line n ≡ Ok more → AreRead a more (count + 1)
+abbrev Read : Type 0
+Read = Result CaseLabels BuildFault
+
+-- a label that isn't there yet
+abbrev once : Bool → ℕ → Read → Read
+once twice line read = (if twice then Err (Types (LabelTwice line)) else read)
+
+abbrev value_behind : Arms → CaseLabels → ℕ → ℤ → Read
+value_behind a ls line n = at_most max_members MembersLimit line (length a.arms + length ls.values + 1) >> λ count.
+    Ok (record ls { values = ls.values ++ n ∷ [] })
+
+value_read : (a : Arms) (ls more : CaseLabels) (count line : ℕ) (n : ℤ) → AreRead a ls count
+    → value_added a ls line n ≡ Ok more → AreRead a more (count + 1)
 value_read a ls more count line n read h = by (is_taken a ls n) h
   where
-    by : (b : Bool) → (let r : Result CaseLabels BuildFault = if b then Err (Types (LabelTwice line))
-        else at_most max_members MembersLimit line (length a.arms + length ls.values + 1) >> λ count. Ok (record ls { values = ls.values ++ n ∷ [] }) in r) ≡ Ok more
-        → AreRead a more (count + 1)
+    by : (b : Bool) → once b line (value_behind a ls line n) ≡ Ok more → AreRead a more (count + 1)
     by true h = absurd cc
     by false h =
-        let (k, fits, told) = then_done (at_most max_members MembersLimit line (length a.arms + length ls.values + 1)) _ more h in
+        let room = at_most max_members MembersLimit line (length a.arms + length ls.values + 1) in
+        let (k, fits, told) = then_done room _ more h in
         let same : record ls { values = ls.values ++ n ∷ [] } ≡ more = cc in
         let long = read.long in
         let longer = length-append ls.values (n ∷ []) in
         subst (λ z. AreRead a z (count + 1)) same (record { long = omega (arith, long, longer); free = read.free })
 
 default_read : (a : Arms) (ls more : CaseLabels) (count line : ℕ) → AreRead a ls count
-    → (let r : Result CaseLabels BuildFault = if is_some a.default || is_some ls.default then Err (Types (LabelTwice line)) else Ok (record ls { default = Some line }) in r) ≡ Ok more
+    → once (is_some a.default || is_some ls.default) line (Ok (record ls { default = Some line })) ≡ Ok more
     → AreRead a more (count + 1)
 default_read a ls more count line read h = by (is_some a.default || is_some ls.default) refl h
   where
     by : (b : Bool) → (is_some a.default || is_some ls.default) ≡ b
-        → (let r : Result CaseLabels BuildFault = if b then Err (Types (LabelTwice line)) else Ok (record ls { default = Some line }) in r) ≡ Ok more
-        → AreRead a more (count + 1)
+        → once b line (Ok (record ls { default = Some line })) ≡ Ok more → AreRead a more (count + 1)
     by true is h = absurd cc
     by false is h =
         let (first, second) = either_false (is_some a.default) (is_some ls.default) is in
         let same : record ls { default = Some line } ≡ more = cc in
         let long = read.long in
         let none : one_if ls.default ≡ 0 = ap one_if (is_none ls.default second) in
-        subst (λ z. AreRead a z (count + 1)) same (record { long = omega (arith, long, none); free = λ k told. is_none a.default first })
+        let all : labels_read (record ls { default = Some line }) ≡ count + 1 = omega (arith, long, none) in
+        subst (λ z. AreRead a z (count + 1)) same (record { long = all; free = λ k told. is_none a.default first })
 
-label_read : (es : List Entry) (scope : ℕ) (s : Switch) (a : Arms) (ls more : CaseLabels) (count : ℕ) (l : Label) → AreRead a ls count
+label_read : (es : List Entry) (scope : ℕ) (s : Switch) (a : Arms) (ls more : CaseLabels) (count : ℕ) (l : Label)
+    → AreRead a ls count
     → label_added es scope s a ls l ≡ Ok more → AreRead a more (count + 1)
 label_read es scope s a ls more count (CaseLabel e) read h =
     let (n, is, told) = then_done (label_value es scope s e.expr) _ more h in
     value_read a ls more count (line_of (expr_start e.expr)) n read told
 label_read es scope s a ls more count (Default word) read h = default_read a ls more count (line_of word) read h
 
-pub labels_are_read : (es : List Entry) (scope : ℕ) (s : Switch) (a : Arms) (ls more : CaseLabels) (count : ℕ) (xs : List Label) → AreRead a ls count
+pub labels_are_read : (es : List Entry) (scope : ℕ) (s : Switch) (a : Arms) (ls more : CaseLabels) (count : ℕ)
+    (xs : List Label) → AreRead a ls count
     → each (label_added es scope s a) ls xs ≡ Ok more → AreRead a more (count + length xs)
 labels_are_read es scope s a ls more count [] read h =
     let same : ls ≡ more = cc in
@@ -101,7 +116,8 @@ labels_are_read es scope s a ls more count [] read h =
     subst (λ z. AreRead a z (count + 0)) same (record { long = omega (arith, long); free = read.free })
 labels_are_read es scope s a ls more count (x ∷ xs) read h =
     let (next, first, rest) = then_done (label_added es scope s a ls x) _ more h in
-    let all = labels_are_read es scope s a next more (count + 1) xs (label_read es scope s a ls next count x read first) rest in
+    let one = label_read es scope s a ls next count x read first in
+    let all = labels_are_read es scope s a next more (count + 1) xs one rest in
     let long = all.long in
     record { long = omega (arith, long); free = all.free }
 
@@ -116,7 +132,8 @@ arm_more (arm ∷ arms) new = by (int_lt new.label arm.label) (arm_more arms new
     by true others = omega arith
     by false others = omega (arith, others)
 
-arms_more : (arms : List Arm) (number line : ℕ) (ns : List ℤ) → length (with_arms arms number line ns) ≡ length arms + length ns
+arms_more : (arms : List Arm) (number line : ℕ) (ns : List ℤ)
+    → length (with_arms arms number line ns) ≡ length arms + length ns
 arms_more arms number line [] = omega arith
 arms_more arms number line (n ∷ ns) =
     let new : Arm = record { label = n; number = number; line = line } in
@@ -124,11 +141,13 @@ arms_more arms number line (n ∷ ns) =
     let others = arms_more (with_arm arms new) number line ns in
     omega (arith, one, others)
 
-pub case_more : (a : Arms) (ls : CaseLabels) (count number line : ℕ) → AreRead a ls count → 1 ≤ count → labels_in a + 1 ≤ labels_in (with_case a number line ls)
+pub case_more : (a : Arms) (ls : CaseLabels) (count number line : ℕ) → AreRead a ls count → 1 ≤ count
+    → labels_in a + 1 ≤ labels_in (with_case a number line ls)
 case_more a ls count number line read some = by ls.default read.long read.free
   where
     by : (d : Option ℕ) → length ls.values + one_if d ≡ count → ((k : ℕ) → d ≡ Some k → a.default ≡ None)
-        → labels_in a + 1 ≤ length (with_arms a.arms number line ls.values) + one_if (with_default a.default number line d)
+        → labels_in a + 1 ≤ length (with_arms a.arms number line ls.values) + one_if
+        (with_default a.default number line d)
     by None long free = let more = arms_more a.arms number line ls.values in omega (arith, more, long, some)
     by (Some k) long free =
         let more = arms_more a.arms number line ls.values in

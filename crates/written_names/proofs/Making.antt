@@ -1,5 +1,6 @@
 -- The nodes of parts that have names are made while their part of the file is written, each once.
-use Rattle.std.proofs.Common.{◌≡◌, ◌∙◌, ◌⊎◌, inl, inr, ℕ, true, false, List, [], ◌∷◌, ◌++◌, length, Some, Result, Ok, append-nil, append_assoc, sym, ap, subst}
+use Rattle.std.proofs.Common.{◌≡◌, ◌∙◌, ◌⊎◌, inl, inr, true, false, List, [], ◌∷◌, ◌++◌, length, Some, Result, Ok}
+use Rattle.std.proofs.Common.{append-nil, append_assoc, sym, ap, subst}
 use Rattle.std.specs.Prelude.{nat_eq, slice_get}
 use Rattle.std.specs.List.{AllByRecursion, IsDistinct}
 use Rattle.std.proofs.lemmas.Bool.Decides.{eqb_tells}
@@ -22,7 +23,8 @@ use Rattle.written_names.proofs.Stays.{IsMade, Stays, made_stays, stays_none, st
 
 -- the node has its definition, and a name for each of its parts
 abbrev pub HasNode : List Node → Part → Type 0
-HasNode graph p = (node : Node) × (slice_get graph p.node ≡ Some node) × (node ≡ undefined → ⊥) × HaveNames node (length p.names)
+HasNode graph p = (node : Node) × (slice_get graph p.node ≡ Some node) × (node ≡ undefined → ⊥) × HaveNames node
+    (length p.names)
 
 abbrev pub IsLate : List Node → Part → Type 0
 IsLate graph p = IsMade graph p.node → ⊥
@@ -35,7 +37,8 @@ pub record Between (w b : Written) (ps : List Part) : Type 0 where
 pub nodes_apart : (p q : Part) → (p.node ≡ q.node → ⊥) → is_one_node p q ≡ false
 nodes_apart p q differ = by (eqb_tells p.node q.node)
   where
-    by : ((nat_eq p.node q.node ≡ true) × (p.node ≡ q.node)) ⊎ ((nat_eq p.node q.node ≡ false) × (p.node ≡ q.node → ⊥)) → is_one_node p q ≡ false
+    by : ((nat_eq p.node q.node ≡ true) × (p.node ≡ q.node)) ⊎ ((nat_eq p.node q.node ≡ false) × (p.node ≡ q.node → ⊥))
+        → is_one_node p q ≡ false
     by (inl (is, same)) = absurd (differ same)
     by (inr (is, other)) = is
 
@@ -51,39 +54,53 @@ pub two_apart : (p q : Part) → (p.node ≡ q.node → ⊥) → IsDistinct is_o
 unfolding IsDistinct
 two_apart p q differ = ((nodes_apart p q differ, tt), (tt, tt))
 
-both_distinct : (P Q : Part → Type 0) → ((p q : Part) → P p → Q q → is_one_node p q ≡ false) → (xs ys : List Part) → AllByRecursion P xs → AllByRecursion Q ys
+both_distinct : (P Q : Part → Type 0) → ((p q : Part) → P p → Q q → is_one_node p q ≡ false) → (xs ys : List Part)
+    → AllByRecursion P xs → AllByRecursion Q ys
     → IsDistinct is_one_node xs → IsDistinct is_one_node ys → IsDistinct is_one_node (xs ++ ys)
 unfolding IsDistinct
 both_distinct P Q differ [] ys ps qs first second = second
-both_distinct P Q differ (x ∷ xs) ys (p, ps) qs (other, first) second =
-    (all_append (λ y. is_one_node x y ≡ false) xs ys other (all_map Q (λ y. is_one_node x y ≡ false) (λ y q. differ x y p q) ys qs), both_distinct P Q differ xs ys ps qs first second)
+both_distinct P Q differ (x ∷ xs) ys (p, ps) qs (other, first) second = (
+  all_append (λ y. is_one_node x y ≡ false) xs ys other
+      (all_map Q (λ y. is_one_node x y ≡ false) (λ y q. differ x y p q) ys qs),
+  both_distinct P Q differ xs ys ps qs
+      first second,
+)
 
-later_late : (w v : Written) → Stays w v → (ps : List Part) → AllByRecursion (IsLate v.nodes) ps → AllByRecursion (IsLate w.nodes) ps
-later_late w v stays ps late = all_map (IsLate v.nodes) (IsLate w.nodes) (λ p never made. never (made_stays w v p.node stays made)) ps late
+later_late : (w v : Written) → Stays w v → (ps : List Part) → AllByRecursion (IsLate v.nodes) ps
+    → AllByRecursion (IsLate w.nodes) ps
+later_late w v stays ps late = all_map (IsLate v.nodes) (IsLate w.nodes)
+    (λ p never made. never (made_stays w v p.node stays made)) ps late
 
-still_made : (w v : Written) → Stays w v → (ps : List Part) → AllByRecursion (HasNode w.nodes) ps → AllByRecursion (HasNode v.nodes) ps
+still_made : (w v : Written) → Stays w v → (ps : List Part) → AllByRecursion (HasNode w.nodes) ps
+    → AllByRecursion (HasNode v.nodes) ps
 still_made w v stays ps made =
-    all_map (HasNode w.nodes) (HasNode v.nodes) (λ p has. (has.0, stays.nodes p.node has.0 has.1 has.2, has.2, has.3)) ps made
+    all_map (HasNode w.nodes) (HasNode v.nodes) (λ p has. (has.0, stays.nodes p.node has.0 has.1 has.2, has.2, has.3))
+    ps made
 
-nodes_made : (w : Written) (ps : List Part) → AllByRecursion (HasNode w.nodes) ps → AllByRecursion (λ p. IsMade w.nodes p.node) ps
+nodes_made : (w : Written) (ps : List Part) → AllByRecursion (HasNode w.nodes) ps
+    → AllByRecursion (λ p. IsMade w.nodes p.node) ps
 nodes_made w ps made = all_map (HasNode w.nodes) (λ p. IsMade w.nodes p.node) (λ p has. (has.0, has.1, has.2)) ps made
 
 -- those that are made first, and then the others
-pub between_on : (w m b : Written) (xs ys : List Part) → Stays w m → Stays m b → Between w m xs → Between m b ys → Between w b (xs ++ ys)
+pub between_on : (w m b : Written) (xs ys : List Part) → Stays w m → Stays m b → Between w m xs → Between m b ys
+    → Between w b (xs ++ ys)
 between_on w m b xs ys first second f g = record {
   late = all_append (IsLate w.nodes) xs ys f.late (later_late w m first ys g.late);
   made = all_append (HasNode b.nodes) xs ys (still_made m b second xs f.made) g.made;
   apart = both_distinct (λ p. IsMade m.nodes p.node) (IsLate m.nodes)
-      (λ p q is never. nodes_apart p q (λ same. never (subst (IsMade m.nodes) same is))) xs ys (nodes_made m xs f.made) g.late f.apart g.apart;
+      (λ p q is never. nodes_apart p q (λ same. never (subst (IsMade m.nodes) same is))) xs ys (nodes_made m xs f.made)
+      g.late f.apart g.apart;
 }
 
 -- those that are made last come first
-between_back : (w m b : Written) (xs ys : List Part) → Stays w m → Stays m b → Between m b xs → Between w m ys → Between w b (xs ++ ys)
+between_back : (w m b : Written) (xs ys : List Part) → Stays w m → Stays m b → Between m b xs → Between w m ys
+    → Between w b (xs ++ ys)
 between_back w m b xs ys first second f g = record {
   late = all_append (IsLate w.nodes) xs ys (later_late w m first xs f.late) g.late;
   made = all_append (HasNode b.nodes) xs ys f.made (still_made m b second ys g.made);
   apart = both_distinct (IsLate m.nodes) (λ p. IsMade m.nodes p.node)
-      (λ p q never is. nodes_apart p q (λ same. never (subst (IsMade m.nodes) (sym same) is))) xs ys f.late (nodes_made m ys g.made) f.apart g.apart;
+      (λ p q never is. nodes_apart p q (λ same. never (subst (IsMade m.nodes) (sym same) is))) xs ys f.late
+      (nodes_made m ys g.made) f.apart g.apart;
 }
 
 pub between_one : (w b : Written) (p : Part) → IsLate w.nodes p → HasNode b.nodes p → Between w b (p ∷ [])
@@ -101,7 +118,8 @@ Naming = Written → List Signature → List Part → Parted
 -- what is named, of all that is written in the end, is made from w to b
 pub record Makes (f : Naming) (w b : Written) : Type 0 where
   pub stays : Stays w b
-  pub parts : (v : Written) (ops : List Signature) → AreCalled v ops → Stays b v → (ps qs : List Part) → f v ops ps ≡ Ok qs
+  pub parts : (v : Written) (ops : List Signature) → AreCalled v ops → Stays b v → (ps qs : List Part)
+      → f v ops ps ≡ Ok qs
       → (more : List Part) × (qs ≡ ps ++ more) × Between w b more
 
 abbrev pub silent : Naming
@@ -115,33 +133,45 @@ makes_none w b stays = record {
       ([], sym same ∙ sym (append-nil ps), record { late = tt; made = tt; apart = none_apart });
 }
 
-pub makes_on : (f g : Naming) (w m b : Written) → Makes f w m → Makes g m b → Makes (λ v ops ps. f v ops ps >> λ next. g v ops next) w b
+pub makes_on : (f g : Naming) (w m b : Written) → Makes f w m → Makes g m b
+    → Makes (λ v ops ps. f v ops ps >> λ next. g v ops next) w b
 makes_on f g w m b first second = record {
   stays = stays_on w m b first.stays second.stays;
   parts = λ v ops called later ps qs h.
       let (mid, is, told) = then_done (f v ops ps) (λ next. g v ops next) qs h in
       let (xs, one, made) = first.parts v ops called (stays_on m b v second.stays later) ps mid is in
-      let (ys, two, also) = second.parts v ops called later mid qs told in
-      (xs ++ ys, two ∙ ap (λ z. z ++ ys) one ∙ append_assoc ps xs ys, between_on w m b xs ys first.stays second.stays made also);
+      let (ys, two, also) = second.parts v ops called later mid qs told in (
+        xs ++ ys,
+        two ∙ ap (λ z. z ++ ys) one ∙ append_assoc ps xs ys,
+        between_on w m b xs ys first.stays second.stays
+            made also,
+      );
 }
 
 -- what is named first is made last
-pub makes_back : (f g : Naming) (w m b : Written) → Makes f m b → Makes g w m → Makes (λ v ops ps. f v ops ps >> λ own. g v ops own) w b
+pub makes_back : (f g : Naming) (w m b : Written) → Makes f m b → Makes g w m
+    → Makes (λ v ops ps. f v ops ps >> λ own. g v ops own) w b
 makes_back f g w m b last first = record {
   stays = stays_on w m b first.stays last.stays;
   parts = λ v ops called later ps qs h.
       let (own, is, told) = then_done (f v ops ps) (λ own. g v ops own) qs h in
       let (xs, one, made) = last.parts v ops called later ps own is in
-      let (ys, two, also) = first.parts v ops called (stays_on m b v last.stays later) own qs told in
-      (xs ++ ys, two ∙ ap (λ z. z ++ ys) one ∙ append_assoc ps xs ys, between_back w m b xs ys first.stays last.stays made also);
+      let (ys, two, also) = first.parts v ops called (stays_on m b v last.stays later) own qs told in (
+        xs ++ ys,
+        two ∙ ap (λ z. z ++ ys) one ∙ append_assoc ps xs ys,
+        between_back w m b xs ys first.stays last.stays
+            made also,
+      );
 }
 
 -- behind something that is known
-pub makes_at : {A : Type 0} (r : Result A BuildFault) (x : A) (f : A → Naming) (w b : Written) → r ≡ Ok x → Makes (f x) w b
+pub makes_at : {A : Type 0} (r : Result A BuildFault) (x : A) (f : A → Naming) (w b : Written) → r ≡ Ok x
+    → Makes (f x) w b
     → Makes (λ v ops ps. r >> λ y. f y v ops ps) w b
 makes_at r x f w b is h = record {
   stays = h.stays;
-  parts = λ v ops called later ps qs told. h.parts v ops called later ps qs (sym (goes_on r x (λ y. f y v ops ps) is) ∙ told);
+  parts = λ v ops called later ps qs told. h.parts v ops called later ps qs
+      (sym (goes_on r x (λ y. f y v ops ps) is) ∙ told);
 }
 
 pub makes_from : (f : Naming) (w m b : Written) → Stays w m → Makes f m b → Makes f w b
@@ -163,7 +193,8 @@ makes_to f w m b h behind = record {
 -- parts of a file one behind another
 pub each_makes : {S T : Type 0} (types : S → Written) (named : T → Naming) (one : S → T → Result S BuildFault)
     → ((s b : S) (x : T) → one s x ≡ Ok b → Makes (named x) (types s) (types b))
-    → (s b : S) (xs : List T) → each one s xs ≡ Ok b → Makes (λ v ops ps. each (λ qs x. named x v ops qs) ps xs) (types s) (types b)
+    → (s b : S) (xs : List T) → each one s xs ≡ Ok b → Makes (λ v ops ps. each (λ qs x. named x v ops qs) ps xs)
+    (types s) (types b)
 each_makes types named one makes s b [] h =
     let same : s ≡ b = cc in
     subst (λ z. Makes silent (types s) (types z)) same (makes_none (types s) (types s) (stays_none (types s)))

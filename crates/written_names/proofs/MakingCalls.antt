@@ -1,7 +1,9 @@
 -- Operations and attributes: the frames of their requests and replies are made, with a name for each part.
-use Rattle.std.proofs.Common.{◌≡◌, ◌∙◌, ◌⊎◌, inl, inr, ℕ, ◌+◌, Bool, true, false, cond, List, [], ◌∷◌, ◌++◌, length, length-append, map, Option, Some, None, Result, Ok, append_assoc, refl, sym, ap, subst, arith}
+use Rattle.std.proofs.Common.{◌≡◌, ◌∙◌, inl, inr, ℕ, ◌+◌, Bool, true, false, cond, List, [], ◌∷◌, ◌++◌, length}
+use Rattle.std.proofs.Common.{length-append, map, Option, Some, None, Result, Ok, append_assoc, refl, sym, ap, subst}
+use Rattle.std.proofs.Common.{arith}
 use Rattle.std.specs.Prelude.{◌&&◌, if◌then◌else◌, codes, nat_eq, slice_get}
-use Rattle.std.specs.List.{AllByRecursion, filter}
+use Rattle.std.specs.List.{filter}
 use Rattle.std.proofs.lemmas.Bool.{eqb-true}
 use Rattle.idl_tree.specs.declared.names.Leaf.{Leaf}
 use Rattle.idl_tree.specs.declared.types.ParamType.{ParamType}
@@ -11,7 +13,6 @@ use Rattle.idl_tree.specs.declared.definitions.Direction.{Direction}
 use Rattle.idl_tree.specs.declared.definitions.Direction.TheVariants.{In, Out, InOut}
 use Rattle.idl_tree.specs.declared.definitions.Operation.{Operation}
 use Rattle.idl_tree.specs.declared.definitions.Param.{Param}
-use Rattle.type_graph.specs.declared.node.Node.{Node}
 use Rattle.type_graph.specs.declared.node.Node.TheVariants.{Frame}
 use Rattle.name_table.specs.Entry.{Entry}
 use Rattle.name_table.specs.Search.{word}
@@ -23,21 +24,29 @@ use Rattle.written_types.specs.declared.place.Place.TheVariants.{Called, Got, Go
 use Rattle.written_types.specs.Faults.{each, line_of, or_other}
 use Rattle.written_types.specs.Members.{Members}
 use Rattle.written_types.specs.SimpleTypes.{entry_of, param_type}
-use Rattle.written_types.specs.Types.{member_added, no_members}
-use Rattle.written_types.specs.Written.{Numbered, Written, added, already, counted, place_in, place_of, placed}
+use Rattle.written_types.specs.Types.{member_added}
+use Rattle.written_types.specs.Written.{Numbered, Written, already, counted, place_in, place_of, placed}
 use Rattle.written_operations.specs.declared.signature.Role.{Role}
 use Rattle.written_operations.specs.declared.signature.Role.TheVariants as Roles
 use Rattle.written_operations.specs.declared.signature.Signature.{Signature}
-use Rattle.written_operations.specs.Frames.{all_carried, carrying, frame_added, frames_added, nothing_carried, result_carried, with_carried, with_param}
+use Rattle.written_operations.specs.Frames.{all_carried, carrying, frame_added, frames_added, nothing_carried}
+use Rattle.written_operations.specs.Frames.{result_carried, with_carried, with_param}
 use Rattle.written_operations.specs.Oneway.{oneway_test, parts_of}
-use Rattle.written_operations.specs.Operations.{Defined, Requested, attribute, attribute_identifiers, get_raises, is_set, operation, raised, requested, set_raises, with_access, with_attribute, with_call, with_get, with_place, with_set, with_types}
+use Rattle.written_operations.specs.Operations.{Defined, Requested, attribute, attribute_identifiers, get_raises}
+use Rattle.written_operations.specs.Operations.{is_set, operation, raised, requested, set_raises, with_access}
+use Rattle.written_operations.specs.Operations.{with_attribute, with_call, with_get, with_place, with_set, with_types}
 use Rattle.written_operations.specs.Sound.{HasFrames}
-use Rattle.written_names.specs.Definitions.{call, getting, goes_in, goes_out, identifier_parts, is_role, operation_parts, param_name, reply_names, request_names, request_of, result_names, setting, setting_parts}
-use Rattle.written_names.specs.Types.{Part, part}
+use Rattle.written_names.specs.Definitions.{call, getting, goes_in, goes_out, identifier_parts, is_role}
+use Rattle.written_names.specs.Definitions.{operation_parts, param_name, reply_names, request_names, request_of}
+use Rattle.written_names.specs.Definitions.{result_names, setting, setting_parts}
+use Rattle.written_names.specs.Types.{part}
 use Rattle.written_names.proofs.Labelled.{domain}
-use Rattle.written_names.proofs.Making.{AreCalled, Between, Makes, Naming, between_on, each_makes, makes_at, makes_from, two_apart}
+use Rattle.written_names.proofs.Making.{AreCalled, Between, Makes, between_on, each_makes, makes_at, makes_from}
+use Rattle.written_names.proofs.Making.{two_apart}
 use Rattle.written_names.proofs.Signs.{then_done}
-use Rattle.written_names.proofs.Stays.{IsAdded, IsMade, Stays, added_gives, added_long, added_stays, added_there, counted_same, frame_is_defined, not_made, placed_gives, placed_here, placed_stays, stays_none, stays_on}
+use Rattle.written_names.proofs.Stays.{IsAdded, Stays, added_gives, added_long, added_stays, added_there, counted_same}
+use Rattle.written_names.proofs.Stays.{frame_is_defined, not_made, placed_gives, placed_here, placed_stays, stays_none}
+use Rattle.written_names.proofs.Stays.{stays_on}
 use Rattle.written_names.proofs.StaysSimple.{member_more, param_stays}
 
 -- ---- how much is carried
@@ -56,21 +65,31 @@ record CarriesMore (c b : Carried) (sent back : ℕ) : Type 0 where
   request : length b.request.numbers ≡ length c.request.numbers + sent
   reply : length b.reply.numbers ≡ length c.reply.numbers + back
 
-carried_more : (c b : Carried) (d : Direction) (number line : ℕ) → with_carried c d number line ≡ Ok b → CarriesMore c b (one_if (goes_in d)) (one_if (goes_out d))
+carried_more : (c b : Carried) (d : Direction) (number line : ℕ) → with_carried c d number line ≡ Ok b
+    → CarriesMore c b (one_if (goes_in d)) (one_if (goes_out d))
 carried_more c b In number line h =
     let (ms, adds, told) = then_done (member_added c.request number line) _ b h in
     let same : record c { request = ms } ≡ b = cc in
-    subst (λ z. CarriesMore c z 1 0) same (record { request = member_more c.request ms number line adds; reply = omega arith })
+    subst (λ z. CarriesMore c z 1 0) same (record {
+      request = member_more c.request ms number line adds;
+      reply = omega arith;
+    })
 carried_more c b Out number line h =
     let (ms, adds, told) = then_done (member_added c.reply number line) _ b h in
     let same : record c { reply = ms } ≡ b = cc in
-    subst (λ z. CarriesMore c z 0 1) same (record { request = omega arith; reply = member_more c.reply ms number line adds })
+    subst (λ z. CarriesMore c z 0 1) same (record {
+      request = omega arith;
+      reply = member_more c.reply ms number line adds;
+    })
 carried_more c b InOut number line h =
     let (ms, adds, h1) = then_done (member_added c.request number line) _ b h in
     let (ns, also, told) = then_done (member_added c.reply number line) _ b h1 in
     let both : Carried = record { request = ms; reply = ns } in
     let same : both ≡ b = cc in
-    subst (λ z. CarriesMore c z 1 1) same (record { request = member_more c.request ms number line adds; reply = member_more c.reply ns number line also })
+    subst (λ z. CarriesMore c z 1 1) same (record {
+      request = member_more c.request ms number line adds;
+      reply = member_more c.reply ns number line also;
+    })
 
 record Carries (m b : Carrying) (sent back : ℕ) : Type 0 where
   stays : Stays m.types b.types
@@ -101,10 +120,14 @@ param_carries es scope c b p h =
 abbrev those : (Direction → Bool) → List Param → List (List ℕ)
 those goes ps = map param_name (filter (λ p. goes p.direction) ps)
 
-those_more : (goes : Direction → Bool) (p : Param) (ps : List Param) → length (those goes (p ∷ ps)) ≡ one_if (goes p.direction) + length (those goes ps)
+those_more : (goes : Direction → Bool) (p : Param) (ps : List Param)
+    → length (those goes (p ∷ ps)) ≡ one_if (goes p.direction) + length (those goes ps)
 those_more goes p ps = by (goes p.direction)
   where
-    by : (b : Bool) → length (map param_name (cond b (p ∷ filter (λ p. goes p.direction) ps) (filter (λ p. goes p.direction) ps))) ≡ one_if b + length (those goes ps)
+    by : (b : Bool)
+        → length (map param_name
+        (cond b (p ∷ filter (λ p. goes p.direction) ps) (filter (λ p. goes p.direction) ps)))
+        ≡ one_if b + length (those goes ps)
     by true = omega arith
     by false = omega arith
 
@@ -112,22 +135,37 @@ params_carry : (es : List Entry) (scope : ℕ) (c b : Carrying) (ps : List Param
     → Carries c b (length (those goes_in ps)) (length (those goes_out ps))
 params_carry es scope c b [] h =
     let same : c ≡ b = cc in
-    subst (λ z. Carries c z 0 0) same (record { stays = stays_none c.types; more = record { request = omega arith; reply = omega arith } })
+    subst (λ z. Carries c z 0 0) same (record {
+      stays = stays_none c.types;
+      more = record {
+        request = omega arith;
+        reply = omega arith;
+      };
+    })
 params_carry es scope c b (p ∷ ps) h =
     let (next, first, rest) = then_done (with_param es scope c p) _ b h in
-    let all = carries_on c next b (one_if (goes_in p.direction)) (one_if (goes_out p.direction)) (length (those goes_in ps)) (length (those goes_out ps))
+    let all = carries_on c next b (one_if (goes_in p.direction)) (one_if (goes_out p.direction))
+    (length (those goes_in ps)) (length (those goes_out ps))
     (param_carries es scope c next p first) (params_carry es scope next b ps rest) in
     let sent = those_more goes_in p ps in
     let back = those_more goes_out p ps in
     let request = all.more.request in
     let reply = all.more.reply in
-    record { stays = all.stays; more = record { request = omega (arith, sent, request); reply = omega (arith, back, reply) } }
+    record {
+      stays = all.stays;
+      more = record {
+        request = omega (arith, sent, request);
+        reply = omega (arith, back, reply);
+      };
+    }
 
-result_carries : (es : List Entry) (w : Written) (scope line : ℕ) (result : Option ParamType) (c : Carrying) → result_carried es w scope line result ≡ Ok c
+result_carries : (es : List Entry) (w : Written) (scope line : ℕ) (result : Option ParamType) (c : Carrying)
+    → result_carried es w scope line result ≡ Ok c
     → Carries (carrying w nothing_carried) c 0 (length (result_names result))
 result_carries es w scope line None c h =
     let same : carrying w nothing_carried ≡ c = cc in
-    subst (λ z. Carries (carrying w nothing_carried) z 0 0) same (record { stays = stays_none w; more = record { request = omega arith; reply = omega arith } })
+    subst (λ z. Carries (carrying w nothing_carried) z 0 0) same
+    (record { stays = stays_none w; more = record { request = omega arith; reply = omega arith } })
 result_carries es w scope line (Some t) c h =
     let (n, typed, h1) = then_done (param_type es w scope t) _ c h in
     let (more, carries, told) = then_done (with_carried nothing_carried Out n.number line)
@@ -146,20 +184,23 @@ record AreCounted (c : Carried) (sent back : List (List ℕ)) : Type 0 where
   reply : length back ≡ length c.reply.numbers
 
 all_named : (es : List Entry) (w : Written) (scope : ℕ) (o : Operation) (c : Carrying) → all_carried es w scope o ≡ Ok c
-    → Stays w c.types × AreCounted c.carried (request_names (parts_of o.params)) (reply_names o.result_type (parts_of o.params))
+    → Stays w c.types × AreCounted c.carried (request_names (parts_of o.params))
+    (reply_names o.result_type (parts_of o.params))
 all_named es w scope o c h =
     let ps = parts_of o.params in
     let line = line_of o.identifier in
     let (m, result, params) = then_done (result_carried es w scope line o.result_type) _ c h in
     let one = result_carries es w scope line o.result_type m result in
-    let all = carries_on (carrying w nothing_carried) m c 0 (length (result_names o.result_type)) (length (those goes_in ps)) (length (those goes_out ps))
+    let all = carries_on (carrying w nothing_carried) m c 0 (length (result_names o.result_type))
+    (length (those goes_in ps)) (length (those goes_out ps))
     one (params_carry es scope m c ps params) in
     let request = all.more.request in
     let reply = all.more.reply in
     let both = length-append (result_names o.result_type) (those goes_out ps) in
     (all.stays, record { request = omega (arith, request); reply = omega (arith, reply, both) })
 
-frame_gives : (w : Written) (ms : Members) (line : ℕ) (n : Numbered) → frame_added w ms line ≡ Ok n → IsAdded w (Frame ms.numbers) n
+frame_gives : (w : Written) (ms : Members) (line : ℕ) (n : Numbered) → frame_added w ms line ≡ Ok n
+    → IsAdded w (Frame ms.numbers) n
 frame_gives w ms line n h =
     let (v, counts, adds) = then_done (counted w (length ms.numbers) line) _ n h in
     let same = counted_same w v (length ms.numbers) line counts in
@@ -201,19 +242,22 @@ frames_give w c line f h =
       reply = subst (λ k. slice_get b.written.nodes k ≡ Some back) next (added_there a.written back b two);
     })
 
-call_between : (w b : Written) (c : Carried) (f : Numbered) (sent back : List (List ℕ)) → AreFrames w c f → Stays f.written b → AreCounted c sent back
+call_between : (w b : Written) (c : Carried) (f : Numbered) (sent back : List (List ℕ)) → AreFrames w c f
+    → Stays f.written b → AreCounted c sent back
     → Between w b (call f.number sent back)
 call_between w b c f sent back h later named =
     let at = h.number in
     let request = part f.number sent in
     let reply = part (f.number + 1) back in
+    let asks = Frame c.request.numbers in
+    let answers = Frame c.reply.numbers in
+    let asks_defined = frame_is_defined c.request.numbers in
+    let answers_defined = frame_is_defined c.reply.numbers in
     record {
       late = (not_made w f.number (omega (arith, at)), (not_made w (f.number + 1) (omega (arith, at)), tt));
       made = (
-        (Frame c.request.numbers, later.nodes f.number (Frame c.request.numbers) h.request (frame_is_defined c.request.numbers),
-            frame_is_defined c.request.numbers, named.request),
-        ((Frame c.reply.numbers, later.nodes (f.number + 1) (Frame c.reply.numbers) h.reply (frame_is_defined c.reply.numbers),
-            frame_is_defined c.reply.numbers, named.reply), tt),
+        (asks, later.nodes f.number asks h.request asks_defined, asks_defined, named.request),
+        ((answers, later.nodes (f.number + 1) answers h.reply answers_defined, answers_defined, named.reply), tt),
       );
       apart = two_apart request reply (λ same. omega (arith, same));
     }
@@ -224,7 +268,11 @@ call_gives : (d : Defined) (c : Carried) (oneway : Bool) (raises : List ℕ) (ro
 call_gives d c oneway raises role e line r h =
     let (f, framed, told) = then_done (frames_added d.types c line) _ r h in
     let made : Signature = record { entry = e; role = role; is_oneway = oneway; request = f.number; raises = raises } in
-    let defined : Defined = record { types = f.written; operations = d.operations ++ made ∷ []; interfaces = d.interfaces } in
+    let defined : Defined = record {
+      types = f.written;
+      operations = d.operations ++ made ∷ [];
+      interfaces = d.interfaces;
+    } in
     let same : requested defined f.number ≡ r = cc in
     subst (λ z. AreFrames d.types c (already z.defined.types z.request)) same (frames_give d.types c line f framed)
 
@@ -252,11 +300,14 @@ same_role Roles.Getting Roles.Getting h = refl
 same_role Roles.Setting Roles.Setting h = refl
 same_role r s h = absurd cc
 
-request_named : (v : Written) (ops : List Signature) (e : ℕ) (role : Role) (k : ℕ) → AreCalled v ops → request_of ops e role ≡ Some k → HasFrames role k (place_of v e)
+request_named : (v : Written) (ops : List Signature) (e : ℕ) (role : Role) (k : ℕ) → AreCalled v ops
+    → request_of ops e role ≡ Some k → HasFrames role k (place_of v e)
 request_named v [] e role k called h = absurd cc
-request_named v (s ∷ ss) e role k (has, called) h = by (nat_eq e s.entry && is_role role s.role) refl (request_named v ss e role k called) h
+request_named v (s ∷ ss) e role k (has, called) h = by (nat_eq e s.entry && is_role role s.role) refl
+    (request_named v ss e role k called) h
   where
-    by : (b : Bool) → (nat_eq e s.entry && is_role role s.role) ≡ b → (request_of ss e role ≡ Some k → HasFrames role k (place_of v e))
+    by : (b : Bool) → (nat_eq e s.entry && is_role role s.role) ≡ b
+        → (request_of ss e role ≡ Some k → HasFrames role k (place_of v e))
         → (if b then Some s.request else request_of ss e role) ≡ Some k → HasFrames role k (place_of v e)
     by true is others h =
         let (entries, roles) = both_true (nat_eq e s.entry) (is_role role s.role) is in
@@ -264,7 +315,8 @@ request_named v (s ∷ ss) e role k (has, called) h = by (nat_eq e s.entry && is
         let same_r : s.role ≡ role = sym (same_role role s.role roles) in
         let same_k : s.request ≡ k = cc in
         subst (λ n. HasFrames role n (place_of v e)) same_k
-        (subst (λ r. HasFrames r s.request (place_of v e)) same_r (subst (λ n. HasFrames s.role s.request (place_of v n)) same_e has))
+        (subst (λ r. HasFrames r s.request (place_of v e)) same_r
+        (subst (λ n. HasFrames s.role s.request (place_of v n)) same_e has))
     by false is others h = others h
 
 called_as : (o : Option Place) (k request : ℕ) → o ≡ Some (Called request) → HasFrames Roles.Operation k o → k ≡ request
@@ -274,11 +326,13 @@ got_as : (o : Option Place) (k request : ℕ) → o ≡ Some (Got request) → H
 got_as o k request is (inl has) = cc
 got_as o k request is (inr has) = absurd (let both : Some (Got request) ≡ Some (GotAndSet k) = sym is ∙ has in cc)
 
-got_too_as : (o : Option Place) (k request : ℕ) → o ≡ Some (GotAndSet request) → HasFrames Roles.Getting k o → k ≡ request
+got_too_as : (o : Option Place) (k request : ℕ) → o ≡ Some (GotAndSet request) → HasFrames Roles.Getting k o
+    → k ≡ request
 got_too_as o k request is (inl has) = absurd (let both : Some (GotAndSet request) ≡ Some (Got k) = sym is ∙ has in cc)
 got_too_as o k request is (inr has) = cc
 
-set_as : (o : Option Place) (k request : ℕ) → o ≡ Some (GotAndSet request) → HasFrames Roles.Setting k o → k ≡ request + 2
+set_as : (o : Option Place) (k request : ℕ) → o ≡ Some (GotAndSet request) → HasFrames Roles.Setting k o
+    → k ≡ request + 2
 set_as o k request is (got, has, behind) =
     let same : got ≡ request = cc in
     behind ∙ ap (λ n. n + 2) same
@@ -306,14 +360,17 @@ operation_makes es scope d b o h =
     let place = place_gives r.defined b e (Called r.request) places in
     let f = already r.defined.types r.request in
     makes_from (λ v ops ps. operation_parts es ops scope ps o) d.types c.types b.types all.0
-    (makes_at (entry_of es scope o.identifier) e (λ x v ops ps. or_other (request_of ops x Roles.Operation) >> λ request.
-    Ok (ps ++ call request sent back)) c.types b.types is (record {
+    (makes_at (entry_of es scope o.identifier) e
+    (λ x v ops ps. or_other (request_of ops x Roles.Operation) >> λ request. Ok (ps ++ call request sent back))
+    c.types b.types is (record {
       stays = stays_on c.types r.defined.types b.types frames.stays place.stays;
       parts = λ v ops called later ps qs told.
           let (request, found, ends) = then_done (or_other (request_of ops e Roles.Operation)) _ qs told in
-          let here : place_of v e ≡ Some (Called r.request) = ap place_in (later.places e (Called r.request) place.place) in
+          let here : place_of v e ≡ Some (Called r.request) =
+          ap place_in (later.places e (Called r.request) place.place) in
           let same : request ≡ r.request = called_as (place_of v e) request r.request here
-          (request_named v ops e Roles.Operation request called (other_told (request_of ops e Roles.Operation) request found)) in
+          (request_named v ops e Roles.Operation request called
+          (other_told (request_of ops e Roles.Operation) request found)) in
           let given : ps ++ call request sent back ≡ qs = cc in (
             call r.request sent back,
             sym given ∙ ap (λ n. ps ++ call n sent back) same,
@@ -324,14 +381,16 @@ operation_makes es scope d b o h =
 -- ---- attributes
 
 -- what is carried where an attribute is got, and where it is set
-one_back : (number line : ℕ) (c : Carried) → with_carried nothing_carried Out number line ≡ Ok c → AreCounted c [] (codes "_return" ∷ [])
+one_back : (number line : ℕ) (c : Carried) → with_carried nothing_carried Out number line ≡ Ok c
+    → AreCounted c [] (codes "_return" ∷ [])
 one_back number line c h =
     let more = carried_more nothing_carried c Out number line h in
     let request = more.request in
     let reply = more.reply in
     record { request = omega (arith, request); reply = omega (arith, reply) }
 
-one_sent : (number line : ℕ) (name : List ℕ) (c : Carried) → with_carried nothing_carried In number line ≡ Ok c → AreCounted c (name ∷ []) []
+one_sent : (number line : ℕ) (name : List ℕ) (c : Carried) → with_carried nothing_carried In number line ≡ Ok c
+    → AreCounted c (name ∷ []) []
 one_sent number line name c h =
     let more = carried_more nothing_carried c In number line h in
     let request = more.request in
@@ -339,9 +398,12 @@ one_sent number line name c h =
     record { request = omega (arith, request); reply = omega (arith, reply) }
 
 -- the frames of getting, and those of setting behind them
-getting_makes : (d : Defined) (got : Requested) (c : Carried) (e : ℕ) (set : Bool) (name : List ℕ) (raises : List ℕ) (number line : ℕ) (b : Defined)
-    → AreFrames d.types c (already got.defined.types got.request) → AreCounted c [] (codes "_return" ∷ []) → with_access got number set raises e line ≡ Ok b
-    → Makes (λ v ops ps. or_other (request_of ops e Roles.Getting) >> λ request. setting_parts ops e name set (ps ++ getting request)) d.types b.types
+getting_makes : (d : Defined) (got : Requested) (c : Carried) (e : ℕ) (set : Bool) (name : List ℕ) (raises : List ℕ)
+    (number line : ℕ) (b : Defined)
+    → AreFrames d.types c (already got.defined.types got.request) → AreCounted c [] (codes "_return" ∷ [])
+    → with_access got number set raises e line ≡ Ok b
+    → Makes (λ v ops ps. or_other (request_of ops e Roles.Getting) >> λ request. setting_parts ops e name set
+    (ps ++ getting request)) d.types b.types
 getting_makes d got c e false name raises number line b frames counted_as h =
     let place = place_gives got.defined b e (Got got.request) h in
     let f = already got.defined.types got.request in
@@ -349,9 +411,11 @@ getting_makes d got c e false name raises number line b frames counted_as h =
       stays = stays_on d.types got.defined.types b.types frames.stays place.stays;
       parts = λ v ops called later ps qs told.
           let (request, found, ends) = then_done (or_other (request_of ops e Roles.Getting)) _ qs told in
-          let here : place_of v e ≡ Some (Got got.request) = ap place_in (later.places e (Got got.request) place.place) in
+          let here : place_of v e ≡ Some (Got got.request) =
+          ap place_in (later.places e (Got got.request) place.place) in
           let same : request ≡ got.request = got_as (place_of v e) request got.request here
-          (request_named v ops e Roles.Getting request called (other_told (request_of ops e Roles.Getting) request found)) in
+          (request_named v ops e Roles.Getting request called
+          (other_told (request_of ops e Roles.Getting) request found)) in
           let given : ps ++ getting request ≡ qs = cc in (
             getting got.request,
             sym given ∙ ap (λ n. ps ++ getting n) same,
@@ -371,27 +435,35 @@ getting_makes d got c e true name raises number line b frames counted_as h =
     let at_too = more.number in
     let next : r.request ≡ got.request + 2 = omega (arith, at, long, at_too) in
     let behind = stays_on got.defined.types r.defined.types b.types more.stays place.stays in
-    let first = call_between d.types got.defined.types c f [] (codes "_return" ∷ []) frames (stays_none got.defined.types) counted_as in
-    let second = call_between got.defined.types b.types s g (name ∷ []) [] more place.stays (one_sent number line name s carries) in
+    let first = call_between d.types got.defined.types c f [] (codes "_return" ∷ []) frames
+    (stays_none got.defined.types) counted_as in
+    let second = call_between got.defined.types b.types s g (name ∷ []) [] more place.stays
+    (one_sent number line name s carries) in
     record {
       stays = stays_on d.types got.defined.types b.types frames.stays behind;
       parts = λ v ops called later ps qs told.
           let (request, found, h1) = then_done (or_other (request_of ops e Roles.Getting)) _ qs told in
           let (set, found_too, ends) = then_done (or_other (request_of ops e Roles.Setting)) _ qs h1 in
-          let here : place_of v e ≡ Some (GotAndSet got.request) = ap place_in (later.places e (GotAndSet got.request) place.place) in
+          let here : place_of v e ≡ Some (GotAndSet got.request) =
+          ap place_in (later.places e (GotAndSet got.request) place.place) in
           let same : request ≡ got.request = got_too_as (place_of v e) request got.request here
-          (request_named v ops e Roles.Getting request called (other_told (request_of ops e Roles.Getting) request found)) in
+          (request_named v ops e Roles.Getting request called
+          (other_told (request_of ops e Roles.Getting) request found)) in
           let same_set : set ≡ r.request = set_as (place_of v e) set got.request here
-          (request_named v ops e Roles.Setting set called (other_told (request_of ops e Roles.Setting) set found_too)) ∙ sym next in
+          (request_named v ops e Roles.Setting set called
+          (other_told (request_of ops e Roles.Setting) set found_too)) ∙ sym next in
           let given : (ps ++ getting request) ++ setting set name ≡ qs = cc in (
             getting got.request ++ setting r.request name,
-            sym given ∙ ap (λ n. (ps ++ getting n) ++ setting set name) same ∙ ap (λ n. (ps ++ getting got.request) ++ setting n name) same_set
+            sym given ∙ ap (λ n. (ps ++ getting n) ++ setting set name) same
+                ∙ ap (λ n. (ps ++ getting got.request) ++ setting n name) same_set
                 ∙ append_assoc ps (getting got.request) (setting r.request name),
-            between_on d.types got.defined.types b.types (getting got.request) (setting r.request name) frames.stays behind first second,
+            between_on d.types got.defined.types b.types (getting got.request) (setting r.request name) frames.stays
+                behind first second,
           );
     }
 
-identifier_makes : (es : List Entry) (scope number : ℕ) (a : Attributes) (d b : Defined) (id : Leaf) → with_attribute es scope number a d id ≡ Ok b
+identifier_makes : (es : List Entry) (scope number : ℕ) (a : Attributes) (d b : Defined) (id : Leaf)
+    → with_attribute es scope number a d id ≡ Ok b
     → Makes (λ v ops ps. identifier_parts es ops scope (is_set a) ps id) d.types b.types
 identifier_makes es scope number a d b id h =
     let line = line_of id in
@@ -403,16 +475,19 @@ identifier_makes es scope number a d b id h =
     (λ c. with_call d c false get Roles.Getting e line) got gets in
     let frames = call_gives d c false get Roles.Getting e line got calls in
     makes_at (entry_of es scope id) e
-    (λ x v ops ps. or_other (request_of ops x Roles.Getting) >> λ request. setting_parts ops x (word id) (is_set a) (ps ++ getting request)) d.types b.types is
+    (λ x v ops ps. or_other (request_of ops x Roles.Getting) >> λ request. setting_parts ops x (word id) (is_set a)
+    (ps ++ getting request)) d.types b.types is
     (getting_makes d got c e (is_set a) (word id) set number line b frames (one_back number line c carries) sets)
 
 pub attribute_makes : (es : List Entry) (scope : ℕ) (d b : Defined) (a : Attribute) → attribute es scope d a ≡ Ok b
-    → Makes (λ v ops ps. each (identifier_parts es ops scope (is_set a.declared)) ps (attribute_identifiers a.declared)) d.types b.types
+    → Makes (λ v ops ps. each (identifier_parts es ops scope (is_set a.declared)) ps (attribute_identifiers a.declared))
+    d.types b.types
 attribute_makes es scope d b a h =
     let ids = attribute_identifiers a.declared in
     let (t, typed, h1) = then_done (param_type es d.types scope a.attribute_type) _ b h in
     let k = with_types d t.written in
     makes_from (λ v ops ps. each (identifier_parts es ops scope (is_set a.declared)) ps ids) d.types t.written b.types
     (param_stays es d.types scope a.attribute_type t typed)
-    (each_makes (λ d. d.types) (λ id v ops ps. identifier_parts es ops scope (is_set a.declared) ps id) (with_attribute es scope t.number a.declared)
+    (each_makes (λ d. d.types) (λ id v ops ps. identifier_parts es ops scope (is_set a.declared) ps id)
+    (with_attribute es scope t.number a.declared)
     (λ s m id is. identifier_makes es scope t.number a.declared s m id is) k b ids h1)

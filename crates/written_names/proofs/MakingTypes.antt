@@ -1,6 +1,7 @@
 -- Structures, unions, enumerations and exceptions: their nodes are made, with a name for each part.
-use Rattle.std.proofs.Common.{◌≡◌, ◌∙◌, ℕ, suc, ◌+◌, ◌≤◌, List, [], ◌∷◌, ◌++◌, length, length-append, map, Option, Some, None, Result, Ok, refl, sym, ap, subst, arith, ℤ}
-use Rattle.std.specs.Prelude.{codes, slice_get}
+use Rattle.std.proofs.Common.{◌≡◌, ◌∙◌, ℕ, suc, ◌+◌, ◌≤◌, List, [], ◌∷◌, ◌++◌, length, length-append, map, Some, Result}
+use Rattle.std.proofs.Common.{Ok, refl, sym, ap, subst, arith}
+use Rattle.std.specs.Prelude.{slice_get}
 use Rattle.std.specs.List.{flat_map}
 use Rattle.std.proofs.lemmas.List.{length-map}
 use Rattle.idl_tree.specs.declared.names.Leaf.{Leaf}
@@ -11,8 +12,10 @@ use Rattle.idl_tree.specs.declared.types.Label.{Label}
 use Rattle.idl_tree.specs.declared.types.Member.{Member}
 use Rattle.idl_tree.specs.declared.types.SwitchType.{SwitchType}
 use Rattle.idl_tree.specs.declared.types.SwitchType.TheVariants as SwitchTypes
-use Rattle.idl_tree.specs.declared.types.TypeSpec.{TypeSpec, Simple, Struct as StructSpec, Union as UnionSpec, Enum as EnumSpec}
-use Rattle.idl_tree.specs.declared.types.StructType.{StructType, StructType', Row_of-Member, end_of-Member, more_of-Member}
+use Rattle.idl_tree.specs.declared.types.TypeSpec.{TypeSpec, Simple, Struct as StructSpec, Union as UnionSpec}
+use Rattle.idl_tree.specs.declared.types.TypeSpec.{Enum as EnumSpec}
+use Rattle.idl_tree.specs.declared.types.StructType.{StructType, StructType', Row_of-Member, end_of-Member}
+use Rattle.idl_tree.specs.declared.types.StructType.{more_of-Member}
 use Rattle.idl_tree.specs.declared.types.UnionType.{UnionType, UnionType', Row_of-Case, end_of-Case, more_of-Case}
 use Rattle.idl_tree.specs.declared.definitions.Declaration.{Declaration}
 use Rattle.idl_tree.specs.declared.definitions.Declaration.TheVariants as Declarations
@@ -29,33 +32,50 @@ use Rattle.scoped_names.specs.Reading.{◌>>◌}
 use Rattle.type_paths.specs.Lines.{Lines}
 use Rattle.written_types.specs.declared.fault.BuildFault.{BuildFault}
 use Rattle.written_types.specs.declared.place.Place.TheVariants.{Typed, Raised}
-use Rattle.written_types.specs.Declarations.{ahead, declaration, except, exception_added, id_member, type_dcl, with_typedef}
+use Rattle.written_types.specs.Declarations.{ahead, declaration, except, exception_added, id_member, type_dcl}
 use Rattle.written_types.specs.Faults.{at_most, each, line_of, max_enumerators, or_other}
-use Rattle.written_types.specs.Labels.{no_arms, no_labels, label_added, switch_kind, switch_line, switch_of, switch_read, switch_type, switched, Switched, values_of, with_case}
-use Rattle.written_types.specs.SimpleTypes.{array_type, const_type, declarator_line, entry_of, enum_type, integer_number, simple_type, type_found}
-use Rattle.written_types.specs.Types.{Cases, WithMembers, arm_line, case_added, cases_of, default_lines, default_number, default_test, members_added, no_members, numbered_arm, struct_defined, struct_type, type_spec, union_defined, union_type, with_cases, with_declarators, with_member, with_members, with_members_of}
-use Rattle.written_types.specs.Written.{Numbered, Written, added, already, counted, node_set, opened, place_in, place_of, placed, raised_at, undefined}
-use Rattle.written_types.proofs.Writing.{with_placed}
+use Rattle.written_types.specs.Labels.{no_arms, no_labels, label_added, switch_kind, switch_line, switch_of}
+use Rattle.written_types.specs.Labels.{switch_read, switch_type, switched, Switched, values_of, with_case}
+use Rattle.written_types.specs.SimpleTypes.{array_type, const_type, declarator_line, entry_of, enum_type}
+use Rattle.written_types.specs.SimpleTypes.{integer_number, type_found}
+use Rattle.written_types.specs.Types.{Cases, WithMembers, arm_line, case_added, cases_of, default_lines, default_number}
+use Rattle.written_types.specs.Types.{default_test, members_added, no_members, numbered_arm, struct_defined}
+use Rattle.written_types.specs.Types.{struct_type, type_spec, union_defined, union_type, with_cases, with_declarators}
+use Rattle.written_types.specs.Types.{with_member, with_members, with_members_of}
+use Rattle.written_types.specs.Written.{Numbered, Written, added, already, counted, node_set, opened, place_in, placed}
+use Rattle.written_types.specs.Written.{undefined}
 use Rattle.written_operations.specs.declared.signature.Signature.{Signature}
 use Rattle.written_names.specs.OneForOne.{HaveNames}
-use Rattle.written_names.specs.Types.{Part, cases_parts, declaration_parts, enum_parts, except_parts, member_names, member_parts, members_parts, name_of, names_in, names_of_cases, names_of_members, part, raising, struct_parts, switch_parts, type_dcl_parts, type_in, type_parts, typed, frame_in, union_parts, with_id}
+use Rattle.written_names.specs.Types.{Part, cases_parts, declaration_parts, enum_parts, except_parts, member_names}
+use Rattle.written_names.specs.Types.{member_parts, members_parts, name_of, names_in, names_of_cases, names_of_members}
+use Rattle.written_names.specs.Types.{part, raising, struct_parts, switch_parts, type_dcl_parts, type_in, type_parts}
+use Rattle.written_names.specs.Types.{typed, frame_in, union_parts, with_id}
 use Rattle.written_names.proofs.Labelled.{AreRead, Switch, case_more, labels_are_read, labels_in, union_names}
-use Rattle.written_names.proofs.Making.{HasNode, IsLate, Makes, Naming, between_one, makes_at, makes_back, makes_from, makes_none, makes_on, makes_to, silent}
+use Rattle.written_names.proofs.Making.{HasNode, IsLate, Makes, Naming, between_one, makes_at, makes_back, makes_from}
+use Rattle.written_names.proofs.Making.{makes_none, makes_on, makes_to, silent}
 use Rattle.written_names.proofs.Signs.{then_done}
-use Rattle.written_names.proofs.Stays.{IsMade, Stays, added_gives, added_stays, added_there, already_stays, counted_same, frame_is_defined, most_is, named_gives, not_made, open_gives, placed_gives, placed_here, placed_stays, set_gives, set_stays, set_there, stays_none, stays_on, stays_same, union_is_defined}
-use Rattle.written_names.proofs.StaysSimple.{HasMore, array_stays, const_stays, declarators_more, simple_stays, typedefs_stay}
+use Rattle.written_names.proofs.Stays.{IsAdded, IsMade, IsPlaced, Stays, added_gives, added_stays, added_there}
+use Rattle.written_names.proofs.Stays.{already_stays, counted_same, exceptions_stay, frame_is_defined, most_is}
+use Rattle.written_names.proofs.Stays.{named_gives, not_made, open_gives, placed_gives, placed_here, placed_stays}
+use Rattle.written_names.proofs.Stays.{set_gives, set_stays, set_there, stays_none, stays_on, stays_same}
+use Rattle.written_names.proofs.Stays.{union_is_defined}
+use Rattle.written_names.proofs.StaysSimple.{array_stays, const_stays, declarators_more, simple_stays, typedefs_stay}
 
 -- ---- the parts of a node that an entry has
 
-typed_told : (v : Written) (e n : ℕ) (names : List (List ℕ)) (ps : List Part) → slice_get v.places e ≡ Some (Some (Typed n))
+typed_told : (v : Written) (e n : ℕ) (names : List (List ℕ)) (ps : List Part)
+    → slice_get v.places e ≡ Some (Some (Typed n))
     → typed v e names ps ≡ Ok (ps ++ part n names ∷ [])
 typed_told v e n names ps is =
-    ap (λ p. or_other (type_in (place_in p)) >> λ n. let r : Result (List Part) BuildFault = Ok (ps ++ part n names ∷ []) in r) is
+    ap (λ p. or_other (type_in (place_in p)) >>
+    λ n. let r : Result (List Part) BuildFault = Ok (ps ++ part n names ∷ []) in r) is
 
-raising_told : (v : Written) (e n k : ℕ) (names : List (List ℕ)) (ps : List Part) → slice_get v.places e ≡ Some (Some (Raised n k))
+raising_told : (v : Written) (e n k : ℕ) (names : List (List ℕ)) (ps : List Part)
+    → slice_get v.places e ≡ Some (Some (Raised n k))
     → raising v e names ps ≡ Ok (ps ++ part n names ∷ [])
 raising_told v e n k names ps is =
-    ap (λ p. or_other (frame_in (place_in p)) >> λ n. let r : Result (List Part) BuildFault = Ok (ps ++ part n names ∷ []) in r) is
+    ap (λ p. or_other (frame_in (place_in p)) >>
+    λ n. let r : Result (List Part) BuildFault = Ok (ps ++ part n names ∷ []) in r) is
 
 -- it is made from w to b
 one_made : (f : Naming) (w b : Written) (p : Part) → Stays w b → IsLate w.nodes p → HasNode b.nodes p
@@ -68,29 +88,34 @@ one_made f w b p stays late has told = record {
       (p ∷ [], same, between_one w b p late has);
 }
 
-typed_made : (w b : Written) (e n : ℕ) (names : List (List ℕ)) → Stays w b → IsLate w.nodes (part n names) → HasNode b.nodes (part n names)
+typed_made : (w b : Written) (e n : ℕ) (names : List (List ℕ)) → Stays w b → IsLate w.nodes (part n names)
+    → HasNode b.nodes (part n names)
     → slice_get b.places e ≡ Some (Some (Typed n)) → Makes (λ v ops ps. typed v e names ps) w b
 typed_made w b e n names stays late has place =
     one_made (λ v ops ps. typed v e names ps) w b (part n names) stays late has
     (λ v ops ps later. typed_told v e n names ps (later.places e (Typed n) place))
 
 -- a node that waited gets its definition
-defined_made : (w m b : Written) (count line e n : ℕ) (node : Node) (held : List ℕ) (names : List (List ℕ)) → counted w count line ≡ Ok m
-    → node_set m n node held ≡ Ok b → slice_get w.places e ≡ Some (Some (Typed n)) → (node ≡ undefined → ⊥) → HaveNames node (length names)
+defined_made : (w m b : Written) (count line e n : ℕ) (node : Node) (held : List ℕ) (names : List (List ℕ))
+    → counted w count line ≡ Ok m
+    → node_set m n node held ≡ Ok b → slice_get w.places e ≡ Some (Some (Typed n)) → (node ≡ undefined → ⊥)
+    → HaveNames node (length names)
     → Makes (λ v ops ps. typed v e names ps) w b
 defined_made w m b count line e n node held names counts sets place defined has =
     let same = counted_same w m count line counts in
     let set = set_gives m b n node held sets in
     let stays = stays_on w m b (stays_same w m same.0 same.1) (set_stays m b n node set) in
     let waits : slice_get w.nodes n ≡ Some undefined = ap (λ graph. slice_get graph n) (sym same.0) ∙ set.before in
-    typed_made w b e n names stays (late waits) (node, set_there m b n node set, defined, has) (stays.places e (Typed n) place)
+    typed_made w b e n names stays (late waits) (node, set_there m b n node set, defined, has)
+    (stays.places e (Typed n) place)
   where
     late : slice_get w.nodes n ≡ Some undefined → IsMade w.nodes n → ⊥
     late waits (other, is, not_so) = let same : other ≡ undefined = cc in not_so same
 
 -- ---- enumerations
 
-pub enum_makes : (es : List Entry) (w : Written) (scope : ℕ) (e : EnumType) (n : Numbered) → enum_type es w scope e ≡ Ok n
+pub enum_makes : (es : List Entry) (w : Written) (scope : ℕ) (e : EnumType) (n : Numbered)
+    → enum_type es w scope e ≡ Ok n
     → Makes (λ v ops ps. enum_parts es v scope ps e) w n.written
 enum_makes es w scope e n h =
     let ids = parts e.enumerators in
@@ -99,9 +124,11 @@ enum_makes es w scope e n h =
     let (count, fits, told) = then_done (at_most max_enumerators Enumerators line (length ids)) _ n h1 in
     let named = named_gives w entry (Enum count) line n told in
     let names = map word ids in
-    let long : length names ≡ count = length-map ids word ∙ sym (most_is max_enumerators Enumerators line (length ids) count fits) in
+    let long : length names ≡ count =
+    length-map ids word ∙ sym (most_is max_enumerators Enumerators line (length ids) count fits) in
     makes_at (entry_of es scope e.identifier) entry (λ k v ops ps. typed v k names ps) w n.written is
-    (typed_made w n.written entry n.number names named.stays named.late (Enum count, named.there, (λ same. cc), long) named.place)
+    (typed_made w n.written entry n.number names named.stays named.late (Enum count, named.there, (λ same. cc), long)
+    named.place)
 
 -- ---- members
 
@@ -110,21 +137,28 @@ record MakesMembers (f : Naming) (m b : WithMembers) (more : ℕ) : Type 0 where
   makes : Makes f m.written b.written
   long : length b.members.numbers ≡ length m.members.numbers + more
 
-members_none : (m b : WithMembers) → (let r : Result WithMembers BuildFault = Ok m in r) ≡ Ok b → MakesMembers silent m b 0
+members_none : (m b : WithMembers) → (let r : Result WithMembers BuildFault = Ok m in r) ≡ Ok b
+    → MakesMembers silent m b 0
 members_none m b h =
     let same : m ≡ b = cc in
-    subst (λ z. MakesMembers silent m z 0) same (record { makes = makes_none m.written m.written (stays_none m.written); long = omega arith })
+    subst (λ z. MakesMembers silent m z 0) same (record
+    { makes = makes_none m.written m.written (stays_none m.written); long = omega arith })
 
-members_on : (f g : Naming) (m k b : WithMembers) (first second : List (List ℕ)) → MakesMembers f m k (length first) → MakesMembers g k b (length second)
+members_on : (f g : Naming) (m k b : WithMembers) (first second : List (List ℕ)) → MakesMembers f m k (length first)
+    → MakesMembers g k b (length second)
     → MakesMembers (λ v ops ps. f v ops ps >> λ next. g v ops next) m b (length (first ++ second))
 members_on f g m k b first second one other =
     let long = one.long in
     let longer = other.long in
     let all = length-append first second in
-    record { makes = makes_on f g m.written k.written b.written one.makes other.makes; long = omega (arith, long, longer, all) }
+    record {
+      makes = makes_on f g m.written k.written b.written one.makes other.makes;
+      long = omega (arith, long, longer, all);
+    }
 
 -- the declarators of a type that is made
-declared : (es : List Entry) (scope : ℕ) (f : Naming) (m b : WithMembers) (t : Numbered) (ds : Listed Declarator) → Makes f m.written t.written
+declared : (es : List Entry) (scope : ℕ) (f : Naming) (m b : WithMembers) (t : Numbered) (ds : Listed Declarator)
+    → Makes f m.written t.written
     → with_declarators es scope t m.members ds ≡ Ok b → MakesMembers f m b (length (names_in ds))
 declared es scope f m b t ds made h =
     let more = declarators_more es scope t.number (with_members_of t.written m.members) b (parts ds) h in
@@ -142,11 +176,14 @@ record MakesCases (f : Naming) (c b : Cases) (more : ℕ) : Type 0 where
 cases_none : (c b : Cases) → (let r : Result Cases BuildFault = Ok c in r) ≡ Ok b → MakesCases silent c b 0
 cases_none c b h =
     let same : c ≡ b = cc in
-    subst (λ z. MakesCases silent c z 0) same (record { makes = makes_none c.written c.written (stays_none c.written); most = omega arith })
+    subst (λ z. MakesCases silent c z 0) same (record
+    { makes = makes_none c.written c.written (stays_none c.written); most = omega arith })
 
 -- a case of a type that is made
-case_made : (es : List Entry) (scope : ℕ) (s : Switch) (f : Naming) (c b : Cases) (labels : Listed Label) (type : Written → Result Numbered BuildFault) (d : Declarator)
-    → ((t : Numbered) → type c.written ≡ Ok t → Makes f c.written t.written) → case_added es scope s c labels type d ≡ Ok b → MakesCases f c b 1
+case_made : (es : List Entry) (scope : ℕ) (s : Switch) (f : Naming) (c b : Cases) (labels : Listed Label)
+    (type : Written → Result Numbered BuildFault) (d : Declarator)
+    → ((t : Numbered) → type c.written ≡ Ok t → Makes f c.written t.written)
+    → case_added es scope s c labels type d ≡ Ok b → MakesCases f c b 1
 case_made es scope s f c b labels type d makes h =
     let (ls, reads, h1) = then_done (each (label_added es scope s c.arms) no_labels (parts labels)) _ b h in
     let (t, typed, h2) = then_done (type c.written) _ b h1 in
@@ -165,20 +202,26 @@ cases_on : (f g : Naming) (c k b : Cases) (more : ℕ) → MakesCases f c k 1 �
 cases_on f g c k b more one other =
     let most = one.most in
     let others = other.most in
-    record { makes = makes_on f g c.written k.written b.written one.makes other.makes; most = omega (arith, most, others) }
+    record {
+      makes = makes_on f g c.written k.written b.written one.makes other.makes;
+      most = omega (arith, most, others);
+    }
 
 -- ---- discriminators
 
-switch_makes : (es : List Entry) (w : Written) (scope line : ℕ) (s : SwitchType) (r : Switched) → switch_read es w scope line s ≡ Ok r
+switch_makes : (es : List Entry) (w : Written) (scope line : ℕ) (s : SwitchType) (r : Switched)
+    → switch_read es w scope line s ≡ Ok r
     → Makes (λ v ops ps. switch_parts es v scope ps s) w r.written
 switch_makes es w scope line s r h =
     let (t, typed, h1) = then_done (switch_type es w scope s) _ r h in
     let (kind, is, h2) = then_done (switch_kind es scope s) _ r h1 in
-    let (switch, chosen, told) = then_done (switch_of (switch_line s line) t.number kind (values_of (slice_get t.written.nodes t.number))) _ r h2 in
+    let (switch, chosen, told) = then_done (switch_of (switch_line s line) t.number kind
+    (values_of (slice_get t.written.nodes t.number))) _ r h2 in
     let same : switched t.written switch ≡ r = cc in
     subst (λ z. Makes (λ v ops ps. switch_parts es v scope ps s) w z.written) same (by s t typed)
   where
-    by : (s : SwitchType) (t : Numbered) → switch_type es w scope s ≡ Ok t → Makes (λ v ops ps. switch_parts es v scope ps s) w t.written
+    by : (s : SwitchType) (t : Numbered) → switch_type es w scope s ≡ Ok t
+        → Makes (λ v ops ps. switch_parts es v scope ps s) w t.written
     by (SwitchTypes.Integer i) t h = makes_none w t.written (already_stays w (integer_number i) t h)
     by SwitchTypes.Char t h = makes_none w t.written (already_stays w 1 t h)
     by SwitchTypes.Boolean t h = makes_none w t.written (already_stays w 2 t h)
@@ -197,14 +240,16 @@ some_members [] some is = omega (arith, some)
 some_members (n ∷ ns) some is = cc
 
 mutual
-  pub type_makes : (es : List Entry) (w : Written) (scope line : ℕ) (t : TypeSpec) (n : Numbered) → type_spec es w scope line t ≡ Ok n
+  pub type_makes : (es : List Entry) (w : Written) (scope line : ℕ) (t : TypeSpec) (n : Numbered)
+      → type_spec es w scope line t ≡ Ok n
       → Makes (λ v ops ps. type_parts es v scope ps t) w n.written
   type_makes es w scope line (Simple t) n h = makes_none w n.written (simple_stays es w scope line t n h)
   type_makes es w scope line (StructSpec s) n h = struct_makes es w scope s n h
   type_makes es w scope line (UnionSpec u) n h = union_makes es w scope u n h
   type_makes es w scope line (EnumSpec e) n h = enum_makes es w scope e n h
 
-  pub struct_makes : (es : List Entry) (w : Written) (scope : ℕ) (s : StructType) (n : Numbered) → struct_type es w scope s ≡ Ok n
+  pub struct_makes : (es : List Entry) (w : Written) (scope : ℕ) (s : StructType) (n : Numbered)
+      → struct_type es w scope s ≡ Ok n
       → Makes (λ v ops ps. struct_parts es v scope ps s) w n.written
   struct_makes es w scope (StructType' id p t ds shape rest) n h =
       let line = line_of id in
@@ -222,20 +267,25 @@ mutual
       let inner : Naming = λ v ops ps. own v ops ps >> λ next. behind v ops next in
       let names = names_in ds ++ names_of_members rest in
       let body = members_on own behind start first m (names_in ds) (names_of_members rest)
-      (declared es (e + 1) own start first k ds (type_makes es o.written (e + 1) (declarator_line ds.first) t k typed_as) declares)
+      (declared es (e + 1) own start first k ds
+      (type_makes es o.written (e + 1) (declarator_line ds.first) t k typed_as) declares)
       (members_make es (e + 1) first rest m others) in
       let all = body.long in
       let long : length names ≡ length m.members.numbers = omega (arith, all) in
       let some : 1 ≤ length m.members.numbers = omega (arith, all) in
       let made = open_gives w e line o opens in
-      let last = defined_made m.written c b (length m.members.numbers) line e o.number (Struct m.members.numbers) m.members.lines names counts sets
+      let last = defined_made m.written c b (length m.members.numbers) line e o.number (Struct m.members.numbers)
+      m.members.lines names counts sets
       (body.makes.stays.places e (Typed o.number) made.place) (some_members m.members.numbers some) long in
       let same = ok_same (already b o.number) n told in
       subst (λ z. Makes (λ v ops ps. struct_parts es v scope ps (StructType' id p t ds shape rest)) w z.written) same
-      (makes_at (entry_of es scope id) e (λ x v ops ps. typed v x names ps >> λ own. type_parts es v (x + 1) own t >> λ next. members_parts es v (x + 1) next rest) w b is
-      (makes_back (λ v ops ps. typed v e names ps) inner w m.written b last (makes_from inner w o.written m.written made.stays body.makes)))
+      (makes_at (entry_of es scope id) e (λ x v ops ps. typed v x names ps >> λ own.
+      type_parts es v (x + 1) own t >> λ next. members_parts es v (x + 1) next rest) w b is
+      (makes_back (λ v ops ps. typed v e names ps) inner w m.written b last
+      (makes_from inner w o.written m.written made.stays body.makes)))
 
-  pub union_makes : (es : List Entry) (w : Written) (scope : ℕ) (u : UnionType) (n : Numbered) → union_type es w scope u ≡ Ok n
+  pub union_makes : (es : List Entry) (w : Written) (scope : ℕ) (u : UnionType) (n : Numbered)
+      → union_type es w scope u ≡ Ok n
       → Makes (λ v ops ps. union_parts es v scope ps u) w n.written
   union_makes es w scope (UnionType' id switch p labels t d shape rest) n h =
       let line = line_of id in
@@ -256,21 +306,30 @@ mutual
       let inner : Naming = λ v ops ps. chosen v ops ps >> λ next. cases v ops next in
       let names = name_of d ∷ names_of_cases rest in
       let body = cases_on own behind start first c (length (names_of_cases rest))
-      (case_made es (e + 1) s.switch own start first labels type d (λ k typed_as. type_makes es s.written (e + 1) (declarator_line d) t k typed_as) begins)
+      (case_made es (e + 1) s.switch own start first labels type d
+      (λ k typed_as. type_makes es s.written (e + 1) (declarator_line d) t k typed_as) begins)
       (cases_make es (e + 1) s.switch first rest c others) in
-      let whole = makes_on chosen cases o.written s.written c.written (switch_makes es o.written (e + 1) line switch s switches) body.makes in
+      let whole = makes_on chosen cases o.written s.written c.written
+      (switch_makes es o.written (e + 1) line switch s switches) body.makes in
       let node = Union s.switch.number (map numbered_arm c.arms.arms) (default_number c.arms.default) in
-      let has : HaveNames node (length names) = union_names s.switch.number c.arms (length (names_of_cases rest)) body.most in
+      let has : HaveNames node (length names) =
+      union_names s.switch.number c.arms (length (names_of_cases rest)) body.most in
       let made = open_gives w e line o opens in
-      let last = defined_made c.written m b (length c.arms.arms) line e o.number node (map arm_line c.arms.arms ++ default_lines c.arms.default) names counts sets
-      (whole.stays.places e (Typed o.number) made.place) (union_is_defined s.switch.number (map numbered_arm c.arms.arms) (default_number c.arms.default)) has in
+      let last = defined_made c.written m b (length c.arms.arms) line e o.number node
+      (map arm_line c.arms.arms ++ default_lines c.arms.default) names counts sets
+      (whole.stays.places e (Typed o.number) made.place)
+      (union_is_defined s.switch.number (map numbered_arm c.arms.arms) (default_number c.arms.default)) has in
       let same = ok_same (already b o.number) n told in
-      subst (λ z. Makes (λ v ops ps. union_parts es v scope ps (UnionType' id switch p labels t d shape rest)) w z.written) same
+      subst (λ z. Makes (λ v ops ps. union_parts es v scope ps (UnionType' id switch p labels t d shape rest))
+      w z.written) same
       (makes_at (entry_of es scope id) e
-      (λ x v ops ps. typed v x names ps >> λ own. switch_parts es v (x + 1) own switch >> λ s. type_parts es v (x + 1) s t >> λ next. cases_parts es v (x + 1) next rest) w b is
-      (makes_back (λ v ops ps. typed v e names ps) inner w c.written b last (makes_from inner w o.written c.written made.stays whole)))
+      (λ x v ops ps. typed v x names ps >> λ own. switch_parts es v (x + 1) own switch >> λ s.
+      type_parts es v (x + 1) s t >> λ next. cases_parts es v (x + 1) next rest) w b is
+      (makes_back (λ v ops ps. typed v e names ps) inner w c.written b last
+      (makes_from inner w o.written c.written made.stays whole)))
 
-  members_make : {n : _} → (es : List Entry) (scope : ℕ) (m : WithMembers) (row : Row_of-Member n) (b : WithMembers) → with_members es scope m row ≡ Ok b
+  members_make : {n : _} → (es : List Entry) (scope : ℕ) (m : WithMembers) (row : Row_of-Member n) (b : WithMembers)
+      → with_members es scope m row ≡ Ok b
       → MakesMembers (λ v ops ps. members_parts es v scope ps row) m b (length (names_of_members row))
   members_make es scope m end_of-Member b h = members_none m b h
   members_make es scope m (more_of-Member t ds rest) b h =
@@ -280,9 +339,11 @@ mutual
       let (k, typed_as, declares) = then_done type (λ k. with_declarators es scope k m.members ds) next begins in
       let own : Naming = λ v ops ps. type_parts es v scope ps t in
       members_on own (λ v ops ps. members_parts es v scope ps rest) m next b (names_in ds) (names_of_members rest)
-      (declared es scope own m next k ds (type_makes es m.written scope line t k typed_as) declares) (members_make es scope next rest b others)
+      (declared es scope own m next k ds (type_makes es m.written scope line t k typed_as) declares)
+      (members_make es scope next rest b others)
 
-  cases_make : {n : _} → (es : List Entry) (scope : ℕ) (s : Switch) (c : Cases) (row : Row_of-Case n) (b : Cases) → with_cases es scope s c row ≡ Ok b
+  cases_make : {n : _} → (es : List Entry) (scope : ℕ) (s : Switch) (c : Cases) (row : Row_of-Case n) (b : Cases)
+      → with_cases es scope s c row ≡ Ok b
       → MakesCases (λ v ops ps. cases_parts es v scope ps row) c b (length (names_of_cases row))
   cases_make es scope s c end_of-Case b h = cases_none c b h
   cases_make es scope s c (more_of-Case labels t d rest) b h =
@@ -291,21 +352,60 @@ mutual
       let (next, begins, others) = then_done (case_added es scope s c labels type d) _ b h in
       let own : Naming = λ v ops ps. type_parts es v scope ps t in
       cases_on own (λ v ops ps. cases_parts es v scope ps rest) c next b (length (names_of_cases rest))
-      (case_made es scope s own c next labels type d (λ k typed_as. type_makes es c.written scope line t k typed_as) begins) (cases_make es scope s next rest b others)
+      (case_made es scope s own c next labels type d (λ k typed_as. type_makes es c.written scope line t k typed_as)
+      begins) (cases_make es scope s next rest b others)
 
 -- ---- exceptions
 
-each_member : (es : List Entry) (scope : ℕ) (m b : WithMembers) (xs : List Member) → each (with_member es scope) m xs ≡ Ok b
+each_member : (es : List Entry) (scope : ℕ) (m b : WithMembers) (xs : List Member)
+    → each (with_member es scope) m xs ≡ Ok b
     → MakesMembers (λ v ops ps. each (member_parts es v scope) ps xs) m b (length (flat_map member_names xs))
 each_member es scope m b [] h = members_none m b h
 each_member es scope m b (x ∷ xs) h =
     let line = declarator_line x.declarators.first in
     let type = type_spec es m.written scope line x.member_type in
     let (next, begins, others) = then_done (with_member es scope m x) _ b h in
-    let (k, typed_as, declares) = then_done type (λ k. with_declarators es scope k m.members x.declarators) next begins in
+    let (k, typed_as, declares) = then_done type (λ k. with_declarators es scope k m.members x.declarators) next
+    begins in
     let own : Naming = λ v ops ps. member_parts es v scope ps x in
-    members_on own (λ v ops ps. each (member_parts es v scope) ps xs) m next b (member_names x) (flat_map member_names xs)
-    (declared es scope own m next k x.declarators (type_makes es m.written scope line x.member_type k typed_as) declares) (each_member es scope next b xs others)
+    members_on own (λ v ops ps. each (member_parts es v scope) ps xs) m next b (member_names x)
+    (flat_map member_names xs)
+    (declared es scope own m next k x.declarators (type_makes es m.written scope line x.member_type k typed_as)
+    declares) (each_member es scope next b xs others)
+
+-- the frame of an exception's members
+exception_made : (m : WithMembers) (b : Written) (e line : ℕ) (names : List (List ℕ)) → exception_added m e line ≡ Ok b
+    → length names ≡ length m.members.numbers → Makes (λ v ops ps. raising v e names ps) m.written b
+exception_made m b e line names h long =
+    let numbers = m.members.numbers in
+    let lines : Lines = record { line = line; held = m.members.lines } in
+    let (c, counts, h1) = then_done (counted m.written (length numbers) line) _ b h in
+    let (a, adds, h2) = then_done (added c (Frame numbers) lines) _ b h1 in
+    let place = Raised a.number (length a.written.exceptions) in
+    let (v, places, told) = then_done (placed a.written e place) _ b h2 in
+    makes_to (λ u ops ps. raising u e names ps) m.written v b
+    (frame_made m.written c v a e (length a.written.exceptions) numbers names
+    (counted_same m.written c (length numbers) line counts)
+    (added_gives c (Frame numbers) lines a adds) (placed_gives a.written v e place places) long)
+    (exceptions_stay v b (v.exceptions ++ (e, a.number) ∷ []) told)
+  where
+    frame_made : (w c v : Written) (a : Numbered) (e k : ℕ) (numbers : List ℕ) (names : List (List ℕ))
+        → (c.nodes ≡ w.nodes) × (c.places ≡ w.places) → IsAdded c (Frame numbers) a
+        → IsPlaced a.written e (Raised a.number k) v
+        → length names ≡ length numbers → Makes (λ u ops ps. raising u e names ps) w v
+    frame_made w c v a e k numbers names same added_as placed_as long =
+        let place = Raised a.number k in
+        let number = added_as.number in
+        let counted_long = ap length same.0 in
+        let stays = stays_on w c v (stays_same w c same.0 same.1)
+        (stays_on c a.written v (added_stays c (Frame numbers) a added_as)
+        (placed_stays a.written v e place placed_as)) in
+        let there = ap (λ graph. slice_get graph a.number) placed_as.nodes ∙ added_there c (Frame numbers) a added_as in
+        one_made (λ u ops ps. raising u e names ps) w v (part a.number names) stays
+        (not_made w a.number (omega (arith, number, counted_long)))
+        (Frame numbers, there, frame_is_defined numbers, long)
+        (λ u ops ps later. raising_told u e a.number k names ps
+        (later.places e place (placed_here a.written v e place placed_as)))
 
 pub except_makes : (es : List Entry) (w : Written) (scope : ℕ) (x : Except) (b : Written) → except es w scope x ≡ Ok b
     → Makes (λ v ops ps. except_parts es v scope ps x) w b
@@ -314,37 +414,21 @@ except_makes es w scope x b h =
     let xs = x.members.items in
     let start = with_members_of w (id_member line) in
     let (e, is, h1) = then_done (entry_of es scope x.identifier) _ b h in
-    let (m, members, h2) = then_done (each (with_member es (e + 1)) start xs) _ b h1 in
-    let numbers = m.members.numbers in
-    let lines : Lines = record { line = line; held = m.members.lines } in
-    let (c, counts, h3) = then_done (counted m.written (length numbers) line) _ b h2 in
-    let (a, adds, h4) = then_done (added c (Frame numbers) lines) _ b h3 in
-    let place = Raised a.number (length a.written.exceptions) in
-    let (v, places, told) = then_done (placed a.written e place) _ b h4 in
+    let (m, members, told) = then_done (each (with_member es (e + 1)) start xs) _ b h1 in
     let names = with_id (flat_map member_names xs) in
     let inner : Naming = λ v ops ps. each (member_parts es v (e + 1)) ps xs in
-    let own : Naming = λ v ops ps. raising v e names ps in
     let body = each_member es (e + 1) start m xs members in
     let all = body.long in
-    let long : length names ≡ length numbers = omega (arith, all) in
-    let same_c = counted_same m.written c (length numbers) line counts in
-    let added_as = added_gives c (Frame numbers) lines a adds in
-    let placed_as = placed_gives a.written v e place places in
-    let number = added_as.number in
-    let counted_long = ap length same_c.0 in
-    let stays = stays_on m.written c v (stays_same m.written c same_c.0 same_c.1)
-    (stays_on c a.written v (added_stays c (Frame numbers) a added_as) (placed_stays a.written v e place placed_as)) in
-    let there = ap (λ graph. slice_get graph a.number) placed_as.nodes ∙ added_there c (Frame numbers) a added_as in
-    let last = one_made own m.written v (part a.number names) stays (not_made m.written a.number (omega (arith, number, counted_long)))
-    (Frame numbers, there, frame_is_defined numbers, long)
-    (λ u ops ps later. raising_told u e a.number (length a.written.exceptions) names ps (later.places e place (placed_here a.written v e place placed_as))) in
-    let same : record v { exceptions = v.exceptions ++ (e, a.number) ∷ [] } ≡ b = cc in
-    makes_at (entry_of es scope x.identifier) e (λ k u ops ps. raising u k names ps >> λ own. each (member_parts es u (k + 1)) own xs) w b is
-    (makes_back own inner w m.written b (makes_to own m.written v b last (stays_same v b (sym (ap (λ z. z.nodes) same)) (sym (ap (λ z. z.places) same)))) body.makes)
+    let long : length names ≡ length m.members.numbers = omega (arith, all) in
+    makes_at (entry_of es scope x.identifier) e (λ k u ops ps. raising u k names ps >> λ own. each
+    (member_parts es u (k + 1)) own xs) w b is
+    (makes_back (λ v ops ps. raising v e names ps) inner w m.written b (exception_made m b e line names told long)
+    body.makes)
 
 -- ---- declarations
 
-numbered_makes : (f : Naming) (w v : Written) (n : Numbered) → Makes f w n.written → (let r : Result Written BuildFault = Ok n.written in r) ≡ Ok v → Makes f w v
+numbered_makes : (f : Naming) (w v : Written) (n : Numbered) → Makes f w n.written
+    → (let r : Result Written BuildFault = Ok n.written in r) ≡ Ok v → Makes f w v
 numbered_makes f w v n made h = let same : n.written ≡ v = cc in subst (Makes f w) same made
 
 ahead_makes : (es : List Entry) (w v : Written) (scope : ℕ) (id : Leaf) → ahead es w scope id ≡ Ok v → Makes silent w v
@@ -359,7 +443,8 @@ type_dcl_makes : (es : List Entry) (w : Written) (scope : ℕ) (t : TypeDcl) (v 
 type_dcl_makes es w scope (TypeDcls.Typedef t ds) v h =
     let line = declarator_line ds.first in
     let (n, typed_as, told) = then_done (type_spec es w scope line t) _ v h in
-    makes_to (λ u ops ps. type_parts es u scope ps t) w n.written v (type_makes es w scope line t n typed_as) (typedefs_stay es scope n.number n.written v (parts ds) told)
+    makes_to (λ u ops ps. type_parts es u scope ps t) w n.written v (type_makes es w scope line t n typed_as)
+    (typedefs_stay es scope n.number n.written v (parts ds) told)
 type_dcl_makes es w scope (TypeDcls.Struct s) v h =
     let (n, typed_as, told) = then_done (struct_type es w scope s) _ v h in
     numbered_makes (λ u ops ps. struct_parts es u scope ps s) w v n (struct_makes es w scope s n typed_as) told
@@ -372,7 +457,8 @@ type_dcl_makes es w scope (TypeDcls.Enum e) v h =
 type_dcl_makes es w scope (TypeDcls.StructAhead id) v h = ahead_makes es w v scope id h
 type_dcl_makes es w scope (TypeDcls.UnionAhead id) v h = ahead_makes es w v scope id h
 
-pub declaration_makes : (es : List Entry) (w : Written) (scope : ℕ) (x : Declaration) (v : Written) → declaration es w scope x ≡ Ok v
+pub declaration_makes : (es : List Entry) (w : Written) (scope : ℕ) (x : Declaration) (v : Written)
+    → declaration es w scope x ≡ Ok v
     → Makes (λ u ops ps. declaration_parts es u scope ps x) w v
 declaration_makes es w scope (Declarations.TypeDcl t) v h = type_dcl_makes es w scope t v h
 declaration_makes es w scope (Declarations.Const c) v h =

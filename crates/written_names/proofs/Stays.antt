@@ -1,5 +1,6 @@
 -- What is written stays so: nodes that have their definitions, and what entries have.
-use Rattle.std.proofs.Common.{◌≡◌, ◌∙◌, ◌⊎◌, inl, inr, ℕ, ◌+◌, ◌≤◌, le_refl, List, [], ◌∷◌, ◌++◌, length, length-append, Option, Some, None, Result, Ok, Err, refl, sym, ap, subst, arith, ℤ}
+use Rattle.std.proofs.Common.{◌≡◌, ◌∙◌, ◌⊎◌, inl, inr, ℕ, ◌+◌, ◌≤◌, le_refl, List, [], ◌∷◌, ◌++◌, length, length-append}
+use Rattle.std.proofs.Common.{Option, Some, None, Result, Ok, Err, refl, sym, ap, subst, arith, ℤ}
 use Rattle.std.specs.Prelude.{if◌then◌else◌, slice_get, slice_set}
 use Rattle.std.proofs.lemmas.Option.{slice_get_within}
 use Rattle.type_graph.specs.declared.fault.GraphLimit.{GraphLimit}
@@ -13,7 +14,9 @@ use Rattle.written_types.specs.declared.fault.BuildFault.TheVariants.{OtherNames
 use Rattle.written_types.specs.declared.place.Place.{Place}
 use Rattle.written_types.specs.declared.place.Place.TheVariants.{Typed}
 use Rattle.written_types.specs.Faults.{at_most, max_all_members, max_nodes}
-use Rattle.written_types.specs.Written.{Numbered, Written, added, added_at, already, counted, is_undefined, named_type, next, node_set, one_line, opened, opened_as, placed, placed_at, type_in, undefined, with_node}
+use Rattle.written_types.specs.Written.{Numbered, Written, added, added_at, already, counted, is_undefined, named_type}
+use Rattle.written_types.specs.Written.{next, node_set, one_line, opened, opened_as, placed, placed_at, type_in}
+use Rattle.written_types.specs.Written.{undefined, with_node}
 use Rattle.written_types.proofs.Defining.{with_defined}
 use Rattle.written_types.proofs.Fine.{at_most_fine}
 use Rattle.written_types.proofs.Spots.{push_low, same_or_not, set_here, set_other}
@@ -49,12 +52,14 @@ pub made_stays : (w v : Written) (n : ℕ) → Stays w v → IsMade w.nodes n �
 made_stays w v n stays (node, is, defined) = (node, stays.nodes n node is defined, defined)
 
 -- a type that has its number already
-pub already_stays : (w : Written) (k : ℕ) (n : Numbered) → (let r : Result Numbered BuildFault = Ok (already w k) in r) ≡ Ok n
+pub already_stays : (w : Written) (k : ℕ) (n : Numbered)
+    → (let r : Result Numbered BuildFault = Ok (already w k) in r) ≡ Ok n
     → Stays w n.written
 already_stays w k n h = let same : already w k ≡ n = cc in subst (λ m. Stays w m.written) same (stays_none w)
 
 -- nodes of other kinds don't wait
-pub union_is_defined : (switch : ℕ) (arms : List (ℤ × ℕ)) (default : Option ℕ) → Union switch arms default ≡ undefined → ⊥
+pub union_is_defined : (switch : ℕ) (arms : List (ℤ × ℕ)) (default : Option ℕ) → Union switch arms default ≡ undefined
+    → ⊥
 union_is_defined switch arms default is = cc
 
 pub frame_is_defined : (members : List ℕ) → Frame members ≡ undefined → ⊥
@@ -67,7 +72,8 @@ pub record IsAdded (w : Written) (node : Node) (n : Numbered) : Type 0 where
   pub nodes : n.written.nodes ≡ w.nodes ++ node ∷ []
   pub places : n.written.places ≡ w.places
 
-pub added_gives : (w : Written) (node : Node) (lines : Lines) (n : Numbered) → added w node lines ≡ Ok n → IsAdded w node n
+pub added_gives : (w : Written) (node : Node) (lines : Lines) (n : Numbered) → added w node lines ≡ Ok n
+    → IsAdded w node n
 added_gives w node lines n h =
     let (k, fits, told) = then_done (at_most max_nodes Nodes lines.line (next w + 1)) _ n h in
     let same : already (with_node w node lines) (next w) ≡ n = cc in
@@ -79,17 +85,21 @@ added_stays w node n h = record {
   places = λ e p is. ap (λ all. slice_get all e) h.places ∙ is;
 }
 
-pub added_there : (w : Written) (node : Node) (n : Numbered) → IsAdded w node n → slice_get n.written.nodes n.number ≡ Some node
+pub added_there : (w : Written) (node : Node) (n : Numbered) → IsAdded w node n
+    → slice_get n.written.nodes n.number ≡ Some node
 added_there w node n h =
-    ap (λ graph. slice_get graph n.number) h.nodes ∙ ap (slice_get (w.nodes ++ node ∷ [])) h.number ∙ get_push_last w.nodes node
+    ap (λ graph. slice_get graph n.number) h.nodes ∙ ap (slice_get (w.nodes ++ node ∷ [])) h.number ∙ get_push_last
+    w.nodes node
 
 pub not_made : (w : Written) (n : ℕ) → length w.nodes ≤ n → IsMade w.nodes n → ⊥
 not_made w n le (node, is, defined) = let lt = slice_get_within w.nodes n node is in omega (arith, le, lt)
 
-pub added_long : (w : Written) (node : Node) (n : Numbered) → IsAdded w node n → length n.written.nodes ≡ length w.nodes + 1
+pub added_long : (w : Written) (node : Node) (n : Numbered) → IsAdded w node n
+    → length n.written.nodes ≡ length w.nodes + 1
 added_long w node n h = ap length h.nodes ∙ length-append w.nodes (node ∷ [])
 
-pub adds_stays : (w : Written) (node : Node) (lines : Lines) (n : Numbered) → added w node lines ≡ Ok n → Stays w n.written
+pub adds_stays : (w : Written) (node : Node) (lines : Lines) (n : Numbered) → added w node lines ≡ Ok n
+    → Stays w n.written
 adds_stays w node lines n h = added_stays w node n (added_gives w node lines n h)
 
 -- ---- what an entry has
@@ -126,11 +136,13 @@ pub record IsDefined (w : Written) (number : ℕ) (node : Node) (v : Written) : 
   pub nodes : v.nodes ≡ slice_set w.nodes number node
   pub places : v.places ≡ w.places
 
-pub set_gives : (w v : Written) (number : ℕ) (node : Node) (held : List ℕ) → node_set w number node held ≡ Ok v → IsDefined w number node v
+pub set_gives : (w v : Written) (number : ℕ) (node : Node) (held : List ℕ) → node_set w number node held ≡ Ok v
+    → IsDefined w number node v
 set_gives w v number node held h = by (slice_get w.nodes number) refl h
   where
     by : (o : Option Node) → slice_get w.nodes number ≡ o
-        → (let r : Result Written BuildFault = if is_undefined o then Ok (with_defined w number node held) else Err OtherNames in r) ≡ Ok v
+        → (let r : Result Written BuildFault = if is_undefined o then Ok (with_defined w number node held) else Err
+        OtherNames in r) ≡ Ok v
         → IsDefined w number node v
     by (Some (Struct [])) is h =
         let same : with_defined w number node held ≡ v = cc in
@@ -152,18 +164,29 @@ set_stays w v number node h = record {
         absurd (defined open_yet)
     by n old is defined (inr differs) = set_other w.nodes number n node differs ∙ is
 
-pub set_there : (w v : Written) (number : ℕ) (node : Node) → IsDefined w number node v → slice_get v.nodes number ≡ Some node
-set_there w v number node h = ap (λ graph. slice_get graph number) h.nodes ∙ set_here w.nodes number undefined node h.before
+pub set_there : (w v : Written) (number : ℕ) (node : Node) → IsDefined w number node v
+    → slice_get v.nodes number ≡ Some node
+set_there w v number node h = ap (λ graph. slice_get graph number) h.nodes ∙ set_here w.nodes number undefined node
+    h.before
 
 pub most_is : (most : ℕ) (which : GraphLimit) (line n k : ℕ) → at_most most which line n ≡ Ok k → k ≡ n
 most_is most which line n k h =
     (given_by (λ k. (k ≡ n) × (n ≤ most)) (at_most most which line n) k (at_most_fine most which line n) h).0
 
-pub counted_same : (w v : Written) (count line : ℕ) → counted w count line ≡ Ok v → (v.nodes ≡ w.nodes) × (v.places ≡ w.places)
+pub counted_same : (w v : Written) (count line : ℕ) → counted w count line ≡ Ok v
+    → (v.nodes ≡ w.nodes) × (v.places ≡ w.places)
 counted_same w v count line h =
     let (all, fits, told) = then_done (at_most max_all_members AllMembers line (w.members + count)) _ v h in
     let same : record w { members = all } ≡ v = cc in
     (sym (ap (λ x. x.nodes) same), sym (ap (λ x. x.places) same))
+
+-- exceptions are no matter
+pub exceptions_stay : (v b : Written) (xs : List (ℕ × ℕ))
+    → (let r : Result Written BuildFault = Ok (record v { exceptions = xs }) in r) ≡ Ok b
+    → Stays v b
+exceptions_stay v b xs h =
+    let same : record v { exceptions = xs } ≡ b = cc in
+    subst (Stays v) same (stays_same v (record v { exceptions = xs }) refl refl)
 
 -- ---- types with names
 
@@ -173,7 +196,8 @@ pub record IsNamedType (w : Written) (e : ℕ) (node : Node) (n : Numbered) : Ty
   pub there : slice_get n.written.nodes n.number ≡ Some node
   pub place : slice_get n.written.places e ≡ Some (Some (Typed n.number))
 
-pub named_gives : (w : Written) (e : ℕ) (node : Node) (line : ℕ) (n : Numbered) → named_type w e node line ≡ Ok n → IsNamedType w e node n
+pub named_gives : (w : Written) (e : ℕ) (node : Node) (line : ℕ) (n : Numbered) → named_type w e node line ≡ Ok n
+    → IsNamedType w e node n
 named_gives w e node line n h =
     let (a, adds, h1) = then_done (added_at w node line) _ n h in
     let (v, places, told) = then_done (placed a.written e (Typed a.number)) _ n h1 in
@@ -182,7 +206,8 @@ named_gives w e node line n h =
     let at = added_as.number in
     let same : already v a.number ≡ n = cc in
     subst (IsNamedType w e node) same (record {
-      stays = stays_on w a.written v (added_stays w node a added_as) (placed_stays a.written v e (Typed a.number) placed_as);
+      stays = stays_on w a.written v (added_stays w node a added_as)
+          (placed_stays a.written v e (Typed a.number) placed_as);
       late = not_made w a.number (omega (arith, at));
       there = ap (λ graph. slice_get graph a.number) placed_as.nodes ∙ added_there w node a added_as;
       place = placed_here a.written v e (Typed a.number) placed_as;

@@ -1,5 +1,6 @@
 -- The types that have no names leave what is written, and so many declarators are so many members.
-use Rattle.std.proofs.Common.{◌≡◌, ◌∙◌, ℕ, ◌+◌, List, [], ◌∷◌, ◌++◌, length, length-append, Option, Some, None, Result, Ok, refl, sym, ap, subst, arith}
+use Rattle.std.proofs.Common.{◌≡◌, ◌∙◌, ℕ, ◌+◌, List, [], ◌∷◌, ◌++◌, length, length-append, Some, None, Ok, sym, ap}
+use Rattle.std.proofs.Common.{subst, arith}
 use Rattle.idl_tree.specs.declared.types.ConstType.{ConstType}
 use Rattle.idl_tree.specs.declared.types.ConstType.TheVariants as ConstTypes
 use Rattle.idl_tree.specs.declared.types.ParamType.{ParamType}
@@ -14,13 +15,16 @@ use Rattle.written_types.specs.declared.place.Place.TheVariants.{Typed}
 use Rattle.written_types.specs.Declarations.{with_typedef}
 use Rattle.written_types.specs.Faults.{at_most, each, line_of, max_members}
 use Rattle.written_types.specs.Members.{Members}
-use Rattle.written_types.specs.SimpleTypes.{array_type, arrays, bound_of, bound_or_none, const_type, declarator_line, entry_of, integer_number, param_type, simple_type, sizes_read, type_found}
+use Rattle.written_types.specs.SimpleTypes.{array_type, arrays, bound_of, bound_or_none, const_type, declarator_line}
+use Rattle.written_types.specs.SimpleTypes.{entry_of, integer_number, param_type, simple_type, sizes_read, type_found}
 use Rattle.written_types.specs.Types.{WithMembers, member_added, with_declarator, with_members_of}
-use Rattle.written_types.specs.Written.{Numbered, Written, already, one_line, placed}
+use Rattle.written_types.specs.Written.{Numbered, Written, already, one_line}
 use Rattle.written_names.proofs.Signs.{then_done}
-use Rattle.written_names.proofs.Stays.{Stays, adds_stays, already_stays, placed_gives, placed_stays, stays_none, stays_on}
+use Rattle.written_names.proofs.Stays.{Stays, adds_stays, already_stays, placed_gives, placed_stays, stays_none}
+use Rattle.written_names.proofs.Stays.{stays_on}
 
-pub const_stays : (es : List Entry) (w : Written) (scope : ℕ) (t : ConstType) (n : Numbered) → const_type es w scope t ≡ Ok n → Stays w n.written
+pub const_stays : (es : List Entry) (w : Written) (scope : ℕ) (t : ConstType) (n : Numbered)
+    → const_type es w scope t ≡ Ok n → Stays w n.written
 const_stays es w scope (ConstTypes.Integer i) n h = already_stays w (integer_number i) n h
 const_stays es w scope ConstTypes.Octet n h = already_stays w 0 n h
 const_stays es w scope ConstTypes.Char n h = already_stays w 1 n h
@@ -33,24 +37,31 @@ const_stays es w scope (ConstTypes.Name name) n h =
     let (k, is, told) = then_done (type_found es w scope name) _ n h in
     already_stays w k n told
 
-pub param_stays : (es : List Entry) (w : Written) (scope : ℕ) (t : ParamType) (n : Numbered) → param_type es w scope t ≡ Ok n → Stays w n.written
+pub param_stays : (es : List Entry) (w : Written) (scope : ℕ) (t : ParamType) (n : Numbered)
+    → param_type es w scope t ≡ Ok n → Stays w n.written
 param_stays es w scope (ParamTypes.Plain t) n h = const_stays es w scope t n h
 param_stays es w scope ParamTypes.Object n h = already_stays w 13 n h
 
-pub simple_stays : (es : List Entry) (w : Written) (scope line : ℕ) (t : SimpleType) (n : Numbered) → simple_type es w scope line t ≡ Ok n → Stays w n.written
+pub simple_stays : (es : List Entry) (w : Written) (scope line : ℕ) (t : SimpleType) (n : Numbered)
+    → simple_type es w scope line t ≡ Ok n → Stays w n.written
 simple_stays es w scope line (Plain t) n h = param_stays es w scope t n h
 simple_stays es w scope line (Sequence' shape element bound) n h =
     let (e, first, h1) = then_done (simple_type es w scope line element) _ n h in
     let (most, is, told) = then_done (bound_or_none es scope bound) _ n h1 in
-    stays_on w e.written n.written (simple_stays es w scope line element e first) (adds_stays e.written (Seq e.number most) (one_line line) n told)
+    stays_on w e.written n.written (simple_stays es w scope line element e first)
+    (adds_stays e.written (Seq e.number most) (one_line line) n told)
 
-arrays_stay : (element : Numbered) (line : ℕ) (sizes : List ℕ) (n : Numbered) → arrays element line sizes ≡ Ok n → Stays element.written n.written
-arrays_stay element line [] n h = let same : element ≡ n = cc in subst (λ m. Stays element.written m.written) same (stays_none element.written)
+arrays_stay : (element : Numbered) (line : ℕ) (sizes : List ℕ) (n : Numbered) → arrays element line sizes ≡ Ok n
+    → Stays element.written n.written
+arrays_stay element line [] n h = let same : element ≡ n = cc in subst (λ m. Stays element.written m.written) same
+    (stays_none element.written)
 arrays_stay element line (k ∷ ks) n h =
     let (inner, first, told) = then_done (arrays element line ks) _ n h in
-    stays_on element.written inner.written n.written (arrays_stay element line ks inner first) (adds_stays inner.written (Array inner.number k) (one_line line) n told)
+    stays_on element.written inner.written n.written (arrays_stay element line ks inner first)
+    (adds_stays inner.written (Array inner.number k) (one_line line) n told)
 
-pub array_stays : (es : List Entry) (scope : ℕ) (element : Numbered) (d : Declarator) (n : Numbered) → array_type es scope element d ≡ Ok n → Stays element.written n.written
+pub array_stays : (es : List Entry) (scope : ℕ) (element : Numbered) (d : Declarator) (n : Numbered)
+    → array_type es scope element d ≡ Ok n → Stays element.written n.written
 array_stays es scope element d n h =
     let (ns, is, told) = then_done (sizes_read es scope d.sizes.items) _ n h in
     arrays_stay element (declarator_line d) ns n told
@@ -62,14 +73,16 @@ pub record HasMore (m b : WithMembers) (more : ℕ) : Type 0 where
   pub stays : Stays m.written b.written
   pub long : length b.members.numbers ≡ length m.members.numbers + more
 
-pub member_more : (ms more : Members) (number line : ℕ) → member_added ms number line ≡ Ok more → length more.numbers ≡ length ms.numbers + 1
+pub member_more : (ms more : Members) (number line : ℕ) → member_added ms number line ≡ Ok more
+    → length more.numbers ≡ length ms.numbers + 1
 member_more ms more number line h =
     let (count, fits, told) = then_done (at_most max_members MembersLimit line (length ms.numbers + 1)) _ more h in
     let made : Members = record { numbers = ms.numbers ++ number ∷ []; lines = ms.lines ++ line ∷ [] } in
     let same : made ≡ more = cc in
     sym (ap (λ m. length m.numbers) same) ∙ length-append ms.numbers (number ∷ [])
 
-declarator_more : (es : List Entry) (scope number : ℕ) (m b : WithMembers) (d : Declarator) → with_declarator es scope number m d ≡ Ok b → HasMore m b 1
+declarator_more : (es : List Entry) (scope number : ℕ) (m b : WithMembers) (d : Declarator)
+    → with_declarator es scope number m d ≡ Ok b → HasMore m b 1
 declarator_more es scope number m b d h =
     let (a, arrayed, h1) = then_done (array_type es scope (already m.written number) d) _ b h in
     let (ms, adds, told) = then_done (member_added m.members a.number (declarator_line d)) _ b h1 in
@@ -79,7 +92,8 @@ declarator_more es scope number m b d h =
       long = member_more m.members ms a.number (declarator_line d) adds;
     })
 
-pub declarators_more : (es : List Entry) (scope number : ℕ) (m b : WithMembers) (ds : List Declarator) → each (with_declarator es scope number) m ds ≡ Ok b → HasMore m b (length ds)
+pub declarators_more : (es : List Entry) (scope number : ℕ) (m b : WithMembers) (ds : List Declarator)
+    → each (with_declarator es scope number) m ds ≡ Ok b → HasMore m b (length ds)
 declarators_more es scope number m b [] h =
     let same : m ≡ b = cc in
     subst (λ z. HasMore m z 0) same (record { stays = stays_none m.written; long = omega arith })
@@ -89,16 +103,21 @@ declarators_more es scope number m b (d ∷ ds) h =
     let others = declarators_more es scope number next b ds rest in
     let long = one.long in
     let longer = others.long in
-    record { stays = stays_on m.written next.written b.written one.stays others.stays; long = omega (arith, long, longer) }
+    record {
+      stays = stays_on m.written next.written b.written one.stays others.stays;
+      long = omega (arith, long, longer);
+    }
 
 -- ---- names for types
 
-pub typedefs_stay : (es : List Entry) (scope number : ℕ) (w v : Written) (ds : List Declarator) → each (with_typedef es scope number) w ds ≡ Ok v → Stays w v
+pub typedefs_stay : (es : List Entry) (scope number : ℕ) (w v : Written) (ds : List Declarator)
+    → each (with_typedef es scope number) w ds ≡ Ok v → Stays w v
 typedefs_stay es scope number w v [] h = let same : w ≡ v = cc in subst (Stays w) same (stays_none w)
 typedefs_stay es scope number w v (d ∷ ds) h =
     let (next, first, rest) = then_done (with_typedef es scope number w d) _ v h in
     let (a, arrayed, h1) = then_done (array_type es scope (already w number) d) _ next first in
     let (e, named_so, places) = then_done (entry_of es scope d.identifier) _ next h1 in
     let placed_as = placed_gives a.written next e (Typed a.number) places in
-    stays_on w next v (stays_on w a.written next (array_stays es scope (already w number) d a arrayed) (placed_stays a.written next e (Typed a.number) placed_as))
+    stays_on w next v (stays_on w a.written next (array_stays es scope (already w number) d a arrayed)
+    (placed_stays a.written next e (Typed a.number) placed_as))
     (typedefs_stay es scope number next v ds rest)

@@ -1,6 +1,11 @@
+use Rattle.std.proofs.Common.{◌≡◌, ◌∙◌, length, ap}
 use Rattle.std.proofs.lemmas.List.Elements.{All-from_recursion}
+use Rattle.std.proofs.lemmas.Result.{IfOk-weaker}
 use Rattle.part_names.specs.Names.{AreApart}
+use Rattle.written_names.specs.ByNode.{by_node}
+use Rattle.written_names.specs.Named.{AreNamed}
 use Rattle.written_names.proofs.FileNames.{only_memory, parts_apart}
+use Rattle.written_names.proofs.Placing.{named_by_node}
 use Rattle.written_names.proofs.named.name_parts.Goals as goal
 
 pub table_of-requires : goal.table_of-requires
@@ -11,3 +16,14 @@ table_of-requires c =
 pub memory_alone-requires : goal.memory_alone-requires
 memory_alone-requires c =
     only_memory c.args.spec.now c.args.names.now c.args.types.now c.args.signatures.now c.in-Err.fault c.requires c.in-Err.ensures
+
+pub returns-in-Ok : goal.returns-in-Ok
+returns-in-Ok c =
+    let names = c.args.names.now in
+    let w = c.args.types.now in
+    let ops = c.args.signatures.now in
+    let ps = c.in-Ok.list in
+    IfOk-weaker c.table_of.result (λ nodes. nodes ≡ by_node (length c.nodes.result.now) ps)
+    (AreNamed c.args.spec.now.definitions.items names w ops)
+    (λ nodes is. named_by_node c.args.spec.now names w ops ps nodes c.requires c.in-Ok.ensures
+    (is ∙ ap (λ graph. by_node (length graph) ps) c.nodes.ensures)) c.table_of.ensures
