@@ -321,10 +321,17 @@ fn operand_count(constant: &Const<'_>) -> usize {
     }
 }
 
+/// The same of the constant that a specification begins with.
+fn operand_count_in(spec: &Spec<'_>) -> Option<usize> {
+    first_const(spec).map(operand_count)
+}
+
 /// The same of the constant that tokens begin with.
 fn first_operand_count(alloc: Global, tokens: &[Token<'_>]) -> Result<Option<usize>, ParseFault> {
-    let spec = parse(alloc, tokens)?;
-    Ok(first_const(&spec).map(operand_count))
+    match parse(alloc, tokens) {
+        Ok(spec) => Ok(operand_count_in(&spec)),
+        Err(fault) => Err(fault),
+    }
 }
 
 struct Operands;
@@ -389,10 +396,17 @@ fn mark_lines(constant: &Const<'_>) -> [usize; 3] {
     marks(&constant.value.expr).unwrap_or([0; 3])
 }
 
+/// The same of the constant that a specification begins with.
+fn mark_lines_in(spec: &Spec<'_>) -> Option<[usize; 3]> {
+    first_const(spec).map(mark_lines)
+}
+
 /// The same of the constant that tokens begin with.
 fn first_mark_lines(alloc: Global, tokens: &[Token<'_>]) -> Result<Option<[usize; 3]>, ParseFault> {
-    let spec = parse(alloc, tokens)?;
-    Ok(first_const(&spec).map(mark_lines))
+    match parse(alloc, tokens) {
+        Ok(spec) => Ok(mark_lines_in(&spec)),
+        Err(fault) => Err(fault),
+    }
 }
 
 #[test]
