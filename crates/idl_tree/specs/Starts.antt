@@ -1,9 +1,13 @@
--- The parts of names, and the first tokens of names and expressions.
+-- Where tokens stand; the parts of names, and the first tokens of names and expressions.
 use Rattle.std.specs.Prelude.{Bool, false, List, [], Option, Some, None, is_some}
+use Rattle.idl_tree.specs.declared.names.At.{At}
 use Rattle.idl_tree.specs.declared.names.Leaf.{Leaf}
 use Rattle.idl_tree.specs.declared.names.ScopedName.{ScopedName}
 use Rattle.idl_tree.specs.declared.names.ScopedName.TheVariants.{Plain, Scoped}
 use Rattle.idl_tree.specs.declared.expression.Expr.{Expr, Name, Number, Character, Text, Boolean, Parenthesized', Signed', Chain'}
+
+abbrev pub leaf_at : Leaf → At
+leaf_at l = record { token = l.number; line = l.token.now.line }
 
 -- :: where a name begins with it, else its first identifier
 abbrev pub root_or : Option Leaf → Leaf → Leaf

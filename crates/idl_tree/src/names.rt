@@ -4,6 +4,7 @@ ghost use Rattle.std.specs.Prelude.{◌≡◌, ◌||◌, true, is_some, nat_lt, 
 ghost use Rattle.idl_lexer.specs.Words.{unescaped as unescaped_text};
 
 use idl_lexer::Token;
+use std::fmt::{Display, Error as FmtError, Formatter, Write};
 
 /// A token that the tree keeps. Its place in the tree tells its kind.
 #[derive(Clone, Copy)]
@@ -11,6 +12,21 @@ pub struct Leaf<'a> {
     pub token: &'a Token<'a>,
     /// The number of the token, counted from 0.
     pub number: usize,
+}
+
+/// Where a token stands. What is printed is the line.
+#[derive(Clone, Copy, Debug, PartialEq, Eq)]
+pub struct At {
+    /// The number of the token, counted from 0.
+    pub token: usize,
+    /// The line, counted from 1.
+    pub line: usize,
+}
+
+impl Display for At {
+    fn fmt<W: Write>(&self, f: &mut Formatter<W>) -> Result<(), FmtError> {
+        self.line.fmt(f)
+    }
 }
 
 /// A name with a `::` in it.

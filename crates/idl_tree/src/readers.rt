@@ -1,10 +1,22 @@
-//! The first tokens of names and expressions, and how many tokens they are.
+//! Where tokens stand, the first tokens of names and expressions, and how many tokens they are.
 
 ghost use Rattle.std.specs.Prelude.{◌≡◌};
-ghost use Rattle.idl_tree.specs.Starts.{name_start, is_rooted, name_first, name_rest, expr_start};
+ghost use Rattle.idl_tree.specs.Starts.{leaf_at, name_start, is_rooted, name_first, name_rest, expr_start};
 
 use crate::expression::Expr;
-use crate::names::{Leaf, ScopedName};
+use crate::names::{At, Leaf, ScopedName};
+
+impl<'a> Leaf<'a> {
+    /// Where it stands. Takes no memory.
+    pub fn at(&self) -> At
+        ensures { result ≡ leaf_at self.now }
+    {
+        At {
+            token: self.number,
+            line: self.token.line,
+        }
+    }
+}
 
 impl<'a> ScopedName<'a> {
     /// The first token: the `::` that the name begins with, or its first identifier. Takes no memory.

@@ -8,7 +8,7 @@ use Rattle.name_table.proofs.MergedBases.{split_at}
 use Rattle.idl_tree.specs.declared.expression.Operator.{Operator}
 use Rattle.const_values.specs.declared.constant.Constant.{Constant}
 use Rattle.const_values.specs.Worth.{NamesWorth, worth, chain_worth, whole_number, whole_constant, operator_applied}
-use Rattle.scoped_names.specs.declared.fault.At.{At}
+use Rattle.idl_tree.specs.declared.names.At.{At}
 use Rattle.scoped_names.specs.declared.fault.NameFault.{NameFault}
 use Rattle.name_table.specs.Entry.{Entry}
 use Rattle.name_table.specs.declared.search.Sight.{Sight}

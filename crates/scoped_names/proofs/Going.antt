@@ -10,7 +10,7 @@ use Rattle.idl_lexer.specs.Identifiers.{words}
 use Rattle.idl_tree.specs.declared.names.Leaf.{Leaf}
 use Rattle.idl_tree.specs.declared.names.ScopedName.{ScopedName}
 use Rattle.idl_tree.specs.declared.definitions.Const.{Const}
-use Rattle.idl_tree.specs.Starts.{name_start}
+use Rattle.idl_tree.specs.Starts.{name_start, leaf_at as at}
 use Rattle.const_values.specs.declared.constant.Constant.{Constant}
 use Rattle.name_table.specs.declared.entry.Base.{Base}
 use Rattle.idl_tree.specs.declared.kinds.EntryKind.{EntryKind}
@@ -21,7 +21,7 @@ use Rattle.name_table.specs.Entries.{entry_declared, plain, scope_of, with_base}
 use Rattle.name_table.specs.Features.{features_of}
 use Rattle.name_table.specs.Search.{begins_at_root, identifiers_see, inherited, word}
 use Rattle.name_table.proofs.Stability.{get_push_last, get_push_low, named_push, or_place}
-use Rattle.scoped_names.specs.declared.fault.At.{At}
+use Rattle.idl_tree.specs.declared.names.At.{At}
 use Rattle.scoped_names.specs.declared.fault.NameFault.{NameFault}
 use Rattle.scoped_names.specs.declared.fault.NameFault.TheVariants.{BadBase, NotAType}
 use Rattle.scoped_names.specs.declared.fault.Unfit.TheVariants.{NotDefined}
@@ -32,7 +32,7 @@ use Rattle.scoped_names.specs.Reading.{Reading, State, Test, passed, ◌>>◌}
 use Rattle.scoped_names.specs.RepositoryIds.{pragma_for}
 use Rattle.scoped_names.specs.Introductions.{Introduction, StandsFor, introduced_by}
 use Rattle.name_steps.specs.Steps.{Step, Declares, DeclaresConst, DeclaresFeature, DeclaresEnum, DeclaresEnumerator, DeclaresTypedef, HasBase, HasMember, Enters, Leaves, Defines, Says, NamesType, NamesException, HasWorth, IsSize}
-use Rattle.scoped_names.specs.Tests.{at, found_at, is_of, kind_in, resolved, value_of_type}
+use Rattle.scoped_names.specs.Tests.{found_at, is_of, kind_in, resolved, value_of_type}
 use Rattle.scoped_names.specs.TypeKinds.{const_type_kind}
 use Rattle.scoped_names.proofs.Introducing.{Does, appears, base_does, below_or_last, declared_does, defined_does, member_does, named_entry, passed_same, same_name, then_ok}
 use Rattle.scoped_names.specs.Holding.{asks}

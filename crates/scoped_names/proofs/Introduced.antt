@@ -7,7 +7,7 @@ use Rattle.idl_tree.specs.declared.definitions.Definition.{Definition}
 use Rattle.idl_tree.specs.Pieces.{Piece}
 use Rattle.idl_tree.specs.declared.kinds.EntryKind.{EntryKind}
 use Rattle.idl_tree.specs.declared.kinds.EntryKind.TheVariants as Kinds
-use Rattle.scoped_names.specs.declared.fault.At.{At}
+use Rattle.idl_tree.specs.declared.names.At.{At}
 use Rattle.scoped_names.specs.declared.fault.NameFault.{NameFault}
 use Rattle.name_table.specs.Entry.{Entry, around, named, scope_in}
 use Rattle.name_table.specs.Entries.{plain as plain_meant, scope_number, scope_of}
@@ -20,7 +20,8 @@ use Rattle.scoped_names.specs.Meanings.{const_meant, enum_meant, enumerator_mean
 use Rattle.scoped_names.specs.Reading.{Reading, State, ◌>>◌, passed}
 use Rattle.scoped_names.specs.RepositoryIds.{pragma_for}
 use Rattle.name_steps.specs.Steps.{Step, Declares, DeclaresEnum, DeclaresEnumerator, DeclaresTypedef, IsNew, DeclaresConst, DeclaresFeature, HasMember, IsUndefined, HasBase, Enters, Defines, Leaves, Says, steps_of}
-use Rattle.scoped_names.specs.Tests.{at, found_at, value_of_type}
+use Rattle.idl_tree.specs.Starts.{leaf_at as at}
+use Rattle.scoped_names.specs.Tests.{found_at, value_of_type}
 use Rattle.scoped_names.specs.TypeKinds.{const_type_kind}
 use Rattle.scoped_names.specs.Whole.{AreNames, Whole, whole}
 use Rattle.name_steps.proofs.Asks.{Asks, IsPlain, all_ask, none as unasked, silent, joined as both_asked, plain, base, valued, declared, featured, undefined, inside, defines}

@@ -14,12 +14,12 @@ use Rattle.std.proofs.lemmas.Slice.Eq.{bytes_eq-Decides}
 use Rattle.idl_lexer.specs.Words.{same_but_for_case}
 use Rattle.idl_tree.specs.declared.names.Leaf.{Leaf}
 use Rattle.idl_tree.specs.declared.names.ScopedName.{ScopedName}
-use Rattle.idl_tree.specs.Starts.{name_start}
+use Rattle.idl_tree.specs.Starts.{name_start, leaf_at as at}
 use Rattle.name_table.specs.declared.entry.Base.{Base}
 use Rattle.idl_tree.specs.declared.kinds.EntryKind.{EntryKind}
 use Rattle.idl_tree.specs.declared.kinds.EntryKind.TheVariants as Entries
 use Rattle.name_table.specs.declared.entry.Meaning.{Meaning}
-use Rattle.scoped_names.specs.declared.fault.At.{At}
+use Rattle.idl_tree.specs.declared.names.At.{At}
 use Rattle.scoped_names.specs.declared.fault.NameFault.{NameFault}
 use Rattle.scoped_names.specs.declared.fault.NameFault.TheVariants.{Collides, PrefixDiffers}
 use Rattle.name_table.specs.Entry.{Entry, is_named, named}
@@ -28,7 +28,7 @@ use Rattle.name_table.specs.Search.{word}
 use Rattle.scoped_names.specs.Faults.{base_added, base_test, based, declared_as, declares_over, defined_here, entry_at, entry_in, free_test, is_defined, keeps_prefix, may_reappear, member_added, member_named, new_test, or_then, reappears, scope_at, taken_by, undefined_test, with_declared}
 use Rattle.scoped_names.specs.Introductions.{Introduction, Stands, Has, Body, IsEntry, StandsFor, clashes, is_one_name}
 use Rattle.scoped_names.specs.Reading.{Member, Reading, State, Test, ◌>>◌, passed}
-use Rattle.scoped_names.specs.Tests.{at, at_entry, resolved}
+use Rattle.scoped_names.specs.Tests.{at_entry, resolved}
 use Rattle.name_table.proofs.Lookups.{position_map}
 use Rattle.name_table.proofs.MergedBases.{lower, named_case}
 use Rattle.name_table.proofs.MoreBases.{map_like}

@@ -5,7 +5,7 @@ use Rattle.std.specs.Option.{option_map}
 use Rattle.idl_lexer.specs.Words.{same_but_for_case}
 use Rattle.name_table.specs.declared.key.Key.{Key}
 use Rattle.name_table.proofs.Stability.{position_cons}
-use Rattle.scoped_names.specs.declared.fault.At.{At}
+use Rattle.idl_tree.specs.declared.names.At.{At}
 use Rattle.scoped_names.specs.Faults.{member_named}
 use Rattle.scoped_names.specs.StateKept.{member_of, members_of}
 

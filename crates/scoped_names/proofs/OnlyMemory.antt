@@ -2,13 +2,13 @@
 use Rattle.std.proofs.Common.{◌≡◌, inl, inr, ℕ, Bool, true, false, List, slice_get, Result, Ok, Err, refl}
 use Rattle.std.specs.Prelude.{if◌then◌else◌, IfErr}
 use Rattle.idl_tree.specs.declared.names.ScopedName.{ScopedName}
-use Rattle.idl_tree.specs.Starts.{name_start}
+use Rattle.idl_tree.specs.Starts.{name_start, leaf_at as at}
 use Rattle.idl_tree.specs.declared.kinds.EntryKind.{EntryKind}
 use Rattle.name_table.specs.Entry.{Entry}
 use Rattle.scoped_names.specs.declared.fault.NameFault.{NameFault}
 use Rattle.scoped_names.specs.declared.fault.NameFault.TheVariants.{NoMemory, NotAType}
 use Rattle.scoped_names.specs.Reading.{Gives, Test, ◌>>◌}
-use Rattle.scoped_names.specs.Tests.{at, found_of, is_of, kind_in, resolved}
+use Rattle.scoped_names.specs.Tests.{found_of, is_of, kind_in, resolved}
 use Rattle.scoped_names.proofs.Introducing.{then_ok}
 
 -- a value that is there

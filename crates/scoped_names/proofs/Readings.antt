@@ -12,7 +12,7 @@ use Rattle.name_table.specs.Entry.{Entry, named}
 use Rattle.name_table.specs.Search.{word}
 use Rattle.name_table.proofs.MergedBases.{drop_at}
 use Rattle.name_table.proofs.MergedBases.{split_at}
-use Rattle.scoped_names.specs.declared.fault.At.{At}
+use Rattle.idl_tree.specs.declared.names.At.{At}
 use Rattle.scoped_names.specs.declared.fault.NameFault.{NameFault}
 use Rattle.scoped_names.specs.declared.fault.NameFault.TheVariants.{BadBase}
 use Rattle.scoped_names.specs.declared.fault.Unfit.TheVariants.{NotDefined, NamedTwice, FeatureTwice}

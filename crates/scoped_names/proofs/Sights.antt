@@ -6,7 +6,7 @@ use Rattle.name_table.specs.declared.search.Sight.{Sight}
 use Rattle.name_table.specs.declared.search.Sight.TheVariants.{Unseen, OtherCase, Unclear, Seen}
 use Rattle.name_table.specs.Entry.{Entry}
 use Rattle.name_table.specs.Search.{found_by}
-use Rattle.scoped_names.specs.declared.fault.At.{At}
+use Rattle.idl_tree.specs.declared.names.At.{At}
 use Rattle.scoped_names.specs.Tests.{found_at}
 
 pub found_finds : (es : List Entry) (at : At) (seen : Sight) (e : ℕ) → (found_at es at seen ≡ Ok e) ↔ (found_by seen ≡ One e)

@@ -6,7 +6,7 @@ use Rattle.idl_tree.specs.declared.expression.Expr.{Expr, Name, Number, Characte
 use Rattle.idl_tree.specs.declared.const_expr.Bound.{Bound}
 use Rattle.idl_tree.specs.declared.types.ConstType.{ConstType}
 use Rattle.idl_tree.specs.declared.types.ConstType.TheVariants as ConstTypes
-use Rattle.idl_tree.specs.Starts.{expr_start, name_start}
+use Rattle.idl_tree.specs.Starts.{expr_start, name_start, leaf_at as at}
 use Rattle.const_values.specs.declared.kind.ConstKind.TheVariants as Kinds
 use Rattle.const_values.specs.Worth.{chain_worth, operator_applied, positive, sign_applied, whole_constant, whole_number, worth}
 use Rattle.idl_tree.specs.declared.kinds.EntryKind.{EntryKind}
@@ -21,7 +21,7 @@ use Rattle.scoped_names.specs.Constants.{meant_found, named_worth, of_type, wort
 use Rattle.scoped_names.specs.Faults.{is_interface}
 use Rattle.scoped_names.specs.Reading.{Test, ◌>>◌}
 use Rattle.name_steps.specs.Steps.{Step, DeclaresConst, HasBase, NamesType, NamesException, HasWorth, IsSize}
-use Rattle.scoped_names.specs.Tests.{at, at_entry, constant_test, found_at, found_of, is_exception, is_of, is_type, kind_in, names_test, operands_test, or_bad, resolved, size_read, value_of_type, value_read}
+use Rattle.scoped_names.specs.Tests.{at_entry, constant_test, found_at, found_of, is_exception, is_of, is_type, kind_in, names_test, operands_test, or_bad, resolved, size_read, value_of_type, value_read}
 use Rattle.scoped_names.specs.TypeKinds.{const_type_kind, known}
 use Rattle.scoped_names.specs.Following.{FindsKnown}
 use Rattle.scoped_names.specs.Holding.{asks}

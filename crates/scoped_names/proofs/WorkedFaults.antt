@@ -11,7 +11,7 @@ use Rattle.idl_tree.specs.declared.definitions.Declaration.TheVariants.{TypeDcl}
 use Rattle.idl_tree.specs.declared.definitions.Interface.TheVariants.{Ahead}
 use Rattle.idl_tree.specs.declared.definitions.Definition.{Definition, Pragma, Declaration, Interface, Module}
 use Rattle.idl_tree.specs.declared.definitions.Module.{Module as ModuleRecord}
-use Rattle.scoped_names.specs.declared.fault.At.{At}
+use Rattle.idl_tree.specs.declared.names.At.{At}
 use Rattle.scoped_names.specs.declared.fault.NameFault.{NameFault}
 use Rattle.scoped_names.specs.declared.fault.NameFault.TheVariants.{Unknown, Collides, IdTwice, PrefixDiffers, PrefixInScope}
 use Rattle.name_table.specs.Entry.{Entry}

@@ -3,7 +3,7 @@ use Rattle.std.proofs.Common.{◌≡◌, ℕ, List, [], ◌∷◌, codes, None, 
 use Rattle.idl_tree.specs.declared.kinds.EntryKind.{EntryKind}
 use Rattle.idl_tree.specs.declared.kinds.EntryKind.TheVariants.{Module, Interface, Struct}
 use Rattle.name_table.specs.Entry.{Entry}
-use Rattle.scoped_names.specs.declared.fault.At.{At}
+use Rattle.idl_tree.specs.declared.names.At.{At}
 use Rattle.scoped_names.specs.RepositoryIds.{WholeId, VersionOf, repository_id}
 use Rattle.scoped_names.specs.IdPragmas.{said, SetsPrefix, Gives}
 

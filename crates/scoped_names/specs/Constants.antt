@@ -8,7 +8,7 @@ use Rattle.const_values.specs.declared.kind.ConstKind.{ConstKind}
 use Rattle.const_values.specs.Kinds.{of_kind}
 use Rattle.const_values.specs.Worth.{worth, whole_number, positive}
 use Rattle.name_table.specs.Entry.{Entry, worth_in, meant_in}
-use Rattle.scoped_names.specs.declared.fault.At.{At}
+use Rattle.idl_tree.specs.declared.names.At.{At}
 use Rattle.scoped_names.specs.declared.fault.Flaw.TheVariants.{NoWorth}
 use Rattle.scoped_names.specs.declared.fault.NameFault.{NameFault}
 use Rattle.scoped_names.specs.declared.fault.NameFault.TheVariants.{NoMemory, BadConstant}

@@ -1,7 +1,7 @@
 -- What is kept of the members of scopes, as contracts see it.
 use Rattle.std.specs.Prelude.{List, [], ◌∷◌}
 use Rattle.name_table.specs.declared.key.Key.{Key}
-use Rattle.scoped_names.specs.declared.fault.At.{At}
+use Rattle.idl_tree.specs.declared.names.At.{At}
 use Rattle.scoped_names.specs.Reading.{Member}
 
 abbrev pub member_of : Key → At → Member

@@ -6,13 +6,13 @@ use Rattle.idl_tree.specs.declared.names.Leaf.{Leaf}
 use Rattle.idl_tree.specs.declared.names.ScopedName.{ScopedName}
 use Rattle.idl_tree.specs.declared.expression.Expr.{Expr, Name, Number, Character, Text, Boolean, Parenthesized', Signed', Chain', Row_of-Operand, end_of-Operand, more_of-Operand}
 use Rattle.idl_tree.specs.declared.expression.Operand.{Operand}
-use Rattle.idl_tree.specs.Starts.{name_start, expr_start}
+use Rattle.idl_tree.specs.Starts.{expr_start, leaf_at as at, name_start}
 use Rattle.const_values.specs.declared.constant.Constant.{Constant}
 use Rattle.const_values.specs.declared.kind.ConstKind.{ConstKind}
 use Rattle.const_values.specs.Worth.{whole_number, positive}
 use Rattle.idl_tree.specs.declared.kinds.EntryKind.{EntryKind}
 use Rattle.idl_tree.specs.declared.kinds.EntryKind.TheVariants.{Module, Interface, Struct, Union, Enum, Enumerator, Typedef, Const, Exception, Operation, Attribute}
-use Rattle.scoped_names.specs.declared.fault.At.{At}
+use Rattle.idl_tree.specs.declared.names.At.{At}
 use Rattle.scoped_names.specs.declared.fault.Flaw.{Flaw}
 use Rattle.scoped_names.specs.declared.fault.Flaw.TheVariants.{NoConstant, NoWorth, NotOfType, NotPositive}
 use Rattle.scoped_names.specs.declared.fault.NameFault.{NameFault}
@@ -23,10 +23,6 @@ use Rattle.name_table.specs.Entry.{Entry, worth_in}
 use Rattle.name_table.specs.Search.{sees}
 use Rattle.scoped_names.specs.Constants.{of_type, worth_in_scope}
 use Rattle.scoped_names.specs.Reading.{Test, ◌>>◌}
-
--- where a token stands
-abbrev pub at : Leaf → At
-at l = record { token = l.number; line = l.token.now.line }
 
 -- where an entry is declared first
 abbrev pub at_entry : Option Entry → Option At

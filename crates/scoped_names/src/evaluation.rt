@@ -6,10 +6,10 @@ ghost use Rattle.scoped_names.specs.Constants.{Explains, named_worth};
 ghost use Rattle.scoped_names.specs.Reading.{Checks, Gives};
 ghost use Rattle.scoped_names.specs.Tests.{at_entry, constant_test, found_at as found_at_place, names_test, resolved, size_read, value_of_type, value_read};
 
-use crate::fault::{At, Flaw, NameFault};
+use crate::fault::{Flaw, NameFault};
 use const_values::{ConstKind, Constant, applied, literal_constant, signed, text_constant};
 use idl_tree::expression::{Expr, Operator, Sign};
-use idl_tree::names::ScopedName;
+use idl_tree::names::{At, ScopedName};
 use name_table::{Sight, Table};
 use std::alloc::Global;
 
@@ -114,7 +114,7 @@ pub(crate) fn resolve<'a>(
     ensures told { result ≡ resolved table.now scope name.now }
     ensures placed { IfOk result (λ entry. entry < length table.now) }
 {
-    found_at(table, At::leaf(&name.start()), table.look(scope, name))
+    found_at(table, name.start().at(), table.look(scope, name))
 }
 
 /// That a name finds a constant or an enumerator.
@@ -130,7 +130,7 @@ fn test_constant<'a>(
     match table.constant(entry) {
         Some(_) => Ok(()),
         None => Err(NameFault::BadConstant {
-            at: At::leaf(&name.start()),
+            at: name.start().at(),
             why: Flaw::NoConstant,
         }),
     }
@@ -231,7 +231,7 @@ pub(crate) fn value<'a>(
     ensures { Gives result (value_read table.now scope expr.now) }
 {
     test_names(table, scope, expr)?;
-    worth_at(table, alloc, scope, expr, At::leaf(&expr.start()))
+    worth_at(table, alloc, scope, expr, expr.start().at())
 }
 
 /// What it is worth as a bound or a size, which is a whole number of at least 1.
@@ -251,7 +251,7 @@ pub(crate) fn size<'a>(
     match value(table, alloc, scope, expr)? {
         Constant::Whole(value) if value > 0 => Ok(value.unsigned_abs()),
         _ => Err(NameFault::BadConstant {
-            at: At::leaf(&expr.start()),
+            at: expr.start().at(),
             why: Flaw::NotPositive,
         }),
     }
@@ -272,7 +272,7 @@ pub(crate) fn value_of_kind<'a>(
     match kind {
         Some(kind) if kind.admits(&constant) => Ok(constant),
         _ => Err(NameFault::BadConstant {
-            at: At::leaf(&expr.start()),
+            at: expr.start().at(),
             why: Flaw::NotOfType,
         }),
     }

@@ -1,40 +1,12 @@
 //! Why the names of a specification mean nothing.
 
 ghost use Rattle.std.specs.Prelude.{◌≡◌};
-ghost use Rattle.scoped_names.specs.Tests.{at as at_leaf};
 ghost use Rattle.scoped_names.specs.declared.fault.NameFault.TheVariants.{NoMemory};
 
 use idl_tree::kinds::EntryKind;
-use idl_tree::names::Leaf;
+use idl_tree::names::At;
 use std::alloc::{AllocError, AllocFailed};
-use std::fmt::{Display, Error as FmtError, Formatter, Write};
 use thiserror::Error;
-
-/// Where a token stands. What is printed is the line.
-#[derive(Clone, Copy, Debug, PartialEq, Eq)]
-pub struct At {
-    /// The number of the token, counted from 0.
-    pub token: usize,
-    pub line: usize,
-}
-
-impl At {
-    /// Where a leaf of the tree stands.
-    pub fn leaf(leaf: &Leaf<'_>) -> At
-        ensures { result ≡ at_leaf leaf.now }
-    {
-        At {
-            token: leaf.number,
-            line: leaf.token.line,
-        }
-    }
-}
-
-impl Display for At {
-    fn fmt<W: Write>(&self, f: &mut Formatter<W>) -> Result<(), FmtError> {
-        self.line.fmt(f)
-    }
-}
 
 /// Why an expression isn't what has to stand in its place.
 #[derive(Clone, Copy, Debug, PartialEq, Eq)]

@@ -13,7 +13,7 @@ mod repository_ids;
 mod specification;
 mod tables;
 
-pub use fault::{At, Flaw, NameFault, Unfit};
+pub use fault::{Flaw, NameFault, Unfit};
 pub use idl_tree::kinds::EntryKind;
 pub use name_table::Base;
 pub use names::Names;

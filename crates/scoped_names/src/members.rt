@@ -4,7 +4,7 @@ ghost use Rattle.std.specs.Prelude.{◌≡◌, ◌++◌, ◌∷◌, [], None, On
 ghost use Rattle.scoped_names.specs.Faults.{member_named};
 ghost use Rattle.scoped_names.specs.StateKept.{member_of};
 
-use crate::fault::At;
+use idl_tree::names::At;
 use name_table::{Key, Numbered};
 use std::alloc::{AllocError, Global};
 use std::marker::Model;

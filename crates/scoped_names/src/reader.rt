@@ -11,13 +11,13 @@ ghost use Rattle.name_table.specs.Features.{features_of};
 ghost use Rattle.name_table.specs.Search.{inherited, word};
 
 use crate::evaluation::declared_at;
-use crate::fault::{At, NameFault, Unfit};
+use crate::fault::{NameFault, Unfit};
 use crate::members::Members;
 use crate::names::Names;
 use crate::repository_ids::IdPragmas;
 use crate::tables::Tables;
 use idl_tree::kinds::EntryKind;
-use idl_tree::names::Leaf;
+use idl_tree::names::{At, Leaf};
 use name_table::{Base, Found, Key, Meaning, Numbered, Table, Word};
 use std::alloc::Global;
 use std::marker::Model;
@@ -97,7 +97,7 @@ fn free(identifier: Leaf<'_>, other: Option<At>) -> Result<(), NameFault>
 {
     match other {
         Some(_) => Err(NameFault::Collides {
-            at: At::leaf(&identifier),
+            at: identifier.at(),
             other,
         }),
         None => Ok(()),
@@ -188,7 +188,7 @@ impl<'a> Reader<'a> {
         ensures { IfSome (slice_get self.now.entries number) (λ e. Tells result self.now (reappears kind self.now identifier.entry e)) }
     {
         let table = self.table();
-        let (at, other) = (At::leaf(&identifier), declared_at(table, number));
+        let (at, other) = (identifier.at(), declared_at(table, number));
         let is_same = identifier.name().as_bytes() == table.name(number).as_bytes();
         if !(may_reappear(kind, table.kind(number)) && is_same) {
             return Err(NameFault::Collides { at, other });
@@ -313,7 +313,7 @@ impl<'a> Reader<'a> {
     {
         if self.defined.contains(&scope) {
             return Err(NameFault::Collides {
-                at: At::leaf(&identifier),
+                at: identifier.at(),
                 other: self.scope_at(scope),
             });
         }
@@ -347,7 +347,7 @@ impl<'a> Reader<'a> {
             scope: self.scope,
             word: Word::new(identifier.name()),
         };
-        self.members.push(key, At::leaf(&identifier))?;
+        self.members.push(key, identifier.at())?;
         Ok(())
     }
 
@@ -361,7 +361,7 @@ impl<'a> Reader<'a> {
             (inherited (features_of self.now.entries) identifier.entry.number self.now.scope (word identifier.entry))) }
     {
         let word = Word::new(identifier.name());
-        let at = At::leaf(&identifier);
+        let at = identifier.at();
         match self.tables.inherited(identifier.number, self.scope, word) {
             Found::Nothing => Ok(()),
             Found::One(entry) | Found::Several(entry, _) => Err(NameFault::Collides {

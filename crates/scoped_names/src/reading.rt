@@ -15,7 +15,7 @@ ghost use Rattle.scoped_names.specs.declared.fault.NameFault.TheVariants.{NoMemo
 ghost use Rattle.idl_tree.specs.Starts.{name_start};
 
 use crate::evaluation::{found_at, resolve, size, value, value_of_kind};
-use crate::fault::{At, NameFault};
+use crate::fault::NameFault;
 use crate::kinds::{const_type_kind, simple_type_kind};
 use crate::reader::Reader;
 use crate::repository_ids::PragmaId;
@@ -166,7 +166,7 @@ impl<'a> Reader<'a> {
             token: start.number,
             entry,
         };
-        self.add_base(alloc, inner, base, At::leaf(&start))
+        self.add_base(alloc, inner, base, start.at())
     }
 
     /// That a name is one of a type.
@@ -179,7 +179,7 @@ impl<'a> Reader<'a> {
             return Ok(());
         }
         Err(NameFault::NotAType {
-            at: At::leaf(&name.start()),
+            at: name.start().at(),
             found: Some(kind),
         })
     }
@@ -194,7 +194,7 @@ impl<'a> Reader<'a> {
             return Ok(());
         }
         Err(NameFault::NotAType {
-            at: At::leaf(&name.start()),
+            at: name.start().at(),
             found: Some(kind),
         })
     }
@@ -208,7 +208,7 @@ impl<'a> Reader<'a> {
     ) -> Result<(), NameFault>
         ensures { Tells result self.new (said_read self.old leaf.now (Some (GivesTo name.entry.now (given_of given.entry)))) }
     {
-        let at = At::leaf(leaf);
+        let at = leaf.at();
         let seen = self.table().look_for_words(leaf.number, self.scope(), name);
         let entry = found_at(self.table(), at, seen)?;
         self.ids.give(entry, given, at)
@@ -220,7 +220,7 @@ impl<'a> Reader<'a> {
     {
         match leaf.token.kind {
             Kind::Pragma => match leaf.pragma() {
-                Pragma::Prefix { text } => self.set_prefix(text, At::leaf(leaf)),
+                Pragma::Prefix { text } => self.set_prefix(text, leaf.at()),
                 Pragma::Id { name, text } => self.give_name(leaf, name, PragmaId::Whole(text)),
                 Pragma::Version { name, number } => {
                     self.give_name(leaf, name, PragmaId::Version(number))

@@ -9,7 +9,8 @@ ghost use Rattle.scoped_names.specs.Faults.{again_test, given_once};
 ghost use Rattle.scoped_names.specs.Reading.{Checks, Tells};
 ghost use Rattle.scoped_names.specs.IdPragmas.{is_same_given};
 
-use crate::fault::{At, NameFault};
+use crate::fault::NameFault;
+use idl_tree::names::At;
 use name_table::{Numbered, Table};
 use std::alloc::{AllocError, Global};
 use std::marker::Model;

@@ -18,7 +18,7 @@ use Rattle.idl_lexer.specs.Octets.{is_word, run}
 use Rattle.idl_lexer.proofs.PragmaParts.{rest_ascii}
 use Rattle.idl_tree.specs.declared.names.Leaf.{Leaf}
 use Rattle.idl_tree.specs.declared.names.ScopedName.{ScopedName}
-use Rattle.idl_tree.specs.Starts.{name_start}
+use Rattle.idl_tree.specs.Starts.{name_start, leaf_at as at}
 use Rattle.idl_tree.specs.declared.definitions.Definition.{Definition}
 use Rattle.name_table.specs.declared.entry.Base.{Base}
 use Rattle.name_table.specs.declared.entry.Meaning.{Meaning}
@@ -28,7 +28,7 @@ use Rattle.name_table.specs.Search.{begins_at_root, identifiers_see, inherited, 
 use Rattle.name_table.specs.Features.{features_of}
 use Rattle.name_table.proofs.Stability.{get_push_last, get_push_low}
 use Rattle.idl_lexer.specs.Identifiers.{words as words_in}
-use Rattle.scoped_names.specs.declared.fault.At.{At}
+use Rattle.idl_tree.specs.declared.names.At.{At}
 use Rattle.scoped_names.specs.declared.fault.NameFault.{NameFault}
 use Rattle.scoped_names.specs.Faults.{again_test, base_added, base_test, based, declared_as, declares_over, entry_in, free_of, free_test, given_once, left_open, never_defined, new_test, nothing_yet, prefix_set, said_read, specification_read, step_read, steps_read, taken_by, test_of, type_kind, undefined_test, with_base_at, with_declared, declared as declared_plain}
 use Rattle.scoped_names.specs.IdPragmas.{Said, SetsPrefix, Gives, said_by, said_by_kind, said_by_word}
@@ -36,7 +36,7 @@ use Rattle.scoped_names.specs.Meanings.{const_meant, enum_meant, enumerator_mean
 use Rattle.scoped_names.specs.Reading.{Reading, State, passed, ◌>>◌}
 use Rattle.scoped_names.specs.RepositoryIds.{GivenId, IdPragma, VersionOf, WholeId, given_in, given_to, id_by, idl_format, names_to, path, pragma_for, prefix_part, repository_id, with_slashes}
 use Rattle.name_steps.specs.Steps.{Step, Declares, DeclaresConst, DeclaresFeature, DeclaresEnum, DeclaresEnumerator, DeclaresTypedef, HasBase, HasMember, Enters, Leaves, Defines, Says, steps_of}
-use Rattle.scoped_names.specs.Tests.{at, found_at, resolved, value_of_type}
+use Rattle.scoped_names.specs.Tests.{found_at, resolved, value_of_type}
 use Rattle.scoped_names.specs.TypeKinds.{const_type_kind}
 use Rattle.scoped_names.specs.Whole.{AreNames, Whole, whole}
 use Rattle.scoped_names.proofs.Later.{bare, bare_base}

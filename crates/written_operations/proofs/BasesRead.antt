@@ -11,14 +11,14 @@ use Rattle.idl_lexer.specs.Identifiers.{words}
 use Rattle.idl_tree.specs.declared.names.Leaf.{Leaf}
 use Rattle.idl_tree.specs.declared.names.ScopedName.{ScopedName}
 use Rattle.idl_tree.specs.declared.definitions.Definition.{Definition}
-use Rattle.idl_tree.specs.Starts.{name_start}
+use Rattle.idl_tree.specs.Starts.{name_start, leaf_at as at}
 use Rattle.name_table.specs.declared.entry.Base.{Base}
 use Rattle.name_table.specs.declared.entry.Meaning.{Meaning}
 use Rattle.name_table.specs.Entry.{Entry, around, bases_in, bases_of, named}
 use Rattle.name_table.specs.Entries.{entry_with_base, plain as plain_meant, scope_of, with_base}
 use Rattle.name_table.specs.Features.{differ, features_of}
 use Rattle.name_table.specs.Search.{begins_at_root, identifiers_see, inherited, word}
-use Rattle.scoped_names.specs.declared.fault.At.{At}
+use Rattle.idl_tree.specs.declared.names.At.{At}
 use Rattle.scoped_names.specs.declared.fault.Unfit.TheVariants.{FeatureTwice, NamedTwice, NotDefined}
 use Rattle.scoped_names.specs.declared.fault.NameFault.{NameFault}
 use Rattle.scoped_names.specs.declared.fault.NameFault.TheVariants.{BadBase, Collides, PrefixDiffers}
@@ -28,7 +28,7 @@ use Rattle.scoped_names.specs.Meanings.{const_meant, enum_meant, enumerator_mean
 use Rattle.scoped_names.specs.Reading.{Reading, State, Test, ◌>>◌, passed}
 use Rattle.scoped_names.specs.RepositoryIds.{pragma_for}
 use Rattle.name_steps.specs.Steps.{Step, Declares, DeclaresEnum, DeclaresEnumerator, DeclaresTypedef, DeclaresConst, DeclaresFeature, HasMember, HasBase, Enters, Defines, Leaves, Says, steps_of}
-use Rattle.scoped_names.specs.Tests.{at, at_entry, found_at, is_of, resolved, value_of_type}
+use Rattle.scoped_names.specs.Tests.{at_entry, found_at, is_of, resolved, value_of_type}
 use Rattle.scoped_names.specs.TypeKinds.{const_type_kind}
 use Rattle.scoped_names.specs.Whole.{AreNames, Whole, whole}
 use Rattle.scoped_names.proofs.Introducing.{passed_same, then_ok}

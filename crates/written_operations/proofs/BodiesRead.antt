@@ -7,7 +7,7 @@ use Rattle.std.proofs.lemmas.List.Folds.{list_any-append}
 use Rattle.idl_lexer.specs.Identifiers.{words}
 use Rattle.idl_tree.specs.declared.names.Leaf.{Leaf}
 use Rattle.idl_tree.specs.declared.names.ScopedName.{ScopedName}
-use Rattle.idl_tree.specs.Starts.{name_start}
+use Rattle.idl_tree.specs.Starts.{name_start, leaf_at as at}
 use Rattle.idl_tree.specs.declared.definitions.Definition.{Definition}
 use Rattle.idl_tree.specs.Pieces.{Piece}
 use Rattle.name_table.specs.declared.entry.Base.{Base}
@@ -24,7 +24,7 @@ use Rattle.scoped_names.specs.Meanings.{const_meant, enum_meant, enumerator_mean
 use Rattle.scoped_names.specs.Reading.{Reading, State, Test, ◌>>◌}
 use Rattle.scoped_names.specs.RepositoryIds.{pragma_for}
 use Rattle.name_steps.specs.Steps.{Step, Declares, DeclaresEnum, DeclaresEnumerator, DeclaresTypedef, IsNew, DeclaresConst, DeclaresFeature, HasMember, IsUndefined, HasBase, Enters, Defines, Leaves, Says, steps_of}
-use Rattle.scoped_names.specs.Tests.{at, at_entry, found_at, resolved, value_of_type}
+use Rattle.scoped_names.specs.Tests.{at_entry, found_at, resolved, value_of_type}
 use Rattle.scoped_names.specs.TypeKinds.{const_type_kind}
 use Rattle.scoped_names.specs.Whole.{AreNames, Whole}
 use Rattle.name_steps.proofs.Asks.{Asks, all_ask, none as unasked, silent, joined as both_asked, plain, base, valued, declared, featured, undefined, inside, defines}

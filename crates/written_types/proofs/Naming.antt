@@ -7,7 +7,7 @@ use Rattle.std.proofs.lemmas.Option.{slice_get_within}
 use Rattle.idl_tree.specs.declared.names.Leaf.{Leaf}
 use Rattle.idl_tree.specs.declared.names.ScopedName.{ScopedName}
 use Rattle.idl_tree.specs.declared.expression.Expr.{Expr}
-use Rattle.idl_tree.specs.Starts.{expr_start}
+use Rattle.idl_tree.specs.Starts.{expr_start, leaf_at as at}
 use Rattle.type_graph.specs.GraphRules.{IsPart}
 use Rattle.const_values.specs.Arithmetic.{where_true}
 use Rattle.const_values.specs.Worth.{positive, whole_number}
@@ -16,14 +16,14 @@ use Rattle.idl_tree.specs.declared.kinds.EntryKind.TheVariants as Kinds
 use Rattle.name_table.specs.Entry.{Entry, named}
 use Rattle.name_table.specs.Search.{word}
 use Rattle.scoped_names.specs.declared.fault.NameFault.{NameFault}
-use Rattle.scoped_names.specs.declared.fault.At.{At}
+use Rattle.idl_tree.specs.declared.names.At.{At}
 use Rattle.scoped_names.specs.declared.fault.Flaw.{Flaw}
 use Rattle.scoped_names.specs.declared.fault.Flaw.TheVariants.{NotPositive}
 use Rattle.scoped_names.specs.Faults.{has_body, may_reappear}
 use Rattle.scoped_names.specs.Holding.{Holds}
 use Rattle.scoped_names.specs.Introductions.{Introduction, Stands, Has, IsEntry, introduced_by, scope_behind}
 use Rattle.name_steps.specs.Steps.{Step, Declares, DeclaresEnum, DeclaresEnumerator, DeclaresTypedef, DeclaresConst, DeclaresFeature, HasMember, Defines, NamesType, IsSize}
-use Rattle.scoped_names.specs.Tests.{at, is_of, is_type, or_bad, size_read, value_read}
+use Rattle.scoped_names.specs.Tests.{is_of, is_type, or_bad, size_read, value_read}
 use Rattle.scoped_names.proofs.Introducing.{then_ok}
 use Rattle.scoped_names.proofs.OnlyMemory.{finds_one, there_is}
 use Rattle.written_types.specs.declared.place.Place.{Place}

@@ -1,7 +1,7 @@
 use Rattle.std.proofs.Common.{◌≡◌, ◌∙◌, ap, sym}
-use Rattle.idl_tree.specs.Starts.{name_start}
+use Rattle.idl_tree.specs.Starts.{name_start, leaf_at as at}
 use Rattle.name_table.specs.Search.{sees}
-use Rattle.scoped_names.specs.Tests.{at, resolved}
+use Rattle.scoped_names.specs.Tests.{resolved}
 use Rattle.scoped_names.proofs.Sights.{found_finds}
 use Rattle.scoped_names.proofs.names.Names.resolve.Goals as goal
 

@@ -3,7 +3,8 @@ use Rattle.std.specs.Prelude.{if◌then◌else◌}
 use Rattle.scoped_names.specs.declared.fault.NameFault.TheVariants.{Collides}
 use Rattle.scoped_names.specs.Faults.{is_defined, scope_at}
 use Rattle.scoped_names.specs.Reading.{Test}
-use Rattle.scoped_names.specs.Tests.{at}
+use Rattle.idl_tree.specs.Starts.{leaf_at as at}
+
 use Rattle.scoped_names.proofs.reader.Reader.is_undefined.Goals as goal
 
 pub returns-then-contains : goal.returns-then-contains
