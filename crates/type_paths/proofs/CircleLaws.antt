@@ -2,7 +2,7 @@
 use Rattle.std.proofs.Common.{◌≡◌, ◌↔◌, ◌⊎◌, ℕ, zero, suc, ◌+◌, ◌<◌, Bool, true, false, List, [], ◌∷◌, length, get_or, set, replicate, refl, sym, ap, subst, ◌∙◌, inl, inr, length-set, get_or-set_other, arith}
 use Rattle.std.proofs.Math.ListN.{length-replicate}
 use Rattle.std.proofs.lemmas.Bool.{cases_eq, cases_lt}
-use Rattle.type_paths.specs.Lines.{Types}
+use Rattle.type_paths.specs.Sites.{Types}
 use Rattle.type_paths.specs.Paths.{HoldsBy, HoldsOne, HasPath, LeadsTo, GoesRoundBy, HoldsItself}
 use Rattle.type_paths.specs.Levels.{IsIn}
 use Rattle.type_paths.proofs.PathLaws.{endless, first_step, holds_within}
@@ -27,20 +27,20 @@ here : (Holds : ℕ → ℕ → Type 0) (node : ℕ) → LeadsTo Holds 0 node no
 unfolding LeadsTo
 here Holds node = refl
 
-holder_within : (types : Types) (line : ℕ) (Meant : ℕ → Type 0) (node : ℕ) → HoldsOne (HoldsBy types line) Meant node → node < length types.nodes
-holder_within types line Meant node h = elim (cases_lt node (length types.nodes)) [
+holder_within : (types : Types) (token : ℕ) (Meant : ℕ → Type 0) (node : ℕ) → HoldsOne (HoldsBy types token) Meant node → node < length types.nodes
+holder_within types token Meant node h = elim (cases_lt node (length types.nodes)) [
   | inl lt ↦ lt
-  | inr le ↦ absurd (holds_within types line Meant node le h)
+  | inr le ↦ absurd (holds_within types token Meant node le h)
 ]
 
-round_of_circle : (types : Types) (line : ℕ) → HoldsItself types line → GoesRoundBy types line
-round_of_circle types line h =
-    let Holds = HoldsBy types line in
+round_of_circle : (types : Types) (token : ℕ) → HoldsItself types token → GoesRoundBy types token
+round_of_circle types token h =
+    let Holds = HoldsBy types token in
     let Meant : ℕ → Type 0 = λ node. (n : ℕ) × LeadsTo Holds n node h.node in
     let paths = endless Holds Meant (λ node meant. circle_holds Holds h.steps meant.0 node h.node h.back meant.1) in
     record {
       node = h.node;
-      within = holder_within types line (HasPath Holds 0) h.node (first_step Holds 0 h.node (paths 1 h.node (0, here Holds h.node)));
+      within = holder_within types token (HasPath Holds 0) h.node (first_step Holds 0 h.node (paths 1 h.node (0, here Holds h.node)));
       endless = λ steps. paths steps h.node (0, here Holds h.node);
     }
 
@@ -75,26 +75,26 @@ lead_on Holds table node part lead holds other is_in = elim (cases_eq other part
 ]
 
 -- a walk of more steps than there are nodes that it hasn't passed comes back to one that it has
-walk : (types : Types) (line fuel node : ℕ) (table : List Bool) → length table ≡ length types.nodes → length types.nodes < fuel + count_in table
-    → Lead (HoldsBy types line) table node → HasPath (HoldsBy types line) (suc fuel) node → HoldsItself types line
-walk types line zero node table long many lead path = let most = count_limited table in absurd (omega arith)
-walk types line (suc fuel) node table long many lead path =
-    let Holds = HoldsBy types line in
+walk : (types : Types) (token fuel node : ℕ) (table : List Bool) → length table ≡ length types.nodes → length types.nodes < fuel + count_in table
+    → Lead (HoldsBy types token) table node → HasPath (HoldsBy types token) (suc fuel) node → HoldsItself types token
+walk types token zero node table long many lead path = let most = count_limited table in absurd (omega arith)
+walk types token (suc fuel) node table long many lead path =
+    let Holds = HoldsBy types token in
     let step = first_step Holds (suc fuel) node path in
     elim (two_cases (get_or table step.part false)) [
       | inl is_in ↦
           let back = lead step.part is_in in
           record { node = step.part; steps = back.0; back = leads_on Holds back.0 step.part node step.part back.1 step.holds }
       | inr out ↦
-          let within = holder_within types line (HasPath Holds fuel) step.part (first_step Holds fuel step.part step.meant) in
+          let within = holder_within types token (HasPath Holds fuel) step.part (first_step Holds fuel step.part step.meant) in
           let more = count_set table step.part (omega arith) out in
-          walk types line fuel step.part (set table step.part true) (length-set table step.part true ∙ long) (omega arith) (lead_on Holds table node step.part lead step.holds) step.meant
+          walk types token fuel step.part (set table step.part true) (length-set table step.part true ∙ long) (omega arith) (lead_on Holds table node step.part lead step.holds) step.meant
     ]
 
-circle_of_round : (types : Types) (line : ℕ) → GoesRoundBy types line → HoldsItself types line
-circle_of_round types line h =
+circle_of_round : (types : Types) (token : ℕ) → GoesRoundBy types token → HoldsItself types token
+circle_of_round types token h =
     let n = length types.nodes in
-    walk types line (suc n) h.node (replicate n false) (length-replicate n false) (omega arith) (λ other is_in. absurd (none_in n other is_in)) (h.endless (suc (suc n)))
+    walk types token (suc n) h.node (replicate n false) (length-replicate n false) (omega arith) (λ other is_in. absurd (none_in n other is_in)) (h.endless (suc (suc n)))
 
-pub round_is_circle : (types : Types) (line : ℕ) → GoesRoundBy types line ↔ HoldsItself types line
-round_is_circle types line = (circle_of_round types line, round_of_circle types line)
+pub round_is_circle : (types : Types) (token : ℕ) → GoesRoundBy types token ↔ HoldsItself types token
+round_is_circle types token = (circle_of_round types token, round_of_circle types token)

@@ -1,4 +1,4 @@
-pub mod LineLaws
+pub mod SiteLaws
 pub mod PathLaws
 pub mod TableLaws
 pub mod FaultLaws

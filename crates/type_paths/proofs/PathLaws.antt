@@ -6,7 +6,7 @@ use Rattle.type_graph.specs.declared.node.Node.{Node}
 use Rattle.type_graph.specs.declared.node.Node.TheVariants.{Octet}
 use Rattle.type_graph.specs.Value.{node_at}
 use Rattle.type_graph.specs.GraphRules.{held_by, IsShallow}
-use Rattle.type_paths.specs.Lines.{Types, line_at}
+use Rattle.type_paths.specs.Sites.{Types, token_at}
 use Rattle.type_paths.specs.Paths.{HoldsBy, HoldsOne, HasPath, GoesRoundBy}
 
 -- ---- paths
@@ -62,45 +62,45 @@ all_from P [] each = tt
 all_from P (x ∷ xs) each = (each 0 x refl, all_from P xs (λ place y there. each (suc place) y there))
 
 -- from a shallow node no path leads as long
-pub shallow_no_path : (types : Types) (line levels node : ℕ) → IsShallow levels types.nodes node → HasPath (HoldsBy types line) levels node → ⊥
+pub shallow_no_path : (types : Types) (token levels node : ℕ) → IsShallow levels types.nodes node → HasPath (HoldsBy types token) levels node → ⊥
 unfolding IsShallow HasPath
-shallow_no_path types line zero node shallow path = absurd shallow
-shallow_no_path types line (suc levels) node shallow path =
-    shallow_no_path types line levels path.part (all_at (IsShallow levels types.nodes) (held_by (node_at types.nodes node)) path.holds.place path.part path.holds.there shallow) path.meant
+shallow_no_path types token zero node shallow path = absurd shallow
+shallow_no_path types token (suc levels) node shallow path =
+    shallow_no_path types token levels path.part (all_at (IsShallow levels types.nodes) (held_by (node_at types.nodes node)) path.holds.place path.part path.holds.there shallow) path.meant
 
 -- a node is shallow from which none does by any member
-pub no_path_shallow : (types : Types) (line : ℕ) → ((node place : ℕ) → line_at types node place ≤ line)
-    → (levels node : ℕ) → (HasPath (HoldsBy types line) levels node → ⊥) → IsShallow levels types.nodes node
+pub no_path_shallow : (types : Types) (token : ℕ) → ((node place : ℕ) → token_at types node place ≤ token)
+    → (levels node : ℕ) → (HasPath (HoldsBy types token) levels node → ⊥) → IsShallow levels types.nodes node
 unfolding IsShallow HasPath
-no_path_shallow types line all zero node none = none tt
-no_path_shallow types line all (suc levels) node none =
+no_path_shallow types token all zero node none = none tt
+no_path_shallow types token all (suc levels) node none =
     all_from (IsShallow levels types.nodes) (held_by (node_at types.nodes node))
-    (λ place part there. no_path_shallow types line all levels part (λ path. none (record { part = part; holds = record { place = place; there = there; early = all node place }; meant = path })))
+    (λ place part there. no_path_shallow types token all levels part (λ path. none (record { part = part; holds = record { place = place; there = there; early = all node place }; meant = path })))
 
--- ---- lines
+-- ---- sites
 
--- what goes round by the members up to a line does up to each later one
-pub round_later : (types : Types) (line later : ℕ) → line ≤ later → GoesRoundBy types line → GoesRoundBy types later
-round_later types line later le h = record {
+-- what goes round by the members up to a token does up to each later one
+pub round_later : (types : Types) (token later : ℕ) → token ≤ later → GoesRoundBy types token → GoesRoundBy types later
+round_later types token later le h = record {
   node = h.node;
   within = h.within;
-  endless = λ steps. path_by (HoldsBy types line) (HoldsBy types later) steps h.node (λ holder part holds. record { place = holds.place; there = holds.there; early = omega (arith, holds.early) }) (h.endless steps);
+  endless = λ steps. path_by (HoldsBy types token) (HoldsBy types later) steps h.node (λ holder part holds. record { place = holds.place; there = holds.there; early = omega (arith, holds.early) }) (h.endless steps);
 }
 
 -- up to the last one too
-pub round_last : (types : Types) (line last : ℕ) → ((node place : ℕ) → line_at types node place ≤ last) → GoesRoundBy types line → GoesRoundBy types last
-round_last types line last all h = record {
+pub round_last : (types : Types) (token last : ℕ) → ((node place : ℕ) → token_at types node place ≤ last) → GoesRoundBy types token → GoesRoundBy types last
+round_last types token last all h = record {
   node = h.node;
   within = h.within;
-  endless = λ steps. path_by (HoldsBy types line) (HoldsBy types last) steps h.node (λ holder part holds. record { place = holds.place; there = holds.there; early = all holder holds.place }) (h.endless steps);
+  endless = λ steps. path_by (HoldsBy types token) (HoldsBy types last) steps h.node (λ holder part holds. record { place = holds.place; there = holds.there; early = all holder holds.place }) (h.endless steps);
 }
 
 -- no node is shallow on a circle
-pub round_not_shallow : (types : Types) (line : ℕ) → (h : GoesRoundBy types line) → (levels : ℕ) → IsShallow levels types.nodes h.node → ⊥
-round_not_shallow types line h levels shallow = shallow_no_path types line levels h.node shallow (h.endless levels)
+pub round_not_shallow : (types : Types) (token : ℕ) → (h : GoesRoundBy types token) → (levels : ℕ) → IsShallow levels types.nodes h.node → ⊥
+round_not_shallow types token h levels shallow = shallow_no_path types token levels h.node shallow (h.endless levels)
 
 -- a number past the end holds nothing
-pub holds_within : (types : Types) (line : ℕ) (Meant : ℕ → Type 0) (node : ℕ) → length types.nodes ≤ node → HoldsOne (HoldsBy types line) Meant node → ⊥
-holds_within types line Meant node past h =
+pub holds_within : (types : Types) (token : ℕ) (Meant : ℕ → Type 0) (node : ℕ) → length types.nodes ≤ node → HoldsOne (HoldsBy types token) Meant node → ⊥
+holds_within types token Meant node past h =
     let there = subst (λ (n : Node). slice_get (held_by n) h.holds.place ≡ Some h.part) (get_or_past types.nodes node Octet past) h.holds.there in
     absurd cc

@@ -4,7 +4,7 @@ use Rattle.std.proofs.Math.Seq.{get_or-append_seam}
 use Rattle.std.proofs.Math.ListN.{get_or-append}
 use Rattle.std.proofs.lemmas.Bool.{cases_lt}
 use Rattle.std.proofs.lemmas.List.{get_or_past}
-use Rattle.type_paths.specs.Lines.{Types}
+use Rattle.type_paths.specs.Sites.{Types}
 use Rattle.type_paths.specs.Paths.{HoldsBy, HasPath, IsEndless, GoesRoundBy}
 use Rattle.type_paths.specs.Levels.{IsIn, IsLevel, IsLevelAbove}
 use Rattle.type_paths.proofs.PathLaws.{one_of_more, path_front, path_shorter, path_endless}
@@ -79,39 +79,39 @@ told_all P next n long told none node = elim (cases_lt node n) as (λ v. IsIn ne
 -- ---- steps
 
 -- what holds of any number is in a table of none, past whose end all are
-pub level_first : (types : Types) (line : ℕ) (next : List Bool) → IsLevelAbove types line [] true next → IsLevel types line 1 next
+pub level_first : (types : Types) (token : ℕ) (next : List Bool) → IsLevelAbove types token [] true next → IsLevel types token 1 next
 unfolding HasPath
-level_first types line next level = record {
+level_first types token next level = record {
   long = level.long;
   same = λ node. (
-    λ h. one_of_more (HoldsBy types line) (IsIn [] true) (HasPath (HoldsBy types line) 0) node (λ part is_in. tt) ((level.above node).0 h),
-    λ h. (level.above node).1 (one_of_more (HoldsBy types line) (HasPath (HoldsBy types line) 0) (IsIn [] true) node (λ part path. refl) h),
+    λ h. one_of_more (HoldsBy types token) (IsIn [] true) (HasPath (HoldsBy types token) 0) node (λ part is_in. tt) ((level.above node).0 h),
+    λ h. (level.above node).1 (one_of_more (HoldsBy types token) (HasPath (HoldsBy types token) 0) (IsIn [] true) node (λ part path. refl) h),
   );
 }
 
-level_suc : (types : Types) (line steps : ℕ) (table next : List Bool) → IsLevel types line steps table → IsLevelAbove types line table false next → IsLevel types line (suc steps) next
+level_suc : (types : Types) (token steps : ℕ) (table next : List Bool) → IsLevel types token steps table → IsLevelAbove types token table false next → IsLevel types token (suc steps) next
 unfolding HasPath
-level_suc types line steps table next level above = record {
+level_suc types token steps table next level above = record {
   long = above.long;
   same = λ node. (
-    λ h. one_of_more (HoldsBy types line) (IsIn table false) (HasPath (HoldsBy types line) steps) node (λ part. (level.same part).0) ((above.above node).0 h),
-    λ h. (above.above node).1 (one_of_more (HoldsBy types line) (HasPath (HoldsBy types line) steps) (IsIn table false) node (λ part. (level.same part).1) h),
+    λ h. one_of_more (HoldsBy types token) (IsIn table false) (HasPath (HoldsBy types token) steps) node (λ part. (level.same part).0) ((above.above node).0 h),
+    λ h. (above.above node).1 (one_of_more (HoldsBy types token) (HasPath (HoldsBy types token) steps) (IsIn table false) node (λ part. (level.same part).1) h),
   );
 }
 
 -- one step more
-pub level_more : (types : Types) (line steps : ℕ) (table next : List Bool) → IsLevel types line steps table → IsLevelAbove types line table false next → IsLevel types line (steps + 1) next
-level_more types line steps table next level above = rw add-one (level_suc types line steps table next level above)
+pub level_more : (types : Types) (token steps : ℕ) (table next : List Bool) → IsLevel types token steps table → IsLevelAbove types token table false next → IsLevel types token (steps + 1) next
+level_more types token steps table next level above = rw add-one (level_suc types token steps table next level above)
 
-level_within : (types : Types) (line steps : ℕ) (table next : List Bool) → IsLevel types line steps table → IsLevelAbove types line table false next → IsWithin next table
-level_within types line steps table next level above = λ node h.
-    (level.same node).1 (path_front (HoldsBy types line) steps node (((level_suc types line steps table next level above).same node).0 h))
+level_within : (types : Types) (token steps : ℕ) (table next : List Bool) → IsLevel types token steps table → IsLevelAbove types token table false next → IsWithin next table
+level_within types token steps table next level above = λ node h.
+    (level.same node).1 (path_front (HoldsBy types token) steps node (((level_suc types token steps table next level above).same node).0 h))
 
 -- a step that changes something loses a node
-pub level_loses : (types : Types) (line steps : ℕ) (table next : List Bool) → IsLevel types line steps table → IsLevelAbove types line table false next → (next ≡ table → ⊥) → count_in next < count_in table
-level_loses types line steps table next level above other =
+pub level_loses : (types : Types) (token steps : ℕ) (table next : List Bool) → IsLevel types token steps table → IsLevelAbove types token table false next → (next ≡ table → ⊥) → count_in next < count_in table
+level_loses types token steps table next level above other =
     let long : length next ≡ length table = above.long ∙ sym level.long in
-    let within = level_within types line steps table next level above in
+    let within = level_within types token steps table next level above in
     let most = count_within next table long within in
     elim (cases_lt (count_in next) (count_in table)) [
       | inl lt ↦ lt
@@ -119,38 +119,38 @@ level_loses types line steps table next level above other =
     ]
 
 -- a table that is its own next one has paths of any length
-pub level_endless : (types : Types) (line steps : ℕ) (table : List Bool) → IsLevel types line steps table → IsLevelAbove types line table false table → (node : ℕ) → IsIn table false node → IsEndless (HoldsBy types line) node
-level_endless types line steps table level above node h = λ more.
-    path_endless (HoldsBy types line) steps
-    (λ holder path. one_of_more (HoldsBy types line) (IsIn table false) (HasPath (HoldsBy types line) steps) holder (λ part. (level.same part).0) ((above.above holder).0 ((level.same holder).1 path)))
+pub level_endless : (types : Types) (token steps : ℕ) (table : List Bool) → IsLevel types token steps table → IsLevelAbove types token table false table → (node : ℕ) → IsIn table false node → IsEndless (HoldsBy types token) node
+level_endless types token steps table level above node h = λ more.
+    path_endless (HoldsBy types token) steps
+    (λ holder path. one_of_more (HoldsBy types token) (IsIn table false) (HasPath (HoldsBy types token) steps) holder (λ part. (level.same part).0) ((above.above holder).0 ((level.same holder).1 path)))
     more node ((level.same node).0 h)
 
 -- and is that of every later step
-pub level_stays : (types : Types) (line steps more : ℕ) (table : List Bool) → IsLevel types line steps table → IsLevelAbove types line table false table → IsLevel types line (steps + more) table
-level_stays types line steps more table level above = record {
+pub level_stays : (types : Types) (token steps more : ℕ) (table : List Bool) → IsLevel types token steps table → IsLevelAbove types token table false table → IsLevel types token (steps + more) table
+level_stays types token steps more table level above = record {
   long = level.long;
   same = λ node. (
-    λ h. level_endless types line steps table level above node h (steps + more),
-    λ h. (level.same node).1 (path_shorter (HoldsBy types line) steps more node h),
+    λ h. level_endless types token steps table level above node h (steps + more),
+    λ h. (level.same node).1 (path_shorter (HoldsBy types token) steps more node h),
   );
 }
 
 -- the step that changes nothing tells of each later one
-pub level_ends : (types : Types) (line steps all : ℕ) (table next : List Bool) → next ≡ table → steps ≤ all → IsLevel types line steps table → IsLevelAbove types line table false next → IsLevel types line all next
-level_ends types line steps all table next same le level above =
-    let again = subst (IsLevelAbove types line table false) same above in
+pub level_ends : (types : Types) (token steps all : ℕ) (table next : List Bool) → next ≡ table → steps ≤ all → IsLevel types token steps table → IsLevelAbove types token table false next → IsLevel types token all next
+level_ends types token steps all table next same le level above =
+    let again = subst (IsLevelAbove types token table false) same above in
     let e : steps + (all - steps) ≡ all = omega arith in
-    subst (IsLevel types line all) (sym same) (subst (λ (n : ℕ). IsLevel types line n table) e (level_stays types line steps (all - steps) table level again))
+    subst (IsLevel types token all) (sym same) (subst (λ (n : ℕ). IsLevel types token n table) e (level_stays types token steps (all - steps) table level again))
 
-pub level_ends_endless : (types : Types) (line steps : ℕ) (table next : List Bool) → next ≡ table → IsLevel types line steps table → IsLevelAbove types line table false next → (node : ℕ) → IsIn next false node → IsEndless (HoldsBy types line) node
-level_ends_endless types line steps table next same level above node h =
-    level_endless types line steps table level (subst (IsLevelAbove types line table false) same above) node (subst (λ (t : List Bool). IsIn t false node) same h)
+pub level_ends_endless : (types : Types) (token steps : ℕ) (table next : List Bool) → next ≡ table → IsLevel types token steps table → IsLevelAbove types token table false next → (node : ℕ) → IsIn next false node → IsEndless (HoldsBy types token) node
+level_ends_endless types token steps table next same level above node h =
+    level_endless types token steps table level (subst (IsLevelAbove types token table false) same above) node (subst (λ (t : List Bool). IsIn t false node) same h)
 
 -- a node is left after more steps than there are nodes, or none is
-pub round_told : (types : Types) (line steps : ℕ) (table : List Bool) (found : Option ℕ) → IsLevel types line steps table → ((node : ℕ) → IsIn table false node → IsEndless (HoldsBy types line) node)
-    → IfNone found ((node : ℕ) → IsIn table false node → ⊥) → IfSome found (IsIn table false) → IsTrue (is_some found) ↔ GoesRoundBy types line
-round_told types line steps table None level endless none some = ((λ h. absurd cc), (λ round. absurd (none round.node ((level.same round.node).1 (round.endless steps)))))
-round_told types line steps table (Some node) level endless none some =
+pub round_told : (types : Types) (token steps : ℕ) (table : List Bool) (found : Option ℕ) → IsLevel types token steps table → ((node : ℕ) → IsIn table false node → IsEndless (HoldsBy types token) node)
+    → IfNone found ((node : ℕ) → IsIn table false node → ⊥) → IfSome found (IsIn table false) → IsTrue (is_some found) ↔ GoesRoundBy types token
+round_told types token steps table None level endless none some = ((λ h. absurd cc), (λ round. absurd (none round.node ((level.same round.node).1 (round.endless steps)))))
+round_told types token steps table (Some node) level endless none some =
     let within = in_within table node some in (
       λ h. record { node = node; within = omega (arith, within, level.long); endless = endless node some },
       λ round. refl,

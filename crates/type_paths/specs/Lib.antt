@@ -1,3 +1,3 @@
-pub mod Lines
+pub mod Sites
 pub mod Paths
 pub mod Levels

@@ -4,22 +4,22 @@ ghost use Rattle.std.specs.Prelude.{◌≡◌, ◌↔◌, ℕ, List, EachIndex};
 ghost use Rattle.type_graph.specs.declared.node.Node.{Node};
 ghost use Rattle.type_graph.specs.GraphRules.{IsShallow};
 ghost use Rattle.type_paths.specs.declared.fault.PathFault.{PathFault};
-ghost use Rattle.type_paths.specs.Lines.{Lines, Types};
+ghost use Rattle.type_paths.specs.Sites.{Sites, Types};
 ghost use Rattle.type_paths.specs.Paths.{GoesRoundBy, HoldsItself, IsPathFault};
 
 /// Members go round exactly where they lead from a type back to it.
 pub fn going_round_comes_back()
-    ensures { (types : Types) (line : ℕ) → GoesRoundBy types line ↔ HoldsItself types line }
+    ensures { (types : Types) (token : ℕ) → GoesRoundBy types token ↔ HoldsItself types token }
 {}
 
 /// Where there is a fault, not all paths are short.
 pub fn fault_is_of_long_paths()
-    ensures { (nodes : List Node) (first : ℕ) (lines : List Lines) (fault : PathFault)
-        → IsPathFault nodes first lines fault → EachIndex nodes (IsShallow 64 nodes) → ⊥ }
+    ensures { (nodes : List Node) (first : ℕ) (sites : List Sites) (fault : PathFault)
+        → IsPathFault nodes first sites fault → EachIndex nodes (IsShallow 64 nodes) → ⊥ }
 {}
 
 /// A list has one fault at most.
 pub fn path_fault_is_one()
-    ensures { (nodes : List Node) (first : ℕ) (lines : List Lines) (one other : PathFault)
-        → IsPathFault nodes first lines one → IsPathFault nodes first lines other → one ≡ other }
+    ensures { (nodes : List Node) (first : ℕ) (sites : List Sites) (one other : PathFault)
+        → IsPathFault nodes first sites one → IsPathFault nodes first sites other → one ≡ other }
 {}

@@ -1,4 +1,4 @@
-//! What is wrong with the paths of a list of types, and in which line: a type that holds itself, or
+//! What is wrong with the paths of a list of types, and where: a type that holds itself, or
 //! types that are held too deep.
 #![tactic(auto)]
 
@@ -7,11 +7,11 @@ mod fault;
 mod find;
 pub mod laws;
 mod levels;
-mod lined;
-mod lines;
+mod sited;
+mod sites;
 #[cfg(test)]
 mod tests;
 
 pub use fault::PathFault;
 pub use find::find_path_fault;
-pub use lines::NodeLines;
+pub use sites::NodeSites;

@@ -1,6 +1,7 @@
 //! Circles, long paths, and lists as large as a file may write.
 
-use crate::{NodeLines, PathFault, find_path_fault};
+use crate::{NodeSites, PathFault, find_path_fault};
+use idl_tree::names::At;
 use std::alloc::{AllocError, Global};
 use std::test::Fail;
 use type_graph::{Members, Node};
@@ -13,11 +14,16 @@ fn structure(alloc: Global, parts: &[u32]) -> Result<Node, AllocError> {
     Ok(Node::Struct { members })
 }
 
-/// The fault of so many structures, each of which holds the next in a line of its own. The last holds
+/// A token in a line of its own.
+fn site(token: usize) -> At {
+    At { token, line: token + 100 }
+}
+
+/// The fault of so many structures, each of which holds the next at a token of its own. The last holds
 /// the number given, past the end an octet.
 fn fault_of_chain(alloc: Global, count: u32, last: u32) -> Result<Option<PathFault>, AllocError> {
     let mut nodes = Vec::new(alloc);
-    let mut lines = Vec::new(alloc);
+    let mut sites = Vec::new(alloc);
     for number in 0..count {
         let part = if number + 1 == count {
             last
@@ -25,10 +31,10 @@ fn fault_of_chain(alloc: Global, count: u32, last: u32) -> Result<Option<PathFau
             number + 1
         };
         nodes.push(structure(alloc, &[part])?)?;
-        let line = number as usize + 1;
-        lines.push(NodeLines::new(line, vec![in alloc; line]?))?;
+        let at = site(number as usize + 1);
+        sites.push(NodeSites::new(at, vec![in alloc; at]?))?;
     }
-    find_path_fault(alloc, &nodes, 0, &lines)
+    find_path_fault(alloc, &nodes, 0, &sites)
 }
 
 /// The structures, and the octet that the last one holds.
@@ -36,7 +42,7 @@ fn fault_of_chain(alloc: Global, count: u32, last: u32) -> Result<Option<PathFau
 fn paths_have_64_nodes_at_most(rt: HostRuntime) -> Result<(), Fail> {
     let alloc = rt.alloc();
     assert_eq!(rt; fault_of_chain(alloc, 63, 63)?, None);
-    let long = Some(PathFault::LongPath { line: 1 });
+    let long = Some(PathFault::LongPath { at: site(1) });
     assert_eq!(rt; fault_of_chain(alloc, 64, 64)?, long);
     assert_eq!(rt; fault_of_chain(alloc, 1024, 1024)?, long);
     Ok(())
@@ -47,11 +53,11 @@ fn the_last_member_closes_a_large_circle(rt: HostRuntime) -> Result<(), Fail> {
     let alloc = rt.alloc();
     assert_eq!(rt;
         fault_of_chain(alloc, 1, 0)?,
-        Some(PathFault::SelfHeld { line: 1 })
+        Some(PathFault::SelfHeld { at: site(1) })
     );
     assert_eq!(rt;
         fault_of_chain(alloc, 256, 0)?,
-        Some(PathFault::SelfHeld { line: 256 })
+        Some(PathFault::SelfHeld { at: site(256) })
     );
     Ok(())
 }

@@ -20,13 +20,13 @@ returns-then-not-branch-clause-some c =
     let within = in_within c.deref.result.now node c.in-Some.ensures.some in
     let long = level.long in
     record {
-      never = λ line round.
-          let yes = c.in_ok-goes_round.ensures.1 (round_last types line most c.greatest-greatest.ensures round) in
+      never = λ token round.
+          let yes = c.in_ok-goes_round.ensures.1 (round_last types token most c.greatest-greatest.ensures round) in
           let bad : true ≡ false = sym yes ∙ c.if-not-branch.true in
           absurd cc;
       node = node;
       within = omega arith;
       deep = λ shallow. shallow_no_path types most 64 node shallow ((level.same node).0 c.in-Some.ensures.some);
       first = λ less lt. no_path_shallow types most c.greatest-greatest.ensures 64 less (λ path. c.in-Some.ensures.first less lt ((level.same less).1 path));
-      stands = c.own_line-line.ensures;
+      stands = c.own_at-at.ensures;
     }

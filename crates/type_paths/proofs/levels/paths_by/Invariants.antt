@@ -5,6 +5,6 @@ use Rattle.type_paths.proofs.levels.paths_by.Given as goal
 
 abbrev pub invariant-loop : goal.invariant-loop
 invariant-loop l = record {
-  level : IsLevel l.types l.line l.counter l.next.items;
+  level : IsLevel l.types l.token l.counter l.next.items;
   spare : count_in l.next.items + l.counter ≤ length l.types.nodes + 1;
 }

@@ -1,6 +1,6 @@
 use Rattle.std.proofs.Common.{◌≡◌, ◌+◌, ◌-◌, ◌/◌, IsTrue, true, false, sym, ◌∙◌, arith}
 use Rattle.type_paths.proofs.PathLaws.{round_later}
-use Rattle.type_paths.proofs.circles.closing_line.Goals as goal
+use Rattle.type_paths.proofs.circles.closing_token.Goals as goal
 
 pub loop-low-preserved : goal.loop-low-preserved
 loop-low-preserved c =

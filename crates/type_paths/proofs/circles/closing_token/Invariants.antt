@@ -1,6 +1,6 @@
 use Rattle.std.proofs.Common.{◌-◌, ℕ, ◌<◌, ◌≤◌}
 use Rattle.type_paths.specs.Paths.{GoesRoundBy}
-use Rattle.type_paths.proofs.circles.closing_line.Given as goal
+use Rattle.type_paths.proofs.circles.closing_token.Given as goal
 
 abbrev pub invariant-loop-low : goal.invariant-loop-low
 invariant-loop-low l = record {
