@@ -17,13 +17,13 @@ use Rattle.model_builder.specs.declared.fault.ModelFault.{ModelFault}
 use Rattle.model_builder.specs.declared.fault.ModelFault.TheVariants.{Types, NoMemory}
 
 abbrev pub path_told : PathFault → TypeFault
-path_told (Paths.SelfHeld line) = SelfHeld line
-path_told (Paths.LongPath line) = Limit Path line
+path_told (Paths.SelfHeld at) = SelfHeld at
+path_told (Paths.LongPath at) = Limit Path 64 at
 
--- a type holds itself, or a path is too long; the basic types have no lines
+-- a type holds itself, or a path is too long; the basic types have no sites
 pub record IsFaultOfPaths (w : Written) (fault : TypeFault) : Type 0 where
   pub path : PathFault
-  pub is : IsPathFault w.nodes 14 w.lines path
+  pub is : IsPathFault w.nodes 14 w.sites path
   pub told : fault ≡ path_told path
 
 -- where all is read

@@ -12,15 +12,19 @@ use type_graph::{Graph, GraphFault, GraphLimit};
 use type_paths::{PathFault, find_path_fault};
 use written_types::{TypeFault, TypeTable};
 
+/// The nodes of a path.
+const MAX_PATH: u32 = 64;
+
 /// What is told of a path.
 fn told(fault: PathFault) -> TypeFault
     ensures { result ≡ path_told fault }
 {
     match fault {
-        PathFault::SelfHeld { line } => TypeFault::SelfHeld { line },
-        PathFault::LongPath { line } => TypeFault::Limit {
+        PathFault::SelfHeld { at } => TypeFault::SelfHeld { at },
+        PathFault::LongPath { at } => TypeFault::Limit {
             which: GraphLimit::Path,
-            line,
+            most: MAX_PATH,
+            at,
         },
     }
 }
@@ -33,7 +37,7 @@ pub(crate) fn check_paths(alloc: Global, types: &TypeTable) -> Result<(), ModelF
     ensures shallow { OnOk result (EachIndex types.now.nodes (IsShallow 64 types.now.nodes)) }
     ensures refused { IfErr result (IsRefusedBehind types.now) }
 {
-    match find_path_fault(alloc, types.nodes(), BASIC_NODES as usize, types.lines())? {
+    match find_path_fault(alloc, types.nodes(), BASIC_NODES as usize, types.sites())? {
         Some(fault) => Err(ModelFault::Types(told(fault))),
         None => Ok(()),
     }

@@ -15,8 +15,12 @@ fn structure(alloc: Global, parts: &[u32]) -> Result<Node, AllocError> {
 }
 
 /// A token in a line of its own.
-fn site(token: usize) -> At {
-    At { token, line: token + 100 }
+fn site(number: u32) -> At {
+    let token = number as usize;
+    At {
+        token,
+        line: token + 100,
+    }
 }
 
 /// The fault of so many structures, each of which holds the next at a token of its own. The last holds
@@ -31,7 +35,7 @@ fn fault_of_chain(alloc: Global, count: u32, last: u32) -> Result<Option<PathFau
             number + 1
         };
         nodes.push(structure(alloc, &[part])?)?;
-        let at = site(number as usize + 1);
+        let at = site(number + 1);
         sites.push(NodeSites::new(at, vec![in alloc; at]?))?;
     }
     find_path_fault(alloc, &nodes, 0, &sites)

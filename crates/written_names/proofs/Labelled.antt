@@ -1,22 +1,24 @@
 -- Each case of a union has a label or more, so that a union has no more cases than labels.
 use Rattle.std.proofs.Common.{◌≡◌, ℕ, suc, ◌+◌, ◌≤◌, Bool, true, false, List, [], ◌∷◌, ◌++◌, length, length-append, map}
-use Rattle.std.proofs.Common.{Option, Some, None, Result, Ok, Err, refl, ap, subst, arith, ℤ, int_lt}
-use Rattle.std.specs.Prelude.{◌||◌, if◌then◌else◌, is_some, option_to_list}
+use Rattle.std.proofs.Common.{Option, Some, None, Result, Ok, Err, refl, ap, subst, arith, ℤ, pos, int_lt}
+use Rattle.std.specs.Prelude.{if◌then◌else◌, is_some, option_to_list}
 use Rattle.std.proofs.lemmas.List.{length-map}
+use Rattle.idl_tree.specs.declared.names.At.{At}
 use Rattle.idl_tree.specs.declared.types.Label.{Label}
 use Rattle.idl_tree.specs.declared.types.Label.TheVariants.{Case as CaseLabel, Default}
-use Rattle.idl_tree.specs.Starts.{expr_start}
+use Rattle.idl_tree.specs.Starts.{expr_start, leaf_at}
 use Rattle.type_graph.specs.declared.fault.GraphLimit.TheVariants.{Members as MembersLimit}
 use Rattle.type_graph.specs.declared.node.Node.TheVariants.{Union}
 use Rattle.name_table.specs.Entry.{Entry}
+use Rattle.scoped_names.specs.Faults.{or_then}
 use Rattle.scoped_names.specs.Reading.{◌>>◌}
 use Rattle.written_types.specs.declared.fault.BuildFault.{BuildFault}
 use Rattle.written_types.specs.declared.fault.BuildFault.TheVariants.{Types}
 use Rattle.written_types.specs.declared.fault.TypeFault.TheVariants.{LabelTwice}
-use Rattle.written_types.specs.Faults.{at_most, each, line_of, max_members}
-use Rattle.written_types.specs.Labels.{Arms, CaseLabels, is_taken, label_added, label_value, no_arms, value_added}
+use Rattle.written_types.specs.Faults.{at_most, each, max_members}
+use Rattle.written_types.specs.Labels.{Arms, CaseLabels, default_added, default_at, is_taken, keyword_at, label_added, label_value, labelled, no_arms, taken_at, value_added}
 use Rattle.written_types.specs.Labels.{switched, with_arm, with_arms, with_case, with_default}
-use Rattle.written_types.specs.Types.{arm_line, default_number, numbered_arm}
+use Rattle.written_types.specs.Types.{arm_at, default_number, numbered_arm}
 use Rattle.written_types.specs.Written.{unwritten}
 use Rattle.written_names.specs.OneForOne.{HaveNames}
 use Rattle.written_names.proofs.Signs.{then_done}
@@ -25,8 +27,15 @@ use Rattle.written_names.proofs.Signs.{then_done}
 abbrev pub domain : {A B : Type 0} → (A → B) → Type 0
 domain {A = A} f = A
 
+-- and what it gives
+abbrev codomain : {A B : Type 0} → (A → B) → Type 0
+codomain {B = B} f = B
+
 abbrev Arm : Type 0
-Arm = domain arm_line
+Arm = domain arm_at
+
+abbrev LabelValue : Type 0
+LabelValue = codomain (labelled (pos 0))
 
 abbrev pub Switch : Type 0
 Switch = domain (switched (unwritten 0))
@@ -44,15 +53,16 @@ labels_read ls = length ls.values + one_if ls.default
 
 -- there is a default at most once
 abbrev pub IsFree : Arms → CaseLabels → Type 0
-IsFree a ls = (k : ℕ) → ls.default ≡ Some k → a.default ≡ None
+IsFree a ls = (k : At) → ls.default ≡ Some k → a.default ≡ None
 
 pub record AreRead (a : Arms) (ls : CaseLabels) (count : ℕ) : Type 0 where
   pub long : labels_read ls ≡ count
   pub free : IsFree a ls
 
-either_false : (a b : Bool) → (a || b) ≡ false → (a ≡ false) × (b ≡ false)
-either_false true b h = absurd cc
-either_false false b h = (refl, h)
+neither_there : (arm : domain keyword_at) (read : Option At) → is_some (or_then (keyword_at arm) read) ≡ false
+    → (is_some arm ≡ false) × (is_some read ≡ false)
+neither_there None read h = (refl, h)
+neither_there (Some d) read h = absurd cc
 
 is_none : {T : Type 0} (o : Option T) → is_some o ≡ false → o ≡ None
 is_none None h = refl
@@ -62,41 +72,41 @@ abbrev Read : Type 0
 Read = Result CaseLabels BuildFault
 
 -- a label that isn't there yet
-abbrev once : Bool → ℕ → Read → Read
-once twice line read = (if twice then Err (Types (LabelTwice line)) else read)
+abbrev once : Bool → At → Option At → Read → Read
+once twice at other read = (if twice then Err (Types (LabelTwice at other)) else read)
 
-abbrev value_behind : Arms → CaseLabels → ℕ → ℤ → Read
-value_behind a ls line n = at_most max_members MembersLimit line (length a.arms + length ls.values + 1) >> λ count.
-    Ok (record ls { values = ls.values ++ n ∷ [] })
+abbrev value_behind : Arms → CaseLabels → At → ℤ → Read
+value_behind a ls at n = at_most max_members MembersLimit at (length a.arms + length ls.values + 1) >> λ count.
+    Ok (record ls { values = ls.values ++ labelled n at ∷ [] })
 
-value_read : (a : Arms) (ls more : CaseLabels) (count line : ℕ) (n : ℤ) → AreRead a ls count
-    → value_added a ls line n ≡ Ok more → AreRead a more (count + 1)
-value_read a ls more count line n read h = by (is_taken a ls n) h
+value_read : (a : Arms) (ls more : CaseLabels) (count : ℕ) (at : At) (n : ℤ) → AreRead a ls count
+    → value_added a ls at n ≡ Ok more → AreRead a more (count + 1)
+value_read a ls more count at n read h = by (is_taken a ls n) h
   where
-    by : (b : Bool) → once b line (value_behind a ls line n) ≡ Ok more → AreRead a more (count + 1)
+    by : (b : Bool) → once b at (taken_at a ls n) (value_behind a ls at n) ≡ Ok more → AreRead a more (count + 1)
     by true h = absurd cc
     by false h =
-        let room = at_most max_members MembersLimit line (length a.arms + length ls.values + 1) in
+        let room = at_most max_members MembersLimit at (length a.arms + length ls.values + 1) in
         let (k, fits, told) = then_done room _ more h in
-        let same : record ls { values = ls.values ++ n ∷ [] } ≡ more = cc in
+        let same : record ls { values = ls.values ++ labelled n at ∷ [] } ≡ more = cc in
         let long = read.long in
-        let longer = length-append ls.values (n ∷ []) in
+        let longer = length-append ls.values (labelled n at ∷ []) in
         subst (λ z. AreRead a z (count + 1)) same (record { long = omega (arith, long, longer); free = read.free })
 
-default_read : (a : Arms) (ls more : CaseLabels) (count line : ℕ) → AreRead a ls count
-    → once (is_some a.default || is_some ls.default) line (Ok (record ls { default = Some line })) ≡ Ok more
+default_read : (a : Arms) (ls more : CaseLabels) (count : ℕ) (at : At) → AreRead a ls count
+    → default_added a ls at ≡ Ok more
     → AreRead a more (count + 1)
-default_read a ls more count line read h = by (is_some a.default || is_some ls.default) refl h
+default_read a ls more count at read h = by (is_some (default_at a ls)) refl h
   where
-    by : (b : Bool) → (is_some a.default || is_some ls.default) ≡ b
-        → once b line (Ok (record ls { default = Some line })) ≡ Ok more → AreRead a more (count + 1)
+    by : (b : Bool) → is_some (default_at a ls) ≡ b
+        → once b at (default_at a ls) (Ok (record ls { default = Some at })) ≡ Ok more → AreRead a more (count + 1)
     by true is h = absurd cc
     by false is h =
-        let (first, second) = either_false (is_some a.default) (is_some ls.default) is in
-        let same : record ls { default = Some line } ≡ more = cc in
+        let (first, second) = neither_there a.default ls.default is in
+        let same : record ls { default = Some at } ≡ more = cc in
         let long = read.long in
         let none : one_if ls.default ≡ 0 = ap one_if (is_none ls.default second) in
-        let all : labels_read (record ls { default = Some line }) ≡ count + 1 = omega (arith, long, none) in
+        let all : labels_read (record ls { default = Some at }) ≡ count + 1 = omega (arith, long, none) in
         subst (λ z. AreRead a z (count + 1)) same (record { long = all; free = λ k told. is_none a.default first })
 
 label_read : (es : List Entry) (scope : ℕ) (s : Switch) (a : Arms) (ls more : CaseLabels) (count : ℕ) (l : Label)
@@ -104,8 +114,8 @@ label_read : (es : List Entry) (scope : ℕ) (s : Switch) (a : Arms) (ls more : 
     → label_added es scope s a ls l ≡ Ok more → AreRead a more (count + 1)
 label_read es scope s a ls more count (CaseLabel e) read h =
     let (n, is, told) = then_done (label_value es scope s e.expr) _ more h in
-    value_read a ls more count (line_of (expr_start e.expr)) n read told
-label_read es scope s a ls more count (Default word) read h = default_read a ls more count (line_of word) read h
+    value_read a ls more count (leaf_at (expr_start e.expr)) n read told
+label_read es scope s a ls more count (Default word) read h = default_read a ls more count (leaf_at word) read h
 
 pub labels_are_read : (es : List Entry) (scope : ℕ) (s : Switch) (a : Arms) (ls more : CaseLabels) (count : ℕ)
     (xs : List Label) → AreRead a ls count
@@ -132,25 +142,25 @@ arm_more (arm ∷ arms) new = by (int_lt new.label arm.label) (arm_more arms new
     by true others = omega arith
     by false others = omega (arith, others)
 
-arms_more : (arms : List Arm) (number line : ℕ) (ns : List ℤ)
-    → length (with_arms arms number line ns) ≡ length arms + length ns
-arms_more arms number line [] = omega arith
-arms_more arms number line (n ∷ ns) =
-    let new : Arm = record { label = n; number = number; line = line } in
+arms_more : (arms : List Arm) (number : ℕ) (at : At) (ns : List LabelValue)
+    → length (with_arms arms number at ns) ≡ length arms + length ns
+arms_more arms number at [] = omega arith
+arms_more arms number at (n ∷ ns) =
+    let new : Arm = record { label = n.value; label_at = n.at; number = number; at = at } in
     let one = arm_more arms new in
-    let others = arms_more (with_arm arms new) number line ns in
+    let others = arms_more (with_arm arms new) number at ns in
     omega (arith, one, others)
 
-pub case_more : (a : Arms) (ls : CaseLabels) (count number line : ℕ) → AreRead a ls count → 1 ≤ count
-    → labels_in a + 1 ≤ labels_in (with_case a number line ls)
-case_more a ls count number line read some = by ls.default read.long read.free
+pub case_more : (a : Arms) (ls : CaseLabels) (count number : ℕ) (at : At) → AreRead a ls count → 1 ≤ count
+    → labels_in a + 1 ≤ labels_in (with_case a number at ls)
+case_more a ls count number at read some = by ls.default read.long read.free
   where
-    by : (d : Option ℕ) → length ls.values + one_if d ≡ count → ((k : ℕ) → d ≡ Some k → a.default ≡ None)
-        → labels_in a + 1 ≤ length (with_arms a.arms number line ls.values) + one_if
-        (with_default a.default number line d)
-    by None long free = let more = arms_more a.arms number line ls.values in omega (arith, more, long, some)
+    by : (d : Option At) → length ls.values + one_if d ≡ count → ((k : At) → d ≡ Some k → a.default ≡ None)
+        → labels_in a + 1 ≤ length (with_arms a.arms number at ls.values) + one_if
+        (with_default a.default number at d)
+    by None long free = let more = arms_more a.arms number at ls.values in omega (arith, more, long, some)
     by (Some k) long free =
-        let more = arms_more a.arms number line ls.values in
+        let more = arms_more a.arms number at ls.values in
         let none : one_if a.default ≡ 0 = ap one_if (free k refl) in
         omega (arith, more, none)
 

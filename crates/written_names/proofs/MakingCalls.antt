@@ -5,6 +5,7 @@ use Rattle.std.proofs.Common.{arith}
 use Rattle.std.specs.Prelude.{◌&&◌, if◌then◌else◌, codes, nat_eq, slice_get}
 use Rattle.std.specs.List.{filter}
 use Rattle.std.proofs.lemmas.Bool.{eqb-true}
+use Rattle.idl_tree.specs.declared.names.At.{At}
 use Rattle.idl_tree.specs.declared.names.Leaf.{Leaf}
 use Rattle.idl_tree.specs.declared.types.ParamType.{ParamType}
 use Rattle.idl_tree.specs.declared.definitions.Attribute.{Attribute}
@@ -13,15 +14,16 @@ use Rattle.idl_tree.specs.declared.definitions.Direction.{Direction}
 use Rattle.idl_tree.specs.declared.definitions.Direction.TheVariants.{In, Out, InOut}
 use Rattle.idl_tree.specs.declared.definitions.Operation.{Operation}
 use Rattle.idl_tree.specs.declared.definitions.Param.{Param}
+use Rattle.idl_tree.specs.Starts.{leaf_at}
 use Rattle.type_graph.specs.declared.node.Node.TheVariants.{Frame}
 use Rattle.name_table.specs.Entry.{Entry}
 use Rattle.name_table.specs.Search.{word}
 use Rattle.scoped_names.specs.Reading.{◌>>◌}
-use Rattle.type_paths.specs.Lines.{Lines}
+use Rattle.type_paths.specs.Sites.{Sites}
 use Rattle.written_types.specs.declared.fault.BuildFault.{BuildFault}
 use Rattle.written_types.specs.declared.place.Place.{Place}
 use Rattle.written_types.specs.declared.place.Place.TheVariants.{Called, Got, GotAndSet}
-use Rattle.written_types.specs.Faults.{each, line_of, or_other}
+use Rattle.written_types.specs.Faults.{each, or_other}
 use Rattle.written_types.specs.Members.{Members}
 use Rattle.written_types.specs.SimpleTypes.{entry_of, param_type}
 use Rattle.written_types.specs.Types.{member_added}
@@ -65,30 +67,30 @@ record CarriesMore (c b : Carried) (sent back : ℕ) : Type 0 where
   request : length b.request.numbers ≡ length c.request.numbers + sent
   reply : length b.reply.numbers ≡ length c.reply.numbers + back
 
-carried_more : (c b : Carried) (d : Direction) (number line : ℕ) → with_carried c d number line ≡ Ok b
+carried_more : (c b : Carried) (d : Direction) (number : ℕ) (at : At) → with_carried c d number at ≡ Ok b
     → CarriesMore c b (one_if (goes_in d)) (one_if (goes_out d))
-carried_more c b In number line h =
-    let (ms, adds, told) = then_done (member_added c.request number line) _ b h in
+carried_more c b In number at h =
+    let (ms, adds, told) = then_done (member_added c.request number at) _ b h in
     let same : record c { request = ms } ≡ b = cc in
     subst (λ z. CarriesMore c z 1 0) same (record {
-      request = member_more c.request ms number line adds;
+      request = member_more c.request ms number at adds;
       reply = omega arith;
     })
-carried_more c b Out number line h =
-    let (ms, adds, told) = then_done (member_added c.reply number line) _ b h in
+carried_more c b Out number at h =
+    let (ms, adds, told) = then_done (member_added c.reply number at) _ b h in
     let same : record c { reply = ms } ≡ b = cc in
     subst (λ z. CarriesMore c z 0 1) same (record {
       request = omega arith;
-      reply = member_more c.reply ms number line adds;
+      reply = member_more c.reply ms number at adds;
     })
-carried_more c b InOut number line h =
-    let (ms, adds, h1) = then_done (member_added c.request number line) _ b h in
-    let (ns, also, told) = then_done (member_added c.reply number line) _ b h1 in
+carried_more c b InOut number at h =
+    let (ms, adds, h1) = then_done (member_added c.request number at) _ b h in
+    let (ns, also, told) = then_done (member_added c.reply number at) _ b h1 in
     let both : Carried = record { request = ms; reply = ns } in
     let same : both ≡ b = cc in
     subst (λ z. CarriesMore c z 1 1) same (record {
-      request = member_more c.request ms number line adds;
-      reply = member_more c.reply ns number line also;
+      request = member_more c.request ms number at adds;
+      reply = member_more c.reply ns number at also;
     })
 
 record Carries (m b : Carrying) (sent back : ℕ) : Type 0 where
@@ -110,11 +112,11 @@ param_carries : (es : List Entry) (scope : ℕ) (c b : Carrying) (p : Param) →
     → Carries c b (one_if (goes_in p.direction)) (one_if (goes_out p.direction))
 param_carries es scope c b p h =
     let (t, typed, h1) = then_done (param_type es c.types scope p.param_type) _ b h in
-    let (more, carries, told) = then_done (with_carried c.carried p.direction t.number (line_of p.identifier)) _ b h1 in
+    let (more, carries, told) = then_done (with_carried c.carried p.direction t.number (leaf_at p.identifier)) _ b h1 in
     let same : carrying t.written more ≡ b = cc in
     subst (λ z. Carries c z (one_if (goes_in p.direction)) (one_if (goes_out p.direction))) same (record {
       stays = param_stays es c.types scope p.param_type t typed;
-      more = carried_more c.carried more p.direction t.number (line_of p.identifier) carries;
+      more = carried_more c.carried more p.direction t.number (leaf_at p.identifier) carries;
     })
 
 abbrev those : (Direction → Bool) → List Param → List (List ℕ)
@@ -159,21 +161,21 @@ params_carry es scope c b (p ∷ ps) h =
       };
     }
 
-result_carries : (es : List Entry) (w : Written) (scope line : ℕ) (result : Option ParamType) (c : Carrying)
-    → result_carried es w scope line result ≡ Ok c
+result_carries : (es : List Entry) (w : Written) (scope : ℕ) (at : At) (result : Option ParamType) (c : Carrying)
+    → result_carried es w scope at result ≡ Ok c
     → Carries (carrying w nothing_carried) c 0 (length (result_names result))
-result_carries es w scope line None c h =
+result_carries es w scope at None c h =
     let same : carrying w nothing_carried ≡ c = cc in
     subst (λ z. Carries (carrying w nothing_carried) z 0 0) same
     (record { stays = stays_none w; more = record { request = omega arith; reply = omega arith } })
-result_carries es w scope line (Some t) c h =
+result_carries es w scope at (Some t) c h =
     let (n, typed, h1) = then_done (param_type es w scope t) _ c h in
-    let (more, carries, told) = then_done (with_carried nothing_carried Out n.number line)
+    let (more, carries, told) = then_done (with_carried nothing_carried Out n.number at)
     (λ more. let r : Result Carrying BuildFault = Ok (carrying n.written more) in r) c h1 in
     let same : carrying n.written more ≡ c = cc in
     subst (λ z. Carries (carrying w nothing_carried) z 0 1) same (record {
       stays = param_stays es w scope t n typed;
-      more = carried_more nothing_carried more Out n.number line carries;
+      more = carried_more nothing_carried more Out n.number at carries;
     })
 
 -- ---- frames
@@ -188,9 +190,9 @@ all_named : (es : List Entry) (w : Written) (scope : ℕ) (o : Operation) (c : C
     (reply_names o.result_type (parts_of o.params))
 all_named es w scope o c h =
     let ps = parts_of o.params in
-    let line = line_of o.identifier in
-    let (m, result, params) = then_done (result_carried es w scope line o.result_type) _ c h in
-    let one = result_carries es w scope line o.result_type m result in
+    let at = leaf_at o.identifier in
+    let (m, result, params) = then_done (result_carried es w scope at o.result_type) _ c h in
+    let one = result_carries es w scope at o.result_type m result in
     let all = carries_on (carrying w nothing_carried) m c 0 (length (result_names o.result_type))
     (length (those goes_in ps)) (length (those goes_out ps))
     one (params_carry es scope m c ps params) in
@@ -199,13 +201,13 @@ all_named es w scope o c h =
     let both = length-append (result_names o.result_type) (those goes_out ps) in
     (all.stays, record { request = omega (arith, request); reply = omega (arith, reply, both) })
 
-frame_gives : (w : Written) (ms : Members) (line : ℕ) (n : Numbered) → frame_added w ms line ≡ Ok n
+frame_gives : (w : Written) (ms : Members) (at : At) (n : Numbered) → frame_added w ms at ≡ Ok n
     → IsAdded w (Frame ms.numbers) n
-frame_gives w ms line n h =
-    let (v, counts, adds) = then_done (counted w (length ms.numbers) line) _ n h in
-    let same = counted_same w v (length ms.numbers) line counts in
-    let lines : Lines = record { line = line; held = ms.lines } in
-    let a = added_gives v (Frame ms.numbers) lines n adds in
+frame_gives w ms at n h =
+    let (v, counts, adds) = then_done (counted w (length ms.numbers) at) _ n h in
+    let same = counted_same w v (length ms.numbers) at counts in
+    let sites : Sites = record { at = at; held = ms.sites } in
+    let a = added_gives v (Frame ms.numbers) sites n adds in
     record {
       number = a.number ∙ ap length same.0;
       nodes = a.nodes ∙ ap (λ graph. graph ++ Frame ms.numbers ∷ []) same.0;
@@ -219,14 +221,14 @@ record AreFrames (w : Written) (c : Carried) (f : Numbered) : Type 0 where
   request : slice_get f.written.nodes f.number ≡ Some (Frame c.request.numbers)
   reply : slice_get f.written.nodes (f.number + 1) ≡ Some (Frame c.reply.numbers)
 
-frames_give : (w : Written) (c : Carried) (line : ℕ) (f : Numbered) → frames_added w c line ≡ Ok f → AreFrames w c f
-frames_give w c line f h =
-    let (a, first, h1) = then_done (frame_added w c.request line) _ f h in
-    let (b, second, told) = then_done (frame_added a.written c.reply line) _ f h1 in
+frames_give : (w : Written) (c : Carried) (at : At) (f : Numbered) → frames_added w c at ≡ Ok f → AreFrames w c f
+frames_give w c at f h =
+    let (a, first, h1) = then_done (frame_added w c.request at) _ f h in
+    let (b, second, told) = then_done (frame_added a.written c.reply at) _ f h1 in
     let sent = Frame c.request.numbers in
     let back = Frame c.reply.numbers in
-    let one = frame_gives w c.request line a first in
-    let two = frame_gives a.written c.reply line b second in
+    let one = frame_gives w c.request at a first in
+    let two = frame_gives a.written c.reply at b second in
     let long = added_long w sent a one in
     let longer = added_long a.written back b two in
     let at = one.number in
@@ -263,10 +265,10 @@ call_between w b c f sent back h later named =
     }
 
 -- a call is put behind its frames
-call_gives : (d : Defined) (c : Carried) (oneway : Bool) (raises : List ℕ) (role : Role) (e line : ℕ) (r : Requested)
-    → with_call d c oneway raises role e line ≡ Ok r → AreFrames d.types c (already r.defined.types r.request)
-call_gives d c oneway raises role e line r h =
-    let (f, framed, told) = then_done (frames_added d.types c line) _ r h in
+call_gives : (d : Defined) (c : Carried) (oneway : Bool) (raises : List ℕ) (role : Role) (e : ℕ) (at : At) (r : Requested)
+    → with_call d c oneway raises role e at ≡ Ok r → AreFrames d.types c (already r.defined.types r.request)
+call_gives d c oneway raises role e at r h =
+    let (f, framed, told) = then_done (frames_added d.types c at) _ r h in
     let made : Signature = record { entry = e; role = role; is_oneway = oneway; request = f.number; raises = raises } in
     let defined : Defined = record {
       types = f.written;
@@ -274,7 +276,7 @@ call_gives d c oneway raises role e line r h =
       interfaces = d.interfaces;
     } in
     let same : requested defined f.number ≡ r = cc in
-    subst (λ z. AreFrames d.types c (already z.defined.types z.request)) same (frames_give d.types c line f framed)
+    subst (λ z. AreFrames d.types c (already z.defined.types z.request)) same (frames_give d.types c at f framed)
 
 -- the entry of a call gets its frames
 pub record IsPlace (d : Defined) (e : ℕ) (p : Place) (b : Defined) : Type 0 where
@@ -346,7 +348,7 @@ other_told (Some n) k h = cc
 pub operation_makes : (es : List Entry) (scope : ℕ) (d b : Defined) (o : Operation) → operation es scope d o ≡ Ok b
     → Makes (λ v ops ps. operation_parts es ops scope ps o) d.types b.types
 operation_makes es scope d b o h =
-    let line = line_of o.identifier in
+    let at = leaf_at o.identifier in
     let sent = request_names (parts_of o.params) in
     let back = reply_names o.result_type (parts_of o.params) in
     let (u, oneway, h1) = then_done (oneway_test o) _ b h in
@@ -354,9 +356,9 @@ operation_makes es scope d b o h =
     let k = with_types d c.types in
     let (raises, raising, h3) = then_done (raised es c.types scope (parts_of o.raises)) _ b h2 in
     let (e, is, h4) = then_done (entry_of es scope o.identifier) _ b h3 in
-    let (r, calls, places) = then_done (with_call k c.carried o.is_oneway raises Roles.Operation e line) _ b h4 in
+    let (r, calls, places) = then_done (with_call k c.carried o.is_oneway raises Roles.Operation e at) _ b h4 in
     let all = all_named es d.types scope o c carries in
-    let frames = call_gives k c.carried o.is_oneway raises Roles.Operation e line r calls in
+    let frames = call_gives k c.carried o.is_oneway raises Roles.Operation e at r calls in
     let place = place_gives r.defined b e (Called r.request) places in
     let f = already r.defined.types r.request in
     makes_from (λ v ops ps. operation_parts es ops scope ps o) d.types c.types b.types all.0
@@ -381,30 +383,30 @@ operation_makes es scope d b o h =
 -- ---- attributes
 
 -- what is carried where an attribute is got, and where it is set
-one_back : (number line : ℕ) (c : Carried) → with_carried nothing_carried Out number line ≡ Ok c
+one_back : (number : ℕ) (at : At) (c : Carried) → with_carried nothing_carried Out number at ≡ Ok c
     → AreCounted c [] (codes "_return" ∷ [])
-one_back number line c h =
-    let more = carried_more nothing_carried c Out number line h in
+one_back number at c h =
+    let more = carried_more nothing_carried c Out number at h in
     let request = more.request in
     let reply = more.reply in
     record { request = omega (arith, request); reply = omega (arith, reply) }
 
-one_sent : (number line : ℕ) (name : List ℕ) (c : Carried) → with_carried nothing_carried In number line ≡ Ok c
+one_sent : (number : ℕ) (at : At) (name : List ℕ) (c : Carried) → with_carried nothing_carried In number at ≡ Ok c
     → AreCounted c (name ∷ []) []
-one_sent number line name c h =
-    let more = carried_more nothing_carried c In number line h in
+one_sent number at name c h =
+    let more = carried_more nothing_carried c In number at h in
     let request = more.request in
     let reply = more.reply in
     record { request = omega (arith, request); reply = omega (arith, reply) }
 
 -- the frames of getting, and those of setting behind them
 getting_makes : (d : Defined) (got : Requested) (c : Carried) (e : ℕ) (set : Bool) (name : List ℕ) (raises : List ℕ)
-    (number line : ℕ) (b : Defined)
+    (number : ℕ) (at : At) (b : Defined)
     → AreFrames d.types c (already got.defined.types got.request) → AreCounted c [] (codes "_return" ∷ [])
-    → with_access got number set raises e line ≡ Ok b
+    → with_access got number set raises e at ≡ Ok b
     → Makes (λ v ops ps. or_other (request_of ops e Roles.Getting) >> λ request. setting_parts ops e name set
     (ps ++ getting request)) d.types b.types
-getting_makes d got c e false name raises number line b frames counted_as h =
+getting_makes d got c e false name raises number at b frames counted_as h =
     let place = place_gives got.defined b e (Got got.request) h in
     let f = already got.defined.types got.request in
     record {
@@ -422,14 +424,14 @@ getting_makes d got c e false name raises number line b frames counted_as h =
             call_between d.types b.types c f [] (codes "_return" ∷ []) frames place.stays counted_as,
           );
     }
-getting_makes d got c e true name raises number line b frames counted_as h =
-    let (r, sets, places) = then_done (with_set got.defined number raises e line) _ b h in
-    let (s, carries, calls) = then_done (with_carried nothing_carried In number line)
-    (λ s. with_call got.defined s false raises Roles.Setting e line) r sets in
+getting_makes d got c e true name raises number at b frames counted_as h =
+    let (r, sets, places) = then_done (with_set got.defined number raises e at) _ b h in
+    let (s, carries, calls) = then_done (with_carried nothing_carried In number at)
+    (λ s. with_call got.defined s false raises Roles.Setting e at) r sets in
     let place = place_gives r.defined b e (GotAndSet got.request) places in
     let f = already got.defined.types got.request in
     let g = already r.defined.types r.request in
-    let more = call_gives got.defined s false raises Roles.Setting e line r calls in
+    let more = call_gives got.defined s false raises Roles.Setting e at r calls in
     let at = frames.number in
     let long = frames.long in
     let at_too = more.number in
@@ -438,7 +440,7 @@ getting_makes d got c e true name raises number line b frames counted_as h =
     let first = call_between d.types got.defined.types c f [] (codes "_return" ∷ []) frames
     (stays_none got.defined.types) counted_as in
     let second = call_between got.defined.types b.types s g (name ∷ []) [] more place.stays
-    (one_sent number line name s carries) in
+    (one_sent number at name s carries) in
     record {
       stays = stays_on d.types got.defined.types b.types frames.stays behind;
       parts = λ v ops called later ps qs told.
@@ -466,18 +468,18 @@ identifier_makes : (es : List Entry) (scope number : ℕ) (a : Attributes) (d b 
     → with_attribute es scope number a d id ≡ Ok b
     → Makes (λ v ops ps. identifier_parts es ops scope (is_set a) ps id) d.types b.types
 identifier_makes es scope number a d b id h =
-    let line = line_of id in
+    let at = leaf_at id in
     let (get, getting_raises, h1) = then_done (raised es d.types scope (get_raises a)) _ b h in
     let (set, setting_raises, h2) = then_done (raised es d.types scope (set_raises a)) _ b h1 in
     let (e, is, h3) = then_done (entry_of es scope id) _ b h2 in
-    let (got, gets, sets) = then_done (with_get d number get e line) _ b h3 in
-    let (c, carries, calls) = then_done (with_carried nothing_carried Out number line)
-    (λ c. with_call d c false get Roles.Getting e line) got gets in
-    let frames = call_gives d c false get Roles.Getting e line got calls in
+    let (got, gets, sets) = then_done (with_get d number get e at) _ b h3 in
+    let (c, carries, calls) = then_done (with_carried nothing_carried Out number at)
+    (λ c. with_call d c false get Roles.Getting e at) got gets in
+    let frames = call_gives d c false get Roles.Getting e at got calls in
     makes_at (entry_of es scope id) e
     (λ x v ops ps. or_other (request_of ops x Roles.Getting) >> λ request. setting_parts ops x (word id) (is_set a)
     (ps ++ getting request)) d.types b.types is
-    (getting_makes d got c e (is_set a) (word id) set number line b frames (one_back number line c carries) sets)
+    (getting_makes d got c e (is_set a) (word id) set number at b frames (one_back number at c carries) sets)
 
 pub attribute_makes : (es : List Entry) (scope : ℕ) (d b : Defined) (a : Attribute) → attribute es scope d a ≡ Ok b
     → Makes (λ v ops ps. each (identifier_parts es ops scope (is_set a.declared)) ps (attribute_identifiers a.declared))

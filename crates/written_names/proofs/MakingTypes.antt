@@ -4,6 +4,7 @@ use Rattle.std.proofs.Common.{Ok, refl, sym, ap, subst, arith}
 use Rattle.std.specs.Prelude.{slice_get}
 use Rattle.std.specs.List.{flat_map}
 use Rattle.std.proofs.lemmas.List.{length-map}
+use Rattle.idl_tree.specs.declared.names.At.{At}
 use Rattle.idl_tree.specs.declared.names.Leaf.{Leaf}
 use Rattle.idl_tree.specs.declared.names.Listed.{Listed}
 use Rattle.idl_tree.specs.declared.types.Declarator.{Declarator}
@@ -23,22 +24,25 @@ use Rattle.idl_tree.specs.declared.definitions.Except.{Except}
 use Rattle.idl_tree.specs.declared.definitions.TypeDcl.{TypeDcl}
 use Rattle.idl_tree.specs.declared.definitions.TypeDcl.TheVariants as TypeDcls
 use Rattle.idl_tree.specs.Lists.{parts}
+use Rattle.idl_tree.specs.Starts.{leaf_at}
 use Rattle.type_graph.specs.declared.fault.GraphLimit.TheVariants.{Enumerators}
 use Rattle.type_graph.specs.declared.node.Node.{Node}
 use Rattle.type_graph.specs.declared.node.Node.TheVariants.{Enum, Frame, Struct, Union}
 use Rattle.name_table.specs.Entry.{Entry}
 use Rattle.name_table.specs.Search.{word}
 use Rattle.scoped_names.specs.Reading.{◌>>◌}
-use Rattle.type_paths.specs.Lines.{Lines}
+use Rattle.type_paths.specs.Sites.{Sites}
 use Rattle.written_types.specs.declared.fault.BuildFault.{BuildFault}
 use Rattle.written_types.specs.declared.place.Place.TheVariants.{Typed, Raised}
 use Rattle.written_types.specs.Declarations.{ahead, declaration, except, exception_added, id_member, type_dcl}
-use Rattle.written_types.specs.Faults.{at_most, each, line_of, max_enumerators, or_other}
-use Rattle.written_types.specs.Labels.{no_arms, no_labels, label_added, switch_kind, switch_line, switch_of}
+use Rattle.written_types.specs.Faults.{at_most, each, max_enumerators, or_other}
+use Rattle.written_types.specs.TypeKinds.{kind_of}
+use Rattle.written_types.specs.Labels.{no_arms, no_labels, label_added, switch_kind, switch_at, switch_of}
+use Rattle.written_types.specs.TypeKinds.{kind_of}
 use Rattle.written_types.specs.Labels.{switch_read, switch_type, switched, Switched, values_of, with_case}
-use Rattle.written_types.specs.SimpleTypes.{array_type, const_type, declarator_line, entry_of, enum_type}
+use Rattle.written_types.specs.SimpleTypes.{array_type, const_type, declarator_at, entry_of, enum_type}
 use Rattle.written_types.specs.SimpleTypes.{integer_number, type_found}
-use Rattle.written_types.specs.Types.{Cases, WithMembers, arm_line, case_added, cases_of, default_lines, default_number}
+use Rattle.written_types.specs.Types.{Cases, WithMembers, arm_at, case_added, cases_of, default_sites, default_number}
 use Rattle.written_types.specs.Types.{default_test, members_added, no_members, numbered_arm, struct_defined}
 use Rattle.written_types.specs.Types.{struct_type, type_spec, union_defined, union_type, with_cases, with_declarators}
 use Rattle.written_types.specs.Types.{with_member, with_members, with_members_of}
@@ -96,13 +100,13 @@ typed_made w b e n names stays late has place =
     (λ v ops ps later. typed_told v e n names ps (later.places e (Typed n) place))
 
 -- a node that waited gets its definition
-defined_made : (w m b : Written) (count line e n : ℕ) (node : Node) (held : List ℕ) (names : List (List ℕ))
-    → counted w count line ≡ Ok m
+defined_made : (w m b : Written) (count : ℕ) (at : At) (e n : ℕ) (node : Node) (held : List ℕ) (names : List (List ℕ))
+    → counted w count at ≡ Ok m
     → node_set m n node held ≡ Ok b → slice_get w.places e ≡ Some (Some (Typed n)) → (node ≡ undefined → ⊥)
     → HaveNames node (length names)
     → Makes (λ v ops ps. typed v e names ps) w b
-defined_made w m b count line e n node held names counts sets place defined has =
-    let same = counted_same w m count line counts in
+defined_made w m b count at e n node held names counts sets place defined has =
+    let same = counted_same w m count at counts in
     let set = set_gives m b n node held sets in
     let stays = stays_on w m b (stays_same w m same.0 same.1) (set_stays m b n node set) in
     let waits : slice_get w.nodes n ≡ Some undefined = ap (λ graph. slice_get graph n) (sym same.0) ∙ set.before in
@@ -119,13 +123,13 @@ pub enum_makes : (es : List Entry) (w : Written) (scope : ℕ) (e : EnumType) (n
     → Makes (λ v ops ps. enum_parts es v scope ps e) w n.written
 enum_makes es w scope e n h =
     let ids = parts e.enumerators in
-    let line = line_of e.identifier in
+    let at = leaf_at e.identifier in
     let (entry, is, h1) = then_done (entry_of es scope e.identifier) _ n h in
-    let (count, fits, told) = then_done (at_most max_enumerators Enumerators line (length ids)) _ n h1 in
-    let named = named_gives w entry (Enum count) line n told in
+    let (count, fits, told) = then_done (at_most max_enumerators Enumerators at (length ids)) _ n h1 in
+    let named = named_gives w entry (Enum count) at n told in
     let names = map word ids in
     let long : length names ≡ count =
-    length-map ids word ∙ sym (most_is max_enumerators Enumerators line (length ids) count fits) in
+    length-map ids word ∙ sym (most_is max_enumerators Enumerators at (length ids) count fits) in
     makes_at (entry_of es scope e.identifier) entry (λ k v ops ps. typed v k names ps) w n.written is
     (typed_made w n.written entry n.number names named.stays named.late (Enum count, named.there, (λ same. cc), long)
     named.place)
@@ -188,13 +192,13 @@ case_made es scope s f c b labels type d makes h =
     let (ls, reads, h1) = then_done (each (label_added es scope s c.arms) no_labels (parts labels)) _ b h in
     let (t, typed, h2) = then_done (type c.written) _ b h1 in
     let (a, arrayed, told) = then_done (array_type es scope t d) _ b h2 in
-    let same : cases_of a.written (with_case c.arms a.number (declarator_line d) ls) ≡ b = cc in
+    let same : cases_of a.written (with_case c.arms a.number (declarator_at d) ls) ≡ b = cc in
     let none : AreRead c.arms no_labels 0 = record { long = refl; free = λ k is. absurd cc } in
     let read = labels_are_read es scope s c.arms no_labels ls 0 (parts labels) none reads in
     let some : 1 ≤ 0 + length (parts labels) = omega arith in
     subst (λ z. MakesCases f c z 1) same (record {
       makes = makes_to f c.written t.written a.written (makes t typed) (array_stays es scope t d a arrayed);
-      most = case_more c.arms ls (0 + length (parts labels)) a.number (declarator_line d) read some;
+      most = case_more c.arms ls (0 + length (parts labels)) a.number (declarator_at d) read some;
     })
 
 cases_on : (f g : Naming) (c k b : Cases) (more : ℕ) → MakesCases f c k 1 → MakesCases g k b more
@@ -209,13 +213,13 @@ cases_on f g c k b more one other =
 
 -- ---- discriminators
 
-switch_makes : (es : List Entry) (w : Written) (scope line : ℕ) (s : SwitchType) (r : Switched)
-    → switch_read es w scope line s ≡ Ok r
+switch_makes : (es : List Entry) (w : Written) (scope : ℕ) (at : At) (s : SwitchType) (r : Switched)
+    → switch_read es w scope at s ≡ Ok r
     → Makes (λ v ops ps. switch_parts es v scope ps s) w r.written
-switch_makes es w scope line s r h =
+switch_makes es w scope at s r h =
     let (t, typed, h1) = then_done (switch_type es w scope s) _ r h in
     let (kind, is, h2) = then_done (switch_kind es scope s) _ r h1 in
-    let (switch, chosen, told) = then_done (switch_of (switch_line s line) t.number kind
+    let (switch, chosen, told) = then_done (switch_of (switch_at s at) (kind_of t.number (slice_get t.written.nodes t.number)) t.number kind
     (values_of (slice_get t.written.nodes t.number))) _ r h2 in
     let same : switched t.written switch ≡ r = cc in
     subst (λ z. Makes (λ v ops ps. switch_parts es v scope ps s) w z.written) same (by s t typed)
@@ -240,42 +244,42 @@ some_members [] some is = omega (arith, some)
 some_members (n ∷ ns) some is = cc
 
 mutual
-  pub type_makes : (es : List Entry) (w : Written) (scope line : ℕ) (t : TypeSpec) (n : Numbered)
-      → type_spec es w scope line t ≡ Ok n
+  pub type_makes : (es : List Entry) (w : Written) (scope : ℕ) (at : At) (t : TypeSpec) (n : Numbered)
+      → type_spec es w scope at t ≡ Ok n
       → Makes (λ v ops ps. type_parts es v scope ps t) w n.written
-  type_makes es w scope line (Simple t) n h = makes_none w n.written (simple_stays es w scope line t n h)
-  type_makes es w scope line (StructSpec s) n h = struct_makes es w scope s n h
-  type_makes es w scope line (UnionSpec u) n h = union_makes es w scope u n h
-  type_makes es w scope line (EnumSpec e) n h = enum_makes es w scope e n h
+  type_makes es w scope at (Simple t) n h = makes_none w n.written (simple_stays es w scope at t n h)
+  type_makes es w scope at (StructSpec s) n h = struct_makes es w scope s n h
+  type_makes es w scope at (UnionSpec u) n h = union_makes es w scope u n h
+  type_makes es w scope at (EnumSpec e) n h = enum_makes es w scope e n h
 
   pub struct_makes : (es : List Entry) (w : Written) (scope : ℕ) (s : StructType) (n : Numbered)
       → struct_type es w scope s ≡ Ok n
       → Makes (λ v ops ps. struct_parts es v scope ps s) w n.written
   struct_makes es w scope (StructType' id p t ds shape rest) n h =
-      let line = line_of id in
+      let at = leaf_at id in
       let (e, is, h1) = then_done (entry_of es scope id) _ n h in
-      let (o, opens, h2) = then_done (opened w e line) _ n h1 in
+      let (o, opens, h2) = then_done (opened w e at) _ n h1 in
       let start = with_members_of o.written no_members in
-      let type = type_spec es o.written (e + 1) (declarator_line ds.first) t in
+      let type = type_spec es o.written (e + 1) (declarator_at ds.first) t in
       let (first, begins, h3) = then_done (members_added es (e + 1) no_members type ds) _ n h2 in
       let (k, typed_as, declares) = then_done type (λ k. with_declarators es (e + 1) k no_members ds) first begins in
       let (m, others, h4) = then_done (with_members es (e + 1) first rest) _ n h3 in
-      let (b, closes, told) = then_done (struct_defined m o.number line) _ n h4 in
-      let (c, counts, sets) = then_done (counted m.written (length m.members.numbers) line) _ b closes in
+      let (b, closes, told) = then_done (struct_defined m o.number at) _ n h4 in
+      let (c, counts, sets) = then_done (counted m.written (length m.members.numbers) at) _ b closes in
       let own : Naming = λ v ops ps. type_parts es v (e + 1) ps t in
       let behind : Naming = λ v ops ps. members_parts es v (e + 1) ps rest in
       let inner : Naming = λ v ops ps. own v ops ps >> λ next. behind v ops next in
       let names = names_in ds ++ names_of_members rest in
       let body = members_on own behind start first m (names_in ds) (names_of_members rest)
       (declared es (e + 1) own start first k ds
-      (type_makes es o.written (e + 1) (declarator_line ds.first) t k typed_as) declares)
+      (type_makes es o.written (e + 1) (declarator_at ds.first) t k typed_as) declares)
       (members_make es (e + 1) first rest m others) in
       let all = body.long in
       let long : length names ≡ length m.members.numbers = omega (arith, all) in
       let some : 1 ≤ length m.members.numbers = omega (arith, all) in
-      let made = open_gives w e line o opens in
-      let last = defined_made m.written c b (length m.members.numbers) line e o.number (Struct m.members.numbers)
-      m.members.lines names counts sets
+      let made = open_gives w e at o opens in
+      let last = defined_made m.written c b (length m.members.numbers) at e o.number (Struct m.members.numbers)
+      m.members.sites names counts sets
       (body.makes.stays.places e (Typed o.number) made.place) (some_members m.members.numbers some) long in
       let same = ok_same (already b o.number) n told in
       subst (λ z. Makes (λ v ops ps. struct_parts es v scope ps (StructType' id p t ds shape rest)) w z.written) same
@@ -288,17 +292,17 @@ mutual
       → union_type es w scope u ≡ Ok n
       → Makes (λ v ops ps. union_parts es v scope ps u) w n.written
   union_makes es w scope (UnionType' id switch p labels t d shape rest) n h =
-      let line = line_of id in
+      let at = leaf_at id in
       let (e, is, h1) = then_done (entry_of es scope id) _ n h in
-      let (o, opens, h2) = then_done (opened w e line) _ n h1 in
-      let (s, switches, h3) = then_done (switch_read es o.written (e + 1) line switch) _ n h2 in
+      let (o, opens, h2) = then_done (opened w e at) _ n h1 in
+      let (s, switches, h3) = then_done (switch_read es o.written (e + 1) at switch) _ n h2 in
       let start = cases_of s.written no_arms in
-      let type : Written → Result Numbered BuildFault = λ v. type_spec es v (e + 1) (declarator_line d) t in
+      let type : Written → Result Numbered BuildFault = λ v. type_spec es v (e + 1) (declarator_at d) t in
       let (first, begins, h4) = then_done (case_added es (e + 1) s.switch start labels type d) _ n h3 in
       let (c, others, h5) = then_done (with_cases es (e + 1) s.switch first rest) _ n h4 in
-      let (b, closes, told) = then_done (union_defined s.switch c o.number line) _ n h5 in
+      let (b, closes, told) = then_done (union_defined s.switch c o.number at) _ n h5 in
       let (u, needed, h6) = then_done (default_test s.switch (length c.arms.arms) c.arms.default) _ b closes in
-      let (m, counts, sets) = then_done (counted c.written (length c.arms.arms) line) _ b h6 in
+      let (m, counts, sets) = then_done (counted c.written (length c.arms.arms) at) _ b h6 in
       let own : Naming = λ v ops ps. type_parts es v (e + 1) ps t in
       let behind : Naming = λ v ops ps. cases_parts es v (e + 1) ps rest in
       let chosen : Naming = λ v ops ps. switch_parts es v (e + 1) ps switch in
@@ -307,16 +311,16 @@ mutual
       let names = name_of d ∷ names_of_cases rest in
       let body = cases_on own behind start first c (length (names_of_cases rest))
       (case_made es (e + 1) s.switch own start first labels type d
-      (λ k typed_as. type_makes es s.written (e + 1) (declarator_line d) t k typed_as) begins)
+      (λ k typed_as. type_makes es s.written (e + 1) (declarator_at d) t k typed_as) begins)
       (cases_make es (e + 1) s.switch first rest c others) in
       let whole = makes_on chosen cases o.written s.written c.written
-      (switch_makes es o.written (e + 1) line switch s switches) body.makes in
+      (switch_makes es o.written (e + 1) at switch s switches) body.makes in
       let node = Union s.switch.number (map numbered_arm c.arms.arms) (default_number c.arms.default) in
       let has : HaveNames node (length names) =
       union_names s.switch.number c.arms (length (names_of_cases rest)) body.most in
-      let made = open_gives w e line o opens in
-      let last = defined_made c.written m b (length c.arms.arms) line e o.number node
-      (map arm_line c.arms.arms ++ default_lines c.arms.default) names counts sets
+      let made = open_gives w e at o opens in
+      let last = defined_made c.written m b (length c.arms.arms) at e o.number node
+      (map arm_at c.arms.arms ++ default_sites c.arms.default) names counts sets
       (whole.stays.places e (Typed o.number) made.place)
       (union_is_defined s.switch.number (map numbered_arm c.arms.arms) (default_number c.arms.default)) has in
       let same = ok_same (already b o.number) n told in
@@ -333,13 +337,13 @@ mutual
       → MakesMembers (λ v ops ps. members_parts es v scope ps row) m b (length (names_of_members row))
   members_make es scope m end_of-Member b h = members_none m b h
   members_make es scope m (more_of-Member t ds rest) b h =
-      let line = declarator_line ds.first in
-      let type = type_spec es m.written scope line t in
+      let at = declarator_at ds.first in
+      let type = type_spec es m.written scope at t in
       let (next, begins, others) = then_done (members_added es scope m.members type ds) _ b h in
       let (k, typed_as, declares) = then_done type (λ k. with_declarators es scope k m.members ds) next begins in
       let own : Naming = λ v ops ps. type_parts es v scope ps t in
       members_on own (λ v ops ps. members_parts es v scope ps rest) m next b (names_in ds) (names_of_members rest)
-      (declared es scope own m next k ds (type_makes es m.written scope line t k typed_as) declares)
+      (declared es scope own m next k ds (type_makes es m.written scope at t k typed_as) declares)
       (members_make es scope next rest b others)
 
   cases_make : {n : _} → (es : List Entry) (scope : ℕ) (s : Switch) (c : Cases) (row : Row_of-Case n) (b : Cases)
@@ -347,12 +351,12 @@ mutual
       → MakesCases (λ v ops ps. cases_parts es v scope ps row) c b (length (names_of_cases row))
   cases_make es scope s c end_of-Case b h = cases_none c b h
   cases_make es scope s c (more_of-Case labels t d rest) b h =
-      let line = declarator_line d in
-      let type : Written → Result Numbered BuildFault = λ v. type_spec es v scope line t in
+      let at = declarator_at d in
+      let type : Written → Result Numbered BuildFault = λ v. type_spec es v scope at t in
       let (next, begins, others) = then_done (case_added es scope s c labels type d) _ b h in
       let own : Naming = λ v ops ps. type_parts es v scope ps t in
       cases_on own (λ v ops ps. cases_parts es v scope ps rest) c next b (length (names_of_cases rest))
-      (case_made es scope s own c next labels type d (λ k typed_as. type_makes es c.written scope line t k typed_as)
+      (case_made es scope s own c next labels type d (λ k typed_as. type_makes es c.written scope at t k typed_as)
       begins) (cases_make es scope s next rest b others)
 
 -- ---- exceptions
@@ -362,31 +366,31 @@ each_member : (es : List Entry) (scope : ℕ) (m b : WithMembers) (xs : List Mem
     → MakesMembers (λ v ops ps. each (member_parts es v scope) ps xs) m b (length (flat_map member_names xs))
 each_member es scope m b [] h = members_none m b h
 each_member es scope m b (x ∷ xs) h =
-    let line = declarator_line x.declarators.first in
-    let type = type_spec es m.written scope line x.member_type in
+    let at = declarator_at x.declarators.first in
+    let type = type_spec es m.written scope at x.member_type in
     let (next, begins, others) = then_done (with_member es scope m x) _ b h in
     let (k, typed_as, declares) = then_done type (λ k. with_declarators es scope k m.members x.declarators) next
     begins in
     let own : Naming = λ v ops ps. member_parts es v scope ps x in
     members_on own (λ v ops ps. each (member_parts es v scope) ps xs) m next b (member_names x)
     (flat_map member_names xs)
-    (declared es scope own m next k x.declarators (type_makes es m.written scope line x.member_type k typed_as)
+    (declared es scope own m next k x.declarators (type_makes es m.written scope at x.member_type k typed_as)
     declares) (each_member es scope next b xs others)
 
 -- the frame of an exception's members
-exception_made : (m : WithMembers) (b : Written) (e line : ℕ) (names : List (List ℕ)) → exception_added m e line ≡ Ok b
+exception_made : (m : WithMembers) (b : Written) (e : ℕ) (at : At) (names : List (List ℕ)) → exception_added m e at ≡ Ok b
     → length names ≡ length m.members.numbers → Makes (λ v ops ps. raising v e names ps) m.written b
-exception_made m b e line names h long =
+exception_made m b e at names h long =
     let numbers = m.members.numbers in
-    let lines : Lines = record { line = line; held = m.members.lines } in
-    let (c, counts, h1) = then_done (counted m.written (length numbers) line) _ b h in
-    let (a, adds, h2) = then_done (added c (Frame numbers) lines) _ b h1 in
+    let sites : Sites = record { at = at; held = m.members.sites } in
+    let (c, counts, h1) = then_done (counted m.written (length numbers) at) _ b h in
+    let (a, adds, h2) = then_done (added c (Frame numbers) sites) _ b h1 in
     let place = Raised a.number (length a.written.exceptions) in
     let (v, places, told) = then_done (placed a.written e place) _ b h2 in
     makes_to (λ u ops ps. raising u e names ps) m.written v b
     (frame_made m.written c v a e (length a.written.exceptions) numbers names
-    (counted_same m.written c (length numbers) line counts)
-    (added_gives c (Frame numbers) lines a adds) (placed_gives a.written v e place places) long)
+    (counted_same m.written c (length numbers) at counts)
+    (added_gives c (Frame numbers) sites a adds) (placed_gives a.written v e place places) long)
     (exceptions_stay v b (v.exceptions ++ (e, a.number) ∷ []) told)
   where
     frame_made : (w c v : Written) (a : Numbered) (e k : ℕ) (numbers : List ℕ) (names : List (List ℕ))
@@ -410,9 +414,9 @@ exception_made m b e line names h long =
 pub except_makes : (es : List Entry) (w : Written) (scope : ℕ) (x : Except) (b : Written) → except es w scope x ≡ Ok b
     → Makes (λ v ops ps. except_parts es v scope ps x) w b
 except_makes es w scope x b h =
-    let line = line_of x.identifier in
+    let at = leaf_at x.identifier in
     let xs = x.members.items in
-    let start = with_members_of w (id_member line) in
+    let start = with_members_of w (id_member at) in
     let (e, is, h1) = then_done (entry_of es scope x.identifier) _ b h in
     let (m, members, told) = then_done (each (with_member es (e + 1)) start xs) _ b h1 in
     let names = with_id (flat_map member_names xs) in
@@ -422,7 +426,7 @@ except_makes es w scope x b h =
     let long : length names ≡ length m.members.numbers = omega (arith, all) in
     makes_at (entry_of es scope x.identifier) e (λ k u ops ps. raising u k names ps >> λ own. each
     (member_parts es u (k + 1)) own xs) w b is
-    (makes_back (λ v ops ps. raising v e names ps) inner w m.written b (exception_made m b e line names told long)
+    (makes_back (λ v ops ps. raising v e names ps) inner w m.written b (exception_made m b e at names told long)
     body.makes)
 
 -- ---- declarations
@@ -434,16 +438,16 @@ numbered_makes f w v n made h = let same : n.written ≡ v = cc in subst (Makes 
 ahead_makes : (es : List Entry) (w v : Written) (scope : ℕ) (id : Leaf) → ahead es w scope id ≡ Ok v → Makes silent w v
 ahead_makes es w v scope id h =
     let (e, is, h1) = then_done (entry_of es scope id) _ v h in
-    let (o, opens, told) = then_done (opened w e (line_of id)) _ v h1 in
-    let made = open_gives w e (line_of id) o opens in
+    let (o, opens, told) = then_done (opened w e (leaf_at id)) _ v h1 in
+    let made = open_gives w e (leaf_at id) o opens in
     numbered_makes silent w v o (makes_none w o.written made.stays) told
 
 type_dcl_makes : (es : List Entry) (w : Written) (scope : ℕ) (t : TypeDcl) (v : Written) → type_dcl es w scope t ≡ Ok v
     → Makes (λ u ops ps. type_dcl_parts es u scope ps t) w v
 type_dcl_makes es w scope (TypeDcls.Typedef t ds) v h =
-    let line = declarator_line ds.first in
-    let (n, typed_as, told) = then_done (type_spec es w scope line t) _ v h in
-    makes_to (λ u ops ps. type_parts es u scope ps t) w n.written v (type_makes es w scope line t n typed_as)
+    let at = declarator_at ds.first in
+    let (n, typed_as, told) = then_done (type_spec es w scope at t) _ v h in
+    makes_to (λ u ops ps. type_parts es u scope ps t) w n.written v (type_makes es w scope at t n typed_as)
     (typedefs_stay es scope n.number n.written v (parts ds) told)
 type_dcl_makes es w scope (TypeDcls.Struct s) v h =
     let (n, typed_as, told) = then_done (struct_type es w scope s) _ v h in

@@ -16,11 +16,12 @@ use Rattle.idl_tree.specs.declared.definitions.Definition.{Definition, Pragma, D
 use Rattle.name_table.specs.Entry.{Entry, bases_in}
 use Rattle.scoped_names.specs.Reading.{◌>>◌}
 use Rattle.std.specs.Prelude.{length, nat_lt, slice_get, slice_set}
+use Rattle.idl_tree.specs.declared.names.At.{At}
 use Rattle.written_types.specs.declared.fault.BuildFault.{BuildFault}
 use Rattle.written_types.specs.declared.fault.BuildFault.TheVariants.{OtherNames}
 use Rattle.written_types.specs.declared.place.Place.{Place}
 use Rattle.written_types.specs.declared.place.Place.TheVariants.{Typed, Called, Got, GotAndSet}
-use Rattle.written_types.specs.Faults.{each, line_of}
+use Rattle.written_types.specs.Faults.{each}
 use Rattle.written_types.specs.Declarations.{declaration}
 use Rattle.written_types.specs.SimpleTypes.{entry_of, param_type}
 use Rattle.written_types.specs.Written.{Numbered, place_of, placed}
@@ -34,6 +35,7 @@ use Rattle.written_operations.specs.Operations.{Defined, Requested, attribute, a
 use Rattle.written_operations.specs.Interfaces.{as_reference, export, interface, interface_as, interface_of, offering, reference_at, with_interface}
 use Rattle.written_operations.specs.Definitions.{defined_by, definition, definitions_after}
 use Rattle.idl_tree.specs.declared.definitions.Direction.TheVariants.{In, Out}
+use Rattle.idl_tree.specs.Starts.{leaf_at}
 use Rattle.written_names.specs.Definitions.{is_role, request_of}
 use Rattle.written_names.specs.Signed.{AreSigned, DefinitionSigned, DefinitionsSigned, ExportSigned, HasCall, InterfaceSigned, IsAccessed, IsSigned}
 
@@ -146,40 +148,40 @@ operation_signs es scope d b o h =
     let (c, carries, h2) = then_done (all_carried es d.types scope o) (λ c. with_operation es scope (with_types d c.types) c.carried o) b h1 in
     let dc = with_types d c.types in
     let behind : List ℕ → ℕ → Result Defined BuildFault = λ raises e.
-    with_call dc c.carried o.is_oneway raises Roles.Operation e (line_of o.identifier) >> λ r. with_place r.defined e (Called r.request) in
+    with_call dc c.carried o.is_oneway raises Roles.Operation e (leaf_at o.identifier) >> λ r. with_place r.defined e (Called r.request) in
     let (raises, raising, h3) = then_done (raised es dc.types scope (parts_of o.raises)) (λ raises. entry_of es scope o.identifier >> λ e. behind raises e) b h2 in
     let (e, named, h4) = then_done (entry_of es scope o.identifier) (λ e. behind raises e) b h3 in
-    let (r, calls, h5) = then_done (with_call dc c.carried o.is_oneway raises Roles.Operation e (line_of o.identifier)) (λ r. with_place r.defined e (Called r.request)) b h4 in
+    let (r, calls, h5) = then_done (with_call dc c.carried o.is_oneway raises Roles.Operation e (leaf_at o.identifier)) (λ r. with_place r.defined e (Called r.request)) b h4 in
     signs_from (λ final. IsSigned es final scope o.identifier Roles.Operation) d dc b refl
     (signs_to (λ final. IsSigned es final scope o.identifier Roles.Operation) dc r.defined b (place_same r.defined b e (Called r.request) h5)
     (signs_weaker (λ final. HasCall final e Roles.Operation) (λ final. IsSigned es final scope o.identifier Roles.Operation) dc r.defined (λ final has. (e, named, has))
-    (call_signs dc (frames_added dc.types c.carried (line_of o.identifier)) o.is_oneway raises Roles.Operation e r calls)))
+    (call_signs dc (frames_added dc.types c.carried (leaf_at o.identifier)) o.is_oneway raises Roles.Operation e r calls)))
 
 abbrev MaySet : Bool → ℕ → List Signature → Type 0
 MaySet set e final = set ≡ true → HasCall final e Roles.Setting
 
-access_signs : (got : Requested) (b : Defined) (number : ℕ) (set : Bool) (raises : List ℕ) (e line : ℕ) → with_access got number set raises e line ≡ Ok b
+access_signs : (got : Requested) (b : Defined) (number : ℕ) (set : Bool) (raises : List ℕ) (e : ℕ) (at : At) → with_access got number set raises e at ≡ Ok b
     → Signs (MaySet set e) got.defined b
-access_signs got b number false raises e line h =
+access_signs got b number false raises e at h =
     same_signs (MaySet false e) got.defined b (place_same got.defined b e (Got got.request) h) (λ final is. absurd cc)
-access_signs got b number true raises e line h =
-    let (r, sets, h1) = then_done (with_set got.defined number raises e line) (λ set. with_place set.defined e (GotAndSet got.request)) b h in
-    let (c, carries, calls) = then_done (with_carried nothing_carried In number line) (λ c. with_call got.defined c false raises Roles.Setting e line) r sets in
+access_signs got b number true raises e at h =
+    let (r, sets, h1) = then_done (with_set got.defined number raises e at) (λ set. with_place set.defined e (GotAndSet got.request)) b h in
+    let (c, carries, calls) = then_done (with_carried nothing_carried In number at) (λ c. with_call got.defined c false raises Roles.Setting e at) r sets in
     signs_to (MaySet true e) got.defined r.defined b (place_same r.defined b e (GotAndSet got.request) h1)
     (signs_weaker (λ final. HasCall final e Roles.Setting) (MaySet true e) got.defined r.defined (λ final has is. has)
-    (call_signs got.defined (frames_added got.defined.types c line) false raises Roles.Setting e r calls))
+    (call_signs got.defined (frames_added got.defined.types c at) false raises Roles.Setting e r calls))
 
 identifier_signs : (es : List Entry) (scope number : ℕ) (a : Attributes) (d b : Defined) (l : Leaf) → with_attribute es scope number a d l ≡ Ok b
     → Signs (λ final. IsAccessed es final scope a l) d b
 identifier_signs es scope number a d b l h =
-    let behind : List ℕ → List ℕ → ℕ → Result Defined BuildFault = λ get set e. with_get d number get e (line_of l) >> λ got. with_access got number (is_set a) set e (line_of l) in
+    let behind : List ℕ → List ℕ → ℕ → Result Defined BuildFault = λ get set e. with_get d number get e (leaf_at l) >> λ got. with_access got number (is_set a) set e (leaf_at l) in
     let (get, getting, h1) = then_done (raised es d.types scope (get_raises a)) (λ get. raised es d.types scope (set_raises a) >> λ set. entry_of es scope l >> λ e. behind get set e) b h in
     let (set, setting, h2) = then_done (raised es d.types scope (set_raises a)) (λ set. entry_of es scope l >> λ e. behind get set e) b h1 in
     let (e, named, h3) = then_done (entry_of es scope l) (λ e. behind get set e) b h2 in
-    let (got, gets, h4) = then_done (with_get d number get e (line_of l)) (λ got. with_access got number (is_set a) set e (line_of l)) b h3 in
-    let (c, carries, calls) = then_done (with_carried nothing_carried Out number (line_of l)) (λ c. with_call d c false get Roles.Getting e (line_of l)) got gets in
-    let first = call_signs d (frames_added d.types c (line_of l)) false get Roles.Getting e got calls in
-    let second = access_signs got b number (is_set a) set e (line_of l) h4 in
+    let (got, gets, h4) = then_done (with_get d number get e (leaf_at l)) (λ got. with_access got number (is_set a) set e (leaf_at l)) b h3 in
+    let (c, carries, calls) = then_done (with_carried nothing_carried Out number (leaf_at l)) (λ c. with_call d c false get Roles.Getting e (leaf_at l)) got gets in
+    let first = call_signs d (frames_added d.types c (leaf_at l)) false get Roles.Getting e got calls in
+    let second = access_signs got b number (is_set a) set e (leaf_at l) h4 in
     signs_weaker (λ final. HasCall final e Roles.Getting × MaySet (is_set a) e final) (λ final. IsAccessed es final scope a l) d b
     (λ final both. ((e, named, both.0), λ is. (e, named, both.1 is)))
     (signs_on (λ final. HasCall final e Roles.Getting) (MaySet (is_set a) e) d got.defined b first second)

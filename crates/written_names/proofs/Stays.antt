@@ -3,19 +3,20 @@ use Rattle.std.proofs.Common.{◌≡◌, ◌∙◌, ◌⊎◌, inl, inr, ℕ, �
 use Rattle.std.proofs.Common.{Option, Some, None, Result, Ok, Err, refl, sym, ap, subst, arith, ℤ}
 use Rattle.std.specs.Prelude.{if◌then◌else◌, slice_get, slice_set}
 use Rattle.std.proofs.lemmas.Option.{slice_get_within}
+use Rattle.idl_tree.specs.declared.names.At.{At}
 use Rattle.type_graph.specs.declared.fault.GraphLimit.{GraphLimit}
 use Rattle.type_graph.specs.declared.fault.GraphLimit.TheVariants.{Nodes, AllMembers}
 use Rattle.type_graph.specs.declared.node.Node.{Node}
 use Rattle.type_graph.specs.declared.node.Node.TheVariants.{Frame, Struct, Union}
 use Rattle.name_table.proofs.Stability.{get_push_last}
-use Rattle.type_paths.specs.Lines.{Lines}
+use Rattle.type_paths.specs.Sites.{Sites}
 use Rattle.written_types.specs.declared.fault.BuildFault.{BuildFault}
 use Rattle.written_types.specs.declared.fault.BuildFault.TheVariants.{OtherNames}
 use Rattle.written_types.specs.declared.place.Place.{Place}
 use Rattle.written_types.specs.declared.place.Place.TheVariants.{Typed}
 use Rattle.written_types.specs.Faults.{at_most, max_all_members, max_nodes}
 use Rattle.written_types.specs.Written.{Numbered, Written, added, added_at, already, counted, is_undefined, named_type}
-use Rattle.written_types.specs.Written.{next, node_set, one_line, opened, opened_as, placed, placed_at, type_in}
+use Rattle.written_types.specs.Written.{next, node_set, one_site, opened, opened_as, placed, placed_at, type_in}
 use Rattle.written_types.specs.Written.{undefined, with_node}
 use Rattle.written_types.proofs.Defining.{with_defined}
 use Rattle.written_types.proofs.Fine.{at_most_fine}
@@ -72,11 +73,11 @@ pub record IsAdded (w : Written) (node : Node) (n : Numbered) : Type 0 where
   pub nodes : n.written.nodes ≡ w.nodes ++ node ∷ []
   pub places : n.written.places ≡ w.places
 
-pub added_gives : (w : Written) (node : Node) (lines : Lines) (n : Numbered) → added w node lines ≡ Ok n
+pub added_gives : (w : Written) (node : Node) (sites : Sites) (n : Numbered) → added w node sites ≡ Ok n
     → IsAdded w node n
-added_gives w node lines n h =
-    let (k, fits, told) = then_done (at_most max_nodes Nodes lines.line (next w + 1)) _ n h in
-    let same : already (with_node w node lines) (next w) ≡ n = cc in
+added_gives w node sites n h =
+    let (k, fits, told) = then_done (at_most max_nodes Nodes sites.at (next w + 1)) _ n h in
+    let same : already (with_node w node sites) (next w) ≡ n = cc in
     subst (IsAdded w node) same (record { number = refl; nodes = refl; places = refl })
 
 pub added_stays : (w : Written) (node : Node) (n : Numbered) → IsAdded w node n → Stays w n.written
@@ -98,9 +99,9 @@ pub added_long : (w : Written) (node : Node) (n : Numbered) → IsAdded w node n
     → length n.written.nodes ≡ length w.nodes + 1
 added_long w node n h = ap length h.nodes ∙ length-append w.nodes (node ∷ [])
 
-pub adds_stays : (w : Written) (node : Node) (lines : Lines) (n : Numbered) → added w node lines ≡ Ok n
+pub adds_stays : (w : Written) (node : Node) (sites : Sites) (n : Numbered) → added w node sites ≡ Ok n
     → Stays w n.written
-adds_stays w node lines n h = added_stays w node n (added_gives w node lines n h)
+adds_stays w node sites n h = added_stays w node n (added_gives w node sites n h)
 
 -- ---- what an entry has
 
@@ -169,14 +170,14 @@ pub set_there : (w v : Written) (number : ℕ) (node : Node) → IsDefined w num
 set_there w v number node h = ap (λ graph. slice_get graph number) h.nodes ∙ set_here w.nodes number undefined node
     h.before
 
-pub most_is : (most : ℕ) (which : GraphLimit) (line n k : ℕ) → at_most most which line n ≡ Ok k → k ≡ n
-most_is most which line n k h =
-    (given_by (λ k. (k ≡ n) × (n ≤ most)) (at_most most which line n) k (at_most_fine most which line n) h).0
+pub most_is : (most : ℕ) (which : GraphLimit) (at : At) (n k : ℕ) → at_most most which at n ≡ Ok k → k ≡ n
+most_is most which at n k h =
+    (given_by (λ k. (k ≡ n) × (n ≤ most)) (at_most most which at n) k (at_most_fine most which at n) h).0
 
-pub counted_same : (w v : Written) (count line : ℕ) → counted w count line ≡ Ok v
+pub counted_same : (w v : Written) (count : ℕ) (at : At) → counted w count at ≡ Ok v
     → (v.nodes ≡ w.nodes) × (v.places ≡ w.places)
-counted_same w v count line h =
-    let (all, fits, told) = then_done (at_most max_all_members AllMembers line (w.members + count)) _ v h in
+counted_same w v count at h =
+    let (all, fits, told) = then_done (at_most max_all_members AllMembers at (w.members + count)) _ v h in
     let same : record w { members = all } ≡ v = cc in
     (sym (ap (λ x. x.nodes) same), sym (ap (λ x. x.places) same))
 
@@ -196,12 +197,12 @@ pub record IsNamedType (w : Written) (e : ℕ) (node : Node) (n : Numbered) : Ty
   pub there : slice_get n.written.nodes n.number ≡ Some node
   pub place : slice_get n.written.places e ≡ Some (Some (Typed n.number))
 
-pub named_gives : (w : Written) (e : ℕ) (node : Node) (line : ℕ) (n : Numbered) → named_type w e node line ≡ Ok n
+pub named_gives : (w : Written) (e : ℕ) (node : Node) (at : At) (n : Numbered) → named_type w e node at ≡ Ok n
     → IsNamedType w e node n
-named_gives w e node line n h =
-    let (a, adds, h1) = then_done (added_at w node line) _ n h in
+named_gives w e node at n h =
+    let (a, adds, h1) = then_done (added_at w node at) _ n h in
     let (v, places, told) = then_done (placed a.written e (Typed a.number)) _ n h1 in
-    let added_as = added_gives w node (one_line line) a adds in
+    let added_as = added_gives w node (one_site at) a adds in
     let placed_as = placed_gives a.written v e (Typed a.number) places in
     let at = added_as.number in
     let same : already v a.number ≡ n = cc in
@@ -218,13 +219,13 @@ pub record IsOpen (w : Written) (e : ℕ) (o : Numbered) : Type 0 where
   pub stays : Stays w o.written
   pub place : slice_get o.written.places e ≡ Some (Some (Typed o.number))
 
-pub open_gives : (w : Written) (e line : ℕ) (o : Numbered) → opened w e line ≡ Ok o → IsOpen w e o
-open_gives w e line o h = by (slice_get w.places e) refl h
+pub open_gives : (w : Written) (e : ℕ) (at : At) (o : Numbered) → opened w e at ≡ Ok o → IsOpen w e o
+open_gives w e at o h = by (slice_get w.places e) refl h
   where
-    first : named_type w e undefined line ≡ Ok o → IsOpen w e o
-    first h = let named = named_gives w e undefined line o h in record { stays = named.stays; place = named.place }
+    first : named_type w e undefined at ≡ Ok o → IsOpen w e o
+    first h = let named = named_gives w e undefined at o h in record { stays = named.stays; place = named.place }
 
-    by : (p : Option (Option Place)) → slice_get w.places e ≡ p → opened_as w e line (type_in p) ≡ Ok o → IsOpen w e o
+    by : (p : Option (Option Place)) → slice_get w.places e ≡ p → opened_as w e at (type_in p) ≡ Ok o → IsOpen w e o
     by (Some (Some (Typed n))) is h =
         let same : already w n ≡ o = cc in
         subst (IsOpen w e) same (record { stays = stays_none w; place = is })

@@ -1,24 +1,25 @@
 -- The types that have no names leave what is written, and so many declarators are so many members.
 use Rattle.std.proofs.Common.{◌≡◌, ◌∙◌, ℕ, ◌+◌, List, [], ◌∷◌, ◌++◌, length, length-append, Some, None, Ok, sym, ap}
 use Rattle.std.proofs.Common.{subst, arith}
+use Rattle.idl_tree.specs.declared.names.At.{At}
 use Rattle.idl_tree.specs.declared.types.ConstType.{ConstType}
 use Rattle.idl_tree.specs.declared.types.ConstType.TheVariants as ConstTypes
 use Rattle.idl_tree.specs.declared.types.ParamType.{ParamType}
 use Rattle.idl_tree.specs.declared.types.ParamType.TheVariants as ParamTypes
 use Rattle.idl_tree.specs.declared.types.SimpleType.{SimpleType, Plain, Sequence'}
 use Rattle.idl_tree.specs.declared.types.Declarator.{Declarator}
-use Rattle.idl_tree.specs.Starts.{expr_start}
+use Rattle.idl_tree.specs.Starts.{expr_start, leaf_at}
 use Rattle.type_graph.specs.declared.fault.GraphLimit.TheVariants.{Members as MembersLimit}
 use Rattle.type_graph.specs.declared.node.Node.TheVariants.{Text, Seq, Array}
 use Rattle.name_table.specs.Entry.{Entry}
 use Rattle.written_types.specs.declared.place.Place.TheVariants.{Typed}
 use Rattle.written_types.specs.Declarations.{with_typedef}
-use Rattle.written_types.specs.Faults.{at_most, each, line_of, max_members}
+use Rattle.written_types.specs.Faults.{at_most, each, max_members}
 use Rattle.written_types.specs.Members.{Members}
-use Rattle.written_types.specs.SimpleTypes.{array_type, arrays, bound_of, bound_or_none, const_type, declarator_line}
+use Rattle.written_types.specs.SimpleTypes.{array_type, arrays, bound_of, bound_or_none, const_type, declarator_at}
 use Rattle.written_types.specs.SimpleTypes.{entry_of, integer_number, param_type, simple_type, sizes_read, type_found}
 use Rattle.written_types.specs.Types.{WithMembers, member_added, with_declarator, with_members_of}
-use Rattle.written_types.specs.Written.{Numbered, Written, already, one_line}
+use Rattle.written_types.specs.Written.{Numbered, Written, already, one_site}
 use Rattle.written_names.proofs.Signs.{then_done}
 use Rattle.written_names.proofs.Stays.{Stays, adds_stays, already_stays, placed_gives, placed_stays, stays_none}
 use Rattle.written_names.proofs.Stays.{stays_on}
@@ -32,7 +33,7 @@ const_stays es w scope ConstTypes.Boolean n h = already_stays w 2 n h
 const_stays es w scope (ConstTypes.String None) n h = already_stays w 9 n h
 const_stays es w scope (ConstTypes.String (Some bound)) n h =
     let (most, is, told) = then_done (bound_of es scope bound) _ n h in
-    adds_stays w (Text most) (one_line (line_of (expr_start bound.expr))) n told
+    adds_stays w (Text most) (one_site (leaf_at (expr_start bound.expr))) n told
 const_stays es w scope (ConstTypes.Name name) n h =
     let (k, is, told) = then_done (type_found es w scope name) _ n h in
     already_stays w k n told
@@ -42,29 +43,29 @@ pub param_stays : (es : List Entry) (w : Written) (scope : ℕ) (t : ParamType) 
 param_stays es w scope (ParamTypes.Plain t) n h = const_stays es w scope t n h
 param_stays es w scope ParamTypes.Object n h = already_stays w 13 n h
 
-pub simple_stays : (es : List Entry) (w : Written) (scope line : ℕ) (t : SimpleType) (n : Numbered)
-    → simple_type es w scope line t ≡ Ok n → Stays w n.written
-simple_stays es w scope line (Plain t) n h = param_stays es w scope t n h
-simple_stays es w scope line (Sequence' shape element bound) n h =
-    let (e, first, h1) = then_done (simple_type es w scope line element) _ n h in
+pub simple_stays : (es : List Entry) (w : Written) (scope : ℕ) (at : At) (t : SimpleType) (n : Numbered)
+    → simple_type es w scope at t ≡ Ok n → Stays w n.written
+simple_stays es w scope at (Plain t) n h = param_stays es w scope t n h
+simple_stays es w scope at (Sequence' shape element bound) n h =
+    let (e, first, h1) = then_done (simple_type es w scope at element) _ n h in
     let (most, is, told) = then_done (bound_or_none es scope bound) _ n h1 in
-    stays_on w e.written n.written (simple_stays es w scope line element e first)
-    (adds_stays e.written (Seq e.number most) (one_line line) n told)
+    stays_on w e.written n.written (simple_stays es w scope at element e first)
+    (adds_stays e.written (Seq e.number most) (one_site at) n told)
 
-arrays_stay : (element : Numbered) (line : ℕ) (sizes : List ℕ) (n : Numbered) → arrays element line sizes ≡ Ok n
+arrays_stay : (element : Numbered) (at : At) (sizes : List ℕ) (n : Numbered) → arrays element at sizes ≡ Ok n
     → Stays element.written n.written
-arrays_stay element line [] n h = let same : element ≡ n = cc in subst (λ m. Stays element.written m.written) same
+arrays_stay element at [] n h = let same : element ≡ n = cc in subst (λ m. Stays element.written m.written) same
     (stays_none element.written)
-arrays_stay element line (k ∷ ks) n h =
-    let (inner, first, told) = then_done (arrays element line ks) _ n h in
-    stays_on element.written inner.written n.written (arrays_stay element line ks inner first)
-    (adds_stays inner.written (Array inner.number k) (one_line line) n told)
+arrays_stay element at (k ∷ ks) n h =
+    let (inner, first, told) = then_done (arrays element at ks) _ n h in
+    stays_on element.written inner.written n.written (arrays_stay element at ks inner first)
+    (adds_stays inner.written (Array inner.number k) (one_site at) n told)
 
 pub array_stays : (es : List Entry) (scope : ℕ) (element : Numbered) (d : Declarator) (n : Numbered)
     → array_type es scope element d ≡ Ok n → Stays element.written n.written
 array_stays es scope element d n h =
     let (ns, is, told) = then_done (sizes_read es scope d.sizes.items) _ n h in
-    arrays_stay element (declarator_line d) ns n told
+    arrays_stay element (declarator_at d) ns n told
 
 -- ---- members
 
@@ -73,11 +74,11 @@ pub record HasMore (m b : WithMembers) (more : ℕ) : Type 0 where
   pub stays : Stays m.written b.written
   pub long : length b.members.numbers ≡ length m.members.numbers + more
 
-pub member_more : (ms more : Members) (number line : ℕ) → member_added ms number line ≡ Ok more
+pub member_more : (ms more : Members) (number : ℕ) (at : At) → member_added ms number at ≡ Ok more
     → length more.numbers ≡ length ms.numbers + 1
-member_more ms more number line h =
-    let (count, fits, told) = then_done (at_most max_members MembersLimit line (length ms.numbers + 1)) _ more h in
-    let made : Members = record { numbers = ms.numbers ++ number ∷ []; lines = ms.lines ++ line ∷ [] } in
+member_more ms more number at h =
+    let (count, fits, told) = then_done (at_most max_members MembersLimit at (length ms.numbers + 1)) _ more h in
+    let made : Members = record { numbers = ms.numbers ++ number ∷ []; sites = ms.sites ++ at ∷ [] } in
     let same : made ≡ more = cc in
     sym (ap (λ m. length m.numbers) same) ∙ length-append ms.numbers (number ∷ [])
 
@@ -85,11 +86,11 @@ declarator_more : (es : List Entry) (scope number : ℕ) (m b : WithMembers) (d 
     → with_declarator es scope number m d ≡ Ok b → HasMore m b 1
 declarator_more es scope number m b d h =
     let (a, arrayed, h1) = then_done (array_type es scope (already m.written number) d) _ b h in
-    let (ms, adds, told) = then_done (member_added m.members a.number (declarator_line d)) _ b h1 in
+    let (ms, adds, told) = then_done (member_added m.members a.number (declarator_at d)) _ b h1 in
     let same : with_members_of a.written ms ≡ b = cc in
     subst (λ z. HasMore m z 1) same (record {
       stays = array_stays es scope (already m.written number) d a arrayed;
-      long = member_more m.members ms a.number (declarator_line d) adds;
+      long = member_more m.members ms a.number (declarator_at d) adds;
     })
 
 pub declarators_more : (es : List Entry) (scope number : ℕ) (m b : WithMembers) (ds : List Declarator)

@@ -3,6 +3,7 @@ use Rattle.std.proofs.Common.{◌≡◌, ◌∙◌, inl, inr, ℕ, ◌+◌, ◌<
 use Rattle.std.specs.Prelude.{slice_get}
 use Rattle.std.specs.List.{AllByRecursion}
 use Rattle.std.proofs.lemmas.List.Elements.{All-nil, All-push}
+use Rattle.idl_tree.specs.declared.names.At.{At}
 use Rattle.idl_tree.specs.declared.names.Leaf.{Leaf}
 use Rattle.idl_tree.specs.declared.names.ScopedName.{ScopedName}
 use Rattle.idl_tree.specs.declared.definitions.Attribute.{Attribute}
@@ -12,6 +13,7 @@ use Rattle.idl_tree.specs.declared.definitions.Direction.TheVariants.{In, Out}
 use Rattle.idl_tree.specs.Lists.{parts}
 use Rattle.type_graph.specs.GraphRules.{IsPart}
 use Rattle.idl_tree.specs.declared.kinds.EntryKind.TheVariants as Kinds
+use Rattle.idl_tree.specs.Starts.{leaf_at}
 use Rattle.name_table.specs.Entry.{Entry, named}
 use Rattle.name_table.specs.Search.{word}
 use Rattle.scoped_names.specs.Introductions.{Introduction, Stands}
@@ -20,7 +22,7 @@ use Rattle.name_steps.specs.Steps.{NamesException}
 use Rattle.name_steps.proofs.Asks.{param_type_asks}
 use Rattle.scoped_names.proofs.Parts.{closed, each_step_closed}
 use Rattle.written_types.specs.declared.place.Place.TheVariants.{Got, GotAndSet}
-use Rattle.written_types.specs.Faults.{each, line_of}
+use Rattle.written_types.specs.Faults.{each}
 use Rattle.written_types.specs.Sound.{IsFrameAt, IsPlaceAmong}
 use Rattle.written_types.specs.SimpleTypes.{entry_of, param_type}
 use Rattle.written_types.specs.Written.{Written, placed}
@@ -43,19 +45,19 @@ AreBelow w raises = All (λ k. k < length w.exceptions) raises
 
 -- ---- getting and setting
 
-get_fine : (es : List Entry) (g : List Introduction) (d : Defined) (number : ℕ) (raises : List ℕ) (e line : ℕ) → Keeps es g nothing_begun d.types → IsPart d.types.nodes number
-    → Fine (IsCalled es g d (signature e Roles.Getting false raises)) (with_get d number raises e line)
-get_fine es g d number raises e line i part =
-    and_then (AreCarried d.types.nodes) (IsCalled es g d (signature e Roles.Getting false raises)) (with_carried nothing_carried Out number line)
-    (λ c. with_call d c false raises Roles.Getting e line) (carried_fine d.types.nodes nothing_carried Out number line (nothing_right d.types.nodes) part)
-    (λ c h. call_fine es g d c false raises Roles.Getting e line i h)
+get_fine : (es : List Entry) (g : List Introduction) (d : Defined) (number : ℕ) (raises : List ℕ) (e : ℕ) (at : At) → Keeps es g nothing_begun d.types → IsPart d.types.nodes number
+    → Fine (IsCalled es g d (signature e Roles.Getting false raises)) (with_get d number raises e at)
+get_fine es g d number raises e at i part =
+    and_then (AreCarried d.types.nodes) (IsCalled es g d (signature e Roles.Getting false raises)) (with_carried nothing_carried Out number at)
+    (λ c. with_call d c false raises Roles.Getting e at) (carried_fine d.types.nodes nothing_carried Out number at (nothing_right d.types.nodes) part)
+    (λ c h. call_fine es g d c false raises Roles.Getting e at i h)
 
-set_fine : (es : List Entry) (g : List Introduction) (d : Defined) (number : ℕ) (raises : List ℕ) (e line : ℕ) → Keeps es g nothing_begun d.types → IsPart d.types.nodes number
-    → Fine (IsCalled es g d (signature e Roles.Setting false raises)) (with_set d number raises e line)
-set_fine es g d number raises e line i part =
-    and_then (AreCarried d.types.nodes) (IsCalled es g d (signature e Roles.Setting false raises)) (with_carried nothing_carried In number line)
-    (λ c. with_call d c false raises Roles.Setting e line) (carried_fine d.types.nodes nothing_carried In number line (nothing_right d.types.nodes) part)
-    (λ c h. call_fine es g d c false raises Roles.Setting e line i h)
+set_fine : (es : List Entry) (g : List Introduction) (d : Defined) (number : ℕ) (raises : List ℕ) (e : ℕ) (at : At) → Keeps es g nothing_begun d.types → IsPart d.types.nodes number
+    → Fine (IsCalled es g d (signature e Roles.Setting false raises)) (with_set d number raises e at)
+set_fine es g d number raises e at i part =
+    and_then (AreCarried d.types.nodes) (IsCalled es g d (signature e Roles.Setting false raises)) (with_carried nothing_carried In number at)
+    (λ c. with_call d c false raises Roles.Setting e at) (carried_fine d.types.nodes nothing_carried In number at (nothing_right d.types.nodes) part)
+    (λ c h. call_fine es g d c false raises Roles.Setting e at i h)
 
 -- only got
 got_fine : (es : List Entry) (g : List Introduction) (d : Defined) (raises : List ℕ) (e : ℕ) (r : Requested) → KeepsAll es g d → AreBelow d.types raises → Pending es g d.types e
@@ -123,14 +125,14 @@ both_fine es g d gets sets e r t h below below_too pending called called_too =
     (subst₂ (λ os is. GoesAll es g d (record { types = u; operations = os; interfaces = is })) (sym told) (sym (called_too.interfaces ∙ called.interfaces))
     (more_written es g g d u (ops ++ set ∷ []) h goes.keeps later all (omega (arith, long, longer)) (omega (arith, long, longer, few, more, more_too))))
 
-access_fine : (es : List Entry) (g : List Introduction) (d : Defined) (number : ℕ) (set : Bool) (gets sets : List ℕ) (e line : ℕ) (r : Requested) → KeepsAll es g d → IsPart d.types.nodes number
+access_fine : (es : List Entry) (g : List Introduction) (d : Defined) (number : ℕ) (set : Bool) (gets sets : List ℕ) (e : ℕ) (at : At) (r : Requested) → KeepsAll es g d → IsPart d.types.nodes number
     → AreBelow d.types gets → AreBelow d.types sets → Pending es g d.types e → IsCalled es g d (signature e Roles.Getting false gets) r
-    → Fine (GoesAll es g d) (with_access r number set sets e line)
-access_fine es g d number false gets sets e line r h part below below_too pending called = got_fine es g d gets e r h below pending called
-access_fine es g d number true gets sets e line r h part below below_too pending called =
+    → Fine (GoesAll es g d) (with_access r number set sets e at)
+access_fine es g d number false gets sets e at r h part below below_too pending called = got_fine es g d gets e r h below pending called
+access_fine es g d number true gets sets e at r h part below below_too pending called =
     let framed = called.framed in
-    and_then (IsCalled es g r.defined (signature e Roles.Setting false sets)) (GoesAll es g d) (with_set r.defined number sets e line) (λ set. with_place set.defined e (GotAndSet r.request))
-    (set_fine es g r.defined number sets e line framed.keeps (part_stays d.types.nodes r.defined.types.nodes framed.later.nodes number part))
+    and_then (IsCalled es g r.defined (signature e Roles.Setting false sets)) (GoesAll es g d) (with_set r.defined number sets e at) (λ set. with_place set.defined e (GotAndSet r.request))
+    (set_fine es g r.defined number sets e at framed.keeps (part_stays d.types.nodes r.defined.types.nodes framed.later.nodes number part))
     (λ t called_too. both_fine es g d gets sets e r t h below below_too pending called called_too)
 
 -- ---- one attribute
@@ -142,9 +144,9 @@ one_fine es g d scope number a id e h part get set pending is =
     and_then (AreBelow d.types) (GoesAll es g d) (raised es d.types scope (get_raises a)) _ get (λ gets below.
     and_then (AreBelow d.types) (GoesAll es g d) (raised es d.types scope (set_raises a)) _ set (λ sets below_too.
     given (GoesAll es g d) (entry_of es scope id) e _ (entry_is es scope id e is)
-    (and_then (IsCalled es g d (signature e Roles.Getting false gets)) (GoesAll es g d) (with_get d number gets e (line_of id)) (λ got. with_access got number (is_set a) sets e (line_of id))
-    (get_fine es g d number gets e (line_of id) h.types_kept part)
-    (λ r called. access_fine es g d number (is_set a) gets sets e (line_of id) r h part below below_too pending called))))
+    (and_then (IsCalled es g d (signature e Roles.Getting false gets)) (GoesAll es g d) (with_get d number gets e (leaf_at id)) (λ got. with_access got number (is_set a) sets e (leaf_at id))
+    (get_fine es g d number gets e (leaf_at id) h.types_kept part)
+    (λ r called. access_fine es g d number (is_set a) gets sets e (leaf_at id) r h part below below_too pending called))))
 
 feature_all : (es : List Entry) (g : List Introduction) (d : Defined) (scope : ℕ) (id : Leaf) → KeepsAll es g d → Settled es g scope (DeclaresFeature Kinds.Attribute id)
     → KeepsAll es (Stands scope id Kinds.Attribute ∷ g) d

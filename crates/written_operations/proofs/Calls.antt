@@ -3,6 +3,7 @@ use Rattle.std.proofs.Common.{◌≡◌, ◌∙◌, inl, inr, ℕ, ◌+◌, ◌<
 use Rattle.std.specs.Prelude.{slice_get}
 use Rattle.std.specs.List.{AllByRecursion, flat_map}
 use Rattle.std.proofs.lemmas.List.Elements.{All-nil, All-push}
+use Rattle.idl_tree.specs.declared.names.At.{At}
 use Rattle.idl_tree.specs.declared.names.Leaf.{Leaf}
 use Rattle.idl_tree.specs.declared.names.Listed.{Listed}
 use Rattle.idl_tree.specs.declared.names.ScopedName.{ScopedName}
@@ -15,6 +16,7 @@ use Rattle.type_graph.specs.declared.node.Node.TheVariants.{Frame}
 use Rattle.type_graph.specs.GraphRules.{IsPart}
 use Rattle.idl_tree.specs.declared.kinds.EntryKind.{EntryKind}
 use Rattle.idl_tree.specs.declared.kinds.EntryKind.TheVariants as Kinds
+use Rattle.idl_tree.specs.Starts.{leaf_at}
 use Rattle.name_table.specs.Entry.{Entry}
 use Rattle.scoped_names.specs.Introductions.{Introduction}
 use Rattle.scoped_names.specs.Reading.{◌>>◌}
@@ -25,7 +27,7 @@ use Rattle.scoped_names.proofs.OnlyMemory.{finds_one}
 use Rattle.scoped_names.proofs.Parts.{Closed, closed}
 use Rattle.written_types.specs.declared.place.Place.{Place}
 use Rattle.written_types.specs.declared.place.Place.TheVariants.{Raised}
-use Rattle.written_types.specs.Faults.{each, line_of, of_names}
+use Rattle.written_types.specs.Faults.{each, of_names}
 use Rattle.written_types.specs.Members.{Members}
 use Rattle.written_types.specs.Sound.{IsFrame, IsFrameAt}
 use Rattle.written_types.specs.SimpleTypes.{entry_found, param_type}
@@ -74,21 +76,21 @@ pub record Carries (es : List Entry) (g : List Introduction) (w : Written) (c : 
 any_many : (graph : List Node) (ms : Members) → AreRight graph [] 1 ms → AreRight graph [] 0 ms
 any_many graph ms h = record { members = h.members; first = h.first; some = omega arith }
 
-more_fine : (graph : List Node) (ms : Members) (number line : ℕ) → AreRight graph [] 0 ms → IsPart graph number → Fine (AreRight graph [] 0) (member_added ms number line)
-more_fine graph ms number line h part =
-    weaker (AreRight graph [] 1) (AreRight graph [] 0) (member_added ms number line) (λ more is. any_many graph more is) (member_fine graph [] 0 ms number line h part)
+more_fine : (graph : List Node) (ms : Members) (number : ℕ) (at : At) → AreRight graph [] 0 ms → IsPart graph number → Fine (AreRight graph [] 0) (member_added ms number at)
+more_fine graph ms number at h part =
+    weaker (AreRight graph [] 1) (AreRight graph [] 0) (member_added ms number at) (λ more is. any_many graph more is) (member_fine graph [] 0 ms number at h part)
 
-pub carried_fine : (graph : List Node) (c : Carried) (d : Direction) (number line : ℕ) → AreCarried graph c → IsPart graph number → Fine (AreCarried graph) (with_carried c d number line)
-carried_fine graph c In number line h part =
-    and_then (AreRight graph [] 0) (AreCarried graph) (member_added c.request number line) (λ ms. Ok (record c { request = ms })) (more_fine graph c.request number line h.request part)
+pub carried_fine : (graph : List Node) (c : Carried) (d : Direction) (number : ℕ) (at : At) → AreCarried graph c → IsPart graph number → Fine (AreCarried graph) (with_carried c d number at)
+carried_fine graph c In number at h part =
+    and_then (AreRight graph [] 0) (AreCarried graph) (member_added c.request number at) (λ ms. Ok (record c { request = ms })) (more_fine graph c.request number at h.request part)
     (λ ms is. record { request = is; reply = h.reply })
-carried_fine graph c Out number line h part =
-    and_then (AreRight graph [] 0) (AreCarried graph) (member_added c.reply number line) (λ ms. Ok (record c { reply = ms })) (more_fine graph c.reply number line h.reply part)
+carried_fine graph c Out number at h part =
+    and_then (AreRight graph [] 0) (AreCarried graph) (member_added c.reply number at) (λ ms. Ok (record c { reply = ms })) (more_fine graph c.reply number at h.reply part)
     (λ ms is. record { request = h.request; reply = is })
-carried_fine graph c InOut number line h part =
-    and_then (AreRight graph [] 0) (AreCarried graph) (member_added c.request number line) _ (more_fine graph c.request number line h.request part) (λ request is.
-    and_then (AreRight graph [] 0) (AreCarried graph) (member_added c.reply number line) (λ reply. Ok (record { request = request; reply = reply }))
-    (more_fine graph c.reply number line h.reply part) (λ reply also. record { request = is; reply = also }))
+carried_fine graph c InOut number at h part =
+    and_then (AreRight graph [] 0) (AreCarried graph) (member_added c.request number at) _ (more_fine graph c.request number at h.request part) (λ request is.
+    and_then (AreRight graph [] 0) (AreCarried graph) (member_added c.reply number at) (λ reply. Ok (record { request = request; reply = reply }))
+    (more_fine graph c.reply number at h.reply part) (λ reply also. record { request = is; reply = also }))
 
 pub nothing_right : (graph : List Node) → AreCarried graph nothing_carried
 nothing_right graph = record { request = none_right graph; reply = none_right graph }
@@ -97,11 +99,11 @@ carried_later : (w v : Written) (c : Carried) → Later w v → AreCarried w.nod
 carried_later w v c l h = record { request = right_later w v [] 0 c.request l h.request; reply = right_later w v [] 0 c.reply l h.reply }
 
 -- a type more is carried, where it is written
-type_carried : (es : List Entry) (g : List Introduction) (w : Written) (c : Carrying) (t : Numbered) (d : Direction) (line : ℕ) → Carries es g w c → Adds es g nothing_begun c.types t
-    → Fine (Carries es g w) (with_carried c.carried d t.number line >> λ more. Ok (carrying t.written more))
-type_carried es g w c t d line h a =
-    and_then (AreCarried t.written.nodes) (Carries es g w) (with_carried c.carried d t.number line) (λ more. Ok (carrying t.written more))
-    (carried_fine t.written.nodes c.carried d t.number line (carried_later c.types t.written c.carried a.later h.right) a.part) (λ more is. record {
+type_carried : (es : List Entry) (g : List Introduction) (w : Written) (c : Carrying) (t : Numbered) (d : Direction) (at : At) → Carries es g w c → Adds es g nothing_begun c.types t
+    → Fine (Carries es g w) (with_carried c.carried d t.number at >> λ more. Ok (carrying t.written more))
+type_carried es g w c t d at h a =
+    and_then (AreCarried t.written.nodes) (Carries es g w) (with_carried c.carried d t.number at) (λ more. Ok (carrying t.written more))
+    (carried_fine t.written.nodes c.carried d t.number at (carried_later c.types t.written c.carried a.later h.right) a.part) (λ more is. record {
       keeps = a.keeps;
       later = later_on w c.types t.written h.later a.later;
       places = a.places ∙ h.places;
@@ -121,27 +123,27 @@ param_carried es g w scope id c p settled h =
     let parts = split es g scope (param_type_steps p.param_type) (Enters id ∷ HasMember p.identifier ∷ Leaves ∷ []) settled in
     and_then (Adds es g nothing_begun c.types) (Carries es (behind es g scope (param_steps id p)) w) (param_type es c.types scope p.param_type) _
     (param_keeps es g nothing_begun c.types scope p.param_type h.keeps parts.0) (λ t a.
-    weaker (Carries es g w) (Carries es (behind es g scope (param_steps id p)) w) (with_carried c.carried p.direction t.number (line_of p.identifier) >> λ more. Ok (carrying t.written more))
+    weaker (Carries es g w) (Carries es (behind es g scope (param_steps id p)) w) (with_carried c.carried p.direction t.number (leaf_at p.identifier) >> λ more. Ok (carrying t.written more))
     (λ k is. record {
       keeps = silent_keeps es g nothing_begun k.types scope (param_steps id p) (param_silence id p) settled is.keeps;
       later = is.later;
       places = is.places;
       exceptions = is.exceptions;
       right = is.right;
-    }) (type_carried es g w c t p.direction (line_of p.identifier) h a))
+    }) (type_carried es g w c t p.direction (leaf_at p.identifier) h a))
 
 pub params_carried : (es : List Entry) (g : List Introduction) (w : Written) (scope : ℕ) (id : Leaf) (c : Carrying) (ps : List Param) → AllSettled es g scope (flat_map (param_steps id) ps)
     → Carries es g w c → Fine (Carries es (behind es g scope (flat_map (param_steps id) ps)) w) (each (with_param es scope) c ps)
 params_carried es g w scope id c ps settled h =
     each_keeps es (λ k c. Carries es k w c) (with_param es scope) (param_steps id) scope (param_closed id) (λ k c p s has. param_carried es k w scope id c p s has) g c ps settled h
 
-pub result_fine : (es : List Entry) (g : List Introduction) (w : Written) (scope line : ℕ) (o : Option ParamType) → Keeps es g nothing_begun w → AllSettled es g scope (result_steps o)
-    → Fine (Carries es g w) (result_carried es w scope line o)
-result_fine es g w scope line None i h = record { keeps = i; later = later_none w; places = refl; exceptions = refl; right = nothing_right w.nodes }
-result_fine es g w scope line (Some t) i h =
+pub result_fine : (es : List Entry) (g : List Introduction) (w : Written) (scope : ℕ) (at : At) (o : Option ParamType) → Keeps es g nothing_begun w → AllSettled es g scope (result_steps o)
+    → Fine (Carries es g w) (result_carried es w scope at o)
+result_fine es g w scope at None i h = record { keeps = i; later = later_none w; places = refl; exceptions = refl; right = nothing_right w.nodes }
+result_fine es g w scope at (Some t) i h =
     let start : Carries es g w (carrying w nothing_carried) = record { keeps = i; later = later_none w; places = refl; exceptions = refl; right = nothing_right w.nodes } in
     and_then (Adds es g nothing_begun w) (Carries es g w) (param_type es w scope t) _ (param_keeps es g nothing_begun w scope t i h)
-    (λ n a. type_carried es g w (carrying w nothing_carried) n Out line start a)
+    (λ n a. type_carried es g w (carrying w nothing_carried) n Out at start a)
 
 -- ---- frames
 
@@ -158,14 +160,14 @@ pub record AreFramed (es : List Entry) (g : List Introduction) (w : Written) (n 
 frame_at : (graph : List Node) (n : ℕ) (ms : List ℕ) → slice_get graph n ≡ Some (Frame ms) → IsFrameAt graph n
 frame_at graph n ms is = is_some_and (slice_get graph n) IsFrame (Frame ms) is tt
 
-pub frames_fine : (es : List Entry) (g : List Introduction) (w : Written) (c : Carried) (line : ℕ) → Keeps es g nothing_begun w → AreCarried w.nodes c
-    → Fine (AreFramed es g w) (frames_added w c line)
-frames_fine es g w c line i h =
-    and_then (Frames es g nothing_begun w c.request.numbers) (AreFramed es g w) (frame_added w c.request line) _
-    (frame_fine es g nothing_begun w c.request.numbers (record { line = line; held = c.request.lines }) line i h.request.members) (λ first a.
+pub frames_fine : (es : List Entry) (g : List Introduction) (w : Written) (c : Carried) (at : At) → Keeps es g nothing_begun w → AreCarried w.nodes c
+    → Fine (AreFramed es g w) (frames_added w c at)
+frames_fine es g w c at i h =
+    and_then (Frames es g nothing_begun w c.request.numbers) (AreFramed es g w) (frame_added w c.request at) _
+    (frame_fine es g nothing_begun w c.request.numbers (record { at = at; held = c.request.sites }) at i h.request.members) (λ first a.
     let v = first.written in
-    and_then (Frames es g nothing_begun v c.reply.numbers) (AreFramed es g w) (frame_added v c.reply line) (λ reply. Ok (already reply.written first.number))
-    (frame_fine es g nothing_begun v c.reply.numbers (record { line = line; held = c.reply.lines }) line a.keeps
+    and_then (Frames es g nothing_begun v c.reply.numbers) (AreFramed es g w) (frame_added v c.reply at) (λ reply. Ok (already reply.written first.number))
+    (frame_fine es g nothing_begun v c.reply.numbers (record { at = at; held = c.reply.sites }) at a.keeps
     (node_stays w.nodes v.nodes a.later.nodes (Frame c.reply.numbers) h.reply.members)) (λ second b.
     let at = a.number in
     let more = a.more in

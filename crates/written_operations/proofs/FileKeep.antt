@@ -71,7 +71,7 @@ first_keeps es =
         nodes = basic_right;
         counted = le_refl (all_members basic_nodes);
         members = omega (arith, members);
-        lines = refl;
+        sites = refl;
         exceptions = omega (arith, count);
       };
     }

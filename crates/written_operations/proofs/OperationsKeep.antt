@@ -4,6 +4,7 @@ use Rattle.std.specs.Prelude.{◌&&◌, if◌then◌else◌, slice_get, IfSome}
 use Rattle.std.specs.List.{AllByRecursion, flat_map}
 use Rattle.std.proofs.lemmas.List.Elements.{All-push, All-weaker}
 use Rattle.std.proofs.lemmas.Option.{slice_get_within}
+use Rattle.idl_tree.specs.declared.names.At.{At}
 use Rattle.idl_tree.specs.declared.names.Leaf.{Leaf}
 use Rattle.idl_tree.specs.declared.names.ScopedName.{ScopedName}
 use Rattle.idl_tree.specs.declared.definitions.Declaration.{Declaration}
@@ -12,6 +13,7 @@ use Rattle.idl_tree.specs.declared.definitions.Param.{Param}
 use Rattle.idl_tree.specs.declared.types.ParamType.{ParamType}
 use Rattle.idl_tree.specs.declared.kinds.EntryKind.{EntryKind}
 use Rattle.idl_tree.specs.declared.kinds.EntryKind.TheVariants as Kinds
+use Rattle.idl_tree.specs.Starts.{leaf_at}
 use Rattle.name_table.specs.Entry.{Entry, named}
 use Rattle.name_table.specs.Search.{word}
 use Rattle.scoped_names.specs.Faults.{has_body, may_reappear}
@@ -25,7 +27,7 @@ use Rattle.written_types.specs.declared.place.Place.TheVariants.{Called, Got, Go
 use Rattle.written_types.specs.declared.fault.BuildFault.{BuildFault}
 use Rattle.written_types.specs.declared.fault.BuildFault.TheVariants.{Types}
 use Rattle.written_types.specs.declared.fault.TypeFault.TheVariants.{BadOneway}
-use Rattle.written_types.specs.Faults.{each, line_of}
+use Rattle.written_types.specs.Faults.{each}
 use Rattle.written_types.specs.Declarations.{declaration}
 use Rattle.written_types.specs.Sound.{IsPlaceAmong}
 use Rattle.written_types.specs.SimpleTypes.{entry_of}
@@ -45,7 +47,7 @@ use Rattle.written_operations.specs.declared.signature.Role.{Role}
 use Rattle.written_operations.specs.declared.signature.Role.TheVariants as Roles
 use Rattle.written_operations.specs.declared.signature.Signature.{Signature}
 use Rattle.written_operations.specs.Frames.{all_carried, frames_added, result_carried, with_param}
-use Rattle.written_operations.specs.Oneway.{has_no_reply, not, oneway_test, parts_of}
+use Rattle.written_operations.specs.Oneway.{answer_of, has_no_reply, not, oneway_test, parts_of}
 use Rattle.written_operations.specs.Operations.{Defined, Requested, declared, operation, raised, with_call, with_operation, with_place, with_types}
 use Rattle.written_operations.specs.Sound.{HasFrames, IsSoundOffer, IsSoundSignature}
 use Rattle.written_operations.proofs.Calls.{AreCarried, AreFramed, Carries, frames_fine, nothing_begun, params_carried, raised_fine, result_fine, same_parts}
@@ -180,10 +182,10 @@ pub record IsCalled (es : List Entry) (g : List Introduction) (d : Defined) (sig
 abbrev pub signature : ℕ → Role → Bool → List ℕ → ℕ → Signature
 signature e role oneway raises request = record { entry = e; role = role; is_oneway = oneway; request = request; raises = raises }
 
-pub call_fine : (es : List Entry) (g : List Introduction) (d : Defined) (c : Carried) (oneway : Bool) (raises : List ℕ) (role : Role) (e line : ℕ) → Keeps es g nothing_begun d.types
-    → AreCarried d.types.nodes c → Fine (IsCalled es g d (signature e role oneway raises)) (with_call d c oneway raises role e line)
-call_fine es g d c oneway raises role e line i h =
-    and_then (AreFramed es g d.types) (IsCalled es g d (signature e role oneway raises)) (frames_added d.types c line) _ (frames_fine es g d.types c line i h)
+pub call_fine : (es : List Entry) (g : List Introduction) (d : Defined) (c : Carried) (oneway : Bool) (raises : List ℕ) (role : Role) (e : ℕ) (at : At) → Keeps es g nothing_begun d.types
+    → AreCarried d.types.nodes c → Fine (IsCalled es g d (signature e role oneway raises)) (with_call d c oneway raises role e at)
+call_fine es g d c oneway raises role e at i h =
+    and_then (AreFramed es g d.types) (IsCalled es g d (signature e role oneway raises)) (frames_added d.types c at) _ (frames_fine es g d.types c at i h)
     (λ f framed. record { framed = framed; operations = refl; interfaces = refl })
 
 -- a call whose frames the entry has
@@ -204,13 +206,13 @@ sound_call es g w v u n e x role oneway raises h l at below frames = record {
 -- ---- operations
 
 -- behind a call its entry has the frames
-called_fine : (es : List Entry) (g : List Introduction) (d : Defined) (c : Carried) (oneway : Bool) (raises : List ℕ) (e line : ℕ) → KeepsAll es g d → AreCarried d.types.nodes c
+called_fine : (es : List Entry) (g : List Introduction) (d : Defined) (c : Carried) (oneway : Bool) (raises : List ℕ) (e : ℕ) (at : At) → KeepsAll es g d → AreCarried d.types.nodes c
     → All (λ k. k < length d.types.exceptions) raises → Pending es g d.types e
-    → Fine (GoesAll es g d) (with_call d c oneway raises Roles.Operation e line >> λ r. with_place r.defined e (Called r.request))
-called_fine es g d c oneway raises e line h carried below pending =
+    → Fine (GoesAll es g d) (with_call d c oneway raises Roles.Operation e at >> λ r. with_place r.defined e (Called r.request))
+called_fine es g d c oneway raises e at h carried below pending =
     let sig = signature e Roles.Operation oneway raises in
-    and_then (IsCalled es g d sig) (GoesAll es g d) (with_call d c oneway raises Roles.Operation e line) (λ r. with_place r.defined e (Called r.request))
-    (call_fine es g d c oneway raises Roles.Operation e line h.types_kept carried) (λ r called.
+    and_then (IsCalled es g d sig) (GoesAll es g d) (with_call d c oneway raises Roles.Operation e at) (λ r. with_place r.defined e (Called r.request))
+    (call_fine es g d c oneway raises Roles.Operation e at h.types_kept carried) (λ r called.
     let framed = called.framed in
     let w = r.defined.types in
     let p = Called r.request in
@@ -259,8 +261,8 @@ all_carried_fine es g w scope o i result feature params =
     let g1 = behind es g scope (result_steps o.result_type) in
     let g2 = Stands scope id Kinds.Operation ∷ g1 in
     let g3 = behind es g2 scope (flat_map (param_steps id) (optional_parts o.params)) in
-    and_then (Carries es g w) (Carries es g3 w) (result_carried es w scope (line_of id) o.result_type) (λ c. each (with_param es scope) c (parts_of o.params))
-    (result_fine es g w scope (line_of id) o.result_type i result) (λ c has.
+    and_then (Carries es g w) (Carries es g3 w) (result_carried es w scope (leaf_at id) o.result_type) (λ c. each (with_param es scope) c (parts_of o.params))
+    (result_fine es g w scope (leaf_at id) o.result_type i result) (λ c has.
     let keeps = silent_keeps es g nothing_begun c.types scope (result_steps o.result_type) (result_silent o.result_type) result has.keeps in
     let start : Carries es g2 w c = record {
       keeps = features_silent es g1 c.types scope id Kinds.Operation refl keeps feature;
@@ -275,7 +277,7 @@ all_carried_fine es g w scope o i result feature params =
 oneway_fine : (o : Operation) → Fine (λ u. Unit {0}) (oneway_test o)
 oneway_fine o = by (o.is_oneway && not (has_no_reply o))
   where
-    by : (b : Bool) → (let r : Result (Unit {0}) BuildFault = if b then Err (Types (BadOneway (line_of o.identifier))) else Ok tt in Fine (λ u. Unit {0}) r)
+    by : (b : Bool) → (let r : Result (Unit {0}) BuildFault = if b then Err (Types (BadOneway (leaf_at o.identifier) (answer_of o))) else Ok tt in Fine (λ u. Unit {0}) r)
     by true = tt
     by false = tt
 
@@ -287,7 +289,7 @@ behind_call es g d scope c o e h carried settled pending is =
     and_then (All (λ k. k < length d.types.exceptions)) (GoesAll es g d) (raised es d.types scope (parts_of o.raises)) _
     (raised_fine es g d.types scope (parts_of o.raises) h.types_kept settled) (λ raises below.
     given (GoesAll es g d) (entry_of es scope id) e _ (entry_is es scope id e is)
-    (called_fine es g d c o.is_oneway raises e (line_of id) h carried below pending))
+    (called_fine es g d c o.is_oneway raises e (leaf_at id) h carried below pending))
 
 -- behind steps that introduce nothing that has a place
 pub silent_all : (es : List Entry) (g : List Introduction) (d b : Defined) (scope : ℕ) (steps : List Step) → AllByRecursion IsSilent steps → AllSettled es g scope steps → GoesAll es g d b

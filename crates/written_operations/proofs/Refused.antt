@@ -1,23 +1,25 @@
 -- Operations that are refused, and where that is told.
 use Rattle.std.proofs.Common.{◌≡◌, ◌∙◌, ℕ, ◌+◌, Bool, true, false, List, ◌∷◌, [], length, Some, Ok, Err, refl, ap}
 use Rattle.std.specs.Prelude.{◌&&◌, if◌then◌else◌, is_some, nat_lt}
+use Rattle.idl_tree.specs.declared.names.At.{At}
 use Rattle.idl_tree.specs.declared.names.Listed.{Listed}
 use Rattle.idl_tree.specs.declared.names.ScopedName.{ScopedName}
 use Rattle.idl_tree.specs.declared.types.ParamType.{ParamType}
 use Rattle.idl_tree.specs.declared.definitions.Direction.TheVariants.{Out}
 use Rattle.idl_tree.specs.declared.definitions.Operation.{Operation}
+use Rattle.idl_tree.specs.Starts.{leaf_at}
 use Rattle.type_graph.specs.declared.fault.GraphLimit.TheVariants.{Members as MembersLimit}
 use Rattle.name_table.specs.Entry.{Entry}
 use Rattle.written_types.specs.declared.fault.BuildFault.TheVariants.{Types, OtherNames}
 use Rattle.written_types.specs.declared.fault.TypeFault.TheVariants.{BadOneway}
 use Rattle.written_types.specs.declared.place.Place.TheVariants.{Typed}
-use Rattle.written_types.specs.Faults.{at_most, limit, line_of, max_members}
+use Rattle.written_types.specs.Faults.{at_most, limit, max_members}
 use Rattle.written_types.specs.Written.{Written, place_of}
 use Rattle.written_types.specs.SimpleTypes.{entry_found}
 use Rattle.written_types.specs.Types.{member_added}
 use Rattle.written_types.proofs.Walks.{goes_on, stops}
 use Rattle.written_operations.specs.declared.frames.Carried.{Carried}
-use Rattle.written_operations.specs.Oneway.{are_in, has_no_reply, not, oneway_test, parts_of}
+use Rattle.written_operations.specs.Oneway.{answer_of, are_in, has_no_reply, not, oneway_test, parts_of}
 use Rattle.written_operations.specs.Frames.{with_carried}
 use Rattle.written_operations.specs.Operations.{Defined, exception_found, exception_in, operation, raised, with_exception}
 
@@ -25,15 +27,15 @@ use Rattle.written_operations.specs.Operations.{Defined, exception_found, except
 
 -- one from which something comes back
 pub answers : (es : List Entry) (scope : ℕ) (d : Defined) (o : Operation) → o.is_oneway ≡ true → has_no_reply o ≡ false
-    → operation es scope d o ≡ Err (Types (BadOneway (line_of o.identifier)))
+    → operation es scope d o ≡ Err (Types (BadOneway (leaf_at o.identifier) (answer_of o)))
 answers es scope d o oneway reply =
-    let fault = Types (BadOneway (line_of o.identifier)) in
+    let fault = Types (BadOneway (leaf_at o.identifier) (answer_of o)) in
     let told : oneway_test o ≡ Err fault =
     ap (λ b. if b && not (has_no_reply o) then Err fault else Ok tt) oneway ∙ ap (λ b. if not b then Err fault else Ok tt) reply in
     stops (oneway_test o) fault _ told
 
 pub has_result : (es : List Entry) (scope : ℕ) (d : Defined) (o : Operation) (t : ParamType) → o.is_oneway ≡ true → o.result_type ≡ Some t
-    → operation es scope d o ≡ Err (Types (BadOneway (line_of o.identifier)))
+    → operation es scope d o ≡ Err (Types (BadOneway (leaf_at o.identifier) (answer_of o)))
 has_result es scope d o t oneway is =
     answers es scope d o oneway (ap (λ r. not (is_some r) && not (is_some o.raises) && are_in (parts_of o.params)) is)
 
@@ -47,7 +49,7 @@ third true false = refl
 third false b = refl
 
 pub has_raises : (es : List Entry) (scope : ℕ) (d : Defined) (o : Operation) (names : Listed ScopedName) → o.is_oneway ≡ true → o.raises ≡ Some names
-    → operation es scope d o ≡ Err (Types (BadOneway (line_of o.identifier)))
+    → operation es scope d o ≡ Err (Types (BadOneway (leaf_at o.identifier) (answer_of o)))
 has_raises es scope d o names oneway is =
     answers es scope d o oneway
     (ap (λ r. not (is_some o.result_type) && not (is_some r) && are_in (parts_of o.params)) is
@@ -55,7 +57,7 @@ has_raises es scope d o names oneway is =
 
 -- a parameter isn't an `in` one
 pub has_out : (es : List Entry) (scope : ℕ) (d : Defined) (o : Operation) → o.is_oneway ≡ true → are_in (parts_of o.params) ≡ false
-    → operation es scope d o ≡ Err (Types (BadOneway (line_of o.identifier)))
+    → operation es scope d o ≡ Err (Types (BadOneway (leaf_at o.identifier) (answer_of o)))
 has_out es scope d o oneway is =
     answers es scope d o oneway
     (ap (λ b. not (is_some o.result_type) && not (is_some o.raises) && b) is ∙ third (not (is_some o.result_type)) (not (is_some o.raises)))
@@ -65,7 +67,7 @@ pub oneway_kept : (es : List Entry) (scope : ℕ) (d behind : Defined) (o : Oper
     → has_no_reply o ≡ true
 oneway_kept es scope d behind o written oneway = by (has_no_reply o) (answers es scope d o oneway)
   where
-    by : (b : Bool) → (b ≡ false → operation es scope d o ≡ Err (Types (BadOneway (line_of o.identifier)))) → b ≡ true
+    by : (b : Bool) → (b ≡ false → operation es scope d o ≡ Err (Types (BadOneway (leaf_at o.identifier) (answer_of o)))) → b ≡ true
     by true refused = refl
     by false refused = let told = refused refl in absurd cc
 
@@ -82,10 +84,10 @@ no_exception es w scope name names e n found is =
 -- ---- frames
 
 -- one type more than a reply may carry
-pub full_reply : (c : Carried) (number line : ℕ) → nat_lt max_members (length c.reply.numbers + 1) ≡ true
-    → with_carried c Out number line ≡ Err (limit MembersLimit line)
-full_reply c number line full =
-    let fault = limit MembersLimit line in
+pub full_reply : (c : Carried) (number : ℕ) (at : At) → nat_lt max_members (length c.reply.numbers + 1) ≡ true
+    → with_carried c Out number at ≡ Err (limit MembersLimit max_members at)
+full_reply c number at full =
+    let fault = limit MembersLimit max_members at in
     let count = length c.reply.numbers + 1 in
-    stops (member_added c.reply number line) fault _
-    (stops (at_most max_members MembersLimit line count) fault _ (ap (λ b. if b then Err fault else Ok count) full))
+    stops (member_added c.reply number at) fault _
+    (stops (at_most max_members MembersLimit at count) fault _ (ap (λ b. if b then Err fault else Ok count) full))

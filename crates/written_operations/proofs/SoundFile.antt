@@ -55,7 +55,7 @@ file_sound es g d h done =
         limited = s.limited;
         nodes = all_there (IsNode w.nodes) w.nodes (λ n node is. node_defined es g w i done n node is (s.nodes n node is));
         members = omega (arith, counted, members);
-        lines = s.lines;
+        sites = s.sites;
       };
       places_long = i.long;
       places = all_there (λ p. IfSome p (IsPlaceAmong w.nodes (length w.exceptions))) w.places (λ e o is. place_sound w o (λ p same. i.right e p (is ∙ ap Some same)));

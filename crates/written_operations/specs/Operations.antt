@@ -1,6 +1,7 @@
 -- Operations and attributes (ISO/IEC 19500-1, operation declaration, attribute declaration). An attribute `x` is got by
 -- the operation `_get_x`, and set by `_set_x` unless it is readonly.
 use Rattle.std.specs.Prelude.{ℕ, Bool, true, false, List, [], ◌∷◌, ◌++◌, replicate, Option, Some, None, Result, Ok, Err}
+use Rattle.idl_tree.specs.declared.names.At.{At}
 use Rattle.idl_tree.specs.declared.names.Leaf.{Leaf}
 use Rattle.idl_tree.specs.declared.names.ScopedName.{ScopedName}
 use Rattle.idl_tree.specs.declared.definitions.Attribute.{Attribute}
@@ -10,13 +11,14 @@ use Rattle.idl_tree.specs.declared.definitions.Declaration.{Declaration}
 use Rattle.idl_tree.specs.declared.definitions.Direction.TheVariants.{In, Out}
 use Rattle.idl_tree.specs.declared.definitions.Operation.{Operation}
 use Rattle.idl_tree.specs.Lists.{parts}
+use Rattle.idl_tree.specs.Starts.{leaf_at}
 use Rattle.name_table.specs.Entry.{Entry}
 use Rattle.scoped_names.specs.Reading.{◌>>◌}
 use Rattle.written_types.specs.declared.fault.BuildFault.{BuildFault}
 use Rattle.written_types.specs.declared.fault.BuildFault.TheVariants.{OtherNames}
 use Rattle.written_types.specs.declared.place.Place.{Place}
 use Rattle.written_types.specs.declared.place.Place.TheVariants.{Typed, Raised, Called, Got, GotAndSet}
-use Rattle.written_types.specs.Faults.{each, line_of}
+use Rattle.written_types.specs.Faults.{each}
 use Rattle.written_types.specs.Written.{Written, place_of, placed, unwritten}
 use Rattle.written_types.specs.Declarations.{declaration}
 use Rattle.written_types.specs.SimpleTypes.{entry_found, entry_of, param_type}
@@ -80,10 +82,10 @@ pub record Requested : Type 0 where
 abbrev pub requested : Defined → ℕ → Requested
 requested d request = record { defined = d; request = request }
 
--- a way to call an entry that stands in the line: the frames of its request and its reply, and what it raises
-abbrev pub with_call : Defined → Carried → Bool → List ℕ → Role → ℕ → ℕ → Result Requested BuildFault
-with_call d c oneway raises role e line =
-    frames_added d.types c line >> λ f. Ok (requested (record {
+-- a way to call an entry that stands there: the frames of its request and its reply, and what it raises
+abbrev pub with_call : Defined → Carried → Bool → List ℕ → Role → ℕ → At → Result Requested BuildFault
+with_call d c oneway raises role e at =
+    frames_added d.types c at >> λ f. Ok (requested (record {
       types = f.written;
       operations = d.operations
           ++ record { entry = e; role = role; is_oneway = oneway; request = f.number; raises = raises } ∷ [];
@@ -95,7 +97,7 @@ abbrev pub with_operation : List Entry → ℕ → Defined → Carried → Opera
 with_operation es scope d c o =
     raised es d.types scope (parts_of o.raises) >> λ raises.
     entry_of es scope o.identifier >> λ e.
-    with_call d c o.is_oneway raises Roles.Operation e (line_of o.identifier) >> λ r.
+    with_call d c o.is_oneway raises Roles.Operation e (leaf_at o.identifier) >> λ r.
     with_place r.defined e (Called r.request)
 
 abbrev pub operation : List Entry → ℕ → Defined → Operation → Result Defined BuildFault
@@ -127,20 +129,20 @@ set_raises (Get id get set) = parts_of set
 set_raises (Set id set) = parts set
 
 -- the attribute of the type that has the number is got
-abbrev pub with_get : Defined → ℕ → List ℕ → ℕ → ℕ → Result Requested BuildFault
-with_get d number raises e line =
-    with_carried nothing_carried Out number line >> λ c. with_call d c false raises Roles.Getting e line
+abbrev pub with_get : Defined → ℕ → List ℕ → ℕ → At → Result Requested BuildFault
+with_get d number raises e at =
+    with_carried nothing_carried Out number at >> λ c. with_call d c false raises Roles.Getting e at
 
 -- it is set
-abbrev pub with_set : Defined → ℕ → List ℕ → ℕ → ℕ → Result Requested BuildFault
-with_set d number raises e line =
-    with_carried nothing_carried In number line >> λ c. with_call d c false raises Roles.Setting e line
+abbrev pub with_set : Defined → ℕ → List ℕ → ℕ → At → Result Requested BuildFault
+with_set d number raises e at =
+    with_carried nothing_carried In number at >> λ c. with_call d c false raises Roles.Setting e at
 
 -- it is set too, if it may be
-abbrev pub with_access : Requested → ℕ → Bool → List ℕ → ℕ → ℕ → Result Defined BuildFault
-with_access got number false raises e line = with_place got.defined e (Got got.request)
-with_access got number true raises e line =
-    with_set got.defined number raises e line >> λ set. with_place set.defined e (GotAndSet got.request)
+abbrev pub with_access : Requested → ℕ → Bool → List ℕ → ℕ → At → Result Defined BuildFault
+with_access got number false raises e at = with_place got.defined e (Got got.request)
+with_access got number true raises e at =
+    with_set got.defined number raises e at >> λ set. with_place set.defined e (GotAndSet got.request)
 
 -- one of the attributes, of the type that has the number
 abbrev pub with_attribute : List Entry → ℕ → ℕ → Attributes → Defined → Leaf → Result Defined BuildFault
@@ -148,8 +150,8 @@ with_attribute es scope number a d id =
     raised es d.types scope (get_raises a) >> λ get.
     raised es d.types scope (set_raises a) >> λ set.
     entry_of es scope id >> λ e.
-    with_get d number get e (line_of id) >> λ got.
-    with_access got number (is_set a) set e (line_of id)
+    with_get d number get e (leaf_at id) >> λ got.
+    with_access got number (is_set a) set e (leaf_at id)
 
 -- the identifiers of attributes that are declared together
 abbrev pub attribute_identifiers : Attributes → List Leaf

@@ -10,7 +10,7 @@ use crate::raised::{find_get_raised, find_set_raised};
 use crate::signature::Role;
 use crate::table::OperationTable;
 use idl_tree::definitions::{Attribute, Attributes, Direction};
-use idl_tree::names::{Leaf, Listed};
+use idl_tree::names::{At, Leaf, Listed};
 use scoped_names::Names;
 use std::alloc::Global;
 use written_types::{BuildFault, Place, declared_entry};
@@ -34,12 +34,12 @@ impl OperationTable {
         number: u32,
         raises: Vec<usize>,
         entry: usize,
-        line: usize,
+        at: At,
     ) -> Result<(OperationTable, u32), BuildFault>
-        ensures { Tells result (λ r. requested r.0 r.1) (with_get self number raises.items entry line) }
+        ensures { Tells result (λ r. requested r.0 r.1) (with_get self number raises.items entry at) }
     {
-        let carried = Carried::new(alloc).with_type(Direction::Out, number, line)?;
-        self.with_call(carried, false, raises, Role::Getting, entry, line)
+        let carried = Carried::new(alloc).with_type(Direction::Out, number, at)?;
+        self.with_call(carried, false, raises, Role::Getting, entry, at)
     }
 
     /// It is set.
@@ -49,12 +49,12 @@ impl OperationTable {
         number: u32,
         raises: Vec<usize>,
         entry: usize,
-        line: usize,
+        at: At,
     ) -> Result<(OperationTable, u32), BuildFault>
-        ensures { Tells result (λ r. requested r.0 r.1) (with_set self number raises.items entry line) }
+        ensures { Tells result (λ r. requested r.0 r.1) (with_set self number raises.items entry at) }
     {
-        let carried = Carried::new(alloc).with_type(Direction::In, number, line)?;
-        self.with_call(carried, false, raises, Role::Setting, entry, line)
+        let carried = Carried::new(alloc).with_type(Direction::In, number, at)?;
+        self.with_call(carried, false, raises, Role::Setting, entry, at)
     }
 
     /// An attribute that is got by the request is set too, if it may be.
@@ -66,15 +66,15 @@ impl OperationTable {
         is_set: bool,
         raises: Vec<usize>,
         entry: usize,
-        line: usize,
+        at: At,
     ) -> Result<OperationTable, BuildFault>
         ensures { Tells result (λ table. table)
-            (with_access (requested self request) number is_set raises.items entry line) }
+            (with_access (requested self request) number is_set raises.items entry at) }
     {
         if !is_set {
             return self.with_place(entry, Place::Got { request });
         }
-        let (table, _) = self.with_set(alloc, number, raises, entry, line)?;
+        let (table, _) = self.with_set(alloc, number, raises, entry, at)?;
         table.with_place(entry, Place::GotAndSet { request })
     }
 
@@ -92,12 +92,12 @@ impl OperationTable {
         ensures { Tells result (λ table. table)
             (with_attribute names.now.entries scope number declared.now self identifier.entry) }
     {
-        let line = identifier.token.line;
+        let at = identifier.at();
         let get = find_get_raised(&self.types, alloc, names, scope, declared)?;
         let set = find_set_raised(&self.types, alloc, names, scope, declared)?;
         let entry = declared_entry(names, scope, identifier)?;
-        let (table, request) = self.with_get(alloc, number, get, entry, line)?;
-        table.with_access(alloc, request, number, is_set(declared), set, entry, line)
+        let (table, request) = self.with_get(alloc, number, get, entry, at)?;
+        table.with_access(alloc, request, number, is_set(declared), set, entry, at)
     }
 
     /// Attributes that raise nothing.
@@ -150,7 +150,7 @@ impl OperationTable {
     /// What is written behind attributes of one type.
     ///
     /// # Errors
-    /// The first fault in the order of reading, with its line; want of memory.
+    /// The first fault in the order of reading, want of memory.
     pub(crate) fn with_attribute<'a>(
         self,
         alloc: Global,

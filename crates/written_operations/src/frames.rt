@@ -7,11 +7,11 @@ ghost use Rattle.written_types.specs.Written.{already};
 ghost use Rattle.written_operations.specs.Frames.{all_carried, frame_added, frames_added, nothing_carried, result_carried, with_carried, with_param};
 
 use idl_tree::definitions::{Direction, Operation, Param};
-use idl_tree::names::Listed;
+use idl_tree::names::{At, Listed};
 use scoped_names::Names;
 use std::alloc::Global;
 use type_graph::Node;
-use type_paths::NodeLines;
+use type_paths::NodeSites;
 use written_types::{BuildFault, MemberList, TypeTable};
 
 /// The types that a request and its reply carry.
@@ -39,31 +39,26 @@ impl Carried {
         }
     }
 
-    /// One type more, of what stands in the line.
+    /// One type more, of what stands there.
     ///
     /// # Errors
     /// Those of `MemberList::with_member`.
-    pub fn with_type(
-        self,
-        direction: Direction,
-        number: u32,
-        line: usize,
-    ) -> Result<Carried, BuildFault>
-        ensures { Tells result (λ c. c) (with_carried self direction number line) }
+    pub fn with_type(self, direction: Direction, number: u32, at: At) -> Result<Carried, BuildFault>
+        ensures { Tells result (λ c. c) (with_carried self direction number at) }
     {
         let Carried { request, reply } = self;
         match direction {
             Direction::In => {
-                let request = request.with_member(number, line)?;
+                let request = request.with_member(number, at)?;
                 Ok(Carried { request, reply })
             }
             Direction::Out => {
-                let reply = reply.with_member(number, line)?;
+                let reply = reply.with_member(number, at)?;
                 Ok(Carried { request, reply })
             }
             Direction::InOut => {
-                let request = request.with_member(number, line)?;
-                let reply = reply.with_member(number, line)?;
+                let request = request.with_member(number, at)?;
+                let reply = reply.with_member(number, at)?;
                 Ok(Carried { request, reply })
             }
         }
@@ -82,9 +77,9 @@ impl Carrying {
         ensures { Tells result (λ c. c) (with_param names.now.entries scope self param.now) }
     {
         let Carrying { types, carried } = self;
-        let line = param.identifier.token.line;
+        let at = param.identifier.at();
         let (types, number) = types.with_param_type(alloc, names, scope, &param.param_type)?;
-        let carried = carried.with_type(param.direction, number, line)?;
+        let carried = carried.with_type(param.direction, number, at)?;
         Ok(Carrying { types, carried })
     }
 
@@ -106,24 +101,24 @@ impl Carrying {
     }
 }
 
-/// The result of an operation that stands in the line.
+/// The result of an operation that stands there.
 fn write_result<'a>(
     types: TypeTable,
     alloc: Global,
     names: &Names<'a>,
     scope: usize,
-    line: usize,
+    at: At,
     o: &Operation<'a>,
 ) -> Result<Carrying, BuildFault>
     requires { scope ≤ length names.now.entries }
-    ensures { Tells result (λ c. c) (result_carried names.now.entries types scope line o.now.result_type) }
+    ensures { Tells result (λ c. c) (result_carried names.now.entries types scope at o.now.result_type) }
 {
     let carried = Carried::new(alloc);
     let Some(t) = &o.result_type else {
         return Ok(Carrying { types, carried });
     };
     let (types, number) = types.with_param_type(alloc, names, scope, t)?;
-    let carried = carried.with_type(Direction::Out, number, line)?;
+    let carried = carried.with_type(Direction::Out, number, at)?;
     Ok(Carrying { types, carried })
 }
 
@@ -141,26 +136,26 @@ pub(crate) fn write_carried<'a>(
     requires { scope ≤ length names.now.entries }
     ensures { Tells result (λ c. c) (all_carried names.now.entries types scope o.now) }
 {
-    let line = o.identifier.token.line;
-    let carrying = write_result(types, alloc, names, scope, line, o)?;
+    let at = o.identifier.at();
+    let carrying = write_result(types, alloc, names, scope, at, o)?;
     match &o.params {
         Some(params) => carrying.with_params(alloc, names, scope, params),
         None => Ok(carrying),
     }
 }
 
-/// A frame of an operation that stands in the line, with the lines of what it carries; gives its
+/// A frame of an operation that stands there, with the places of what it carries; gives its
 /// number.
 fn write_frame(
     types: TypeTable,
     members: MemberList,
-    line: usize,
+    at: At,
 ) -> Result<(TypeTable, u32), BuildFault>
-    ensures { Tells result (λ r. already r.0 r.1) (frame_added types members line) }
+    ensures { Tells result (λ r. already r.0 r.1) (frame_added types members at) }
 {
-    let types = types.with_members(members.len(), line)?;
+    let types = types.with_members(members.len(), at)?;
     let (members, held) = members.into_parts();
-    types.with_node(Node::Frame { members }, NodeLines::new(line, held))
+    types.with_node(Node::Frame { members }, NodeSites::new(at, held))
 }
 
 /// The frames of a request and its reply; gives the number of the first.
@@ -170,12 +165,12 @@ fn write_frame(
 pub(crate) fn write_frames(
     types: TypeTable,
     carried: Carried,
-    line: usize,
+    at: At,
 ) -> Result<(TypeTable, u32), BuildFault>
-    ensures { Tells result (λ r. already r.0 r.1) (frames_added types carried line) }
+    ensures { Tells result (λ r. already r.0 r.1) (frames_added types carried at) }
 {
     let Carried { request, reply } = carried;
-    let (types, number) = write_frame(types, request, line)?;
-    let (types, _) = write_frame(types, reply, line)?;
+    let (types, number) = write_frame(types, request, at)?;
+    let (types, _) = write_frame(types, reply, at)?;
     Ok((types, number))
 }

@@ -27,7 +27,7 @@ impl OperationTable {
         requires { scope ≤ length names.now.entries }
         ensures { Tells result (λ table. table) (with_operation names.now.entries scope self carried o.now) }
     {
-        let line = o.identifier.token.line;
+        let at = o.identifier.at();
         let raises = find_all_raised(&self.types, alloc, names, scope, &o.raises)?;
         let entry = declared_entry(names, scope, o.identifier)?;
         let (table, request) = self.with_call(
@@ -36,7 +36,7 @@ impl OperationTable {
             raises,
             Role::Operation,
             entry,
-            line,
+            at,
         )?;
         table.with_place(entry, Place::Called { request })
     }
@@ -44,7 +44,7 @@ impl OperationTable {
     /// What is written behind an operation.
     ///
     /// # Errors
-    /// The first fault in the order of reading, with its line; want of memory.
+    /// The first fault in the order of reading, want of memory.
     pub(crate) fn with_operation<'a>(
         self,
         alloc: Global,

@@ -7,6 +7,7 @@ ghost use Rattle.written_operations.specs.Operations.{declared, requested, undef
 use crate::frames::{Carried, write_frames};
 use crate::signature::{Offered, Role, Signature};
 use idl_tree::definitions::Declaration;
+use idl_tree::names::At;
 use scoped_names::Names;
 use std::alloc::Global;
 use std::marker::Model;
@@ -59,7 +60,7 @@ impl OperationTable {
         })
     }
 
-    /// One more way to call an entry that stands in the line; gives the number of the request's
+    /// One more way to call an entry that stands there; gives the number of the request's
     /// frame.
     ///
     /// # Errors
@@ -71,17 +72,17 @@ impl OperationTable {
         raises: Vec<usize>,
         role: Role,
         entry: usize,
-        line: usize,
+        at: At,
     ) -> Result<(OperationTable, u32), BuildFault>
         ensures { Tells result (λ r. requested r.0 r.1)
-            (with_call self carried is_oneway raises.items role entry line) }
+            (with_call self carried is_oneway raises.items role entry at) }
     {
         let OperationTable {
             types,
             mut operations,
             interfaces,
         } = self;
-        let (types, request) = write_frames(types, carried, line)?;
+        let (types, request) = write_frames(types, carried, at)?;
         operations.push(Signature {
             entry,
             role,

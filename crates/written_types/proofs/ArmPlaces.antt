@@ -1,8 +1,11 @@
 -- Where an arm comes among those whose labels rise.
-use Rattle.std.proofs.Common.{◌≡◌, ◌∙◌, ℕ, zero, suc, ◌<◌, ◌≤◌, true, false, List, [], ◌∷◌, get_or, length, sym, ap, refl, int_lt, arith}
+use Rattle.std.proofs.Common.{◌≡◌, ◌∙◌, ℕ, zero, suc, ◌<◌, ◌≤◌, true, false, List, [], ◌∷◌, get_or, length, sym, ap, refl, int_lt, pos, arith}
 use Rattle.std.specs.Prelude.{insert, if◌then◌else◌}
 use Rattle.written_types.specs.declared.arms.Arm.{Arm}
 use Rattle.written_types.specs.Labels.{with_arm}
+
+abbrev pub first_arm : Arm
+first_arm = record { label = pos 0; label_at = record { token = 0; line = 0 }; number = 0; at = record { token = 0; line = 0 } }
 
 -- before the first whose label is greater, or behind all
 pub arm_comes : (arms : List Arm) (k : ℕ) (new d : Arm) → ((j : ℕ) → j < k → int_lt new.label (get_or arms j d).label ≡ false)

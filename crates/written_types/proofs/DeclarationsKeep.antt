@@ -3,6 +3,7 @@ use Rattle.std.proofs.Common.{◌≡◌, ◌∙◌, inl, ℕ, ◌+◌, ◌≤◌
 use Rattle.std.specs.Prelude.{slice_get}
 use Rattle.std.specs.List.{flat_map}
 use Rattle.std.proofs.lemmas.List.Elements.{All-cons, All-nil}
+use Rattle.idl_tree.specs.declared.names.At.{At}
 use Rattle.idl_tree.specs.declared.names.Leaf.{Leaf}
 use Rattle.idl_tree.specs.declared.types.Declarator.{Declarator}
 use Rattle.idl_tree.specs.declared.types.Member.{Member}
@@ -19,6 +20,7 @@ use Rattle.type_graph.specs.declared.node.Node.TheVariants.{Frame, Text}
 use Rattle.type_graph.specs.GraphRules.{IsNode, IsPart, all_members}
 use Rattle.idl_tree.specs.declared.kinds.EntryKind.{EntryKind}
 use Rattle.idl_tree.specs.declared.kinds.EntryKind.TheVariants as Kinds
+use Rattle.idl_tree.specs.Starts.{leaf_at}
 use Rattle.name_table.specs.Entry.{Entry}
 use Rattle.name_table.proofs.Stability.{get_push_last}
 use Rattle.scoped_names.specs.Faults.{has_body}
@@ -27,14 +29,14 @@ use Rattle.scoped_names.specs.Reading.{◌>>◌}
 use Rattle.name_steps.specs.Steps.{Declares, DeclaresConst, DeclaresTypedef, IsNew as TestsNew, const_steps, const_type_steps, declaration_steps, declarator_steps, except_steps, member_steps, size_step, type_dcl_steps, type_steps, typedef_steps}
 use Rattle.name_steps.proofs.Asks.{const_type_asks, sizes_ask}
 use Rattle.scoped_names.proofs.Parts.{Closed, both_closed, closed, each_closed, one_closed}
-use Rattle.type_paths.specs.Lines.{Lines}
+use Rattle.type_paths.specs.Sites.{Sites}
 use Rattle.written_types.specs.declared.fault.BuildFault.{BuildFault}
 use Rattle.written_types.specs.declared.place.Place.{Place}
 use Rattle.written_types.specs.declared.place.Place.TheVariants.{Raised, Typed}
 use Rattle.written_types.specs.Declarations.{ahead, declaration, except, exception_added, id_member, type_dcl, with_typedef}
-use Rattle.written_types.specs.Faults.{at_most, each, line_of, max_nodes}
+use Rattle.written_types.specs.Faults.{at_most, each, max_nodes}
 use Rattle.written_types.specs.Sound.{BeginsWithText, IsIdFrame}
-use Rattle.written_types.specs.SimpleTypes.{array_type, const_type, declarator_line, entry_of, enum_type}
+use Rattle.written_types.specs.SimpleTypes.{array_type, const_type, declarator_at, entry_of, enum_type}
 use Rattle.written_types.specs.Types.{WithMembers, struct_type, type_spec, union_type, with_member, with_members_of}
 use Rattle.written_types.specs.Written.{Numbered, Written, added, already, counted, next, opened, placed, raised_at, with_node}
 use Rattle.written_types.proofs.Defining.{raise_kept, raised_is}
@@ -90,8 +92,8 @@ ahead_keeps es g begun w scope id kind i body (s, ss) =
     let d = entered es g scope id kind s.holds.entries.0 s.new in
     let goes = Goes es (Stands scope id kind ∷ g) begun w in
     given goes (entry_of es scope id) d.entry _ (entry_is es scope id d.entry d.is)
-    (and_then (Opens es (Stands scope id kind ∷ g) begun w d.entry) goes (opened w d.entry (line_of id)) (λ o. Ok o.written)
-    (opens_fine es g begun w scope id kind d (line_of id) i body) (λ o h. record { keeps = h.keeps; later = h.later }))
+    (and_then (Opens es (Stands scope id kind ∷ g) begun w d.entry) goes (opened w d.entry (leaf_at id)) (λ o. Ok o.written)
+    (opens_fine es g begun w scope id kind d (leaf_at id) i body) (λ o h. record { keeps = h.keeps; later = h.later }))
 
 wrote_goes : (es : List Entry) (g : List Introduction) (begun : ℕ → Type 0) (w : Written) (r : Result Numbered BuildFault) → Fine (Wrote es g begun w) r
     → Fine (Goes es g begun w) (r >> λ n. Ok n.written)
@@ -105,8 +107,8 @@ type_dcl_keeps es g begun w scope (TypeDcls.Typedef t declarators) i h =
     let mid = behind es g scope (type_steps t) in
     let last = behind es mid scope others in
     subst (λ k. Fine (Goes es k begun w) (type_dcl es w scope (TypeDcls.Typedef t declarators))) (sym (both_behind es g scope (type_steps t) others (type_closed t) split.0))
-    (and_then (Wrote es mid begun w) (Goes es last begun w) (type_spec es w scope (declarator_line declarators.first) t)
-    (λ n. each (with_typedef es scope n.number) n.written (parts declarators)) (spec_keeps es g begun w scope (declarator_line declarators.first) t i split.0) (λ n wrote.
+    (and_then (Wrote es mid begun w) (Goes es last begun w) (type_spec es w scope (declarator_at declarators.first) t)
+    (λ n. each (with_typedef es scope n.number) n.written (parts declarators)) (spec_keeps es g begun w scope (declarator_at declarators.first) t i split.0) (λ n wrote.
     weaker (Names es last begun w n.number) (Goes es last begun w) (each (with_typedef es scope n.number) n.written (parts declarators)) (λ v h. record { keeps = h.keeps; later = h.later })
     (each_keeps es (λ k v. Names es k begun w n.number v) (with_typedef es scope n.number) (typedef_steps t) scope (typedef_closed t)
     (λ k v d settled has. typedef_keeps es k begun w scope n.number t v d settled has) mid n.written (parts declarators) split.1
@@ -138,9 +140,9 @@ pub member_keeps : (es : List Entry) (g : List Introduction) (begun : ℕ → Ty
     → Fine (HasMembers es (behind es g scope (member_steps x)) begun w before 1) (with_member es scope m x)
 member_keeps es g begun w before scope m x h settled =
     let split = both es g scope (type_steps x.member_type) (flat_map declarator_steps (parts x.declarators)) (type_closed x.member_type) settled in
-    let line = declarator_line x.declarators.first in
-    first_members es begun g w before 1 scope m x.member_type x.declarators (type_spec es m.written scope line x.member_type) h settled
-    (spec_keeps es g begun m.written scope line x.member_type h.keeps split.0)
+    let at = declarator_at x.declarators.first in
+    first_members es begun g w before 1 scope m x.member_type x.declarators (type_spec es m.written scope at x.member_type) h settled
+    (spec_keeps es g begun m.written scope at x.member_type h.keeps split.0)
 
 member_closed : (x : Member) → Closed (member_steps x)
 member_closed x = both_closed (type_closed x.member_type) (each_closed declarator_steps declarator_closed (parts x.declarators))
@@ -155,18 +157,18 @@ pub record Frames (es : List Entry) (g : List Introduction) (begun : ℕ → Typ
   pub places : n.written.places ≡ w.places
   pub exceptions : n.written.exceptions ≡ w.exceptions
 
-pub frame_fine : (es : List Entry) (g : List Introduction) (begun : ℕ → Type 0) (w : Written) (ms : List ℕ) (lines : Lines) (line : ℕ) → Keeps es g begun w → IsNode w.nodes (Frame ms)
-    → Fine (Frames es g begun w ms) (counted w (length ms) line >> λ v. added v (Frame ms) lines)
-frame_fine es g begun w ms lines line i right =
-    and_then (Counts es g begun w (length ms)) (Frames es g begun w ms) (counted w (length ms) line) (λ v. added v (Frame ms) lines)
-    (counted_fine es g begun w (length ms) line i) (λ v counts.
-    and_then (λ k. (k ≡ next v + 1) × (next v + 1 ≤ max_nodes)) (Frames es g begun w ms) (at_most max_nodes Nodes lines.line (next v + 1)) _
-    (at_most_fine max_nodes Nodes lines.line (next v + 1)) (λ k fits.
+pub frame_fine : (es : List Entry) (g : List Introduction) (begun : ℕ → Type 0) (w : Written) (ms : List ℕ) (sites : Sites) (at : At) → Keeps es g begun w → IsNode w.nodes (Frame ms)
+    → Fine (Frames es g begun w ms) (counted w (length ms) at >> λ v. added v (Frame ms) sites)
+frame_fine es g begun w ms sites at i right =
+    and_then (Counts es g begun w (length ms)) (Frames es g begun w ms) (counted w (length ms) at) (λ v. added v (Frame ms) sites)
+    (counted_fine es g begun w (length ms) at i) (λ v counts.
+    and_then (λ k. (k ≡ next v + 1) × (next v + 1 ≤ max_nodes)) (Frames es g begun w ms) (at_most max_nodes Nodes sites.at (next v + 1)) _
+    (at_most_fine max_nodes Nodes sites.at (next v + 1)) (λ k fits.
     let right_there = subst (λ graph. IsNode graph (Frame ms)) (sym counts.nodes) right in
     let room = subst (λ graph. all_members graph + length ms ≤ v.members) (sym counts.nodes) counts.room in
     record {
-      keeps = node_kept es g begun v (Frame ms) lines counts.keeps right_there (λ is. cc) fits.1 room;
-      later = later_on w v (with_node v (Frame ms) lines) counts.later (node_later v (Frame ms) lines);
+      keeps = node_kept es g begun v (Frame ms) sites counts.keeps right_there (λ is. cc) fits.1 room;
+      later = later_on w v (with_node v (Frame ms) sites) counts.later (node_later v (Frame ms) sites);
       frame = get_push_last v.nodes (Frame ms);
       number = ap length counts.nodes;
       more = length-append v.nodes (Frame ms ∷ []) ∙ ap (λ graph. length graph + 1) counts.nodes;
@@ -174,16 +176,16 @@ frame_fine es g begun w ms lines line i right =
       exceptions = counts.exceptions;
     }))
 
-exception_fine : (es : List Entry) (g : List Introduction) (begun : ℕ → Type 0) (w : Written) (e line : ℕ) (x : Entry) (m : WithMembers)
+exception_fine : (es : List Entry) (g : List Introduction) (begun : ℕ → Type 0) (w : Written) (e : ℕ) (site : At) (x : Entry) (m : WithMembers)
     → HasMembers es g (with_begun e begun) w (9 ∷ []) 1 m → slice_get es e ≡ Some x → x.kind ≡ Kinds.Exception → (begun e → ⊥)
-    → Fine (Goes es g begun w) (exception_added m e line)
-exception_fine es g begun w e line x m h at kind ended =
+    → Fine (Goes es g begun w) (exception_added m e site)
+exception_fine es g begun w e site x m h at kind ended =
     let ms = m.members.numbers in
     let v = m.written in
-    let lines : Lines = record { line = line; held = m.members.lines } in
+    let sites : Sites = record { at = site; held = m.members.sites } in
     subst (Fine (Goes es g begun w)) regrouped
-    (and_then (Frames es g (with_begun e begun) v ms) (Goes es g begun w) (counted v (length ms) line >> λ u. added u (Frame ms) lines) (λ frame. raised_at frame.written e frame.number)
-    (frame_fine es g (with_begun e begun) v ms lines line h.keeps h.right.members) (λ f frames.
+    (and_then (Frames es g (with_begun e begun) v ms) (Goes es g begun w) (counted v (length ms) site >> λ u. added u (Frame ms) sites) (λ frame. raised_at frame.written e frame.number)
+    (frame_fine es g (with_begun e begun) v ms sites site h.keeps h.right.members) (λ f frames.
     let none = no_place x.kind (slice_get f.written.places e) kind (frames.keeps.unplaced e x (inl refl) at) in
     let knows = frames.keeps.begun_known e (inl refl) in
     let text = frames.keeps.basic 9 (Text 0) refl in
@@ -207,12 +209,12 @@ exception_fine es g begun w e line x m h at kind ended =
     no_place Kinds.Exception o is h = h
     no_place k o is h = absurd cc
 
-    regrouped : ((counted m.written (length m.members.numbers) line >> λ u. added u (Frame m.members.numbers) (record { line = line; held = m.members.lines })) >> λ frame. raised_at frame.written e frame.number)
-        ≡ exception_added m e line
-    regrouped = by (counted m.written (length m.members.numbers) line)
+    regrouped : ((counted m.written (length m.members.numbers) site >> λ u. added u (Frame m.members.numbers) (record { at = site; held = m.members.sites })) >> λ frame. raised_at frame.written e frame.number)
+        ≡ exception_added m e site
+    regrouped = by (counted m.written (length m.members.numbers) site)
       where
-        by : (r : Result Written BuildFault) → ((r >> λ u. added u (Frame m.members.numbers) (record { line = line; held = m.members.lines })) >> λ frame. raised_at frame.written e frame.number)
-            ≡ (r >> λ u. added u (Frame m.members.numbers) (record { line = line; held = m.members.lines }) >> λ frame. raised_at frame.written e frame.number)
+        by : (r : Result Written BuildFault) → ((r >> λ u. added u (Frame m.members.numbers) (record { at = site; held = m.members.sites })) >> λ frame. raised_at frame.written e frame.number)
+            ≡ (r >> λ u. added u (Frame m.members.numbers) (record { at = site; held = m.members.sites }) >> λ frame. raised_at frame.written e frame.number)
         by (Ok u) = refl
         by (Err fault) = refl
 
@@ -233,7 +235,7 @@ except_keeps es g begun w scope x i (declares, rest) =
     let ended : begun e → ⊥ = λ b. new (i.begun_known e b) in
     let begins = begins_unplaced es g begun w e d.value scope id i second at d.kind_is (unplaced es g begun w e d.value i at new) in
     let more = behind es named (e + 1) inner in
-    let start : HasMembers es named (with_begun e begun) w (9 ∷ []) 1 (with_members_of w (id_member (line_of id))) = record {
+    let start : HasMembers es named (with_begun e begun) w (9 ∷ []) 1 (with_members_of w (id_member (leaf_at id))) = record {
       keeps = begins;
       later = later_none w;
       right = record {
@@ -247,11 +249,11 @@ except_keeps es g begun w scope x i (declares, rest) =
     } in
     subst (λ k. Fine (Goes es k begun w) (except es w scope x)) (sym inside.whole)
     (given (Goes es more begun w) (entry_of es scope id) e _ (entry_is es scope id e second)
-    (and_then (HasMembers es more (with_begun e begun) w (9 ∷ []) 1) (Goes es more begun w) (each (with_member es (e + 1)) (with_members_of w (id_member (line_of id))) x.members.items)
-    (λ m. exception_added m e (line_of id))
+    (and_then (HasMembers es more (with_begun e begun) w (9 ∷ []) 1) (Goes es more begun w) (each (with_member es (e + 1)) (with_members_of w (id_member (leaf_at id))) x.members.items)
+    (λ m. exception_added m e (leaf_at id))
     (each_keeps es (λ k m. HasMembers es k (with_begun e begun) w (9 ∷ []) 1 m) (with_member es (e + 1)) member_steps (e + 1) member_closed
-    (λ k m y settled has. member_keeps es k (with_begun e begun) w (9 ∷ []) (e + 1) m y has settled) named (with_members_of w (id_member (line_of id))) x.members.items inside.inner start)
-    (λ m h. exception_fine es more begun w e (line_of id) d.value m h at d.kind_is ended)))
+    (λ k m y settled has. member_keeps es k (with_begun e begun) w (9 ∷ []) (e + 1) m y has settled) named (with_members_of w (id_member (leaf_at id))) x.members.items inside.inner start)
+    (λ m h. exception_fine es more begun w e (leaf_at id) d.value m h at d.kind_is ended)))
 
 -- ---- declarations
 

@@ -4,6 +4,7 @@ use Rattle.std.specs.Prelude.{if◌then◌else◌, nat_lt, slice_get, slice_set,
 use Rattle.std.specs.List.{AllByRecursion}
 use Rattle.std.proofs.lemmas.List.{length-set}
 use Rattle.std.proofs.lemmas.Option.{slice_get_within}
+use Rattle.idl_tree.specs.declared.names.At.{At}
 use Rattle.basic_types.specs.BasicNodes.{basic_nodes}
 use Rattle.type_graph.specs.declared.node.Node.{Node}
 use Rattle.type_graph.specs.GraphRules.{IsNoFrame, IsNode, IsPart, all_members, members_in}
@@ -13,7 +14,7 @@ use Rattle.name_table.specs.Entry.{Entry}
 use Rattle.scoped_names.specs.Faults.{has_body}
 use Rattle.scoped_names.specs.Introductions.{Introduction}
 use Rattle.scoped_names.specs.Tests.{is_of}
-use Rattle.type_paths.specs.Lines.{Lines}
+use Rattle.type_paths.specs.Sites.{Sites}
 use Rattle.written_types.specs.declared.fault.BuildFault.{BuildFault}
 use Rattle.written_types.specs.declared.fault.BuildFault.TheVariants.{OtherNames}
 use Rattle.written_types.specs.declared.place.Place.{Place}
@@ -49,16 +50,16 @@ basic_defined n node is same =
 -- ---- structures and unions that are declared
 
 -- the next node has no definition, and is that of the entry
-abbrev pub with_open : Written → ℕ → Lines → Written
-with_open w e lines = record (with_node w undefined lines) { places = slice_set w.places e (Some (Typed (next w))) }
+abbrev pub with_open : Written → ℕ → Sites → Written
+with_open w e sites = record (with_node w undefined sites) { places = slice_set w.places e (Some (Typed (next w))) }
 
-pub open_kept : (es : List Entry) (g more : List Introduction) (begun : ℕ → Type 0) (w : Written) (e : ℕ) (x : Entry) (lines : Lines)
+pub open_kept : (es : List Entry) (g more : List Introduction) (begun : ℕ → Type 0) (w : Written) (e : ℕ) (x : Entry) (sites : Sites)
     → Keeps es g begun w → Widens es g e more → slice_get w.places e ≡ Some None → slice_get es e ≡ Some x → has_body x.kind ≡ true
-    → (Known es g e → ⊥) → next w + 1 ≤ max_nodes → Keeps es more begun (with_open w e lines)
-open_kept es g more begun w e x lines i widens none at body new fits =
+    → (Known es g e → ⊥) → next w + 1 ≤ max_nodes → Keeps es more begun (with_open w e sites)
+open_kept es g more begun w e x sites i widens none at body new fits =
     let s = i.sound in
     let all = s.counted in
-    let sound = grown_sound w undefined lines s (inl refl) fits (omega (arith, all)) in
+    let sound = grown_sound w undefined sites s (inl refl) fits (omega (arith, all)) in
     record {
       long = length-set w.places e (Some (Typed (next w))) ∙ i.long;
       known = λ f q is. known f q (cases f q is);
@@ -74,7 +75,7 @@ open_kept es g more begun w e x lines i widens none at body new fits =
       ahead = λ f n has place yet. ahead f n has yet (cases f (Typed n) place);
       left = λ n is. left n (push_cases w.nodes undefined n undefined is);
       basic = λ n old is. push_low w.nodes undefined n old (i.basic n old is);
-      sound = record { limited = sound.limited; nodes = sound.nodes; counted = sound.counted; members = sound.members; lines = sound.lines; exceptions = sound.exceptions };
+      sound = record { limited = sound.limited; nodes = sound.nodes; counted = sound.counted; members = sound.members; sites = sound.sites; exceptions = sound.exceptions };
     }
   where
     cases : (f : ℕ) (q : Place) → slice_get (slice_set w.places e (Some (Typed (next w)))) f ≡ Some (Some q)
@@ -164,8 +165,8 @@ open_kept es g more begun w e x lines i widens none at body new fits =
       again = λ done. absurd (new (i.done_known e (widens.undone (suc e) done)));
     }
 
-pub open_later : (w : Written) (e : ℕ) (lines : Lines) → slice_get w.places e ≡ Some None → Later w (with_open w e lines)
-open_later w e lines none = record {
+pub open_later : (w : Written) (e : ℕ) (sites : Sites) → slice_get w.places e ≡ Some None → Later w (with_open w e sites)
+open_later w e sites none = record {
   nodes = push_grows w.nodes undefined;
   places = (place_later w e (Typed (next w)) w.exceptions none (le_refl (length w.exceptions))).places;
   exceptions = le_refl (length w.exceptions);
@@ -173,18 +174,18 @@ open_later w e lines none = record {
 
 -- ---- their definitions
 
-pub held_long : (lines : List Lines) (number : ℕ) (held : List ℕ) → length (held_at lines number held) ≡ length lines
-held_long lines number held = by (nat_lt number 14) (slice_get lines (number - 14))
+pub held_long : (sites : List Sites) (number : ℕ) (held : List At) → length (held_at sites number held) ≡ length sites
+held_long sites number held = by (nat_lt number 14) (slice_get sites (number - 14))
   where
-    by : (b : Bool) (o : Option Lines) → length (if b then lines else with_held lines (number - 14) held o) ≡ length lines
+    by : (b : Bool) (o : Option Sites) → length (if b then sites else with_held sites (number - 14) held o) ≡ length sites
     by true o = refl
     by false None = refl
-    by false (Some l) = length-set lines (number - 14) (record { line = l.line; held = held })
+    by false (Some l) = length-set sites (number - 14) (record { at = l.at; held = held })
 
-abbrev pub with_defined : Written → ℕ → Node → List ℕ → Written
-with_defined w number node held = record w { nodes = slice_set w.nodes number node; lines = held_at w.lines number held }
+abbrev pub with_defined : Written → ℕ → Node → List At → Written
+with_defined w number node held = record w { nodes = slice_set w.nodes number node; sites = held_at w.sites number held }
 
-pub define_kept : (es : List Entry) (g : List Introduction) (begun : ℕ → Type 0) (w : Written) (e number : ℕ) (node : Node) (held : List ℕ)
+pub define_kept : (es : List Entry) (g : List Introduction) (begun : ℕ → Type 0) (w : Written) (e number : ℕ) (node : Node) (held : List At)
     → Keeps es g (with_begun e begun) w → HasBody es e → slice_get w.places e ≡ Some (Some (Typed number)) → (begun e → ⊥) → IsDone g (suc e)
     → IsNode w.nodes node → (node ≡ undefined → ⊥) → IsNoFrame node → all_members w.nodes + members_in node ≤ w.members
     → Keeps es g begun (with_defined w number node held)
@@ -211,7 +212,7 @@ define_kept es g begun w e number node held i body place ended done right define
         nodes = λ n old is. sound n old grows (set_cases w.nodes number undefined node n old open_yet is);
         counted = let more = sum_set members_in w.nodes number undefined node open_yet refl in omega (arith, more, room);
         members = i.sound.members;
-        lines = length-set w.nodes number node ∙ i.sound.lines ∙ ap (λ n. n + 14) (sym (held_long w.lines number held));
+        sites = length-set w.nodes number node ∙ i.sound.sites ∙ ap (λ n. n + 14) (sym (held_long w.sites number held));
         exceptions = let long = length-set w.nodes number node in let few = i.sound.exceptions in omega (arith, long, few);
       };
     }
@@ -279,7 +280,7 @@ define_kept es g begun w e number node held i body place ended done right define
     sound n old grows (inl (same, is)) = subst (IsRight (slice_set w.nodes number node)) is (inr (node_stays w.nodes (slice_set w.nodes number node) grows node right))
     sound n old grows (inr (differs, is)) = right_stays w.nodes (slice_set w.nodes number node) grows old (i.sound.nodes n old is)
 
-pub define_later : (w : Written) (number : ℕ) (node : Node) (held : List ℕ) → slice_get w.nodes number ≡ Some undefined → IsNoFrame node
+pub define_later : (w : Written) (number : ℕ) (node : Node) (held : List At) → slice_get w.nodes number ≡ Some undefined → IsNoFrame node
     → Later w (with_defined w number node held)
 define_later w number node held open_yet plain = record {
   nodes = set_grows w.nodes number node open_yet plain;
@@ -287,7 +288,7 @@ define_later w number node held open_yet plain = record {
   exceptions = le_refl (length w.exceptions);
 }
 
-pub node_set_is : (w : Written) (number : ℕ) (node : Node) (held : List ℕ) → slice_get w.nodes number ≡ Some undefined
+pub node_set_is : (w : Written) (number : ℕ) (node : Node) (held : List At) → slice_get w.nodes number ≡ Some undefined
     → node_set w number node held ≡ Ok (with_defined w number node held)
 node_set_is w number node held open_yet =
     ap (λ o. if is_undefined o then Ok (with_defined w number node held) else Err OtherNames) open_yet

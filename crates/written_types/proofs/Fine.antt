@@ -2,6 +2,7 @@
 use Rattle.std.proofs.Common.{◌≡◌, ℕ, ◌≤◌, Bool, true, false, Result, Ok, Err, refl, sym, subst}
 use Rattle.std.specs.Prelude.{if◌then◌else◌, nat_lt, MatchResult}
 use Rattle.std.proofs.lemmas.Bool.{ltb-false}
+use Rattle.idl_tree.specs.declared.names.At.{At}
 use Rattle.type_graph.specs.declared.fault.GraphLimit.{GraphLimit}
 use Rattle.scoped_names.specs.Reading.{◌>>◌}
 use Rattle.written_types.specs.declared.fault.BuildFault.{BuildFault}
@@ -25,9 +26,9 @@ pub weaker : {A : Type 0} (P Q : A → Type 0) (r : Result A BuildFault) → ((x
 weaker P Q (Ok x) f h = f x h
 weaker P Q (Err fault) f h = h
 
-pub at_most_fine : (most : ℕ) (which : GraphLimit) (line n : ℕ) → Fine (λ k. (k ≡ n) × (n ≤ most)) (at_most most which line n)
-at_most_fine most which line n = by (nat_lt most n) refl
+pub at_most_fine : (most : ℕ) (which : GraphLimit) (at : At) (n : ℕ) → Fine (λ k. (k ≡ n) × (n ≤ most)) (at_most most which at n)
+at_most_fine most which at n = by (nat_lt most n) refl
   where
-    by : (b : Bool) → nat_lt most n ≡ b → Fine (λ k. (k ≡ n) × (n ≤ most)) (if b then Err (limit which line) else Ok n)
+    by : (b : Bool) → nat_lt most n ≡ b → Fine (λ k. (k ≡ n) × (n ≤ most)) (if b then Err (limit which most at) else Ok n)
     by true over = tt
     by false over = (refl, ltb-false most n over)

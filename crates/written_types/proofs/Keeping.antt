@@ -56,7 +56,7 @@ pub record IsSound (w : Written) : Type 0 where
   pub nodes : (n : ℕ) (node : Node) → slice_get w.nodes n ≡ Some node → IsRight w.nodes node
   pub counted : all_members w.nodes ≤ w.members
   pub members : w.members ≤ max_all_members
-  pub lines : length w.nodes ≡ length w.lines + 14
+  pub sites : length w.nodes ≡ length w.sites + 14
   pub exceptions : length w.exceptions ≤ length w.nodes
 
 -- a node without definition is that of a structure or a union that has none yet

@@ -4,6 +4,7 @@ use Rattle.std.specs.Prelude.{◌||◌, if◌then◌else◌, IfSome}
 use Rattle.std.specs.List.{AllByRecursion, list_any}
 use Rattle.std.specs.Ordering.{int_eq}
 use Rattle.std.proofs.lemmas.Int.{ints}
+use Rattle.idl_tree.specs.declared.names.At.{At}
 use Rattle.type_graph.specs.declared.node.Node.{Node}
 use Rattle.type_graph.specs.declared.fault.GraphLimit.TheVariants.{Members as MembersLimit}
 use Rattle.type_graph.specs.GraphRules.{IsPart}
@@ -12,9 +13,10 @@ use Rattle.written_types.specs.declared.arms.Arm.{Arm}
 use Rattle.written_types.specs.declared.arms.DefaultArm.{DefaultArm}
 use Rattle.written_types.specs.declared.fault.BuildFault.TheVariants.{Types}
 use Rattle.written_types.specs.declared.fault.TypeFault.TheVariants.{LabelTwice}
+use Rattle.written_types.specs.declared.labels.LabelValue.{LabelValue}
 use Rattle.written_types.specs.declared.labels.Switch.{Switch}
 use Rattle.written_types.specs.Faults.{at_most, max_members}
-use Rattle.written_types.specs.Labels.{Arms, CaseLabels, is_label, is_taken, is_value, value_added, with_arm, with_arms, with_case, with_default}
+use Rattle.written_types.specs.Labels.{Arms, CaseLabels, is_label, is_taken, is_value, labelled, taken_at, value_added, with_arm, with_arms, with_case, with_default}
 use Rattle.written_types.proofs.Fine.{Fine, and_then, at_most_fine}
 use Rattle.written_types.proofs.Growing.{Grows, part_stays}
 
@@ -67,46 +69,46 @@ pub record AreArms (graph : List Node) (s : Switch) (a : Arms) : Type 0 where
   pub default : IfSome a.default (λ d. IsPart graph d.number)
 
 -- no two of them are one
-abbrev pub Apart : List ℤ → Type 0
+abbrev pub Apart : List LabelValue → Type 0
 Apart [] = Unit {0}
-Apart (n ∷ ns) = AllByRecursion (λ m. int_eq n m ≡ false) ns × Apart ns
+Apart (l ∷ ls) = AllByRecursion (λ m. int_eq l.value m.value ≡ false) ls × Apart ls
 
 pub record AreLabels (s : Switch) (a : Arms) (ls : CaseLabels) : Type 0 where
   pub limited : length a.arms + length ls.values ≤ max_members
-  pub values : AllByRecursion (λ n. (is_value s.values n ≡ true) × (is_label a.arms n ≡ false)) ls.values
+  pub values : AllByRecursion (λ l. (is_value s.values l.value ≡ true) × (is_label a.arms l.value ≡ false)) ls.values
   pub apart : Apart ls.values
 
-abbrev IsLabelOf : Switch → Arms → ℤ → Type 0
-IsLabelOf s a n = (is_value s.values n ≡ true) × (is_label a.arms n ≡ false)
+abbrev IsLabelOf : Switch → Arms → LabelValue → Type 0
+IsLabelOf s a l = (is_value s.values l.value ≡ true) × (is_label a.arms l.value ≡ false)
 
 all_end : {T : Type 0} (P : T → Type 0) (xs : List T) (x : T) → AllByRecursion P xs → P x → AllByRecursion P (xs ++ x ∷ [])
 all_end P [] x h has = (has, tt)
 all_end P (y ∷ ys) x (h, hs) has = (h, all_end P ys x hs has)
 
-apart_end : (ns : List ℤ) (n : ℤ) → Apart ns → list_any (λ m. int_eq m n) ns ≡ false → Apart (ns ++ n ∷ [])
-apart_end [] n h free = (tt, tt)
-apart_end (m ∷ ms) n (first, rest) free =
-    let parts = or_false (int_eq m n) (list_any (λ k. int_eq k n) ms) free in
-    (all_end (λ k. int_eq m k ≡ false) ms n first parts.0, apart_end ms n rest parts.1)
+apart_end : (ls : List LabelValue) (l : LabelValue) → Apart ls → list_any (λ m. int_eq m.value l.value) ls ≡ false → Apart (ls ++ l ∷ [])
+apart_end [] l h free = (tt, tt)
+apart_end (m ∷ ms) l (first, rest) free =
+    let parts = or_false (int_eq m.value l.value) (list_any (λ k. int_eq k.value l.value) ms) free in
+    (all_end (λ k. int_eq m.value k.value ≡ false) ms l first parts.0, apart_end ms l rest parts.1)
 
 -- a value that no arm and no label before has
-pub value_fine : (s : Switch) (a : Arms) (ls : CaseLabels) (line : ℕ) (n : ℤ) → AreLabels s a ls → is_value s.values n ≡ true → Fine (AreLabels s a) (value_added a ls line n)
-value_fine s a ls line n h value = by (is_taken a ls n) refl
+pub value_fine : (s : Switch) (a : Arms) (ls : CaseLabels) (at : At) (n : ℤ) → AreLabels s a ls → is_value s.values n ≡ true → Fine (AreLabels s a) (value_added a ls at n)
+value_fine s a ls at n h value = by (is_taken a ls n) refl
   where
-    by : (b : Bool) → is_taken a ls n ≡ b → Fine (AreLabels s a) (if b then Err (Types (LabelTwice line))
-        else at_most max_members MembersLimit line (length a.arms + length ls.values + 1) >> λ count. Ok (record ls { values = ls.values ++ n ∷ [] }))
+    by : (b : Bool) → is_taken a ls n ≡ b → Fine (AreLabels s a) (if b then Err (Types (LabelTwice at (taken_at a ls n)))
+        else at_most max_members MembersLimit at (length a.arms + length ls.values + 1) >> λ count. Ok (record ls { values = ls.values ++ labelled n at ∷ [] }))
     by true taken = tt
     by false free =
-        let parts = or_false (is_label a.arms n) (list_any (λ m. int_eq m n) ls.values) free in
-        let more = length-append ls.values (n ∷ []) in
+        let parts = or_false (is_label a.arms n) (list_any (λ l. int_eq l.value n) ls.values) free in
+        let more = length-append ls.values (labelled n at ∷ []) in
         and_then (λ k. (k ≡ length a.arms + length ls.values + 1) × (length a.arms + length ls.values + 1 ≤ max_members)) (AreLabels s a)
-        (at_most max_members MembersLimit line (length a.arms + length ls.values + 1)) (λ count. Ok (record ls { values = ls.values ++ n ∷ [] }))
-        (at_most_fine max_members MembersLimit line (length a.arms + length ls.values + 1)) (λ k fits.
+        (at_most max_members MembersLimit at (length a.arms + length ls.values + 1)) (λ count. Ok (record ls { values = ls.values ++ labelled n at ∷ [] }))
+        (at_most_fine max_members MembersLimit at (length a.arms + length ls.values + 1)) (λ k fits.
         let le = fits.1 in
         record {
           limited = omega (arith, more, le);
-          values = all_end (IsLabelOf s a) ls.values n h.values (value, parts.0);
-          apart = apart_end ls.values n h.apart parts.1;
+          values = all_end (IsLabelOf s a) ls.values (labelled n at) h.values (value, parts.0);
+          apart = apart_end ls.values (labelled n at) h.apart parts.1;
         })
 
 -- ---- a case has its arms
@@ -130,41 +132,41 @@ length_with (arm ∷ arms) new = by (int_lt new.label arm.label) (length_with ar
     by false others = omega (arith, others)
 
 -- arms that rise, where these labels are free
-abbrev IsFree : Switch → List Arm → ℤ → Type 0
-IsFree s arms n = (is_value s.values n ≡ true) × (is_label arms n ≡ false)
+abbrev IsFree : Switch → List Arm → LabelValue → Type 0
+IsFree s arms l = (is_value s.values l.value ≡ true) × (is_label arms l.value ≡ false)
 
-still_free : (s : Switch) (arms : List Arm) (new : Arm) (ns : List ℤ) → AllByRecursion (IsFree s arms) ns → AllByRecursion (λ m. int_eq new.label m ≡ false) ns
-    → AllByRecursion (IsFree s (with_arm arms new)) ns
+still_free : (s : Switch) (arms : List Arm) (new : Arm) (ls : List LabelValue) → AllByRecursion (IsFree s arms) ls → AllByRecursion (λ m. int_eq new.label m.value ≡ false) ls
+    → AllByRecursion (IsFree s (with_arm arms new)) ls
 still_free s arms new [] h apart = tt
-still_free s arms new (n ∷ ns) (h, hs) (differs, rest) = ((h.0, arm_label arms new n h.1 differs), still_free s arms new ns hs rest)
+still_free s arms new (l ∷ ls) (h, hs) (differs, rest) = ((h.0, arm_label arms new l.value h.1 differs), still_free s arms new ls hs rest)
 
 pub record AreRisen (graph : List Node) (s : Switch) (count : ℕ) (arms : List Arm) : Type 0 where
   pub long : length arms ≡ count
   pub rise : Rise arms
   pub each : AllByRecursion (λ arm. IsPart graph arm.number × (is_value s.values arm.label ≡ true)) arms
 
-risen_with : (graph : List Node) (s : Switch) (count : ℕ) (arms : List Arm) (number line : ℕ) (ns : List ℤ) → AreRisen graph s count arms → IsPart graph number
-    → AllByRecursion (IsFree s arms) ns → Apart ns → AreRisen graph s (count + length ns) (with_arms arms number line ns)
-risen_with graph s count arms number line [] h part free apart = record { long = let long = h.long in omega (arith, long); rise = h.rise; each = h.each }
-risen_with graph s count arms number line (n ∷ ns) h part (free, rest) (differ, apart) =
-    let new : Arm = record { label = n; number = number; line = line } in
+risen_with : (graph : List Node) (s : Switch) (count : ℕ) (arms : List Arm) (number : ℕ) (at : At) (ls : List LabelValue) → AreRisen graph s count arms → IsPart graph number
+    → AllByRecursion (IsFree s arms) ls → Apart ls → AreRisen graph s (count + length ls) (with_arms arms number at ls)
+risen_with graph s count arms number at [] h part free apart = record { long = let long = h.long in omega (arith, long); rise = h.rise; each = h.each }
+risen_with graph s count arms number at (l ∷ ls) h part (free, rest) (differ, apart) =
+    let new : Arm = record { label = l.value; label_at = l.at; number = number; at = at } in
     let one : AreRisen graph s (count + 1) (with_arm arms new) = record {
       long = let long = h.long in omega (arith, long, length_with arms new);
       rise = rise_with arms new h.rise free.1;
       each = all_with_arm (λ arm. IsPart graph arm.number × (is_value s.values arm.label ≡ true)) arms new (part, free.0) h.each;
     } in
-    let all = risen_with graph s (count + 1) (with_arm arms new) number line ns one part (still_free s arms new ns rest differ) apart in
+    let all = risen_with graph s (count + 1) (with_arm arms new) number at ls one part (still_free s arms new ls rest differ) apart in
     record { long = let long = all.long in omega (arith, long); rise = all.rise; each = all.each }
 
-pub case_arms : (graph : List Node) (s : Switch) (a : Arms) (number line : ℕ) (ls : CaseLabels) → AreArms graph s a → AreLabels s a ls → IsPart graph number
-    → AreArms graph s (with_case a number line ls)
-case_arms graph s a number line ls h labels part =
-    let all = risen_with graph s (length a.arms) a.arms number line ls.values (record { long = refl; rise = h.rise; each = h.each }) part labels.values labels.apart in
+pub case_arms : (graph : List Node) (s : Switch) (a : Arms) (number : ℕ) (at : At) (ls : CaseLabels) → AreArms graph s a → AreLabels s a ls → IsPart graph number
+    → AreArms graph s (with_case a number at ls)
+case_arms graph s a number at ls h labels part =
+    let all = risen_with graph s (length a.arms) a.arms number at ls.values (record { long = refl; rise = h.rise; each = h.each }) part labels.values labels.apart in
     let long = all.long in
     let fits = labels.limited in
     record { limited = omega (arith, long, fits); rise = all.rise; each = all.each; default = by a.default ls.default h.default }
   where
-    by : (old : Option DefaultArm) (keyword : Option ℕ) → IfSome old (λ d. IsPart graph d.number) → IfSome (with_default old number line keyword) (λ d. IsPart graph d.number)
+    by : (old : Option DefaultArm) (keyword : Option At) → IfSome old (λ d. IsPart graph d.number) → IfSome (with_default old number at keyword) (λ d. IsPart graph d.number)
     by old None before = before
     by old (Some keyword) before = part
 

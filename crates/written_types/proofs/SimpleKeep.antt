@@ -2,6 +2,7 @@
 use Rattle.std.proofs.Common.{◌≡◌, ◌∙◌, ℕ, ◌<◌, ◌≤◌, List, [], ◌∷◌, length, map, Option, Some, None, Ok, refl, arith}
 use Rattle.std.specs.Prelude.{slice_get}
 use Rattle.std.specs.List.{AllByRecursion}
+use Rattle.idl_tree.specs.declared.names.At.{At}
 use Rattle.idl_tree.specs.declared.const_expr.Bound.{Bound}
 use Rattle.idl_tree.specs.declared.const_expr.ConstExpr.{ConstExpr}
 use Rattle.idl_tree.specs.declared.types.Integer.{Integer}
@@ -16,7 +17,7 @@ use Rattle.idl_tree.specs.declared.types.Declarator.{Declarator}
 use Rattle.idl_tree.specs.declared.types.EnumType.{EnumType}
 use Rattle.idl_tree.specs.declared.types.TypeSpec.{Simple}
 use Rattle.idl_tree.specs.Lists.{parts}
-use Rattle.idl_tree.specs.Starts.{expr_start}
+use Rattle.idl_tree.specs.Starts.{expr_start, leaf_at}
 use Rattle.basic_types.specs.BasicNodes.{basic_nodes}
 use Rattle.type_graph.specs.declared.fault.GraphLimit.{GraphLimit}
 use Rattle.type_graph.specs.declared.fault.GraphLimit.TheVariants.{Bound as BoundLimit, Enumerators, Size}
@@ -31,9 +32,9 @@ use Rattle.scoped_names.specs.Tests.{size_read}
 use Rattle.name_steps.proofs.Asks.{type_asks}
 use Rattle.scoped_names.proofs.Parts.{closed}
 use Rattle.written_types.specs.declared.place.Place.TheVariants.{Typed}
-use Rattle.written_types.specs.Faults.{at_most, line_of, max_bound, max_enumerators, max_size, of_names}
-use Rattle.written_types.specs.SimpleTypes.{array_type, arrays, bound_of, bound_or_none, const_type, declarator_line, entry_of, enum_type, integer_number, param_type, simple_type, size_of, sizes_read, type_found}
-use Rattle.written_types.specs.Written.{Written, Numbered, added_at, already, named_type, one_line, placed}
+use Rattle.written_types.specs.Faults.{at_most, max_bound, max_enumerators, max_size, of_names}
+use Rattle.written_types.specs.SimpleTypes.{array_type, arrays, bound_of, bound_or_none, const_type, declarator_at, entry_of, enum_type, integer_number, param_type, simple_type, size_of, sizes_read, type_found}
+use Rattle.written_types.specs.Written.{Written, Numbered, added_at, already, named_type, one_site, placed}
 use Rattle.written_types.proofs.Fine.{Fine, and_then, at_most_fine, given, weaker}
 use Rattle.written_types.proofs.Keeping.{Keeps, Later, later_none, later_on}
 use Rattle.written_types.proofs.Naming.{Entered, IsSilent, each_silent, entered, entry_is, finds_type, silent_append, silent_keeps, size_known, type_named}
@@ -69,16 +70,16 @@ integer_part es g begun w (Unsigned LongLong) i = basic_part es g begun w 8 _ i 
 
 -- ---- bounds and sizes
 
-at_most_of : (most : ℕ) (which : GraphLimit) (line n : ℕ) → Fine (λ k. k ≤ most) (at_most most which line n)
-at_most_of most which line n =
-    weaker (λ k. (k ≡ n) × (n ≤ most)) (λ k. k ≤ most) (at_most most which line n)
-    (λ k h. let is = h.0 in let le = h.1 in omega (arith, is, le)) (at_most_fine most which line n)
+at_most_of : (most : ℕ) (which : GraphLimit) (at : At) (n : ℕ) → Fine (λ k. k ≤ most) (at_most most which at n)
+at_most_of most which at n =
+    weaker (λ k. (k ≡ n) × (n ≤ most)) (λ k. k ≤ most) (at_most most which at n)
+    (λ k h. let is = h.0 in let le = h.1 in omega (arith, is, le)) (at_most_fine most which at n)
 
 bound_fine : (es : List Entry) (g : List Introduction) (scope : ℕ) (b : Bound) → AllSettled es g scope (bound_steps (Some b)) → Fine (λ n. n ≤ max_bound) (bound_of es scope b)
 bound_fine es g scope b h =
     let (n, is, above) = size_known es g scope b.expr h.0 in
-    given (λ n. n ≤ max_bound) (of_names (size_read es scope b.expr)) n (λ n. at_most max_bound BoundLimit (line_of (expr_start b.expr)) n) is
-    (at_most_of max_bound BoundLimit (line_of (expr_start b.expr)) n)
+    given (λ n. n ≤ max_bound) (of_names (size_read es scope b.expr)) n (λ n. at_most max_bound BoundLimit (leaf_at (expr_start b.expr)) n) is
+    (at_most_of max_bound BoundLimit (leaf_at (expr_start b.expr)) n)
 
 bound_or_none_fine : (es : List Entry) (g : List Introduction) (scope : ℕ) (b : Option Bound) → AllSettled es g scope (bound_steps b)
     → Fine (λ n. n ≤ max_bound) (bound_or_none es scope b)
@@ -91,9 +92,9 @@ IsSizeOf n = (0 < n) × (n ≤ max_size)
 size_fine : (es : List Entry) (g : List Introduction) (scope : ℕ) (size : ConstExpr) → AllSettled es g scope (size_step size ∷ []) → Fine IsSizeOf (size_of es scope size)
 size_fine es g scope size h =
     let (n, is, above) = size_known es g scope size.expr h.0 in
-    given IsSizeOf (of_names (size_read es scope size.expr)) n (λ n. at_most max_size Size (line_of (expr_start size.expr)) n) is
-    (weaker (λ k. (k ≡ n) × (n ≤ max_size)) IsSizeOf (at_most max_size Size (line_of (expr_start size.expr)) n)
-    (λ k h. let same = h.0 in let le = h.1 in (omega (arith, same, above), omega (arith, same, le))) (at_most_fine max_size Size (line_of (expr_start size.expr)) n))
+    given IsSizeOf (of_names (size_read es scope size.expr)) n (λ n. at_most max_size Size (leaf_at (expr_start size.expr)) n) is
+    (weaker (λ k. (k ≡ n) × (n ≤ max_size)) IsSizeOf (at_most max_size Size (leaf_at (expr_start size.expr)) n)
+    (λ k h. let same = h.0 in let le = h.1 in (omega (arith, same, above), omega (arith, same, le))) (at_most_fine max_size Size (leaf_at (expr_start size.expr)) n))
 
 sizes_fine : (es : List Entry) (g : List Introduction) (scope : ℕ) (sizes : List ConstExpr) → AllSettled es g scope (map size_step sizes)
     → Fine (AllByRecursion IsSizeOf) (sizes_read es scope sizes)
@@ -112,9 +113,9 @@ const_keeps es g begun w scope ConstTypes.Char i h = still_fine es g begun w 1 i
 const_keeps es g begun w scope ConstTypes.Boolean i h = still_fine es g begun w 2 i (basic_part es g begun w 2 _ i refl tt)
 const_keeps es g begun w scope (ConstTypes.String None) i h = still_fine es g begun w 9 i (basic_part es g begun w 9 _ i refl tt)
 const_keeps es g begun w scope (ConstTypes.String (Some bound)) i h =
-    let line = line_of (expr_start bound.expr) in
-    and_then (λ most. most ≤ max_bound) (Adds es g begun w) (bound_of es scope bound) (λ most. added_at w (Text most) line) (bound_fine es g scope bound h)
-    (λ most le. added_fine es g begun w (Text most) (one_line line) i le (λ is. cc) tt refl)
+    let at = leaf_at (expr_start bound.expr) in
+    and_then (λ most. most ≤ max_bound) (Adds es g begun w) (bound_of es scope bound) (λ most. added_at w (Text most) at) (bound_fine es g scope bound h)
+    (λ most le. added_fine es g begun w (Text most) (one_site at) i le (λ is. cc) tt refl)
 const_keeps es g begun w scope (ConstTypes.Name name) i h =
     let (n, found, part) = finds_type es g begun w scope name i h.0 in
     given (Adds es g begun w) (type_found es w scope name) n (λ n. Ok (already w n)) found (still_fine es g begun w n i part)
@@ -124,16 +125,16 @@ pub param_keeps : (es : List Entry) (g : List Introduction) (begun : ℕ → Typ
 param_keeps es g begun w scope (ParamTypes.Plain t) i h = const_keeps es g begun w scope t i h
 param_keeps es g begun w scope ParamTypes.Object i h = still_fine es g begun w 13 i (basic_part es g begun w 13 _ i refl tt)
 
-pub simple_keeps : (es : List Entry) (g : List Introduction) (begun : ℕ → Type 0) (w : Written) (scope line : ℕ) (t : SimpleType) → Keeps es g begun w
-    → AllSettled es g scope (simple_type_steps t) → Fine (Adds es g begun w) (simple_type es w scope line t)
-simple_keeps es g begun w scope line (Plain t) i h = param_keeps es g begun w scope t i h
-simple_keeps es g begun w scope line (Sequence' shape element bound) i h =
+pub simple_keeps : (es : List Entry) (g : List Introduction) (begun : ℕ → Type 0) (w : Written) (scope : ℕ) (at : At) (t : SimpleType) → Keeps es g begun w
+    → AllSettled es g scope (simple_type_steps t) → Fine (Adds es g begun w) (simple_type es w scope at t)
+simple_keeps es g begun w scope at (Plain t) i h = param_keeps es g begun w scope t i h
+simple_keeps es g begun w scope at (Sequence' shape element bound) i h =
     let parts = both es g scope (simple_type_steps element) (bound_steps bound) (closed (type_asks {ls = []} (Simple element))) h in
-    and_then (Adds es g begun w) (Adds es g begun w) (simple_type es w scope line element) _ (simple_keeps es g begun w scope line element i parts.0) (λ e a.
-    and_then (λ most. most ≤ max_bound) (Adds es g begun w) (bound_or_none es scope bound) (λ most. added_at e.written (Seq e.number most) line)
+    and_then (Adds es g begun w) (Adds es g begun w) (simple_type es w scope at element) _ (simple_keeps es g begun w scope at element i parts.0) (λ e a.
+    and_then (λ most. most ≤ max_bound) (Adds es g begun w) (bound_or_none es scope bound) (λ most. added_at e.written (Seq e.number most) at)
     (bound_or_none_fine es (behind es g scope (simple_type_steps element)) scope bound parts.1) (λ most le.
-    weaker (Adds es g begun e.written) (Adds es g begun w) (added_at e.written (Seq e.number most) line) (λ n b. adds_on es g begun w e n a b)
-    (added_fine es g begun e.written (Seq e.number most) (one_line line) a.keeps (a.part, le) (λ is. cc) tt refl)))
+    weaker (Adds es g begun e.written) (Adds es g begun w) (added_at e.written (Seq e.number most) at) (λ n b. adds_on es g begun w e n a b)
+    (added_fine es g begun e.written (Seq e.number most) (one_site at) a.keeps (a.part, le) (λ is. cc) tt refl)))
 
 bound_silent : (b : Option Bound) → AllByRecursion IsSilent (bound_steps b)
 bound_silent None = tt
@@ -157,21 +158,21 @@ simple_silent (Sequence' shape element bound) = silent_append (simple_type_steps
 
 -- ---- arrays
 
-arrays_keep : (es : List Entry) (g : List Introduction) (begun : ℕ → Type 0) (w : Written) (element : Numbered) (line : ℕ) (ns : List ℕ) → Adds es g begun w element
-    → AllByRecursion IsSizeOf ns → Fine (Adds es g begun w) (arrays element line ns)
-arrays_keep es g begun w element line [] a h = a
-arrays_keep es g begun w element line (n ∷ ns) a (h, hs) =
-    and_then (Adds es g begun w) (Adds es g begun w) (arrays element line ns) (λ inner. added_at inner.written (Array inner.number n) line)
-    (arrays_keep es g begun w element line ns a hs) (λ inner b.
-    weaker (Adds es g begun inner.written) (Adds es g begun w) (added_at inner.written (Array inner.number n) line) (λ m c. adds_on es g begun w inner m b c)
-    (added_fine es g begun inner.written (Array inner.number n) (one_line line) b.keeps (b.part, h.0, h.1) (λ is. cc) tt refl))
+arrays_keep : (es : List Entry) (g : List Introduction) (begun : ℕ → Type 0) (w : Written) (element : Numbered) (at : At) (ns : List ℕ) → Adds es g begun w element
+    → AllByRecursion IsSizeOf ns → Fine (Adds es g begun w) (arrays element at ns)
+arrays_keep es g begun w element at [] a h = a
+arrays_keep es g begun w element at (n ∷ ns) a (h, hs) =
+    and_then (Adds es g begun w) (Adds es g begun w) (arrays element at ns) (λ inner. added_at inner.written (Array inner.number n) at)
+    (arrays_keep es g begun w element at ns a hs) (λ inner b.
+    weaker (Adds es g begun inner.written) (Adds es g begun w) (added_at inner.written (Array inner.number n) at) (λ m c. adds_on es g begun w inner m b c)
+    (added_fine es g begun inner.written (Array inner.number n) (one_site at) b.keeps (b.part, h.0, h.1) (λ is. cc) tt refl))
 
 -- the type of a declarator, whose sizes are settled where other things are known
 pub array_keeps : (es : List Entry) (g more : List Introduction) (begun : ℕ → Type 0) (w : Written) (scope : ℕ) (element : Numbered) (d : Declarator) → Adds es g begun w element
     → AllSettled es more scope (map size_step d.sizes.items) → Fine (Adds es g begun w) (array_type es scope element d)
 array_keeps es g more begun w scope element d a h =
-    and_then (AllByRecursion IsSizeOf) (Adds es g begun w) (sizes_read es scope d.sizes.items) (λ ns. arrays element (declarator_line d) ns)
-    (sizes_fine es more scope d.sizes.items h) (λ ns are. arrays_keep es g begun w element (declarator_line d) ns a are)
+    and_then (AllByRecursion IsSizeOf) (Adds es g begun w) (sizes_read es scope d.sizes.items) (λ ns. arrays element (declarator_at d) ns)
+    (sizes_fine es more scope d.sizes.items h) (λ ns are. arrays_keep es g begun w element (declarator_at d) ns a are)
 
 -- ---- enumerations
 
@@ -181,11 +182,11 @@ pub record Wrote (es : List Entry) (g : List Introduction) (begun : ℕ → Type
   pub later : Later w n.written
   pub part : IsPart n.written.nodes n.number
 
-named_keeps : (es : List Entry) (g : List Introduction) (begun : ℕ → Type 0) (w : Written) (scope : ℕ) (e : EnumType) (n line : ℕ) (d : Entered es g scope e.identifier Kinds.Enum)
-    → Keeps es g begun w → (0 < n) × (n ≤ max_enumerators) → Fine (Wrote es (Stands scope e.identifier Kinds.Enum ∷ g) begun w) (named_type w d.entry (Enum n) line)
-named_keeps es g begun w scope e n line d i right =
+named_keeps : (es : List Entry) (g : List Introduction) (begun : ℕ → Type 0) (w : Written) (scope : ℕ) (e : EnumType) (n : ℕ) (at : At) (d : Entered es g scope e.identifier Kinds.Enum)
+    → Keeps es g begun w → (0 < n) × (n ≤ max_enumerators) → Fine (Wrote es (Stands scope e.identifier Kinds.Enum ∷ g) begun w) (named_type w d.entry (Enum n) at)
+named_keeps es g begun w scope e n at d i right =
     let wrote = Wrote es (Stands scope e.identifier Kinds.Enum ∷ g) begun w in
-    and_then (Adds es g begun w) wrote (added_at w (Enum n) line) _ (added_fine es g begun w (Enum n) (one_line line) i right (λ is. cc) tt refl) (λ a adds.
+    and_then (Adds es g begun w) wrote (added_at w (Enum n) at) _ (added_fine es g begun w (Enum n) (one_site at) i right (λ is. cc) tt refl) (λ a adds.
     let (is, goes) = type_named es g begun a.written scope e.identifier Kinds.Enum a.number d adds.keeps refl adds.part in
     given wrote (placed a.written d.entry (Typed a.number)) (with_placed a.written d.entry (Typed a.number) a.written.exceptions) (λ there. Ok (already there a.number)) is
     (record { keeps = goes.keeps; later = later_on w a.written _ adds.later goes.later; part = adds.part }))
@@ -198,14 +199,14 @@ enum_keeps es g begun w scope e i (h, hs) =
     let count = length (parts e.enumerators) in
     let named = Stands scope e.identifier Kinds.Enum ∷ g in
     given wrote (entry_of es scope e.identifier) d.entry _ (entry_is es scope e.identifier d.entry d.is)
-    (and_then (λ k. (k ≡ count) × (count ≤ max_enumerators)) wrote (at_most max_enumerators Enumerators (line_of e.identifier) count)
-    (λ n. named_type w d.entry (Enum n) (line_of e.identifier)) (at_most_fine max_enumerators Enumerators (line_of e.identifier) count) (λ n le.
+    (and_then (λ k. (k ≡ count) × (count ≤ max_enumerators)) wrote (at_most max_enumerators Enumerators (leaf_at e.identifier) count)
+    (λ n. named_type w d.entry (Enum n) (leaf_at e.identifier)) (at_most_fine max_enumerators Enumerators (leaf_at e.identifier) count) (λ n le.
     let same = le.0 in
     let fits = le.1 in
-    weaker (Wrote es named begun w) wrote (named_type w d.entry (Enum n) (line_of e.identifier)) (λ m a.
+    weaker (Wrote es named begun w) wrote (named_type w d.entry (Enum n) (leaf_at e.identifier)) (λ m a.
     record {
       keeps = silent_keeps es named begun m.written scope (map DeclaresEnumerator (parts e.enumerators)) (each_silent DeclaresEnumerator (λ l. tt) (parts e.enumerators)) hs a.keeps;
       later = a.later;
       part = a.part;
     })
-    (named_keeps es g begun w scope e n (line_of e.identifier) d i (omega (arith, same), omega (arith, same, fits)))))
+    (named_keeps es g begun w scope e n (leaf_at e.identifier) d i (omega (arith, same), omega (arith, same, fits)))))

@@ -5,6 +5,7 @@ use Rattle.std.specs.List.{flat_map}
 use Rattle.std.proofs.lemmas.List.Elements.{All-nil}
 use Rattle.std.proofs.lemmas.List.{length-map}
 use Rattle.std.proofs.lemmas.Option.{slice_get_within}
+use Rattle.idl_tree.specs.declared.names.At.{At}
 use Rattle.idl_tree.specs.declared.names.Leaf.{Leaf}
 use Rattle.idl_tree.specs.declared.names.Listed.{Listed}
 use Rattle.idl_tree.specs.declared.types.Declarator.{Declarator}
@@ -19,6 +20,7 @@ use Rattle.type_graph.specs.declared.node.Node.TheVariants.{Struct, Union}
 use Rattle.type_graph.specs.GraphRules.{IsNoFrame, IsNode, IsPart, all_members, members_in}
 use Rattle.idl_tree.specs.declared.kinds.EntryKind.{EntryKind}
 use Rattle.idl_tree.specs.declared.kinds.EntryKind.TheVariants as Kinds
+use Rattle.idl_tree.specs.Starts.{leaf_at}
 use Rattle.name_table.specs.Entry.{Entry, named}
 use Rattle.name_table.specs.Search.{word}
 use Rattle.scoped_names.specs.Faults.{has_body}
@@ -32,11 +34,11 @@ use Rattle.written_types.specs.declared.fault.BuildFault.{BuildFault}
 use Rattle.written_types.specs.declared.labels.Switch.{Switch}
 use Rattle.written_types.specs.declared.place.Place.{Place}
 use Rattle.written_types.specs.declared.place.Place.TheVariants.{Typed}
-use Rattle.written_types.specs.Faults.{at_most, line_of, max_nodes}
+use Rattle.written_types.specs.Faults.{at_most, max_nodes}
 use Rattle.written_types.specs.Labels.{no_arms, switch_read}
-use Rattle.written_types.specs.SimpleTypes.{declarator_line, entry_of, simple_type}
-use Rattle.written_types.specs.Types.{Cases, WithMembers, arm_line, case_added, cases_of, default_lines, default_number, default_test, members_added, no_members, numbered_arm, struct_defined, struct_type, type_spec, union_defined, union_type, with_cases, with_members, with_members_of}
-use Rattle.written_types.specs.Written.{Numbered, Written, added_at, already, counted, named_type, next, node_set, one_line, opened, opened_as, placed, type_in, undefined, with_node}
+use Rattle.written_types.specs.SimpleTypes.{declarator_at, entry_of, simple_type}
+use Rattle.written_types.specs.Types.{Cases, WithMembers, arm_at, case_added, cases_of, default_sites, default_number, default_test, members_added, no_members, numbered_arm, struct_defined, struct_type, type_spec, union_defined, union_type, with_cases, with_members, with_members_of}
+use Rattle.written_types.specs.Written.{Numbered, Written, added_at, already, counted, named_type, next, node_set, one_site, opened, opened_as, placed, type_in, undefined, with_node}
 use Rattle.written_types.proofs.Defining.{define_kept, define_later, node_set_is, open_kept, open_later, with_defined, with_open}
 use Rattle.written_types.proofs.Fine.{Fine, and_then, at_most_fine, given, weaker}
 use Rattle.written_types.proofs.Keeping.{HasBody, HasPlace, Keeps, Later, NeedsNothing, begins, body_placed, later_none, later_on, more_known, with_begun}
@@ -82,28 +84,28 @@ again_opens es g begun w scope l kind d n i body there = record {
         typed y.kind (begun f) (slice_get w.places f) (ap (λ z. has_body z.kind) (sym one) ∙ ap has_body d.kind_is ∙ body)
         (ap (slice_get w.places) same ∙ there)
 
-first_opens : (es : List Entry) (g : List Introduction) (begun : ℕ → Type 0) (w : Written) (scope : ℕ) (l : Leaf) (kind : EntryKind) (d : Entered es g scope l kind) (line : ℕ)
+first_opens : (es : List Entry) (g : List Introduction) (begun : ℕ → Type 0) (w : Written) (scope : ℕ) (l : Leaf) (kind : EntryKind) (d : Entered es g scope l kind) (at : At)
     → Keeps es g begun w → has_body kind ≡ true → slice_get w.places d.entry ≡ Some None → (Known es g d.entry → ⊥)
-    → Fine (Opens es (Stands scope l kind ∷ g) begun w d.entry) (named_type w d.entry undefined line)
-first_opens es g begun w scope l kind d line i body none new =
+    → Fine (Opens es (Stands scope l kind ∷ g) begun w d.entry) (named_type w d.entry undefined at)
+first_opens es g begun w scope l kind d at i body none new =
     let opens = Opens es (Stands scope l kind ∷ g) begun w d.entry in
-    let lines = one_line line in
+    let sites = one_site at in
     let n = next w in
-    and_then (λ a. (a ≡ already (with_node w undefined lines) n) × (n + 1 ≤ max_nodes)) opens (added_at w undefined line) _
-    (and_then (λ k. (k ≡ n + 1) × (n + 1 ≤ max_nodes)) (λ a. (a ≡ already (with_node w undefined lines) n) × (n + 1 ≤ max_nodes)) (at_most max_nodes Nodes line (n + 1)) _
-    (at_most_fine max_nodes Nodes line (n + 1)) (λ k fits. (refl, fits.1))) (λ a is.
+    and_then (λ a. (a ≡ already (with_node w undefined sites) n) × (n + 1 ≤ max_nodes)) opens (added_at w undefined at) _
+    (and_then (λ k. (k ≡ n + 1) × (n + 1 ≤ max_nodes)) (λ a. (a ≡ already (with_node w undefined sites) n) × (n + 1 ≤ max_nodes)) (at_most max_nodes Nodes at (n + 1)) _
+    (at_most_fine max_nodes Nodes at (n + 1)) (λ k fits. (refl, fits.1))) (λ a is.
     subst (λ a. Fine opens (placed a.written d.entry (Typed a.number) >> λ there. Ok (already there a.number))) (sym is.0)
-    (given opens (placed (with_node w undefined lines) d.entry (Typed n)) (with_open w d.entry lines) (λ there. Ok (already there n))
-    (placed_is (with_node w undefined lines) d.entry (Typed n) none)
+    (given opens (placed (with_node w undefined sites) d.entry (Typed n)) (with_open w d.entry sites) (λ there. Ok (already there n))
+    (placed_is (with_node w undefined sites) d.entry (Typed n) none)
     (record {
-      keeps = open_kept es g (Stands scope l kind ∷ g) begun w d.entry d.value lines i (widens es g scope l kind d.entry d.is) none d.there (ap has_body d.kind_is ∙ body) new is.1;
-      later = open_later w d.entry lines none;
+      keeps = open_kept es g (Stands scope l kind ∷ g) begun w d.entry d.value sites i (widens es g scope l kind d.entry d.is) none d.there (ap has_body d.kind_is ∙ body) new is.1;
+      later = open_later w d.entry sites none;
       place = set_here w.places d.entry None (Some (Typed n)) none;
     })))
 
-pub opens_fine : (es : List Entry) (g : List Introduction) (begun : ℕ → Type 0) (w : Written) (scope : ℕ) (l : Leaf) (kind : EntryKind) (d : Entered es g scope l kind) (line : ℕ)
-    → Keeps es g begun w → has_body kind ≡ true → Fine (Opens es (Stands scope l kind ∷ g) begun w d.entry) (opened w d.entry line)
-opens_fine es g begun w scope l kind d line i body =
+pub opens_fine : (es : List Entry) (g : List Introduction) (begun : ℕ → Type 0) (w : Written) (scope : ℕ) (l : Leaf) (kind : EntryKind) (d : Entered es g scope l kind) (at : At)
+    → Keeps es g begun w → has_body kind ≡ true → Fine (Opens es (Stands scope l kind ∷ g) begun w d.entry) (opened w d.entry at)
+opens_fine es g begun w scope l kind d at i body =
     let within = slice_get_within es d.entry d.value d.there in
     let long = i.long in
     let (o, is) = there_at w.places d.entry (omega (arith, within, long)) in
@@ -115,26 +117,26 @@ opens_fine es g begun w scope l kind d line i body =
         let (n, there) = body_placed d.value.kind (begun d.entry) (slice_get w.places d.entry) kind_has (i.has d.entry d.value knows d.there) in
         cc
 
-    at : (o : Option (Option Place)) → slice_get w.places d.entry ≡ o → Fine (Opens es (Stands scope l kind ∷ g) begun w d.entry) (opened_as w d.entry line (type_in o))
-        → Fine (Opens es (Stands scope l kind ∷ g) begun w d.entry) (opened w d.entry line)
-    at o is h = subst (λ k. Fine (Opens es (Stands scope l kind ∷ g) begun w d.entry) (opened_as w d.entry line (type_in k))) (sym is) h
+    when : (o : Option (Option Place)) → slice_get w.places d.entry ≡ o → Fine (Opens es (Stands scope l kind ∷ g) begun w d.entry) (opened_as w d.entry at (type_in o))
+        → Fine (Opens es (Stands scope l kind ∷ g) begun w d.entry) (opened w d.entry at)
+    when o is h = subst (λ k. Fine (Opens es (Stands scope l kind ∷ g) begun w d.entry) (opened_as w d.entry at (type_in k))) (sym is) h
 
-    by : (o : Option Place) → slice_get w.places d.entry ≡ Some o → Fine (Opens es (Stands scope l kind ∷ g) begun w d.entry) (opened w d.entry line)
-    by None is = at (Some None) is (first_opens es g begun w scope l kind d line i body is (none_known is))
+    by : (o : Option Place) → slice_get w.places d.entry ≡ Some o → Fine (Opens es (Stands scope l kind ∷ g) begun w d.entry) (opened w d.entry at)
+    by None is = when (Some None) is (first_opens es g begun w scope l kind d at i body is (none_known is))
     by (Some p) is =
         let kind_has : has_body d.value.kind ≡ true = ap has_body d.kind_is ∙ body in
         let (n, there) = body_placed d.value.kind (begun d.entry) (slice_get w.places d.entry) kind_has (i.has d.entry d.value (i.known d.entry p is) d.there) in
-        at (Some (Some (Typed n))) there (again_opens es g begun w scope l kind d n i body there)
+        when (Some (Some (Typed n))) there (again_opens es g begun w scope l kind d n i body there)
 
 -- ---- definitions
 
-pub defined_fine : (es : List Entry) (g : List Introduction) (begun : ℕ → Type 0) (w : Written) (e number : ℕ) (node : Node) (held : List ℕ) (line : ℕ)
+pub defined_fine : (es : List Entry) (g : List Introduction) (begun : ℕ → Type 0) (w : Written) (e number : ℕ) (node : Node) (held : List At) (at : At)
     → Keeps es g (with_begun e begun) w → HasBody es e → slice_get w.places e ≡ Some (Some (Typed number)) → (begun e → ⊥) → IsDone g (suc e)
     → IsNode w.nodes node → (node ≡ undefined → ⊥) → IsNoFrame node
-    → Fine (Goes es g begun w) (counted w (members_in node) line >> λ v. node_set v number node held)
-defined_fine es g begun w e number node held line i body place ended done right defined plain =
-    and_then (Counts es g (with_begun e begun) w (members_in node)) (Goes es g begun w) (counted w (members_in node) line) (λ v. node_set v number node held)
-    (counted_fine es g (with_begun e begun) w (members_in node) line i) (λ v counts.
+    → Fine (Goes es g begun w) (counted w (members_in node) at >> λ v. node_set v number node held)
+defined_fine es g begun w e number node held at i body place ended done right defined plain =
+    and_then (Counts es g (with_begun e begun) w (members_in node)) (Goes es g begun w) (counted w (members_in node) at) (λ v. node_set v number node held)
+    (counted_fine es g (with_begun e begun) w (members_in node) at i) (λ v counts.
     let there : slice_get v.places e ≡ Some (Some (Typed number)) = ap (λ ps. slice_get ps e) counts.places ∙ place in
     let open_yet = counts.keeps.ahead e number body there (inr (inl refl)) in
     let right_there = subst (λ graph. IsNode graph node) (sym counts.nodes) right in
@@ -161,56 +163,56 @@ record Begins (es : List Entry) (g : List Introduction) (begun : ℕ → Type 0)
   body : HasBody es e
   ended : begun e → ⊥
 
-begins_fine : (es : List Entry) (g : List Introduction) (begun : ℕ → Type 0) (w : Written) (scope line : ℕ) (l : Leaf) (kind : EntryKind) (d : Entered es g scope l kind) (e : ℕ)
+begins_fine : (es : List Entry) (g : List Introduction) (begun : ℕ → Type 0) (w : Written) (scope : ℕ) (at : At) (l : Leaf) (kind : EntryKind) (d : Entered es g scope l kind) (e : ℕ)
     → Keeps es g begun w → has_body kind ≡ true → named es scope (word l) ≡ Some e → (IsDone (Stands scope l kind ∷ g) (suc e) → ⊥) → (begun e → ⊥)
-    → Fine (Begins es (Body (suc e) ∷ Stands scope l kind ∷ g) begun w e) (opened w e line)
-begins_fine es g begun w scope line l kind d e i body is new ended =
+    → Fine (Begins es (Body (suc e) ∷ Stands scope l kind ∷ g) begun w e) (opened w e at)
+begins_fine es g begun w scope at l kind d e i body is new ended =
     let first = d.is in
     let same : d.entry ≡ e = cc in
     let has : HasBody es e = subst (HasBody es) same (ap (is_of has_body) d.there ∙ ap has_body d.kind_is ∙ body) in
-    weaker (Opens es (Stands scope l kind ∷ g) begun w e) (Begins es (Body (suc e) ∷ Stands scope l kind ∷ g) begun w e) (opened w e line) (λ o h. record {
+    weaker (Opens es (Stands scope l kind ∷ g) begun w e) (Begins es (Body (suc e) ∷ Stands scope l kind ∷ g) begun w e) (opened w e at) (λ o h. record {
       keeps = begins es (Stands scope l kind ∷ g) begun o.written e h.keeps (inl is) has new;
       later = h.later;
       place = h.place;
       body = has;
       ended = ended;
     })
-    (subst (λ k. Fine (Opens es (Stands scope l kind ∷ g) begun w k) (opened w k line)) same (opens_fine es g begun w scope l kind d line i body))
+    (subst (λ k. Fine (Opens es (Stands scope l kind ∷ g) begun w k) (opened w k at)) same (opens_fine es g begun w scope l kind d at i body))
 
 -- ---- closing
 
-struct_closes : (es : List Entry) (g : List Introduction) (begun : ℕ → Type 0) (w : Written) (e line : ℕ) (o : Numbered) (m : WithMembers) → Begins es g begun w e o
+struct_closes : (es : List Entry) (g : List Introduction) (begun : ℕ → Type 0) (w : Written) (e : ℕ) (at : At) (o : Numbered) (m : WithMembers) → Begins es g begun w e o
     → (more : List Introduction) → HasMembers es more (with_begun e begun) o.written [] 1 m → IsDone more (suc e)
-    → Fine (Wrote es more begun w) (struct_defined m o.number line >> λ behind. Ok (already behind o.number))
-struct_closes es g begun w e line o m b more h done =
+    → Fine (Wrote es more begun w) (struct_defined m o.number at >> λ behind. Ok (already behind o.number))
+struct_closes es g begun w e at o m b more h done =
     let number = o.number in
     let v = m.written in
     let place = h.later.places e (Typed number) b.place in
     let node = Struct m.members.numbers in
     let some = h.right.some in
-    and_then (Goes es more begun v) (Wrote es more begun w) (struct_defined m number line) (λ behind. Ok (already behind number))
-    (defined_fine es more begun v e number node m.members.lines line h.keeps b.body place b.ended done (omega (arith, some), h.right.members) (defined m.members.numbers some) tt)
+    and_then (Goes es more begun v) (Wrote es more begun w) (struct_defined m number at) (λ behind. Ok (already behind number))
+    (defined_fine es more begun v e number node m.members.sites at h.keeps b.body place b.ended done (omega (arith, some), h.right.members) (defined m.members.numbers some) tt)
     (λ u goes. wrote_on es more begun w v (already u number) (later_on w o.written v b.later h.later) (goes_wrote es more begun v u e number goes place))
   where
     defined : (ns : List ℕ) → 1 ≤ length ns → Struct ns ≡ undefined → ⊥
     defined [] some is = omega (arith, some)
     defined (n ∷ ns) some is = cc
 
-union_closes : (es : List Entry) (g : List Introduction) (begun : ℕ → Type 0) (w : Written) (e line : ℕ) (o : Numbered) (s : Switch) (c : Cases) → Begins es g begun w e o
+union_closes : (es : List Entry) (g : List Introduction) (begun : ℕ → Type 0) (w : Written) (e : ℕ) (at : At) (o : Numbered) (s : Switch) (c : Cases) → Begins es g begun w e o
     → (more : List Introduction) → HasCases es more (with_begun e begun) o.written s c → IsDone more (suc e)
-    → Fine (Wrote es more begun w) (union_defined s c o.number line >> λ behind. Ok (already behind o.number))
-union_closes es g begun w e line o s c b more h done =
+    → Fine (Wrote es more begun w) (union_defined s c o.number at >> λ behind. Ok (already behind o.number))
+union_closes es g begun w e at o s c b more h done =
     let number = o.number in
     let v = c.written in
     let count = length c.arms.arms in
     let arms = map numbered_arm c.arms.arms in
     let node = Union s.number arms (default_number c.arms.default) in
-    let held = map arm_line c.arms.arms ++ default_lines c.arms.default in
+    let held = map arm_at c.arms.arms ++ default_sites c.arms.default in
     let place = h.later.places e (Typed number) b.place in
-    and_then (Goes es more begun v) (Wrote es more begun w) (union_defined s c number line) (λ behind. Ok (already behind number))
+    and_then (Goes es more begun v) (Wrote es more begun w) (union_defined s c number at) (λ behind. Ok (already behind number))
     (and_then (λ u. IsNeeded s count c.arms.default) (Goes es more begun v) (default_test s count c.arms.default) _ (default_fine s count c.arms.default) (λ u needed.
-    subst (λ k. Fine (Goes es more begun v) (counted v k line >> λ x. node_set x number node held)) (length-map c.arms.arms numbered_arm)
-    (defined_fine es more begun v e number node held line h.keeps b.body place b.ended done (union_right v.nodes s c.arms h.switch h.arms needed) (λ is. cc) tt)))
+    subst (λ k. Fine (Goes es more begun v) (counted v k at >> λ x. node_set x number node held)) (length-map c.arms.arms numbered_arm)
+    (defined_fine es more begun v e number node held at h.keeps b.body place b.ended done (union_right v.nodes s c.arms h.switch h.arms needed) (λ is. cc) tt)))
     (λ u goes. wrote_on es more begun w v (already u number) (later_on w o.written v b.later h.later) (goes_wrote es more begun v u e number goes place))
 
 -- ---- types
@@ -251,22 +253,22 @@ module _ (es : List Entry) (begun : ℕ → Type 0) where
       (λ n k. record { keeps = k.keeps; later = later_on w m.written n.written h.later k.later; right = k.right })
       (added_members es g mid begun m.written before least scope m.members type l h.right typed split.1))
 
-simple_wrote : (es : List Entry) (g : List Introduction) (begun : ℕ → Type 0) (w : Written) (scope line : ℕ) (t : SimpleType) → Keeps es g begun w
-    → AllSettled es g scope (simple_type_steps t) → Fine (Wrote es (behind es g scope (simple_type_steps t)) begun w) (simple_type es w scope line t)
-simple_wrote es g begun w scope line t i h =
-    weaker (Adds es g begun w) (Wrote es (behind es g scope (simple_type_steps t)) begun w) (simple_type es w scope line t) (λ n a. record {
+simple_wrote : (es : List Entry) (g : List Introduction) (begun : ℕ → Type 0) (w : Written) (scope : ℕ) (at : At) (t : SimpleType) → Keeps es g begun w
+    → AllSettled es g scope (simple_type_steps t) → Fine (Wrote es (behind es g scope (simple_type_steps t)) begun w) (simple_type es w scope at t)
+simple_wrote es g begun w scope at t i h =
+    weaker (Adds es g begun w) (Wrote es (behind es g scope (simple_type_steps t)) begun w) (simple_type es w scope at t) (λ n a. record {
       keeps = silent_keeps es g begun n.written scope (simple_type_steps t) (simple_silent t) h a.keeps;
       later = a.later;
       part = a.part;
-    }) (simple_keeps es g begun w scope line t i h)
+    }) (simple_keeps es g begun w scope at t i h)
 
 mutual
-  pub spec_keeps : (es : List Entry) (g : List Introduction) (begun : ℕ → Type 0) (w : Written) (scope line : ℕ) (t : TypeSpec) → Keeps es g begun w
-      → AllSettled es g scope (type_steps t) → Fine (Wrote es (behind es g scope (type_steps t)) begun w) (type_spec es w scope line t)
-  spec_keeps es g begun w scope line (Simple t) i h = simple_wrote es g begun w scope line t i h
-  spec_keeps es g begun w scope line (StructSpec s) i h = struct_keeps es g begun w scope s i h
-  spec_keeps es g begun w scope line (UnionSpec u) i h = union_keeps es g begun w scope u i h
-  spec_keeps es g begun w scope line (EnumSpec e) i h = enum_keeps es g begun w scope e i h
+  pub spec_keeps : (es : List Entry) (g : List Introduction) (begun : ℕ → Type 0) (w : Written) (scope : ℕ) (at : At) (t : TypeSpec) → Keeps es g begun w
+      → AllSettled es g scope (type_steps t) → Fine (Wrote es (behind es g scope (type_steps t)) begun w) (type_spec es w scope at t)
+  spec_keeps es g begun w scope at (Simple t) i h = simple_wrote es g begun w scope at t i h
+  spec_keeps es g begun w scope at (StructSpec s) i h = struct_keeps es g begun w scope s i h
+  spec_keeps es g begun w scope at (UnionSpec u) i h = union_keeps es g begun w scope u i h
+  spec_keeps es g begun w scope at (EnumSpec e) i h = enum_keeps es g begun w scope e i h
 
   pub struct_keeps : (es : List Entry) (g : List Introduction) (begun : ℕ → Type 0) (w : Written) (scope : ℕ) (s : StructType) → Keeps es g begun w
       → AllSettled es g scope (struct_steps s) → Fine (Wrote es (behind es g scope (struct_steps s)) begun w) (struct_type es w scope s)
@@ -282,23 +284,23 @@ mutual
       let more = behind es at (e + 1) (first ++ others) in
       let mid = behind es at (e + 1) first in
       let on = both_behind es at (e + 1) first others first_closed split.0 in
-      let line = declarator_line declarators.first in
+      let site = declarator_at declarators.first in
       let wrote = Wrote es more begun w in
       let done = done_stays es at (e + 1) (first ++ others) (suc e) (inl refl) in
       subst (λ k. Fine (Wrote es k begun w) (struct_type es w scope (StructType' id p t declarators shape rest))) (sym body.whole)
       (given wrote (entry_of es scope id) e _ (entry_is es scope id e body.is)
-      (and_then (Begins es at begun w e) wrote (opened w e (line_of id)) _
-      (begins_fine es g begun w scope (line_of id) id Kinds.Struct d e i refl body.is body.new (definition_entered es g begun w scope id Kinds.Struct d e i refl body.is body.new)) (λ o b.
+      (and_then (Begins es at begun w e) wrote (opened w e (leaf_at id)) _
+      (begins_fine es g begun w scope (leaf_at id) id Kinds.Struct d e i refl body.is body.new (definition_entered es g begun w scope id Kinds.Struct d e i refl body.is body.new)) (λ o b.
       let start : HasMembers es at (with_begun e begun) o.written [] 0 (with_members_of o.written no_members) = record { keeps = b.keeps; later = later_none o.written; right = none_right o.written.nodes } in
       let parts_of_type = both es at (e + 1) (type_steps t) (flat_map declarator_steps (parts declarators)) (type_closed t) split.0 in
       and_then (HasMembers es mid (with_begun e begun) o.written [] 1) wrote
-      (members_added es (e + 1) no_members (type_spec es o.written (e + 1) line t) declarators) _
-      (first_members es (with_begun e begun) at o.written [] 0 (e + 1) (with_members_of o.written no_members) t declarators (type_spec es o.written (e + 1) line t) start split.0
-      (spec_keeps es at (with_begun e begun) o.written (e + 1) line t b.keeps parts_of_type.0)) (λ m h.
+      (members_added es (e + 1) no_members (type_spec es o.written (e + 1) site t) declarators) _
+      (first_members es (with_begun e begun) at o.written [] 0 (e + 1) (with_members_of o.written no_members) t declarators (type_spec es o.written (e + 1) site t) start split.0
+      (spec_keeps es at (with_begun e begun) o.written (e + 1) site t b.keeps parts_of_type.0)) (λ m h.
       and_then (HasMembers es more (with_begun e begun) o.written [] 1) wrote (with_members es (e + 1) m rest) _
       (subst (λ k. Fine (HasMembers es k (with_begun e begun) o.written [] 1) (with_members es (e + 1) m rest)) (sym on)
       (members_keep es mid (with_begun e begun) o.written [] (e + 1) m rest h split.1)) (λ n all.
-      struct_closes es at begun w e (line_of id) o n b more all done)))))
+      struct_closes es at begun w e (leaf_at id) o n b more all done)))))
 
   pub union_keeps : (es : List Entry) (g : List Introduction) (begun : ℕ → Type 0) (w : Written) (scope : ℕ) (u : UnionType) → Keeps es g begun w
       → AllSettled es g scope (union_steps u) → Fine (Wrote es (behind es g scope (union_steps u)) begun w) (union_type es w scope u)
@@ -321,26 +323,26 @@ mutual
       let front_is : behind es at (e + 1) (chosen ++ first) ≡ behind_first = both_behind es at (e + 1) chosen first chosen_closed front.0 in
       let whole_is : more ≡ behind es behind_first (e + 1) others =
       both_behind es at (e + 1) (chosen ++ first) others front_closed last.0 ∙ ap (λ k. behind es k (e + 1) others) front_is in
-      let line = declarator_line declarator in
+      let site = declarator_at declarator in
       let wrote = Wrote es more begun w in
       let done = done_stays es at (e + 1) ((chosen ++ first) ++ others) (suc e) (inl refl) in
       let now = with_begun e begun in
       subst (λ k. Fine (Wrote es k begun w) (union_type es w scope (UnionType' id switch p labels t declarator shape rest))) (sym body.whole)
       (given wrote (entry_of es scope id) e _ (entry_is es scope id e body.is)
-      (and_then (Begins es at begun w e) wrote (opened w e (line_of id)) _
-      (begins_fine es g begun w scope (line_of id) id Kinds.Union d e i refl body.is body.new (definition_entered es g begun w scope id Kinds.Union d e i refl body.is body.new)) (λ o b.
-      and_then (Chosen es behind_switch now o.written) wrote (switch_read es o.written (e + 1) (line_of id) switch) _
-      (switch_keeps es at now o.written (e + 1) (line_of id) switch b.keeps front.0) (λ s chose.
+      (and_then (Begins es at begun w e) wrote (opened w e (leaf_at id)) _
+      (begins_fine es g begun w scope (leaf_at id) id Kinds.Union d e i refl body.is body.new (definition_entered es g begun w scope id Kinds.Union d e i refl body.is body.new)) (λ o b.
+      and_then (Chosen es behind_switch now o.written) wrote (switch_read es o.written (e + 1) (leaf_at id) switch) _
+      (switch_keeps es at now o.written (e + 1) (leaf_at id) switch b.keeps front.0) (λ s chose.
       let start : HasCases es behind_switch now o.written s.switch (cases_of s.written no_arms) =
       record { keeps = chose.keeps; later = chose.later; switch = chose.switch; arms = no_arms_right s.written.nodes s.switch } in
       and_then (HasCases es behind_first now o.written s.switch) wrote
-      (case_added es (e + 1) s.switch (cases_of s.written no_arms) labels (λ v. type_spec es v (e + 1) line t) declarator) _
-      (added_case es behind_switch now o.written (e + 1) s.switch (cases_of s.written no_arms) labels (λ v. type_spec es v (e + 1) line t) t declarator start front.1
-      (λ k keeps hs. spec_keeps es k now s.written (e + 1) line t keeps hs)) (λ c h.
+      (case_added es (e + 1) s.switch (cases_of s.written no_arms) labels (λ v. type_spec es v (e + 1) site t) declarator) _
+      (added_case es behind_switch now o.written (e + 1) s.switch (cases_of s.written no_arms) labels (λ v. type_spec es v (e + 1) site t) t declarator start front.1
+      (λ k keeps hs. spec_keeps es k now s.written (e + 1) site t keeps hs)) (λ c h.
       and_then (HasCases es more now o.written s.switch) wrote (with_cases es (e + 1) s.switch c rest) _
       (subst (λ k. Fine (HasCases es k now o.written s.switch) (with_cases es (e + 1) s.switch c rest)) (sym whole_is)
       (cases_keep es behind_first now o.written (e + 1) s.switch c rest h (subst (λ k. AllSettled es k (e + 1) others) front_is last.1))) (λ c all.
-      union_closes es at begun w e (line_of id) o s.switch c b more all done))))))
+      union_closes es at begun w e (leaf_at id) o s.switch c b more all done))))))
 
   members_keep : {n : _} → (es : List Entry) (g : List Introduction) (begun : ℕ → Type 0) (w : Written) (before : List ℕ) (scope : ℕ) (m : WithMembers) (row : Row_of-Member n)
       → HasMembers es g begun w before 1 m → AllSettled es g scope (members_steps row)
@@ -352,12 +354,12 @@ mutual
       let others = members_steps rest in
       let split = both es g scope first others first_closed settled in
       let mid = behind es g scope first in
-      let line = declarator_line declarators.first in
+      let site = declarator_at declarators.first in
       let parts_of_type = both es g scope (type_steps t) (flat_map declarator_steps (parts declarators)) (type_closed t) split.0 in
       subst (λ k. Fine (HasMembers es k begun w before 1) (with_members es scope m (more_of-Member t declarators rest))) (sym (both_behind es g scope first others first_closed split.0))
       (and_then (HasMembers es mid begun w before 1) (HasMembers es (behind es mid scope others) begun w before 1)
-      (members_added es scope m.members (type_spec es m.written scope line t) declarators) _
-      (first_members es begun g w before 1 scope m t declarators (type_spec es m.written scope line t) h split.0 (spec_keeps es g begun m.written scope line t h.keeps parts_of_type.0))
+      (members_added es scope m.members (type_spec es m.written scope site t) declarators) _
+      (first_members es begun g w before 1 scope m t declarators (type_spec es m.written scope site t) h split.0 (spec_keeps es g begun m.written scope site t h.keeps parts_of_type.0))
       (λ next has. members_keep es mid begun w before scope next rest has split.1))
 
   cases_keep : {n : _} → (es : List Entry) (g : List Introduction) (begun : ℕ → Type 0) (w : Written) (scope : ℕ) (s : Switch) (c : Cases) (row : Row_of-Case n)
@@ -370,10 +372,10 @@ mutual
       let others = cases_steps rest in
       let split = both es g scope first others first_closed settled in
       let mid = behind es g scope first in
-      let line = declarator_line declarator in
+      let at = declarator_at declarator in
       subst (λ k. Fine (HasCases es k begun w s) (with_cases es scope s c (more_of-Case labels t declarator rest))) (sym (both_behind es g scope first others first_closed split.0))
       (and_then (HasCases es mid begun w s) (HasCases es (behind es mid scope others) begun w s)
-      (case_added es scope s c labels (λ v. type_spec es v scope line t) declarator) _
-      (added_case es g begun w scope s c labels (λ v. type_spec es v scope line t) t declarator h split.0
-      (λ k keeps hs. spec_keeps es k begun c.written scope line t keeps hs))
+      (case_added es scope s c labels (λ v. type_spec es v scope at t) declarator) _
+      (added_case es g begun w scope s c labels (λ v. type_spec es v scope at t) t declarator h split.0
+      (λ k keeps hs. spec_keeps es k begun c.written scope at t keeps hs))
       (λ next has. cases_keep es mid begun w scope s next rest has split.1))

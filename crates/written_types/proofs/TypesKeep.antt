@@ -3,6 +3,7 @@ use Rattle.std.proofs.Common.{◌≡◌, ◌∙◌, ℕ, ◌+◌, ◌≤◌, Boo
 use Rattle.std.specs.Prelude.{◌&&◌, ◌||◌, if◌then◌else◌, is_some, slice_get}
 use Rattle.std.specs.List.{AllByRecursion, flat_map}
 use Rattle.std.proofs.lemmas.List.Elements.{All-push}
+use Rattle.idl_tree.specs.declared.names.At.{At}
 use Rattle.idl_tree.specs.declared.names.Listed.{Listed}
 use Rattle.idl_tree.specs.declared.types.Declarator.{Declarator}
 use Rattle.idl_tree.specs.declared.types.Label.{Label}
@@ -11,7 +12,7 @@ use Rattle.idl_tree.specs.declared.types.SwitchType.{SwitchType}
 use Rattle.idl_tree.specs.declared.types.SwitchType.TheVariants as SwitchTypes
 use Rattle.idl_tree.specs.declared.types.TypeSpec.{TypeSpec}
 use Rattle.idl_tree.specs.Lists.{parts}
-use Rattle.idl_tree.specs.Starts.{expr_start}
+use Rattle.idl_tree.specs.Starts.{expr_start, leaf_at}
 use Rattle.type_graph.specs.declared.fault.GraphLimit.TheVariants.{Members as MembersLimit}
 use Rattle.type_graph.specs.declared.node.Node.{Node}
 use Rattle.type_graph.specs.declared.values.Values.{Values}
@@ -31,11 +32,13 @@ use Rattle.scoped_names.proofs.Parts.{Closed, both_closed, closed, each_closed}
 use Rattle.written_types.specs.declared.fault.BuildFault.{BuildFault}
 use Rattle.written_types.specs.declared.fault.BuildFault.TheVariants.{Types}
 use Rattle.written_types.specs.declared.fault.TypeFault.TheVariants.{LabelRange, LabelTwice}
+use Rattle.written_types.specs.declared.fault.TypeKind.{TypeKind}
 use Rattle.written_types.specs.declared.labels.Switch.{Switch}
-use Rattle.written_types.specs.Faults.{at_most, each, line_of, max_members, of_names}
-use Rattle.written_types.specs.Labels.{Arms, CaseLabels, Switched, is_value, label_added, label_number, label_value, label_within, no_labels, switch_kind, switch_line, switch_of, switch_read, switch_type, switched, value_added, values_of}
+use Rattle.written_types.specs.TypeKinds.{kind_of}
+use Rattle.written_types.specs.Faults.{at_most, each, max_members, of_names}
+use Rattle.written_types.specs.Labels.{Arms, CaseLabels, Switched, is_value, label_added, label_number, label_value, label_within, no_labels, switch_kind, switch_at, switch_of, switch_read, switch_type, switched, value_added, values_of, default_at, out_of_range}
 use Rattle.written_types.specs.Members.{Members}
-use Rattle.written_types.specs.SimpleTypes.{array_type, declarator_line, entry_found, entry_of, integer_number, type_found}
+use Rattle.written_types.specs.SimpleTypes.{array_type, declarator_at, entry_found, entry_of, integer_number, type_found}
 use Rattle.written_types.specs.Types.{Cases, WithMembers, case_added, member_added, members_added, with_declarator, with_declarators, with_members_of}
 use Rattle.written_types.specs.Written.{Numbered, Written, already}
 use Rattle.written_types.proofs.RisingArms.{AreArms, AreLabels, arms_stay, case_arms, value_fine}
@@ -66,11 +69,11 @@ first_end : (ns : List ℕ) (m n : ℕ) → slice_get ns 0 ≡ Some n → slice_
 first_end [] m n is = absurd cc
 first_end (k ∷ ns) m n is = is
 
-pub member_fine : (graph : List Node) (before : List ℕ) (least : ℕ) (ms : Members) (number line : ℕ) → AreRight graph before least ms → IsPart graph number
-    → Fine (AreRight graph before 1) (member_added ms number line)
-member_fine graph before least ms number line h part =
+pub member_fine : (graph : List Node) (before : List ℕ) (least : ℕ) (ms : Members) (number : ℕ) (at : At) → AreRight graph before least ms → IsPart graph number
+    → Fine (AreRight graph before 1) (member_added ms number at)
+member_fine graph before least ms number at h part =
     and_then (λ k. (k ≡ length ms.numbers + 1) × (length ms.numbers + 1 ≤ max_members)) (AreRight graph before 1)
-    (at_most max_members MembersLimit line (length ms.numbers + 1)) _ (at_most_fine max_members MembersLimit line (length ms.numbers + 1)) (λ k fits.
+    (at_most max_members MembersLimit at (length ms.numbers + 1)) _ (at_most_fine max_members MembersLimit at (length ms.numbers + 1)) (λ k fits.
     let long = length-append ms.numbers (number ∷ []) in
     let le = fits.1 in
     record {
@@ -95,9 +98,9 @@ declarator_keeps es g begun w before least scope number m d h part (s, ss) =
     let there = part_stays w.nodes m.written.nodes h.later.nodes number part in
     and_then (Adds es g begun m.written) (HasMembers es more begun w before 1) (array_type es scope (already m.written number) d) _
     (array_keeps es g _ begun m.written scope (already m.written number) d (still_fine es g begun m.written number h.keeps there) ss) (λ a adds.
-    and_then (AreRight a.written.nodes before 1) (HasMembers es more begun w before 1) (member_added m.members a.number (declarator_line d))
+    and_then (AreRight a.written.nodes before 1) (HasMembers es more begun w before 1) (member_added m.members a.number (declarator_at d))
     (λ ms. Ok (with_members_of a.written ms))
-    (member_fine a.written.nodes before least m.members a.number (declarator_line d) (right_later m.written a.written before least m.members adds.later h.right) adds.part) (λ ms right.
+    (member_fine a.written.nodes before least m.members a.number (declarator_at d) (right_later m.written a.written before least m.members adds.later h.right) adds.part) (λ ms right.
     record {
       keeps = silent_keeps es g begun a.written scope (declarator_steps d) (tt, each_silent size_step (λ size. tt) d.sizes.items) (s, ss) adds.keeps;
       later = later_on w m.written a.written h.later adds.later;
@@ -175,29 +178,30 @@ switch_kind_fine es g scope (SwitchTypes.Name name) h =
     let (e, found) = finds_entry es scope name h.0.holds in
     given (λ kind. Unit {0}) (entry_found es scope name) e _ found tt
 
-switch_of_fine : (line n : ℕ) (kind : Option ConstKind) (values : Option Values) → Fine (λ s. (s.number ≡ n) × (values ≡ Some s.values)) (switch_of line n kind values)
-switch_of_fine line n (Some kind) (Some values) = (refl, refl)
-switch_of_fine line n (Some kind) None = tt
-switch_of_fine line n None values = tt
+switch_of_fine : (at : At) (found : Option TypeKind) (n : ℕ) (kind : Option ConstKind) (values : Option Values) → Fine (λ s. (s.number ≡ n) × (values ≡ Some s.values)) (switch_of at found n kind values)
+switch_of_fine at found n (Some kind) (Some values) = (refl, refl)
+switch_of_fine at found n (Some kind) None = tt
+switch_of_fine at found n None values = tt
 
-pub switch_keeps : (es : List Entry) (g : List Introduction) (begun : ℕ → Type 0) (w : Written) (scope line : ℕ) (s : SwitchType) → Keeps es g begun w
-    → AllSettled es g scope (switch_steps s) → Fine (Chosen es (behind es g scope (switch_steps s)) begun w) (switch_read es w scope line s)
-switch_keeps es g begun w scope line s i h =
+pub switch_keeps : (es : List Entry) (g : List Introduction) (begun : ℕ → Type 0) (w : Written) (scope : ℕ) (at : At) (s : SwitchType) → Keeps es g begun w
+    → AllSettled es g scope (switch_steps s) → Fine (Chosen es (behind es g scope (switch_steps s)) begun w) (switch_read es w scope at s)
+switch_keeps es g begun w scope at s i h =
     let more = behind es g scope (switch_steps s) in
     and_then (Wrote es more begun w) (Chosen es more begun w) (switch_type es w scope s) _ (switch_type_keeps es g begun w scope s i h) (λ t wrote.
     and_then (λ kind. Unit {0}) (Chosen es more begun w) (switch_kind es scope s) _ (switch_kind_fine es g scope s h) (λ kind u.
     let values = values_of (slice_get t.written.nodes t.number) in
-    and_then (λ s. (s.number ≡ t.number) × (values ≡ Some s.values)) (Chosen es more begun w) (switch_of (switch_line s line) t.number kind values)
-    (λ switch. Ok (switched t.written switch)) (switch_of_fine (switch_line s line) t.number kind values) (λ switch is.
+    let found = kind_of t.number (slice_get t.written.nodes t.number) in
+    and_then (λ s. (s.number ≡ t.number) × (values ≡ Some s.values)) (Chosen es more begun w) (switch_of (switch_at s at) found t.number kind values)
+    (λ switch. Ok (switched t.written switch)) (switch_of_fine (switch_at s at) found t.number kind values) (λ switch is.
     record { keeps = wrote.keeps; later = wrote.later; switch = ap (λ n. values_of (slice_get t.written.nodes n)) is.0 ∙ is.1 })))
 
 -- ---- labels
 
-label_within_fine : (s : Switch) (line : ℕ) (c : Constant) (o : Option ℤ) → Fine (λ n. is_value s.values n ≡ true) (label_within s line c o)
-label_within_fine s line c None = tt
-label_within_fine s line c (Some n) = by (fits s.kind c) (is_value s.values n) refl
+label_within_fine : (s : Switch) (at : At) (c : Constant) (o : Option ℤ) → Fine (λ n. is_value s.values n ≡ true) (label_within s at c o)
+label_within_fine s at c None = tt
+label_within_fine s at c (Some n) = by (fits s.kind c) (is_value s.values n) refl
   where
-    by : (b v : Bool) → is_value s.values n ≡ v → Fine (λ n. is_value s.values n ≡ true) (if b && v then Ok n else Err (Types (LabelRange line)))
+    by : (b v : Bool) → is_value s.values n ≡ v → Fine (λ n. is_value s.values n ≡ true) (if b && v then Ok n else Err (Types (out_of_range s at c)))
     by true true is = is
     by true false is = tt
     by false v is = tt
@@ -205,14 +209,14 @@ label_within_fine s line c (Some n) = by (fits s.kind c) (is_value s.values n) r
 label_fine : (es : List Entry) (g : List Introduction) (scope : ℕ) (s : Switch) (a : Arms) (ls : CaseLabels) (l : Label) → AllSettled es g scope (label_steps l) → AreLabels s a ls
     → Fine (AreLabels s a) (label_added es scope s a ls l)
 label_fine es g scope s a ls (CaseLabel e) h are =
-    let line = line_of (expr_start e.expr) in
+    let at = leaf_at (expr_start e.expr) in
     let (c, is) = there_is (value_read es scope e.expr) h.0.holds.answered in
-    and_then (λ n. is_value s.values n ≡ true) (AreLabels s a) (label_value es scope s e.expr) (λ n. value_added a ls line n)
-    (given (λ n. is_value s.values n ≡ true) (of_names (value_read es scope e.expr)) c (λ c. label_within s line c (label_number c)) (ap of_names is)
-    (label_within_fine s line c (label_number c))) (λ n value. value_fine s a ls line n are value)
-label_fine es g scope s a ls (Default word) h are = by (is_some a.default || is_some ls.default)
+    and_then (λ n. is_value s.values n ≡ true) (AreLabels s a) (label_value es scope s e.expr) (λ n. value_added a ls at n)
+    (given (λ n. is_value s.values n ≡ true) (of_names (value_read es scope e.expr)) c (λ c. label_within s at c (label_number c)) (ap of_names is)
+    (label_within_fine s at c (label_number c))) (λ n value. value_fine s a ls at n are value)
+label_fine es g scope s a ls (Default word) h are = by (is_some (default_at a ls))
   where
-    by : (b : Bool) → Fine (AreLabels s a) (if b then Err (Types (LabelTwice (line_of word))) else Ok (record ls { default = Some (line_of word) }))
+    by : (b : Bool) → Fine (AreLabels s a) (if b then Err (Types (LabelTwice (leaf_at word) (default_at a ls))) else Ok (record ls { default = Some (leaf_at word) }))
     by true = tt
     by false = record { limited = are.limited; values = are.values; apart = are.apart }
 
@@ -273,5 +277,5 @@ added_case es g begun w scope s c labels type t d h settled typed =
       keeps = silent_keeps es behind_type begun a.written scope ds (tt, each_silent size_step (λ size. tt) d.sizes.items) settled_ds adds.keeps;
       later = later_on w c.written a.written h.later on;
       switch = switch_stays c.written.nodes a.written.nodes on.nodes s h.switch;
-      arms = case_arms a.written.nodes s c.arms a.number (declarator_line d) m (arms_stay c.written.nodes a.written.nodes on.nodes s c.arms h.arms) are adds.part;
+      arms = case_arms a.written.nodes s c.arms a.number (declarator_at d) m (arms_stay c.written.nodes a.written.nodes on.nodes s c.arms h.arms) are adds.part;
     }))))

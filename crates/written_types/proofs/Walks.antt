@@ -1,6 +1,7 @@
 -- What structures and unions write, by the lists of their members and cases, step by step.
 use Rattle.std.proofs.Common.{◌≡◌, ◌∙◌, ℕ, zero, suc, ◌+◌, ◌-◌, ◌<◌, ◌≤◌, List, [], ◌∷◌, drop, get_or, length, Result, Ok, Err, refl, sym, ap, arith}
 use Rattle.std.proofs.Math.Seq.{drop-cons}
+use Rattle.idl_tree.specs.declared.names.At.{At}
 use Rattle.type_graph.specs.declared.node.Node.TheVariants.{Array}
 use Rattle.idl_tree.specs.declared.names.Leaf.{Leaf}
 use Rattle.idl_tree.specs.declared.types.Member.{Member}
@@ -9,11 +10,12 @@ use Rattle.idl_tree.specs.declared.types.SwitchType.{SwitchType}
 use Rattle.idl_tree.specs.declared.types.StructType.{StructType, out-StructType}
 use Rattle.idl_tree.specs.declared.types.UnionType.{UnionType, out-UnionType}
 use Rattle.idl_tree.proofs.Rows.{struct_walk, union_walk}
+use Rattle.idl_tree.specs.Starts.{leaf_at}
 use Rattle.name_table.specs.Entry.{Entry}
 use Rattle.scoped_names.specs.Reading.{◌>>◌}
 use Rattle.written_types.specs.declared.fault.BuildFault.{BuildFault}
 use Rattle.written_types.specs.declared.labels.Switch.{Switch}
-use Rattle.written_types.specs.Faults.{each, line_of}
+use Rattle.written_types.specs.Faults.{each}
 use Rattle.written_types.specs.Members.{Members}
 use Rattle.written_types.specs.Written.{Numbered, Written, added_at, already, opened}
 use Rattle.written_types.specs.SimpleTypes.{arrays, entry_of}
@@ -30,27 +32,27 @@ stops r fault next is = ap (λ r. r >> next) is
 
 -- ---- arrays
 
-arrays_stop : (element : Numbered) (line : ℕ) (xs : List ℕ) (k : ℕ) (fault : BuildFault) → arrays element line (drop k xs) ≡ Err fault → arrays element line xs ≡ Err fault
-arrays_stop element line xs zero fault is = is
-arrays_stop element line [] (suc k) fault is = is
-arrays_stop element line (x ∷ xs) (suc k) fault is =
-    ap (λ r. r >> λ inner. added_at inner.written (Array inner.number x) line) (arrays_stop element line xs k fault is)
+arrays_stop : (element : Numbered) (at : At) (xs : List ℕ) (k : ℕ) (fault : BuildFault) → arrays element at (drop k xs) ≡ Err fault → arrays element at xs ≡ Err fault
+arrays_stop element at xs zero fault is = is
+arrays_stop element at [] (suc k) fault is = is
+arrays_stop element at (x ∷ xs) (suc k) fault is =
+    ap (λ r. r >> λ inner. added_at inner.written (Array inner.number x) at) (arrays_stop element at xs k fault is)
 
 -- an array before those that are there
-pub arrays_off : (element : Numbered) (w : Written) (n line left : ℕ) (xs : List ℕ) (fault : BuildFault) → 0 < left → left ≤ length xs
-    → arrays element line (drop left xs) ≡ Ok (already w n) → added_at w (Array n (get_or xs (left - 1) 0)) line ≡ Err fault → arrays element line xs ≡ Err fault
-arrays_off element w n line left xs fault some within told is =
+pub arrays_off : (element : Numbered) (w : Written) (n : ℕ) (at : At) (left : ℕ) (xs : List ℕ) (fault : BuildFault) → 0 < left → left ≤ length xs
+    → arrays element at (drop left xs) ≡ Ok (already w n) → added_at w (Array n (get_or xs (left - 1) 0)) at ≡ Err fault → arrays element at xs ≡ Err fault
+arrays_off element w n at left xs fault some within told is =
     let next : suc (left - 1) ≡ left = omega arith in
     let lt : left - 1 < length xs = omega arith in
     let split : drop (left - 1) xs ≡ get_or xs (left - 1) 0 ∷ drop left xs =
     drop-cons xs (left - 1) 0 lt ∙ ap (λ j. get_or xs (left - 1) 0 ∷ drop j xs) next in
-    arrays_stop element line xs (left - 1) fault
-    (ap (arrays element line) split ∙ ap (λ r. r >> λ inner. added_at inner.written (Array inner.number (get_or xs (left - 1) 0)) line) told ∙ is)
+    arrays_stop element at xs (left - 1) fault
+    (ap (arrays element at) split ∙ ap (λ r. r >> λ inner. added_at inner.written (Array inner.number (get_or xs (left - 1) 0)) at) told ∙ is)
 
 -- ---- structures
 
 abbrev pub struct_close : Leaf → Numbered → WithMembers → Result Numbered BuildFault
-struct_close id o m = struct_defined m o.number (line_of id) >> λ behind. Ok (already behind o.number)
+struct_close id o m = struct_defined m o.number (leaf_at id) >> λ behind. Ok (already behind o.number)
 
 abbrev pub struct_more : List Entry → Leaf → List Member → ℕ → Numbered → WithMembers → Result Numbered BuildFault
 struct_more es id rest e o m = each (with_member es (e + 1)) m rest >> struct_close id o
@@ -59,7 +61,7 @@ abbrev pub struct_open : List Entry → Leaf → Member → List Member → ℕ 
 struct_open es id x rest e o = with_member es (e + 1) (with_members_of o.written no_members) x >> struct_more es id rest e o
 
 abbrev pub struct_in : List Entry → Written → Leaf → Member → List Member → ℕ → Result Numbered BuildFault
-struct_in es w id x rest e = opened w e (line_of id) >> struct_open es id x rest e
+struct_in es w id x rest e = opened w e (leaf_at id) >> struct_open es id x rest e
 
 abbrev pub struct_all : List Entry → Written → ℕ → Leaf → Member → List Member → Result Numbered BuildFault
 struct_all es w scope id x rest = entry_of es scope id >> struct_in es w id x rest
@@ -76,7 +78,7 @@ pub struct_told : (es : List Entry) (w : Written) (scope : ℕ) (s : StructType)
 struct_told es w scope s =
     ap (λ walk. walk es w scope) (struct_walk {A = TypeWalk} {B = MemberWalk} (λ t es w scope. struct_type es w scope t)
     (λ n row es scope m. with_members es scope m row)
-    (λ id x rest es w scope. entry_of es scope id >> λ e. opened w e (line_of id) >> λ o.
+    (λ id x rest es w scope. entry_of es scope id >> λ e. opened w e (leaf_at id) >> λ o.
     with_member es (e + 1) (with_members_of o.written no_members) x >> λ m. rest es (e + 1) m >> struct_close id o)
     (λ es scope m. Ok m) (λ x rest es scope m. with_member es scope m x >> λ next. rest es scope next) (λ xs es scope m. each (with_member es scope) m xs)
     (λ id p m shape row. refl) refl (λ n x row. refl) refl (λ x xs. refl) s)
@@ -84,7 +86,7 @@ struct_told es w scope s =
 -- ---- unions
 
 abbrev pub union_close : Leaf → Numbered → Switch → Cases → Result Numbered BuildFault
-union_close id o s c = union_defined s c o.number (line_of id) >> λ behind. Ok (already behind o.number)
+union_close id o s c = union_defined s c o.number (leaf_at id) >> λ behind. Ok (already behind o.number)
 
 abbrev pub union_more : List Entry → Leaf → List Case → ℕ → Numbered → Switch → Cases → Result Numbered BuildFault
 union_more es id rest e o s c = each (with_case_of es (e + 1) s) c rest >> union_close id o s
@@ -93,10 +95,10 @@ abbrev pub union_switched : List Entry → Leaf → Case → List Case → ℕ �
 union_switched es id x rest e o s = with_case_of es (e + 1) s.switch (cases_of s.written no_arms) x >> union_more es id rest e o s.switch
 
 abbrev pub union_open : List Entry → Leaf → SwitchType → Case → List Case → ℕ → Numbered → Result Numbered BuildFault
-union_open es id switch x rest e o = switch_read es o.written (e + 1) (line_of id) switch >> union_switched es id x rest e o
+union_open es id switch x rest e o = switch_read es o.written (e + 1) (leaf_at id) switch >> union_switched es id x rest e o
 
 abbrev pub union_in : List Entry → Written → Leaf → SwitchType → Case → List Case → ℕ → Result Numbered BuildFault
-union_in es w id switch x rest e = opened w e (line_of id) >> union_open es id switch x rest e
+union_in es w id switch x rest e = opened w e (leaf_at id) >> union_open es id switch x rest e
 
 abbrev pub union_all : List Entry → Written → ℕ → Leaf → SwitchType → Case → List Case → Result Numbered BuildFault
 union_all es w scope id switch x rest = entry_of es scope id >> union_in es w id switch x rest
@@ -109,8 +111,8 @@ pub union_told : (es : List Entry) (w : Written) (scope : ℕ) (u : UnionType) �
 union_told es w scope u =
     ap (λ walk. walk es w scope) (union_walk {A = TypeWalk} {B = CaseWalk} (λ t es w scope. union_type es w scope t)
     (λ n row es scope s c. with_cases es scope s c row)
-    (λ id switch x rest es w scope. entry_of es scope id >> λ e. opened w e (line_of id) >> λ o.
-    switch_read es o.written (e + 1) (line_of id) switch >> λ s.
+    (λ id switch x rest es w scope. entry_of es scope id >> λ e. opened w e (leaf_at id) >> λ o.
+    switch_read es o.written (e + 1) (leaf_at id) switch >> λ s.
     with_case_of es (e + 1) s.switch (cases_of s.written no_arms) x >> λ c. rest es (e + 1) s.switch c >> union_close id o s.switch)
     (λ es scope s c. Ok c) (λ x rest es scope s c. with_case_of es scope s c x >> λ next. rest es scope s next) (λ xs es scope s c. each (with_case_of es scope s) c xs)
     (λ id switch p c shape row. refl) refl (λ n x row. refl) refl (λ x xs. refl) u)
@@ -132,9 +134,9 @@ struct_entered es w scope s e told =
     struct_told es w scope s ∙ goes_on (entry_of es scope (id_of s)) e (struct_in es w (id_of s) (first_of s) (rest_of s)) (sym told)
 
 pub struct_opened : (es : List Entry) (w : Written) (scope : ℕ) (s : StructType) (e : ℕ) (o : Numbered) → Ok e ≡ entry_of es scope (id_of s)
-    → opened w e (line_of (id_of s)) ≡ Ok o → struct_type es w scope s ≡ struct_open es (id_of s) (first_of s) (rest_of s) e o
+    → opened w e (leaf_at (id_of s)) ≡ Ok o → struct_type es w scope s ≡ struct_open es (id_of s) (first_of s) (rest_of s) e o
 struct_opened es w scope s e o told opens =
-    struct_entered es w scope s e told ∙ goes_on (opened w e (line_of (id_of s))) o (struct_open es (id_of s) (first_of s) (rest_of s) e) opens
+    struct_entered es w scope s e told ∙ goes_on (opened w e (leaf_at (id_of s))) o (struct_open es (id_of s) (first_of s) (rest_of s) e) opens
 
 pub first_member : (es : List Entry) (scope : ℕ) (w : Written) (ms : Members) (x y : Member) → ms ≡ no_members → x ≡ y
     → with_member es scope (with_members_of w no_members) y ≡ with_member es scope (with_members_of w ms) x
@@ -142,14 +144,14 @@ first_member es scope w ms x y none same =
     ap (λ m. with_member es scope (with_members_of w m) y) (sym none) ∙ ap (with_member es scope (with_members_of w ms)) (sym same)
 
 pub struct_begun : (es : List Entry) (w : Written) (scope : ℕ) (s : StructType) (e : ℕ) (o : Numbered) (m : WithMembers) → Ok e ≡ entry_of es scope (id_of s)
-    → opened w e (line_of (id_of s)) ≡ Ok o → with_member es (e + 1) (with_members_of o.written no_members) (first_of s) ≡ Ok m
+    → opened w e (leaf_at (id_of s)) ≡ Ok o → with_member es (e + 1) (with_members_of o.written no_members) (first_of s) ≡ Ok m
     → struct_type es w scope s ≡ struct_more es (id_of s) (rest_of s) e o m
 struct_begun es w scope s e o m told opens first =
     struct_opened es w scope s e o told opens
     ∙ goes_on (with_member es (e + 1) (with_members_of o.written no_members) (first_of s)) m (struct_more es (id_of s) (rest_of s) e o) first
 
 pub struct_walked : (es : List Entry) (w : Written) (scope : ℕ) (s : StructType) (e : ℕ) (o : Numbered) (m n : WithMembers) → Ok e ≡ entry_of es scope (id_of s)
-    → opened w e (line_of (id_of s)) ≡ Ok o → with_member es (e + 1) (with_members_of o.written no_members) (first_of s) ≡ Ok m
+    → opened w e (leaf_at (id_of s)) ≡ Ok o → with_member es (e + 1) (with_members_of o.written no_members) (first_of s) ≡ Ok m
     → each (with_member es (e + 1)) m (rest_of s) ≡ Ok n → struct_type es w scope s ≡ struct_close (id_of s) o n
 struct_walked es w scope s e o m n told opens first rest =
     struct_begun es w scope s e o m told opens first
@@ -175,17 +177,17 @@ union_entered es w scope u e told =
     union_told es w scope u ∙ goes_on (entry_of es scope (union_id u)) e (union_in es w (union_id u) (switch_of u) (first_case u) (more_cases u)) (sym told)
 
 pub union_opened : (es : List Entry) (w : Written) (scope : ℕ) (u : UnionType) (e : ℕ) (o : Numbered) → Ok e ≡ entry_of es scope (union_id u)
-    → opened w e (line_of (union_id u)) ≡ Ok o → union_type es w scope u ≡ union_open es (union_id u) (switch_of u) (first_case u) (more_cases u) e o
+    → opened w e (leaf_at (union_id u)) ≡ Ok o → union_type es w scope u ≡ union_open es (union_id u) (switch_of u) (first_case u) (more_cases u) e o
 union_opened es w scope u e o told opens =
     union_entered es w scope u e told
-    ∙ goes_on (opened w e (line_of (union_id u))) o (union_open es (union_id u) (switch_of u) (first_case u) (more_cases u) e) opens
+    ∙ goes_on (opened w e (leaf_at (union_id u))) o (union_open es (union_id u) (switch_of u) (first_case u) (more_cases u) e) opens
 
 pub union_chosen : (es : List Entry) (w : Written) (scope : ℕ) (u : UnionType) (e : ℕ) (o : Numbered) (s : Switched) → Ok e ≡ entry_of es scope (union_id u)
-    → opened w e (line_of (union_id u)) ≡ Ok o → switch_read es o.written (e + 1) (line_of (union_id u)) (switch_of u) ≡ Ok s
+    → opened w e (leaf_at (union_id u)) ≡ Ok o → switch_read es o.written (e + 1) (leaf_at (union_id u)) (switch_of u) ≡ Ok s
     → union_type es w scope u ≡ union_switched es (union_id u) (first_case u) (more_cases u) e o s
 union_chosen es w scope u e o s told opens switches =
     union_opened es w scope u e o told opens
-    ∙ goes_on (switch_read es o.written (e + 1) (line_of (union_id u)) (switch_of u)) s (union_switched es (union_id u) (first_case u) (more_cases u) e o) switches
+    ∙ goes_on (switch_read es o.written (e + 1) (leaf_at (union_id u)) (switch_of u)) s (union_switched es (union_id u) (first_case u) (more_cases u) e o) switches
 
 pub first_cases : (es : List Entry) (scope : ℕ) (s : Switch) (w : Written) (a : Arms) (x y : Case) → a ≡ no_arms → x ≡ y
     → with_case_of es scope s (cases_of w no_arms) y ≡ with_case_of es scope s (cases_of w a) x
@@ -193,7 +195,7 @@ first_cases es scope s w a x y none same =
     ap (λ b. with_case_of es scope s (cases_of w b) y) (sym none) ∙ ap (with_case_of es scope s (cases_of w a)) (sym same)
 
 pub union_begun : (es : List Entry) (w : Written) (scope : ℕ) (u : UnionType) (e : ℕ) (o : Numbered) (s : Switched) (c : Cases) → Ok e ≡ entry_of es scope (union_id u)
-    → opened w e (line_of (union_id u)) ≡ Ok o → switch_read es o.written (e + 1) (line_of (union_id u)) (switch_of u) ≡ Ok s
+    → opened w e (leaf_at (union_id u)) ≡ Ok o → switch_read es o.written (e + 1) (leaf_at (union_id u)) (switch_of u) ≡ Ok s
     → with_case_of es (e + 1) s.switch (cases_of s.written no_arms) (first_case u) ≡ Ok c
     → union_type es w scope u ≡ union_more es (union_id u) (more_cases u) e o s.switch c
 union_begun es w scope u e o s c told opens switches first =
@@ -201,7 +203,7 @@ union_begun es w scope u e o s c told opens switches first =
     ∙ goes_on (with_case_of es (e + 1) s.switch (cases_of s.written no_arms) (first_case u)) c (union_more es (union_id u) (more_cases u) e o s.switch) first
 
 pub union_walked : (es : List Entry) (w : Written) (scope : ℕ) (u : UnionType) (e : ℕ) (o : Numbered) (s : Switched) (c d : Cases) → Ok e ≡ entry_of es scope (union_id u)
-    → opened w e (line_of (union_id u)) ≡ Ok o → switch_read es o.written (e + 1) (line_of (union_id u)) (switch_of u) ≡ Ok s
+    → opened w e (leaf_at (union_id u)) ≡ Ok o → switch_read es o.written (e + 1) (leaf_at (union_id u)) (switch_of u) ≡ Ok s
     → with_case_of es (e + 1) s.switch (cases_of s.written no_arms) (first_case u) ≡ Ok c
     → each (with_case_of es (e + 1) s.switch) c (more_cases u) ≡ Ok d
     → union_type es w scope u ≡ union_close (union_id u) o s.switch d

@@ -2,13 +2,14 @@
 use Rattle.std.proofs.Common.{◌≡◌, ◌∙◌, ◌⊎◌, inl, inr, ℕ, suc, ◌+◌, ◌≤◌, le_refl, false, List, [], ◌∷◌, ◌++◌, length, length-append, Some, None, Ok, refl, sym, ap, subst, arith}
 use Rattle.std.specs.Prelude.{slice_get, slice_set}
 use Rattle.std.proofs.lemmas.List.{length-set}
+use Rattle.idl_tree.specs.declared.names.At.{At}
 use Rattle.type_graph.specs.declared.fault.GraphLimit.TheVariants.{Nodes, AllMembers}
 use Rattle.type_graph.specs.declared.node.Node.{Node}
 use Rattle.type_graph.specs.GraphRules.{IsNoFrame, IsNode, IsPart, all_members, members_in}
 use Rattle.name_table.specs.Entry.{Entry}
 use Rattle.scoped_names.specs.Faults.{has_body}
 use Rattle.scoped_names.specs.Introductions.{Introduction}
-use Rattle.type_paths.specs.Lines.{Lines}
+use Rattle.type_paths.specs.Sites.{Sites}
 use Rattle.written_types.specs.declared.place.Place.{Place}
 use Rattle.written_types.specs.declared.place.Place.TheVariants.{Typed}
 use Rattle.written_types.specs.Faults.{at_most, max_all_members, max_nodes}
@@ -23,17 +24,17 @@ use Rattle.name_table.proofs.Stability.{get_push_last}
 
 -- ---- a node more
 
-pub grown_sound : (w : Written) (node : Node) (lines : Lines) → IsSound w → IsRight (w.nodes ++ node ∷ []) node → next w + 1 ≤ max_nodes
-    → all_members w.nodes + members_in node ≤ w.members → IsSound (with_node w node lines)
-grown_sound w node lines s right fits room = record {
+pub grown_sound : (w : Written) (node : Node) (sites : Sites) → IsSound w → IsRight (w.nodes ++ node ∷ []) node → next w + 1 ≤ max_nodes
+    → all_members w.nodes + members_in node ≤ w.members → IsSound (with_node w node sites)
+grown_sound w node sites s right fits room = record {
   limited = let long = length-append w.nodes (node ∷ []) in omega (arith, long, fits);
   nodes = λ n old is. by n old (push_cases w.nodes node n old is);
   counted = let more = sum_push members_in w.nodes node in omega (arith, more, room);
   members = s.members;
-  lines =
+  sites =
       let long = length-append w.nodes (node ∷ []) in
-      let wide = length-append w.lines (lines ∷ []) in
-      omega (arith, long, wide, s.lines);
+      let wide = length-append w.sites (sites ∷ []) in
+      omega (arith, long, wide, s.sites);
   exceptions = let long = length-append w.nodes (node ∷ []) in let few = s.exceptions in omega (arith, long, few);
 }
   where
@@ -42,10 +43,10 @@ grown_sound w node lines s right fits room = record {
     by n old (inr (at, same)) = subst (IsRight (w.nodes ++ node ∷ [])) same right
 
 -- one that has its definition
-pub node_kept : (es : List Entry) (g : List Introduction) (begun : ℕ → Type 0) (w : Written) (node : Node) (lines : Lines) → Keeps es g begun w
+pub node_kept : (es : List Entry) (g : List Introduction) (begun : ℕ → Type 0) (w : Written) (node : Node) (sites : Sites) → Keeps es g begun w
     → IsNode w.nodes node → (node ≡ undefined → ⊥) → next w + 1 ≤ max_nodes → all_members w.nodes + members_in node ≤ w.members
-    → Keeps es g begun (with_node w node lines)
-node_kept es g begun w node lines i right defined fits room =
+    → Keeps es g begun (with_node w node sites)
+node_kept es g begun w node sites i right defined fits room =
     let grows = push_grows w.nodes node in
     let later = w.nodes ++ node ∷ [] in
     record {
@@ -64,15 +65,15 @@ node_kept es g begun w node lines i right defined fits room =
       ahead = λ e n body place yet. push_low w.nodes node n undefined (i.ahead e n body place yet);
       left = λ n is. by n (push_cases w.nodes node n undefined is);
       basic = λ n old is. push_low w.nodes node n old (i.basic n old is);
-      sound = grown_sound w node lines i.sound (inr (node_stays w.nodes later grows node right)) fits room;
+      sound = grown_sound w node sites i.sound (inr (node_stays w.nodes later grows node right)) fits room;
     }
   where
     by : (n : ℕ) → (slice_get w.nodes n ≡ Some undefined) ⊎ ((n ≡ length w.nodes) × (node ≡ undefined)) → IsLeft es g begun w.places n
     by n (inl is) = i.left n is
     by n (inr (at, same)) = absurd (defined same)
 
-pub node_later : (w : Written) (node : Node) (lines : Lines) → Later w (with_node w node lines)
-node_later w node lines = record { nodes = push_grows w.nodes node; places = λ e p is. is; exceptions = le_refl (length w.exceptions) }
+pub node_later : (w : Written) (node : Node) (sites : Sites) → Later w (with_node w node sites)
+node_later w node sites = record { nodes = push_grows w.nodes node; places = λ e p is. is; exceptions = le_refl (length w.exceptions) }
 
 -- what is written behind what declares nothing
 pub record Adds (es : List Entry) (g : List Introduction) (begun : ℕ → Type 0) (w : Written) (n : Numbered) : Type 0 where
@@ -83,15 +84,15 @@ pub record Adds (es : List Entry) (g : List Introduction) (begun : ℕ → Type 
   pub exceptions : n.written.exceptions ≡ w.exceptions
 
 -- a node that others may refer to, and that counts no members
-pub added_fine : (es : List Entry) (g : List Introduction) (begun : ℕ → Type 0) (w : Written) (node : Node) (lines : Lines) → Keeps es g begun w
-    → IsNode w.nodes node → (node ≡ undefined → ⊥) → IsNoFrame node → members_in node ≡ 0 → Fine (Adds es g begun w) (added w node lines)
-added_fine es g begun w node lines i right defined plain none =
-    and_then (λ k. (k ≡ next w + 1) × (next w + 1 ≤ max_nodes)) (Adds es g begun w) (at_most max_nodes Nodes lines.line (next w + 1)) _
-    (at_most_fine max_nodes Nodes lines.line (next w + 1)) (λ k h.
+pub added_fine : (es : List Entry) (g : List Introduction) (begun : ℕ → Type 0) (w : Written) (node : Node) (sites : Sites) → Keeps es g begun w
+    → IsNode w.nodes node → (node ≡ undefined → ⊥) → IsNoFrame node → members_in node ≡ 0 → Fine (Adds es g begun w) (added w node sites)
+added_fine es g begun w node sites i right defined plain none =
+    and_then (λ k. (k ≡ next w + 1) × (next w + 1 ≤ max_nodes)) (Adds es g begun w) (at_most max_nodes Nodes sites.at (next w + 1)) _
+    (at_most_fine max_nodes Nodes sites.at (next w + 1)) (λ k h.
     let room : all_members w.nodes + members_in node ≤ w.members = let all = i.sound.counted in omega (arith, all, none) in
     record {
-      keeps = node_kept es g begun w node lines i right defined h.1 room;
-      later = node_later w node lines;
+      keeps = node_kept es g begun w node sites i right defined h.1 room;
+      later = node_later w node sites;
       part = is_some_and (slice_get (w.nodes ++ node ∷ []) (length w.nodes)) IsNoFrame node (get_push_last w.nodes node) plain;
       places = refl;
       exceptions = refl;
@@ -106,11 +107,11 @@ pub record Counts (es : List Entry) (g : List Introduction) (begun : ℕ → Typ
   pub exceptions : v.exceptions ≡ w.exceptions
   pub room : all_members w.nodes + count ≤ v.members
 
-pub counted_fine : (es : List Entry) (g : List Introduction) (begun : ℕ → Type 0) (w : Written) (count line : ℕ) → Keeps es g begun w
-    → Fine (Counts es g begun w count) (counted w count line)
-counted_fine es g begun w count line i =
+pub counted_fine : (es : List Entry) (g : List Introduction) (begun : ℕ → Type 0) (w : Written) (count : ℕ) (at : At) → Keeps es g begun w
+    → Fine (Counts es g begun w count) (counted w count at)
+counted_fine es g begun w count at i =
     and_then (λ k. (k ≡ w.members + count) × (w.members + count ≤ max_all_members)) (Counts es g begun w count)
-    (at_most max_all_members AllMembers line (w.members + count)) _ (at_most_fine max_all_members AllMembers line (w.members + count)) (λ k h.
+    (at_most max_all_members AllMembers at (w.members + count)) _ (at_most_fine max_all_members AllMembers at (w.members + count)) (λ k h.
     let s = i.sound in
     let all = s.counted in
     let is = h.0 in
@@ -130,7 +131,7 @@ counted_fine es g begun w count line i =
         ahead = i.ahead;
         left = i.left;
         basic = i.basic;
-        sound = record { limited = s.limited; nodes = s.nodes; counted = omega (arith, all, is); members = omega (arith, is, fits); lines = s.lines; exceptions = s.exceptions };
+        sound = record { limited = s.limited; nodes = s.nodes; counted = omega (arith, all, is); members = omega (arith, is, fits); sites = s.sites; exceptions = s.exceptions };
       };
       later = record { nodes = λ n node there. inl there; places = λ e p there. there; exceptions = le_refl (length w.exceptions) };
       nodes = refl;
@@ -175,7 +176,7 @@ place_kept es g more before begun w e x p exceptions i widens none at no_body ha
   ahead = λ f n body place yet. i.ahead f n body (earlier f n body place) (not_yet f yet);
   left = λ n is. left n (i.left n is);
   basic = i.basic;
-  sound = record { limited = i.sound.limited; nodes = i.sound.nodes; counted = i.sound.counted; members = i.sound.members; lines = i.sound.lines; exceptions = few };
+  sound = record { limited = i.sound.limited; nodes = i.sound.nodes; counted = i.sound.counted; members = i.sound.members; sites = i.sound.sites; exceptions = few };
 }
   where
     known : (f : ℕ) (q : Place) → ((f ≡ e) × (Some p ≡ Some q)) ⊎ ((f ≡ e → ⊥) × (slice_get w.places f ≡ Some (Some q))) → Known es more f

@@ -1,5 +1,6 @@
 -- What the declarations of modules and interfaces write (ISO/IEC 19500-1, type, constant and exception declaration).
 use Rattle.std.specs.Prelude.{ℕ, ◌+◌, List, [], ◌∷◌, length, Result, Ok}
+use Rattle.idl_tree.specs.declared.names.At.{At}
 use Rattle.idl_tree.specs.declared.names.Leaf.{Leaf}
 use Rattle.idl_tree.specs.declared.types.Declarator.{Declarator}
 use Rattle.idl_tree.specs.declared.definitions.TypeDcl.{TypeDcl}
@@ -8,14 +9,15 @@ use Rattle.idl_tree.specs.declared.definitions.Except.{Except}
 use Rattle.idl_tree.specs.declared.definitions.Declaration.{Declaration}
 use Rattle.idl_tree.specs.declared.definitions.Declaration.TheVariants as Declarations
 use Rattle.idl_tree.specs.Lists.{parts}
+use Rattle.idl_tree.specs.Starts.{leaf_at}
 use Rattle.type_graph.specs.declared.node.Node.TheVariants.{Frame}
 use Rattle.name_table.specs.Entry.{Entry}
 use Rattle.scoped_names.specs.Reading.{◌>>◌}
 use Rattle.written_types.specs.declared.fault.BuildFault.{BuildFault}
 use Rattle.written_types.specs.declared.place.Place.TheVariants.{Typed}
-use Rattle.written_types.specs.Faults.{each, line_of}
+use Rattle.written_types.specs.Faults.{each}
 use Rattle.written_types.specs.Written.{Written, added, already, counted, opened, placed, raised_at}
-use Rattle.written_types.specs.SimpleTypes.{array_type, const_type, declarator_line, entry_of, enum_type}
+use Rattle.written_types.specs.SimpleTypes.{array_type, const_type, declarator_at, entry_of, enum_type}
 use Rattle.written_types.specs.Members.{Members}
 use Rattle.written_types.specs.Types.{WithMembers, struct_type, type_spec, union_type, with_member, with_members_of}
 
@@ -27,11 +29,11 @@ with_typedef es scope number w d =
 
 -- a structure or a union that is declared ahead
 abbrev pub ahead : List Entry → Written → ℕ → Leaf → Result Written BuildFault
-ahead es w scope id = entry_of es scope id >> λ e. opened w e (line_of id) >> λ o. Ok o.written
+ahead es w scope id = entry_of es scope id >> λ e. opened w e (leaf_at id) >> λ o. Ok o.written
 
 abbrev pub type_dcl : List Entry → Written → ℕ → TypeDcl → Result Written BuildFault
 type_dcl es w scope (TypeDcls.Typedef t declarators) =
-    type_spec es w scope (declarator_line declarators.first) t >> λ n.
+    type_spec es w scope (declarator_at declarators.first) t >> λ n.
     each (with_typedef es scope n.number) n.written (parts declarators)
 type_dcl es w scope (TypeDcls.Struct s) = struct_type es w scope s >> λ n. Ok n.written
 type_dcl es w scope (TypeDcls.Union u) = union_type es w scope u >> λ n. Ok n.written
@@ -40,21 +42,21 @@ type_dcl es w scope (TypeDcls.StructAhead id) = ahead es w scope id
 type_dcl es w scope (TypeDcls.UnionAhead id) = ahead es w scope id
 
 -- the first member of an exception's frame is the repository id, a string
-abbrev pub id_member : ℕ → Members
-id_member line = record { numbers = 9 ∷ []; lines = line ∷ [] }
+abbrev pub id_member : At → Members
+id_member at = record { numbers = 9 ∷ []; sites = at ∷ [] }
 
 -- a frame behind the types of its members, which the exception of the entry has
-abbrev pub exception_added : WithMembers → ℕ → ℕ → Result Written BuildFault
-exception_added m e line =
-    counted m.written (length m.members.numbers) line >> λ w.
-    added w (Frame m.members.numbers) (record { line = line; held = m.members.lines }) >> λ frame.
+abbrev pub exception_added : WithMembers → ℕ → At → Result Written BuildFault
+exception_added m e at =
+    counted m.written (length m.members.numbers) at >> λ w.
+    added w (Frame m.members.numbers) (record { at = at; held = m.members.sites }) >> λ frame.
     raised_at frame.written e frame.number
 
 abbrev pub except : List Entry → Written → ℕ → Except → Result Written BuildFault
 except es w scope x =
     entry_of es scope x.identifier >> λ e.
-    each (with_member es (e + 1)) (with_members_of w (id_member (line_of x.identifier))) x.members.items >> λ m.
-    exception_added m e (line_of x.identifier)
+    each (with_member es (e + 1)) (with_members_of w (id_member (leaf_at x.identifier))) x.members.items >> λ m.
+    exception_added m e (leaf_at x.identifier)
 
 abbrev pub declaration : List Entry → Written → ℕ → Declaration → Result Written BuildFault
 declaration es w scope (Declarations.TypeDcl t) = type_dcl es w scope t

@@ -1,6 +1,6 @@
 -- What writing gives: what is written behind a part of a specification, or the first fault in it; and the limits.
 use Rattle.std.specs.Prelude.{◌≡◌, ◌⊎◌, ℕ, nat_lt, if◌then◌else◌, List, [], ◌∷◌, Option, Some, None, Result, Ok, Err, MatchResult}
-use Rattle.idl_tree.specs.declared.names.Leaf.{Leaf}
+use Rattle.idl_tree.specs.declared.names.At.{At}
 use Rattle.type_graph.specs.declared.fault.GraphLimit.{GraphLimit}
 use Rattle.scoped_names.specs.declared.fault.NameFault.{NameFault}
 use Rattle.scoped_names.specs.Reading.{◌>>◌}
@@ -31,9 +31,6 @@ or_other (Some x) = Ok x
 
 -- ---- limits
 
-abbrev pub line_of : Leaf → ℕ
-line_of l = l.token.now.line
-
 -- the types of a specification, the basic ones too
 abbrev pub max_nodes : ℕ
 max_nodes = 4096
@@ -57,9 +54,9 @@ max_size = 1048576
 abbrev pub max_bound : ℕ
 max_bound = 4294967295
 
-abbrev pub limit : GraphLimit → ℕ → BuildFault
-limit which line = Types (Limit which line)
+abbrev pub limit : GraphLimit → ℕ → At → BuildFault
+limit which most at = Types (Limit which most at)
 
 -- so many may not be more than the limit
-abbrev pub at_most : ℕ → GraphLimit → ℕ → ℕ → Result ℕ BuildFault
-at_most most which line n = (if nat_lt most n then Err (limit which line) else Ok n)
+abbrev pub at_most : ℕ → GraphLimit → At → ℕ → Result ℕ BuildFault
+at_most most which at n = (if nat_lt most n then Err (limit which most at) else Ok n)

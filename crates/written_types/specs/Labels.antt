@@ -2,12 +2,13 @@
 use Rattle.std.specs.Prelude.{ℕ, ◌+◌, ◌-◌, ◌/◌, Bool, true, false, ◌&&◌, ◌||◌, if◌then◌else◌, is_some, List, [], ◌∷◌, ◌++◌, length, Option, Some, None, Result, Ok, Err, slice_get, ℤ, pos, neg_ℤ, int_lt, int_le}
 use Rattle.std.specs.List.{list_any}
 use Rattle.std.specs.Ordering.{int_eq}
+use Rattle.idl_tree.specs.declared.names.At.{At}
 use Rattle.idl_tree.specs.declared.expression.Expr.{Expr}
 use Rattle.idl_tree.specs.declared.types.Label.{Label}
 use Rattle.idl_tree.specs.declared.types.Label.TheVariants.{Case as CaseLabel, Default}
 use Rattle.idl_tree.specs.declared.types.SwitchType.{SwitchType}
 use Rattle.idl_tree.specs.declared.types.SwitchType.TheVariants as SwitchTypes
-use Rattle.idl_tree.specs.Starts.{expr_start, name_start}
+use Rattle.idl_tree.specs.Starts.{expr_start, leaf_at, name_start}
 use Rattle.type_graph.specs.declared.fault.GraphLimit.TheVariants.{Members as MembersLimit}
 use Rattle.type_graph.specs.declared.node.Node.{Node}
 use Rattle.type_graph.specs.declared.node.Node.TheVariants.{Whole as WholeNode, Char, Boolean as BooleanNode, Enum}
@@ -20,14 +21,21 @@ use Rattle.const_values.specs.declared.kind.ConstKind.TheVariants as Kinds
 use Rattle.const_values.specs.Kinds.{fits}
 use Rattle.name_table.specs.Entry.{Entry, meant_in}
 use Rattle.scoped_names.specs.Reading.{◌>>◌}
+use Rattle.scoped_names.specs.Faults.{or_then}
 use Rattle.scoped_names.specs.Tests.{value_read}
 use Rattle.written_types.specs.declared.arms.Arm.{Arm}
 use Rattle.written_types.specs.declared.arms.DefaultArm.{DefaultArm}
 use Rattle.written_types.specs.declared.fault.BuildFault.{BuildFault}
 use Rattle.written_types.specs.declared.fault.BuildFault.TheVariants.{Types}
+use Rattle.written_types.specs.declared.fault.TypeFault.{TypeFault}
 use Rattle.written_types.specs.declared.fault.TypeFault.TheVariants.{BadSwitch, LabelRange, LabelTwice}
+use Rattle.written_types.specs.declared.fault.TypeKind.{TypeKind}
+use Rattle.written_types.specs.declared.fault.LabelWorth.{LabelWorth}
+use Rattle.written_types.specs.declared.fault.LabelWorth.TheVariants as Worths
+use Rattle.written_types.specs.declared.labels.LabelValue.{LabelValue}
 use Rattle.written_types.specs.declared.labels.Switch.{Switch}
-use Rattle.written_types.specs.Faults.{at_most, line_of, max_members, of_names}
+use Rattle.written_types.specs.Faults.{at_most, max_members, of_names}
+use Rattle.written_types.specs.TypeKinds.{const_kind, kind_of}
 use Rattle.written_types.specs.Written.{Written, Numbered, already}
 use Rattle.written_types.specs.SimpleTypes.{entry_found, entry_of, enum_type, integer_number, type_found}
 
@@ -67,10 +75,10 @@ values_of (Some BooleanNode) = Some (values_below 2)
 values_of (Some (Enum n)) = Some (values_below n)
 values_of _ = None
 
-abbrev pub switch_of : ℕ → ℕ → Option ConstKind → Option Values → Result Switch BuildFault
-switch_of line n (Some kind) (Some values) = Ok (record { number = n; kind = kind; values = values })
-switch_of line n (Some kind) None = Err (Types (BadSwitch line))
-switch_of line n None values = Err (Types (BadSwitch line))
+abbrev pub switch_of : At → Option TypeKind → ℕ → Option ConstKind → Option Values → Result Switch BuildFault
+switch_of at found n (Some kind) (Some values) = Ok (record { number = n; kind = kind; values = values })
+switch_of at found n (Some kind) None = Err (Types (BadSwitch at found))
+switch_of at found n None values = Err (Types (BadSwitch at found))
 
 -- a discriminator, and what is written behind it
 pub record Switched : Type 0 where
@@ -80,19 +88,20 @@ pub record Switched : Type 0 where
 abbrev pub switched : Written → Switch → Switched
 switched w s = record { switch = s; written = w }
 
--- where a discriminator without labels is told: at its name, or else in the line of its union
-abbrev pub switch_line : SwitchType → ℕ → ℕ
-switch_line (SwitchTypes.Integer i) line = line
-switch_line SwitchTypes.Char line = line
-switch_line SwitchTypes.Boolean line = line
-switch_line (SwitchTypes.Enum e) line = line_of e.identifier
-switch_line (SwitchTypes.Name name) line = line_of (name_start name)
+-- where a discriminator without labels is told: at its name, or else where its union stands
+abbrev pub switch_at : SwitchType → At → At
+switch_at (SwitchTypes.Integer i) at = at
+switch_at SwitchTypes.Char at = at
+switch_at SwitchTypes.Boolean at = at
+switch_at (SwitchTypes.Enum e) at = leaf_at e.identifier
+switch_at (SwitchTypes.Name name) at = leaf_at (name_start name)
 
-abbrev pub switch_read : List Entry → Written → ℕ → ℕ → SwitchType → Result Switched BuildFault
-switch_read es w scope line s =
+abbrev pub switch_read : List Entry → Written → ℕ → At → SwitchType → Result Switched BuildFault
+switch_read es w scope at s =
     switch_type es w scope s >> λ t.
     switch_kind es scope s >> λ kind.
-    switch_of (switch_line s line) t.number kind (values_of (slice_get t.written.nodes t.number)) >> λ switch.
+    switch_of (switch_at s at) (kind_of t.number (slice_get t.written.nodes t.number)) t.number kind
+    (values_of (slice_get t.written.nodes t.number)) >> λ switch.
     Ok (switched t.written switch)
 
 -- ---- the values of labels
@@ -107,18 +116,29 @@ label_number (Character c) = Some (pos c)
 label_number (Text octets) = None
 label_number (Enumerator e owner) = Some (pos (e - owner - 1))
 
+-- what is told of a label that is no value of the discriminator
+abbrev pub told_of : Constant → LabelWorth
+told_of (Whole n) = Worths.Whole n
+told_of (Boolean b) = Worths.Boolean b
+told_of (Character c) = Worths.Character c
+told_of (Text octets) = Worths.Text
+told_of (Enumerator e owner) = Worths.Enumerator e
+
+abbrev pub out_of_range : Switch → At → Constant → TypeFault
+out_of_range s at c = LabelRange at (told_of c) (const_kind s.kind) s.values
+
 abbrev pub is_value : Values → ℤ → Bool
 is_value values n = int_le values.least n && int_lt n values.end
 
-abbrev pub label_within : Switch → ℕ → Constant → Option ℤ → Result ℤ BuildFault
-label_within s line c None = Err (Types (LabelRange line))
-label_within s line c (Some n) =
-    (if fits s.kind c && is_value s.values n then Ok n else Err (Types (LabelRange line)))
+abbrev pub label_within : Switch → At → Constant → Option ℤ → Result ℤ BuildFault
+label_within s at c None = Err (Types (out_of_range s at c))
+label_within s at c (Some n) =
+    (if fits s.kind c && is_value s.values n then Ok n else Err (Types (out_of_range s at c)))
 
 -- the value of a label: a constant of the discriminator's type
 abbrev pub label_value : List Entry → ℕ → Switch → Expr → Result ℤ BuildFault
 label_value es scope s e =
-    of_names (value_read es scope e) >> λ c. label_within s (line_of (expr_start e)) c (label_number c)
+    of_names (value_read es scope e) >> λ c. label_within s (leaf_at (expr_start e)) c (label_number c)
 
 -- ---- arms
 
@@ -130,53 +150,79 @@ pub record Arms : Type 0 where
 abbrev pub no_arms : Arms
 no_arms = record { arms = []; default = None }
 
+abbrev pub keyword_at : Option DefaultArm → Option At
+keyword_at None = None
+keyword_at (Some d) = Some d.keyword
+
 abbrev pub is_label : List Arm → ℤ → Bool
 is_label arms n = list_any (λ arm. int_eq arm.label n) arms
 
--- the labels of a case: their values, and the line of `default`
+-- the labels of a case: their values, and where `default` stands
 pub record CaseLabels : Type 0 where
-  pub values : List ℤ
-  pub default : Option ℕ
+  pub values : List LabelValue
+  pub default : Option At
 
 abbrev pub no_labels : CaseLabels
 no_labels = record { values = []; default = None }
 
+abbrev pub labelled : ℤ → At → LabelValue
+labelled n at = record { value = n; at = at }
+
 -- an arm or a label before has the value
 abbrev pub is_taken : Arms → CaseLabels → ℤ → Bool
-is_taken a ls n = is_label a.arms n || list_any (λ m. int_eq m n) ls.values
+is_taken a ls n = is_label a.arms n || list_any (λ l. int_eq l.value n) ls.values
+
+-- where it stands
+abbrev pub arm_label_at : List Arm → ℤ → Option At
+arm_label_at [] n = None
+arm_label_at (arm ∷ arms) n = (if int_eq arm.label n then Some arm.label_at else arm_label_at arms n)
+
+abbrev pub value_at : List LabelValue → ℤ → Option At
+value_at [] n = None
+value_at (l ∷ ls) n = (if int_eq l.value n then Some l.at else value_at ls n)
+
+abbrev pub taken_at : Arms → CaseLabels → ℤ → Option At
+taken_at a ls n = or_then (arm_label_at a.arms n) (value_at ls.values n)
+
+abbrev pub default_at : Arms → CaseLabels → Option At
+default_at a ls = or_then (keyword_at a.default) ls.default
 
 -- a value that no arm and no label before has
-abbrev pub value_added : Arms → CaseLabels → ℕ → ℤ → Result CaseLabels BuildFault
-value_added a ls line n =
-    (if is_taken a ls n then Err (Types (LabelTwice line))
-    else at_most max_members MembersLimit line (length a.arms + length ls.values + 1) >> λ count.
-    Ok (record ls { values = ls.values ++ n ∷ [] }))
+abbrev pub value_added : Arms → CaseLabels → At → ℤ → Result CaseLabels BuildFault
+value_added a ls at n =
+    (if is_taken a ls n then Err (Types (LabelTwice at (taken_at a ls n)))
+    else at_most max_members MembersLimit at (length a.arms + length ls.values + 1) >> λ count.
+    Ok (record ls { values = ls.values ++ labelled n at ∷ [] }))
+
+-- `default`, which an arm or the case has once
+abbrev pub default_added : Arms → CaseLabels → At → Result CaseLabels BuildFault
+default_added a ls at =
+    (if is_some (default_at a ls) then Err (Types (LabelTwice at (default_at a ls)))
+    else Ok (record ls { default = Some at }))
 
 -- one label more, behind those of the case and the arms of the cases before
 abbrev pub label_added : List Entry → ℕ → Switch → Arms → CaseLabels → Label → Result CaseLabels BuildFault
 label_added es scope s a ls (CaseLabel e) =
-    label_value es scope s e.expr >> λ n. value_added a ls (line_of (expr_start e.expr)) n
-label_added es scope s a ls (Default word) =
-    (if is_some a.default || is_some ls.default then Err (Types (LabelTwice (line_of word)))
-    else Ok (record ls { default = Some (line_of word) }))
+    label_value es scope s e.expr >> λ n. value_added a ls (leaf_at (expr_start e.expr)) n
+label_added es scope s a ls (Default word) = default_added a ls (leaf_at word)
 
 abbrev pub with_arm : List Arm → Arm → List Arm
 with_arm [] new = new ∷ []
 with_arm (arm ∷ arms) new = (if int_lt new.label arm.label then new ∷ arm ∷ arms else arm ∷ with_arm arms new)
 
--- the arms of labels, whose member stands in the line and has a type of the number
-abbrev pub with_arms : List Arm → ℕ → ℕ → List ℤ → List Arm
-with_arms arms number line [] = arms
-with_arms arms number line (n ∷ ns) =
-    with_arms (with_arm arms (record { label = n; number = number; line = line })) number line ns
+-- the arms of labels, whose member stands there and has a type of the number
+abbrev pub with_arms : List Arm → ℕ → At → List LabelValue → List Arm
+with_arms arms number at [] = arms
+with_arms arms number at (l ∷ ls) =
+    with_arms (with_arm arms (record { label = l.value; label_at = l.at; number = number; at = at })) number at ls
 
-abbrev pub with_default : Option DefaultArm → ℕ → ℕ → Option ℕ → Option DefaultArm
-with_default default number line None = default
-with_default default number line (Some keyword) =
-    Some (record { number = number; line = line; keyword = keyword })
+abbrev pub with_default : Option DefaultArm → ℕ → At → Option At → Option DefaultArm
+with_default default number at None = default
+with_default default number at (Some keyword) =
+    Some (record { number = number; at = at; keyword = keyword })
 
-abbrev pub with_case : Arms → ℕ → ℕ → CaseLabels → Arms
-with_case a number line ls = record {
-  arms = with_arms a.arms number line ls.values;
-  default = with_default a.default number line ls.default;
+abbrev pub with_case : Arms → ℕ → At → CaseLabels → Arms
+with_case a number at ls = record {
+  arms = with_arms a.arms number at ls.values;
+  default = with_default a.default number at ls.default;
 }

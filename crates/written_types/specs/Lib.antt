@@ -1,5 +1,6 @@
 -- Which types a specification writes, and what each is in a graph of types.
 pub mod Faults
+pub mod TypeKinds
 pub mod Members
 pub mod Written
 pub mod SimpleTypes

@@ -1,7 +1,8 @@
 -- The members of a type while they are read.
 use Rattle.std.specs.Prelude.{ℕ, List}
+use Rattle.idl_tree.specs.declared.names.At.{At}
 
--- the numbers of their types, and the lines of their declarators
+-- the numbers of their types, and where their declarators stand
 pub record Members : Type 0 where
   pub numbers : List ℕ
-  pub lines : List ℕ
+  pub sites : List At

@@ -2,6 +2,7 @@
 -- number a type has and what is written behind it, where `w` is what is written before it. A bound or a size is worth
 -- what its expression is worth in the scope, and a name stands for what it finds there.
 use Rattle.std.specs.Prelude.{ℕ, List, [], ◌∷◌, length, Option, Some, None, Result, Ok}
+use Rattle.idl_tree.specs.declared.names.At.{At}
 use Rattle.idl_tree.specs.declared.names.Leaf.{Leaf}
 use Rattle.idl_tree.specs.declared.names.ScopedName.{ScopedName}
 use Rattle.idl_tree.specs.declared.types.IntegerSize.TheVariants.{Short, Long, LongLong}
@@ -17,7 +18,7 @@ use Rattle.idl_tree.specs.declared.types.Declarator.{Declarator}
 use Rattle.idl_tree.specs.declared.const_expr.ConstExpr.{ConstExpr}
 use Rattle.idl_tree.specs.declared.const_expr.Bound.{Bound}
 use Rattle.idl_tree.specs.Lists.{parts}
-use Rattle.idl_tree.specs.Starts.{expr_start}
+use Rattle.idl_tree.specs.Starts.{expr_start, leaf_at}
 use Rattle.type_graph.specs.declared.fault.GraphLimit.TheVariants.{Enumerators, Bound as BoundLimit, Size}
 use Rattle.type_graph.specs.declared.node.Node.TheVariants.{Text, Seq, Array, Enum}
 use Rattle.name_table.specs.Entry.{Entry, named}
@@ -25,7 +26,7 @@ use Rattle.name_table.specs.Search.{word}
 use Rattle.scoped_names.specs.Reading.{◌>>◌}
 use Rattle.scoped_names.specs.Tests.{resolved, size_read}
 use Rattle.written_types.specs.declared.fault.BuildFault.{BuildFault}
-use Rattle.written_types.specs.Faults.{at_most, line_of, max_bound, max_enumerators, max_size, of_names, or_other}
+use Rattle.written_types.specs.Faults.{at_most, max_bound, max_enumerators, max_size, of_names, or_other}
 use Rattle.written_types.specs.Written.{Written, Numbered, already, added_at, named_type, type_of}
 
 -- ---- what names and expressions say
@@ -44,11 +45,11 @@ type_found es w scope name = entry_found es scope name >> λ e. or_other (type_o
 
 abbrev pub size_of : List Entry → ℕ → ConstExpr → Result ℕ BuildFault
 size_of es scope size =
-    of_names (size_read es scope size.expr) >> λ n. at_most max_size Size (line_of (expr_start size.expr)) n
+    of_names (size_read es scope size.expr) >> λ n. at_most max_size Size (leaf_at (expr_start size.expr)) n
 
 abbrev pub bound_of : List Entry → ℕ → Bound → Result ℕ BuildFault
 bound_of es scope bound =
-    of_names (size_read es scope bound.expr) >> λ n. at_most max_bound BoundLimit (line_of (expr_start bound.expr)) n
+    of_names (size_read es scope bound.expr) >> λ n. at_most max_bound BoundLimit (leaf_at (expr_start bound.expr)) n
 
 -- no bound is 0
 abbrev pub bound_or_none : List Entry → ℕ → Option Bound → Result ℕ BuildFault
@@ -74,39 +75,39 @@ const_type es w scope ConstTypes.Char = Ok (already w 1)
 const_type es w scope ConstTypes.Boolean = Ok (already w 2)
 const_type es w scope (ConstTypes.String None) = Ok (already w 9)
 const_type es w scope (ConstTypes.String (Some bound)) =
-    bound_of es scope bound >> λ most. added_at w (Text most) (line_of (expr_start bound.expr))
+    bound_of es scope bound >> λ most. added_at w (Text most) (leaf_at (expr_start bound.expr))
 const_type es w scope (ConstTypes.Name name) = type_found es w scope name >> λ n. Ok (already w n)
 
 abbrev pub param_type : List Entry → Written → ℕ → ParamType → Result Numbered BuildFault
 param_type es w scope (ParamTypes.Plain t) = const_type es w scope t
 param_type es w scope ParamTypes.Object = Ok (already w 13)
 
--- a sequence comes behind its elements; it stands in the line of the declarator, which is given
-abbrev pub simple_type : List Entry → Written → ℕ → ℕ → SimpleType → Result Numbered BuildFault
-simple_type es w scope line (Plain t) = param_type es w scope t
-simple_type es w scope line (Sequence' shape element bound) =
-    simple_type es w scope line element >> λ e.
-    bound_or_none es scope bound >> λ most. added_at e.written (Seq e.number most) line
+-- a sequence comes behind its elements; it stands where the declarator does, which is given
+abbrev pub simple_type : List Entry → Written → ℕ → At → SimpleType → Result Numbered BuildFault
+simple_type es w scope at (Plain t) = param_type es w scope t
+simple_type es w scope at (Sequence' shape element bound) =
+    simple_type es w scope at element >> λ e.
+    bound_or_none es scope bound >> λ most. added_at e.written (Seq e.number most) at
 
 abbrev pub sizes_read : List Entry → ℕ → List ConstExpr → Result (List ℕ) BuildFault
 sizes_read es scope [] = Ok []
 sizes_read es scope (size ∷ sizes) = size_of es scope size >> λ n. sizes_read es scope sizes >> λ ns. Ok (n ∷ ns)
 
 -- arrays of a type, whose last size is that of the innermost, which comes first
-abbrev pub arrays : Numbered → ℕ → List ℕ → Result Numbered BuildFault
-arrays element line [] = Ok element
-arrays element line (n ∷ ns) =
-    arrays element line ns >> λ inner. added_at inner.written (Array inner.number n) line
+abbrev pub arrays : Numbered → At → List ℕ → Result Numbered BuildFault
+arrays element at [] = Ok element
+arrays element at (n ∷ ns) =
+    arrays element at ns >> λ inner. added_at inner.written (Array inner.number n) at
 
-abbrev pub declarator_line : Declarator → ℕ
-declarator_line d = line_of d.identifier
+abbrev pub declarator_at : Declarator → At
+declarator_at d = leaf_at d.identifier
 
 -- the type of a declarator: its sizes are judged before there is an array
 abbrev pub array_type : List Entry → ℕ → Numbered → Declarator → Result Numbered BuildFault
-array_type es scope element d = sizes_read es scope d.sizes.items >> λ ns. arrays element (declarator_line d) ns
+array_type es scope element d = sizes_read es scope d.sizes.items >> λ ns. arrays element (declarator_at d) ns
 
 abbrev pub enum_type : List Entry → Written → ℕ → EnumType → Result Numbered BuildFault
 enum_type es w scope e =
     entry_of es scope e.identifier >> λ entry.
-    at_most max_enumerators Enumerators (line_of e.identifier) (length (parts e.enumerators)) >> λ n.
-    named_type w entry (Enum n) (line_of e.identifier)
+    at_most max_enumerators Enumerators (leaf_at e.identifier) (length (parts e.enumerators)) >> λ n.
+    named_type w entry (Enum n) (leaf_at e.identifier)

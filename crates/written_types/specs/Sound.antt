@@ -16,12 +16,12 @@ IsOfTypes (Types fault) = Unit {0}
 IsOfTypes OtherNames = ⊥
 IsOfTypes NoMemory = ⊥
 
--- The types keep the rules of a graph but that on paths, and each has its lines but for the basic ones.
+-- The types keep the rules of a graph but that on paths, and each has its sites but for the basic ones.
 pub record AreSoundTypes (w : Written) : Type 0 where
   pub limited : length w.nodes ≤ max_nodes
   pub nodes : All (IsNode w.nodes) w.nodes
   pub members : all_members w.nodes ≤ max_all_members
-  pub lines : length w.nodes ≡ length w.lines + 14
+  pub sites : length w.nodes ≡ length w.sites + 14
 
 -- ---- frames
 

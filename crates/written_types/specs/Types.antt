@@ -1,5 +1,6 @@
 -- Structures, unions and their members (ISO/IEC 19500-1, type declaration).
 use Rattle.std.specs.Prelude.{ℕ, ◌+◌, nat_le, if◌then◌else◌, map, List, [], ◌∷◌, ◌++◌, length, Option, Some, None, Result, Ok, Err, ℤ}
+use Rattle.idl_tree.specs.declared.names.At.{At}
 use Rattle.idl_tree.specs.declared.names.Listed.{Listed}
 use Rattle.idl_tree.specs.declared.types.Declarator.{Declarator}
 use Rattle.idl_tree.specs.declared.types.Label.{Label}
@@ -9,6 +10,7 @@ use Rattle.idl_tree.specs.declared.types.UnionType.{UnionType, UnionType', Row_o
 use Rattle.idl_tree.specs.declared.types.Member.{Member}
 use Rattle.idl_tree.specs.declared.types.Case.{Case}
 use Rattle.idl_tree.specs.Lists.{parts}
+use Rattle.idl_tree.specs.Starts.{leaf_at}
 use Rattle.type_graph.specs.declared.fault.GraphLimit.TheVariants.{Members as MembersLimit}
 use Rattle.type_graph.specs.declared.node.Node.TheVariants.{Struct, Union}
 use Rattle.name_table.specs.Entry.{Entry}
@@ -19,10 +21,10 @@ use Rattle.written_types.specs.declared.fault.BuildFault.{BuildFault}
 use Rattle.written_types.specs.declared.fault.BuildFault.TheVariants.{Types}
 use Rattle.written_types.specs.declared.fault.TypeFault.TheVariants.{DefaultNeedless}
 use Rattle.written_types.specs.declared.labels.Switch.{Switch}
-use Rattle.written_types.specs.Faults.{at_most, each, line_of, max_members}
+use Rattle.written_types.specs.Faults.{at_most, each, max_members}
 use Rattle.written_types.specs.Members.{Members}
 use Rattle.written_types.specs.Written.{Written, Numbered, already, counted, node_set, opened}
-use Rattle.written_types.specs.SimpleTypes.{array_type, declarator_line, entry_of, enum_type, simple_type}
+use Rattle.written_types.specs.SimpleTypes.{array_type, declarator_at, entry_of, enum_type, simple_type}
 use Rattle.written_types.specs.Labels.{Arms, label_added, no_arms, no_labels, switch_read, with_case}
 
 -- ---- members
@@ -36,18 +38,18 @@ abbrev pub with_members_of : Written → Members → WithMembers
 with_members_of w ms = record { written = w; members = ms }
 
 abbrev pub no_members : Members
-no_members = record { numbers = []; lines = [] }
+no_members = record { numbers = []; sites = [] }
 
 -- a member more, whose type has the number
-abbrev pub member_added : Members → ℕ → ℕ → Result Members BuildFault
-member_added ms number line = at_most max_members MembersLimit line (length ms.numbers + 1) >> λ n.
-    Ok (record { numbers = ms.numbers ++ number ∷ []; lines = ms.lines ++ line ∷ [] })
+abbrev pub member_added : Members → ℕ → At → Result Members BuildFault
+member_added ms number at = at_most max_members MembersLimit at (length ms.numbers + 1) >> λ n.
+    Ok (record { numbers = ms.numbers ++ number ∷ []; sites = ms.sites ++ at ∷ [] })
 
 -- one declarator more, of the type that has the number
 abbrev pub with_declarator : List Entry → ℕ → ℕ → WithMembers → Declarator → Result WithMembers BuildFault
 with_declarator es scope number m d =
     array_type es scope (already m.written number) d >> λ a.
-    member_added m.members a.number (declarator_line d) >> λ ms. Ok (with_members_of a.written ms)
+    member_added m.members a.number (declarator_at d) >> λ ms. Ok (with_members_of a.written ms)
 
 abbrev pub with_declarators : List Entry → ℕ → Numbered → Members → Listed Declarator → Result WithMembers BuildFault
 with_declarators es scope t ms ds = each (with_declarator es scope t.number) (with_members_of t.written ms) (parts ds)
@@ -57,10 +59,10 @@ abbrev pub members_added : List Entry → ℕ → Members → Result Numbered Bu
 members_added es scope ms type ds = type >> λ t. with_declarators es scope t ms ds
 
 -- a structure whose number is known has these members
-abbrev pub struct_defined : WithMembers → ℕ → ℕ → Result Written BuildFault
-struct_defined m number line =
-    counted m.written (length m.members.numbers) line >> λ w.
-    node_set w number (Struct m.members.numbers) m.members.lines
+abbrev pub struct_defined : WithMembers → ℕ → At → Result Written BuildFault
+struct_defined m number at =
+    counted m.written (length m.members.numbers) at >> λ w.
+    node_set w number (Struct m.members.numbers) m.members.sites
 
 -- ---- cases
 
@@ -78,7 +80,7 @@ case_added es scope s c labels type d =
     each (label_added es scope s c.arms) no_labels (parts labels) >> λ ls.
     type c.written >> λ t.
     array_type es scope t d >> λ a.
-    Ok (cases_of a.written (with_case c.arms a.number (declarator_line d) ls))
+    Ok (cases_of a.written (with_case c.arms a.number (declarator_at d) ls))
 
 abbrev pub default_test : Switch → ℕ → Option DefaultArm → Result (Unit {0}) BuildFault
 default_test s count None = Ok tt
@@ -89,72 +91,72 @@ abbrev pub default_number : Option DefaultArm → Option ℕ
 default_number None = None
 default_number (Some d) = Some d.number
 
-abbrev pub default_lines : Option DefaultArm → List ℕ
-default_lines None = []
-default_lines (Some d) = d.line ∷ []
+abbrev pub default_sites : Option DefaultArm → List At
+default_sites None = []
+default_sites (Some d) = d.at ∷ []
 
 abbrev pub numbered_arm : Arm → ℤ × ℕ
 numbered_arm arm = (arm.label, arm.number)
 
-abbrev pub arm_line : Arm → ℕ
-arm_line arm = arm.line
+abbrev pub arm_at : Arm → At
+arm_at arm = arm.at
 
 -- a union whose number is known has these arms
-abbrev pub union_defined : Switch → Cases → ℕ → ℕ → Result Written BuildFault
-union_defined s c number line =
+abbrev pub union_defined : Switch → Cases → ℕ → At → Result Written BuildFault
+union_defined s c number at =
     default_test s (length c.arms.arms) c.arms.default >> λ u.
-    counted c.written (length c.arms.arms) line >> λ w.
+    counted c.written (length c.arms.arms) at >> λ w.
     node_set w number (Union s.number (map numbered_arm c.arms.arms) (default_number c.arms.default))
-    (map arm_line c.arms.arms ++ default_lines c.arms.default)
+    (map arm_at c.arms.arms ++ default_sites c.arms.default)
 
 -- ---- types
 
--- a type of a declarator in the line; the body of a structure or a union stands in its own scope
+-- a type of a declarator that stands there; the body of a structure or a union stands in its own scope
 abbrev mutual
-  pub type_spec : List Entry → Written → ℕ → ℕ → TypeSpec → Result Numbered BuildFault
-  type_spec es w scope line (Simple t) = simple_type es w scope line t
-  type_spec es w scope line (StructSpec s) = struct_type es w scope s
-  type_spec es w scope line (UnionSpec u) = union_type es w scope u
-  type_spec es w scope line (EnumSpec e) = enum_type es w scope e
+  pub type_spec : List Entry → Written → ℕ → At → TypeSpec → Result Numbered BuildFault
+  type_spec es w scope at (Simple t) = simple_type es w scope at t
+  type_spec es w scope at (StructSpec s) = struct_type es w scope s
+  type_spec es w scope at (UnionSpec u) = union_type es w scope u
+  type_spec es w scope at (EnumSpec e) = enum_type es w scope e
 
   pub struct_type : List Entry → Written → ℕ → StructType → Result Numbered BuildFault
   struct_type es w scope (StructType' id p t declarators shape rest) =
       entry_of es scope id >> λ e.
-      opened w e (line_of id) >> λ o.
+      opened w e (leaf_at id) >> λ o.
       members_added es (e + 1) no_members
-      (type_spec es o.written (e + 1) (declarator_line declarators.first) t) declarators >> λ first.
+      (type_spec es o.written (e + 1) (declarator_at declarators.first) t) declarators >> λ first.
       with_members es (e + 1) first rest >> λ m.
-      struct_defined m o.number (line_of id) >> λ behind. Ok (already behind o.number)
+      struct_defined m o.number (leaf_at id) >> λ behind. Ok (already behind o.number)
 
   pub union_type : List Entry → Written → ℕ → UnionType → Result Numbered BuildFault
   union_type es w scope (UnionType' id switch p labels t declarator shape rest) =
       entry_of es scope id >> λ e.
-      opened w e (line_of id) >> λ o.
-      switch_read es o.written (e + 1) (line_of id) switch >> λ s.
+      opened w e (leaf_at id) >> λ o.
+      switch_read es o.written (e + 1) (leaf_at id) switch >> λ s.
       case_added es (e + 1) s.switch (cases_of s.written no_arms) labels
-      (λ v. type_spec es v (e + 1) (declarator_line declarator) t) declarator >> λ first.
+      (λ v. type_spec es v (e + 1) (declarator_at declarator) t) declarator >> λ first.
       with_cases es (e + 1) s.switch first rest >> λ c.
-      union_defined s.switch c o.number (line_of id) >> λ behind. Ok (already behind o.number)
+      union_defined s.switch c o.number (leaf_at id) >> λ behind. Ok (already behind o.number)
 
   pub with_members : {n : _} → List Entry → ℕ → WithMembers → Row_of-Member n → Result WithMembers BuildFault
   with_members es scope m end_of-Member = Ok m
   with_members es scope m (more_of-Member t declarators rest) =
       members_added es scope m.members
-      (type_spec es m.written scope (declarator_line declarators.first) t) declarators >> λ next.
+      (type_spec es m.written scope (declarator_at declarators.first) t) declarators >> λ next.
       with_members es scope next rest
 
   pub with_cases : {n : _} → List Entry → ℕ → Switch → Cases → Row_of-Case n → Result Cases BuildFault
   with_cases es scope s c end_of-Case = Ok c
   with_cases es scope s c (more_of-Case labels t declarator rest) =
-      case_added es scope s c labels (λ v. type_spec es v scope (declarator_line declarator) t) declarator >> λ next.
+      case_added es scope s c labels (λ v. type_spec es v scope (declarator_at declarator) t) declarator >> λ next.
       with_cases es scope s next rest
 
 -- members of one type more
 abbrev pub with_member : List Entry → ℕ → WithMembers → Member → Result WithMembers BuildFault
 with_member es scope m x =
     members_added es scope m.members
-    (type_spec es m.written scope (declarator_line x.declarators.first) x.member_type) x.declarators
+    (type_spec es m.written scope (declarator_at x.declarators.first) x.member_type) x.declarators
 
 abbrev pub with_case_of : List Entry → ℕ → Switch → Cases → Case → Result Cases BuildFault
 with_case_of es scope s c x =
-    case_added es scope s c x.labels (λ v. type_spec es v scope (declarator_line x.declarator) x.member_type) x.declarator
+    case_added es scope s c x.labels (λ v. type_spec es v scope (declarator_at x.declarator) x.member_type) x.declarator

@@ -1,6 +1,7 @@
 -- What the parts of a specification write of a graph of types, one behind another: the node of each type, in the order
 -- of their numbers, and what each declared name has.
 use Rattle.std.specs.Prelude.{ℕ, Bool, true, false, ◌+◌, ◌-◌, nat_lt, if◌then◌else◌, List, [], ◌∷◌, ◌++◌, length, replicate, Option, Some, None, Result, Ok, Err, slice_get, slice_set}
+use Rattle.idl_tree.specs.declared.names.At.{At}
 use Rattle.type_graph.specs.declared.fault.GraphLimit.TheVariants.{Nodes, AllMembers}
 use Rattle.type_graph.specs.declared.node.Node.{Node}
 use Rattle.type_graph.specs.declared.node.Node.TheVariants.{Struct}
@@ -12,15 +13,15 @@ use Rattle.written_types.specs.declared.fault.BuildFault.TheVariants.{OtherNames
 use Rattle.written_types.specs.declared.place.Place.{Place}
 use Rattle.written_types.specs.declared.place.Place.TheVariants.{Typed, Raised, Called, Got, GotAndSet}
 use Rattle.written_types.specs.Faults.{at_most, max_all_members, max_nodes}
-use Rattle.type_paths.specs.Lines.{Lines}
+use Rattle.type_paths.specs.Sites.{Sites}
 
--- the nodes so far; what each entry among the names has; the exceptions, each by its entry and its frame; the lines of
--- the nodes behind the basic types; how many members all types have
+-- the nodes so far; what each entry among the names has; the exceptions, each by its entry and its frame; where
+-- the nodes behind the basic types stand; how many members all types have
 pub record Written : Type 0 where
   pub nodes : List Node
   pub places : List (Option Place)
   pub exceptions : List (ℕ × ℕ)
-  pub lines : List Lines
+  pub sites : List Sites
   pub members : ℕ
 
 -- what is written before the first part, where there are so many entries: the types that every specification has
@@ -29,7 +30,7 @@ unwritten entries = record {
   nodes = basic_nodes;
   places = replicate entries None;
   exceptions = [];
-  lines = [];
+  sites = [];
   members = all_members basic_nodes;
 }
 
@@ -44,32 +45,32 @@ pub record Numbered : Type 0 where
 abbrev pub already : Written → ℕ → Numbered
 already w n = record { number = n; written = w }
 
-abbrev pub with_node : Written → Node → Lines → Written
-with_node w node lines = record w { nodes = w.nodes ++ node ∷ []; lines = w.lines ++ lines ∷ [] }
+abbrev pub with_node : Written → Node → Sites → Written
+with_node w node sites = record w { nodes = w.nodes ++ node ∷ []; sites = w.sites ++ sites ∷ [] }
 
 -- the number of the node that is written next
 abbrev pub next : Written → ℕ
 next w = length w.nodes
 
 -- a node that gets the next number
-abbrev pub added : Written → Node → Lines → Result Numbered BuildFault
-added w node lines = at_most max_nodes Nodes lines.line (next w + 1) >> λ n. Ok (already (with_node w node lines) (next w))
+abbrev pub added : Written → Node → Sites → Result Numbered BuildFault
+added w node sites = at_most max_nodes Nodes sites.at (next w + 1) >> λ n. Ok (already (with_node w node sites) (next w))
 
-abbrev pub one_line : ℕ → Lines
-one_line line = record { line = line; held = line ∷ [] }
+abbrev pub one_site : At → Sites
+one_site at = record { at = at; held = at ∷ [] }
 
--- a node that holds one other at most, and stands in the line
-abbrev pub added_at : Written → Node → ℕ → Result Numbered BuildFault
-added_at w node line = added w node (one_line line)
+-- a node that holds one other at most, and stands there
+abbrev pub added_at : Written → Node → At → Result Numbered BuildFault
+added_at w node at = added w node (one_site at)
 
-abbrev pub with_held : List Lines → ℕ → List ℕ → Option Lines → List Lines
-with_held lines place held None = lines
-with_held lines place held (Some l) = slice_set lines place (record { line = l.line; held = held })
+abbrev pub with_held : List Sites → ℕ → List At → Option Sites → List Sites
+with_held sites place held None = sites
+with_held sites place held (Some l) = slice_set sites place (record { at = l.at; held = held })
 
--- a basic type has no lines
-abbrev pub held_at : List Lines → ℕ → List ℕ → List Lines
-held_at lines number held =
-    (if nat_lt number 14 then lines else with_held lines (number - 14) held (slice_get lines (number - 14)))
+-- a basic type has no sites
+abbrev pub held_at : List Sites → ℕ → List At → List Sites
+held_at sites number held =
+    (if nat_lt number 14 then sites else with_held sites (number - 14) held (slice_get sites (number - 14)))
 
 -- a structure or a union before its definition; no graph has a structure without members
 abbrev pub undefined : Node
@@ -79,17 +80,17 @@ abbrev pub is_undefined : Option Node → Bool
 is_undefined (Some (Struct [])) = true
 is_undefined _ = false
 
--- in the place of what has no definition yet another node, which holds what stands in these lines
-abbrev pub node_set : Written → ℕ → Node → List ℕ → Result Written BuildFault
+-- in the place of what has no definition yet another node, which holds what stands there
+abbrev pub node_set : Written → ℕ → Node → List At → Result Written BuildFault
 node_set w number node held =
     (if is_undefined (slice_get w.nodes number)
-    then Ok (record w { nodes = slice_set w.nodes number node; lines = held_at w.lines number held })
+    then Ok (record w { nodes = slice_set w.nodes number node; sites = held_at w.sites number held })
     else Err OtherNames)
 
--- so many members more, of a type in the line
-abbrev pub counted : Written → ℕ → ℕ → Result Written BuildFault
-counted w count line =
-    at_most max_all_members AllMembers line (w.members + count) >> λ all. Ok (record w { members = all })
+-- so many members more, of a type that stands there
+abbrev pub counted : Written → ℕ → At → Result Written BuildFault
+counted w count at =
+    at_most max_all_members AllMembers at (w.members + count) >> λ all. Ok (record w { members = all })
 
 -- ---- what entries have
 
@@ -123,17 +124,17 @@ abbrev pub type_of : Written → ℕ → Option ℕ
 type_of w e = type_in (slice_get w.places e)
 
 -- a type that gets the next number, which the entry is the name of
-abbrev pub named_type : Written → ℕ → Node → ℕ → Result Numbered BuildFault
-named_type w e node line =
-    added_at w node line >> λ a. placed a.written e (Typed a.number) >> λ there. Ok (already there a.number)
+abbrev pub named_type : Written → ℕ → Node → At → Result Numbered BuildFault
+named_type w e node at =
+    added_at w node at >> λ a. placed a.written e (Typed a.number) >> λ there. Ok (already there a.number)
 
-abbrev pub opened_as : Written → ℕ → ℕ → Option ℕ → Result Numbered BuildFault
-opened_as w e line None = named_type w e undefined line
-opened_as w e line (Some n) = Ok (already w n)
+abbrev pub opened_as : Written → ℕ → At → Option ℕ → Result Numbered BuildFault
+opened_as w e at None = named_type w e undefined at
+opened_as w e at (Some n) = Ok (already w n)
 
--- a structure or a union that is declared in the line: it gets its number at its first declaration
-abbrev pub opened : Written → ℕ → ℕ → Result Numbered BuildFault
-opened w e line = opened_as w e line (type_of w e)
+-- a structure or a union that is declared there: it gets its number at its first declaration
+abbrev pub opened : Written → ℕ → At → Result Numbered BuildFault
+opened w e at = opened_as w e at (type_of w e)
 
 -- an exception more that the entry is the name of, with its frame
 abbrev pub raised_at : Written → ℕ → ℕ → Result Written BuildFault

@@ -1,29 +1,31 @@
 //! The arms of unions, while they are read.
 
 ghost use Rattle.std.specs.Prelude.{◌≡◌, ◌≤◌, ◌++◌, insert, length, map, IfOk, OnOk};
-ghost use Rattle.written_types.specs.Labels.{is_label, no_arms, with_arm, with_case};
-ghost use Rattle.written_types.specs.Types.{arm_line, default_lines, default_number, default_test, numbered_arm};
+ghost use Rattle.written_types.specs.Labels.{arm_label_at, is_label, keyword_at, no_arms, with_arm, with_case};
+ghost use Rattle.written_types.specs.Types.{arm_at, default_sites, default_number, default_test, numbered_arm};
 
 use crate::fault::{BuildFault, TypeFault};
 use crate::labels::{CaseLabels, Switch};
+use idl_tree::names::At;
 use std::alloc::{AllocError, Global};
 use std::marker::Model;
 
-/// What a label of a union chooses: a member whose type has the number, and whose declarator stands
-/// in the line.
+/// What a label of a union chooses: a member whose type has the number; where the label and the
+/// member's declarator stand.
 #[derive(Clone, Copy)]
 pub(crate) struct Arm {
     pub label: i128,
+    pub label_at: At,
     pub number: u32,
-    pub line: usize,
+    pub at: At,
 }
 
-/// What every other value chooses, and the line of the keyword.
+/// What every other value chooses, and where the keyword stands.
 #[derive(Clone, Copy)]
 pub(crate) struct DefaultArm {
     pub number: u32,
-    pub line: usize,
-    pub keyword: usize,
+    pub at: At,
+    pub keyword: At,
 }
 
 /// The arms of a union in rising order of their labels, and what every other value chooses.
@@ -72,18 +74,33 @@ impl ArmList {
         self.arms.iter().any(|arm| arm.label == label)
     }
 
+    /// Where the label of an arm stands.
+    pub fn label_at(&self, label: i128) -> Option<At>
+        ensures { result ≡ arm_label_at self.now.arms label }
+    {
+        for arm in &self.arms {
+            if arm.label == label {
+                return Some(arm.label_at);
+            }
+        }
+        None
+    }
+
+    /// Where the keyword of the default stands.
+    pub fn keyword_at(&self) -> Option<At>
+        ensures { result ≡ keyword_at self.now.default }
+    {
+        match self.default {
+            Some(arm) => Some(arm.keyword),
+            None => None,
+        }
+    }
+
     /// How many labels there are.
     pub fn len(&self) -> usize
         ensures { result ≡ length self.now.arms }
     {
         self.arms.len()
-    }
-
-    /// What every other value chooses.
-    pub fn default_arm(&self) -> Option<DefaultArm>
-        ensures { result ≡ self.now.default }
-    {
-        self.default
     }
 
     fn insert(&mut self, arm: Arm) -> Result<(), AllocError>
@@ -94,29 +111,25 @@ impl ArmList {
         Ok(())
     }
 
-    /// A case more, whose member has a type of the number and stands in the line.
+    /// A case more, whose member has a type of the number and stands there.
     ///
     /// # Errors
     /// Want of memory.
-    pub fn add_case(
-        &mut self,
-        number: u32,
-        line: usize,
-        labels: &CaseLabels,
-    ) -> Result<(), AllocError>
-        ensures { OnOk result (self.new ≡ with_case self.old number line labels.now) }
+    pub fn add_case(&mut self, number: u32, at: At, labels: &CaseLabels) -> Result<(), AllocError>
+        ensures { OnOk result (self.new ≡ with_case self.old number at labels.now) }
     {
         for label in labels.values() {
             self.insert(Arm {
-                label: *label,
+                label: label.value,
+                label_at: label.at,
                 number,
-                line,
+                at,
             })?;
         }
-        if let Some(keyword) = labels.default_line() {
+        if let Some(keyword) = labels.default_at() {
             self.default = Some(DefaultArm {
                 number,
-                line,
+                at,
                 keyword,
             });
         }
@@ -132,8 +145,8 @@ impl ArmList {
     {
         match self.default {
             Some(arm) if self.arms.len() as u128 >= switch.values.count => {
-                let line = arm.keyword;
-                Err(BuildFault::Types(TypeFault::DefaultNeedless { line }))
+                let at = arm.keyword;
+                Err(BuildFault::Types(TypeFault::DefaultNeedless { at }))
             }
             _ => Ok(()),
         }
@@ -160,17 +173,17 @@ impl ArmList {
         }
     }
 
-    /// The lines of the members.
-    pub fn lines(&self, alloc: Global) -> Result<Vec<usize>, AllocError>
-        ensures { IfOk result (λ lines. lines.items ≡ map arm_line self.now.arms ++ default_lines self.now.default) }
+    /// Where the members stand.
+    pub fn sites(&self, alloc: Global) -> Result<Vec<At>, AllocError>
+        ensures { IfOk result (λ sites. sites.items ≡ map arm_at self.now.arms ++ default_sites self.now.default) }
     {
-        let mut lines = Vec::new(alloc);
+        let mut sites = Vec::new(alloc);
         for arm in &self.arms {
-            lines.push(arm.line)?;
+            sites.push(arm.at)?;
         }
         if let Some(arm) = self.default {
-            lines.push(arm.line)?;
+            sites.push(arm.at)?;
         }
-        Ok(lines)
+        Ok(sites)
     }
 }

@@ -12,18 +12,18 @@ use crate::place::Place;
 use crate::readings::declared_entry;
 use crate::table::TypeTable;
 use idl_tree::definitions::{Declaration, Except, TypeDcl};
-use idl_tree::names::{Leaf, Listed};
+use idl_tree::names::{At, Leaf, Listed};
 use idl_tree::types::Declarator;
 use scoped_names::Names;
 use std::alloc::Global;
 use type_graph::Node;
-use type_paths::NodeLines;
+use type_paths::NodeSites;
 
 /// The first member of an exception's frame, its repository id.
-fn id_member(alloc: Global, line: usize) -> Result<MemberList, BuildFault>
-    ensures { Tells result (λ members. members) (Ok (id_member line)) }
+fn id_member(alloc: Global, at: At) -> Result<MemberList, BuildFault>
+    ensures { Tells result (λ members. members) (Ok (id_member at)) }
 {
-    MemberList::new(alloc).with_member(basic_types::STRING, line)
+    MemberList::new(alloc).with_member(basic_types::STRING, at)
 }
 
 impl TypeTable {
@@ -73,7 +73,7 @@ impl TypeTable {
         ensures { Tells result (λ u. self.new) (ahead names.now.entries self.old scope identifier.entry) }
     {
         let entry = declared_entry(names, scope, identifier)?;
-        self.declare(alloc, entry, identifier.token.line)?;
+        self.declare(alloc, entry, identifier.at())?;
         Ok(())
     }
 
@@ -92,8 +92,8 @@ impl TypeTable {
                 original,
                 declarators,
             } => {
-                let line = declarators.first.identifier.token.line;
-                let number = self.write_type(alloc, names, scope, line, original)?;
+                let at = declarators.first.identifier.at();
+                let number = self.write_type(alloc, names, scope, at, original)?;
                 self.write_typedefs(alloc, names, scope, number, declarators)
             }
             TypeDcl::Struct(s) => {
@@ -114,17 +114,12 @@ impl TypeTable {
     }
 
     /// The frame of an exception with these members.
-    fn add_exception(
-        &mut self,
-        entry: usize,
-        members: MemberList,
-        line: usize,
-    ) -> Result<(), BuildFault>
-        ensures { Tells result (λ u. self.new) (exception_added (with_members_of self.old members) entry line) }
+    fn add_exception(&mut self, entry: usize, members: MemberList, at: At) -> Result<(), BuildFault>
+        ensures { Tells result (λ u. self.new) (exception_added (with_members_of self.old members) entry at) }
     {
-        self.count_members(members.len(), line)?;
+        self.count_members(members.len(), at)?;
         let (members, held) = members.into_parts();
-        let frame = self.add(Node::Frame { members }, NodeLines::new(line, held))?;
+        let frame = self.add(Node::Frame { members }, NodeSites::new(at, held))?;
         self.raise(entry, frame)
     }
 
@@ -138,13 +133,13 @@ impl TypeTable {
         requires { scope ≤ length names.now.entries }
         ensures { Tells result (λ u. self.new) (except names.now.entries self.old scope e.now) }
     {
-        let line = e.identifier.token.line;
+        let at = e.identifier.at();
         let entry = declared_entry(names, scope, e.identifier)?;
-        let mut members = id_member(alloc, line)?;
+        let mut members = id_member(alloc, at)?;
         for member in &e.members {
             self.write_member(alloc, names, entry + 1, member, &mut members)?;
         }
-        self.add_exception(entry, members, line)
+        self.add_exception(entry, members, at)
     }
 
     /// A declaration of a module or an interface.
@@ -171,7 +166,7 @@ impl TypeTable {
     /// What is written behind a declaration of a module or an interface.
     ///
     /// # Errors
-    /// The first fault in the order of reading, with its line; want of memory.
+    /// The first fault in the order of reading, want of memory.
     pub fn with_declaration<'a>(
         self,
         alloc: Global,

@@ -4,34 +4,96 @@ ghost use Rattle.std.specs.Prelude.{◌≡◌};
 ghost use Rattle.written_types.specs.Faults.{at_most, limit};
 ghost use Rattle.written_types.specs.declared.fault.BuildFault.TheVariants.{NoMemory};
 
+use idl_tree::names::At;
 use std::alloc::{AllocError, AllocFailed};
 use thiserror::Error;
-use type_graph::GraphLimit;
+use type_graph::{GraphLimit, Values};
 
-/// A rule that the types of a specification break, with the line of what breaks it. What else the
-/// rules of a graph refuse no specification gets, but for a type that is declared ahead alone.
+/// Of which kind a type is.
+#[derive(Clone, Copy, Debug, PartialEq, Eq)]
+pub enum TypeKind {
+    Integer,
+    Char,
+    Boolean,
+    Octet,
+    Enum,
+    String,
+    Sequence,
+    Array,
+    Struct,
+    Union,
+    Object,
+}
+
+/// What a label is worth, without the octets of a text.
+#[derive(Clone, Copy, Debug, PartialEq, Eq)]
+pub enum LabelWorth {
+    Whole(i128),
+    Boolean(bool),
+    Character(u8),
+    Text,
+    /// The number of the enumerator among the names.
+    Enumerator(usize),
+}
+
+/// What an operation answers first, in the order of reading.
+#[derive(Clone, Copy, Debug, PartialEq, Eq)]
+pub enum Answer {
+    Result,
+    /// A parameter that isn't `in`; its identifier stands there.
+    Parameter(At),
+    Exceptions,
+}
+
+/// A rule that the types of a specification break, with the place of what breaks it. What is printed
+/// is the line. What else the rules of a graph refuse no specification gets, but for a type that is
+/// declared ahead alone.
 #[derive(Clone, Copy, Debug, PartialEq, Eq, Drop, Error)]
 pub enum TypeFault {
-    /// A type holds itself without a sequence between.
-    #[error("30 SelfHeld line {line}")]
-    SelfHeld { line: usize },
-    /// A label stands twice in a union, or a second default.
-    #[error("31 LabelTwice line {line}")]
-    LabelTwice { line: usize },
-    /// A label is no value of the union's discriminator.
-    #[error("32 LabelRange line {line}")]
-    LabelRange { line: usize },
+    /// A type holds itself without a sequence between: the member that closes the circle stands
+    /// there.
+    #[error("30 SelfHeld line {at}")]
+    SelfHeld {
+        at: At,
+    },
+    /// A label stands twice in a union, or a second default. The first of the two is told too.
+    #[error("31 LabelTwice line {at}")]
+    LabelTwice {
+        at: At,
+        other: Option<At>,
+    },
+    /// A label is no value of the union's discriminator, which is of the kind and has the values.
+    #[error("32 LabelRange line {at}")]
+    LabelRange {
+        at: At,
+        found: LabelWorth,
+        kind: TypeKind,
+        values: Values,
+    },
     /// A default where the labels are all values of the discriminator.
-    #[error("33 DefaultNeedless line {line}")]
-    DefaultNeedless { line: usize },
+    #[error("33 DefaultNeedless line {at}")]
+    DefaultNeedless {
+        at: At,
+    },
     /// The discriminator of a union is of a type that has no labels.
-    #[error("34 BadSwitch line {line}")]
-    BadSwitch { line: usize },
-    #[error("35 Limit line {line}")]
-    Limit { which: GraphLimit, line: usize },
+    #[error("34 BadSwitch line {at}")]
+    BadSwitch {
+        at: At,
+        found: Option<TypeKind>,
+    },
+    /// There is more of it than so many.
+    #[error("35 Limit line {at}")]
+    Limit {
+        which: GraphLimit,
+        most: u32,
+        at: At,
+    },
     /// A oneway operation that answers something.
-    #[error("36 BadOneway line {line}")]
-    BadOneway { line: usize },
+    #[error("36 BadOneway line {at}")]
+    BadOneway {
+        at: At,
+        answer: Answer,
+    },
 }
 
 /// The first fault in the order of reading; a type that holds itself and too long a path come last.
@@ -48,11 +110,11 @@ pub enum BuildFault {
 }
 
 impl BuildFault {
-    /// A limit that is passed at a line.
-    pub fn limit(which: GraphLimit, line: usize) -> BuildFault
-        ensures { result ≡ limit which line }
+    /// A limit of so many that is passed there.
+    pub fn limit(which: GraphLimit, most: u32, at: At) -> BuildFault
+        ensures { result ≡ limit which most at }
     {
-        BuildFault::Types(TypeFault::Limit { which, line })
+        BuildFault::Types(TypeFault::Limit { which, most, at })
     }
 }
 
@@ -60,11 +122,11 @@ impl BuildFault {
 ///
 /// # Errors
 /// The limit.
-pub(crate) fn at_most(most: u32, which: GraphLimit, line: usize, n: u128) -> Result<u32, BuildFault>
-    ensures { result ≡ at_most most which line n }
+pub(crate) fn at_most(most: u32, which: GraphLimit, at: At, n: u128) -> Result<u32, BuildFault>
+    ensures { result ≡ at_most most which at n }
 {
     if n > u128::from(most) {
-        return Err(BuildFault::limit(which, line));
+        return Err(BuildFault::limit(which, most, at));
     }
     Ok(n as u32)
 }

@@ -1,22 +1,23 @@
 //! The discriminators of unions and their labels (ISO/IEC 19500-1, unions).
 
-ghost use Rattle.std.specs.Prelude.{◌≡◌, ◌≤◌, ◌^◌, length, option_copied, slice_get, Some};
+ghost use Rattle.std.specs.Prelude.{◌≡◌, ◌≤◌, ◌^◌, length, option_copied, Some};
 ghost use Rattle.std.specs.List.{list_any};
 ghost use Rattle.std.specs.Ordering.{int_eq};
 ghost use Rattle.idl_tree.specs.Lists.{parts};
 ghost use Rattle.type_graph.specs.declared.node.Node.TheVariants.{Whole as WholeNode};
 ghost use Rattle.written_types.specs.Faults.{Tells, each};
-ghost use Rattle.written_types.specs.Labels.{is_taken, is_value, label_added, label_number, label_value, label_within, no_labels, signed_values, switch_kind, switch_line, switch_of, switch_read, switch_type, switched, value_added, values_below, values_of};
+ghost use Rattle.written_types.specs.Labels.{default_added, is_taken, is_value, label_added, label_number, label_value, label_within, no_labels, out_of_range, signed_values, switch_at, switch_kind, switch_of, switch_read, switch_type, switched, taken_at, value_added, value_at, values_below, values_of};
 ghost use Rattle.written_types.specs.Written.{already};
 
 use crate::arms::ArmList;
-use crate::fault::{BuildFault, TypeFault, at_most};
+use crate::fault::{BuildFault, LabelWorth, TypeFault, TypeKind, at_most};
+use crate::kinds::{const_kind, kind_of_type};
 use crate::members::MAX_MEMBERS;
 use crate::readings::{declared_entry, integer_number, read_value, resolved};
 use crate::table::TypeTable;
 use const_values::{ConstKind, Constant};
 use idl_tree::expression::Expr;
-use idl_tree::names::Listed;
+use idl_tree::names::{At, Listed};
 use idl_tree::types::{Label, SwitchType};
 use scoped_names::Names;
 use std::alloc::Global;
@@ -31,11 +32,18 @@ pub(crate) struct Switch {
     pub values: Values,
 }
 
-/// The labels of a case while they are read: their values, and the line of `default`.
+/// The value of a label, which stands there.
+#[derive(Clone, Copy)]
+pub(crate) struct LabelValue {
+    pub value: i128,
+    pub at: At,
+}
+
+/// The labels of a case while they are read: their values, and where `default` stands.
 #[derive(Drop)]
 pub(crate) struct CaseLabels {
-    values: Vec<i128>,
-    default: Option<usize>,
+    values: Vec<LabelValue>,
+    default: Option<At>,
 }
 
 impl Model for CaseLabels {
@@ -58,23 +66,35 @@ impl CaseLabels {
     }
 
     /// The values.
-    pub fn values(&self) -> &[i128]
+    pub fn values(&self) -> &[LabelValue]
         ensures { result.now ≡ self.now.values }
     {
         self.values.as_slice()
     }
 
-    /// The line of `default`.
-    pub fn default_line(&self) -> Option<usize>
+    /// Where `default` stands.
+    pub fn default_at(&self) -> Option<At>
         ensures { result ≡ self.now.default }
     {
         self.default
     }
 
     fn has(&self, value: i128) -> bool
-        ensures { result ≡ list_any (λ m. int_eq m value) self.now.values }
+        ensures { result ≡ list_any (λ l. int_eq l.value value) self.now.values }
     {
-        self.values.iter().any(|other| *other == value)
+        self.values.iter().any(|label| label.value == value)
+    }
+
+    /// Where the label of the value stands.
+    fn value_at(&self, value: i128) -> Option<At>
+        ensures { result ≡ value_at self.now.values value }
+    {
+        for label in &self.values {
+            if label.value == value {
+                return Some(label.at);
+            }
+        }
+        None
     }
 
     /// Whether an arm or a label before has the value.
@@ -84,19 +104,42 @@ impl CaseLabels {
         arms.has(value) || self.has(value)
     }
 
-    /// A value more, which stands in the line.
+    /// Where an arm or a label before stands that has the value.
+    fn taken_at(&self, arms: &ArmList, value: i128) -> Option<At>
+        ensures { result ≡ taken_at arms.now self.now value }
+    {
+        arms.label_at(value).or(self.value_at(value))
+    }
+
+    /// A value more, which stands there.
     ///
     /// # Errors
     /// `LabelTwice`, `Limit` where the arms and the labels are 1,024, want of memory.
-    fn add_value(&mut self, arms: &ArmList, line: usize, value: i128) -> Result<(), BuildFault>
-        ensures { Tells result (λ u. self.new) (value_added arms.now self.old line value) }
+    fn add_value(&mut self, arms: &ArmList, at: At, value: i128) -> Result<(), BuildFault>
+        ensures { Tells result (λ u. self.new) (value_added arms.now self.old at value) }
     {
         if self.is_taken(arms, value) {
-            return Err(BuildFault::Types(TypeFault::LabelTwice { line }));
+            let other = self.taken_at(arms, value);
+            return Err(BuildFault::Types(TypeFault::LabelTwice { at, other }));
         }
         let count = arms.len() as u128 + self.values.len() as u128 + 1;
-        at_most(MAX_MEMBERS, GraphLimit::Members, line, count)?;
-        self.values.push(value)?;
+        at_most(MAX_MEMBERS, GraphLimit::Members, at, count)?;
+        self.values.push(LabelValue { value, at })?;
+        Ok(())
+    }
+
+    /// The `default` there.
+    ///
+    /// # Errors
+    /// `LabelTwice` where there is one.
+    fn add_default(&mut self, arms: &ArmList, at: At) -> Result<(), BuildFault>
+        ensures { Tells result (λ u. self.new) (default_added arms.now self.old at) }
+    {
+        let other = arms.keyword_at().or(self.default);
+        if other.is_some() {
+            return Err(BuildFault::Types(TypeFault::LabelTwice { at, other }));
+        }
+        self.default = Some(at);
         Ok(())
     }
 
@@ -118,17 +161,13 @@ impl CaseLabels {
     {
         match label {
             Label::Case(value) => {
-                let line = value.expr.start().token.line;
+                let at = value.expr.start().at();
                 let value = read_label(alloc, names, scope, switch, &value.expr)?;
-                self.add_value(arms, line, value)
+                self.add_value(arms, at, value)
             }
             Label::Default(word) => {
-                let line = word.token.line;
-                if arms.default_arm().is_some() || self.default.is_some() {
-                    return Err(BuildFault::Types(TypeFault::LabelTwice { line }));
-                }
-                self.default = Some(line);
-                Ok(())
+                let at = word.at();
+                self.add_default(arms, at)
             }
         }
     }
@@ -137,7 +176,7 @@ impl CaseLabels {
 /// The labels of a case, judged against the arms of the cases before and against one another.
 ///
 /// # Errors
-/// The first fault in the order of reading, with its line; want of memory.
+/// The first fault in the order of reading; want of memory.
 pub(crate) fn read_labels<'a>(
     alloc: Global,
     names: &Names<'a>,
@@ -179,18 +218,37 @@ fn is_value(values: Values, n: i128) -> bool
     values.least <= n && n < values.end
 }
 
+/// What is told of a label that is no value of the discriminator. Takes no memory.
+fn out_of_range(switch: Switch, at: At, constant: &Constant) -> TypeFault
+    ensures { result ≡ out_of_range switch at constant.now }
+{
+    let found = match constant {
+        Constant::Whole(value) => LabelWorth::Whole(*value),
+        Constant::Boolean(value) => LabelWorth::Boolean(*value),
+        Constant::Character(octet) => LabelWorth::Character(*octet),
+        Constant::Text(_) => LabelWorth::Text,
+        Constant::Enumerator { enumerator, .. } => LabelWorth::Enumerator(*enumerator),
+    };
+    TypeFault::LabelRange {
+        at,
+        found,
+        kind: const_kind(switch.kind),
+        values: switch.values,
+    }
+}
+
 /// The value, where the constant is of the discriminator's type. Takes no memory.
 fn label_within(
     switch: Switch,
-    line: usize,
+    at: At,
     constant: &Constant,
     value: Option<i128>,
 ) -> Result<i128, BuildFault>
-    ensures { result ≡ label_within switch line constant.now value }
+    ensures { result ≡ label_within switch at constant.now value }
 {
     match value {
         Some(value) if switch.kind.admits(constant) && is_value(switch.values, value) => Ok(value),
-        _ => Err(BuildFault::Types(TypeFault::LabelRange { line })),
+        _ => Err(BuildFault::Types(out_of_range(switch, at, constant))),
     }
 }
 
@@ -210,8 +268,8 @@ fn read_label<'a>(
     ensures { Tells result (λ n. n) (label_value names.now.entries scope switch expr.now) }
 {
     let constant = read_value(alloc, names, scope, expr)?;
-    let line = expr.start().token.line;
-    label_within(switch, line, &constant, value_of(&constant))
+    let at = expr.start().at();
+    label_within(switch, at, &constant, value_of(&constant))
 }
 
 /// So many values from 0 on.
@@ -287,25 +345,26 @@ fn kind_of<'a>(
     })
 }
 
-/// The line of a switch's name, or else that of its union.
-fn line_of_switch(switch: &SwitchType<'_>, line: usize) -> usize
-    ensures { result ≡ switch_line switch.now line }
+/// Where a discriminator without labels is told: at its name, or else where its union stands.
+fn switch_at(switch: &SwitchType<'_>, at: At) -> At
+    ensures { result ≡ switch_at switch.now at }
 {
     match switch {
-        SwitchType::Name(name) => name.start().token.line,
-        SwitchType::Enum(e) => e.identifier.token.line,
-        _ => line,
+        SwitchType::Name(name) => name.start().at(),
+        SwitchType::Enum(e) => e.identifier.at(),
+        _ => at,
     }
 }
 
 /// The discriminator that has labels. Takes no memory.
 fn switch_of(
-    line: usize,
+    at: At,
+    found: Option<TypeKind>,
     number: u32,
     kind: Option<ConstKind>,
     values: Option<Values>,
 ) -> Result<Switch, BuildFault>
-    ensures { result ≡ switch_of line number kind values }
+    ensures { result ≡ switch_of at found number kind values }
 {
     match (kind, values) {
         (Some(kind), Some(values)) => Ok(Switch {
@@ -313,7 +372,7 @@ fn switch_of(
             kind,
             values,
         }),
-        _ => Err(BuildFault::Types(TypeFault::BadSwitch { line })),
+        _ => Err(BuildFault::Types(TypeFault::BadSwitch { at, found })),
     }
 }
 
@@ -338,14 +397,7 @@ impl TypeTable {
         }
     }
 
-    /// The values of a discriminator whose type has the number.
-    fn switch_values(&self, number: u32) -> Option<Values>
-        ensures { result ≡ values_of (slice_get self.now.nodes number) }
-    {
-        values_of(self.nodes().get(number as usize))
-    }
-
-    /// The discriminator of a union in a line.
+    /// The discriminator of a union that stands there.
     ///
     /// # Errors
     /// Those of its name or enumeration; `BadSwitch` where it has no labels; want of memory.
@@ -354,15 +406,16 @@ impl TypeTable {
         alloc: Global,
         names: &Names<'a>,
         scope: usize,
-        line: usize,
+        at: At,
         switch: &SwitchType<'a>,
     ) -> Result<Switch, BuildFault>
         requires { scope ≤ length names.now.entries }
-        ensures { Tells result (switched self.new) (switch_read names.now.entries self.old scope line switch.now) }
+        ensures { Tells result (switched self.new) (switch_read names.now.entries self.old scope at switch.now) }
     {
         let number = self.write_switch_type(alloc, names, scope, switch)?;
         let kind = kind_of(names, scope, switch)?;
-        let values = self.switch_values(number);
-        switch_of(line_of_switch(switch, line), number, kind, values)
+        let node = self.nodes().get(number as usize);
+        let found = kind_of_type(number, node);
+        switch_of(switch_at(switch, at), found, number, kind, values_of(node))
     }
 }

@@ -5,6 +5,7 @@
 mod arms;
 mod declarations;
 mod fault;
+mod kinds;
 mod labels;
 mod members;
 mod place;
@@ -14,7 +15,7 @@ mod table;
 mod types;
 mod written;
 
-pub use fault::{BuildFault, TypeFault};
+pub use fault::{Answer, BuildFault, LabelWorth, TypeFault, TypeKind};
 pub use members::MemberList;
 pub use place::Place;
 pub use readings::{declared_entry, resolved};

@@ -5,18 +5,19 @@ ghost use Rattle.written_types.specs.Faults.{Tells};
 ghost use Rattle.written_types.specs.Types.{member_added, no_members};
 
 use crate::fault::{BuildFault, at_most};
+use idl_tree::names::At;
 use std::alloc::Global;
 use std::marker::Model;
 use type_graph::{GraphLimit, Members};
 
 pub(crate) const MAX_MEMBERS: u32 = 1024;
 
-/// The members of a structure or a frame. A contract sees the numbers of their types, and the lines
-/// of their declarators.
+/// The members of a structure or a frame. A contract sees the numbers of their types, and where
+/// their declarators stand.
 #[derive(Drop)]
 pub struct MemberList {
     numbers: Vec<u32>,
-    lines: Vec<usize>,
+    sites: Vec<At>,
 }
 
 impl Model for MemberList {
@@ -24,7 +25,7 @@ impl Model for MemberList {
 
     ghost Value = { Members };
 
-    ghost view = { λ m. record { numbers = m.numbers.items; lines = m.lines.items } };
+    ghost view = { λ m. record { numbers = m.numbers.items; sites = m.sites.items } };
 }
 
 impl MemberList {
@@ -34,7 +35,7 @@ impl MemberList {
     {
         MemberList {
             numbers: Vec::new(alloc),
-            lines: Vec::new(alloc),
+            sites: Vec::new(alloc),
         }
     }
 
@@ -42,12 +43,12 @@ impl MemberList {
     ///
     /// # Errors
     /// `Limit` where there are 1,024, want of memory.
-    pub(crate) fn push(&mut self, number: u32, line: usize) -> Result<(), BuildFault>
-        ensures { Tells result (λ u. self.new) (member_added self.old number line) }
+    pub(crate) fn push(&mut self, number: u32, at: At) -> Result<(), BuildFault>
+        ensures { Tells result (λ u. self.new) (member_added self.old number at) }
     {
         let count = self.numbers.len() as u128 + 1;
-        at_most(MAX_MEMBERS, GraphLimit::Members, line, count)?;
-        self.lines.push(line)?;
+        at_most(MAX_MEMBERS, GraphLimit::Members, at, count)?;
+        self.sites.push(at)?;
         self.numbers.push(number)?;
         Ok(())
     }
@@ -56,11 +57,11 @@ impl MemberList {
     ///
     /// # Errors
     /// `Limit` where there are 1,024, want of memory.
-    pub fn with_member(self, number: u32, line: usize) -> Result<MemberList, BuildFault>
-        ensures { Tells result (λ members. members) (member_added self number line) }
+    pub fn with_member(self, number: u32, at: At) -> Result<MemberList, BuildFault>
+        ensures { Tells result (λ members. members) (member_added self number at) }
     {
         let mut members = self;
-        members.push(number, line)?;
+        members.push(number, at)?;
         Ok(members)
     }
 
@@ -71,11 +72,11 @@ impl MemberList {
         self.numbers.len()
     }
 
-    /// Gives the members and their lines. Takes no memory.
-    pub fn into_parts(self) -> (Members, Vec<usize>)
+    /// Gives the members and where they stand. Takes no memory.
+    pub fn into_parts(self) -> (Members, Vec<At>)
         ensures numbers { result.0 ≡ self.numbers }
-        ensures lines { result.1.items ≡ self.lines }
+        ensures sites { result.1.items ≡ self.sites }
     {
-        (Members::new(self.numbers), self.lines)
+        (Members::new(self.numbers), self.sites)
     }
 }

@@ -123,8 +123,8 @@ pub(crate) fn read_bound<'a>(
     ensures { Tells result (λ n. n) (bound_of names.now.entries scope bound.now) }
 {
     let most = read_number(alloc, names, scope, &bound.expr)?;
-    let line = bound.expr.start().token.line;
-    at_most(MAX_BOUND, GraphLimit::Bound, line, most)
+    let at = bound.expr.start().at();
+    at_most(MAX_BOUND, GraphLimit::Bound, at, most)
 }
 
 /// A bound, or 0 for none.
@@ -157,8 +157,8 @@ fn read_size<'a>(
     ensures { Tells result (λ n. n) (size_of names.now.entries scope size.now) }
 {
     let count = read_number(alloc, names, scope, &size.expr)?;
-    let line = size.expr.start().token.line;
-    at_most(MAX_SIZE, GraphLimit::Size, line, count)
+    let at = size.expr.start().at();
+    at_most(MAX_SIZE, GraphLimit::Size, at, count)
 }
 
 /// The sizes of an array, the first dimension first.

@@ -8,6 +8,7 @@ ghost use Rattle.written_types.specs.Written.{already};
 use crate::fault::{BuildFault, at_most};
 use crate::readings::{declared_entry, integer_number, read_bound, read_bound_or_none, read_sizes};
 use crate::table::TypeTable;
+use idl_tree::names::At;
 use idl_tree::types::{ConstType, Declarator, EnumType, ParamType, SimpleType};
 use scoped_names::Names;
 use std::alloc::Global;
@@ -38,8 +39,8 @@ impl TypeTable {
             ConstType::String(None) => Ok(basic_types::STRING),
             ConstType::String(Some(bound)) => {
                 let most = read_bound(alloc, names, scope, bound)?;
-                let line = bound.expr.start().token.line;
-                self.add_at(alloc, Node::Text { bound: most }, line)
+                let at = bound.expr.start().at();
+                self.add_at(alloc, Node::Text { bound: most }, at)
             }
             ConstType::Name(name) => self.named(names, scope, name),
         }
@@ -65,38 +66,38 @@ impl TypeTable {
         }
     }
 
-    /// A type that declares nothing, of a declarator in the line; gives its number.
+    /// A type that declares nothing, of a declarator that stands there; gives its number.
     pub(crate) fn write_simple<'a>(
         &mut self,
         alloc: Global,
         names: &Names<'a>,
         scope: usize,
-        line: usize,
+        at: At,
         t: &SimpleType<'a>,
     ) -> Result<u32, BuildFault>
         requires { scope ≤ length names.now.entries }
-        ensures { Tells result (already self.new) (simple_type names.now.entries self.old scope line t.now) }
+        ensures { Tells result (already self.new) (simple_type names.now.entries self.old scope at t.now) }
     {
         match t {
             SimpleType::Plain(plain) => self.write_param_type(alloc, names, scope, plain),
             SimpleType::Sequence { element, bound } => {
-                let elem = self.write_simple(alloc, names, scope, line, element)?;
+                let elem = self.write_simple(alloc, names, scope, at, element)?;
                 let bound = read_bound_or_none(alloc, names, scope, bound)?;
-                self.add_at(alloc, Node::Seq { elem, bound }, line)
+                self.add_at(alloc, Node::Seq { elem, bound }, at)
             }
         }
     }
 
-    /// Arrays of a type that is written, for a declarator in the line; gives the number of the
+    /// Arrays of a type that is written, for a declarator that stands there; gives the number of the
     /// outermost, or that of the type where there is none.
     fn add_arrays(
         &mut self,
         alloc: Global,
         elem: u32,
-        line: usize,
+        at: At,
         counts: &[u32],
     ) -> Result<u32, BuildFault>
-        ensures { Tells result (already self.new) (arrays (already self.old elem) line counts.now) }
+        ensures { Tells result (already self.new) (arrays (already self.old elem) at counts.now) }
     {
         let mut number = elem;
         let mut left = counts.len();
@@ -106,7 +107,7 @@ impl TypeTable {
                 elem: number,
                 n: counts[left],
             };
-            number = self.add_at(alloc, array, line)?;
+            number = self.add_at(alloc, array, at)?;
         }
         Ok(number)
     }
@@ -124,8 +125,8 @@ impl TypeTable {
         ensures { Tells result (already self.new) (array_type names.now.entries scope (already self.old elem) declarator.now) }
     {
         let counts = read_sizes(alloc, names, scope, declarator.sizes.as_slice())?;
-        let line = declarator.identifier.token.line;
-        self.add_arrays(alloc, elem, line, counts.as_slice())
+        let at = declarator.identifier.at();
+        self.add_arrays(alloc, elem, at, counts.as_slice())
     }
 
     /// An enumeration; gives its number.
@@ -141,10 +142,10 @@ impl TypeTable {
     ) -> Result<u32, BuildFault>
         ensures { Tells result (already self.new) (enum_type names.now.entries self.old scope e.now) }
     {
-        let line = e.identifier.token.line;
+        let at = e.identifier.at();
         let entry = declared_entry(names, scope, e.identifier)?;
         let count = e.enumerators.len() as u128;
-        let n = at_most(MAX_ENUMERATORS, GraphLimit::Enumerators, line, count)?;
-        self.add_named(alloc, entry, Node::Enum { n }, line)
+        let n = at_most(MAX_ENUMERATORS, GraphLimit::Enumerators, at, count)?;
+        self.add_named(alloc, entry, Node::Enum { n }, at)
     }
 }

@@ -3,18 +3,18 @@
 ghost use Rattle.std.specs.Prelude.{◌≡◌, ◌≤◌, length, slice_get, Ok};
 ghost use Rattle.written_types.specs.Faults.{Tells};
 ghost use Rattle.written_types.specs.SimpleTypes.{type_found};
-ghost use Rattle.written_types.specs.Written.{added, added_at, already, counted, held_at, is_undefined as has_no_definition, named_type, node_set, one_line, opened as opened_of, place_of, placed, raised_at, type_of, undefined as undefined_node, unwritten};
+ghost use Rattle.written_types.specs.Written.{added, added_at, already, counted, held_at, is_undefined as has_no_definition, named_type, node_set, one_site, opened as opened_of, place_of, placed, raised_at, type_of, undefined as undefined_node, unwritten};
 
 use crate::fault::{BuildFault, at_most};
 use crate::place::Place;
 use crate::readings::resolved;
 use basic_types::basic_nodes;
-use idl_tree::names::ScopedName;
+use idl_tree::names::{At, ScopedName};
 use scoped_names::Names;
 use std::alloc::Global;
 use std::marker::Model;
 use type_graph::{GraphLimit, Members, Node};
-use type_paths::NodeLines;
+use type_paths::NodeSites;
 
 const MAX_NODES: u32 = 4096;
 
@@ -24,14 +24,14 @@ const MAX_ALL_MEMBERS: u32 = 32768;
 const BASIC_MEMBERS: usize = 4;
 
 /// The types that are written so far, and what the entries among the names have of them. A contract
-/// sees the nodes, what each entry has, the exceptions, the lines of the nodes behind the basic
-/// types, and how many members all types have.
+/// sees the nodes, what each entry has, the exceptions, where the nodes behind the basic types
+/// stand, and how many members all types have.
 #[derive(Drop)]
 pub struct TypeTable {
     nodes: Vec<Node>,
     places: Vec<Option<Place>>,
     exceptions: Vec<(usize, u32)>,
-    lines: Vec<NodeLines>,
+    sites: Vec<NodeSites>,
     members: usize,
 }
 
@@ -40,7 +40,7 @@ impl Model for TypeTable {
 
     ghost Value = { Written };
 
-    ghost view = { λ t. record { nodes = t.nodes.items; places = t.places.items; exceptions = t.exceptions.items; lines = t.lines.items; members = t.members } };
+    ghost view = { λ t. record { nodes = t.nodes.items; places = t.places.items; exceptions = t.exceptions.items; sites = t.sites.items; members = t.members } };
 }
 
 /// A structure that has no members yet.
@@ -52,12 +52,12 @@ fn undefined_type(alloc: Global) -> Node
     }
 }
 
-/// The lines of a node that holds one other at most.
-fn one_line(alloc: Global, line: usize) -> Result<NodeLines, BuildFault>
-    ensures { Tells result (λ lines. lines) (Ok (one_line line)) }
+/// Where a node stands that holds one other at most.
+fn one_site(alloc: Global, at: At) -> Result<NodeSites, BuildFault>
+    ensures { Tells result (λ sites. sites) (Ok (one_site at)) }
 {
-    let held = vec![in alloc; line]?;
-    Ok(NodeLines::new(line, held))
+    let held = vec![in alloc; at]?;
+    Ok(NodeSites::new(at, held))
 }
 
 impl TypeTable {
@@ -72,40 +72,35 @@ impl TypeTable {
             nodes: basic_nodes(alloc)?,
             places: vec![in alloc; None; entries]?,
             exceptions: Vec::new(alloc),
-            lines: Vec::new(alloc),
+            sites: Vec::new(alloc),
             members: BASIC_MEMBERS,
         })
     }
 
-    /// A node more, with its lines; gives its number.
+    /// A node more, with the places of it and of what it holds; gives its number.
     ///
     /// # Errors
     /// `Limit` where there are 4,096, want of memory.
-    pub(crate) fn add(&mut self, node: Node, lines: NodeLines) -> Result<u32, BuildFault>
-        ensures { Tells result (already self.new) (added self.old node lines) }
+    pub(crate) fn add(&mut self, node: Node, sites: NodeSites) -> Result<u32, BuildFault>
+        ensures { Tells result (already self.new) (added self.old node sites) }
     {
         let number = self.nodes.len();
         let count = number as u128 + 1;
-        at_most(MAX_NODES, GraphLimit::Nodes, lines.line(), count)?;
+        at_most(MAX_NODES, GraphLimit::Nodes, sites.at(), count)?;
         self.nodes.push(node)?;
-        self.lines.push(lines)?;
+        self.sites.push(sites)?;
         Ok(number as u32)
     }
 
-    /// A node that holds one other at most, which stands in the line.
+    /// A node that holds one other at most, which stands there.
     ///
     /// # Errors
     /// As `add`.
-    pub(crate) fn add_at(
-        &mut self,
-        alloc: Global,
-        node: Node,
-        line: usize,
-    ) -> Result<u32, BuildFault>
-        ensures { Tells result (already self.new) (added_at self.old node line) }
+    pub(crate) fn add_at(&mut self, alloc: Global, node: Node, at: At) -> Result<u32, BuildFault>
+        ensures { Tells result (already self.new) (added_at self.old node at) }
     {
-        let lines = one_line(alloc, line)?;
-        self.add(node, lines)
+        let sites = one_site(alloc, at)?;
+        self.add(node, sites)
     }
 
     /// An entry has this from now on.
@@ -171,31 +166,26 @@ impl TypeTable {
         alloc: Global,
         entry: usize,
         node: Node,
-        line: usize,
+        at: At,
     ) -> Result<u32, BuildFault>
-        ensures { Tells result (already self.new) (named_type self.old entry node line) }
+        ensures { Tells result (already self.new) (named_type self.old entry node at) }
     {
-        let number = self.add_at(alloc, node, line)?;
+        let number = self.add_at(alloc, node, at)?;
         self.put(entry, Place::Typed(number))?;
         Ok(number)
     }
 
-    /// A structure or a union that is declared in a line: gives its number, which it has since its
+    /// A structure or a union that is declared there: gives its number, which it has since its
     /// first declaration.
     ///
     /// # Errors
     /// As `add_named`.
-    pub(crate) fn declare(
-        &mut self,
-        alloc: Global,
-        entry: usize,
-        line: usize,
-    ) -> Result<u32, BuildFault>
-        ensures { Tells result (already self.new) (opened_of self.old entry line) }
+    pub(crate) fn declare(&mut self, alloc: Global, entry: usize, at: At) -> Result<u32, BuildFault>
+        ensures { Tells result (already self.new) (opened_of self.old entry at) }
     {
         match self.type_at(entry) {
             Some(number) => Ok(number),
-            None => self.add_named(alloc, entry, undefined_type(alloc), line),
+            None => self.add_named(alloc, entry, undefined_type(alloc), at),
         }
     }
 
@@ -209,7 +199,7 @@ impl TypeTable {
         }
     }
 
-    /// What a structure or a union is, with the lines of what it holds. Takes no memory.
+    /// What a structure or a union is, and where what it holds stands. Takes no memory.
     ///
     /// # Errors
     /// `OtherNames` where there is no such node, or one that has a definition.
@@ -217,7 +207,7 @@ impl TypeTable {
         &mut self,
         number: u32,
         node: Node,
-        held: Vec<usize>,
+        held: Vec<At>,
     ) -> Result<(), BuildFault>
         ensures { Tells result (λ u. self.new) (node_set self.old number node held.items) }
     {
@@ -230,28 +220,28 @@ impl TypeTable {
         Ok(())
     }
 
-    /// The lines of what a node holds; a basic type has none.
-    fn set_held(&mut self, number: usize, held: Vec<usize>)
-        ensures { self.new ≡ record self.old { lines = held_at self.old.lines number held.items } }
+    /// Where what a node holds stands; a basic type has no places.
+    fn set_held(&mut self, number: usize, held: Vec<At>)
+        ensures { self.new ≡ record self.old { sites = held_at self.old.sites number held.items } }
     {
         let Some(place) = number.checked_sub(basic_types::BASIC_NODES as usize) else {
             return;
         };
-        if place < self.lines.len() {
-            let line = self.lines[place].line();
-            self.lines[place] = NodeLines::new(line, held);
+        if place < self.sites.len() {
+            let at = self.sites[place].at();
+            self.sites[place] = NodeSites::new(at, held);
         }
     }
 
-    /// So many members more of one type, which stands in the line. Takes no memory.
+    /// So many members more of one type, which stands there. Takes no memory.
     ///
     /// # Errors
     /// `Limit` where all types have more than 32,768.
-    pub(crate) fn count_members(&mut self, count: usize, line: usize) -> Result<(), BuildFault>
-        ensures { Tells result (λ u. self.new) (counted self.old count line) }
+    pub(crate) fn count_members(&mut self, count: usize, at: At) -> Result<(), BuildFault>
+        ensures { Tells result (λ u. self.new) (counted self.old count at) }
     {
         let all = self.members as u128 + count as u128;
-        let all = at_most(MAX_ALL_MEMBERS, GraphLimit::AllMembers, line, all)?;
+        let all = at_most(MAX_ALL_MEMBERS, GraphLimit::AllMembers, at, all)?;
         self.members = all as usize;
         Ok(())
     }
@@ -289,11 +279,11 @@ impl TypeTable {
         self.places.as_slice()
     }
 
-    /// The lines of the nodes behind the basic types.
-    pub fn lines(&self) -> &[NodeLines]
-        ensures { result.now ≡ self.now.lines }
+    /// Where the nodes stand behind the basic types.
+    pub fn sites(&self) -> &[NodeSites]
+        ensures { result.now ≡ self.now.sites }
     {
-        self.lines.as_slice()
+        self.sites.as_slice()
     }
 
     /// Gives the nodes back. Takes no memory.

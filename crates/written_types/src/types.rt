@@ -11,7 +11,7 @@ use crate::labels::{Switch, read_labels};
 use crate::members::MemberList;
 use crate::readings::declared_entry;
 use crate::table::TypeTable;
-use idl_tree::names::Listed;
+use idl_tree::names::{At, Listed};
 use idl_tree::types::{Case, Declarator, Member, StructType, TypeSpec, UnionType};
 use scoped_names::Names;
 use std::alloc::Global;
@@ -32,9 +32,9 @@ impl TypeTable {
         ensures { Tells result (λ u. with_members_of self.new members.new)
             (with_declarator names.now.entries scope number (with_members_of self.old members.old) declarator.now) }
     {
-        let line = declarator.identifier.token.line;
+        let at = declarator.identifier.at();
         let number = self.write_arrays(alloc, names, scope, number, declarator)?;
-        members.push(number, line)
+        members.push(number, at)
     }
 
     /// Members of the type that has the number.
@@ -58,17 +58,12 @@ impl TypeTable {
     }
 
     /// A structure has these members.
-    fn define_struct(
-        &mut self,
-        number: u32,
-        members: MemberList,
-        line: usize,
-    ) -> Result<(), BuildFault>
-        ensures { Tells result (λ u. self.new) (struct_defined (with_members_of self.old members) number line) }
+    fn define_struct(&mut self, number: u32, members: MemberList, at: At) -> Result<(), BuildFault>
+        ensures { Tells result (λ u. self.new) (struct_defined (with_members_of self.old members) number at) }
     {
-        self.count_members(members.len(), line)?;
-        let (members, lines) = members.into_parts();
-        self.define(number, Node::Struct { members }, lines)
+        self.count_members(members.len(), at)?;
+        let (members, sites) = members.into_parts();
+        self.define(number, Node::Struct { members }, sites)
     }
 
     /// A union has this discriminator and these arms.
@@ -78,38 +73,38 @@ impl TypeTable {
         number: u32,
         switch: Switch,
         arms: &ArmList,
-        line: usize,
+        at: At,
     ) -> Result<(), BuildFault>
-        ensures { Tells result (λ u. self.new) (union_defined switch (cases_of self.old arms.now) number line) }
+        ensures { Tells result (λ u. self.new) (union_defined switch (cases_of self.old arms.now) number at) }
     {
         arms.check_default(switch)?;
-        self.count_members(arms.len(), line)?;
+        self.count_members(arms.len(), at)?;
         let union = Node::Union {
             switch: switch.number,
             arms: Arms::new(arms.numbers(alloc)?),
             default: arms.default_number(),
         };
-        self.define(number, union, arms.lines(alloc)?)
+        self.define(number, union, arms.sites(alloc)?)
     }
 
-    /// A type of a declarator in the line, and what it declares; gives its number.
+    /// A type of a declarator that stands there, and what it declares; gives its number.
     ///
     /// # Errors
-    /// The first fault in the order of reading, with its line.
+    /// The first fault in the order of reading.
     #[cycle(types)]
     pub(crate) fn write_type<'a>(
         &mut self,
         alloc: Global,
         names: &Names<'a>,
         scope: usize,
-        line: usize,
+        at: At,
         t: &TypeSpec<'a>,
     ) -> Result<u32, BuildFault>
         requires { scope ≤ length names.now.entries }
-        ensures { Tells result (already self.new) (type_spec names.now.entries self.old scope line t.now) }
+        ensures { Tells result (already self.new) (type_spec names.now.entries self.old scope at t.now) }
     {
         match t {
-            TypeSpec::Simple(simple) => self.write_simple(alloc, names, scope, line, simple),
+            TypeSpec::Simple(simple) => self.write_simple(alloc, names, scope, at, simple),
             TypeSpec::Struct(s) => self.write_struct(alloc, names, scope, s),
             TypeSpec::Union(u) => self.write_union(alloc, names, scope, u),
             TypeSpec::Enum(e) => self.write_enum(alloc, names, scope, e),
@@ -130,8 +125,8 @@ impl TypeTable {
         ensures { Tells result (λ u. with_members_of self.new members.new)
             (with_member names.now.entries scope (with_members_of self.old members.old) member.now) }
     {
-        let line = member.declarators.first.identifier.token.line;
-        let number = self.write_type(alloc, names, scope, line, &member.member_type)?;
+        let at = member.declarators.first.identifier.at();
+        let number = self.write_type(alloc, names, scope, at, &member.member_type)?;
         self.write_declarators(alloc, names, scope, number, &member.declarators, members)
     }
 
@@ -146,15 +141,15 @@ impl TypeTable {
         requires { scope ≤ length names.now.entries }
         ensures { Tells result (already self.new) (struct_type names.now.entries self.old scope s.now) }
     {
-        let line = s.identifier.token.line;
+        let at = s.identifier.at();
         let entry = declared_entry(names, scope, s.identifier)?;
-        let number = self.declare(alloc, entry, line)?;
+        let number = self.declare(alloc, entry, at)?;
         let mut members = MemberList::new(alloc);
         self.write_member(alloc, names, entry + 1, &s.first, &mut members)?;
         for member in &s.rest {
             self.write_member(alloc, names, entry + 1, member, &mut members)?;
         }
-        self.define_struct(number, members, line)?;
+        self.define_struct(number, members, at)?;
         Ok(number)
     }
 
@@ -173,11 +168,11 @@ impl TypeTable {
         ensures { Tells result (λ u. cases_of self.new arms.new)
             (with_case_of names.now.entries scope switch (cases_of self.old arms.old) case.now) }
     {
-        let line = case.declarator.identifier.token.line;
+        let at = case.declarator.identifier.at();
         let labels = read_labels(alloc, names, scope, switch, arms, &case.labels)?;
-        let element = self.write_type(alloc, names, scope, line, &case.member_type)?;
+        let element = self.write_type(alloc, names, scope, at, &case.member_type)?;
         let number = self.write_arrays(alloc, names, scope, element, &case.declarator)?;
-        arms.add_case(number, line, &labels)?;
+        arms.add_case(number, at, &labels)?;
         Ok(())
     }
 
@@ -192,16 +187,16 @@ impl TypeTable {
         requires { scope ≤ length names.now.entries }
         ensures { Tells result (already self.new) (union_type names.now.entries self.old scope u.now) }
     {
-        let line = u.identifier.token.line;
+        let at = u.identifier.at();
         let entry = declared_entry(names, scope, u.identifier)?;
-        let number = self.declare(alloc, entry, line)?;
-        let switch = self.write_switch(alloc, names, entry + 1, line, &u.switch)?;
+        let number = self.declare(alloc, entry, at)?;
+        let switch = self.write_switch(alloc, names, entry + 1, at, &u.switch)?;
         let mut arms = ArmList::new(alloc);
         self.write_case(alloc, names, entry + 1, switch, &u.first, &mut arms)?;
         for case in &u.rest {
             self.write_case(alloc, names, entry + 1, switch, case, &mut arms)?;
         }
-        self.define_union(alloc, number, switch, &arms, line)?;
+        self.define_union(alloc, number, switch, &arms, at)?;
         Ok(number)
     }
 }

@@ -8,22 +8,23 @@ ghost use Rattle.written_types.specs.Written.{added, already, counted, placed};
 use crate::fault::BuildFault;
 use crate::place::Place;
 use crate::table::TypeTable;
+use idl_tree::names::At;
 use idl_tree::types::ParamType;
 use scoped_names::Names;
 use std::alloc::Global;
 use type_graph::Node;
-use type_paths::NodeLines;
+use type_paths::NodeSites;
 
 impl TypeTable {
-    /// A node more, with its lines; gives its number.
+    /// A node more, with the places of it and of what it holds; gives its number.
     ///
     /// # Errors
     /// `Limit` where there are 4,096, want of memory.
-    pub fn with_node(self, node: Node, lines: NodeLines) -> Result<(TypeTable, u32), BuildFault>
-        ensures { Tells result (λ r. already r.0 r.1) (added self node lines) }
+    pub fn with_node(self, node: Node, sites: NodeSites) -> Result<(TypeTable, u32), BuildFault>
+        ensures { Tells result (λ r. already r.0 r.1) (added self node sites) }
     {
         let mut table = self;
-        let number = table.add(node, lines)?;
+        let number = table.add(node, sites)?;
         Ok((table, number))
     }
 
@@ -39,22 +40,22 @@ impl TypeTable {
         Ok(table)
     }
 
-    /// So many members more of one type, which stands in the line. Takes no memory.
+    /// So many members more of one type, which stands there. Takes no memory.
     ///
     /// # Errors
     /// `Limit` where all types have more than 32,768.
-    pub fn with_members(self, count: usize, line: usize) -> Result<TypeTable, BuildFault>
-        ensures { Tells result (λ table. table) (counted self count line) }
+    pub fn with_members(self, count: usize, at: At) -> Result<TypeTable, BuildFault>
+        ensures { Tells result (λ table. table) (counted self count at) }
     {
         let mut table = self;
-        table.count_members(count, line)?;
+        table.count_members(count, at)?;
         Ok(table)
     }
 
     /// What is written behind the type of a parameter, a result or an attribute; gives its number.
     ///
     /// # Errors
-    /// The first fault in the order of reading, with its line; want of memory.
+    /// The first fault in the order of reading, want of memory.
     pub fn with_param_type<'a>(
         self,
         alloc: Global,

@@ -17,5 +17,5 @@ returns c = λ definitions names one other f g. by definitions names one other f
     by definitions names one other (inr late) (inr again) =
         let first = late.late in
         let second : IsFaultOfPaths late.written.types other = subst (λ d. IsFaultOfPaths d.types other) (written_once again.told late.told) again.late in
-        first.told ∙ ap path_told (c.path_fault_is_one.ensures late.written.types.nodes 14 late.written.types.lines first.path second.path first.is second.is)
+        first.told ∙ ap path_told (c.path_fault_is_one.ensures late.written.types.nodes 14 late.written.types.sites first.path second.path first.is second.is)
         ∙ sym second.told

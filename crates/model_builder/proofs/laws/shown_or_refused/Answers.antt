@@ -17,4 +17,4 @@ returns c = λ definitions names model fault s f. by definitions names model fau
     by definitions names model fault s (inr late) =
         let path : IsFaultOfPaths s.written.types fault = subst (λ d. IsFaultOfPaths d.types fault) (written_once late.told s.told) late.late in
         let rules = subst IsModel s.shows.parts s.shows.rules in
-        c.fault_is_of_long_paths.ensures s.written.types.nodes 14 s.written.types.lines path.path path.is rules.graph.shallow
+        c.fault_is_of_long_paths.ensures s.written.types.nodes 14 s.written.types.sites path.path path.is rules.graph.shallow

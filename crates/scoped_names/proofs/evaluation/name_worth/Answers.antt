@@ -1,7 +1,6 @@
 use Rattle.std.proofs.Common.{◌∙◌, inr, refl, sym}
 use Rattle.idl_tree.specs.Starts.{name_start, leaf_at as at}
 use Rattle.name_table.specs.Search.{sees}
-
 use Rattle.scoped_names.proofs.ChainWorth.{not_found}
 use Rattle.scoped_names.proofs.evaluation.name_worth.Goals as goal
 

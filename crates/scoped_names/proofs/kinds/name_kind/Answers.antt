@@ -2,7 +2,6 @@ use Rattle.std.proofs.Common.{◌∙◌, ap, sym}
 use Rattle.idl_tree.specs.Starts.{name_start, leaf_at as at}
 use Rattle.name_table.specs.Search.{sees}
 use Rattle.scoped_names.specs.Constants.{meant_found}
-
 use Rattle.scoped_names.proofs.Sights.{found_finds}
 use Rattle.scoped_names.proofs.kinds.name_kind.Goals as goal
 

@@ -1,4 +1,4 @@
-use Rattle.std.proofs.Common.{◌≡◌, ◌<◌, ◌≤◌, List, length, get_or, ap, subst, sym, ◌∙◌, arith}
+use Rattle.std.proofs.Common.{◌≡◌, ◌<◌, List, length, get_or, ap, subst, sym, ◌∙◌, arith}
 use Rattle.type_paths.specs.Sites.{Sites, Types}
 use Rattle.type_paths.proofs.SiteLaws.{first_line, no_line, none_up_to}
 use Rattle.type_paths.proofs.sited.Sited.line_of.Goals as goal

@@ -1,4 +1,4 @@
-use Rattle.std.proofs.Common.{◌≡◌, ◌<◌, ◌≤◌, ℕ, List, Some, get_or, ap, subst, sym, ◌∙◌, length, arith}
+use Rattle.std.proofs.Common.{◌≡◌, List, Some, get_or, ap, subst, sym, ◌∙◌, length, arith}
 use Rattle.idl_tree.specs.declared.names.At.{At}
 use Rattle.type_paths.specs.Sites.{Sites, known_of, nowhere}
 use Rattle.type_paths.proofs.SiteLaws.{found_held, none_held}

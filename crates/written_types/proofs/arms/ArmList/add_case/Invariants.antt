@@ -4,6 +4,6 @@ use Rattle.written_types.proofs.arms.ArmList.add_case.Given as goal
 
 abbrev pub invariant-loop-label : goal.invariant-loop-label
 invariant-loop-label l = record {
-  arms : with_arms l.self.arms l.number l.line (drop l.label-index l.label-items) ≡ with_arms l.fn.self.arms l.number l.line l.labels.values;
+  arms : with_arms l.self.arms l.number l.at (drop l.label-index l.label-items) ≡ with_arms l.fn.self.arms l.number l.at l.labels.values;
   default : l.self.default ≡ l.fn.self.default;
 }

@@ -1,7 +1,8 @@
 use Rattle.std.proofs.Common.{◌≡◌, ◌∙◌, ◌<◌, ◌+◌, inr, Ok, length, sym, ap, arith}
 use Rattle.std.proofs.lemmas.Result.{err_from_is_err_and}
 use Rattle.std.proofs.lemmas.List.{at_drop_all}
-use Rattle.written_types.specs.Faults.{each, line_of}
+use Rattle.idl_tree.specs.Starts.{leaf_at}
+use Rattle.written_types.specs.Faults.{each}
 use Rattle.written_types.specs.Written.{already, opened}
 use Rattle.written_types.specs.SimpleTypes.{entry_of}
 use Rattle.written_types.specs.Labels.{no_arms, switch_read, switched}
@@ -29,7 +30,7 @@ write_struct-returns-in_err-number t c =
     let e = c.in_ok-entry.entry in
     let told = c.in_ok-entry.ensures.told in
     rw (p.1, p.2) (or_told c.in_err-number.ensures (λ is. struct_entered es w scope s e told
-    ∙ stops (opened w e (line_of (id_of s))) _ (struct_open es (id_of s) (first_of s) (rest_of s) e) is))
+    ∙ stops (opened w e (leaf_at (id_of s))) _ (struct_open es (id_of s) (first_of s) (rest_of s) e) (ap (opened w e) (sym c.at-at.ensures) ∙ is)))
 
 pub write_struct-returns-in_err-write_member : goal.write_struct-returns-in_err-write_member
 write_struct-returns-in_err-write_member t c =
@@ -41,7 +42,7 @@ write_struct-returns-in_err-write_member t c =
     let e = c.in_ok-entry.entry in
     let told = c.in_ok-entry.ensures.told in
     let o = already c.declare.new.self c.in_ok-number.number in
-    let opens = c.in_ok-number.ensures in
+    let opens = ap (opened w e) (sym c.at-at.ensures) ∙ c.in_ok-number.ensures in
     let same = first_member es (e + 1) c.declare.new.self c.new-members.result c.deref.result.now (first_of s) c.new-members.ensures c.deref.ensures in
     rw (p.1, p.2) (or_told c.in_err-write_member.ensures (λ is. struct_opened es w scope s e o told opens
     ∙ stops (with_member es (e + 1) (with_members_of o.written no_members) (first_of s)) _ (struct_more es (id_of s) (rest_of s) e o) (same ∙ is)))
@@ -56,7 +57,7 @@ write_struct-returns-in_err-write_member-2 t c =
     let e = c.in_ok-entry.entry in
     let told = c.in_ok-entry.ensures.told in
     let o = already c.declare.new.self c.in_ok-number.number in
-    let opens = c.in_ok-number.ensures in
+    let opens = ap (opened w e) (sym c.at-at.ensures) ∙ c.in_ok-number.ensures in
     let m = with_members_of c.write_member.new.self c.write_member.new.members in
     let same = first_member es (e + 1) c.declare.new.self c.new-members.result c.deref.result.now (first_of s) c.new-members.ensures c.deref.ensures in
     let first : with_member es (e + 1) (with_members_of o.written no_members) (first_of s) ≡ Ok m = same ∙ c.in_ok-write_member.ensures in
@@ -79,7 +80,7 @@ write_struct-returns-in_err-define_struct t c =
     let e = c.in_ok-entry.entry in
     let told = c.in_ok-entry.ensures.told in
     let o = already c.declare.new.self c.in_ok-number.number in
-    let opens = c.in_ok-number.ensures in
+    let opens = ap (opened w e) (sym c.at-at.ensures) ∙ c.in_ok-number.ensures in
     let m = with_members_of c.write_member.new.self c.write_member.new.members in
     let same = first_member es (e + 1) c.declare.new.self c.new-members.result c.deref.result.now (first_of s) c.new-members.ensures c.deref.ensures in
     let first : with_member es (e + 1) (with_members_of o.written no_members) (first_of s) ≡ Ok m = same ∙ c.in_ok-write_member.ensures in
@@ -90,7 +91,7 @@ write_struct-returns-in_err-define_struct t c =
     let here = ap (each part m) (sym c.deref-member-items.ensures.value) ∙ sym c.loop-member.invariant.told in
     let walked : each part m (rest_of s) ≡ Ok st = here ∙ at_drop_all (each part st) items k (omega arith) in
     rw (p.1, p.2) (or_told c.in_err-define_struct.ensures (λ is. struct_walked es w scope s e o m st told opens first walked
-    ∙ stops (struct_defined st o.number (line_of (id_of s))) _ (λ behind. Ok (already behind o.number)) is))
+    ∙ stops (struct_defined st o.number (leaf_at (id_of s))) _ (λ behind. Ok (already behind o.number)) (ap (struct_defined st o.number) (sym c.at-at.ensures) ∙ is)))
 
 pub write_struct-returns : goal.write_struct-returns
 write_struct-returns t c =
@@ -101,7 +102,7 @@ write_struct-returns t c =
     let e = c.in_ok-entry.entry in
     let told = c.in_ok-entry.ensures.told in
     let o = already c.declare.new.self c.in_ok-number.number in
-    let opens = c.in_ok-number.ensures in
+    let opens = ap (opened w e) (sym c.at-at.ensures) ∙ c.in_ok-number.ensures in
     let m = with_members_of c.write_member.new.self c.write_member.new.members in
     let same = first_member es (e + 1) c.declare.new.self c.new-members.result c.deref.result.now (first_of s) c.new-members.ensures c.deref.ensures in
     let first : with_member es (e + 1) (with_members_of o.written no_members) (first_of s) ≡ Ok m = same ∙ c.in_ok-write_member.ensures in
@@ -112,7 +113,8 @@ write_struct-returns t c =
     let here = ap (each part m) (sym c.deref-member-items.ensures.value) ∙ sym c.loop-member.invariant.told in
     let walked : each part m (rest_of s) ≡ Ok st = here ∙ at_drop_all (each part st) items k (omega arith) in
     struct_walked es w scope s e o m st told opens first walked
-    ∙ goes_on (struct_defined st o.number (line_of (id_of s))) c.define_struct.new.self (λ behind. Ok (already behind o.number)) c.in_ok-define_struct.ensures
+    ∙ goes_on (struct_defined st o.number (leaf_at (id_of s))) c.define_struct.new.self (λ behind. Ok (already behind o.number))
+    (ap (struct_defined st o.number) (sym c.at-at.ensures) ∙ c.in_ok-define_struct.ensures)
 
 pub write_union-returns-in_err-entry : goal.write_union-returns-in_err-entry
 write_union-returns-in_err-entry t c =
@@ -134,7 +136,8 @@ write_union-returns-in_err-number t c =
     let e = c.in_ok-entry.entry in
     let told = c.in_ok-entry.ensures.told in
     rw (p.1, p.2) (or_told c.in_err-number.ensures (λ is. union_entered es w scope u e told
-    ∙ stops (opened w e (line_of (union_id u))) _ (union_open es (union_id u) (switch_of u) (first_case u) (more_cases u) e) is))
+    ∙ stops (opened w e (leaf_at (union_id u))) _ (union_open es (union_id u) (switch_of u) (first_case u) (more_cases u) e)
+    (ap (opened w e) (sym c.at-at.ensures) ∙ is)))
 
 pub write_union-returns-in_err-switch : goal.write_union-returns-in_err-switch
 write_union-returns-in_err-switch t c =
@@ -146,9 +149,10 @@ write_union-returns-in_err-switch t c =
     let e = c.in_ok-entry.entry in
     let told = c.in_ok-entry.ensures.told in
     let o = already c.declare.new.self c.in_ok-number.number in
-    let opens = c.in_ok-number.ensures in
+    let opens = ap (opened w e) (sym c.at-at.ensures) ∙ c.in_ok-number.ensures in
     rw (p.1, p.2) (or_told c.in_err-switch.ensures (λ is. union_opened es w scope u e o told opens
-    ∙ stops (switch_read es o.written (e + 1) (line_of (union_id u)) (switch_of u)) _ (union_switched es (union_id u) (first_case u) (more_cases u) e o) is))
+    ∙ stops (switch_read es o.written (e + 1) (leaf_at (union_id u)) (switch_of u)) _ (union_switched es (union_id u) (first_case u) (more_cases u) e o)
+    (ap (λ at. switch_read es o.written (e + 1) at (switch_of u)) (sym c.at-at.ensures) ∙ is)))
 
 pub write_union-returns-in_err-write_case : goal.write_union-returns-in_err-write_case
 write_union-returns-in_err-write_case t c =
@@ -160,9 +164,9 @@ write_union-returns-in_err-write_case t c =
     let e = c.in_ok-entry.entry in
     let told = c.in_ok-entry.ensures.told in
     let o = already c.declare.new.self c.in_ok-number.number in
-    let opens = c.in_ok-number.ensures in
+    let opens = ap (opened w e) (sym c.at-at.ensures) ∙ c.in_ok-number.ensures in
     let sw = switched c.write_switch.new.self c.in_ok-switch.switch in
-    let switches = c.in_ok-switch.ensures in
+    let switches = ap (λ at. switch_read es o.written (e + 1) at (switch_of u)) (sym c.at-at.ensures) ∙ c.in_ok-switch.ensures in
     let same = first_cases es (e + 1) sw.switch c.write_switch.new.self c.new-arms.result c.deref.result.now (first_case u) c.new-arms.ensures c.deref.ensures in
     rw (p.1, p.2) (or_told c.in_err-write_case.ensures (λ is. union_chosen es w scope u e o sw told opens switches
     ∙ stops (with_case_of es (e + 1) sw.switch (cases_of sw.written no_arms) (first_case u)) _ (union_more es (union_id u) (more_cases u) e o sw.switch) (same ∙ is)))
@@ -177,9 +181,9 @@ write_union-returns-in_err-write_case-2 t c =
     let e = c.in_ok-entry.entry in
     let told = c.in_ok-entry.ensures.told in
     let o = already c.declare.new.self c.in_ok-number.number in
-    let opens = c.in_ok-number.ensures in
+    let opens = ap (opened w e) (sym c.at-at.ensures) ∙ c.in_ok-number.ensures in
     let sw = switched c.write_switch.new.self c.in_ok-switch.switch in
-    let switches = c.in_ok-switch.ensures in
+    let switches = ap (λ at. switch_read es o.written (e + 1) at (switch_of u)) (sym c.at-at.ensures) ∙ c.in_ok-switch.ensures in
     let m = cases_of c.write_case.new.self c.write_case.new.arms in
     let same = first_cases es (e + 1) sw.switch c.write_switch.new.self c.new-arms.result c.deref.result.now (first_case u) c.new-arms.ensures c.deref.ensures in
     let first : with_case_of es (e + 1) sw.switch (cases_of sw.written no_arms) (first_case u) ≡ Ok m = same ∙ c.in_ok-write_case.ensures in
@@ -202,9 +206,9 @@ write_union-returns-in_err-define_union t c =
     let e = c.in_ok-entry.entry in
     let told = c.in_ok-entry.ensures.told in
     let o = already c.declare.new.self c.in_ok-number.number in
-    let opens = c.in_ok-number.ensures in
+    let opens = ap (opened w e) (sym c.at-at.ensures) ∙ c.in_ok-number.ensures in
     let sw = switched c.write_switch.new.self c.in_ok-switch.switch in
-    let switches = c.in_ok-switch.ensures in
+    let switches = ap (λ at. switch_read es o.written (e + 1) at (switch_of u)) (sym c.at-at.ensures) ∙ c.in_ok-switch.ensures in
     let m = cases_of c.write_case.new.self c.write_case.new.arms in
     let same = first_cases es (e + 1) sw.switch c.write_switch.new.self c.new-arms.result c.deref.result.now (first_case u) c.new-arms.ensures c.deref.ensures in
     let first : with_case_of es (e + 1) sw.switch (cases_of sw.written no_arms) (first_case u) ≡ Ok m = same ∙ c.in_ok-write_case.ensures in
@@ -215,7 +219,7 @@ write_union-returns-in_err-define_union t c =
     let here = ap (each part m) (sym c.deref-case-items.ensures.value) ∙ sym c.loop-case.invariant.told in
     let walked : each part m (more_cases u) ≡ Ok st = here ∙ at_drop_all (each part st) items k (omega arith) in
     rw (p.1, p.2) (or_told c.in_err-define_union.ensures (λ is. union_walked es w scope u e o sw m st told opens switches first walked
-    ∙ stops (union_defined sw.switch st o.number (line_of (union_id u))) _ (λ behind. Ok (already behind o.number)) is))
+    ∙ stops (union_defined sw.switch st o.number (leaf_at (union_id u))) _ (λ behind. Ok (already behind o.number)) (ap (union_defined sw.switch st o.number) (sym c.at-at.ensures) ∙ is)))
 
 pub write_union-returns : goal.write_union-returns
 write_union-returns t c =
@@ -226,9 +230,9 @@ write_union-returns t c =
     let e = c.in_ok-entry.entry in
     let told = c.in_ok-entry.ensures.told in
     let o = already c.declare.new.self c.in_ok-number.number in
-    let opens = c.in_ok-number.ensures in
+    let opens = ap (opened w e) (sym c.at-at.ensures) ∙ c.in_ok-number.ensures in
     let sw = switched c.write_switch.new.self c.in_ok-switch.switch in
-    let switches = c.in_ok-switch.ensures in
+    let switches = ap (λ at. switch_read es o.written (e + 1) at (switch_of u)) (sym c.at-at.ensures) ∙ c.in_ok-switch.ensures in
     let m = cases_of c.write_case.new.self c.write_case.new.arms in
     let same = first_cases es (e + 1) sw.switch c.write_switch.new.self c.new-arms.result c.deref.result.now (first_case u) c.new-arms.ensures c.deref.ensures in
     let first : with_case_of es (e + 1) sw.switch (cases_of sw.written no_arms) (first_case u) ≡ Ok m = same ∙ c.in_ok-write_case.ensures in
@@ -239,4 +243,5 @@ write_union-returns t c =
     let here = ap (each part m) (sym c.deref-case-items.ensures.value) ∙ sym c.loop-case.invariant.told in
     let walked : each part m (more_cases u) ≡ Ok st = here ∙ at_drop_all (each part st) items k (omega arith) in
     union_walked es w scope u e o sw m st told opens switches first walked
-    ∙ goes_on (union_defined sw.switch st o.number (line_of (union_id u))) c.define_union.new.self (λ behind. Ok (already behind o.number)) c.in_ok-define_union.ensures
+    ∙ goes_on (union_defined sw.switch st o.number (leaf_at (union_id u))) c.define_union.new.self (λ behind. Ok (already behind o.number))
+    (ap (union_defined sw.switch st o.number) (sym c.at-at.ensures) ∙ c.in_ok-define_union.ensures)

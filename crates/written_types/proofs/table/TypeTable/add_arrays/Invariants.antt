@@ -7,7 +7,7 @@ use Rattle.written_types.proofs.table.TypeTable.add_arrays.Given as goal
 abbrev pub invariant-loop-left : goal.invariant-loop-left
 invariant-loop-left l = record {
   within : l.left ≤ length l.counts;
-  told : arrays (already l.fn.self l.elem) l.line (drop l.left l.counts) ≡ Ok (already l.self l.number);
+  told : arrays (already l.fn.self l.elem) l.at (drop l.left l.counts) ≡ Ok (already l.self l.number);
 }
 
 abbrev pub decreases-loop-left : goal.decreases-loop-left
