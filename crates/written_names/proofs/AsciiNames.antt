@@ -81,14 +81,14 @@ abbrev MaySay : Option Said → Type 0
 MaySay None = Unit {0}
 MaySay (Some s) = SaidAscii s
 
-kind_ascii : (kind : Kind) (at : List At) → HasForm kind at → MaySay (said_by_kind kind at)
-kind_ascii Pragma at form = said_word_ascii (pragma_word at) (pragma_rest at) (rest_ascii at form)
-kind_ascii Ident at form = tt
-kind_ascii Keyword at form = tt
-kind_ascii Punct at form = tt
-kind_ascii Number at form = tt
-kind_ascii CharLit at form = tt
-kind_ascii TextLit at form = tt
+kind_ascii : (kind : Kind) (line : List ℕ) → HasForm kind line → MaySay (said_by_kind kind line)
+kind_ascii Pragma line form = said_word_ascii (pragma_word line) (pragma_rest line) (rest_ascii line form)
+kind_ascii Ident line form = tt
+kind_ascii Keyword line form = tt
+kind_ascii Punct line form = tt
+kind_ascii Number line form = tt
+kind_ascii CharLit line form = tt
+kind_ascii TextLit line form = tt
 
 said_ascii : (l : Leaf) → MaySay (said_by l)
 said_ascii l = kind_ascii l.token.now.kind l.token.now.text.now l.token.now.form

@@ -432,10 +432,10 @@ getting_makes d got c e true name raises number at b frames counted_as h =
     let f = already got.defined.types got.request in
     let g = already r.defined.types r.request in
     let more = call_gives got.defined s false raises Roles.Setting e at r calls in
-    let at = frames.number in
+    let first_is = frames.number in
     let long = frames.long in
     let at_too = more.number in
-    let next : r.request ≡ got.request + 2 = omega (arith, at, long, at_too) in
+    let next : r.request ≡ got.request + 2 = omega (arith, first_is, long, at_too) in
     let behind = stays_on got.defined.types r.defined.types b.types more.stays place.stays in
     let first = call_between d.types got.defined.types c f [] (codes "_return" ∷ []) frames
     (stays_none got.defined.types) counted_as in

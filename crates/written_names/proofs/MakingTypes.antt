@@ -100,7 +100,7 @@ typed_made w b e n names stays late has place =
     (λ v ops ps later. typed_told v e n names ps (later.places e (Typed n) place))
 
 -- a node that waited gets its definition
-defined_made : (w m b : Written) (count : ℕ) (at : At) (e n : ℕ) (node : Node) (held : List ℕ) (names : List (List ℕ))
+defined_made : (w m b : Written) (count : ℕ) (at : At) (e n : ℕ) (node : Node) (held : List At) (names : List (List ℕ))
     → counted w count at ≡ Ok m
     → node_set m n node held ≡ Ok b → slice_get w.places e ≡ Some (Some (Typed n)) → (node ≡ undefined → ⊥)
     → HaveNames node (length names)

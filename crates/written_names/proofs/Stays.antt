@@ -137,7 +137,7 @@ pub record IsDefined (w : Written) (number : ℕ) (node : Node) (v : Written) : 
   pub nodes : v.nodes ≡ slice_set w.nodes number node
   pub places : v.places ≡ w.places
 
-pub set_gives : (w v : Written) (number : ℕ) (node : Node) (held : List ℕ) → node_set w number node held ≡ Ok v
+pub set_gives : (w v : Written) (number : ℕ) (node : Node) (held : List At) → node_set w number node held ≡ Ok v
     → IsDefined w number node v
 set_gives w v number node held h = by (slice_get w.nodes number) refl h
   where
