@@ -1,6 +1,6 @@
 -- How the pieces of tokens are read one after another.
 use Rattle.std.proofs.Common.{◌≡◌, ℕ, ◌+◌, ◌-◌, ◌<◌, ◌≤◌, max, Bool, true, false, ◌&&◌, arith, List, [], ◌∷◌, ◌++◌, Option, Some, None, length, take, drop, get_or, refl, sym, ap, subst, ◌∙◌}
-use Rattle.std.specs.Prelude.{Result, Ok, Err, IfOk, IsOkAnd, nat_eq, is_some, codes}
+use Rattle.std.specs.Prelude.{nat_eq, is_some, codes}
 use Rattle.idl_tree.specs.Yields.{identifier, optional, root_yield}
 use Rattle.std.proofs.Math.Seq.{take-length}
 use Rattle.std.specs.Str.{bytes_eq}
@@ -142,17 +142,6 @@ one_more yield a b c xs ys x front part e = record {
 pub one_more_level : {T : Type 0} (levels : T → ℕ) (room : ℕ) (xs ys : List T) (x : T)
     → highest levels xs ≤ room → levels x ≤ room → ys ≡ xs ++ x ∷ [] → highest levels ys ≤ room
 one_more_level levels room xs ys x most one e = rw (e, highest_more) (omega (arith, most, one))
-
--- the same where the part was read
-pub one_read : {T E : Type 0} (yield : T → List Piece) (a b c : List Seen) (xs ys : List T) (read : Result T E)
-    → Continued a (flat_map yield xs) b → IfOk read (λ x. Parsed b (yield x) c) → IsOkAnd read (λ x. ys ≡ xs ++ x ∷ []) → Continued a (flat_map yield ys) c
-one_read yield a b c xs ys (Ok x) front part e = one_more yield a b c xs ys x front part e
-one_read yield a b c xs ys (Err s) front part e = absurd e
-
-pub one_read_level : {T E : Type 0} (levels : T → ℕ) (room : ℕ) (xs ys : List T) (read : Result T E)
-    → highest levels xs ≤ room → IfOk read (λ x. levels x ≤ room) → IsOkAnd read (λ x. ys ≡ xs ++ x ∷ []) → highest levels ys ≤ room
-one_read_level levels room xs ys (Ok x) most one e = one_more_level levels room xs ys x most one e
-one_read_level levels room xs ys (Err s) most one e = absurd e
 
 -- a name of one identifier
 pub alone_read : (root : Option Leaf) (first : Leaf) (more : List Leaf) (a b c d : List Seen)

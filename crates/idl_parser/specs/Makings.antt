@@ -1,13 +1,7 @@
 -- What is made of parts that were read.
-use Rattle.std.specs.Prelude.{◌≡◌, ◌++◌, ◌∷◌, [], suc, List, Option, Some, None, Vec, codes}
-use Rattle.std.specs.Global.{Global}
+use Rattle.std.specs.Prelude.{◌≡◌, ◌++◌, ◌∷◌, [], suc, List, codes}
 use Rattle.std.specs.List.{flat_map}
 use Rattle.idl_tree.specs.declared.names.Leaf.{Leaf}
-use Rattle.idl_tree.specs.declared.names.Listed.{Listed}
-use Rattle.idl_tree.specs.declared.names.ScopedName.{ScopedName}
-use Rattle.idl_tree.specs.declared.definitions.Export.{Export}
-use Rattle.idl_tree.specs.declared.definitions.Interface.{Interface}
-use Rattle.idl_tree.specs.declared.definitions.Interface.TheVariants.{Ahead, Defined}
 use Rattle.idl_tree.specs.declared.definitions.Definition.{Definition}
 use Rattle.idl_tree.specs.Pieces.{Piece, keyword, mark}
 use Rattle.idl_tree.specs.Yields.{identifier}
@@ -27,8 +21,3 @@ pub record HasModule (name : Leaf) (inside before after : List Definition) : Typ
   pub is : after ≡ before ++ whole ∷ []
   pub spells : definition_yield whole ≡ module_front name inside ++ mark (codes ";")
   pub levels : definition_levels whole ≡ suc (highest definition_levels inside)
-
--- an interface by its name and what stands behind it: its bases and what it exports, or nothing
-abbrev pub interface_of : Leaf → Option (Option (Listed ScopedName) × Vec Export Global) → Interface
-interface_of name None = Ahead name
-interface_of name (Some body) = Defined name body.0 body.1

@@ -229,19 +229,6 @@ impl<'a> Cursor<'a> {
         }
     }
 
-    /// Takes the mark behind what was read, and hands that on.
-    pub(crate) fn closed<T: Drop>(&mut self, read: Result<T, Stop>, text: &str) -> Result<T, Stop>
-        ensures same { IfOk result (λ p. read ≡ Ok p) }
-        ensures read { IfOk result (λ _. Parsed self.old (mark text.now) self.new) }
-    {
-        let part = got!(read);
-        if self.take_mark(text) {
-            Ok(part)
-        } else {
-            Err(Stop::Unexpected)
-        }
-    }
-
     /// Takes a token of a kind.
     pub(crate) fn leaf(&mut self, kind: Kind) -> Result<Leaf<'a>, Stop>
         ensures { IfOk result (λ l. Parsed self.old (leaf_yield kind l) self.new) }

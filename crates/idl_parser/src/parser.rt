@@ -40,22 +40,6 @@ fn read_all<'a>(cursor: &mut Cursor<'a>) -> Result<Vec<Definition<'a>>, Stop>
     }
 }
 
-/// The tree of definitions and the tokens that they spell.
-fn specification<'a>(
-    tokens: &'a [Token<'a>],
-    definitions: Vec<Definition<'a>>,
-) -> Result<Spec<'a>, ParseFault>
-    requires { Whole (seen_from 0 tokens.now) definitions.items }
-    ensures tokens { IfOk result (λ spec. spec.tokens.now ≡ tokens.now) }
-    ensures spells { IfOk result (λ spec. Spell (definitions_spelled spec.definitions.items) tokens.now) }
-    ensures levels { IfOk result (λ spec. levels_of spec.definitions.items ≤ 64) }
-{
-    Ok(Spec {
-        tokens,
-        definitions,
-    })
-}
-
 /// The tree of an IDL specification, given as its tokens (ISO/IEC 19500-1, IDL grammar).
 ///
 /// The tree spells the tokens again, from the first to the last; what it keeps of a token is that token, with its
@@ -71,7 +55,10 @@ pub fn parse<'a>(alloc: Global, tokens: &'a [Token<'a>]) -> Result<Spec<'a>, Par
 {
     let mut cursor = Cursor::new(alloc, tokens);
     match read_all(&mut cursor) {
-        Ok(definitions) => specification(tokens, definitions),
+        Ok(definitions) => Ok(Spec {
+            tokens,
+            definitions,
+        }),
         Err(stop) => Err(told(&cursor, stop)),
     }
 }

@@ -12,8 +12,8 @@ ghost use Rattle.idl_tree.specs.TypeLevels.{label_levels, member_levels, case_le
 
 use crate::cursor::Cursor;
 use crate::read::expressions::read_expr;
-use crate::read::lists::{add, add_read, both, first_boxed, read_opened, then_ended};
-use crate::read::types::{read_enum, read_simple_type, read_switch};
+use crate::read::lists::{add, first_boxed, read_listed, read_opened};
+use crate::read::types::{read_declarator, read_enum, read_simple_type, read_switch};
 use crate::stop::Stop;
 use idl_lexer::Kind;
 use idl_tree::names::{Leaf, Listed};
@@ -25,8 +25,9 @@ fn read_label<'a>(cursor: &mut Cursor<'a>, room: usize) -> Result<Label<'a>, Sto
     ensures levels { IfOk result (λ l. label_levels l ≤ room) }
 {
     if cursor.take_keyword("case") {
-        let value = read_expr(cursor, room);
-        return Ok(Label::Case(got!(cursor.closed(value, ":"))));
+        let value = got!(read_expr(cursor, room));
+        got!(cursor.mark(":"));
+        return Ok(Label::Case(value));
     }
     let Some(word) = cursor.take(Kind::Keyword, "default") else {
         return Err(Stop::Unexpected);
@@ -47,7 +48,8 @@ fn read_more_labels<'a>(cursor: &mut Cursor<'a>, room: usize) -> Result<Vec<Labe
 {
     let mut labels = Vec::new(cursor.alloc());
     'parts: while is_label(cursor) {
-        got!(add_read(&mut labels, read_label(cursor, room)));
+        let label = got!(read_label(cursor, room));
+        got!(add(&mut labels, label));
     }
     labels.shrink_to_fit();
     Ok(labels)
@@ -112,7 +114,9 @@ fn read_member<'a>(
     ensures { IfOk result (λ _. Added member_yield member_levels room
         members.old.items members.new.items cursor.old cursor.new) }
 {
-    let (member_type, declarators) = got!(then_ended(read_type(cursor, room), cursor, room));
+    let member_type = got!(read_type(cursor, room));
+    let declarators = got!(read_listed(cursor, room));
+    got!(cursor.mark(";"));
     let member = Member {
         member_type,
         declarators,
@@ -136,8 +140,9 @@ pub(crate) fn read_members<'a>(
     'parts: while !cursor.is_mark("}") {
         got!(read_member(cursor, room, &mut members));
     }
+    got!(cursor.mark("}"));
     members.shrink_to_fit();
-    cursor.closed(Ok(members), "}")
+    Ok(members)
 }
 
 /// The structure of a name and members.
@@ -151,7 +156,8 @@ fn structure<'a>(
         ++ mark (codes "{") ++ (flat_map member_yield members.entry.items ++ mark (codes "}"))) }
     ensures levels { IfOk result (λ s. struct_levels s ≡ suc (highest member_levels members.entry.items)) }
 {
-    let (first, rest) = got!(first_boxed(alloc, members));
+    let mut rest = members;
+    let first = got!(first_boxed(alloc, &mut rest));
     Ok(StructType {
         identifier: name,
         first,
@@ -187,7 +193,9 @@ fn read_case<'a>(
         cases.old.items cases.new.items cursor.old cursor.new) }
 {
     let labels = got!(read_labels(cursor, room));
-    let (member_type, declarator) = got!(then_ended(read_type(cursor, room), cursor, room));
+    let member_type = got!(read_type(cursor, room));
+    let declarator = got!(read_declarator(cursor, room));
+    got!(cursor.mark(";"));
     let case = Case {
         labels,
         member_type,
@@ -209,8 +217,9 @@ fn read_cases<'a>(cursor: &mut Cursor<'a>, room: usize) -> Result<Vec<Case<'a>>,
     'parts: while !cursor.is_mark("}") {
         got!(read_case(cursor, room, &mut cases));
     }
+    got!(cursor.mark("}"));
     cases.shrink_to_fit();
-    cursor.closed(Ok(cases), "}")
+    Ok(cases)
 }
 
 /// Reads what stands behind the type of a union's discriminator.
@@ -252,7 +261,8 @@ fn union_of<'a>(
     ensures levels { IfOk result (λ u. union_levels u ≡
         suc (max (switch_levels switch.entry) (highest case_levels cases.entry.items))) }
 {
-    let (switch, (first, rest)) = got!(both(switch, first_boxed(alloc, cases)));
+    let mut rest = cases;
+    let first = got!(first_boxed(alloc, &mut rest));
     Ok(UnionType {
         identifier: name,
         switch,
@@ -268,7 +278,7 @@ pub(crate) fn read_union<'a>(cursor: &mut Cursor<'a>, room: usize) -> Result<Uni
 {
     let name = got!(read_union_name(cursor));
     // an enumeration here is declared inside the union
-    let front = got!(read_switch(cursor, room.saturating_sub(1)));
-    let (switch, cases) = got!(both(front, read_union_body(cursor, room)));
+    let switch = got!(read_switch(cursor, room.saturating_sub(1)));
+    let cases = got!(read_union_body(cursor, room));
     union_of(cursor.alloc(), name, switch, cases)
 }

@@ -17,11 +17,10 @@ use crate::read::constructed::{
     Shape, next_shape, read_members, read_struct, read_type, read_union,
 };
 use crate::read::expressions::read_expr;
-use crate::read::lists::{both, then};
+use crate::read::lists::read_listed;
 use crate::read::types::{read_const_type, read_enum};
 use crate::stop::Stop;
 use idl_lexer::Kind;
-use idl_tree::const_expr::ConstExpr;
 use idl_tree::definitions::{Const, Declaration, Except, TypeDcl};
 use idl_tree::names::Leaf;
 use idl_tree::types::Member;
@@ -46,7 +45,8 @@ fn read_typedef<'a>(cursor: &mut Cursor<'a>, room: usize) -> Result<Declaration<
     ensures levels { IfOk result (λ d. declaration_levels d ≤ room) }
 {
     got!(cursor.keyword("typedef"));
-    let (original, declarators) = got!(then(read_type(cursor, room), cursor, room));
+    let original = got!(read_type(cursor, room));
+    let declarators = got!(read_listed(cursor, room));
     declared(Declaration::TypeDcl(TypeDcl::Typedef {
         original,
         declarators,
@@ -101,25 +101,15 @@ fn read_type_dcl<'a>(cursor: &mut Cursor<'a>, room: usize) -> Result<Declaration
     }
 }
 
-/// Reads the identifier and the value of a constant.
-fn read_value<'a>(cursor: &mut Cursor<'a>, room: usize) -> Result<(Leaf<'a>, ConstExpr<'a>), Stop>
-    ensures spells { IfOk result (λ v. Parsed cursor.old
-        (identifier_yield v.0 ++ mark (codes "=") ++ const_expr_yield v.1) cursor.new) }
-    ensures levels { IfOk result (λ v. const_expr_levels v.1 ≤ room) }
-{
-    let identifier = got!(cursor.identifier());
-    got!(cursor.mark("="));
-    let value = got!(read_expr(cursor, room));
-    Ok((identifier, value))
-}
-
 fn read_const<'a>(cursor: &mut Cursor<'a>, room: usize) -> Result<Declaration<'a>, Stop>
     ensures spells { IfOk result (λ d. Parsed cursor.old (declaration_yield d) cursor.new) }
     ensures levels { IfOk result (λ d. declaration_levels d ≤ room) }
 {
     got!(cursor.keyword("const"));
-    let front = got!(read_const_type(cursor, room));
-    let (const_type, (identifier, value)) = got!(both(front, read_value(cursor, room)));
+    let const_type = got!(read_const_type(cursor, room));
+    let identifier = got!(cursor.identifier());
+    got!(cursor.mark("="));
+    let value = got!(read_expr(cursor, room));
     declared(Declaration::Const(Const {
         const_type,
         identifier,

@@ -4,7 +4,7 @@
 ghost use Rattle.std.specs.Prelude.{◌≡◌, ◌++◌, ◌≤◌, ◌∷◌, [], suc, max, Ok, IfOk, List, codes};
 ghost use Rattle.std.specs.List.{flat_map};
 ghost use Rattle.idl_parser.specs.Reading.{Parsed, Continued, Added};
-ghost use Rattle.idl_parser.specs.Makings.{module_front, interface_of, HasModule};
+ghost use Rattle.idl_parser.specs.Makings.{HasModule};
 ghost use Rattle.idl_tree.specs.declared.definitions.Definition.{Declaration as Declarations, Interface as Interfaces};
 ghost use Rattle.idl_tree.specs.Pieces.{keyword, mark};
 ghost use Rattle.idl_tree.specs.Yields.{identifier};
@@ -14,11 +14,11 @@ ghost use Rattle.idl_tree.specs.DefinitionLevels.{definition_levels};
 
 use crate::cursor::Cursor;
 use crate::read::declarations::{is_declaration, read_declaration};
-use crate::read::interfaces::{Body, interface, read_interface};
+use crate::read::interfaces::{read_bases, read_exports};
 use crate::read::lists::{add, read_opened};
 use crate::stop::Stop;
 use idl_lexer::Kind;
-use idl_tree::definitions::{Declaration, Definition, Module};
+use idl_tree::definitions::{Declaration, Definition, Interface, Module};
 use idl_tree::names::Leaf;
 
 /// Adds a definition. What holds one goes through this function, so that few functions do.
@@ -31,16 +31,15 @@ fn add_definition<'a>(
     add(definitions, definition)
 }
 
-/// Adds the interface of a name and what stands behind it.
+/// Adds an interface.
 fn add_interface<'a>(
     definitions: &mut Vec<Definition<'a>>,
-    name: Leaf<'a>,
-    body: Option<Body<'a>>,
+    interface: Interface<'a>,
 ) -> Result<(), Stop>
     ensures { IfOk result (λ _. definitions.new.items
-        ≡ definitions.old.items ++ Interfaces (interface_of name.entry body.entry) ∷ []) }
+        ≡ definitions.old.items ++ Interfaces interface.entry ∷ []) }
 {
-    add_definition(definitions, Definition::Interface(interface(name, body)))
+    add_definition(definitions, Definition::Interface(interface))
 }
 
 /// Adds a declaration.
@@ -67,8 +66,8 @@ fn read_pragma<'a>(
     add_definition(definitions, Definition::Pragma(pragma))
 }
 
-/// Reads an interface and adds it.
-fn read_interface_dcl<'a>(
+/// Reads an interface, or one that is declared ahead, which a semicolon tells, and adds it.
+fn read_interface<'a>(
     cursor: &mut Cursor<'a>,
     room: usize,
     definitions: &mut Vec<Definition<'a>>,
@@ -76,8 +75,20 @@ fn read_interface_dcl<'a>(
     ensures { IfOk result (λ _. Added definition_yield definition_levels room
         definitions.old.items definitions.new.items cursor.old cursor.new) }
 {
-    let (name, body) = got!(read_interface(cursor, room));
-    got!(add_interface(definitions, name, body));
+    got!(cursor.keyword("interface"));
+    let identifier = got!(cursor.identifier());
+    if cursor.is_mark(";") {
+        got!(add_interface(definitions, Interface::Ahead(identifier)));
+        return cursor.mark(";");
+    }
+    let bases = got!(read_bases(cursor));
+    let exports = got!(read_exports(cursor, room));
+    let interface = Interface::Defined {
+        identifier,
+        bases,
+        exports,
+    };
+    got!(add_interface(definitions, interface));
     cursor.mark(";")
 }
 
@@ -108,7 +119,7 @@ fn read_single<'a>(
         return read_pragma(cursor, room, definitions);
     }
     if cursor.is_keyword("interface") {
-        return read_interface_dcl(cursor, room, definitions);
+        return read_interface(cursor, room, definitions);
     }
     if is_declaration(cursor) {
         return read_declared(cursor, room, definitions);
@@ -145,40 +156,11 @@ fn read_definition<'a>(
     if !cursor.is_keyword("module") {
         return read_single(cursor, room, definitions);
     }
-    let (name, inside) = got!(read_module(cursor, room));
+    let (name, left) = got!(read_opened(cursor, "module", room));
+    let inside = got!(read_definitions(cursor, left));
+    got!(cursor.mark("}"));
     got!(add_module(definitions, name, inside));
     cursor.mark(";")
-}
-
-/// Takes the brace behind the definitions of a module that were read.
-fn closed_module<'a>(
-    cursor: &mut Cursor<'a>,
-    name: Leaf<'a>,
-    read: Result<Vec<Definition<'a>>, Stop>,
-) -> Result<(Leaf<'a>, Vec<Definition<'a>>), Stop>
-    ensures name { IfOk result (λ m. m.0 ≡ name.entry) }
-    ensures same { IfOk result (λ m. read.entry ≡ Ok m.1) }
-    ensures read { IfOk result (λ _. Parsed cursor.old (mark (codes "}")) cursor.new) }
-{
-    let inside = got!(read);
-    match cursor.mark("}") {
-        Ok(()) => Ok((name, inside)),
-        Err(stop) => Err(stop),
-    }
-}
-
-/// Reads the name of a module and its definitions.
-#[cycle(definitions)]
-fn read_module<'a>(
-    cursor: &mut Cursor<'a>,
-    room: usize,
-) -> Result<(Leaf<'a>, Vec<Definition<'a>>), Stop>
-    ensures spells { IfOk result (λ m. Parsed cursor.old (module_front m.0 m.1.items) cursor.new) }
-    ensures levels { IfOk result (λ m. suc (highest definition_levels m.1.items) ≤ room) }
-{
-    let (name, left) = got!(read_opened(cursor, "module", room));
-    let read = read_definitions(cursor, left);
-    closed_module(cursor, name, read)
 }
 
 /// Reads definitions up to a closing brace or the end.

@@ -11,7 +11,7 @@ ghost use Rattle.idl_tree.specs.Levels.{highest, expr_levels, operand_levels, co
 ghost use Rattle.idl_tree.specs.Yields.{operator_yield, sign_text, expr_yield, const_expr_yield, bound_yield, operand_yield, text_yield, in_order};
 
 use crate::cursor::{Cursor, inside};
-use crate::read::lists::{add, both, boxed, made};
+use crate::read::lists::{add, boxed, made};
 use crate::read::names::read_scoped_name;
 use crate::stop::Stop;
 use idl_lexer::Kind;
@@ -161,11 +161,9 @@ fn read_primary<'a>(cursor: &mut Cursor<'a>, room: usize) -> Result<Expr<'a>, St
         return read_atom(cursor);
     };
     let left = got!(inside(room, line));
-    let read = read_level(cursor, 0, true, left);
-    match cursor.closed(read, ")") {
-        Ok(inner) => made(Expr::new_parenthesized(cursor.alloc(), paren, inner)),
-        Err(stop) => Err(stop),
-    }
+    let inner = got!(read_level(cursor, 0, true, left));
+    got!(cursor.mark(")"));
+    made(Expr::new_parenthesized(cursor.alloc(), paren, inner))
 }
 
 #[cycle(expressions)]
@@ -220,10 +218,8 @@ fn read_level<'a>(
         return read_unary(cursor, room);
     }
     let first = got!(read_level(cursor, level + 1, shifts, room));
-    match both(first, read_operands(cursor, level, shifts, room)) {
-        Ok((first, rest)) => made(Expr::new_chain(cursor.alloc(), first, rest)),
-        Err(stop) => Err(stop),
-    }
+    let rest = got!(read_operands(cursor, level, shifts, room));
+    made(Expr::new_chain(cursor.alloc(), first, rest))
 }
 
 /// Reads a constant expression.

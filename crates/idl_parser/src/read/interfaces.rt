@@ -4,30 +4,23 @@
 ghost use Rattle.std.specs.Prelude.{◌≡◌, ◌++◌, ◌≤◌, ◌∷◌, [], ℕ, Bool, true, false, max, IfOk, List, codes};
 ghost use Rattle.std.specs.List.{flat_map};
 ghost use Rattle.idl_parser.specs.Reading.{Parsed, Continued, Added};
-ghost use Rattle.idl_parser.specs.Makings.{interface_of};
 ghost use Rattle.idl_tree.specs.Pieces.{Seen, mark};
 ghost use Rattle.idl_tree.specs.Yields.{identifier as identifier_yield, optional, listed};
 ghost use Rattle.idl_tree.specs.Levels.{highest, highest_listed, optional_levels};
 ghost use Rattle.idl_tree.specs.TypeLevels.{param_type_levels};
-ghost use Rattle.idl_tree.specs.DefinitionYields.{raises_yield, readonly_yield, is_readonly as attributes_are_readonly, attributes_yield, attribute_yield, direction_yield, param_yield, oneway_yield, result_yield, operation_yield, export_yield, bases_yield, interface_yield};
+ghost use Rattle.idl_tree.specs.DefinitionYields.{raises_yield, readonly_yield, is_readonly as attributes_are_readonly, attributes_yield, attribute_yield, direction_yield, param_yield, oneway_yield, result_yield, operation_yield, export_yield, bases_yield};
 ghost use Rattle.idl_tree.specs.declared.definitions.Attributes.TheVariants.{Silent};
-ghost use Rattle.idl_tree.specs.DefinitionLevels.{attribute_levels, param_levels, operation_levels, export_levels, interface_levels};
+ghost use Rattle.idl_tree.specs.DefinitionLevels.{attribute_levels, param_levels, operation_levels, export_levels};
 
 use crate::cursor::Cursor;
 use crate::read::declarations::{is_declaration, read_declaration};
-use crate::read::lists::{Part, add, both, read_listed, read_rest, then};
+use crate::read::lists::{Part, add, read_listed, read_rest};
 use crate::read::types::read_param_type;
 use crate::stop::Stop;
 use idl_lexer::Kind;
-use idl_tree::definitions::{
-    Attribute, Attributes, Direction, Export, Interface, Operation, Param,
-};
+use idl_tree::definitions::{Attribute, Attributes, Direction, Export, Operation, Param};
 use idl_tree::names::{Leaf, Listed, ScopedName};
 use idl_tree::types::ParamType;
-use std::alloc::Global;
-
-/// The parameters of an operation, and what it raises.
-type Signature<'a> = (Option<Listed<Param<'a>>>, Option<Listed<ScopedName<'a>>>);
 
 /// Reads a word and the exceptions behind it, if the word is there.
 fn read_raises<'a>(
@@ -40,8 +33,9 @@ fn read_raises<'a>(
         return Ok(None);
     }
     got!(cursor.mark("("));
-    let names = read_listed(cursor, 0);
-    cursor.closed(names, ")").map(Some)
+    let names = got!(read_listed(cursor, 0));
+    got!(cursor.mark(")"));
+    Ok(Some(names))
 }
 
 /// Takes `readonly`, if it is next.
@@ -61,53 +55,16 @@ fn silent<'a>(is_readonly: bool, first: Leaf<'a>, rest: Vec<Leaf<'a>>) -> Attrib
     }
 }
 
-/// A readonly attribute, and what it raises.
-fn readonly<'a>(
-    alloc: Global,
-    identifier: Leaf<'a>,
-    raises: Option<Listed<ScopedName<'a>>>,
-) -> Attributes<'a>
-    ensures spells { attributes_yield result ≡ identifier_yield identifier.entry
-        ++ optional (raises_yield (codes "raises")) raises.entry }
-    ensures kind { attributes_are_readonly result ≡ true }
-{
-    match raises {
-        Some(raises) => Attributes::Readonly { identifier, raises },
-        None => silent(true, identifier, Vec::new(alloc)),
-    }
-}
-
-/// An attribute that can be set, and what it raises where it is got and where it is set.
-fn settable<'a>(
-    alloc: Global,
-    identifier: Leaf<'a>,
-    get: Option<Listed<ScopedName<'a>>>,
-    set: Option<Listed<ScopedName<'a>>>,
-) -> Attributes<'a>
-    ensures spells { attributes_yield result ≡ identifier_yield identifier.entry
-        ++ optional (raises_yield (codes "getraises")) get.entry
-        ++ optional (raises_yield (codes "setraises")) set.entry }
-    ensures kind { attributes_are_readonly result ≡ false }
-{
-    match (get, set) {
-        (Some(get), set) => Attributes::Get {
-            identifier,
-            get,
-            set,
-        },
-        (None, Some(set)) => Attributes::Set { identifier, set },
-        (None, None) => silent(false, identifier, Vec::new(alloc)),
-    }
-}
-
 /// Reads what a readonly attribute raises whose identifier stands before.
 fn read_readonly<'a>(cursor: &mut Cursor<'a>, identifier: Leaf<'a>) -> Result<Attributes<'a>, Stop>
     ensures spells { IfOk result (λ a. (front : List Seen)
         → Parsed front (identifier_yield identifier.entry) cursor.old → Parsed front (attributes_yield a) cursor.new) }
     ensures kind { IfOk result (λ a. attributes_are_readonly a ≡ true) }
 {
-    let raises = got!(read_raises(cursor, "raises"));
-    Ok(readonly(cursor.alloc(), identifier, raises))
+    match got!(read_raises(cursor, "raises")) {
+        Some(raises) => Ok(Attributes::Readonly { identifier, raises }),
+        None => Ok(silent(true, identifier, Vec::new(cursor.alloc()))),
+    }
 }
 
 /// Reads what an attribute raises that can be set, whose identifier stands before.
@@ -117,9 +74,15 @@ fn read_settable<'a>(cursor: &mut Cursor<'a>, identifier: Leaf<'a>) -> Result<At
     ensures kind { IfOk result (λ a. attributes_are_readonly a ≡ false) }
 {
     let get = got!(read_raises(cursor, "getraises"));
-    match both(get, read_raises(cursor, "setraises")) {
-        Ok((get, set)) => Ok(settable(cursor.alloc(), identifier, get, set)),
-        Err(stop) => Err(stop),
+    let set = got!(read_raises(cursor, "setraises"));
+    match (get, set) {
+        (Some(get), set) => Ok(Attributes::Get {
+            identifier,
+            get,
+            set,
+        }),
+        (None, Some(set)) => Ok(Attributes::Set { identifier, set }),
+        (None, None) => Ok(silent(false, identifier, Vec::new(cursor.alloc()))),
     }
 }
 
@@ -146,8 +109,8 @@ fn read_attribute<'a>(cursor: &mut Cursor<'a>, room: usize) -> Result<Attribute<
 {
     let is_readonly = take_readonly(cursor);
     got!(cursor.keyword("attribute"));
-    let front = got!(read_param_type(cursor, room));
-    let (attribute_type, declared) = got!(both(front, read_attributes(cursor, is_readonly)));
+    let attribute_type = got!(read_param_type(cursor, room));
+    let declared = got!(read_attributes(cursor, is_readonly));
     Ok(Attribute {
         attribute_type,
         declared,
@@ -177,14 +140,13 @@ impl<'a> Part<'a> for Param<'a> {
 
     fn read(cursor: &mut Cursor<'a>, room: usize) -> Result<Self, Stop> {
         let direction = got!(read_direction(cursor));
-        match then(read_param_type(cursor, room), cursor, room) {
-            Ok((param_type, identifier)) => Ok(Param {
-                direction,
-                param_type,
-                identifier,
-            }),
-            Err(stop) => Err(stop),
-        }
+        let param_type = got!(read_param_type(cursor, room));
+        let identifier = got!(cursor.identifier());
+        Ok(Param {
+            direction,
+            param_type,
+            identifier,
+        })
     }
 }
 
@@ -196,7 +158,7 @@ fn read_params<'a>(cursor: &mut Cursor<'a>, room: usize) -> Result<Option<Listed
     if cursor.is_mark(")") {
         return Ok(None);
     }
-    read_listed(cursor, room).map(Some)
+    Ok(Some(got!(read_listed(cursor, room))))
 }
 
 /// Takes `oneway`, if it is next.
@@ -214,19 +176,7 @@ fn read_result<'a>(cursor: &mut Cursor<'a>, room: usize) -> Result<Option<ParamT
     if cursor.take_keyword("void") {
         return Ok(None);
     }
-    read_param_type(cursor, room).map(Some)
-}
-
-/// Reads the parameters of an operation and what it raises.
-fn read_signature<'a>(cursor: &mut Cursor<'a>, room: usize) -> Result<Signature<'a>, Stop>
-    ensures spells { IfOk result (λ s. Parsed cursor.old (mark (codes "(") ++ optional (listed param_yield) s.0
-        ++ mark (codes ")") ++ optional (raises_yield (codes "raises")) s.1) cursor.new) }
-    ensures levels { IfOk result (λ s. optional_levels (highest_listed param_levels) s.0 ≤ room) }
-{
-    got!(cursor.mark("("));
-    let read = read_params(cursor, room);
-    let params = got!(cursor.closed(read, ")"));
-    both(params, read_raises(cursor, "raises"))
+    Ok(Some(got!(read_param_type(cursor, room))))
 }
 
 fn read_operation<'a>(cursor: &mut Cursor<'a>, room: usize) -> Result<Operation<'a>, Stop>
@@ -234,9 +184,12 @@ fn read_operation<'a>(cursor: &mut Cursor<'a>, room: usize) -> Result<Operation<
     ensures levels { IfOk result (λ o. operation_levels o ≤ room) }
 {
     let is_oneway = take_oneway(cursor);
-    let returned = got!(read_result(cursor, room));
-    let (front, identifier) = got!(both(returned, cursor.identifier()));
-    let (result_type, (params, raises)) = got!(both(front, read_signature(cursor, room)));
+    let result_type = got!(read_result(cursor, room));
+    let identifier = got!(cursor.identifier());
+    got!(cursor.mark("("));
+    let params = got!(read_params(cursor, room));
+    got!(cursor.mark(")"));
+    let raises = got!(read_raises(cursor, "raises"));
     Ok(Operation {
         is_oneway,
         result_type,
@@ -318,7 +271,10 @@ fn read_export<'a>(
 }
 
 /// Reads exports between braces.
-fn read_exports<'a>(cursor: &mut Cursor<'a>, room: usize) -> Result<Vec<Export<'a>>, Stop>
+pub(crate) fn read_exports<'a>(
+    cursor: &mut Cursor<'a>,
+    room: usize,
+) -> Result<Vec<Export<'a>>, Stop>
     ensures spells { IfOk result (λ e. Parsed cursor.old
         (mark (codes "{") ++ flat_map export_yield e.items ++ mark (codes "}")) cursor.new) }
     ensures levels { IfOk result (λ e. highest export_levels e.items ≤ room) }
@@ -328,53 +284,19 @@ fn read_exports<'a>(cursor: &mut Cursor<'a>, room: usize) -> Result<Vec<Export<'
     'parts: while !cursor.is_mark("}") {
         got!(read_export(cursor, room, &mut exports));
     }
+    got!(cursor.mark("}"));
     exports.shrink_to_fit();
-    cursor.closed(Ok(exports), "}")
+    Ok(exports)
 }
 
 /// Reads the bases of an interface, if it has any.
-fn read_bases<'a>(cursor: &mut Cursor<'a>) -> Result<Option<Listed<ScopedName<'a>>>, Stop>
+pub(crate) fn read_bases<'a>(
+    cursor: &mut Cursor<'a>,
+) -> Result<Option<Listed<ScopedName<'a>>>, Stop>
     ensures { IfOk result (λ b. Continued cursor.old (optional bases_yield b) cursor.new) }
 {
     if !cursor.take_mark(":") {
         return Ok(None);
     }
-    read_listed(cursor, 0).map(Some)
-}
-
-/// The bases of an interface, and what stands in it.
-pub(crate) type Body<'a> = (Option<Listed<ScopedName<'a>>>, Vec<Export<'a>>);
-
-/// Reads an interface, or one that is declared ahead, which a semicolon tells.
-pub(crate) fn read_interface<'a>(
-    cursor: &mut Cursor<'a>,
-    room: usize,
-) -> Result<(Leaf<'a>, Option<Body<'a>>), Stop>
-    ensures spells { IfOk result (λ i. Parsed cursor.old (interface_yield (interface_of i.0 i.1)) cursor.new) }
-    ensures levels { IfOk result (λ i. interface_levels (interface_of i.0 i.1) ≤ room) }
-{
-    got!(cursor.keyword("interface"));
-    let identifier = got!(cursor.identifier());
-    if cursor.is_mark(";") {
-        return Ok((identifier, None));
-    }
-    let front = got!(read_bases(cursor));
-    match both(front, read_exports(cursor, room)) {
-        Ok(body) => Ok((identifier, Some(body))),
-        Err(stop) => Err(stop),
-    }
-}
-
-/// The interface of a name and what stands behind it.
-pub(crate) fn interface<'a>(identifier: Leaf<'a>, body: Option<Body<'a>>) -> Interface<'a>
-    ensures { result ≡ interface_of identifier.entry body.entry }
-{
-    match body {
-        Some((bases, exports)) => Interface::Defined {
-            identifier,
-            bases,
-            exports,
-        },
-        None => Interface::Ahead(identifier),
-    }
+    Ok(Some(got!(read_listed(cursor, 0))))
 }

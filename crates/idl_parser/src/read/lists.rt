@@ -34,16 +34,6 @@ pub(crate) fn add<T: Drop>(list: &mut Vec<T>, part: T) -> Result<(), Stop>
     }
 }
 
-/// Adds what was read to a list.
-pub(crate) fn add_read<T: Drop>(list: &mut Vec<T>, read: Result<T, Stop>) -> Result<(), Stop>
-    ensures { IfOk result (λ _. IsOkAnd read (λ part. list.new.items ≡ list.old.items ++ part ∷ [])) }
-{
-    match read {
-        Ok(part) => add(list, part),
-        Err(stop) => Err(stop),
-    }
-}
-
 /// A part in a box.
 pub(crate) fn boxed<T: Drop>(alloc: Global, part: T) -> Result<Box<T>, Stop>
     ensures { IfOk result (λ b. b.value ≡ part) }
@@ -80,56 +70,14 @@ pub(crate) fn read_opened<'a>(
     Ok((name, left))
 }
 
-/// A part and what is read behind it, if that is read.
-pub(crate) fn both<T: Drop, U: Drop>(first: T, second: Result<U, Stop>) -> Result<(T, U), Stop>
-    ensures first { IfOk result (λ both. both.0 ≡ first) }
-    ensures second { IfOk result (λ both. second ≡ Ok both.1) }
+/// Takes the first part of a list, in a box.
+pub(crate) fn first_boxed<T: Drop>(alloc: Global, list: &mut Vec<T>) -> Result<Box<T>, Stop>
+    requires { 0 < length list.old.items }
+    ensures { IfOk result (λ first. list.old.items ≡ first.value ∷ list.new.items) }
 {
-    match second {
-        Ok(second) => Ok((first, second)),
-        Err(stop) => Err(stop),
-    }
-}
-
-/// What was read, and the part that is read behind it.
-pub(crate) fn then<'a, T: Drop, U: Part<'a>>(
-    first: Result<T, Stop>,
-    cursor: &mut Cursor<'a>,
-    room: usize,
-) -> Result<(T, U), Stop>
-    ensures first { IfOk result (λ both. first ≡ Ok both.0) }
-    ensures spells { IfOk result (λ both. Parsed cursor.old (U.yield_of both.1) cursor.new) }
-    ensures levels { IfOk result (λ both. U.levels_of both.1 ≤ room) }
-{
-    let first = got!(first);
-    let second = got!(U::read(cursor, room));
-    Ok((first, second))
-}
-
-/// What was read, and the part that is read behind it up to a semicolon.
-pub(crate) fn then_ended<'a, T: Drop, U: Part<'a>>(
-    first: Result<T, Stop>,
-    cursor: &mut Cursor<'a>,
-    room: usize,
-) -> Result<(T, U), Stop>
-    ensures first { IfOk result (λ both. first ≡ Ok both.0) }
-    ensures spells { IfOk result (λ both. Parsed cursor.old (U.yield_of both.1 ++ mark (codes ";")) cursor.new) }
-    ensures levels { IfOk result (λ both. U.levels_of both.1 ≤ room) }
-{
-    let read = then(first, cursor, room);
-    cursor.closed(read, ";")
-}
-
-/// The first part of a list in a box, and the others.
-pub(crate) fn first_boxed<T: Drop>(alloc: Global, list: Vec<T>) -> Result<(Box<T>, Vec<T>), Stop>
-    requires { 0 < length list.items }
-    ensures { IfOk result (λ parts. list.items ≡ parts.0.value ∷ parts.1.items) }
-{
-    let mut rest = list;
-    let first = rest.remove(0);
-    rest.shrink_to_fit();
-    let first = got!(boxed(alloc, first));
-    Ok((first, rest))
+    let first = list.remove(0);
+    list.shrink_to_fit();
+    boxed(alloc, first)
 }
 
 /// Reads further parts, each behind a comma.
@@ -144,7 +92,8 @@ pub(crate) fn read_rest<'a, T: Part<'a>>(
     let mut rest = Vec::new(cursor.alloc());
     'parts: while cursor.is_mark(",") {
         got!(cursor.mark(","));
-        got!(add_read(&mut rest, T::read(cursor, room)));
+        let part = got!(T::read(cursor, room));
+        got!(add(&mut rest, part));
     }
     rest.shrink_to_fit();
     Ok(rest)

@@ -12,7 +12,7 @@ ghost use Rattle.idl_tree.specs.TypeLevels.{const_type_levels, param_type_levels
 
 use crate::cursor::Cursor;
 use crate::read::expressions::{read_bound, read_expr};
-use crate::read::lists::{Part, add_read, both, made, read_listed, read_opened};
+use crate::read::lists::{Part, add, made, read_listed, read_opened};
 use crate::read::names::read_scoped_name;
 use crate::stop::Stop;
 use idl_lexer::Kind;
@@ -52,8 +52,9 @@ fn read_string_bound<'a>(cursor: &mut Cursor<'a>, room: usize) -> Result<Option<
     if !cursor.take_mark("<") {
         return Ok(None);
     }
-    let bound = read_bound(cursor, room);
-    cursor.closed(bound, ">").map(Some)
+    let bound = got!(read_bound(cursor, room));
+    got!(cursor.mark(">"));
+    Ok(Some(bound))
 }
 
 /// What begins a type that is a word alone, a string or a name.
@@ -67,15 +68,23 @@ enum Word {
     Other,
 }
 
+/// The keywords that begin such types.
+const WORDS: [(&str, Word); 7] = [
+    ("short", Word::Integer),
+    ("long", Word::Integer),
+    ("unsigned", Word::Integer),
+    ("char", Word::Char),
+    ("boolean", Word::Boolean),
+    ("octet", Word::Octet),
+    ("string", Word::String),
+];
+
 /// Which of these is next.
 fn next_word(cursor: &Cursor<'_>) -> Word {
-    match cursor.text(Kind::Keyword) {
-        Some("short" | "long" | "unsigned") => Word::Integer,
-        Some("char") => Word::Char,
-        Some("boolean") => Word::Boolean,
-        Some("octet") => Word::Octet,
-        Some("string") => Word::String,
-        _ => Word::Other,
+    let text = cursor.text(Kind::Keyword);
+    match WORDS.iter().find(|(word, _)| Some(*word) == text) {
+        Some((_, kind)) => *kind,
+        None => Word::Other,
     }
 }
 
@@ -123,16 +132,20 @@ pub(crate) fn read_param_type<'a>(
 }
 
 /// Reads the bound of a sequence, if it has one.
-fn read_sequence_bound<'a>(cursor: &mut Cursor<'a>, room: usize) -> Result<Option<Bound<'a>>, Stop>
+pub(crate) fn read_sequence_bound<'a>(
+    cursor: &mut Cursor<'a>,
+    room: usize,
+) -> Result<Option<Bound<'a>>, Stop>
     ensures spells { IfOk result (λ b. Continued cursor.old (optional sequence_bound_yield b) cursor.new) }
     ensures levels { IfOk result (λ b. optional_levels bound_levels b ≤ room) }
 {
     if !cursor.take_mark(",") {
         return Ok(None);
     }
-    read_bound(cursor, room).map(Some)
+    Ok(Some(got!(read_bound(cursor, room))))
 }
 
+#[cycle(simple)]
 pub(crate) fn read_simple_type<'a>(
     cursor: &mut Cursor<'a>,
     room: usize,
@@ -140,16 +153,23 @@ pub(crate) fn read_simple_type<'a>(
     ensures spells { IfOk result (λ t. Parsed cursor.old (simple_type_yield t) cursor.new) }
     ensures levels { IfOk result (λ t. simple_type_levels t ≤ room) }
 {
-    if !cursor.take_keyword("sequence") {
-        return Ok(SimpleType::Plain(got!(read_param_type(cursor, room))));
+    if cursor.is_keyword("sequence") {
+        return read_sequence(cursor, room);
     }
+    Ok(SimpleType::Plain(got!(read_param_type(cursor, room))))
+}
+
+#[cycle(simple)]
+fn read_sequence<'a>(cursor: &mut Cursor<'a>, room: usize) -> Result<SimpleType<'a>, Stop>
+    ensures spells { IfOk result (λ t. Parsed cursor.old (simple_type_yield t) cursor.new) }
+    ensures levels { IfOk result (λ t. simple_type_levels t ≤ room) }
+{
+    got!(cursor.keyword("sequence"));
     let left = got!(cursor.open("<", room));
     let element = got!(read_simple_type(cursor, left));
-    let read = both(element, read_sequence_bound(cursor, left));
-    match cursor.closed(read, ">") {
-        Ok((element, bound)) => made(SimpleType::new_sequence(cursor.alloc(), element, bound)),
-        Err(stop) => Err(stop),
-    }
+    let bound = got!(read_sequence_bound(cursor, left));
+    got!(cursor.mark(">"));
+    made(SimpleType::new_sequence(cursor.alloc(), element, bound))
 }
 
 fn read_size<'a>(cursor: &mut Cursor<'a>, room: usize) -> Result<ConstExpr<'a>, Stop>
@@ -157,8 +177,9 @@ fn read_size<'a>(cursor: &mut Cursor<'a>, room: usize) -> Result<ConstExpr<'a>, 
     ensures levels { IfOk result (λ size. const_expr_levels size ≤ room) }
 {
     got!(cursor.mark("["));
-    let size = read_expr(cursor, room);
-    cursor.closed(size, "]")
+    let size = got!(read_expr(cursor, room));
+    got!(cursor.mark("]"));
+    Ok(size)
 }
 
 /// Reads the sizes of an array, if there are any.
@@ -168,7 +189,8 @@ fn read_sizes<'a>(cursor: &mut Cursor<'a>, room: usize) -> Result<Vec<ConstExpr<
 {
     let mut sizes = Vec::new(cursor.alloc());
     'parts: while cursor.is_mark("[") {
-        got!(add_read(&mut sizes, read_size(cursor, room)));
+        let size = got!(read_size(cursor, room));
+        got!(add(&mut sizes, size));
     }
     sizes.shrink_to_fit();
     Ok(sizes)

@@ -1,15 +1,13 @@
-use Rattle.std.proofs.Common.{◌++◌, ◌≤◌, ◌<◌, length, arith}
-use Rattle.std.specs.Prelude.{Ok, codes}
+use Rattle.std.proofs.Common.{◌++◌, arith}
+use Rattle.std.specs.Prelude.{codes}
 use Rattle.std.specs.List.{flat_map}
-use Rattle.std.proofs.lemmas.Result.{IfOk-at_ok}
-use Rattle.idl_parser.specs.Reading.{Parsed}
 use Rattle.idl_tree.specs.Pieces.{keyword, mark}
-use Rattle.idl_tree.specs.Yields.{identifier, listed, in_order}
-use Rattle.idl_tree.specs.TypeYields.{type_yield, switch_yield, label_yield, declarator_yield, member_yield, case_yield, struct_yield, union_yield}
+use Rattle.idl_tree.specs.Yields.{identifier}
+use Rattle.idl_tree.specs.TypeYields.{switch_yield, member_yield, case_yield, struct_yield, union_yield}
 use Rattle.idl_tree.specs.Levels.{highest}
-use Rattle.idl_tree.specs.TypeLevels.{type_levels, switch_levels, member_levels, case_levels, struct_levels, union_levels}
-use Rattle.idl_parser.proofs.Parts.{part_then}
-use Rattle.idl_parser.proofs.Pairs.{spelled_as, group_two, group_three, both_read, first_level, second_under, handed, closed_list, spelled_by, levels_by, behind_part, under_suc}
+use Rattle.idl_tree.specs.TypeLevels.{member_levels, case_levels, struct_levels, union_levels}
+use Rattle.idl_parser.proofs.Parts.{part_then, more_then_part}
+use Rattle.idl_parser.proofs.Pairs.{spelled_as, group_three, spelled_by, levels_by, behind_part, under_suc}
 use Rattle.idl_parser.proofs.Adding.{longer, longer_level, alone, alone_level, some_more, added}
 use Rattle.idl_parser.proofs.read.constructed.+constructed.Goals as goal
 
@@ -29,18 +27,13 @@ read_members-parts-preserved t c = record {
 
 pub read_members-returns-clause-spells : goal.read_members-returns-clause-spells
 read_members-returns-clause-spells t c =
-    closed_list _ _ _ _ (λ m. flat_map member_yield m.items) (Ok c.shrink_to_fit.new.self) c.closed.result
-    (rw c.shrink_to_fit.ensures.items c.parts.invariant.spells) c.closed.ensures.same c.closed.ensures.read
+    rw c.shrink_to_fit.ensures.items (more_then_part c.parts.invariant.spells c.in-Ok-mark.ensures)
 
 pub read_members-returns-clause-levels : goal.read_members-returns-clause-levels
-read_members-returns-clause-levels t c =
-    handed (λ m. highest member_levels m.items ≤ c.args.room) (Ok c.shrink_to_fit.new.self) c.closed.result
-    (rw c.shrink_to_fit.ensures.items c.parts.invariant.levels) c.closed.ensures.same
+read_members-returns-clause-levels t c = rw c.shrink_to_fit.ensures.items c.parts.invariant.levels
 
 pub read_members-returns-clause-some : goal.read_members-returns-clause-some
-read_members-returns-clause-some t c =
-    handed (λ m. 0 < length m.items) (Ok c.shrink_to_fit.new.self) c.closed.result
-    (rw c.shrink_to_fit.ensures.items c.parts.invariant.some) c.closed.ensures.same
+read_members-returns-clause-some t c = rw c.shrink_to_fit.ensures.items c.parts.invariant.some
 
 pub read_cases-parts-init : goal.read_cases-parts-init
 read_cases-parts-init t c = record {
@@ -58,38 +51,26 @@ read_cases-parts-preserved t c = record {
 
 pub read_cases-returns-clause-spells : goal.read_cases-returns-clause-spells
 read_cases-returns-clause-spells t c =
-    closed_list _ _ _ _ (λ m. flat_map case_yield m.items) (Ok c.shrink_to_fit.new.self) c.closed.result
-    (rw c.shrink_to_fit.ensures.items c.parts.invariant.spells) c.closed.ensures.same c.closed.ensures.read
+    rw c.shrink_to_fit.ensures.items (more_then_part c.parts.invariant.spells c.in-Ok-mark.ensures)
 
 pub read_cases-returns-clause-levels : goal.read_cases-returns-clause-levels
-read_cases-returns-clause-levels t c =
-    handed (λ m. highest case_levels m.items ≤ c.args.room) (Ok c.shrink_to_fit.new.self) c.closed.result
-    (rw c.shrink_to_fit.ensures.items c.parts.invariant.levels) c.closed.ensures.same
+read_cases-returns-clause-levels t c = rw c.shrink_to_fit.ensures.items c.parts.invariant.levels
 
 pub read_cases-returns-clause-some : goal.read_cases-returns-clause-some
-read_cases-returns-clause-some t c =
-    handed (λ m. 0 < length m.items) (Ok c.shrink_to_fit.new.self) c.closed.result
-    (rw c.shrink_to_fit.ensures.items c.parts.invariant.some) c.closed.ensures.same
+read_cases-returns-clause-some t c = rw c.shrink_to_fit.ensures.items c.parts.invariant.some
 
 pub read_member-returns : goal.read_member-returns
 read_member-returns t c =
-    let p = c.in-Ok in
-    let front = IfOk-at_ok (λ t. Parsed _ (type_yield t) _) p.ensures.first c.read_type.ensures.spells in
-    let few : type_levels p.part.0 ≤ c.args.room = IfOk-at_ok (λ t. type_levels t ≤ c.args.room) p.ensures.first c.read_type.ensures.levels in
-    added member_yield member_levels c.args.room _ _ _ _ (record { member_type = p.part.0; declarators = p.part.1 }) c.add_member.result
-    (spelled_as (group_two (type_yield p.part.0) (listed declarator_yield p.part.1) (mark (codes ";"))) (part_then front p.ensures.spells))
-    (omega (arith, few, p.ensures.levels)) c.add_member.ensures
+    added member_yield member_levels c.args.room _ _ _ _ (record { member_type = c.in-Ok.part; declarators = c.in-Ok-read_listed.part }) c.add_member.result
+    (part_then (part_then c.in-Ok.ensures.spells c.in-Ok-read_listed.ensures.spells) c.in-Ok-mark.ensures)
+    (omega (arith, c.in-Ok.ensures.levels, c.in-Ok-read_listed.ensures.levels)) c.add_member.ensures
 
 pub read_case-returns : goal.read_case-returns
 read_case-returns t c =
     let labels = c.in-Ok in
-    let p = c.in-Ok-then_ended in
-    let front = IfOk-at_ok (λ t. Parsed _ (type_yield t) _) p.ensures.first c.read_type.ensures.spells in
-    let few : type_levels p.part.0 ≤ c.args.room = IfOk-at_ok (λ t. type_levels t ≤ c.args.room) p.ensures.first c.read_type.ensures.levels in
-    added case_yield case_levels c.args.room _ _ _ _ (record { labels = labels.part; member_type = p.part.0; declarator = p.part.1 }) c.add_case.result
-    (spelled_as (group_two (in_order label_yield labels.part ++ type_yield p.part.0) (declarator_yield p.part.1) (mark (codes ";")))
-    (part_then (part_then labels.ensures.spells front) p.ensures.spells))
-    (omega (arith, labels.ensures.levels, few, p.ensures.levels)) c.add_case.ensures
+    added case_yield case_levels c.args.room _ _ _ _ (record { labels = labels.part; member_type = c.in-Ok-read_type.part; declarator = c.in-Ok-read_declarator.part }) c.add_case.result
+    (part_then (part_then (part_then labels.ensures.spells c.in-Ok-read_type.ensures.spells) c.in-Ok-read_declarator.ensures.spells) c.in-Ok-mark.ensures)
+    (omega (arith, labels.ensures.levels, c.in-Ok-read_type.ensures.levels, c.in-Ok-read_declarator.ensures.levels)) c.add_case.ensures
 
 pub read_struct-returns-clause-spells : goal.read_struct-returns-clause-spells
 read_struct-returns-clause-spells t c =
@@ -110,17 +91,13 @@ read_union_body-returns-clause-levels t c =
 
 pub read_union-returns-clause-spells : goal.read_union-returns-clause-spells
 read_union-returns-clause-spells t c =
-    let p = c.in-Ok-both in
-    let pre = keyword (codes "union") ++ identifier c.in-Ok.part ++ keyword (codes "switch") ++ mark (codes "(") in
+    let pre = keyword (codes "union") ++ identifier c.in-Ok.part ++ keyword (codes "switch") ++ mark (codes "(") ++ switch_yield c.in-Ok-read_switch.part in
+    let cases = c.in-Ok-read_union_body in
     spelled_by _ _ union_yield _ c.union_of.result c.union_of.ensures.spells
-    (spelled_as (group_three (pre ++ switch_yield p.part.0) (mark (codes ")")) (mark (codes "{")) (flat_map case_yield p.part.1.items ++ mark (codes "}")))
-    (both_read (λ s. pre ++ switch_yield s) (λ b. mark (codes ")") ++ mark (codes "{") ++ (flat_map case_yield b.items ++ mark (codes "}")))
-    c.in-Ok-read_switch.part c.read_union_body.result p.part
-    (part_then c.in-Ok.ensures c.in-Ok-read_switch.ensures.spells) c.read_union_body.ensures.spells p.ensures.first p.ensures.second))
+    (spelled_as (group_three pre (mark (codes ")")) (mark (codes "{")) (flat_map case_yield cases.part.items ++ mark (codes "}")))
+    (part_then (part_then c.in-Ok.ensures c.in-Ok-read_switch.ensures.spells) cases.ensures.spells))
 
 pub read_union-returns-clause-levels : goal.read_union-returns-clause-levels
 read_union-returns-clause-levels t c =
-    let p = c.in-Ok-both in
-    let switch : switch_levels p.part.0 ≤ c.saturating_sub.result = first_level switch_levels c.saturating_sub.result c.in-Ok-read_switch.part p.part.0 c.in-Ok-read_switch.ensures.levels p.ensures.first in
-    let body = second_under (λ b. highest case_levels b.items) c.args.room c.read_union_body.result p.part.1 c.read_union_body.ensures.levels p.ensures.second in
-    levels_by union_levels _ c.args.room c.union_of.result c.union_of.ensures.levels (omega (arith, c.saturating_sub.ensures, switch, body))
+    levels_by union_levels _ c.args.room c.union_of.result c.union_of.ensures.levels
+    (omega (arith, c.saturating_sub.ensures, c.in-Ok-read_switch.ensures.levels, c.in-Ok-read_union_body.ensures.levels))

@@ -12,13 +12,13 @@ use Rattle.idl_parser.proofs.read.constructed.structure.Goals as goal
 
 pub returns-clause-spells : goal.returns-clause-spells
 returns-clause-spells c =
-    let p = c.in-Ok.part in
+    let first = c.in-Ok.part in
+    let rest = c.first_boxed.new.list in
     let pre = keyword (codes "struct") ++ identifier c.args.name ++ mark (codes "{") in
-    struct_yields c.args.name p.0 p.1
-    ∙ sym (group_three pre (member_yield p.0.value) (flat_map member_yield p.1.items) (mark (codes "}")))
+    struct_yields c.args.name first rest
+    ∙ sym (group_three pre (member_yield first.value) (flat_map member_yield rest.items) (mark (codes "}")))
     ∙ ap (λ ms. pre ++ (flat_map member_yield ms ++ mark (codes "}"))) (sym c.in-Ok.ensures)
 
 pub returns-clause-levels : goal.returns-clause-levels
 returns-clause-levels c =
-    let p = c.in-Ok.part in
-    struct_nests c.args.name p.0 p.1 ∙ ap (λ ms. suc (highest member_levels ms)) (sym c.in-Ok.ensures)
+    struct_nests c.args.name c.in-Ok.part c.first_boxed.new.list ∙ ap (λ ms. suc (highest member_levels ms)) (sym c.in-Ok.ensures)

@@ -7,13 +7,10 @@ use Rattle.idl_tree.specs.DefinitionLevels.{definition_levels}
 use Rattle.idl_parser.proofs.read.definitions.+definitions.Given as goal
 
 abbrev pub decreases-read_definitions : goal.decreases-read_definitions
-decreases-read_definitions l = 3 * length l.cursor.now + 2
+decreases-read_definitions l = 2 * length l.cursor.now + 1
 
 abbrev pub decreases-read_definition : goal.decreases-read_definition
-decreases-read_definition l = 3 * length l.cursor.now + 1
-
-abbrev pub decreases-read_module : goal.decreases-read_module
-decreases-read_module l = 3 * length l.cursor.now
+decreases-read_definition l = 2 * length l.cursor.now
 
 abbrev pub invariant-read_definitions-parts : goal.invariant-read_definitions-parts
 invariant-read_definitions-parts l = record {

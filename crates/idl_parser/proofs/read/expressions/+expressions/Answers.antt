@@ -1,8 +1,7 @@
-use Rattle.std.proofs.Common.{rules, ◌≤◌, ℕ, suc, arith, add-one, sym, subst}
-use Rattle.std.specs.Prelude.{IfOk, Bool}
+use Rattle.std.proofs.Common.{rules, ◌≤◌, ℕ, suc, arith, add-one}
+use Rattle.std.specs.Prelude.{Bool}
 use Rattle.std.specs.List.{AllByRecursion}
 use Rattle.std.proofs.lemmas.Result.{IfOk-weaker}
-use Rattle.idl_tree.specs.declared.expression.Expr.{Expr}
 use Rattle.idl_tree.specs.Grouping.{IsOperandOf, IsOfLevel}
 use Rattle.idl_tree.specs.Yields.{operand_yield}
 use Rattle.idl_tree.specs.Levels.{operand_levels}
@@ -27,17 +26,15 @@ read_unary-returns-clause-groups t c =
     (λ e signed shifts. signed shifts (c.in-Ok.ensures.groups shifts))
     (handed _ c.new_signed.result c.made.result c.new_signed.ensures.groups c.made.ensures)
 
-pub read_level-returns-in-Ok-both-clause-groups : goal.read_level-returns-in-Ok-both-clause-groups
-read_level-returns-in-Ok-both-clause-groups t c =
+pub read_level-returns-clause-groups : goal.read_level-returns-clause-groups
+read_level-returns-clause-groups t c =
     let few : suc c.args.level ≤ 6 = search rules in
-    let tighter = rw add-one at (c.in-Ok.ensures.groups (omega (arith, few))) in
-    let first = subst (λ e. IsOfLevel c.args.shifts (suc c.args.level) e) (sym {A = Expr} c.in-Ok-both.ensures.first) tighter in
-    let operands = subst (λ r. IfOk r (λ rest. AllByRecursion (IsOperandOf c.args.shifts c.args.level) rest.items)) c.in-Ok-both.ensures.second c.read_operands.ensures.groups in
+    let first = rw add-one at (c.in-Ok.ensures.groups (omega (arith, few))) in
     IfOk-weaker c.made.result
-    (λ e. (shifts : Bool) (level : ℕ) → level ≤ 5 → IsOfLevel shifts (suc level) c.in-Ok-both.first
-    → AllByRecursion (IsOperandOf shifts level) c.in-Ok-both.rest.items → IsOfLevel shifts level e)
+    (λ e. (shifts : Bool) (level : ℕ) → level ≤ 5 → IsOfLevel shifts (suc level) c.in-Ok.part
+    → AllByRecursion (IsOperandOf shifts level) c.in-Ok-read_operands.part.items → IsOfLevel shifts level e)
     (λ e. c.args.level ≤ 6 → IsOfLevel c.args.shifts c.args.level e)
-    (λ e chain le. chain c.args.shifts c.args.level (omega (arith, few)) first operands)
+    (λ e chain le. chain c.args.shifts c.args.level (omega (arith, few)) first c.in-Ok-read_operands.ensures.groups)
     (handed _ c.new_chain.result c.made.result c.new_chain.ensures.groups c.made.ensures)
 
 pub read_unary-returns-in_default-clause-groups : goal.read_unary-returns-in_default-clause-groups

@@ -1,5 +1,5 @@
-use Rattle.std.proofs.Common.{◌≡◌, ◌<◌, ◌∷◌, [], ◌∙◌, List, length, ap, sym, arith}
-use Rattle.std.specs.Prelude.{slice_index_or, remove}
+use Rattle.std.proofs.Common.{◌≡◌, ◌<◌, ◌∷◌, [], ◌∙◌, List, length, sym, subst, arith}
+use Rattle.std.specs.Prelude.{Result, Ok, Err, IfOk, slice_index_or, remove}
 use Rattle.idl_parser.proofs.read.lists.first_boxed.Goals as goal
 
 -- a list is its first part and the others
@@ -10,6 +10,12 @@ parted (y ∷ ys) rest x some first others =
     let o : rest ≡ ys = others in
     cc (f, o)
 
+-- the same of a box of the first part
+parted_in : {B T E : Type 0} (value : B → T) (xs rest : List T) (x : T) (r : Result B E) → xs ≡ x ∷ rest → IfOk r (λ b. value b ≡ x) → IfOk r (λ b. xs ≡ value b ∷ rest)
+parted_in value xs rest x (Ok b) is same = subst (λ y. xs ≡ y ∷ rest) (sym same) is
+parted_in value xs rest x (Err e) is same = tt
+
 pub returns : goal.returns
 returns g c =
-    parted _ _ _ c.requires c.remove-first.ensures.value (c.shrink_to_fit.ensures.items ∙ c.remove-first.ensures.items) ∙ ap (λ x. x ∷ c.shrink_to_fit.new.self.items) (sym c.in-Ok.ensures)
+    parted_in (λ b. b.value) _ _ _ c.boxed.result
+    (parted _ _ _ c.requires c.remove-first.ensures.value (c.shrink_to_fit.ensures.items ∙ c.remove-first.ensures.items)) c.boxed.ensures
