@@ -1,13 +1,13 @@
 use Rattle.std.proofs.Common.{rules, ◌≡◌, ◌∙◌, ◌+◌, ℕ, false, List, [], length, take, refl, sym, ap, subst, arith}
 use Rattle.broker_answers.specs.Servants.{acts}
-use Rattle.iiop_streams.specs.Ends.{Gives}
-use Rattle.iiop_streams.specs.Outcomes.{Unwritten, ends}
-use Rattle.iiop_streams.specs.Running.{running}
-use Rattle.iiop_streams.specs.Pieces.{IsGivenUp, IsSent, IsStuck, IsTrouble}
-use Rattle.iiop_streams.specs.Courses.{Course}
+use Rattle.iiop_broker.specs.Ends.{Gives}
+use Rattle.iiop_broker.specs.Outcomes.{Unwritten, ends}
+use Rattle.iiop_broker.specs.Running.{running}
+use Rattle.iiop_broker.specs.StreamPieces.{IsGivenUp, IsSent, IsStuck, IsTrouble}
+use Rattle.iiop_broker.specs.Courses.{Course}
 use Rattle.broker_talk.specs.Streams.{Stream}
-use Rattle.iiop_streams.proofs.Going.{Going, all_read, all_said, going_on, going_start, still_there, stuck, unended, unread, unserved}
-use Rattle.iiop_streams.proofs.course.serve_course.Goals as goal
+use Rattle.iiop_broker.proofs.Going.{Going, all_read, all_said, going_on, going_start, still_there, stuck, unended, unread, unserved}
+use Rattle.iiop_broker.proofs.course.serve_course.Goals as goal
 
 pub loop-count-init : goal.loop-count-init
 loop-count-init g c =

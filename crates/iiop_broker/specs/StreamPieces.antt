@@ -6,10 +6,10 @@ use Rattle.broker_talk.specs.Talk.{World, rests, Answers, Abandons}
 use Rattle.broker_answers.specs.Servants.{Acting}
 use Rattle.broker_answers.specs.Objects.{Served}
 use Rattle.broker_answers.specs.Serving.{Moves, Serves}
-use Rattle.iiop_streams.specs.declared.piece.Sent.{Sent}
-use Rattle.iiop_streams.specs.declared.piece.Trouble.{Trouble}
-use Rattle.iiop_streams.specs.declared.piece.Trouble.TheVariants as troubles
-use Rattle.iiop_streams.specs.Ends.{written_with}
+use Rattle.iiop_broker.specs.declared.stream_piece.Sent.{Sent}
+use Rattle.iiop_broker.specs.declared.stream_piece.Trouble.{Trouble}
+use Rattle.iiop_broker.specs.declared.stream_piece.Trouble.TheVariants as troubles
+use Rattle.iiop_broker.specs.Ends.{written_with}
 
 -- its answer is written
 pub record IsSent {S : Type 0} (acting : Acting S) (served : Served) (c : ℕ)

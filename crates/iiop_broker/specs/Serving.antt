@@ -6,10 +6,10 @@ use Rattle.broker_talk.specs.Talk.{World}
 use Rattle.broker_answers.specs.Servants.{Acting}
 use Rattle.broker_answers.specs.Objects.{Served}
 use Rattle.iiop_broker.specs.Listed.{IsThere}
-use Rattle.iiop_streams.specs.declared.fault.StreamFault.{StreamFault}
-use Rattle.iiop_streams.specs.declared.fault.StreamFault.TheVariants as faults
-use Rattle.iiop_streams.specs.Courses.{Talked, TalkedInPart}
-use Rattle.iiop_streams.specs.Outcomes.{Ends, IsOutcome}
+use Rattle.iiop_broker.specs.declared.stream_fault.StreamFault.{StreamFault}
+use Rattle.iiop_broker.specs.declared.stream_fault.StreamFault.TheVariants as faults
+use Rattle.iiop_broker.specs.Courses.{Talked, TalkedInPart}
+use Rattle.iiop_broker.specs.Outcomes.{Ends, IsOutcome}
 
 -- nothing changed
 pub record Unchanged {S : Type 0} (before after : World S Stream) (from to : Ends) : Type 0 where

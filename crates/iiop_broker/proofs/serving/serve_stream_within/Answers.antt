@@ -1,10 +1,10 @@
 use Rattle.std.proofs.Common.{subst}
 use Rattle.broker_answers.specs.Servants.{acts}
-use Rattle.iiop_streams.specs.Outcomes.{IsOutcome, ends}
-use Rattle.iiop_streams.specs.Running.{running, running_in_part}
-use Rattle.iiop_streams.proofs.Courses.{begun}
-use Rattle.iiop_streams.proofs.Ending.{end_is_taken, outcome_there, served_of}
-use Rattle.iiop_streams.proofs.serving.serve_stream_within.Goals as goal
+use Rattle.iiop_broker.specs.Outcomes.{IsOutcome, ends}
+use Rattle.iiop_broker.specs.Running.{running, running_in_part}
+use Rattle.iiop_broker.proofs.Courses.{begun}
+use Rattle.iiop_broker.proofs.Ending.{end_is_taken, outcome_there, served_of}
+use Rattle.iiop_broker.proofs.serving.serve_stream_within.Goals as goal
 
 pub unreachable-requires-in-Err-step : goal.unreachable-requires-in-Err-step
 unreachable-requires-in-Err-step g c =

@@ -6,13 +6,13 @@ use Rattle.broker_talk.specs.Talk.{World, rests, kept_or_shut}
 use Rattle.broker_answers.specs.Servants.{Acting}
 use Rattle.broker_answers.specs.Objects.{Served}
 use Rattle.iiop_broker.specs.Listed.{IsThere}
-use Rattle.iiop_streams.specs.declared.piece.Sent.{Sent}
-use Rattle.iiop_streams.specs.Ends.{Gives, IsEmpty, written_with}
-use Rattle.iiop_streams.specs.Courses.{Course, GivenUp}
-use Rattle.iiop_streams.specs.Outcomes.{Ends, Finished, Unread, Unended, Unwritten, Unserved}
-use Rattle.iiop_streams.specs.Pieces.{IsSent, IsStuck, IsGivenUp}
-use Rattle.iiop_streams.proofs.Courses.{course_on, given_up, is_kept}
-use Rattle.iiop_streams.proofs.Written.{written_nothing, written_then}
+use Rattle.iiop_broker.specs.declared.stream_piece.Sent.{Sent}
+use Rattle.iiop_broker.specs.Ends.{Gives, IsEmpty, written_with}
+use Rattle.iiop_broker.specs.Courses.{Course, GivenUp}
+use Rattle.iiop_broker.specs.Outcomes.{Ends, Finished, Unread, Unended, Unwritten, Unserved}
+use Rattle.iiop_broker.specs.StreamPieces.{IsSent, IsStuck, IsGivenUp}
+use Rattle.iiop_broker.proofs.Courses.{course_on, given_up, is_kept}
+use Rattle.iiop_broker.proofs.Written.{written_nothing, written_then}
 
 -- ---- what is read
 

@@ -9,7 +9,7 @@ use Rattle.broker_answers.specs.Objects.{Served}
 use Rattle.broker_answers.specs.Serving.{Moves, Serves}
 use Rattle.broker_answers.proofs.ServedLists.{serves_then}
 use Rattle.iiop_broker.proofs.Places.{at_split, put_split, without_split}
-use Rattle.iiop_streams.specs.Courses.{Course, GivenUp, Talked, TalkedInPart}
+use Rattle.iiop_broker.specs.Courses.{Course, GivenUp, Talked, TalkedInPart}
 
 same_kept : (a b : Stream) → Some a ≡ Some b → a ≡ b
 same_kept a b e = cc

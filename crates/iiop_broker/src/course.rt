@@ -3,14 +3,15 @@
 ghost use Rattle.std.specs.Prelude.{◌≡◌, ℕ, List, [], false};
 ghost use Rattle.broker_talk.specs.Streams.{Stream};
 ghost use Rattle.broker_answers.specs.Servants.{acts};
-ghost use Rattle.iiop_streams.specs.Courses.{Course};
-ghost use Rattle.iiop_streams.specs.Outcomes.{IsOutcome, ends};
-ghost use Rattle.iiop_streams.specs.Running.{IsFresh, running, running_in_part};
+ghost use Rattle.iiop_broker.specs.Courses.{Course};
+ghost use Rattle.iiop_broker.specs.Outcomes.{IsOutcome, ends};
+ghost use Rattle.iiop_broker.specs.Running.{IsFresh, running, running_in_part};
 
+use crate::broker::Broker;
 use crate::ends::{Input, Output};
-use crate::fault::StreamFault;
-use crate::piece::{Trouble, serve_piece};
-use iiop_broker::{Broker, Servant};
+use crate::stream_fault::StreamFault;
+use crate::stream_piece::{Trouble, serve_piece};
+use broker_answers::Servant;
 
 /// Serves what is read until all is read or the broker closes the connection.
 pub(crate) fn serve_course<S: Servant, I: Input, O: Output>(

@@ -1,6 +1,6 @@
 use Rattle.std.proofs.Common.{◌∙◌, arith}
-use Rattle.iiop_streams.proofs.Written.{unstuck, written_more}
-use Rattle.iiop_streams.proofs.sending.send.Goals as goal
+use Rattle.iiop_broker.proofs.Written.{unstuck, written_more}
+use Rattle.iiop_broker.proofs.sending.send.Goals as goal
 
 pub loop-sent-preserved : goal.loop-sent-preserved
 loop-sent-preserved g c =

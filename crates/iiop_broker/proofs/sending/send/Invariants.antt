@@ -1,6 +1,6 @@
 use Rattle.std.proofs.Common.{◌≡◌, ◌≤◌, ◌-◌, length, take}
-use Rattle.iiop_streams.specs.Ends.{written_with}
-use Rattle.iiop_streams.proofs.sending.send.Given as goal
+use Rattle.iiop_broker.specs.Ends.{written_with}
+use Rattle.iiop_broker.proofs.sending.send.Given as goal
 
 abbrev pub invariant-loop-sent : goal.invariant-loop-sent
 invariant-loop-sent g l = record {

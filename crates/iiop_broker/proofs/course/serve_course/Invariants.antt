@@ -2,10 +2,10 @@ use Rattle.std.proofs.Common.{◌≡◌, ◌≤◌, ◌<◌, ◌*◌, ◌^◌, �
 use Rattle.broker_talk.specs.Streams.{Stream}
 use Rattle.broker_answers.specs.Servants.{acts}
 use Rattle.iiop_broker.specs.Listed.{IsThere}
-use Rattle.iiop_streams.specs.Courses.{Course}
-use Rattle.iiop_streams.specs.Outcomes.{ends}
-use Rattle.iiop_streams.proofs.Going.{Going}
-use Rattle.iiop_streams.proofs.course.serve_course.Given as goal
+use Rattle.iiop_broker.specs.Courses.{Course}
+use Rattle.iiop_broker.specs.Outcomes.{ends}
+use Rattle.iiop_broker.proofs.Going.{Going}
+use Rattle.iiop_broker.proofs.course.serve_course.Given as goal
 
 abbrev pub invariant-loop-count : goal.invariant-loop-count
 invariant-loop-count g l = record {

@@ -4,8 +4,8 @@ use Rattle.broker_talk.specs.Streams.{Stream}
 use Rattle.broker_talk.specs.Talk.{World}
 use Rattle.broker_answers.specs.Servants.{Acting}
 use Rattle.broker_answers.specs.Objects.{Served}
-use Rattle.iiop_streams.specs.Courses.{Course, GivenUp}
-use Rattle.iiop_streams.specs.Outcomes.{Telling, TellingInPart}
+use Rattle.iiop_broker.specs.Courses.{Course, GivenUp}
+use Rattle.iiop_broker.specs.Outcomes.{Telling, TellingInPart}
 
 -- nothing has come yet
 pub record IsFresh {S : Type 0} (acting : Acting S) (served : Served) (c : ℕ) (now : World S Stream) : Type 0 where

@@ -2,9 +2,9 @@
 use Rattle.std.specs.Prelude.{◌≡◌, ◌⊎◌, ◌≤◌, ℕ, Bool, true, false, List, ◌++◌, length, take, Option, None, Result, Ok, Err}
 use Rattle.broker_talk.specs.Streams.{Closed, cut}
 use Rattle.broker_talk.specs.Talk.{rests, kept_or_shut}
-use Rattle.iiop_streams.specs.declared.fault.StreamFault.{StreamFault}
-use Rattle.iiop_streams.specs.declared.fault.StreamFault.TheVariants as faults
-use Rattle.iiop_streams.specs.Ends.{Gives, IsEmpty, written_with}
+use Rattle.iiop_broker.specs.declared.stream_fault.StreamFault.{StreamFault}
+use Rattle.iiop_broker.specs.declared.stream_fault.StreamFault.TheVariants as faults
+use Rattle.iiop_broker.specs.Ends.{Gives, IsEmpty, written_with}
 
 -- what a reader and a writer tell: the octets left, the octets written, whether a call has failed
 pub record Ends : Type 0 where

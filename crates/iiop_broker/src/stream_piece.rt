@@ -3,11 +3,14 @@
 ghost use Rattle.std.specs.Prelude.{◌≡◌, IfOk, IfErr, OnOk};
 ghost use Rattle.broker_answers.specs.Servants.{acts};
 ghost use Rattle.iiop_broker.specs.Listed.{IsThere};
-ghost use Rattle.iiop_streams.specs.Pieces.{IsSent, IsTrouble};
+ghost use Rattle.iiop_broker.specs.StreamPieces.{IsSent, IsTrouble};
 
+use crate::broker::Broker;
 use crate::ends::Output;
+use crate::event::Event;
+use crate::fault::BrokerFault;
 use crate::sending::send;
-use iiop_broker::{Broker, BrokerFault, Event, Servant};
+use broker_answers::Servant;
 
 /// An answer that is written.
 #[derive(Drop)]

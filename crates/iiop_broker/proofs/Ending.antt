@@ -10,14 +10,14 @@ use Rattle.iiop_broker.specs.declared.fault.BrokerFault.TheVariants as broken
 use Rattle.iiop_broker.specs.World.{IsRefused}
 use Rattle.iiop_broker.specs.Listed.{IsThere}
 use Rattle.iiop_broker.proofs.Places.{at_split}
-use Rattle.iiop_streams.specs.declared.fault.StreamFault.{StreamFault}
-use Rattle.iiop_streams.specs.declared.fault.StreamFault.TheVariants as faults
-use Rattle.iiop_streams.specs.Courses.{GivenUp}
-use Rattle.iiop_streams.specs.Outcomes.{Ends, IsOutcome}
-use Rattle.iiop_streams.specs.Running.{running, running_in_part}
-use Rattle.iiop_streams.specs.Serving.{IsServed}
-use Rattle.iiop_streams.proofs.Courses.{talked, talked_in_part}
-use Rattle.iiop_streams.proofs.Going.{still_there}
+use Rattle.iiop_broker.specs.declared.stream_fault.StreamFault.{StreamFault}
+use Rattle.iiop_broker.specs.declared.stream_fault.StreamFault.TheVariants as faults
+use Rattle.iiop_broker.specs.Courses.{GivenUp}
+use Rattle.iiop_broker.specs.Outcomes.{Ends, IsOutcome}
+use Rattle.iiop_broker.specs.Running.{running, running_in_part}
+use Rattle.iiop_broker.specs.Serving.{IsServed}
+use Rattle.iiop_broker.proofs.Courses.{talked, talked_in_part}
+use Rattle.iiop_broker.proofs.Going.{still_there}
 
 given_there : {S : Type 0} (acting : Acting S) (served : Served) (c : ℕ) (others : List (ℕ × Stream)) (before : S)
     (octets answer more : List ℕ) (w : World S Stream) → GivenUp acting served c others before octets answer more w

@@ -1,7 +1,7 @@
 //! Where octets come from and go to.
 
 ghost use Rattle.std.specs.Prelude.{◌≡◌, ◌<◌, ◌≤◌, ◌||◌, ℕ, Bool, true, List, Option, length, take, IfOk, OnOk, OnErr};
-ghost use Rattle.iiop_streams.specs.Ends.{Gives, IsEmpty, is_stuck, written_with};
+ghost use Rattle.iiop_broker.specs.Ends.{Gives, IsEmpty, is_stuck, written_with};
 
 /// A call failed.
 #[derive(Clone, Copy, Debug, PartialEq, Eq)]

@@ -2,13 +2,16 @@
 
 ghost use Rattle.std.specs.Prelude.{◌≡◌, false, IfOk, IfErr};
 ghost use Rattle.broker_answers.specs.Servants.{acts};
-ghost use Rattle.iiop_streams.specs.Outcomes.{ends};
-ghost use Rattle.iiop_streams.specs.Serving.{IsServed};
+ghost use Rattle.iiop_broker.specs.Outcomes.{ends};
+ghost use Rattle.iiop_broker.specs.Serving.{IsServed};
 
+use crate::broker::Broker;
 use crate::course::serve_course;
 use crate::ends::{Input, Output};
-use crate::fault::StreamFault;
-use iiop_broker::{Broker, BrokerFault, Event, Servant};
+use crate::event::Event;
+use crate::fault::BrokerFault;
+use crate::stream_fault::StreamFault;
+use broker_answers::Servant;
 
 /// Serves a connection from a reader to a writer, with at most so many reads that give octets: the
 /// connection begins, each piece that is read is answered and its answer written, until all is read

@@ -1,7 +1,7 @@
 //! An answer written whole.
 
 ghost use Rattle.std.specs.Prelude.{◌≡◌, ◌≤◌, true, length, take, IfErr, OnOk};
-ghost use Rattle.iiop_streams.specs.Ends.{IsUnsent, written_with};
+ghost use Rattle.iiop_broker.specs.Ends.{IsUnsent, written_with};
 
 use crate::ends::Output;
 
