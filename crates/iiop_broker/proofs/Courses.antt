@@ -1,9 +1,9 @@
 -- One piece more.
 use Rattle.std.proofs.Common.{◌≡◌, ℕ, Bool, false, List, [], ◌∷◌, ◌++◌, take, Some, None, refl, sym, ap, subst, ◌∙◌, append-nil}
-use Rattle.broker_talk.specs.Streams.{Raw, Cut, Stream, Closed, cut, cut_behind}
-use Rattle.broker_talk.specs.Connections.{at, put, without}
-use Rattle.broker_talk.specs.Talk.{World, rests, kept_or_shut, Opens, Answers, Abandons, Leaves}
-use Rattle.broker_talk.proofs.Cuts.{in_pieces}
+use Rattle.broker_answers.specs.Streams.{Raw, Cut, Stream, Closed, cut, cut_behind}
+use Rattle.broker_answers.specs.Connections.{at, put, without}
+use Rattle.broker_answers.specs.Talk.{World, rests, kept_or_shut, Opens, Answers, Abandons, Leaves}
+use Rattle.broker_answers.proofs.Cuts.{in_pieces}
 use Rattle.broker_answers.specs.Servants.{Acting}
 use Rattle.broker_answers.specs.Objects.{Served}
 use Rattle.broker_answers.specs.Serving.{Moves, Serves}

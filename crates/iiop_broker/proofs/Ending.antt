@@ -1,8 +1,8 @@
 -- The end of a stream that was begun.
 use Rattle.std.proofs.Common.{◌≡◌, inr, ℕ, false, List, [], Some, None, Result, Ok, Err, sym, subst, ◌∙◌}
-use Rattle.broker_talk.specs.Streams.{Stream, Closed}
-use Rattle.broker_talk.specs.Connections.{at}
-use Rattle.broker_talk.specs.Talk.{World, rests, Opens, Leaves, Ends as Leaving}
+use Rattle.broker_answers.specs.Streams.{Stream, Closed}
+use Rattle.broker_answers.specs.Connections.{at}
+use Rattle.broker_answers.specs.Talk.{World, rests, Opens, Leaves, Ends as Leaving}
 use Rattle.broker_answers.specs.Servants.{Acting}
 use Rattle.broker_answers.specs.Objects.{Served}
 use Rattle.iiop_broker.specs.declared.fault.BrokerFault.{BrokerFault}

@@ -1,8 +1,8 @@
 -- A stream that goes on.
 use Rattle.std.proofs.Common.{◌≡◌, inl, inr, ℕ, suc, ◌+◌, ◌≤◌, ◌<◌, Bool, true, false, List, [], ◌∷◌, ◌++◌, length, length-append, take, Option, Some, None, refl, sym, ap, subst, ◌∙◌, append_assoc, append-nil, arith}
-use Rattle.broker_talk.specs.Streams.{Stream, Closed, cut}
-use Rattle.broker_talk.specs.Connections.{at}
-use Rattle.broker_talk.specs.Talk.{World, rests, kept_or_shut}
+use Rattle.broker_answers.specs.Streams.{Stream, Closed, cut}
+use Rattle.broker_answers.specs.Connections.{at}
+use Rattle.broker_answers.specs.Talk.{World, rests, kept_or_shut}
 use Rattle.broker_answers.specs.Servants.{Acting}
 use Rattle.broker_answers.specs.Objects.{Served}
 use Rattle.iiop_broker.specs.Listed.{IsThere}

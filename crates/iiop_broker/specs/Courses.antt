@@ -1,8 +1,8 @@
 -- A connection that is served from its begin to its end.
 use Rattle.std.specs.Prelude.{◌≡◌, ℕ, Bool, false, List, [], ◌∷◌, ◌++◌, take, None}
-use Rattle.broker_talk.specs.Streams.{Stream, Closed, cut}
-use Rattle.broker_talk.specs.Connections.{at}
-use Rattle.broker_talk.specs.Talk.{World, rests, kept_or_shut}
+use Rattle.broker_answers.specs.Streams.{Stream, Closed, cut}
+use Rattle.broker_answers.specs.Connections.{at}
+use Rattle.broker_answers.specs.Talk.{World, rests, kept_or_shut}
 use Rattle.broker_answers.specs.Servants.{Acting}
 use Rattle.broker_answers.specs.Objects.{Served}
 use Rattle.broker_answers.specs.Serving.{Moves, Serves}

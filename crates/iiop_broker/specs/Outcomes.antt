@@ -1,7 +1,7 @@
 -- How a stream ends.
 use Rattle.std.specs.Prelude.{◌≡◌, ◌⊎◌, ◌≤◌, ℕ, Bool, true, false, List, ◌++◌, length, take, Option, None, Result, Ok, Err}
-use Rattle.broker_talk.specs.Streams.{Closed, cut}
-use Rattle.broker_talk.specs.Talk.{rests, kept_or_shut}
+use Rattle.broker_answers.specs.Streams.{Closed, cut}
+use Rattle.broker_answers.specs.Talk.{rests, kept_or_shut}
 use Rattle.iiop_broker.specs.declared.stream_fault.StreamFault.{StreamFault}
 use Rattle.iiop_broker.specs.declared.stream_fault.StreamFault.TheVariants as faults
 use Rattle.iiop_broker.specs.Ends.{Gives, IsEmpty, written_with}

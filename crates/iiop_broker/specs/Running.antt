@@ -1,7 +1,7 @@
 -- A connection that was begun, and what becomes of it.
 use Rattle.std.specs.Prelude.{ℕ, List, [], false}
-use Rattle.broker_talk.specs.Streams.{Stream}
-use Rattle.broker_talk.specs.Talk.{World}
+use Rattle.broker_answers.specs.Streams.{Stream}
+use Rattle.broker_answers.specs.Talk.{World}
 use Rattle.broker_answers.specs.Servants.{Acting}
 use Rattle.broker_answers.specs.Objects.{Served}
 use Rattle.iiop_broker.specs.Courses.{Course, GivenUp}

@@ -1,8 +1,8 @@
 -- A stream that is served from its begin to its end.
 use Rattle.std.specs.Prelude.{◌≡◌, ◌⊎◌, ◌<◌, ◌≤◌, ℕ, length, None, Result, Ok, Err}
-use Rattle.broker_talk.specs.Streams.{Stream}
-use Rattle.broker_talk.specs.Connections.{at, max_connections}
-use Rattle.broker_talk.specs.Talk.{World}
+use Rattle.broker_answers.specs.Streams.{Stream}
+use Rattle.broker_answers.specs.Connections.{at, max_connections}
+use Rattle.broker_answers.specs.Talk.{World}
 use Rattle.broker_answers.specs.Servants.{Acting}
 use Rattle.broker_answers.specs.Objects.{Served}
 use Rattle.iiop_broker.specs.Listed.{IsThere}

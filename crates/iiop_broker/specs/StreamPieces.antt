@@ -1,8 +1,8 @@
 -- One piece that was read.
 use Rattle.std.specs.Prelude.{◌≡◌, ◌↔◌, ◌≤◌, ℕ, Bool, true, List, [], length, take, Option, Some}
-use Rattle.broker_talk.specs.Streams.{Stream, Closed}
-use Rattle.broker_talk.specs.Connections.{at}
-use Rattle.broker_talk.specs.Talk.{World, rests, Answers, Abandons}
+use Rattle.broker_answers.specs.Streams.{Stream, Closed}
+use Rattle.broker_answers.specs.Connections.{at}
+use Rattle.broker_answers.specs.Talk.{World, rests, Answers, Abandons}
 use Rattle.broker_answers.specs.Servants.{Acting}
 use Rattle.broker_answers.specs.Objects.{Served}
 use Rattle.broker_answers.specs.Serving.{Moves, Serves}

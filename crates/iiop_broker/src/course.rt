@@ -1,7 +1,7 @@
 //! A connection that was begun, served from a reader to a writer.
 
 ghost use Rattle.std.specs.Prelude.{◌≡◌, ℕ, List, [], false};
-ghost use Rattle.broker_talk.specs.Streams.{Stream};
+ghost use Rattle.broker_answers.specs.Streams.{Stream};
 ghost use Rattle.broker_answers.specs.Servants.{acts};
 ghost use Rattle.iiop_broker.specs.Courses.{Course};
 ghost use Rattle.iiop_broker.specs.Outcomes.{IsOutcome, ends};

@@ -1,7 +1,7 @@
 -- Connections served one after the other.
 use Rattle.std.proofs.Common.{◌≡◌, inl, inr, ℕ, ◌+◌, List, [], ◌∷◌, ◌++◌, length, Result, Ok, Err, refl, sym, ap, ◌∙◌, subst, append_assoc, append-nil, arith}
-use Rattle.broker_talk.specs.Streams.{Stream}
-use Rattle.broker_talk.specs.Talk.{World, world}
+use Rattle.broker_answers.specs.Streams.{Stream}
+use Rattle.broker_answers.specs.Talk.{World, world}
 use Rattle.broker_answers.specs.Servants.{Acting}
 use Rattle.broker_answers.specs.Objects.{Served}
 use Rattle.iiop_broker.specs.Outcomes.{Ends}

@@ -1,6 +1,6 @@
 -- Connections served one after the other.
 use Rattle.std.specs.Prelude.{◌≡◌, ℕ, ◌<◌, List, [], ◌∷◌, ◌++◌, length, Result, Ok, Err, None, false}
-use Rattle.broker_talk.specs.Talk.{world}
+use Rattle.broker_answers.specs.Talk.{world}
 use Rattle.broker_answers.specs.Servants.{Acting}
 use Rattle.broker_answers.specs.Objects.{Served}
 use Rattle.iiop_broker.specs.Outcomes.{Ends, ends}

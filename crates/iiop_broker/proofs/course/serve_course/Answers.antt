@@ -5,7 +5,7 @@ use Rattle.iiop_broker.specs.Outcomes.{Unwritten, ends}
 use Rattle.iiop_broker.specs.Running.{running}
 use Rattle.iiop_broker.specs.StreamPieces.{IsGivenUp, IsSent, IsStuck, IsTrouble}
 use Rattle.iiop_broker.specs.Courses.{Course}
-use Rattle.broker_talk.specs.Streams.{Stream}
+use Rattle.broker_answers.specs.Streams.{Stream}
 use Rattle.iiop_broker.proofs.Going.{Going, all_read, all_said, going_on, going_start, still_there, stuck, unended, unread, unserved}
 use Rattle.iiop_broker.proofs.course.serve_course.Goals as goal
 

@@ -1,5 +1,5 @@
 use Rattle.std.proofs.Common.{◌≡◌, ◌≤◌, ◌<◌, ◌*◌, ◌^◌, ◌-◌, ℕ, List, [], false, length}
-use Rattle.broker_talk.specs.Streams.{Stream}
+use Rattle.broker_answers.specs.Streams.{Stream}
 use Rattle.broker_answers.specs.Servants.{acts}
 use Rattle.iiop_broker.specs.Listed.{IsThere}
 use Rattle.iiop_broker.specs.Courses.{Course}

@@ -10,7 +10,7 @@ use Rattle.giop_framing.specs.Heads.{head_in}
 use Rattle.giop_framing.specs.Framing.{Front, More, Broken, Piece, Whole, front, front_behind, placed, joined as joined_run, begun, added, breaks, is_other, is_fragment, run_behind}
 use Rattle.giop_framing.specs.Streams.{IsLonger}
 use Rattle.giop_framing.proofs.StreamFacts.{front_longer}
-use Rattle.broker_talk.specs.Streams.{Open, Closed, cut_of, with_message, cut_front, cut_within, cut, cut_behind, joined}
+use Rattle.broker_answers.specs.Streams.{Open, Closed, cut_of, with_message, cut_front, cut_within, cut, cut_behind, joined}
 
 -- what is behind the front is shorter
 abbrev pub IsShorter : List ℕ → Front → Type 0

@@ -1,7 +1,7 @@
 -- What is said on connections that interleave in any way. One step is one event of one connection.
 use Rattle.std.specs.Prelude.{◌≡◌, ℕ, ◌<◌, Bool, true, false, List, [], ◌∷◌, ◌++◌, length, take, drop, Some, None}
-use Rattle.broker_talk.specs.Streams.{Raw, Stream, Open, Closed, cut, cut_behind}
-use Rattle.broker_talk.specs.Connections.{at, put, without, max_connections}
+use Rattle.broker_answers.specs.Streams.{Raw, Stream, Open, Closed, cut, cut_behind}
+use Rattle.broker_answers.specs.Connections.{at, put, without, max_connections}
 
 -- what happens to a connection: it begins; octets come; octets come and are given up after so many messages; it ends
 pub data Event : Type 0 where

@@ -3,10 +3,10 @@ use Rattle.std.proofs.Common.{◌≡◌, ℕ, suc, ◌≤◌, Bool, true, false,
 use Rattle.std.proofs.Common.{Some, None}
 use Rattle.std.proofs.Math.Seq.{drop-append_seam}
 use Rattle.std.proofs.lemmas.List.{length-append}
-use Rattle.broker_talk.specs.Streams.{Stream, Closed, cut, cut_behind}
-use Rattle.broker_talk.specs.Connections.{at, put, without}
-use Rattle.broker_talk.specs.Talk.{Event, Begins, Brings, GivesUp, Ends, Keeping, rests, History, Since, Shut, own, histories, Serving, Moving, World, world, Opens, kept_or_shut, Answers, Abandons, Leaves, Happens, Follows, Says}
-use Rattle.broker_talk.proofs.Cuts.{in_pieces}
+use Rattle.broker_answers.specs.Streams.{Stream, Closed, cut, cut_behind}
+use Rattle.broker_answers.specs.Connections.{at, put, without}
+use Rattle.broker_answers.specs.Talk.{Event, Begins, Brings, GivesUp, Ends, Keeping, rests, History, Since, Shut, own, histories, Serving, Moving, World, world, Opens, kept_or_shut, Answers, Abandons, Leaves, Happens, Follows, Says}
+use Rattle.broker_answers.proofs.Cuts.{in_pieces}
 
 -- two ways to keep connections that tell the same messages
 pub record Alike {C D : Type 0} (one : Keeping C) (other : Keeping D) (Same : C → D → Type 0) : Type 0 where
