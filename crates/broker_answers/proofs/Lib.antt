@@ -1,3 +1,5 @@
+pub mod Cuts
+pub mod SameTalk
 pub mod ExceptionFacts
 pub mod Readings
 pub mod Lookups

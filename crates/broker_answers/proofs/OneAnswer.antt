@@ -12,7 +12,7 @@ use Rattle.giop_messages.specs.Messages.{Asked, Content, Asks, Answers, Cancels,
 use Rattle.giop_messages.specs.Written.{Given, IsWritten}
 use Rattle.giop_messages.proofs.OneMessage.{says_once}
 use Rattle.type_graph.specs.Value.{NoTree}
-use Rattle.broker_talk.specs.Streams.{Raw}
+use Rattle.broker_answers.specs.Streams.{Raw}
 use Rattle.broker_answers.specs.declared.exception.SystemException.{SystemException}
 use Rattle.broker_answers.specs.declared.exception.SystemException.TheVariants as raised
 use Rattle.broker_answers.specs.Servants.{Acting, Call, Said, Done, Raised, NoImplement}

@@ -1,7 +1,7 @@
 -- Messages that are served one after another.
 use Rattle.std.proofs.Common.{◌≡◌, ℕ, Bool, true, false, List, [], ◌∷◌, ◌++◌, refl, sym, ap, subst, ◌∙◌}
 use Rattle.std.proofs.lemmas.List.{append-nil, append_assoc}
-use Rattle.broker_talk.specs.Streams.{Raw}
+use Rattle.broker_answers.specs.Streams.{Raw}
 use Rattle.broker_answers.specs.Servants.{Acting}
 use Rattle.broker_answers.specs.Objects.{Served}
 use Rattle.broker_answers.specs.Serving.{Item, MovesRaw, Moves, ServesRaw, Serves, Unless, closes}

@@ -8,7 +8,7 @@ use Rattle.broker_answers.specs.Servants.{Acting, Call, Said}
 use Rattle.broker_answers.specs.Objects.{Served}
 use Rattle.broker_answers.specs.Findings.{Finding}
 use Rattle.broker_answers.specs.Replies.{Wanted, AllOfIt, Acceptance, Silence, IsAnswer, wanted}
-use Rattle.broker_talk.specs.Streams.{Raw}
+use Rattle.broker_answers.specs.Streams.{Raw}
 use Rattle.broker_answers.specs.Serving.{Item, MovesRaw, MovesRequest}
 
 abbrev pub wanted_by : Wish → Wanted

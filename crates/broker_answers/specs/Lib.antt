@@ -1,3 +1,6 @@
+pub mod Streams
+pub mod Connections
+pub mod Talk
 pub mod Servants
 pub mod Objects
 pub mod Exceptions

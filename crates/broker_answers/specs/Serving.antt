@@ -4,7 +4,7 @@ use Rattle.type_graph.specs.declared.width.Order.TheVariants.{Big}
 use Rattle.giop_messages.specs.Headers.{here_tree, here_number}
 use Rattle.giop_messages.specs.Messages.{Asked, Content, Asks, Answers, Cancels, Seeks, Closes, Fails, Sought, Says}
 use Rattle.giop_messages.specs.Written.{IsWritten, head_octets}
-use Rattle.broker_talk.specs.Streams.{Raw}
+use Rattle.broker_answers.specs.Streams.{Raw}
 use Rattle.broker_answers.specs.Servants.{Call, Said, Acting}
 use Rattle.broker_answers.specs.Objects.{Served, object_with}
 use Rattle.broker_answers.specs.Findings.{Finding, Refuses, Tells, Calls, Finds}

@@ -1,4 +1,5 @@
-//! What a broker answers to messages: objects and their servant, requests and their replies.
+//! What is said on connections that interleave in any way, and what a broker answers to messages:
+//! objects and their servant, requests and their replies.
 #![tactic(auto)]
 
 mod answer;

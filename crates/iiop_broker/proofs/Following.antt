@@ -1,6 +1,6 @@
 -- Messages served one after another.
 use Rattle.std.proofs.Common.{◌≡◌, ℕ, zero, suc, ◌+◌, drop, true, false, List, [], ◌∷◌, ◌++◌, refl, sym, ap, subst, ◌∙◌, append_assoc, append-nil, Result, Ok, Err, OnErr, arith}
-use Rattle.broker_talk.specs.Streams.{Raw, Cut, cut_of}
+use Rattle.broker_answers.specs.Streams.{Raw, Cut, cut_of}
 use Rattle.broker_answers.specs.Servants.{Acting}
 use Rattle.broker_answers.specs.Objects.{Served}
 use Rattle.broker_answers.specs.Serving.{Serves}

@@ -4,3 +4,7 @@ pub mod Places
 pub mod Steps
 pub mod Fit
 pub mod Rests
+pub mod Written
+pub mod Courses
+pub mod Going
+pub mod Ending

@@ -2,8 +2,8 @@
 use Rattle.std.proofs.Common.{◌≡◌, ℕ, zero, suc, ◌+◌, ◌<◌, Bool, true, false, List, [], ◌∷◌, ◌++◌, length, length-append, take, drop, cond, nat_eq, Option, Some, None, slice_get, slice_set, slice_index_or, refl, sym, ap, ap₂, map, option_map, is_some, Bor, ◌∙◌, arith}
 use Rattle.std.proofs.lemmas.Bool.{eq-eqb, eqb-true}
 use Rattle.std.proofs.lemmas.List.{length-map}
-use Rattle.broker_talk.specs.Streams.{Stream}
-use Rattle.broker_talk.specs.Connections.{at, put, without}
+use Rattle.broker_answers.specs.Streams.{Stream}
+use Rattle.broker_answers.specs.Connections.{at, put, without}
 use Rattle.iiop_broker.specs.declared.kept.Kept.{Kept}
 use Rattle.iiop_broker.specs.Kept.{stream_of, streams_of}
 use Rattle.iiop_broker.specs.Listed.{IsPlace, IsThere, place_from}

@@ -1,9 +1,9 @@
 -- Steps of a broker.
 use Rattle.std.proofs.Common.{◌≡◌, ℕ, List, [], ◌++◌, length, take, Option, Some, refl, sym, ap, subst, ◌∙◌}
 use Rattle.std.proofs.Math.Seq.{take-append_seam}
-use Rattle.broker_talk.specs.Streams.{Raw, Stream, Open, Closed, cut}
-use Rattle.broker_talk.specs.Connections.{at, put}
-use Rattle.broker_talk.specs.Talk.{rests, world, Answers, Abandons}
+use Rattle.broker_answers.specs.Streams.{Raw, Stream, Open, Closed, cut}
+use Rattle.broker_answers.specs.Connections.{at, put}
+use Rattle.broker_answers.specs.Talk.{rests, world, Answers, Abandons}
 use Rattle.broker_answers.specs.Servants.{Acting}
 use Rattle.broker_answers.specs.Objects.{Served}
 use Rattle.broker_answers.specs.Serving.{Moves, Serves}

@@ -2,8 +2,8 @@
 use Rattle.std.proofs.Common.{◌≡◌, inl, inr, ℕ, true, false, List, [], ◌∷◌, ◌++◌, drop, Option, Some, None, refl, sym, ap, subst, ◌∙◌}
 use Rattle.giop_framing.specs.declared.fault.FramingFault.{FramingFault}
 use Rattle.giop_framing.specs.Framing.{Broken, Piece, Whole, front}
-use Rattle.broker_talk.specs.Streams.{Raw, Cut, cut}
-use Rattle.broker_talk.proofs.Cuts.{cut_broken, cut_piece, cut_whole}
+use Rattle.broker_answers.specs.Streams.{Raw, Cut, cut}
+use Rattle.broker_answers.proofs.Cuts.{cut_broken, cut_piece, cut_whole}
 use Rattle.broker_answers.specs.Servants.{Acting}
 use Rattle.broker_answers.specs.Objects.{Served}
 use Rattle.broker_answers.specs.Serving.{ServesRaw}

@@ -1,6 +1,6 @@
 -- What is kept of connections.
 use Rattle.std.specs.Prelude.{ℕ, List, map}
-use Rattle.broker_talk.specs.Streams.{Stream, Open, Closed}
+use Rattle.broker_answers.specs.Streams.{Stream, Open, Closed}
 use Rattle.iiop_broker.specs.declared.kept.Kept.{Kept}
 use Rattle.iiop_broker.specs.declared.kept.Kept.TheVariants as kept
 

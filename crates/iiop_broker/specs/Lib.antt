@@ -5,3 +5,9 @@ pub mod Turns
 pub mod World
 pub mod Listed
 pub mod Rests
+pub mod Ends
+pub mod Courses
+pub mod Outcomes
+pub mod StreamPieces
+pub mod Running
+pub mod Serving

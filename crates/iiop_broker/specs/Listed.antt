@@ -1,7 +1,7 @@
 -- The list of connections.
 use Rattle.std.specs.Prelude.{◌≡◌, ℕ, suc, ◌+◌, ◌<◌, ◌≤◌, List, [], ◌∷◌, ◌++◌, length, cond, nat_eq, Option, Some, None}
-use Rattle.broker_talk.specs.Streams.{Stream, Open}
-use Rattle.broker_talk.specs.Connections.{at, without, max_connections}
+use Rattle.broker_answers.specs.Streams.{Stream, Open}
+use Rattle.broker_answers.specs.Connections.{at, without, max_connections}
 use Rattle.iiop_broker.specs.declared.fault.BrokerFault.{BrokerFault}
 use Rattle.iiop_broker.specs.declared.fault.BrokerFault.TheVariants as faults
 

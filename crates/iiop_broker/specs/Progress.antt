@@ -1,7 +1,7 @@
 -- How far the messages of a stream are served.
 use Rattle.std.specs.Prelude.{◌≡◌, ℕ, Bool, true, false, List, ◌++◌}
-use Rattle.broker_talk.specs.Streams.{Raw, Cut, cut_of}
-use Rattle.broker_talk.specs.Talk.{rests, kept_or_shut}
+use Rattle.broker_answers.specs.Streams.{Raw, Cut, cut_of}
+use Rattle.broker_answers.specs.Talk.{rests, kept_or_shut}
 use Rattle.broker_answers.specs.Servants.{Acting}
 use Rattle.broker_answers.specs.Objects.{Served}
 use Rattle.broker_answers.specs.Serving.{Moves, Serves}

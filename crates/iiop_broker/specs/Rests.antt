@@ -1,7 +1,7 @@
 -- What is kept of connections, by their whole histories.
 use Rattle.std.specs.Prelude.{◌≡◌, ℕ, List, [], map, Some, None}
-use Rattle.broker_talk.specs.Streams.{Stream, Closed, cut}
-use Rattle.broker_talk.specs.Talk.{Event, World, world, History, Since, Shut, Serving, Moving, Follows, histories}
+use Rattle.broker_answers.specs.Streams.{Stream, Closed, cut}
+use Rattle.broker_answers.specs.Talk.{Event, World, world, History, Since, Shut, Serving, Moving, Follows, histories}
 
 abbrev pub rest_of : History → Stream
 rest_of (Since octets) = (cut None octets).left

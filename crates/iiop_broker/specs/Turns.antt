@@ -2,7 +2,7 @@
 use Rattle.std.specs.Prelude.{◌≡◌, ℕ, ◌<◌, ◌≤◌, true, false, List, [], length, take, drop, Option, Some, None}
 use Rattle.giop_framing.specs.Framing.{More, Broken, Piece, Whole, front}
 use Rattle.giop_framing.specs.Runs.{IsMessage}
-use Rattle.broker_talk.specs.Streams.{Cut, cut, cut_of, Open}
+use Rattle.broker_answers.specs.Streams.{Cut, cut, cut_of, Open}
 use Rattle.broker_answers.specs.declared.serving.Answer.{Answer}
 use Rattle.broker_answers.specs.Servants.{Acting}
 use Rattle.broker_answers.specs.Objects.{Served}

@@ -1,8 +1,8 @@
 -- The broker, its events and refusals.
 use Rattle.std.specs.Prelude.{◌≡◌, ℕ, ◌<◌, ◌≤◌, List, [], length, Some, None}
-use Rattle.broker_talk.specs.Streams.{Stream}
-use Rattle.broker_talk.specs.Connections.{at, max_connections}
-use Rattle.broker_talk.specs.Talk.{Event, Begins, Brings, GivesUp, Ends, World, rests, Happens}
+use Rattle.broker_answers.specs.Streams.{Stream}
+use Rattle.broker_answers.specs.Connections.{at, max_connections}
+use Rattle.broker_answers.specs.Talk.{Event, Begins, Brings, GivesUp, Ends, World, rests, Happens}
 use Rattle.broker_answers.specs.Servants.{Acting}
 use Rattle.broker_answers.specs.Objects.{Served}
 use Rattle.broker_answers.specs.Serving.{Moves, Serves}

@@ -1,9 +1,9 @@
 //! The broker.
 
 ghost use Rattle.std.specs.Prelude.{◌≡◌, ◌↔◌, [], IfOk, IfErr, IsTrue, Some, is_some};
-ghost use Rattle.broker_talk.specs.Connections.{at};
-ghost use Rattle.broker_talk.specs.Streams.{Closed};
-ghost use Rattle.broker_talk.specs.Talk.{world};
+ghost use Rattle.broker_answers.specs.Connections.{at};
+ghost use Rattle.broker_answers.specs.Streams.{Closed};
+ghost use Rattle.broker_answers.specs.Talk.{world};
 ghost use Rattle.broker_answers.specs.Objects.{AreServed, objects_of, served};
 ghost use Rattle.broker_answers.specs.Servants.{acts};
 ghost use Rattle.iiop_broker.specs.World.{IsRefused, IsStep, broking, event_of};
@@ -29,7 +29,7 @@ pub struct Broker<S> {
 }
 
 impl<S> Model for Broker<S> {
-    ghost use Rattle.broker_talk.specs.Talk.{world};
+    ghost use Rattle.broker_answers.specs.Talk.{world};
     ghost use Rattle.iiop_broker.specs.Kept.{streams_of};
     ghost use Rattle.iiop_broker.specs.World.{Broking, broking};
 

@@ -1,8 +1,8 @@
 //! The connections that are there.
 
 ghost use Rattle.std.specs.Prelude.{◌≡◌, ◌<◌, ◌↔◌, ℕ, length, IfErr, IfNone, IfSome, IsTrue, OnOk, None, Some, is_some, option_map};
-ghost use Rattle.broker_talk.specs.Connections.{at, put, without};
-ghost use Rattle.broker_talk.specs.Streams.{Closed};
+ghost use Rattle.broker_answers.specs.Connections.{at, put, without};
+ghost use Rattle.broker_answers.specs.Streams.{Closed};
 ghost use Rattle.iiop_broker.specs.Kept.{stream_of, streams_of};
 ghost use Rattle.iiop_broker.specs.Listed.{IsBegun, IsLeft, IsNotBegun, IsNotLeft, IsPlace, place_from};
 

@@ -2,7 +2,7 @@
 
 ghost use Rattle.std.specs.Prelude.{◌≡◌, false, IfOk, OnErr, None, Some};
 ghost use Rattle.giop_framing.specs.Runs.{IsMessage};
-ghost use Rattle.broker_talk.specs.Streams.{cut};
+ghost use Rattle.broker_answers.specs.Streams.{cut};
 ghost use Rattle.broker_answers.specs.Answering.{MayMoveRaw};
 ghost use Rattle.broker_answers.specs.Servants.{acts};
 ghost use Rattle.iiop_broker.specs.Progress.{Stopped};

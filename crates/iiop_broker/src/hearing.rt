@@ -1,7 +1,7 @@
 //! All messages of a stream that have come served.
 
 ghost use Rattle.std.specs.Prelude.{◌≡◌, ◌≤◌, length, drop, IfOk, OnErr};
-ghost use Rattle.broker_talk.specs.Streams.{cut};
+ghost use Rattle.broker_answers.specs.Streams.{cut};
 ghost use Rattle.broker_answers.specs.Servants.{acts};
 ghost use Rattle.iiop_broker.specs.Progress.{IsHeard, Stopped};
 ghost use Rattle.iiop_broker.specs.Turns.{IsFollowed};

@@ -1,9 +1,9 @@
 //! The law of brokers, over the definitions alone.
 
 ghost use Rattle.std.specs.Prelude.{ℕ, ◌≤◌, ◌↔◌, List, [], length};
-ghost use Rattle.broker_talk.specs.Connections.{max_connections};
-ghost use Rattle.broker_talk.specs.Streams.{Stream};
-ghost use Rattle.broker_talk.specs.Talk.{Event, Follows, Steps, Talk, World, rests, world};
+ghost use Rattle.broker_answers.specs.Connections.{max_connections};
+ghost use Rattle.broker_answers.specs.Streams.{Stream};
+ghost use Rattle.broker_answers.specs.Talk.{Event, Follows, Steps, Talk, World, rests, world};
 ghost use Rattle.broker_answers.specs.Objects.{Served};
 ghost use Rattle.broker_answers.specs.Servants.{acts};
 ghost use Rattle.broker_answers.specs.Serving.{Moves, Serves};

@@ -1,8 +1,11 @@
-//! A broker: it serves the calls of many connections, whose events may come in any order.
+//! A broker: it serves the calls of many connections, whose events may come in any order, or a
+//! connection from a reader to a writer.
 #![tactic(auto)]
 
 mod broker;
 mod connections;
+mod course;
+mod ends;
 mod event;
 mod fault;
 mod fitting;
@@ -10,11 +13,22 @@ mod front;
 mod hearing;
 mod kept;
 pub mod laws;
+mod memory;
 mod piece;
+mod sending;
+mod serving;
+mod stream_fault;
+mod stream_piece;
 mod taking;
+mod wire;
 
 pub use broker::Broker;
 pub use broker_answers::{Outcome, Servant};
+pub use ends::{Failed, Input, Output};
 pub use event::Event;
 pub use fault::BrokerFault;
 pub use fitting::objects_fit;
+pub use memory::{Sink, Source};
+pub use serving::{MAX_READS, serve_stream, serve_stream_within};
+pub use stream_fault::StreamFault;
+pub use wire::Wire;

@@ -1,7 +1,7 @@
 //! Octets that come on a connection.
 
 ghost use Rattle.std.specs.Prelude.{IfOk, IfErr};
-ghost use Rattle.broker_talk.specs.Talk.{Answers, Brings, rests, world};
+ghost use Rattle.broker_answers.specs.Talk.{Answers, Brings, rests, world};
 ghost use Rattle.broker_answers.specs.Servants.{acts};
 ghost use Rattle.broker_answers.specs.Serving.{Serves};
 ghost use Rattle.iiop_broker.specs.Kept.{streams_of};

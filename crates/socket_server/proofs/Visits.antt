@@ -1,13 +1,13 @@
 -- Connections served one after the other.
 use Rattle.std.proofs.Common.{◌≡◌, inl, inr, ℕ, ◌+◌, List, [], ◌∷◌, ◌++◌, length, Result, Ok, Err, refl, sym, ap, ◌∙◌, subst, append_assoc, append-nil, arith}
-use Rattle.broker_talk.specs.Streams.{Stream}
-use Rattle.broker_talk.specs.Talk.{World, world}
+use Rattle.broker_answers.specs.Streams.{Stream}
+use Rattle.broker_answers.specs.Talk.{World, world}
 use Rattle.broker_answers.specs.Servants.{Acting}
 use Rattle.broker_answers.specs.Objects.{Served}
-use Rattle.iiop_streams.specs.Outcomes.{Ends}
-use Rattle.iiop_streams.specs.Serving.{IsServed}
-use Rattle.iiop_streams.specs.declared.fault.StreamFault.{StreamFault}
-use Rattle.iiop_streams.specs.declared.fault.StreamFault.TheVariants as faults
+use Rattle.iiop_broker.specs.Outcomes.{Ends}
+use Rattle.iiop_broker.specs.Serving.{IsServed}
+use Rattle.iiop_broker.specs.declared.stream_fault.StreamFault.{StreamFault}
+use Rattle.iiop_broker.specs.declared.stream_fault.StreamFault.TheVariants as faults
 use Rattle.socket_server.specs.declared.connections.Interruption.{Interruption}
 use Rattle.socket_server.specs.declared.connections.Interruption.TheVariants.{Unaccepted, NoMemory}
 use Rattle.socket_server.specs.Visits.{AreSeen, AreServed, IsSeen, IsVisit, interruption_of}

@@ -2,7 +2,7 @@
 use Rattle.std.specs.Prelude.{◌≡◌, ℕ, List, [], ◌∷◌, slice_get, Some, None}
 use Rattle.type_model.specs.declared.signatures.Interface.{Interface}
 use Rattle.type_model.specs.ModelRules.{Parts}
-use Rattle.broker_talk.specs.Talk.{world}
+use Rattle.broker_answers.specs.Talk.{world}
 use Rattle.broker_answers.specs.Objects.{Objects, served}
 use Rattle.iiop_broker.specs.World.{Broking, broking}
 use Rattle.attribute_keeper.specs.Keeping.{Keeping, first_keeping}

@@ -1,12 +1,12 @@
 -- Connections served one after the other.
 use Rattle.std.specs.Prelude.{◌≡◌, ℕ, ◌<◌, List, [], ◌∷◌, ◌++◌, length, Result, Ok, Err, None, false}
-use Rattle.broker_talk.specs.Talk.{world}
+use Rattle.broker_answers.specs.Talk.{world}
 use Rattle.broker_answers.specs.Servants.{Acting}
 use Rattle.broker_answers.specs.Objects.{Served}
-use Rattle.iiop_streams.specs.Outcomes.{Ends, ends}
-use Rattle.iiop_streams.specs.Serving.{IsServed}
-use Rattle.iiop_streams.specs.declared.fault.StreamFault.{StreamFault}
-use Rattle.iiop_streams.specs.declared.fault.StreamFault.TheVariants as faults
+use Rattle.iiop_broker.specs.Outcomes.{Ends, ends}
+use Rattle.iiop_broker.specs.Serving.{IsServed}
+use Rattle.iiop_broker.specs.declared.stream_fault.StreamFault.{StreamFault}
+use Rattle.iiop_broker.specs.declared.stream_fault.StreamFault.TheVariants as faults
 use Rattle.socket_server.specs.declared.connections.Interruption.{Interruption}
 use Rattle.socket_server.specs.declared.connections.Interruption.TheVariants.{Unaccepted, NoMemory}
 

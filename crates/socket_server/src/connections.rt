@@ -5,8 +5,7 @@ ghost use Rattle.broker_answers.specs.Servants.{acts};
 ghost use Rattle.socket_server.specs.Visits.{IsSession, IsVisit, interruption_of};
 
 use crate::listener::Listener;
-use iiop_broker::{Broker, Servant};
-use iiop_streams::{StreamFault, serve_stream};
+use iiop_broker::{Broker, Servant, StreamFault, serve_stream};
 
 /// Why not all connections are served.
 #[derive(Clone, Copy, Debug, PartialEq, Eq)]

@@ -1,9 +1,9 @@
 //! Where connections come from.
 
 ghost use Rattle.std.specs.Prelude.{◌≡◌, ◌∷◌, ◌++◌, [], ℕ, List, Option, Some, false, IfOk, OnErr, OnOk};
-ghost use Rattle.iiop_streams.specs.Outcomes.{Ends, ends};
+ghost use Rattle.iiop_broker.specs.Outcomes.{Ends, ends};
 
-use iiop_streams::{Failed, Input, Output};
+use iiop_broker::{Failed, Input, Output};
 
 /// Where connections come from, one after the other. It tells of each connection that came what its
 /// reader and its writer told then, and of the port that is listened on.

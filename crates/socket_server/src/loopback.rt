@@ -4,7 +4,7 @@ ghost use Rattle.std.specs.Prelude.{◌≡◌, false, replicate, IfOk};
 ghost use Rattle.socket_server.specs.Visits.{untold};
 
 use crate::listener::Listener;
-use iiop_streams::{Failed, Wire};
+use iiop_broker::{Failed, Wire};
 use std::net::{Net, OpenListener, OpenStream, TcpListener};
 
 /// Listens on 127.0.0.1. Its connections tell nothing of the octets that they carry.

@@ -1,5 +1,5 @@
 use Rattle.std.proofs.Common.{◌≡◌, drop}
-use Rattle.broker_talk.specs.Connections.{at}
+use Rattle.broker_answers.specs.Connections.{at}
 use Rattle.iiop_broker.specs.Kept.{streams_of}
 use Rattle.iiop_broker.proofs.connections.kept_of.Given as goal
 

@@ -3,7 +3,7 @@ use Rattle.giop_framing.specs.Framing.{Whole, front}
 use Rattle.broker_answers.specs.Servants.{acts}
 use Rattle.broker_answers.specs.Answering.{MayMoveRaw}
 use Rattle.broker_answers.specs.Serving.{ServesRaw}
-use Rattle.broker_talk.specs.Streams.{cut}
+use Rattle.broker_answers.specs.Streams.{cut}
 use Rattle.iiop_broker.specs.Progress.{Stopped}
 use Rattle.broker_answers.proofs.Cases.{if_ok, on_err_map}
 use Rattle.broker_answers.proofs.ServedRaws.{broken}

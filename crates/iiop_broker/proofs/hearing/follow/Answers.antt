@@ -1,6 +1,6 @@
 use Rattle.std.proofs.Common.{◌+◌, ◌∙◌, ◌++◌, List, ℕ, drop, sym, ap, subst, arith}
 use Rattle.std.proofs.lemmas.List.{length-drop}
-use Rattle.broker_talk.specs.Streams.{cut}
+use Rattle.broker_answers.specs.Streams.{cut}
 use Rattle.broker_answers.specs.Servants.{acts}
 use Rattle.iiop_broker.specs.Progress.{Ended, Progress, Stopped}
 use Rattle.iiop_broker.specs.Turns.{IsTurned}

@@ -1,5 +1,5 @@
 use Rattle.std.proofs.Common.{◌≤◌, ◌-◌, length, drop}
-use Rattle.broker_talk.specs.Streams.{cut}
+use Rattle.broker_answers.specs.Streams.{cut}
 use Rattle.broker_answers.specs.Servants.{acts}
 use Rattle.iiop_broker.specs.Progress.{Progress}
 use Rattle.iiop_broker.proofs.hearing.follow.Given as goal

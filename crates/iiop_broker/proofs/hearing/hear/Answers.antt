@@ -1,5 +1,5 @@
 use Rattle.std.proofs.Common.{List, ℕ, true, refl, subst}
-use Rattle.broker_talk.specs.Streams.{cut}
+use Rattle.broker_answers.specs.Streams.{cut}
 use Rattle.broker_answers.specs.Servants.{acts}
 use Rattle.iiop_broker.specs.Turns.{IsFollowed}
 use Rattle.iiop_broker.proofs.Following.{all_ended}

@@ -1,6 +1,6 @@
 use Rattle.std.proofs.Common.{[], arith}
-use Rattle.broker_talk.specs.Talk.{rests, world}
-use Rattle.broker_talk.proofs.Following.{follows_few}
+use Rattle.broker_answers.specs.Talk.{rests, world}
+use Rattle.broker_answers.proofs.SameTalk.{follows_few}
 use Rattle.broker_answers.specs.Servants.{acts}
 use Rattle.broker_answers.specs.Serving.{Moves, Serves}
 use Rattle.iiop_broker.proofs.laws.connections_are_few.Goals as goal

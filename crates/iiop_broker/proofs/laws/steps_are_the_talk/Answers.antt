@@ -1,5 +1,5 @@
-use Rattle.broker_talk.specs.Talk.{histories, rests}
-use Rattle.broker_talk.proofs.Following.{IsLeft, histories_alike, rests_alike, says_same}
+use Rattle.broker_answers.specs.Talk.{histories, rests}
+use Rattle.broker_answers.proofs.SameTalk.{IsLeft, histories_alike, rests_alike, says_same}
 use Rattle.broker_answers.specs.Servants.{acts}
 use Rattle.broker_answers.specs.Serving.{Moves, Serves}
 use Rattle.iiop_broker.proofs.laws.steps_are_the_talk.Goals as goal

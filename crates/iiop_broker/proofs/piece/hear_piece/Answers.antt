@@ -1,6 +1,6 @@
 use Rattle.std.proofs.Common.{◌≡◌, ◌∙◌, ◌++◌, List, ℕ, Some, refl, ap, subst}
-use Rattle.broker_talk.specs.Streams.{Closed, Open, cut}
-use Rattle.broker_talk.specs.Connections.{at, put}
+use Rattle.broker_answers.specs.Streams.{Closed, Open, cut}
+use Rattle.broker_answers.specs.Connections.{at, put}
 use Rattle.broker_answers.specs.Servants.{acts}
 use Rattle.iiop_broker.specs.Kept.{stream_of, streams_of}
 use Rattle.iiop_broker.specs.Listed.{IsPlace}

@@ -1,6 +1,6 @@
 use Rattle.std.proofs.Common.{sym}
 use Rattle.broker_answers.specs.Servants.{acts}
-use Rattle.iiop_streams.specs.Outcomes.{ends}
+use Rattle.iiop_broker.specs.Outcomes.{ends}
 use Rattle.socket_server.proofs.Visits.{seen_of, visit_of}
 use Rattle.socket_server.proofs.connections.serve_next.Goals as goal
 

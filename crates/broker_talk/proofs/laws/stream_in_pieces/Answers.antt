@@ -1,5 +1,0 @@
-use Rattle.broker_talk.proofs.Cuts.{in_pieces}
-use Rattle.broker_talk.proofs.laws.stream_in_pieces.Goals as goal
-
-pub returns : goal.returns
-returns c = λ run octets more. in_pieces run octets more

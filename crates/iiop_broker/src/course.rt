@@ -1,0 +1,57 @@
+//! A connection that was begun, served from a reader to a writer.
+
+ghost use Rattle.std.specs.Prelude.{◌≡◌, ℕ, List, [], false};
+ghost use Rattle.broker_answers.specs.Streams.{Stream};
+ghost use Rattle.broker_answers.specs.Servants.{acts};
+ghost use Rattle.iiop_broker.specs.Courses.{Course};
+ghost use Rattle.iiop_broker.specs.Outcomes.{IsOutcome, ends};
+ghost use Rattle.iiop_broker.specs.Running.{IsFresh, running, running_in_part};
+
+use crate::broker::Broker;
+use crate::ends::{Input, Output};
+use crate::stream_fault::StreamFault;
+use crate::stream_piece::{Trouble, serve_piece};
+use broker_answers::Servant;
+
+/// Serves what is read until all is read or the broker closes the connection.
+pub(crate) fn serve_course<S: Servant, I: Input, O: Output>(
+    broker: &mut Broker<S>,
+    c: u32,
+    reader: &mut I,
+    writer: &mut O,
+    reads: u64,
+) -> Result<(), StreamFault>
+    requires { IsFresh (acts S.says S.after) broker.old.served c broker.old.world }
+    ensures outcome { (others : List (ℕ × Stream)) (before : S) → Course (acts S.says S.after) broker.old.served c others before [] [] false broker.old.world
+        → IsOutcome (running (acts S.says S.after) broker.old.served c others before broker.new.world) (running_in_part (acts S.says S.after) broker.old.served c others before broker.new.world) reads
+        (ends (I.left reader.old) (O.written writer.old) (I.failure reader.old) (O.failure writer.old)) result
+        (ends (I.left reader.new) (O.written writer.new) (I.failure reader.new) (O.failure writer.new)) }
+    ensures served { broker.new.served ≡ broker.old.served }
+{
+    let mut buffer = [0u8; 4096];
+    let mut sent: u128 = 0;
+    let mut count: u64 = 0;
+    while count < reads {
+        let n = match reader.read(&mut buffer) {
+            Ok(0) => return Ok(()),
+            Ok(n) => n,
+            Err(_) => return Err(StreamFault::ReadFailed),
+        };
+        match serve_piece(broker, c, buffer.as_slice().split_at(n).0, writer) {
+            Ok(piece) => {
+                if piece.closed {
+                    return Ok(());
+                }
+                sent += piece.octets as u128;
+            }
+            Err(Trouble::NoMemory) => return Err(StreamFault::NoMemory),
+            Err(Trouble::Stuck(n)) => {
+                return Err(StreamFault::WriteFailed {
+                    sent: sent + n as u128,
+                });
+            }
+        }
+        count += 1;
+    }
+    Err(StreamFault::ReadLimit)
+}

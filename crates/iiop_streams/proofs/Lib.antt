@@ -1,4 +1,0 @@
-pub mod Written
-pub mod Courses
-pub mod Going
-pub mod Ending
