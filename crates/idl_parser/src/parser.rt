@@ -33,11 +33,10 @@ fn read_all<'a>(cursor: &mut Cursor<'a>) -> Result<Vec<Definition<'a>>, Stop>
     ensures { IfOk result (λ d. Whole cursor.old d.items) }
 {
     let definitions = got!(read_definitions(cursor, MAX_LEVELS));
-    if cursor.is_at_end() {
-        Ok(definitions)
-    } else {
-        Err(Stop::Unexpected)
+    if !cursor.is_at_end() {
+        return Err(Stop::Unexpected);
     }
+    Ok(definitions)
 }
 
 /// The tree of an IDL specification, given as its tokens (ISO/IEC 19500-1, IDL grammar).
@@ -54,11 +53,12 @@ pub fn parse<'a>(alloc: Global, tokens: &'a [Token<'a>]) -> Result<Spec<'a>, Par
     ensures levels { IfOk result (λ spec. levels_of spec.definitions.items ≤ 64) }
 {
     let mut cursor = Cursor::new(alloc, tokens);
-    match read_all(&mut cursor) {
-        Ok(definitions) => Ok(Spec {
-            tokens,
-            definitions,
-        }),
-        Err(stop) => Err(told(&cursor, stop)),
-    }
+    let definitions = match read_all(&mut cursor) {
+        Ok(definitions) => definitions,
+        Err(stop) => return Err(told(&cursor, stop)),
+    };
+    Ok(Spec {
+        tokens,
+        definitions,
+    })
 }

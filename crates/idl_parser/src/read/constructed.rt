@@ -12,7 +12,7 @@ ghost use Rattle.idl_tree.specs.TypeLevels.{label_levels, member_levels, case_le
 
 use crate::cursor::Cursor;
 use crate::read::expressions::read_expr;
-use crate::read::lists::{add, first_boxed, read_listed, read_opened};
+use crate::read::lists::{add, first_boxed, read_listed, read_named, read_opened};
 use crate::read::types::{read_declarator, read_enum, read_simple_type, read_switch};
 use crate::stop::Stop;
 use idl_lexer::Kind;
@@ -67,7 +67,7 @@ fn read_labels<'a>(cursor: &mut Cursor<'a>, room: usize) -> Result<Listed<Label<
 
 /// What a type is that declares something, or another one.
 #[derive(Clone, Copy)]
-pub(crate) enum Shape {
+enum Shape {
     Struct,
     Union,
     Enum,
@@ -75,7 +75,7 @@ pub(crate) enum Shape {
 }
 
 /// Which of these types is next.
-pub(crate) fn next_shape(cursor: &Cursor<'_>) -> Shape {
+fn next_shape(cursor: &Cursor<'_>) -> Shape {
     match cursor.text(Kind::Keyword) {
         Some("struct") => Shape::Struct,
         Some("union") => Shape::Union,
@@ -240,8 +240,7 @@ fn read_union_name<'a>(cursor: &mut Cursor<'a>) -> Result<Leaf<'a>, Stop>
     ensures { IfOk result (λ u. Parsed cursor.old
         (keyword (codes "union") ++ identifier u ++ keyword (codes "switch") ++ mark (codes "(")) cursor.new) }
 {
-    got!(cursor.keyword("union"));
-    let name = got!(cursor.identifier());
+    let name = got!(read_named(cursor, "union"));
     got!(cursor.keyword("switch"));
     got!(cursor.mark("("));
     Ok(name)

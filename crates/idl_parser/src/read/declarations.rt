@@ -13,11 +13,9 @@ ghost use Rattle.idl_tree.specs.DefinitionYields.{declaration_yield};
 ghost use Rattle.idl_tree.specs.DefinitionLevels.{declaration_levels};
 
 use crate::cursor::Cursor;
-use crate::read::constructed::{
-    Shape, next_shape, read_members, read_struct, read_type, read_union,
-};
+use crate::read::constructed::{read_members, read_struct, read_type, read_union};
 use crate::read::expressions::read_expr;
-use crate::read::lists::read_listed;
+use crate::read::lists::{read_listed, read_named};
 use crate::read::types::{read_const_type, read_enum};
 use crate::stop::Stop;
 use idl_lexer::Kind;
@@ -25,12 +23,15 @@ use idl_tree::definitions::{Const, Declaration, Except, TypeDcl};
 use idl_tree::names::Leaf;
 use idl_tree::types::Member;
 
+/// The keywords that begin types, constants and exceptions.
+const DECLARED: [&str; 6] = ["typedef", "struct", "union", "enum", "const", "exception"];
+
 /// Whether a type, a constant or an exception is next.
 pub(crate) fn is_declaration(cursor: &Cursor<'_>) -> bool {
-    matches!(
-        cursor.text(Kind::Keyword),
-        Some("typedef" | "struct" | "union" | "enum" | "const" | "exception")
-    )
+    match cursor.text(Kind::Keyword) {
+        Some(word) => DECLARED.contains(&word),
+        None => false,
+    }
 }
 
 /// A declaration that was read. What makes one ends with this function, so that few functions hold one.
@@ -59,8 +60,7 @@ fn read_struct_dcl<'a>(cursor: &mut Cursor<'a>, room: usize) -> Result<Declarati
     ensures levels { IfOk result (λ d. declaration_levels d ≤ room) }
 {
     if cursor.is_ahead() {
-        got!(cursor.keyword("struct"));
-        let name = got!(cursor.identifier());
+        let name = got!(read_named(cursor, "struct"));
         return declared(Declaration::TypeDcl(TypeDcl::StructAhead(name)));
     }
     let structure = got!(read_struct(cursor, room));
@@ -73,8 +73,7 @@ fn read_union_dcl<'a>(cursor: &mut Cursor<'a>, room: usize) -> Result<Declaratio
     ensures levels { IfOk result (λ d. declaration_levels d ≤ room) }
 {
     if cursor.is_ahead() {
-        got!(cursor.keyword("union"));
-        let name = got!(cursor.identifier());
+        let name = got!(read_named(cursor, "union"));
         return declared(Declaration::TypeDcl(TypeDcl::UnionAhead(name)));
     }
     let union = got!(read_union(cursor, room));
@@ -93,12 +92,16 @@ fn read_type_dcl<'a>(cursor: &mut Cursor<'a>, room: usize) -> Result<Declaration
     ensures spells { IfOk result (λ d. Parsed cursor.old (declaration_yield d) cursor.new) }
     ensures levels { IfOk result (λ d. declaration_levels d ≤ room) }
 {
-    match next_shape(cursor) {
-        Shape::Struct => read_struct_dcl(cursor, room),
-        Shape::Union => read_union_dcl(cursor, room),
-        Shape::Enum => read_enum_dcl(cursor, room),
-        Shape::Other => read_typedef(cursor, room),
+    if cursor.is_keyword("struct") {
+        return read_struct_dcl(cursor, room);
     }
+    if cursor.is_keyword("union") {
+        return read_union_dcl(cursor, room);
+    }
+    if cursor.is_keyword("enum") {
+        return read_enum_dcl(cursor, room);
+    }
+    read_typedef(cursor, room)
 }
 
 fn read_const<'a>(cursor: &mut Cursor<'a>, room: usize) -> Result<Declaration<'a>, Stop>
@@ -122,8 +125,7 @@ fn read_except_name<'a>(cursor: &mut Cursor<'a>) -> Result<Leaf<'a>, Stop>
     ensures { IfOk result (λ e. Parsed cursor.old
         (keyword (codes "exception") ++ identifier_yield e ++ mark (codes "{")) cursor.new) }
 {
-    got!(cursor.keyword("exception"));
-    let identifier = got!(cursor.identifier());
+    let identifier = got!(read_named(cursor, "exception"));
     got!(cursor.mark("{"));
     Ok(identifier)
 }

@@ -15,7 +15,7 @@ ghost use Rattle.idl_tree.specs.DefinitionLevels.{definition_levels};
 use crate::cursor::Cursor;
 use crate::read::declarations::{is_declaration, read_declaration};
 use crate::read::interfaces::{read_bases, read_exports};
-use crate::read::lists::{add, read_opened};
+use crate::read::lists::{add, read_named, read_opened};
 use crate::stop::Stop;
 use idl_lexer::Kind;
 use idl_tree::definitions::{Declaration, Definition, Interface, Module};
@@ -75,8 +75,7 @@ fn read_interface<'a>(
     ensures { IfOk result (λ _. Added definition_yield definition_levels room
         definitions.old.items definitions.new.items cursor.old cursor.new) }
 {
-    got!(cursor.keyword("interface"));
-    let identifier = got!(cursor.identifier());
+    let identifier = got!(read_named(cursor, "interface"));
     if cursor.is_mark(";") {
         got!(add_interface(definitions, Interface::Ahead(identifier)));
         return cursor.mark(";");

@@ -97,10 +97,9 @@ fn read_attributes<'a>(cursor: &mut Cursor<'a>, is_readonly: bool) -> Result<Att
         return Ok(silent(is_readonly, identifier, rest));
     }
     if is_readonly {
-        read_readonly(cursor, identifier)
-    } else {
-        read_settable(cursor, identifier)
+        return read_readonly(cursor, identifier);
     }
+    read_settable(cursor, identifier)
 }
 
 fn read_attribute<'a>(cursor: &mut Cursor<'a>, room: usize) -> Result<Attribute<'a>, Stop>

@@ -54,6 +54,14 @@ pub(crate) fn made<T: Drop>(node: Result<T, AllocError>) -> Result<T, Stop>
     }
 }
 
+/// Reads a word and an identifier.
+pub(crate) fn read_named<'a>(cursor: &mut Cursor<'a>, word: &str) -> Result<Leaf<'a>, Stop>
+    ensures { IfOk result (λ l. Parsed cursor.old (keyword word.now ++ identifier l) cursor.new) }
+{
+    got!(cursor.keyword(word));
+    cursor.identifier()
+}
+
 /// Reads a word, an identifier and a brace that opens a level, and how many levels are left inside.
 pub(crate) fn read_opened<'a>(
     cursor: &mut Cursor<'a>,
@@ -64,8 +72,7 @@ pub(crate) fn read_opened<'a>(
         (keyword word.now ++ identifier o.0 ++ mark (codes "{")) cursor.new) }
     ensures levels { IfOk result (λ o. suc o.1 ≡ room) }
 {
-    got!(cursor.keyword(word));
-    let name = got!(cursor.identifier());
+    let name = got!(read_named(cursor, word));
     let left = got!(cursor.open("{", room));
     Ok((name, left))
 }
@@ -90,8 +97,7 @@ pub(crate) fn read_rest<'a, T: Part<'a>>(
     ensures levels { IfOk result (λ parts. highest T.levels_of parts.items ≤ room) }
 {
     let mut rest = Vec::new(cursor.alloc());
-    'parts: while cursor.is_mark(",") {
-        got!(cursor.mark(","));
+    'parts: while cursor.take_mark(",") {
         let part = got!(T::read(cursor, room));
         got!(add(&mut rest, part));
     }

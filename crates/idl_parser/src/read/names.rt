@@ -50,8 +50,7 @@ fn read_parts<'a>(cursor: &mut Cursor<'a>) -> Result<Vec<Leaf<'a>>, Stop>
         (flat_map (λ x. mark (codes "::") ++ identifier x) parts.items) cursor.new) }
 {
     let mut rest = Vec::new(cursor.alloc());
-    'parts: while cursor.is_mark("::") {
-        got!(cursor.mark("::"));
+    'parts: while cursor.take_mark("::") {
         let part = got!(cursor.identifier());
         got!(add(&mut rest, part));
     }

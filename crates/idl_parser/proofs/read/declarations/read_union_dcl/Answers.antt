@@ -1,4 +1,3 @@
-use Rattle.idl_parser.proofs.Parts.{part_then}
 use Rattle.std.proofs.Common.{◌≤◌, arith}
 use Rattle.idl_tree.specs.declared.definitions.Declaration.TheVariants as Declarations
 use Rattle.idl_tree.specs.declared.definitions.TypeDcl.TheVariants as TypeDcls
@@ -10,11 +9,11 @@ use Rattle.idl_parser.proofs.read.declarations.read_union_dcl.Goals as goal
 
 pub returns-then-is_ahead-clause-spells : goal.returns-then-is_ahead-clause-spells
 returns-then-is_ahead-clause-spells c =
-    stated (λ d. Parsed _ (declaration_yield d) _) (Declarations.TypeDcl (TypeDcls.UnionAhead c.in-Ok-identifier.part)) c.declared.result (part_then c.in-Ok.ensures c.in-Ok-identifier.ensures) c.declared.ensures
+    stated (λ d. Parsed _ (declaration_yield d) _) (Declarations.TypeDcl (TypeDcls.UnionAhead c.in-Ok.part)) c.declared.result c.in-Ok.ensures c.declared.ensures
 
 pub returns-then-is_ahead-clause-levels : goal.returns-then-is_ahead-clause-levels
 returns-then-is_ahead-clause-levels c =
-    stated (λ d. declaration_levels d ≤ c.args.room) (Declarations.TypeDcl (TypeDcls.UnionAhead c.in-Ok-identifier.part)) c.declared.result (omega arith) c.declared.ensures
+    stated (λ d. declaration_levels d ≤ c.args.room) (Declarations.TypeDcl (TypeDcls.UnionAhead c.in-Ok.part)) c.declared.result (omega arith) c.declared.ensures
 
 pub returns-clause-spells : goal.returns-clause-spells
 returns-clause-spells c =

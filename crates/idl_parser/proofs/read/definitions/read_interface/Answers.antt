@@ -14,17 +14,17 @@ use Rattle.idl_parser.proofs.read.definitions.read_interface.Goals as goal
 
 pub returns-then-is_mark : goal.returns-then-is_mark
 returns-then-is_mark c =
-    let i = Variants.Ahead c.in-Ok-identifier.part in
+    let i = Variants.Ahead c.in-Ok.part in
     added_ended definition_yield definition_levels c.args.room _ _ _ (interface_yield i) (mark (codes ";")) _ _ (Interfaces i) c.mark.result
-    (part_then c.in-Ok.ensures c.in-Ok-identifier.ensures) refl (omega arith) c.in-Ok-add_interface.ensures c.mark.ensures
+    c.in-Ok.ensures refl (omega arith) c.in-Ok-add_interface.ensures c.mark.ensures
 
 pub returns : goal.returns
 returns c =
     let bases = c.in-Ok-read_bases in
     let exports = c.in-Ok-read_exports in
-    let i = Variants.Defined c.in-Ok-identifier.part bases.part exports.part in
-    let pre = keyword (codes "interface") ++ identifier c.in-Ok-identifier.part ++ optional bases_yield bases.part in
+    let i = Variants.Defined c.in-Ok.part bases.part exports.part in
+    let pre = keyword (codes "interface") ++ identifier c.in-Ok.part ++ optional bases_yield bases.part in
     added_ended definition_yield definition_levels c.args.room _ _ _ (interface_yield i) (mark (codes ";")) _ _ (Interfaces i) c.mark-2.result
     (spelled_as (group_three pre (mark (codes "{")) (flat_map export_yield exports.part.items) (mark (codes "}")))
-    (part_then (part_then_more (part_then c.in-Ok.ensures c.in-Ok-identifier.ensures) bases.ensures) exports.ensures.spells))
+    (part_then (part_then_more c.in-Ok.ensures bases.ensures) exports.ensures.spells))
     refl exports.ensures.levels c.in-Ok-add_interface-2.ensures c.mark-2.ensures

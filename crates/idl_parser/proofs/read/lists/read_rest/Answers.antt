@@ -7,6 +7,6 @@ use Rattle.idl_parser.proofs.read.lists.read_rest.Goals as goal
 
 pub parts-preserved : goal.parts-preserved
 parts-preserved g c = record {
-  spells = one_more (λ x. mark (codes ",") ++ g.T.Part.yield_of x) _ _ _ _ _ _ c.parts.invariant.spells (part_then c.in-Ok.ensures c.in-Ok-read.ensures.spells) c.in-Ok-add.ensures;
-  levels = one_more_level g.T.Part.levels_of _ _ _ _ c.parts.invariant.levels c.in-Ok-read.ensures.levels c.in-Ok-add.ensures;
+  spells = one_more (λ x. mark (codes ",") ++ g.T.Part.yield_of x) _ _ _ _ _ _ c.parts.invariant.spells (part_then c.parts-test.ensures.read c.in-Ok.ensures.spells) c.in-Ok-add.ensures;
+  levels = one_more_level g.T.Part.levels_of _ _ _ _ c.parts.invariant.levels c.in-Ok.ensures.levels c.in-Ok-add.ensures;
 }

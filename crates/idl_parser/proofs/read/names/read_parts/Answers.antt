@@ -8,4 +8,4 @@ use Rattle.idl_parser.proofs.read.names.read_parts.Goals as goal
 pub parts-preserved : goal.parts-preserved
 parts-preserved c =
     one_more (λ x. mark (codes "::") ++ identifier x) _ _ _ _ _ _ c.parts.invariant
-    (then_read _ _ _ _ _ c.in-Ok.ensures c.in-Ok-identifier.ensures) c.in-Ok-add.ensures
+    (then_read _ _ _ _ _ c.parts-test.ensures.read c.in-Ok.ensures) c.in-Ok-add.ensures
