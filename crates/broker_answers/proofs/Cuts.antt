@@ -3,13 +3,13 @@ use Rattle.std.proofs.Common.{◌≡◌, ℕ, zero, suc, ◌+◌, ◌<◌, ◌�
 use Rattle.std.proofs.Common.{Option, Some, None, Result, Ok, Err, nat_lt, if◌then◌else◌}
 use Rattle.std.proofs.lemmas.List.{length-append, length-drop}
 use Rattle.std.proofs.lemmas.Bool.{ltb-false}
-use Rattle.giop_framing.specs.declared.fault.FramingFault.{FramingFault}
-use Rattle.giop_framing.specs.declared.fault.FramingFault.TheVariants.{BadFragment}
-use Rattle.giop_framing.specs.declared.head.Head.{Head}
-use Rattle.giop_framing.specs.Heads.{head_in}
-use Rattle.giop_framing.specs.Framing.{Front, More, Broken, Piece, Whole, front, front_behind, placed, joined as joined_run, begun, added, breaks, is_other, is_fragment, run_behind}
-use Rattle.giop_framing.specs.Streams.{IsLonger}
-use Rattle.giop_framing.proofs.StreamFacts.{front_longer}
+use Rattle.giop_messages.specs.declared.fault.FramingFault.{FramingFault}
+use Rattle.giop_messages.specs.declared.fault.FramingFault.TheVariants.{BadFragment}
+use Rattle.giop_messages.specs.declared.head.Head.{Head}
+use Rattle.giop_messages.specs.Heads.{head_in}
+use Rattle.giop_messages.specs.Framing.{Front, More, Broken, Piece, Whole, front, front_behind, placed, joined as joined_run, begun, added, breaks, is_other, is_fragment, run_behind}
+use Rattle.giop_messages.specs.Streams.{IsLonger}
+use Rattle.giop_messages.proofs.StreamFacts.{front_longer}
 use Rattle.broker_answers.specs.Streams.{Open, Closed, cut_of, with_message, cut_front, cut_within, cut, cut_behind, joined}
 
 -- what is behind the front is shorter

@@ -12,7 +12,7 @@ use Rattle.type_graph.specs.Words.{pad, word, writing}
 use Rattle.type_graph.specs.Value.{Tree, Number, Bytes, Items, NoTree, AndTree, node_at, Fits, IsText, tape_of}
 use Rattle.type_graph.specs.GraphRules.{IsGraph}
 use Rattle.giop_types.specs.TapeParts.{counted}
-use Rattle.giop_framing.specs.Heads.{max_size}
+use Rattle.giop_messages.specs.Heads.{max_size}
 use Rattle.giop_types.specs.GiopNodes.{giop_nodes}
 use Rattle.giop_types.specs.Fields.{Holds}
 use Rattle.giop_types.proofs.Writings.{encodes_once}

@@ -8,7 +8,7 @@ use Rattle.type_model.specs.declared.signatures.Operation.{Operation}
 use Rattle.type_model.specs.declared.signatures.Exception.{Exception}
 use Rattle.type_model.specs.ModelRules.{Parts}
 use Rattle.giop_types.specs.TapeParts.{counted, IsCounted}
-use Rattle.giop_framing.specs.Heads.{max_size}
+use Rattle.giop_messages.specs.Heads.{max_size}
 use Rattle.giop_types.specs.GiopNodes.{giop_nodes}
 use Rattle.giop_messages.specs.declared.message.ReplyStatus.{ReplyStatus}
 use Rattle.giop_messages.specs.declared.message.ReplyStatus.TheVariants.{NoException, UserException, SystemException as Systemic}

@@ -1,6 +1,6 @@
 -- The octets of a connection, cut into messages.
 use Rattle.std.specs.Prelude.{ℕ, zero, suc, List, [], ◌∷◌, ◌++◌, length, Option, Some, None}
-use Rattle.giop_framing.specs.Framing.{Front, More, Broken, Piece, Whole, front}
+use Rattle.giop_messages.specs.Framing.{Front, More, Broken, Piece, Whole, front}
 
 -- What stands in a stream: the octets of a whole message, or none, where a head or a rule of fragments is broken. All
 -- fragments of a request are one message, which stands where its last fragment does.

@@ -1,7 +1,7 @@
 //! Whole messages served.
 
 ghost use Rattle.std.specs.Prelude.{◌≡◌, ◌⊎◌, false, true, IfOk, OnErr, Some};
-ghost use Rattle.giop_framing.specs.Runs.{IsMessage};
+ghost use Rattle.giop_messages.specs.Runs.{IsMessage};
 ghost use Rattle.giop_messages.specs.Messages.{content_of};
 ghost use Rattle.broker_answers.specs.Answering.{MayMoveRaw};
 ghost use Rattle.broker_answers.specs.Servants.{acts};
@@ -10,7 +10,7 @@ ghost use Rattle.broker_answers.specs.Serving.{ServesRaw, closes as closes_item,
 use crate::servant::Servant;
 use crate::service::Service;
 use giop::Message;
-use giop_framing::Head;
+use giop_messages::Head;
 use std::alloc::{AllocError, Global};
 
 /// The answer to a message, and whether the connection is closed then.

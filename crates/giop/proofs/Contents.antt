@@ -2,9 +2,9 @@
 use Rattle.std.proofs.Common.{◌≡◌, ℕ, List, Option, Some, None, Ok, IfNone, IfSome, sym, ap, ◌∙◌, subst}
 use Rattle.type_graph.specs.declared.width.Order.{Order}
 use Rattle.type_graph.specs.Value.{Tree}
-use Rattle.giop_framing.specs.declared.head.Kind.TheVariants as kinds
-use Rattle.giop_framing.specs.declared.head.Head.{Head}
-use Rattle.giop_framing.specs.Runs.{IsMessage}
+use Rattle.giop_messages.specs.declared.head.Kind.TheVariants as kinds
+use Rattle.giop_messages.specs.declared.head.Head.{Head}
+use Rattle.giop_messages.specs.Runs.{IsMessage}
 use Rattle.giop_messages.specs.declared.message.Request.{Request}
 use Rattle.giop_messages.specs.Headers.{IsKeyOf, request_tree, locate_tree}
 use Rattle.giop_messages.specs.Messages.{Asked, Answered, Sought, IsWhole, HasHeader, HasBody, IsRequest, IsReply, IsCancel, IsLocate, asked_of}

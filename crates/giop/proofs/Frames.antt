@@ -1,12 +1,12 @@
 -- Frames as pieces of runs and as whole messages.
 use Rattle.std.proofs.Common.{◌≡◌, ◌⊎◌, inl, inr, ℕ, Bool, true, false, not, List, take, drop, Option, Some, None, IsSomeAnd, refl, sym, ap, ◌∙◌, subst}
 use Rattle.std.specs.Prelude.{if◌then◌else◌}
-use Rattle.giop_framing.specs.declared.head.Head.{Head}
-use Rattle.giop_framing.specs.declared.frame.Frame.{Frame}
-use Rattle.giop_framing.specs.Heads.{number_in}
-use Rattle.giop_framing.specs.Framing.{Piece, Whole, front, placed, joined, begun, added, run_behind, is_fragment, id_in}
-use Rattle.giop_framing.specs.Runs.{IsNext, IsFrame}
-use Rattle.giop_framing.proofs.HeadFacts.{order_is}
+use Rattle.giop_messages.specs.declared.head.Head.{Head}
+use Rattle.giop_messages.specs.declared.frame.Frame.{Frame}
+use Rattle.giop_messages.specs.Heads.{number_in}
+use Rattle.giop_messages.specs.Framing.{Piece, Whole, front, placed, joined, begun, added, run_behind, is_fragment, id_in}
+use Rattle.giop_messages.specs.Runs.{IsNext, IsFrame}
+use Rattle.giop_messages.proofs.HeadFacts.{order_is}
 use Rattle.giop_messages.specs.declared.message.Message.{Message}
 use Rattle.giop_messages.specs.Messages.{Content, Says, content_of}
 use Rattle.giop.specs.Fronts.{IsPart, IsWhole, IsSilent, numbered, with_piece}

@@ -5,7 +5,7 @@ use Rattle.type_graph.specs.declared.width.Order.{Order}
 use Rattle.program_runner.specs.declared.fault.RunFault.{RunFault}
 use Rattle.program_runner.specs.declared.fault.RunFault.TheVariants as runs
 use Rattle.program_runner.specs.Refusal.{OnlyIf}
-use Rattle.giop_framing.specs.Heads.{max_size}
+use Rattle.giop_messages.specs.Heads.{max_size}
 use Rattle.giop_messages.specs.declared.fault.GiopFault.{GiopFault}
 use Rattle.giop_messages.specs.declared.fault.GiopFault.TheVariants as faults
 use Rattle.giop_messages.specs.Faults.{IsMemoryOr}

@@ -11,12 +11,12 @@ use Rattle.type_graph.specs.Words.{reading, writing, plain_word, pad}
 use Rattle.type_graph.specs.Value.{Tree, NoTree}
 use Rattle.type_graph.specs.Encoding.{Means}
 use Rattle.type_graph.proofs.WrittenRead.{written_is_read}
-use Rattle.giop_framing.specs.declared.fault.FramingFault.{FramingFault}
-use Rattle.giop_framing.specs.declared.fault.FramingFault.TheVariants.{TooLong}
-use Rattle.giop_framing.specs.declared.head.Kind.{Kind}
-use Rattle.giop_framing.specs.declared.head.Kind.TheVariants as kinds
-use Rattle.giop_framing.specs.declared.head.Head.{Head}
-use Rattle.giop_framing.specs.Heads.{head_in, max_size, number_in}
+use Rattle.giop_messages.specs.declared.fault.FramingFault.{FramingFault}
+use Rattle.giop_messages.specs.declared.fault.FramingFault.TheVariants.{TooLong}
+use Rattle.giop_messages.specs.declared.head.Kind.{Kind}
+use Rattle.giop_messages.specs.declared.head.Kind.TheVariants as kinds
+use Rattle.giop_messages.specs.declared.head.Head.{Head}
+use Rattle.giop_messages.specs.Heads.{head_in, max_size, number_in}
 use Rattle.giop_types.specs.Fields.{Holds, octet_trees}
 use Rattle.object_references.proofs.Encapsulated.{held_read}
 use Rattle.giop_messages.specs.declared.message.ReplyStatus.{ReplyStatus}

@@ -1,11 +1,11 @@
 -- What is told of the front of a stream, while a run may be open.
 use Rattle.std.specs.Prelude.{◌≡◌, ◌⊎◌, ℕ, ◌≤◌, Bool, true, false, List, length, take, drop, Option, Some, None, IsSomeAnd}
 use Rattle.type_graph.specs.declared.width.Order.{Order}
-use Rattle.giop_framing.specs.declared.fault.FramingFault.{FramingFault}
-use Rattle.giop_framing.specs.declared.fault.FramingFault.TheVariants.{BadFragment}
-use Rattle.giop_framing.specs.Heads.{number_in}
-use Rattle.giop_framing.specs.Framing.{Front, More, Broken, Piece, Whole, front, begun, added, id_in}
-use Rattle.giop_framing.specs.Runs.{IsFirst, IsNext}
+use Rattle.giop_messages.specs.declared.fault.FramingFault.{FramingFault}
+use Rattle.giop_messages.specs.declared.fault.FramingFault.TheVariants.{BadFragment}
+use Rattle.giop_messages.specs.Heads.{number_in}
+use Rattle.giop_messages.specs.Framing.{Front, More, Broken, Piece, Whole, front, begun, added, id_in}
+use Rattle.giop_messages.specs.Runs.{IsFirst, IsNext}
 use Rattle.giop_messages.specs.declared.fault.GiopFault.{GiopFault}
 use Rattle.giop_messages.specs.declared.fault.GiopFault.TheVariants as faults
 use Rattle.giop_messages.specs.declared.message.Message.{Message}

@@ -6,7 +6,7 @@ use Rattle.type_graph.specs.declared.width.Order.{Order}
 use Rattle.type_graph.specs.declared.node.Node.{Node}
 use Rattle.type_graph.specs.Words.{writing}
 use Rattle.type_graph.specs.Encoding.{Means}
-use Rattle.giop_framing.specs.Heads.{max_size}
+use Rattle.giop_messages.specs.Heads.{max_size}
 use Rattle.giop_types.specs.GiopNodes.{giop_nodes}
 use Rattle.giop_messages.specs.declared.fault.GiopFault.{GiopFault}
 use Rattle.giop_messages.specs.declared.fault.GiopFault.TheVariants as faults

@@ -3,7 +3,7 @@ use Rattle.std.specs.Prelude.{ℕ, ◌+◌, ◌<◌, List, length, Option}
 use Rattle.type_graph.specs.declared.width.Order.{Order}
 use Rattle.type_graph.specs.Words.{writing}
 use Rattle.type_graph.specs.Value.{Tree}
-use Rattle.giop_framing.specs.Heads.{max_size}
+use Rattle.giop_messages.specs.Heads.{max_size}
 use Rattle.giop_types.specs.Fields.{Holds}
 use Rattle.giop_messages.specs.declared.fault.GiopFault.{GiopFault}
 use Rattle.giop_messages.specs.declared.fault.GiopFault.TheVariants as faults

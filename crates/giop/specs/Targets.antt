@@ -3,7 +3,7 @@ use Rattle.std.specs.Prelude.{◌≡◌, ℕ, List, Option, Some, None}
 use Rattle.type_graph.specs.Value.{Tree, Trees}
 use Rattle.giop_types.specs.TapeParts.{pair_of}
 use Rattle.giop_messages.specs.Headers.{IsKeyOf, request_tree, reply_tree, locate_tree, number_of}
-use Rattle.giop_framing.specs.declared.head.Head.{Head}
+use Rattle.giop_messages.specs.declared.head.Head.{Head}
 use Rattle.giop_messages.specs.declared.message.Request.{Request}
 use Rattle.giop.specs.Tapes.{IsIn}
 use Rattle.giop.specs.declared.reading.target.Target.{Target}

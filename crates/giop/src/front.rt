@@ -1,15 +1,14 @@
 //! What stands at the front of a stream.
 
 ghost use Rattle.std.specs.Prelude.{◌≡◌, ◌≤◌, length, option_map, None, IfOk, IfErr};
-ghost use Rattle.giop_framing.specs.Framing.{id_in, is_fragment};
-ghost use Rattle.giop_framing.specs.Heads.{number_in};
-ghost use Rattle.giop_framing.specs.Runs.{IsFrame, IsMessage};
+ghost use Rattle.giop_messages.specs.Framing.{id_in, is_fragment};
+ghost use Rattle.giop_messages.specs.Heads.{number_in};
+ghost use Rattle.giop_messages.specs.Runs.{IsFrame, IsMessage};
 ghost use Rattle.giop.specs.Fronts.{IsFound, IsRefused, numbered};
 
 use crate::giop_calls::Giop;
 use byteorder::{BigEndian, ByteOrder, LittleEndian};
-use giop_framing::{Frame, HEAD_LEN, Run, frame_in};
-use giop_messages::{GiopFault, Message};
+use giop_messages::{Frame, GiopFault, HEAD_LEN, Message, Run, frame_in};
 use std::alloc::Global;
 use type_graph::Order;
 

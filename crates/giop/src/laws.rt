@@ -3,7 +3,7 @@
 ghost use Rattle.std.specs.Prelude.{ℕ, ◌≤◌, ◌+◌, List, [], ◌∷◌, length, Option};
 ghost use Rattle.type_graph.specs.declared.width.Order.{Order};
 ghost use Rattle.type_graph.specs.Value.{NoTree};
-ghost use Rattle.giop_framing.specs.Heads.{max_size};
+ghost use Rattle.giop_messages.specs.Heads.{max_size};
 ghost use Rattle.giop_types.specs.Fields.{octet_trees};
 ghost use Rattle.giop_messages.specs.declared.message.ReplyStatus.{ReplyStatus};
 ghost use Rattle.giop_messages.specs.Headers.{key_target, number_of, reply_tree, request_tree};

@@ -11,7 +11,6 @@ mod writing;
 
 pub use front::Front;
 pub use giop_calls::Giop;
-pub use giop_framing::Run;
-pub use giop_messages::{GiopFault, Locate, Message, Reply, ReplyStatus, Request};
+pub use giop_messages::{GiopFault, Locate, Message, Reply, ReplyStatus, Request, Run};
 pub use object_references::{Ior, ReferenceFault};
 pub use writing::body::Body;

@@ -1,6 +1,6 @@
 //! The texts of the faults: each has its number and its name.
 
-use giop_framing::FramingFault;
+use giop_messages::FramingFault;
 use object_references::ReferenceFault;
 use std::test::Fail;
 

@@ -1,6 +1,6 @@
 //! Requests in pieces.
 
-use giop_framing::{FramingFault, MAX_SIZE, Run, frame_in};
+use giop_messages::{FramingFault, MAX_SIZE, Run, frame_in};
 use std::alloc::Global;
 use std::test::Fail;
 

@@ -6,9 +6,9 @@ use Rattle.type_graph.specs.Value.{Tree, node_at}
 use Rattle.giop_types.proofs.GraphFacts.{giop_is_graph}
 use Rattle.type_graph.proofs.OneTape.{graph_fits_words}
 use Rattle.type_graph.proofs.OneReading.{one_reading}
-use Rattle.giop_framing.specs.declared.head.Kind.{Kind}
-use Rattle.giop_framing.specs.declared.head.Kind.TheVariants as kinds
-use Rattle.giop_framing.specs.declared.head.Head.{Head}
+use Rattle.giop_messages.specs.declared.head.Kind.{Kind}
+use Rattle.giop_messages.specs.declared.head.Kind.TheVariants as kinds
+use Rattle.giop_messages.specs.declared.head.Head.{Head}
 use Rattle.giop_types.specs.GiopNodes.{giop_nodes}
 use Rattle.object_references.specs.Profiles.{HasKey}
 use Rattle.giop_messages.specs.Headers.{IsKeyOf, request_tree, reply_tree, cancel_tree, locate_tree, number_of}

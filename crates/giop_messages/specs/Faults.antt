@@ -1,7 +1,7 @@
 -- What faults say.
 use Rattle.std.specs.Prelude.{◌≡◌}
-use Rattle.giop_framing.specs.declared.fault.FramingFault.{FramingFault}
-use Rattle.giop_framing.specs.declared.fault.FramingFault.TheVariants as framing
+use Rattle.giop_messages.specs.declared.fault.FramingFault.{FramingFault}
+use Rattle.giop_messages.specs.declared.fault.FramingFault.TheVariants as framing
 use Rattle.giop_messages.specs.declared.fault.GiopFault.{GiopFault}
 use Rattle.giop_messages.specs.declared.fault.GiopFault.TheVariants as faults
 

@@ -3,10 +3,10 @@ use Rattle.std.specs.Prelude.{◌≡◌, ℕ, ◌+◌, false, List, ◌++◌, le
 use Rattle.type_graph.specs.declared.width.Order.{Order}
 use Rattle.type_graph.specs.Words.{reading, pad}
 use Rattle.type_graph.specs.Value.{Tree, Trees}
-use Rattle.giop_framing.specs.declared.head.Kind.{Kind}
-use Rattle.giop_framing.specs.declared.head.Kind.TheVariants as kinds
-use Rattle.giop_framing.specs.declared.head.Head.{Head}
-use Rattle.giop_framing.specs.Runs.{IsMessage}
+use Rattle.giop_messages.specs.declared.head.Kind.{Kind}
+use Rattle.giop_messages.specs.declared.head.Kind.TheVariants as kinds
+use Rattle.giop_messages.specs.declared.head.Head.{Head}
+use Rattle.giop_messages.specs.Runs.{IsMessage}
 use Rattle.giop_types.specs.Fields.{Holds}
 use Rattle.giop_messages.specs.Headers.{IsKeyOf, request_tree, reply_tree, cancel_tree, locate_tree, number_of}
 use Rattle.giop_messages.specs.declared.message.ReplyStatus.{ReplyStatus}

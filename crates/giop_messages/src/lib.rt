@@ -1,10 +1,16 @@
-//! What GIOP 1.2 messages say (ISO/IEC 19500-2, GIOP message formats): their types and definitions,
-//! and the laws of these.
+//! What GIOP 1.2 messages are (ISO/IEC 19500-2, GIOP message formats): their heads in a stream,
+//! requests that come in fragments, what their bodies say, and the laws of these.
 #![tactic(auto)]
 
 mod fault;
+mod frame;
+mod head;
 pub mod laws;
 mod message;
+mod run;
 
-pub use fault::GiopFault;
+pub use fault::{FramingFault, GiopFault};
+pub use frame::{Frame, frame_in};
+pub use head::{HEAD_LEN, Head, Kind, MAX_SIZE};
 pub use message::{Locate, Message, Reply, ReplyStatus, Request};
+pub use run::Run;

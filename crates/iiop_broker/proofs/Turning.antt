@@ -1,7 +1,7 @@
 -- What becomes of a stream by what stands at its front.
 use Rattle.std.proofs.Common.{◌≡◌, inl, inr, ℕ, true, false, List, [], ◌∷◌, ◌++◌, drop, Option, Some, None, refl, sym, ap, subst, ◌∙◌}
-use Rattle.giop_framing.specs.declared.fault.FramingFault.{FramingFault}
-use Rattle.giop_framing.specs.Framing.{Broken, Piece, Whole, front}
+use Rattle.giop_messages.specs.declared.fault.FramingFault.{FramingFault}
+use Rattle.giop_messages.specs.Framing.{Broken, Piece, Whole, front}
 use Rattle.broker_answers.specs.Streams.{Raw, Cut, cut}
 use Rattle.broker_answers.proofs.Cuts.{cut_broken, cut_piece, cut_whole}
 use Rattle.broker_answers.specs.Servants.{Acting}

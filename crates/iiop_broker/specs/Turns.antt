@@ -1,7 +1,7 @@
 -- One piece or message at the front of a stream.
 use Rattle.std.specs.Prelude.{◌≡◌, ℕ, ◌<◌, ◌≤◌, true, false, List, [], length, take, drop, Option, Some, None}
-use Rattle.giop_framing.specs.Framing.{More, Broken, Piece, Whole, front}
-use Rattle.giop_framing.specs.Runs.{IsMessage}
+use Rattle.giop_messages.specs.Framing.{More, Broken, Piece, Whole, front}
+use Rattle.giop_messages.specs.Runs.{IsMessage}
 use Rattle.broker_answers.specs.Streams.{Cut, cut, cut_of, Open}
 use Rattle.broker_answers.specs.declared.serving.Answer.{Answer}
 use Rattle.broker_answers.specs.Servants.{Acting}

@@ -1,7 +1,7 @@
 //! One piece or message served.
 
 ghost use Rattle.std.specs.Prelude.{◌≡◌, false, IfOk, OnErr, None, Some};
-ghost use Rattle.giop_framing.specs.Runs.{IsMessage};
+ghost use Rattle.giop_messages.specs.Runs.{IsMessage};
 ghost use Rattle.broker_answers.specs.Streams.{cut};
 ghost use Rattle.broker_answers.specs.Answering.{MayMoveRaw};
 ghost use Rattle.broker_answers.specs.Servants.{acts};
@@ -10,7 +10,7 @@ ghost use Rattle.iiop_broker.specs.Turns.{IsServedTurn, IsTurnOf, IsTurned};
 
 use crate::taking::{Taken, take_front};
 use broker_answers::{Answer, Servant, Service};
-use giop_framing::{Head, Run};
+use giop_messages::{Head, Run};
 use std::alloc::{AllocError, Global};
 
 /// What becomes of a stream by what stands at its front.

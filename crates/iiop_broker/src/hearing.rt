@@ -9,7 +9,7 @@ ghost use Rattle.iiop_broker.specs.Turns.{IsFollowed};
 use crate::front::{Turn, serve_front};
 use crate::kept::Kept;
 use broker_answers::{Servant, Service};
-use giop_framing::Run;
+use giop_messages::Run;
 use std::alloc::{AllocError, Global};
 
 /// The answers, joined, and what is kept of the connection.

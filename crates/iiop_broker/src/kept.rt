@@ -1,6 +1,6 @@
 //! What is kept of a connection.
 
-use giop_framing::Run;
+use giop_messages::Run;
 
 /// What is kept of a connection.
 #[derive(Drop)]

@@ -1,13 +1,13 @@
 //! What is taken from the front of a stream.
 
 ghost use Rattle.std.specs.Prelude.{◌≡◌, ◌≤◌, length, drop, true, IfOk};
-ghost use Rattle.giop_framing.specs.Framing.{cancels as cancels_run, is_fragment, run_behind};
-ghost use Rattle.giop_framing.specs.Heads.{number_in};
-ghost use Rattle.giop_framing.specs.Runs.{IsFrame, IsMessage};
+ghost use Rattle.giop_messages.specs.Framing.{cancels as cancels_run, is_fragment, run_behind};
+ghost use Rattle.giop_messages.specs.Heads.{number_in};
+ghost use Rattle.giop_messages.specs.Runs.{IsFrame, IsMessage};
 ghost use Rattle.iiop_broker.specs.Turns.{IsTaken};
 
 use byteorder::{BigEndian, ByteOrder, LittleEndian};
-use giop_framing::{Frame, FramingFault, HEAD_LEN, Head, Kind, Run, frame_in};
+use giop_messages::{Frame, FramingFault, HEAD_LEN, Head, Kind, Run, frame_in};
 use std::alloc::{AllocError, Global};
 use type_graph::Order;
 

@@ -1,8 +1,8 @@
 //! Whole messages read.
 
 ghost use Rattle.std.specs.Prelude.{◌≡◌, ◌≤◌, ℕ, List, length, false, IfOk, IfSome, IfNone};
-ghost use Rattle.giop_framing.specs.declared.head.Kind.TheVariants as kinds;
-ghost use Rattle.giop_framing.specs.Runs.{IsMessage};
+ghost use Rattle.giop_messages.specs.declared.head.Kind.TheVariants as kinds;
+ghost use Rattle.giop_messages.specs.Runs.{IsMessage};
 ghost use Rattle.type_graph.specs.Value.{Tree};
 ghost use Rattle.giop_messages.specs.Headers.{IsKeyOf};
 ghost use Rattle.giop.specs.Targets.{HasFields, Tells};
@@ -14,8 +14,7 @@ use crate::reading::header::{
 };
 use crate::reading::key::{copy, key_of};
 use crate::reading::place::{body_behind, header_tape};
-use giop_framing::{Head, Kind};
-use giop_messages::{Locate, Message, Reply, Request};
+use giop_messages::{Head, Kind, Locate, Message, Reply, Request};
 use giop_types::{
     CANCEL_REQUEST_HEADER, GiopTypes, LOCATE_REQUEST_HEADER, REPLY_HEADER, REQUEST_HEADER,
     TapeFault,

@@ -7,7 +7,7 @@ ghost use Rattle.giop_messages.specs.Messages.{HasBody, HasHeader};
 ghost use Rattle.giop.specs.Tapes.{IsTapeAt};
 
 use crate::gap::gap_at;
-use giop_framing::HEAD_LEN;
+use giop_messages::HEAD_LEN;
 use giop_types::GiopTypes;
 use program_runner::RunFault;
 use std::alloc::{AllocError, Global};

@@ -6,7 +6,7 @@ ghost use Rattle.giop_messages.specs.Written.{head_octets};
 
 use crate::giop_calls::Giop;
 use crate::writing::message::push_head;
-use giop_framing::HEAD_LEN;
+use giop_messages::HEAD_LEN;
 use std::alloc::{AllocError, Global};
 use type_graph::Order;
 

@@ -2,7 +2,7 @@
 
 ghost use Rattle.std.specs.Prelude.{◌≡◌, ◌≤◌, ◌+◌, length, None, IfOk, IfErr};
 ghost use Rattle.type_graph.specs.Value.{node_at, tape_of};
-ghost use Rattle.giop_framing.specs.Heads.{max_size};
+ghost use Rattle.giop_messages.specs.Heads.{max_size};
 ghost use Rattle.giop_types.specs.GiopNodes.{giop_nodes};
 ghost use Rattle.giop_messages.specs.Headers.{here_number, here_tree};
 ghost use Rattle.giop_messages.specs.Written.{IsWritten};

@@ -5,7 +5,7 @@ ghost use Rattle.std.specs.Option.{ForSome};
 ghost use Rattle.type_graph.specs.declared.width.Width.TheVariants.{Four};
 ghost use Rattle.type_graph.specs.Words.{plain_word};
 ghost use Rattle.type_model.specs.Names.{IsNamed};
-ghost use Rattle.giop_framing.specs.Heads.{max_size};
+ghost use Rattle.giop_messages.specs.Heads.{max_size};
 ghost use Rattle.giop_types.specs.Named.{has_name};
 ghost use Rattle.giop_messages.specs.declared.fault.GiopFault.TheVariants.{BadHead, TooLong};
 ghost use Rattle.giop_messages.specs.Faults.{IsMemoryOr};
@@ -13,8 +13,7 @@ ghost use Rattle.giop_messages.specs.Written.{flags_of, head_octets};
 ghost use Rattle.giop.specs.Made.{given_by, IsHeader, IsMade, IsNotMade};
 
 use crate::writing::body::{Body, behind};
-use giop_framing::{HEAD_LEN, MAX_SIZE};
-use giop_messages::GiopFault;
+use giop_messages::{GiopFault, HEAD_LEN, MAX_SIZE};
 use giop_types::GiopTypes;
 use program_runner::RunFault;
 use std::alloc::{AllocError, Global};

@@ -4,7 +4,7 @@ ghost use Rattle.std.specs.Prelude.{◌≡◌, ◌≤◌, ◌+◌, length, IfOk,
 ghost use Rattle.std.specs.Option.{ForSome};
 ghost use Rattle.type_graph.specs.Value.{NoTree, node_at, tape_of};
 ghost use Rattle.type_model.specs.Names.{IsNamed};
-ghost use Rattle.giop_framing.specs.Heads.{max_size};
+ghost use Rattle.giop_messages.specs.Heads.{max_size};
 ghost use Rattle.giop_types.specs.GiopNodes.{giop_nodes};
 ghost use Rattle.giop_messages.specs.Headers.{number_of, reply_tree};
 ghost use Rattle.giop_messages.specs.Written.{IsWritten};

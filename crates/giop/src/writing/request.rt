@@ -9,7 +9,7 @@ ghost use Rattle.type_graph.specs.Value.{IsText, NoTree, node_at, tape_of};
 ghost use Rattle.type_model.specs.Names.{IsNamed};
 ghost use Rattle.giop_types.specs.TapeParts.{counted, IsCounted};
 ghost use Rattle.giop_types.specs.TapeRefusal.{RefusesWriting};
-ghost use Rattle.giop_framing.specs.Heads.{max_size};
+ghost use Rattle.giop_messages.specs.Heads.{max_size};
 ghost use Rattle.giop_types.specs.GiopNodes.{giop_nodes};
 ghost use Rattle.giop_types.specs.Fields.{octet_trees};
 ghost use Rattle.giop_messages.specs.declared.fault.GiopFault.TheVariants.{BadHead};

@@ -1,5 +1,5 @@
 use Rattle.std.proofs.Common.{◌≡◌, List, ℕ, None, Some, refl, ap, subst, sym, ◌∙◌, drop}
-use Rattle.giop_framing.specs.Framing.{Whole, front}
+use Rattle.giop_messages.specs.Framing.{Whole, front}
 use Rattle.broker_answers.specs.Servants.{acts}
 use Rattle.broker_answers.specs.Answering.{MayMoveRaw}
 use Rattle.broker_answers.specs.Serving.{ServesRaw}

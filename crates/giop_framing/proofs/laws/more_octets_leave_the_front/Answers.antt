@@ -1,6 +1,0 @@
-use Rattle.giop_framing.proofs.StreamFacts.{front_longer}
-use Rattle.giop_framing.proofs.laws.more_octets_leave_the_front.Goals as goal
-
--- src/laws.rt:8:1
-pub returns : goal.returns
-returns c = front_longer

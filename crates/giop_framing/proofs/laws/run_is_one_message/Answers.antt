@@ -1,6 +1,0 @@
-use Rattle.giop_framing.proofs.RunFacts.{run_front}
-use Rattle.giop_framing.proofs.laws.run_is_one_message.Goals as goal
-
--- src/laws.rt:15:1
-pub returns : goal.returns
-returns c = run_front

@@ -1,4 +1,0 @@
-pub mod Heads
-pub mod Framing
-pub mod Runs
-pub mod Streams
