@@ -7,7 +7,7 @@ use std::alloc::AllocError;
 use thiserror::Error;
 use written_types::TypeFault;
 
-/// Why a file has no model. The text of a fault is its number and name, .
+/// Why a file has no model. The text of a fault is its number and name, with its line.
 #[derive(Debug, Drop, Error)]
 pub enum ModelFault {
     /// The first fault of its types.

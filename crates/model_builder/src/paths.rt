@@ -12,7 +12,7 @@ use type_graph::{Graph, GraphFault, GraphLimit};
 use type_paths::{PathFault, find_path_fault};
 use written_types::{TypeFault, TypeTable};
 
-/// The nodes of a path.
+/// The most nodes of a path.
 const MAX_PATH: u32 = 64;
 
 /// What is told of a path.

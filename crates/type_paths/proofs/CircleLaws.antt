@@ -1,11 +1,13 @@
 -- Paths without end and circles are one.
-use Rattle.std.proofs.Common.{◌≡◌, ◌↔◌, ◌⊎◌, ℕ, zero, suc, ◌+◌, ◌<◌, Bool, true, false, List, [], ◌∷◌, length, get_or, set, replicate, refl, sym, ap, subst, ◌∙◌, inl, inr, length-set, get_or-set_other, arith}
+use Rattle.std.proofs.Common.{◌≡◌, ◌↔◌, ◌⊎◌, ℕ, zero, suc, ◌+◌, ◌<◌, ◌≤◌, Bool, true, false, List, [], ◌∷◌, Some, slice_get, length, get_or, set, replicate, refl, sym, ap, subst, ◌∙◌, inl, inr, length-set, get_or-set_other, arith}
 use Rattle.std.proofs.Math.ListN.{length-replicate}
 use Rattle.std.proofs.lemmas.Bool.{cases_eq, cases_lt}
-use Rattle.type_paths.specs.Sites.{Types}
-use Rattle.type_paths.specs.Paths.{HoldsBy, HoldsOne, HasPath, LeadsTo, GoesRoundBy, HoldsItself}
+use Rattle.type_graph.specs.Value.{node_at}
+use Rattle.type_graph.specs.GraphRules.{held_by}
+use Rattle.type_paths.specs.Sites.{Types, token_at}
+use Rattle.type_paths.specs.Paths.{ClosesCircle, HoldsBy, HoldsOne, HasPath, LeadsTo, GoesRoundBy, HoldsItself}
 use Rattle.type_paths.specs.Levels.{IsIn}
-use Rattle.type_paths.proofs.PathLaws.{endless, first_step, holds_within}
+use Rattle.type_paths.proofs.PathLaws.{endless, first_step, holds_within, path_by}
 use Rattle.type_paths.proofs.TableLaws.{count_in, count_limited}
 
 -- a step more
@@ -98,3 +100,29 @@ circle_of_round types token h =
 
 pub round_is_circle : (types : Types) (token : ℕ) → GoesRoundBy types token ↔ HoldsItself types token
 round_is_circle types token = (circle_of_round types token, round_of_circle types token)
+
+-- ---- where it closes
+
+-- a member that stands at most at a token, and not at it, stands at most at the one before
+stands_before : (n token : ℕ) → n ≤ suc token → (n ≡ suc token → ⊥) → n ≤ token
+stands_before n token most other = elim (cases_lt n (suc token)) as (λ v. n ≤ token) [
+  | inl lt ↦ omega arith
+  | inr le ↦ absurd (other (omega arith))
+]
+
+pub closing_held : (types : Types) (token : ℕ) → ClosesCircle types token
+    → ((node place part : ℕ) → slice_get (held_by (node_at types.nodes node)) place ≡ Some part → token_at types node place ≡ token → ⊥) → ⊥
+closing_held types zero h none =
+    let step = first_step (HoldsBy types 0) 0 h.round.node (h.round.endless 1) in
+    let early = step.holds.early in
+    none h.round.node step.holds.place step.part step.holds.there (omega arith)
+closing_held types (suc token) h none =
+    h.first token (omega arith) (record {
+      node = h.round.node;
+      within = h.round.within;
+      endless = λ steps. path_by (HoldsBy types (suc token)) (HoldsBy types token) steps h.round.node (λ holder part holds. record {
+        place = holds.place;
+        there = holds.there;
+        early = stands_before (token_at types holder holds.place) token holds.early (none holder holds.place part holds.there);
+      }) (h.round.endless steps);
+    })

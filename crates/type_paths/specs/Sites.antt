@@ -4,7 +4,7 @@ use Rattle.std.specs.List.{find}
 use Rattle.idl_tree.specs.declared.names.At.{At}
 use Rattle.type_graph.specs.declared.node.Node.{Node}
 
--- where a node stands, and what it holds, in order
+-- where a node stands, and where each of what it holds does, in order
 pub record Sites : Type 0 where
   pub at : At
   pub held : List At
@@ -18,11 +18,11 @@ pub record Types : Type 0 where
 abbrev pub sites_of : Types → ℕ → Option Sites
 sites_of types node = if nat_lt node types.first then None else slice_get types.sites (node - types.first)
 
--- before the first token
+-- no place: the first token, and a line that no token has
 abbrev pub nowhere : At
 nowhere = record { token = 0; line = 0 }
 
--- where a node stands, nowhere if it has no sites
+-- where a node stands: nowhere if it has no sites
 abbrev pub own_in : Option Sites → At
 own_in None = nowhere
 own_in (Some sites) = sites.at

@@ -36,8 +36,8 @@ fn find_fault_of(alloc: Global, types: &Sited<'_>) -> Result<Option<PathFault>, 
 
 /// What is wrong with the paths of nodes: a type that holds itself, at the first token at which
 /// the members up to there go round, else the first type from which a path of more than 64 nodes leads.
-/// `sites` has the sites of the nodes from the number `first` on; what a node below it holds stands
-/// before the first token.
+/// `sites` has the sites of the nodes from the number `first` on; what a node below it holds counts
+/// as at token 0.
 ///
 /// # Errors
 /// Want of memory.

@@ -34,7 +34,7 @@ impl<'a> Sited<'a> {
         self.sites.get(behind)
     }
 
-    /// Where a node stands, before the first token if it has no sites.
+    /// Where a node stands: token 0 in line 0 if it has no sites.
     pub fn own_at(&self, node: usize) -> At
         ensures { result ≡ own_at self.now node }
     {

@@ -6,7 +6,7 @@ ghost use Rattle.type_paths.specs.Sites.{held_token, known_of};
 use idl_tree::names::At;
 use std::marker::Model;
 
-/// Where a node stands, and what it holds, in order.
+/// Where a node stands, and where each of what it holds does, in order.
 #[derive(Drop)]
 pub struct NodeSites {
     at: At,
@@ -50,7 +50,7 @@ impl NodeSites {
         self.held.get(place).copied().unwrap_or(self.at).token
     }
 
-    /// The one that is at the token.
+    /// Where the token stands, if the node or what it holds stands at it.
     pub(crate) fn known(&self, token: usize) -> Option<At>
         ensures { result ≡ known_of token self.now }
     {

@@ -13,10 +13,8 @@ use Rattle.name_table.specs.Entry.{Entry}
 use Rattle.scoped_names.specs.Faults.{or_then}
 use Rattle.scoped_names.specs.Reading.{◌>>◌}
 use Rattle.written_types.specs.declared.fault.BuildFault.{BuildFault}
-use Rattle.written_types.specs.declared.fault.BuildFault.TheVariants.{Types}
-use Rattle.written_types.specs.declared.fault.TypeFault.TheVariants.{LabelTwice}
 use Rattle.written_types.specs.Faults.{at_most, each, max_members}
-use Rattle.written_types.specs.Labels.{Arms, CaseLabels, default_added, default_at, is_taken, keyword_at, label_added, label_value, labelled, no_arms, taken_at, value_added}
+use Rattle.written_types.specs.Labels.{Arms, CaseLabels, default_added, default_before, keyword_at, label_added, label_value, labelled, no_arms, once_test, taken_at, value_added}
 use Rattle.written_types.specs.Labels.{switched, with_arm, with_arms, with_case, with_default}
 use Rattle.written_types.specs.Types.{arm_at, default_number, numbered_arm}
 use Rattle.written_types.specs.Written.{unwritten}
@@ -59,21 +57,12 @@ pub record AreRead (a : Arms) (ls : CaseLabels) (count : ℕ) : Type 0 where
   pub long : labels_read ls ≡ count
   pub free : IsFree a ls
 
-neither_there : (arm : domain keyword_at) (read : Option At) → is_some (or_then (keyword_at arm) read) ≡ false
-    → (is_some arm ≡ false) × (is_some read ≡ false)
+neither_there : (arm : domain keyword_at) (read : Option At) → or_then (keyword_at arm) read ≡ None → (arm ≡ None) × (read ≡ None)
 neither_there None read h = (refl, h)
 neither_there (Some d) read h = absurd cc
 
-is_none : {T : Type 0} (o : Option T) → is_some o ≡ false → o ≡ None
-is_none None h = refl
-is_none (Some x) h = absurd cc
-
 abbrev Read : Type 0
 Read = Result CaseLabels BuildFault
-
--- a label that isn't there yet
-abbrev once : Bool → At → Option At → Read → Read
-once twice at other read = (if twice then Err (Types (LabelTwice at other)) else read)
 
 abbrev value_behind : Arms → CaseLabels → At → ℤ → Read
 value_behind a ls at n = at_most max_members MembersLimit at (length a.arms + length ls.values + 1) >> λ count.
@@ -81,11 +70,11 @@ value_behind a ls at n = at_most max_members MembersLimit at (length a.arms + le
 
 value_read : (a : Arms) (ls more : CaseLabels) (count : ℕ) (at : At) (n : ℤ) → AreRead a ls count
     → value_added a ls at n ≡ Ok more → AreRead a more (count + 1)
-value_read a ls more count at n read h = by (is_taken a ls n) h
+value_read a ls more count at n read h = by (taken_at a ls n) h
   where
-    by : (b : Bool) → once b at (taken_at a ls n) (value_behind a ls at n) ≡ Ok more → AreRead a more (count + 1)
-    by true h = absurd cc
-    by false h =
+    by : (o : Option At) → (once_test at o >> λ u. value_behind a ls at n) ≡ Ok more → AreRead a more (count + 1)
+    by (Some other) h = absurd cc
+    by None h =
         let room = at_most max_members MembersLimit at (length a.arms + length ls.values + 1) in
         let (k, fits, told) = then_done room _ more h in
         let same : record ls { values = ls.values ++ labelled n at ∷ [] } ≡ more = cc in
@@ -96,18 +85,18 @@ value_read a ls more count at n read h = by (is_taken a ls n) h
 default_read : (a : Arms) (ls more : CaseLabels) (count : ℕ) (at : At) → AreRead a ls count
     → default_added a ls at ≡ Ok more
     → AreRead a more (count + 1)
-default_read a ls more count at read h = by (is_some (default_at a ls)) refl h
+default_read a ls more count at read h = by (default_before a ls) refl h
   where
-    by : (b : Bool) → is_some (default_at a ls) ≡ b
-        → once b at (default_at a ls) (Ok (record ls { default = Some at })) ≡ Ok more → AreRead a more (count + 1)
-    by true is h = absurd cc
-    by false is h =
+    by : (o : Option At) → default_before a ls ≡ o
+        → (once_test at o >> λ u. Ok (record ls { default = Some at })) ≡ Ok more → AreRead a more (count + 1)
+    by (Some other) is h = absurd cc
+    by None is h =
         let (first, second) = neither_there a.default ls.default is in
         let same : record ls { default = Some at } ≡ more = cc in
         let long = read.long in
-        let none : one_if ls.default ≡ 0 = ap one_if (is_none ls.default second) in
+        let none : one_if ls.default ≡ 0 = ap one_if second in
         let all : labels_read (record ls { default = Some at }) ≡ count + 1 = omega (arith, long, none) in
-        subst (λ z. AreRead a z (count + 1)) same (record { long = all; free = λ k told. is_none a.default first })
+        subst (λ z. AreRead a z (count + 1)) same (record { long = all; free = λ k told. first })
 
 label_read : (es : List Entry) (scope : ℕ) (s : Switch) (a : Arms) (ls more : CaseLabels) (count : ℕ) (l : Label)
     → AreRead a ls count

@@ -24,9 +24,9 @@ use Rattle.name_steps.proofs.Asks.{param_asks, result_asks}
 use Rattle.scoped_names.proofs.Parts.{Closed, both_closed, closed, each_closed, one_closed}
 use Rattle.written_types.specs.declared.place.Place.{Place}
 use Rattle.written_types.specs.declared.place.Place.TheVariants.{Called, Got, GotAndSet}
+use Rattle.written_types.specs.declared.fault.Answer.{Answer}
 use Rattle.written_types.specs.declared.fault.BuildFault.{BuildFault}
 use Rattle.written_types.specs.declared.fault.BuildFault.TheVariants.{Types}
-use Rattle.written_types.specs.declared.fault.TypeFault.TheVariants.{BadOneway}
 use Rattle.written_types.specs.Faults.{each}
 use Rattle.written_types.specs.Declarations.{declaration}
 use Rattle.written_types.specs.Sound.{IsPlaceAmong}
@@ -47,7 +47,7 @@ use Rattle.written_operations.specs.declared.signature.Role.{Role}
 use Rattle.written_operations.specs.declared.signature.Role.TheVariants as Roles
 use Rattle.written_operations.specs.declared.signature.Signature.{Signature}
 use Rattle.written_operations.specs.Frames.{all_carried, frames_added, result_carried, with_param}
-use Rattle.written_operations.specs.Oneway.{answer_of, has_no_reply, not, oneway_test, parts_of}
+use Rattle.written_operations.specs.Oneway.{answer_of, answer_test, oneway_test, parts_of}
 use Rattle.written_operations.specs.Operations.{Defined, Requested, declared, operation, raised, with_call, with_operation, with_place, with_types}
 use Rattle.written_operations.specs.Sound.{HasFrames, IsSoundOffer, IsSoundSignature}
 use Rattle.written_operations.proofs.Calls.{AreCarried, AreFramed, Carries, frames_fine, nothing_begun, params_carried, raised_fine, result_fine, same_parts}
@@ -275,11 +275,12 @@ all_carried_fine es g w scope o i result feature params =
     (params_carried es g2 w scope id c (optional_parts o.params) params start))
 
 oneway_fine : (o : Operation) → Fine (λ u. Unit {0}) (oneway_test o)
-oneway_fine o = by (o.is_oneway && not (has_no_reply o))
+oneway_fine o = by o.is_oneway (answer_of o)
   where
-    by : (b : Bool) → (let r : Result (Unit {0}) BuildFault = if b then Err (Types (BadOneway (leaf_at o.identifier) (answer_of o))) else Ok tt in Fine (λ u. Unit {0}) r)
-    by true = tt
-    by false = tt
+    by : (b : Bool) (a : Option Answer) → (let r : Result (Unit {0}) BuildFault = if b then answer_test o a else Ok tt in Fine (λ u. Unit {0}) r)
+    by true None = tt
+    by true (Some answer) = tt
+    by false a = tt
 
 behind_call : (es : List Entry) (g : List Introduction) (d : Defined) (scope : ℕ) (c : Carried) (o : Operation) (e : ℕ) → KeepsAll es g d → AreCarried d.types.nodes c
     → AllSettled es g scope (raises_steps (parts_of o.raises)) → Pending es g d.types e → named es scope (word o.identifier) ≡ Some e

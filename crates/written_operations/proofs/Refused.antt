@@ -1,5 +1,5 @@
 -- Operations that are refused, and where that is told.
-use Rattle.std.proofs.Common.{◌≡◌, ◌∙◌, ℕ, ◌+◌, Bool, true, false, List, ◌∷◌, [], length, Some, Ok, Err, refl, ap}
+use Rattle.std.proofs.Common.{◌≡◌, ◌∙◌, ℕ, ◌+◌, Bool, true, false, List, ◌∷◌, [], length, Option, Some, None, Ok, Err, refl, ap}
 use Rattle.std.specs.Prelude.{◌&&◌, if◌then◌else◌, is_some, nat_lt}
 use Rattle.idl_tree.specs.declared.names.At.{At}
 use Rattle.idl_tree.specs.declared.names.Listed.{Listed}
@@ -10,6 +10,8 @@ use Rattle.idl_tree.specs.declared.definitions.Operation.{Operation}
 use Rattle.idl_tree.specs.Starts.{leaf_at}
 use Rattle.type_graph.specs.declared.fault.GraphLimit.TheVariants.{Members as MembersLimit}
 use Rattle.name_table.specs.Entry.{Entry}
+use Rattle.written_types.specs.declared.fault.Answer.{Answer}
+use Rattle.written_types.specs.declared.fault.Answer.TheVariants.{Exceptions, Result as ResultAnswer}
 use Rattle.written_types.specs.declared.fault.BuildFault.TheVariants.{Types, OtherNames}
 use Rattle.written_types.specs.declared.fault.TypeFault.TheVariants.{BadOneway}
 use Rattle.written_types.specs.declared.place.Place.TheVariants.{Typed}
@@ -19,57 +21,57 @@ use Rattle.written_types.specs.SimpleTypes.{entry_found}
 use Rattle.written_types.specs.Types.{member_added}
 use Rattle.written_types.proofs.Walks.{goes_on, stops}
 use Rattle.written_operations.specs.declared.frames.Carried.{Carried}
-use Rattle.written_operations.specs.Oneway.{answer_of, are_in, has_no_reply, not, oneway_test, parts_of}
+use Rattle.written_operations.specs.Oneway.{answer_of, answer_test, oneway_test, or_behind, param_answer, parts_of, raises_answer, result_answer}
 use Rattle.written_operations.specs.Frames.{with_carried}
 use Rattle.written_operations.specs.Operations.{Defined, exception_found, exception_in, operation, raised, with_exception}
 
 -- ---- oneway operations
 
--- one from which something comes back
-pub answers : (es : List Entry) (scope : ℕ) (d : Defined) (o : Operation) → o.is_oneway ≡ true → has_no_reply o ≡ false
-    → operation es scope d o ≡ Err (Types (BadOneway (leaf_at o.identifier) (answer_of o)))
-answers es scope d o oneway reply =
-    let fault = Types (BadOneway (leaf_at o.identifier) (answer_of o)) in
-    let told : oneway_test o ≡ Err fault =
-    ap (λ b. if b && not (has_no_reply o) then Err fault else Ok tt) oneway ∙ ap (λ b. if not b then Err fault else Ok tt) reply in
+-- one that answers something
+pub answers : (es : List Entry) (scope : ℕ) (d : Defined) (o : Operation) (answer : Answer) → o.is_oneway ≡ true → answer_of o ≡ Some answer
+    → operation es scope d o ≡ Err (Types (BadOneway (leaf_at o.identifier) answer))
+answers es scope d o answer oneway is =
+    let fault = Types (BadOneway (leaf_at o.identifier) answer) in
+    let told : oneway_test o ≡ Err fault = ap (λ b. if b then answer_test o (answer_of o) else Ok tt) oneway ∙ ap (answer_test o) is in
     stops (oneway_test o) fault _ told
 
 pub has_result : (es : List Entry) (scope : ℕ) (d : Defined) (o : Operation) (t : ParamType) → o.is_oneway ≡ true → o.result_type ≡ Some t
-    → operation es scope d o ≡ Err (Types (BadOneway (leaf_at o.identifier) (answer_of o)))
+    → operation es scope d o ≡ Err (Types (BadOneway (leaf_at o.identifier) ResultAnswer))
 has_result es scope d o t oneway is =
-    answers es scope d o oneway (ap (λ r. not (is_some r) && not (is_some o.raises) && are_in (parts_of o.params)) is)
+    answers es scope d o ResultAnswer oneway
+    (ap (λ r. or_behind (result_answer r) (or_behind (param_answer (parts_of o.params)) (raises_answer o.raises))) is)
 
-second : (a c : Bool) → (a && false && c) ≡ false
-second true c = refl
-second false c = refl
-
-third : (a b : Bool) → (a && b && false) ≡ false
-third true true = refl
-third true false = refl
-third false b = refl
-
-pub has_raises : (es : List Entry) (scope : ℕ) (d : Defined) (o : Operation) (names : Listed ScopedName) → o.is_oneway ≡ true → o.raises ≡ Some names
-    → operation es scope d o ≡ Err (Types (BadOneway (leaf_at o.identifier) (answer_of o)))
-has_raises es scope d o names oneway is =
-    answers es scope d o oneway
-    (ap (λ r. not (is_some o.result_type) && not (is_some r) && are_in (parts_of o.params)) is
-    ∙ second (not (is_some o.result_type)) (are_in (parts_of o.params)))
+-- what comes behind is answered, or something before it
+behind_some : (o : Option Answer) (behind : Answer) → (answer : Answer) × (or_behind o (Some behind) ≡ Some answer)
+behind_some None behind = (behind, refl)
+behind_some (Some answer) behind = (answer, refl)
 
 -- a parameter isn't an `in` one
-pub has_out : (es : List Entry) (scope : ℕ) (d : Defined) (o : Operation) → o.is_oneway ≡ true → are_in (parts_of o.params) ≡ false
-    → operation es scope d o ≡ Err (Types (BadOneway (leaf_at o.identifier) (answer_of o)))
-has_out es scope d o oneway is =
-    answers es scope d o oneway
-    (ap (λ b. not (is_some o.result_type) && not (is_some o.raises) && b) is ∙ third (not (is_some o.result_type)) (not (is_some o.raises)))
+pub has_out : (es : List Entry) (scope : ℕ) (d : Defined) (o : Operation) (p : Answer) → o.is_oneway ≡ true → param_answer (parts_of o.params) ≡ Some p
+    → (answer : Answer) × (operation es scope d o ≡ Err (Types (BadOneway (leaf_at o.identifier) answer)))
+has_out es scope d o p oneway is =
+    let (answer, some) = behind_some (result_answer o.result_type) p in
+    (answer, answers es scope d o answer oneway (ap (λ r. or_behind (result_answer o.result_type) (or_behind r (raises_answer o.raises))) is ∙ some))
 
--- nothing comes back from a oneway operation that is written
+pub has_raises : (es : List Entry) (scope : ℕ) (d : Defined) (o : Operation) (names : Listed ScopedName) → o.is_oneway ≡ true → o.raises ≡ Some names
+    → (answer : Answer) × (operation es scope d o ≡ Err (Types (BadOneway (leaf_at o.identifier) answer)))
+has_raises es scope d o names oneway is =
+    let (inner, some_inner) = behind_some (param_answer (parts_of o.params)) Exceptions in
+    let (answer, some) = behind_some (result_answer o.result_type) inner in (
+      answer,
+      answers es scope d o answer oneway
+          (ap (λ r. or_behind (result_answer o.result_type) (or_behind (param_answer (parts_of o.params)) (raises_answer r))) is
+          ∙ ap (or_behind (result_answer o.result_type)) some_inner ∙ some),
+    )
+
+-- a oneway operation that is written answers nothing
 pub oneway_kept : (es : List Entry) (scope : ℕ) (d behind : Defined) (o : Operation) → operation es scope d o ≡ Ok behind → o.is_oneway ≡ true
-    → has_no_reply o ≡ true
-oneway_kept es scope d behind o written oneway = by (has_no_reply o) (answers es scope d o oneway)
+    → answer_of o ≡ None
+oneway_kept es scope d behind o written oneway = by (answer_of o) (λ answer. answers es scope d o answer oneway)
   where
-    by : (b : Bool) → (b ≡ false → operation es scope d o ≡ Err (Types (BadOneway (leaf_at o.identifier) (answer_of o)))) → b ≡ true
-    by true refused = refl
-    by false refused = let told = refused refl in absurd cc
+    by : (a : Option Answer) → ((answer : Answer) → a ≡ Some answer → operation es scope d o ≡ Err (Types (BadOneway (leaf_at o.identifier) answer))) → a ≡ None
+    by None refused = refl
+    by (Some answer) refused = let told = refused answer refl in absurd cc
 
 -- ---- what is raised
 

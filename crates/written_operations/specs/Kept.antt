@@ -4,7 +4,7 @@ use Rattle.std.specs.List.{flat_map}
 use Rattle.idl_tree.specs.declared.definitions.Export.{Export}
 use Rattle.idl_tree.specs.declared.definitions.Export.TheVariants as Exports
 use Rattle.idl_tree.specs.declared.definitions.Definition.{Definition, Pragma, Declaration as Declared, Interface as InterfaceDcl, Module', Row_of-Definition, end_of-Definition, more_of-Definition}
-use Rattle.written_operations.specs.Oneway.{has_no_reply}
+use Rattle.written_operations.specs.Oneway.{answer_of}
 use Rattle.written_operations.specs.Interfaces.{exports_of}
 
 -- nothing comes back from it, if it is a oneway operation
@@ -12,7 +12,7 @@ abbrev pub KeepsRule : Export → Type 0
 KeepsRule (Exports.Pragma p) = Unit {0}
 KeepsRule (Exports.Declaration x) = Unit {0}
 KeepsRule (Exports.Attribute a) = Unit {0}
-KeepsRule (Exports.Operation o) = o.is_oneway ≡ true → has_no_reply o ≡ true
+KeepsRule (Exports.Operation o) = o.is_oneway ≡ true → answer_of o ≡ None
 
 abbrev pub or_none : Option (List Export) → List Export
 or_none None = []

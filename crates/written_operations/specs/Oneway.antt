@@ -1,8 +1,9 @@
 -- Which operations may be oneway (ISO/IEC 19500-1, operation declaration).
-use Rattle.std.specs.Prelude.{Bool, true, false, ◌&&◌, if◌then◌else◌, is_some, List, [], ◌∷◌, Option, Some, None, Result, Ok, Err}
-use Rattle.std.specs.List.{list_all}
+use Rattle.std.specs.Prelude.{Bool, true, false, if◌then◌else◌, List, [], ◌∷◌, Option, Some, None, Result, Ok, Err}
 use Rattle.idl_tree.specs.declared.definitions.Direction.{Direction}
 use Rattle.idl_tree.specs.declared.names.Listed.{Listed}
+use Rattle.idl_tree.specs.declared.names.ScopedName.{ScopedName}
+use Rattle.idl_tree.specs.declared.types.ParamType.{ParamType}
 use Rattle.idl_tree.specs.declared.definitions.Direction.TheVariants.{In, Out, InOut}
 use Rattle.idl_tree.specs.declared.definitions.Param.{Param}
 use Rattle.idl_tree.specs.declared.definitions.Operation.{Operation}
@@ -19,33 +20,39 @@ abbrev pub parts_of : {T : Type 0} → Option (Listed T) → List T
 parts_of None = []
 parts_of (Some l) = parts l
 
-abbrev pub not : Bool → Bool
-not true = false
-not false = true
-
 abbrev pub is_in : Direction → Bool
 is_in In = true
 is_in Out = false
 is_in InOut = false
 
--- each of the parameters is an `in` one
-abbrev pub are_in : List Param → Bool
-are_in ps = list_all (λ p. is_in p.direction) ps
+-- ---- what an operation answers, in the order of reading
 
--- nothing comes back from it: it has no result, raises nothing, and has only `in` parameters
-abbrev pub has_no_reply : Operation → Bool
-has_no_reply o = not (is_some o.result_type) && not (is_some o.raises) && are_in (parts_of o.params)
+abbrev pub result_answer : Option ParamType → Option Answer
+result_answer None = None
+result_answer (Some t) = Some ResultAnswer
 
--- what it answers first, in the order of reading
-abbrev pub param_answer : List Param → Answer
-param_answer [] = Exceptions
-param_answer (p ∷ ps) = (if is_in p.direction then param_answer ps else Parameter (leaf_at p.identifier))
+-- the first parameter that isn't an `in` one
+abbrev pub param_answer : List Param → Option Answer
+param_answer [] = None
+param_answer (p ∷ ps) = (if is_in p.direction then param_answer ps else Some (Parameter (leaf_at p.identifier)))
 
-abbrev pub answer_of : Operation → Answer
-answer_of o = (if is_some o.result_type then ResultAnswer else param_answer (parts_of o.params))
+abbrev pub raises_answer : Option (Listed ScopedName) → Option Answer
+raises_answer None = None
+raises_answer (Some names) = Some Exceptions
 
--- only an operation from which nothing comes back is oneway
+abbrev pub or_behind : Option Answer → Option Answer → Option Answer
+or_behind None behind = behind
+or_behind (Some answer) behind = Some answer
+
+-- the first of these, if it answers anything
+abbrev pub answer_of : Operation → Option Answer
+answer_of o =
+    or_behind (result_answer o.result_type) (or_behind (param_answer (parts_of o.params)) (raises_answer o.raises))
+
+abbrev pub answer_test : Operation → Option Answer → Result (Unit {0}) BuildFault
+answer_test o None = Ok tt
+answer_test o (Some answer) = Err (Types (BadOneway (leaf_at o.identifier) answer))
+
+-- only an operation that answers nothing is oneway
 abbrev pub oneway_test : Operation → Result (Unit {0}) BuildFault
-oneway_test o =
-    (if o.is_oneway && not (has_no_reply o) then Err (Types (BadOneway (leaf_at o.identifier) (answer_of o)))
-    else Ok tt)
+oneway_test o = (if o.is_oneway then answer_test o (answer_of o) else Ok tt)

@@ -1,6 +1,6 @@
 -- Operations and attributes (ISO/IEC 19500-1, operation declaration, attribute declaration). An attribute `x` is got by
 -- the operation `_get_x`, and set by `_set_x` unless it is readonly.
-use Rattle.std.specs.Prelude.{ℕ, Bool, true, false, List, [], ◌∷◌, ◌++◌, replicate, Option, Some, None, Result, Ok, Err}
+use Rattle.std.specs.Prelude.{ℕ, Bool, not, true, false, List, [], ◌∷◌, ◌++◌, replicate, Option, Some, None, Result, Ok, Err}
 use Rattle.idl_tree.specs.declared.names.At.{At}
 use Rattle.idl_tree.specs.declared.names.Leaf.{Leaf}
 use Rattle.idl_tree.specs.declared.names.ScopedName.{ScopedName}
@@ -27,7 +27,7 @@ use Rattle.written_operations.specs.declared.signature.Role.TheVariants as Roles
 use Rattle.written_operations.specs.declared.signature.Signature.{Signature}
 use Rattle.written_operations.specs.declared.signature.Offered.{Offered}
 use Rattle.written_operations.specs.declared.frames.Carried.{Carried}
-use Rattle.written_operations.specs.Oneway.{not, oneway_test, parts_of}
+use Rattle.written_operations.specs.Oneway.{oneway_test, parts_of}
 use Rattle.written_operations.specs.Frames.{all_carried, frames_added, nothing_carried, with_carried}
 
 -- the types, the operations in order, and what each entry that is a defined interface has

@@ -50,7 +50,7 @@ IsUnplaced Kinds.Exception o = o ≡ Some None
 IsUnplaced kind o = Unit {0}
 
 -- no more types than the limit, each right, and no more members of all than are counted, within the limit; so many
--- types have lines as there are behind the basic ones, and each exception has a frame
+-- types have sites as there are behind the basic ones, and each exception has a frame
 pub record IsSound (w : Written) : Type 0 where
   pub limited : length w.nodes ≤ max_nodes
   pub nodes : (n : ℕ) (node : Node) → slice_get w.nodes n ≡ Some node → IsRight w.nodes node

@@ -8,17 +8,20 @@ use Rattle.idl_tree.specs.declared.names.At.{At}
 use Rattle.type_graph.specs.declared.node.Node.{Node}
 use Rattle.type_graph.specs.declared.fault.GraphLimit.TheVariants.{Members as MembersLimit}
 use Rattle.type_graph.specs.GraphRules.{IsPart}
+use Rattle.scoped_names.specs.Faults.{or_then}
 use Rattle.scoped_names.specs.Reading.{◌>>◌}
 use Rattle.written_types.specs.declared.arms.Arm.{Arm}
 use Rattle.written_types.specs.declared.arms.DefaultArm.{DefaultArm}
-use Rattle.written_types.specs.declared.fault.BuildFault.TheVariants.{Types}
-use Rattle.written_types.specs.declared.fault.TypeFault.TheVariants.{LabelTwice}
 use Rattle.written_types.specs.declared.labels.LabelValue.{LabelValue}
 use Rattle.written_types.specs.declared.labels.Switch.{Switch}
 use Rattle.written_types.specs.Faults.{at_most, max_members}
-use Rattle.written_types.specs.Labels.{Arms, CaseLabels, is_label, is_taken, is_value, labelled, taken_at, value_added, with_arm, with_arms, with_case, with_default}
+use Rattle.written_types.specs.Labels.{Arms, CaseLabels, arm_label_at, is_value, labelled, once_test, taken_at, value_added, value_at, with_arm, with_arms, with_case, with_default}
 use Rattle.written_types.proofs.Fine.{Fine, and_then, at_most_fine}
 use Rattle.written_types.proofs.Growing.{Grows, part_stays}
+
+-- an arm has the label
+abbrev pub is_label : List Arm → ℤ → Bool
+is_label arms n = list_any (λ arm. int_eq arm.label n) arms
 
 -- ---- each label is less than those behind it
 
@@ -91,15 +94,42 @@ apart_end (m ∷ ms) l (first, rest) free =
     let parts = or_false (int_eq m.value l.value) (list_any (λ k. int_eq k.value l.value) ms) free in
     (all_end (λ k. int_eq m.value k.value ≡ false) ms l first parts.0, apart_end ms l rest parts.1)
 
+-- what stands nowhere isn't there
+arm_nowhere : (arms : List Arm) (n : ℤ) → arm_label_at arms n ≡ None → is_label arms n ≡ false
+arm_nowhere [] n is = refl
+arm_nowhere (arm ∷ arms) n is = by (int_eq arm.label n) is (arm_nowhere arms n)
+  where
+    by : (b : Bool) → (if b then Some arm.label_at else arm_label_at arms n) ≡ None → (arm_label_at arms n ≡ None → is_label arms n ≡ false) → (b || is_label arms n) ≡ false
+    by true is others = absurd cc
+    by false is others = others is
+
+value_nowhere : (ls : List LabelValue) (n : ℤ) → value_at ls n ≡ None → list_any (λ l. int_eq l.value n) ls ≡ false
+value_nowhere [] n is = refl
+value_nowhere (l ∷ ls) n is = by (int_eq l.value n) is (value_nowhere ls n)
+  where
+    by : (b : Bool) → (if b then Some l.at else value_at ls n) ≡ None → (value_at ls n ≡ None → list_any (λ l. int_eq l.value n) ls ≡ false)
+        → (b || list_any (λ l. int_eq l.value n) ls) ≡ false
+    by true is others = absurd cc
+    by false is others = others is
+
+neither : (o p : Option At) → or_then o p ≡ None → (o ≡ None) × (p ≡ None)
+neither None p is = (refl, is)
+neither (Some x) p is = absurd cc
+
+not_taken : (a : Arms) (ls : CaseLabels) (n : ℤ) → taken_at a ls n ≡ None → (is_label a.arms n ≡ false) × (list_any (λ l. int_eq l.value n) ls.values ≡ false)
+not_taken a ls n is =
+    let (arm, value) = neither (arm_label_at a.arms n) (value_at ls.values n) is in
+    (arm_nowhere a.arms n arm, value_nowhere ls.values n value)
+
 -- a value that no arm and no label before has
 pub value_fine : (s : Switch) (a : Arms) (ls : CaseLabels) (at : At) (n : ℤ) → AreLabels s a ls → is_value s.values n ≡ true → Fine (AreLabels s a) (value_added a ls at n)
-value_fine s a ls at n h value = by (is_taken a ls n) refl
+value_fine s a ls at n h value = by (taken_at a ls n) refl
   where
-    by : (b : Bool) → is_taken a ls n ≡ b → Fine (AreLabels s a) (if b then Err (Types (LabelTwice at (taken_at a ls n)))
-        else at_most max_members MembersLimit at (length a.arms + length ls.values + 1) >> λ count. Ok (record ls { values = ls.values ++ labelled n at ∷ [] }))
-    by true taken = tt
-    by false free =
-        let parts = or_false (is_label a.arms n) (list_any (λ l. int_eq l.value n) ls.values) free in
+    by : (o : Option At) → taken_at a ls n ≡ o → Fine (AreLabels s a) (once_test at o >> λ u.
+        at_most max_members MembersLimit at (length a.arms + length ls.values + 1) >> λ count. Ok (record ls { values = ls.values ++ labelled n at ∷ [] }))
+    by (Some other) taken = tt
+    by None free =
+        let parts = not_taken a ls n free in
         let more = length-append ls.values (labelled n at ∷ []) in
         and_then (λ k. (k ≡ length a.arms + length ls.values + 1) × (length a.arms + length ls.values + 1 ≤ max_members)) (AreLabels s a)
         (at_most max_members MembersLimit at (length a.arms + length ls.values + 1)) (λ count. Ok (record ls { values = ls.values ++ labelled n at ∷ [] }))

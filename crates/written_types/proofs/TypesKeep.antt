@@ -25,6 +25,7 @@ use Rattle.name_table.specs.Entry.{Entry}
 use Rattle.name_table.specs.Search.{word}
 use Rattle.scoped_names.specs.Introductions.{Introduction}
 use Rattle.name_steps.specs.Steps.{declarator_steps, label_steps, size_step, switch_steps, type_steps}
+use Rattle.scoped_names.specs.Reading.{◌>>◌}
 use Rattle.scoped_names.specs.Tests.{value_read}
 use Rattle.name_steps.proofs.Asks.{declarator_asks, label_asks, type_asks}
 use Rattle.scoped_names.proofs.OnlyMemory.{there_is}
@@ -36,7 +37,7 @@ use Rattle.written_types.specs.declared.fault.TypeKind.{TypeKind}
 use Rattle.written_types.specs.declared.labels.Switch.{Switch}
 use Rattle.written_types.specs.TypeKinds.{kind_of}
 use Rattle.written_types.specs.Faults.{at_most, each, max_members, of_names}
-use Rattle.written_types.specs.Labels.{Arms, CaseLabels, Switched, is_value, label_added, label_number, label_value, label_within, no_labels, switch_kind, switch_at, switch_of, switch_read, switch_type, switched, value_added, values_of, default_at, out_of_range}
+use Rattle.written_types.specs.Labels.{Arms, CaseLabels, Switched, is_value, label_added, label_number, label_value, label_within, no_labels, switch_kind, switch_at, switch_of, switch_read, switch_type, switched, value_added, values_of, default_before, once_test, out_of_range}
 use Rattle.written_types.specs.Members.{Members}
 use Rattle.written_types.specs.SimpleTypes.{array_type, declarator_at, entry_found, entry_of, integer_number, type_found}
 use Rattle.written_types.specs.Types.{Cases, WithMembers, case_added, member_added, members_added, with_declarator, with_declarators, with_members_of}
@@ -214,11 +215,11 @@ label_fine es g scope s a ls (CaseLabel e) h are =
     and_then (λ n. is_value s.values n ≡ true) (AreLabels s a) (label_value es scope s e.expr) (λ n. value_added a ls at n)
     (given (λ n. is_value s.values n ≡ true) (of_names (value_read es scope e.expr)) c (λ c. label_within s at c (label_number c)) (ap of_names is)
     (label_within_fine s at c (label_number c))) (λ n value. value_fine s a ls at n are value)
-label_fine es g scope s a ls (Default word) h are = by (is_some (default_at a ls))
+label_fine es g scope s a ls (Default word) h are = by (default_before a ls)
   where
-    by : (b : Bool) → Fine (AreLabels s a) (if b then Err (Types (LabelTwice (leaf_at word) (default_at a ls))) else Ok (record ls { default = Some (leaf_at word) }))
-    by true = tt
-    by false = record { limited = are.limited; values = are.values; apart = are.apart }
+    by : (o : Option At) → Fine (AreLabels s a) (once_test (leaf_at word) o >> λ u. Ok (record ls { default = Some (leaf_at word) }))
+    by (Some other) = tt
+    by None = record { limited = are.limited; values = are.values; apart = are.apart }
 
 pub label_closed : (l : Label) → Closed (label_steps l)
 label_closed l = closed (label_asks {ls = []} l)

@@ -1,6 +1,5 @@
 -- The discriminators of unions and their labels (ISO/IEC 19500-1, unions).
-use Rattle.std.specs.Prelude.{ℕ, ◌+◌, ◌-◌, ◌/◌, Bool, true, false, ◌&&◌, ◌||◌, if◌then◌else◌, is_some, List, [], ◌∷◌, ◌++◌, length, Option, Some, None, Result, Ok, Err, slice_get, ℤ, pos, neg_ℤ, int_lt, int_le}
-use Rattle.std.specs.List.{list_any}
+use Rattle.std.specs.Prelude.{ℕ, ◌+◌, ◌-◌, ◌/◌, Bool, true, false, ◌&&◌, if◌then◌else◌, List, [], ◌∷◌, ◌++◌, length, Option, Some, None, Result, Ok, Err, slice_get, ℤ, pos, neg_ℤ, int_lt, int_le}
 use Rattle.std.specs.Ordering.{int_eq}
 use Rattle.idl_tree.specs.declared.names.At.{At}
 use Rattle.idl_tree.specs.declared.expression.Expr.{Expr}
@@ -116,7 +115,7 @@ label_number (Character c) = Some (pos c)
 label_number (Text octets) = None
 label_number (Enumerator e owner) = Some (pos (e - owner - 1))
 
--- what is told of a label that is no value of the discriminator
+-- a constant, without the octets of a text
 abbrev pub told_of : Constant → LabelWorth
 told_of (Whole n) = Worths.Whole n
 told_of (Boolean b) = Worths.Boolean b
@@ -124,6 +123,7 @@ told_of (Character c) = Worths.Character c
 told_of (Text octets) = Worths.Text
 told_of (Enumerator e owner) = Worths.Enumerator e
 
+-- what is told of a label that is no value of the discriminator
 abbrev pub out_of_range : Switch → At → Constant → TypeFault
 out_of_range s at c = LabelRange at (told_of c) (const_kind s.kind) s.values
 
@@ -150,12 +150,9 @@ pub record Arms : Type 0 where
 abbrev pub no_arms : Arms
 no_arms = record { arms = []; default = None }
 
-abbrev pub keyword_at : Option DefaultArm → Option At
-keyword_at None = None
-keyword_at (Some d) = Some d.keyword
-
-abbrev pub is_label : List Arm → ℤ → Bool
-is_label arms n = list_any (λ arm. int_eq arm.label n) arms
+-- the value of a label, and where it stands
+abbrev pub labelled : ℤ → At → LabelValue
+labelled n at = record { value = n; at = at }
 
 -- the labels of a case: their values, and where `default` stands
 pub record CaseLabels : Type 0 where
@@ -165,14 +162,7 @@ pub record CaseLabels : Type 0 where
 abbrev pub no_labels : CaseLabels
 no_labels = record { values = []; default = None }
 
-abbrev pub labelled : ℤ → At → LabelValue
-labelled n at = record { value = n; at = at }
-
--- an arm or a label before has the value
-abbrev pub is_taken : Arms → CaseLabels → ℤ → Bool
-is_taken a ls n = is_label a.arms n || list_any (λ l. int_eq l.value n) ls.values
-
--- where it stands
+-- where a label stands that has the value: of an arm, of the case
 abbrev pub arm_label_at : List Arm → ℤ → Option At
 arm_label_at [] n = None
 arm_label_at (arm ∷ arms) n = (if int_eq arm.label n then Some arm.label_at else arm_label_at arms n)
@@ -181,24 +171,33 @@ abbrev pub value_at : List LabelValue → ℤ → Option At
 value_at [] n = None
 value_at (l ∷ ls) n = (if int_eq l.value n then Some l.at else value_at ls n)
 
+-- where an arm or a label before stands that has the value
 abbrev pub taken_at : Arms → CaseLabels → ℤ → Option At
 taken_at a ls n = or_then (arm_label_at a.arms n) (value_at ls.values n)
 
-abbrev pub default_at : Arms → CaseLabels → Option At
-default_at a ls = or_then (keyword_at a.default) ls.default
+-- where the default of an arm stands, or that of the case
+abbrev pub keyword_at : Option DefaultArm → Option At
+keyword_at None = None
+keyword_at (Some d) = Some d.keyword
+
+abbrev pub default_before : Arms → CaseLabels → Option At
+default_before a ls = or_then (keyword_at a.default) ls.default
+
+-- no other has the value, or is a default
+abbrev pub once_test : At → Option At → Result (Unit {0}) BuildFault
+once_test at None = Ok tt
+once_test at (Some other) = Err (Types (LabelTwice at other))
 
 -- a value that no arm and no label before has
 abbrev pub value_added : Arms → CaseLabels → At → ℤ → Result CaseLabels BuildFault
 value_added a ls at n =
-    (if is_taken a ls n then Err (Types (LabelTwice at (taken_at a ls n)))
-    else at_most max_members MembersLimit at (length a.arms + length ls.values + 1) >> λ count.
-    Ok (record ls { values = ls.values ++ labelled n at ∷ [] }))
+    once_test at (taken_at a ls n) >> λ u.
+    at_most max_members MembersLimit at (length a.arms + length ls.values + 1) >> λ count.
+    Ok (record ls { values = ls.values ++ labelled n at ∷ [] })
 
 -- `default`, which an arm or the case has once
 abbrev pub default_added : Arms → CaseLabels → At → Result CaseLabels BuildFault
-default_added a ls at =
-    (if is_some (default_at a ls) then Err (Types (LabelTwice at (default_at a ls)))
-    else Ok (record ls { default = Some at }))
+default_added a ls at = once_test at (default_before a ls) >> λ u. Ok (record ls { default = Some at })
 
 -- one label more, behind those of the case and the arms of the cases before
 abbrev pub label_added : List Entry → ℕ → Switch → Arms → CaseLabels → Label → Result CaseLabels BuildFault

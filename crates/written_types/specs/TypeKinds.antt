@@ -7,6 +7,7 @@ use Rattle.const_values.specs.declared.kind.ConstKind.TheVariants as Kinds
 use Rattle.written_types.specs.declared.fault.TypeKind.{TypeKind}
 use Rattle.written_types.specs.declared.fault.TypeKind.TheVariants.{Integer, Char, Boolean, Octet, Enum, String, Sequence, Array, Struct, Union, Object}
 
+-- a frame has no name, so it is never told
 abbrev pub node_kind : Node → TypeKind
 node_kind (Nodes.Whole width signed) = Integer
 node_kind Nodes.Octet = Octet
@@ -20,7 +21,7 @@ node_kind (Nodes.Struct members) = Struct
 node_kind (Nodes.Union switch arms default) = Union
 node_kind (Nodes.Frame members) = Struct
 
--- the type of the number; an object reference is a structure of the graph
+-- the kind of the type of the number; 13 is Object, in the graph a structure
 abbrev pub kind_of : ℕ → Option Node → Option TypeKind
 kind_of number None = None
 kind_of number (Some node) = Some (if nat_eq number 13 then Object else node_kind node)

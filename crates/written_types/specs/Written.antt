@@ -59,7 +59,7 @@ added w node sites = at_most max_nodes Nodes sites.at (next w + 1) >> λ n. Ok (
 abbrev pub one_site : At → Sites
 one_site at = record { at = at; held = at ∷ [] }
 
--- a node that holds one other at most, and stands there
+-- a node at `at` that holds one other at most
 abbrev pub added_at : Written → Node → At → Result Numbered BuildFault
 added_at w node at = added w node (one_site at)
 

@@ -1,7 +1,7 @@
 //! The arms of unions, while they are read.
 
 ghost use Rattle.std.specs.Prelude.{◌≡◌, ◌≤◌, ◌++◌, insert, length, map, IfOk, OnOk};
-ghost use Rattle.written_types.specs.Labels.{arm_label_at, is_label, keyword_at, no_arms, with_arm, with_case};
+ghost use Rattle.written_types.specs.Labels.{arm_label_at, keyword_at, no_arms, with_arm, with_case};
 ghost use Rattle.written_types.specs.Types.{arm_at, default_sites, default_number, default_test, numbered_arm};
 
 use crate::fault::{BuildFault, TypeFault};
@@ -20,7 +20,7 @@ pub(crate) struct Arm {
     pub at: At,
 }
 
-/// What every other value chooses, and where the keyword stands.
+/// What every other value chooses; where the member's declarator and the keyword stand.
 #[derive(Clone, Copy)]
 pub(crate) struct DefaultArm {
     pub number: u32,
@@ -65,13 +65,6 @@ impl ArmList {
             arms: Vec::new(alloc),
             default: None,
         }
-    }
-
-    /// Whether an arm has the label.
-    pub fn has(&self, label: i128) -> bool
-        ensures { result ≡ is_label self.now.arms label }
-    {
-        self.arms.iter().any(|arm| arm.label == label)
     }
 
     /// Where the label of an arm stands.
@@ -126,7 +119,7 @@ impl ArmList {
                 at,
             })?;
         }
-        if let Some(keyword) = labels.default_at() {
+        if let Some(keyword) = labels.keyword() {
             self.default = Some(DefaultArm {
                 number,
                 at,

@@ -1,7 +1,7 @@
 //! Why a specification has no model.
 
 ghost use Rattle.std.specs.Prelude.{◌≡◌};
-ghost use Rattle.written_types.specs.Faults.{at_most, limit};
+ghost use Rattle.written_types.specs.Faults.{at_most};
 ghost use Rattle.written_types.specs.declared.fault.BuildFault.TheVariants.{NoMemory};
 
 use idl_tree::names::At;
@@ -39,9 +39,11 @@ pub enum LabelWorth {
 /// What an operation answers first, in the order of reading.
 #[derive(Clone, Copy, Debug, PartialEq, Eq)]
 pub enum Answer {
+    /// It has a result.
     Result,
     /// A parameter that isn't `in`; its identifier stands there.
     Parameter(At),
+    /// It may raise exceptions.
     Exceptions,
 }
 
@@ -60,7 +62,7 @@ pub enum TypeFault {
     #[error("31 LabelTwice line {at}")]
     LabelTwice {
         at: At,
-        other: Option<At>,
+        other: At,
     },
     /// A label is no value of the union's discriminator, which is of the kind and has the values.
     #[error("32 LabelRange line {at}")]
@@ -75,13 +77,14 @@ pub enum TypeFault {
     DefaultNeedless {
         at: At,
     },
-    /// The discriminator of a union is of a type that has no labels.
+    /// The discriminator of a union is of a type that has no labels. Its kind is told; None where
+    /// there is no such type, which a file's own names never give.
     #[error("34 BadSwitch line {at}")]
     BadSwitch {
         at: At,
         found: Option<TypeKind>,
     },
-    /// There is more of it than so many.
+    /// More than the `most` that the limit of `which` allows.
     #[error("35 Limit line {at}")]
     Limit {
         which: GraphLimit,
@@ -109,15 +112,6 @@ pub enum BuildFault {
     NoMemory,
 }
 
-impl BuildFault {
-    /// A limit of so many that is passed there.
-    pub fn limit(which: GraphLimit, most: u32, at: At) -> BuildFault
-        ensures { result ≡ limit which most at }
-    {
-        BuildFault::Types(TypeFault::Limit { which, most, at })
-    }
-}
-
 /// So many, where they aren't more than the limit.
 ///
 /// # Errors
@@ -126,7 +120,7 @@ pub(crate) fn at_most(most: u32, which: GraphLimit, at: At, n: u128) -> Result<u
     ensures { result ≡ at_most most which at n }
 {
     if n > u128::from(most) {
-        return Err(BuildFault::limit(which, most, at));
+        return Err(BuildFault::Types(TypeFault::Limit { which, most, at }));
     }
     Ok(n as u32)
 }

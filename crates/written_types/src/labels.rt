@@ -1,12 +1,10 @@
 //! The discriminators of unions and their labels (ISO/IEC 19500-1, unions).
 
 ghost use Rattle.std.specs.Prelude.{◌≡◌, ◌≤◌, ◌^◌, length, option_copied, Some};
-ghost use Rattle.std.specs.List.{list_any};
-ghost use Rattle.std.specs.Ordering.{int_eq};
 ghost use Rattle.idl_tree.specs.Lists.{parts};
 ghost use Rattle.type_graph.specs.declared.node.Node.TheVariants.{Whole as WholeNode};
 ghost use Rattle.written_types.specs.Faults.{Tells, each};
-ghost use Rattle.written_types.specs.Labels.{default_added, is_taken, is_value, label_added, label_number, label_value, label_within, no_labels, out_of_range, signed_values, switch_at, switch_kind, switch_of, switch_read, switch_type, switched, taken_at, value_added, value_at, values_below, values_of};
+ghost use Rattle.written_types.specs.Labels.{default_added, is_value, label_added, label_number, label_value, label_within, no_labels, once_test, out_of_range, signed_values, switch_at, switch_kind, switch_of, switch_read, switch_type, switched, taken_at, value_added, value_at, values_below, values_of};
 ghost use Rattle.written_types.specs.Written.{already};
 
 use crate::arms::ArmList;
@@ -54,6 +52,19 @@ impl Model for CaseLabels {
     ghost view = { λ l. record { values = l.values.items; default = l.default } };
 }
 
+/// That nothing else has the value, or is a default, which would stand there.
+///
+/// # Errors
+/// `LabelTwice` where something has.
+fn check_once(at: At, other: Option<At>) -> Result<(), BuildFault>
+    ensures { result ≡ once_test at other }
+{
+    match other {
+        Some(other) => Err(BuildFault::Types(TypeFault::LabelTwice { at, other })),
+        None => Ok(()),
+    }
+}
+
 impl CaseLabels {
     /// No labels. Takes no memory.
     fn new(alloc: Global) -> Self
@@ -73,16 +84,10 @@ impl CaseLabels {
     }
 
     /// Where `default` stands.
-    pub fn default_at(&self) -> Option<At>
+    pub fn keyword(&self) -> Option<At>
         ensures { result ≡ self.now.default }
     {
         self.default
-    }
-
-    fn has(&self, value: i128) -> bool
-        ensures { result ≡ list_any (λ l. int_eq l.value value) self.now.values }
-    {
-        self.values.iter().any(|label| label.value == value)
     }
 
     /// Where the label of the value stands.
@@ -95,13 +100,6 @@ impl CaseLabels {
             }
         }
         None
-    }
-
-    /// Whether an arm or a label before has the value.
-    fn is_taken(&self, arms: &ArmList, value: i128) -> bool
-        ensures { result ≡ is_taken arms.now self.now value }
-    {
-        arms.has(value) || self.has(value)
     }
 
     /// Where an arm or a label before stands that has the value.
@@ -118,27 +116,21 @@ impl CaseLabels {
     fn add_value(&mut self, arms: &ArmList, at: At, value: i128) -> Result<(), BuildFault>
         ensures { Tells result (λ u. self.new) (value_added arms.now self.old at value) }
     {
-        if self.is_taken(arms, value) {
-            let other = self.taken_at(arms, value);
-            return Err(BuildFault::Types(TypeFault::LabelTwice { at, other }));
-        }
+        check_once(at, self.taken_at(arms, value))?;
         let count = arms.len() as u128 + self.values.len() as u128 + 1;
         at_most(MAX_MEMBERS, GraphLimit::Members, at, count)?;
         self.values.push(LabelValue { value, at })?;
         Ok(())
     }
 
-    /// The `default` there.
+    /// A `default` at `at`.
     ///
     /// # Errors
     /// `LabelTwice` where there is one.
     fn add_default(&mut self, arms: &ArmList, at: At) -> Result<(), BuildFault>
         ensures { Tells result (λ u. self.new) (default_added arms.now self.old at) }
     {
-        let other = arms.keyword_at().or(self.default);
-        if other.is_some() {
-            return Err(BuildFault::Types(TypeFault::LabelTwice { at, other }));
-        }
+        check_once(at, arms.keyword_at().or(self.default))?;
         self.default = Some(at);
         Ok(())
     }

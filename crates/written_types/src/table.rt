@@ -77,7 +77,7 @@ impl TypeTable {
         })
     }
 
-    /// A node more, with the places of it and of what it holds; gives its number.
+    /// A node more, with its sites; gives its number.
     ///
     /// # Errors
     /// `Limit` where there are 4,096, want of memory.
@@ -92,7 +92,7 @@ impl TypeTable {
         Ok(number as u32)
     }
 
-    /// A node that holds one other at most, which stands there.
+    /// A node at `at` that holds one other at most.
     ///
     /// # Errors
     /// As `add`.
@@ -220,7 +220,7 @@ impl TypeTable {
         Ok(())
     }
 
-    /// Where what a node holds stands; a basic type has no places.
+    /// Where what a node holds stands; a basic type has no sites.
     fn set_held(&mut self, number: usize, held: Vec<At>)
         ensures { self.new ≡ record self.old { sites = held_at self.old.sites number held.items } }
     {

@@ -16,7 +16,7 @@ use type_graph::Node;
 use type_paths::NodeSites;
 
 impl TypeTable {
-    /// A node more, with the places of it and of what it holds; gives its number.
+    /// A node more, with its sites; gives its number.
     ///
     /// # Errors
     /// `Limit` where there are 4,096, want of memory.
