@@ -1,11 +1,12 @@
 -- A token that none stands behind, and the line of a token.
 use Rattle.std.proofs.Common.{◌≡◌, ℕ, zero, suc, ◌+◌, ◌-◌, ◌<◌, ◌≤◌, Bool, true, false, cond, nat_eq, nat_lt, List, [], ◌∷◌, length, get_or, slice_get, Option, Some, None, refl, ap, subst, sym, ◌∙◌, inl, inr, arith}
 use Rattle.std.specs.List.{find}
+use Rattle.std.specs.Option.{option_or}
 use Rattle.std.proofs.lemmas.Bool.{cases_lt, eq-eqb, ne_eqb}
 use Rattle.std.proofs.lemmas.List.{get_or_past, get_or_default}
 use Rattle.std.proofs.lemmas.Option.{slice_get_within}
 use Rattle.idl_tree.specs.declared.names.At.{At}
-use Rattle.type_paths.specs.Sites.{Sites, Types, held_token, held_in, known_in, known_of, line_in, line_of, nowhere, or_else, token_at}
+use Rattle.type_paths.specs.Sites.{Sites, Types, held_token, held_in, known_in, known_of, line_in, line_of, nowhere, token_at}
 
 -- of one node
 pub held_bound : (sites : Sites) (most n : ℕ) → sites.at.token ≤ most → length sites.held ≤ n → ((place : ℕ) → place < n → (get_or sites.held place nowhere).token ≤ most) → (place : ℕ) → held_token sites place ≤ most
@@ -73,14 +74,14 @@ none_up_to token all i item lt is none before k below = elim (cases_lt k i) as (
 none_known : (token : ℕ) (all : List Sites) → ((k : ℕ) → k < length all → known_of token (get_or all k no_sites) ≡ None) → known_in token all ≡ None
 none_known token [] each = refl
 none_known token (sites ∷ all) each =
-    ap (λ (found : Option At). or_else found (known_in token all)) (each 0 (omega arith)) ∙ none_known token all (λ k lt. each (suc k) (omega arith))
+    ap (λ (found : Option At). option_or found (known_in token all)) (each 0 (omega arith)) ∙ none_known token all (λ k lt. each (suc k) (omega arith))
 
 first_known : (token : ℕ) (all : List Sites) (i : ℕ) (at : At) → i < length all → known_of token (get_or all i no_sites) ≡ Some at
     → ((k : ℕ) → k < i → known_of token (get_or all k no_sites) ≡ None) → known_in token all ≡ Some at
 first_known token [] i at lt known before = absurd (omega arith)
-first_known token (sites ∷ all) zero at lt known before = ap (λ (found : Option At). or_else found (known_in token all)) known
+first_known token (sites ∷ all) zero at lt known before = ap (λ (found : Option At). option_or found (known_in token all)) known
 first_known token (sites ∷ all) (suc i) at lt known before =
-    ap (λ (found : Option At). or_else found (known_in token all)) (before 0 (omega arith))
+    ap (λ (found : Option At). option_or found (known_in token all)) (before 0 (omega arith))
     ∙ first_known token all i at (omega arith) known (λ k less. before (suc k) (omega arith))
 
 -- nothing stands there

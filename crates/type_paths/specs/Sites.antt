@@ -1,4 +1,5 @@
 -- Where the types of a list stand.
+use Rattle.std.specs.Option.{option_or}
 use Rattle.std.specs.Prelude.{ℕ, ◌-◌, nat_eq, nat_lt, if◌then◌else◌, List, [], ◌∷◌, Option, Some, None, slice_get, slice_index_or}
 use Rattle.std.specs.List.{find}
 use Rattle.idl_tree.specs.declared.names.At.{At}
@@ -42,16 +43,12 @@ abbrev pub token_at : Types → ℕ → ℕ → ℕ
 token_at types node place = held_in (sites_of types node) place
 
 -- where a token stands, if a node or what it holds does at this token
-abbrev pub or_else : Option At → Option At → Option At
-or_else None other = other
-or_else (Some at) other = Some at
-
 abbrev pub known_of : ℕ → Sites → Option At
 known_of token sites = find (λ at. nat_eq at.token token) (sites.at ∷ sites.held)
 
 abbrev pub known_in : ℕ → List Sites → Option At
 known_in token [] = None
-known_in token (sites ∷ more) = or_else (known_of token sites) (known_in token more)
+known_in token (sites ∷ more) = option_or (known_of token sites) (known_in token more)
 
 abbrev pub line_in : Option At → ℕ
 line_in None = 0

@@ -19,7 +19,7 @@ pub fn fault_is_of_long_paths()
         → IsPathFault nodes first sites fault → EachIndex nodes (IsShallow 64 nodes) → ⊥ }
 {}
 
-/// A member stands at the token that closes a circle, so its line is that of a member.
+/// There is a member at the token that closes a circle. Of a node without sites that is token 0.
 pub fn circle_closes_at_a_member()
     ensures { (types : Types) (token : ℕ) → ClosesCircle types token
         → ((node place part : ℕ) → slice_get (held_by (node_at types.nodes node)) place ≡ Some part → token_at types node place ≡ token → ⊥) → ⊥ }

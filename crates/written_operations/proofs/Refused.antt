@@ -1,5 +1,6 @@
 -- Operations that are refused, and where that is told.
 use Rattle.std.proofs.Common.{◌≡◌, ◌∙◌, ℕ, ◌+◌, Bool, true, false, List, ◌∷◌, [], length, Option, Some, None, Ok, Err, refl, ap}
+use Rattle.std.specs.Option.{option_or}
 use Rattle.std.specs.Prelude.{◌&&◌, if◌then◌else◌, is_some, nat_lt}
 use Rattle.idl_tree.specs.declared.names.At.{At}
 use Rattle.idl_tree.specs.declared.names.Listed.{Listed}
@@ -21,7 +22,7 @@ use Rattle.written_types.specs.SimpleTypes.{entry_found}
 use Rattle.written_types.specs.Types.{member_added}
 use Rattle.written_types.proofs.Walks.{goes_on, stops}
 use Rattle.written_operations.specs.declared.frames.Carried.{Carried}
-use Rattle.written_operations.specs.Oneway.{answer_of, answer_test, oneway_test, or_behind, param_answer, parts_of, raises_answer, result_answer}
+use Rattle.written_operations.specs.Oneway.{answer_of, answer_test, oneway_test, param_answer, parts_of, raises_answer, result_answer}
 use Rattle.written_operations.specs.Frames.{with_carried}
 use Rattle.written_operations.specs.Operations.{Defined, exception_found, exception_in, operation, raised, with_exception}
 
@@ -39,10 +40,10 @@ pub has_result : (es : List Entry) (scope : ℕ) (d : Defined) (o : Operation) (
     → operation es scope d o ≡ Err (Types (BadOneway (leaf_at o.identifier) ResultAnswer))
 has_result es scope d o t oneway is =
     answers es scope d o ResultAnswer oneway
-    (ap (λ r. or_behind (result_answer r) (or_behind (param_answer (parts_of o.params)) (raises_answer o.raises))) is)
+    (ap (λ r. option_or (result_answer r) (option_or (param_answer (parts_of o.params)) (raises_answer o.raises))) is)
 
 -- what comes behind is answered, or something before it
-behind_some : (o : Option Answer) (behind : Answer) → (answer : Answer) × (or_behind o (Some behind) ≡ Some answer)
+behind_some : (o : Option Answer) (behind : Answer) → (answer : Answer) × (option_or o (Some behind) ≡ Some answer)
 behind_some None behind = (behind, refl)
 behind_some (Some answer) behind = (answer, refl)
 
@@ -51,7 +52,7 @@ pub has_out : (es : List Entry) (scope : ℕ) (d : Defined) (o : Operation) (p :
     → (answer : Answer) × (operation es scope d o ≡ Err (Types (BadOneway (leaf_at o.identifier) answer)))
 has_out es scope d o p oneway is =
     let (answer, some) = behind_some (result_answer o.result_type) p in
-    (answer, answers es scope d o answer oneway (ap (λ r. or_behind (result_answer o.result_type) (or_behind r (raises_answer o.raises))) is ∙ some))
+    (answer, answers es scope d o answer oneway (ap (λ r. option_or (result_answer o.result_type) (option_or r (raises_answer o.raises))) is ∙ some))
 
 pub has_raises : (es : List Entry) (scope : ℕ) (d : Defined) (o : Operation) (names : Listed ScopedName) → o.is_oneway ≡ true → o.raises ≡ Some names
     → (answer : Answer) × (operation es scope d o ≡ Err (Types (BadOneway (leaf_at o.identifier) answer)))
@@ -60,8 +61,8 @@ has_raises es scope d o names oneway is =
     let (answer, some) = behind_some (result_answer o.result_type) inner in (
       answer,
       answers es scope d o answer oneway
-          (ap (λ r. or_behind (result_answer o.result_type) (or_behind (param_answer (parts_of o.params)) (raises_answer r))) is
-          ∙ ap (or_behind (result_answer o.result_type)) some_inner ∙ some),
+          (ap (λ r. option_or (result_answer o.result_type) (option_or (param_answer (parts_of o.params)) (raises_answer r))) is
+          ∙ ap (option_or (result_answer o.result_type)) some_inner ∙ some),
     )
 
 -- a oneway operation that is written answers nothing

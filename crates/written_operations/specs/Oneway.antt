@@ -1,4 +1,5 @@
 -- Which operations may be oneway (ISO/IEC 19500-1, operation declaration).
+use Rattle.std.specs.Option.{option_or}
 use Rattle.std.specs.Prelude.{Bool, true, false, if◌then◌else◌, List, [], ◌∷◌, Option, Some, None, Result, Ok, Err}
 use Rattle.idl_tree.specs.declared.definitions.Direction.{Direction}
 use Rattle.idl_tree.specs.declared.names.Listed.{Listed}
@@ -40,14 +41,10 @@ abbrev pub raises_answer : Option (Listed ScopedName) → Option Answer
 raises_answer None = None
 raises_answer (Some names) = Some Exceptions
 
-abbrev pub or_behind : Option Answer → Option Answer → Option Answer
-or_behind None behind = behind
-or_behind (Some answer) behind = Some answer
-
 -- the first of these, if it answers anything
 abbrev pub answer_of : Operation → Option Answer
 answer_of o =
-    or_behind (result_answer o.result_type) (or_behind (param_answer (parts_of o.params)) (raises_answer o.raises))
+    option_or (result_answer o.result_type) (option_or (param_answer (parts_of o.params)) (raises_answer o.raises))
 
 abbrev pub answer_test : Operation → Option Answer → Result (Unit {0}) BuildFault
 answer_test o None = Ok tt

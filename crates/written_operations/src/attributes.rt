@@ -150,7 +150,7 @@ impl OperationTable {
     /// What is written behind attributes of one type.
     ///
     /// # Errors
-    /// The first fault in the order of reading, want of memory.
+    /// The first fault in the order of reading; want of memory.
     pub(crate) fn with_attribute<'a>(
         self,
         alloc: Global,

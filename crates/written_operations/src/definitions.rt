@@ -57,7 +57,7 @@ impl OperationTable {
 /// What a whole file writes, whose names these are.
 ///
 /// # Errors
-/// The first fault in the order of reading, want of memory.
+/// The first fault in the order of reading; want of memory.
 pub fn write_file<'a>(
     alloc: Global,
     names: &Names<'a>,

@@ -202,7 +202,7 @@ impl OperationTable {
     /// What is written behind an interface, declared ahead or defined.
     ///
     /// # Errors
-    /// The first fault in the order of reading, want of memory.
+    /// The first fault in the order of reading; want of memory.
     pub(crate) fn with_interface<'a>(
         self,
         alloc: Global,

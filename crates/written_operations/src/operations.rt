@@ -44,7 +44,7 @@ impl OperationTable {
     /// What is written behind an operation.
     ///
     /// # Errors
-    /// The first fault in the order of reading, want of memory.
+    /// The first fault in the order of reading; want of memory.
     pub(crate) fn with_operation<'a>(
         self,
         alloc: Global,

@@ -166,7 +166,7 @@ impl TypeTable {
     /// What is written behind a declaration of a module or an interface.
     ///
     /// # Errors
-    /// The first fault in the order of reading, want of memory.
+    /// The first fault in the order of reading; want of memory.
     pub fn with_declaration<'a>(
         self,
         alloc: Global,

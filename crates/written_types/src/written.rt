@@ -55,7 +55,7 @@ impl TypeTable {
     /// What is written behind the type of a parameter, a result or an attribute; gives its number.
     ///
     /// # Errors
-    /// The first fault in the order of reading, want of memory.
+    /// The first fault in the order of reading; want of memory.
     pub fn with_param_type<'a>(
         self,
         alloc: Global,
