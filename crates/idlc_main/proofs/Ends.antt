@@ -1,26 +1,15 @@
--- How a run ends on a fault.
-use Rattle.std.proofs.Common.{◌≡◌, refl, ℕ, ◌≤◌, List, Option, arith}
+-- How a run ends, on an answer or a fault.
+use Rattle.std.proofs.Common.{◌≡◌, refl, subst, ℕ, ◌≤◌, ◌⊎◌, inl, inr, List, Option, Ok, string_bytes, arith}
+use Rattle.std.specs.Io.KnownBytes.{Appends}
+use Rattle.idlc_main.specs.declared.told.Answer.{Answer}
 use Rattle.idlc_main.specs.declared.fault.Fault.{Fault}
 use Rattle.idlc_main.specs.declared.fault.Fault.TheVariants.{Words, NotText, Unread, Refused, NoReference, NotCompiled, NotServed, Socket, NoRefusal, Unmade, Unwritten, NoMemory}
-use Rattle.idlc_main.specs.Fault.{status_of}
+use Rattle.command_words.specs.declared.mistake.Mistake.{Mistake}
+use Rattle.command_words.specs.declared.mistake.Mistake.TheVariants as mistakes
+use Rattle.idlc_main.specs.Fault.{fault_of_words, status_of}
 use Rattle.idlc_main.specs.Files.{Passing}
 use Rattle.command_words.specs.Ask.{Ask, Explanation, Reference, ReferenceAsk, Value, ValueAsk}
-use Rattle.idlc_main.specs.Answer.{IsEndOf, IsExplanationFault, IsFaultOf, IsReferenceFault, IsStrange, IsToldOf, IsValueFault}
-
--- a fault that answers may be told
-pub told_of : (Reads : Passing) (ask : Ask) (fault : Fault) → IsFaultOf Reads ask fault → IsToldOf Reads ask fault
-told_of Reads ask (Words mistake) is = is
-told_of Reads ask NotText is = is
-told_of Reads ask (Refused refusal) is = is
-told_of Reads ask (NoReference refusal) is = is
-told_of Reads ask (NotCompiled refusal) is = is
-told_of Reads ask (NotServed fault) is = is
-told_of Reads ask Socket is = is
-told_of Reads ask (NoRefusal number) is = is
-told_of Reads ask (Unmade file) is = is
-told_of Reads ask (Unread file) is = is
-told_of Reads ask Unwritten is = tt
-told_of Reads ask NoMemory is = is
+use Rattle.idlc_main.specs.Answer.{IsAnswer, IsEndOf, IsExplanationFault, IsFaultOf, IsReferenceFault, IsStrange, IsValueFault}
 
 -- a fault that answers nothing, whatever is asked for
 never : (Reads : Passing) (ask : Ask) (fault : Fault) → ((value : ValueAsk) → IsValueFault Reads value fault → ⊥)
@@ -60,7 +49,26 @@ module _ (Reads : Passing) (ask : Ask) (old new : Option (List ℕ)) where
     understood = λ is_2. absurd (omega arith);
   }
 
-  pub ends : (fault : Fault) (status : ℕ) → status ≡ status_of fault → IsToldOf Reads ask fault → IsEndOf Reads ask status old new
+  -- standard output got the answer, or couldn't be written
+  pub ends_said : (answer : Answer) (status : ℕ) → (status ≡ 0) ⊎ (status ≡ 3) → (status ≡ 0 → Appends old new (string_bytes answer.text))
+      → IsAnswer Reads ask (Ok answer) → IsEndOf Reads ask status old new
+  ends_said answer status (inl is_0) said is = record {
+    done = λ _. record { line = string_bytes answer.text; printed = said is_0; is_line = is.line };
+    refused = λ is_1. absurd (omega arith);
+    understood = λ is_2. absurd (omega arith);
+  }
+  ends_said answer status (inr is_3) said is = ends_else status (omega arith)
+
+  -- there was no memory to read the words
+  pub ends_unread : (mistake : Mistake) (fault : Fault) (status : ℕ) → mistake ≡ mistakes.NoMemory → fault ≡ fault_of_words mistake → status ≡ status_of fault
+      → IsEndOf Reads ask status old new
+  ends_unread mistake fault status no_memory from is =
+      let same : fault ≡ NoMemory = subst (λ (m : Mistake). fault ≡ fault_of_words m) no_memory from in
+      let four : status ≡ 4 = subst (λ (f : Fault). status ≡ status_of f) same is in
+      ends_else status (omega arith)
+
+  -- there was a fault
+  pub ends : (fault : Fault) (status : ℕ) → status ≡ status_of fault → IsFaultOf Reads ask fault → IsEndOf Reads ask status old new
   ends (Words mistake) status is told = absurd (never Reads ask (Words mistake) (λ _ h. h) (λ _ h. h) (λ _ h. h) told)
   ends NotText status is told = absurd (never Reads ask NotText (λ _ h. h) (λ _ h. h) (λ _ h. h) told)
   ends (Refused refusal) status is told = ends_refused (Refused refusal) status is refl told

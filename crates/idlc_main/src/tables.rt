@@ -1,10 +1,9 @@
 //! Tables by their names: the sample, or files.
 
 ghost use Rattle.std.specs.Prelude.{◌≡◌, codes, IfOk, IfErr, OnOk};
-ghost use Rattle.position_checker.specs.Acceptance.{IsRight};
 ghost use Rattle.idlc_main.specs.Answer.{IsFileFault};
 ghost use Rattle.idlc_main.specs.Fault.{IsTold};
-ghost use Rattle.idlc_main.specs.Files.{IsReadAs, IsTableOf};
+ghost use Rattle.idlc_main.specs.Files.{IsTableOf};
 
 use crate::fault::Fault;
 use position_checker::Accepted;
@@ -14,7 +13,7 @@ use table_commands::{MAX_LEN, ReadFault, Refusal, WholeFiles, WriteFault, accept
 pub const SAMPLE: &str = "builtin";
 
 /// Why a file wasn't read.
-fn unread<'a>(file: &'a str, fault: ReadFault) -> Fault<'a>
+pub fn unread<'a>(file: &'a str, fault: ReadFault) -> Fault<'a>
     ensures fault { IsFileFault file.now result }
     ensures told { IsTold result }
 {
@@ -22,34 +21,6 @@ fn unread<'a>(file: &'a str, fault: ReadFault) -> Fault<'a>
         ReadFault::Unread => Fault::Unread { file },
         ReadFault::TooLong => Fault::Refused(Refusal::TooLong),
         ReadFault::NoMemory => Fault::NoMemory,
-    }
-}
-
-/// The octets of a file.
-pub fn octets_in<'a, R: WholeFiles>(rt: &R, file: &'a str) -> Result<Vec<u8>, Fault<'a>>
-    ensures read { IfOk result (λ octets. R.reads rt.now file.now octets.items) }
-    ensures fault { IfErr result (IsFileFault file.now) }
-    ensures told { IfErr result IsTold }
-{
-    match rt.octets_in(file, MAX_LEN) {
-        Ok(octets) => Ok(octets),
-        Err(fault) => Err(unread(file, fault)),
-    }
-}
-
-fn table_in<'a, R: WholeFiles + AllocGlobal>(rt: &R, file: &'a str) -> Result<Accepted, Fault<'a>>
-    ensures read { IfOk result (IsReadAs (R.reads rt.now) file.now) }
-    ensures right { IfOk result IsRight }
-    ensures fault { IfErr result (IsFileFault file.now) }
-    ensures told { IfErr result IsTold }
-{
-    let octets = match octets_in(rt, file) {
-        Ok(octets) => octets,
-        Err(fault) => return Err(fault),
-    };
-    match accepted(rt.alloc(), octets.as_slice()) {
-        Ok(table) => Ok(table),
-        Err(refusal) => Err(Fault::from(refusal)),
     }
 }
 
@@ -69,7 +40,14 @@ pub fn table_of<'a, R: WholeFiles + AllocGlobal>(
             Err(_) => Err(Fault::NoMemory),
         };
     }
-    table_in(rt, name)
+    let octets = match rt.octets_in(name, MAX_LEN) {
+        Ok(octets) => octets,
+        Err(fault) => return Err(unread(name, fault)),
+    };
+    match accepted(rt.alloc(), octets.as_slice()) {
+        Ok(table) => Ok(table),
+        Err(refusal) => Err(Fault::from(refusal)),
+    }
 }
 
 /// Why a file wasn't written.

@@ -12,14 +12,16 @@ ghost use Rattle.idlc_main.specs.Files.{IsCompiledTo, IsCounted, IsDone, IsUpgra
 ghost use Rattle.table_commands.specs.Lines.{accepted};
 
 use crate::fault::Fault;
-use crate::tables::{octets_in, put, table_of};
+use crate::tables::{put, table_of, unread};
 use crate::told::{Answer, Notice};
 use command_words::{Asked, AskedReference, Task};
 use fault_texts::explanation;
 use idl_compiler::{CompiledFile, compile_file};
 use position_checker::Accepted;
 use std::alloc::Global;
-use table_commands::{WholeFiles, accepted_line, listing, marshal, reference_line, upgraded};
+use table_commands::{
+    MAX_LEN, WholeFiles, accepted_line, listing, marshal, reference_line, upgraded,
+};
 
 fn value<'a, R: WholeFiles + AllocGlobal>(rt: &R, asked: &Asked<'a>) -> Result<Answer, Fault<'a>>
     ensures answers { IsAnswer (R.reads rt.now) (Value (value_ask_of asked.now)) result }
@@ -156,7 +158,10 @@ fn compile<'a, R: WholeFiles + AllocGlobal>(
         IsCompiledTo (R.reads rt.now) (R.takes rt.now) source.now output.now (string_bytes answer.text)) }
     ensures told { IfErr result IsTold }
 {
-    let source = octets_in(rt, source)?;
+    let source = match rt.octets_in(source, MAX_LEN) {
+        Ok(octets) => octets,
+        Err(fault) => return Err(unread(source, fault)),
+    };
     let file = compile_file(rt.alloc(), source.as_slice())?;
     put_compiled(rt, output, source.as_slice(), &file)?;
     Ok(Answer {

@@ -1,13 +1,33 @@
-use Rattle.std.proofs.Common.{arith}
-use Rattle.idlc_main.proofs.Ends.{ends}
+use Rattle.std.proofs.Common.{◌≡◌}
+use Rattle.idlc_main.proofs.Answers.{answers, same_task}
+use Rattle.idlc_main.proofs.Ends.{ends, ends_said, ends_unread}
 use Rattle.idlc_main.proofs.run.Goals as goal
 
 pub returns-in-Ok-clause-asked : goal.returns-in-Ok-clause-asked
-returns-in-Ok-clause-asked g c ask asks = record {
-  done = λ _. c.in-Ok.ensures.asked ask asks;
-  refused = λ is_1. absurd (omega arith);
-  understood = λ is_2. absurd (omega arith);
-}
+returns-in-Ok-clause-asked g c ask asks =
+    let reads = g.R.WholeFiles.reads c.args.rt.now in
+    let found = c.in-Ok-Do.ensures.asked ask asks in
+    let same = found.1 in
+    let is : c.in-Ok-Do.task ≡ found.0 = cc in
+    let asked = same_task ask c.in-Ok-Do.task found.0 is found.2 in
+    ends_said reads ask _ _ c.in-Ok.answer c.say-in-Ok.result c.say-in-Ok.ensures.range c.say-in-Ok.ensures.said
+    (answers reads ask _ c.in-Ok-Do.task asked c.in-Ok.ensures.value c.in-Ok.ensures.reference c.in-Ok.ensures.explanation)
+
+pub returns-in-Err-done-clause-asked : goal.returns-in-Err-done-clause-asked
+returns-in-Err-done-clause-asked g c ask asks =
+    let reads = g.R.WholeFiles.reads c.args.rt.now in
+    let found = c.in-Ok-Do.ensures.asked ask asks in
+    let same = found.1 in
+    let is : c.in-Ok-Do.task ≡ found.0 = cc in
+    let asked = same_task ask c.in-Ok-Do.task found.0 is found.2 in
+    ends reads ask _ _ c.in-Err-done.fault c.failed.result c.failed.ensures
+    (answers reads ask _ c.in-Ok-Do.task asked c.in-Err-done.ensures.value c.in-Err-done.ensures.reference c.in-Err-done.ensures.explanation).fault
+
+pub returns-in-Err-served-clause-asked : goal.returns-in-Err-served-clause-asked
+returns-in-Err-served-clause-asked g c ask asks =
+    let found = c.in-Ok-Serve.ensures.asked ask asks in
+    let same = found.1 in absurd cc
 
 pub returns-in-Err-clause-asked : goal.returns-in-Err-clause-asked
-returns-in-Err-clause-asked g c ask asks = ends (g.R.WholeFiles.reads c.args.rt.now) ask _ _ c.in-Err.fault c.status.result c.status.ensures.status (c.in-Err.ensures.asked ask asks)
+returns-in-Err-clause-asked g c ask asks =
+    ends_unread (g.R.WholeFiles.reads c.args.rt.now) ask _ _ c.in-Err.mistake c.from.result c.failed-in-Err.result (c.in-Err.ensures.asked ask asks) c.from.ensures c.failed-in-Err.ensures

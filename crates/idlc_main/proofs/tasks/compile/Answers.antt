@@ -4,8 +4,8 @@ use Rattle.idlc_main.proofs.tasks.compile.Goals as goal
 
 pub returns-clause-compiled : goal.returns-clause-compiled
 returns-clause-compiled g c = record {
-  octets = c.in_ok-source.source.items;
-  read = c.in_ok-source.ensures.read;
+  octets = c.in-Ok.octets.items;
+  read = c.in-Ok.ensures.read;
   file = c.in_ok-file.file;
   is = subst (λ octets. IsCompiledFile octets c.in_ok-file.file) c.as_slice.ensures.value c.in_ok-file.ensures.compiled;
   taken = c.in_ok-put_compiled.ensures.taken;
