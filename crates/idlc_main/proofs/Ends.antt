@@ -1,13 +1,15 @@
 -- How a run ends, on an answer or a fault.
-use Rattle.std.proofs.Common.{◌≡◌, refl, subst, ℕ, ◌≤◌, ◌⊎◌, inl, inr, List, Option, Ok, string_bytes, arith}
+use Rattle.std.proofs.Common.{◌≡◌, refl, sym, ◌∙◌, subst, ℕ, ◌≤◌, ◌⊎◌, inl, inr, List, Option, Ok, string_bytes, arith}
 use Rattle.std.specs.Io.KnownBytes.{Appends}
 use Rattle.idlc_main.specs.declared.told.Answer.{Answer}
 use Rattle.idlc_main.specs.declared.fault.Fault.{Fault}
-use Rattle.idlc_main.specs.declared.fault.Fault.TheVariants.{Words, NotText, Unread, Refused, NoReference, NotCompiled, NotServed, Socket, NoRefusal, Unmade, Unwritten, NoMemory}
+use Rattle.idlc_main.specs.declared.fault.Fault.TheVariants.{Words, NotText, Refused, NotCompiled, NotServed, Socket, NoRefusal, Unwritten, NoMemory}
 use Rattle.command_words.specs.declared.mistake.Mistake.{Mistake}
 use Rattle.command_words.specs.declared.mistake.Mistake.TheVariants as mistakes
-use Rattle.idlc_main.specs.Fault.{fault_of_words, status_of}
-use Rattle.idlc_main.specs.Files.{Passing}
+use Rattle.idlc_main.specs.Fault.{fault_of_words, status_of, status_of_refusal}
+use Rattle.table_commands.specs.Named.{Passing}
+use Rattle.table_commands.specs.declared.refusal.Refusal.{Refusal}
+use Rattle.table_commands.specs.declared.refusal.Refusal.TheVariants as refusals
 use Rattle.command_words.specs.Ask.{Ask, Explanation, Reference, ReferenceAsk, Value, ValueAsk}
 use Rattle.idlc_main.specs.Answer.{IsAnswer, IsEndOf, IsExplanationFault, IsFaultOf, IsReferenceFault, IsStrange, IsValueFault}
 
@@ -23,6 +25,13 @@ strange : (Reads : Passing) (ask : Ask) (number : ℕ) → IsFaultOf Reads ask (
 strange Reads (Value value) number is = absurd is
 strange Reads (Reference reference) number is = absurd is
 strange Reads (Explanation n) number is = is.1
+
+-- a refusal is of the input, or of files or memory
+statuses : (refusal : Refusal) → (status_of_refusal refusal ≡ 1) ⊎ (3 ≤ status_of_refusal refusal)
+statuses (refusals.Unread file) = inr (omega arith)
+statuses (refusals.Unwritten file) = inr (omega arith)
+statuses refusals.NoMemory = inr (omega arith)
+statuses refusal = inl refl
 
 module _ (Reads : Passing) (ask : Ask) (old new : Option (List ℕ)) where
   -- the input was refused
@@ -71,13 +80,13 @@ module _ (Reads : Passing) (ask : Ask) (old new : Option (List ℕ)) where
   pub ends : (fault : Fault) (status : ℕ) → status ≡ status_of fault → IsFaultOf Reads ask fault → IsEndOf Reads ask status old new
   ends (Words mistake) status is told = absurd (never Reads ask (Words mistake) (λ _ h. h) (λ _ h. h) (λ _ h. h) told)
   ends NotText status is told = absurd (never Reads ask NotText (λ _ h. h) (λ _ h. h) (λ _ h. h) told)
-  ends (Refused refusal) status is told = ends_refused (Refused refusal) status is refl told
-  ends (NoReference refusal) status is told = ends_refused (NoReference refusal) status is refl told
+  ends (Refused refusal) status is told = by_refusal (statuses refusal) where
+    by_refusal : (status_of_refusal refusal ≡ 1) ⊎ (3 ≤ status_of_refusal refusal) → IsEndOf Reads ask status old new
+    by_refusal (inl one) = ends_refused (Refused refusal) status (is ∙ one) one told
+    by_refusal (inr above) = ends_else status (subst (λ (n : ℕ). 3 ≤ n) (sym is) above)
   ends (NotCompiled refusal) status is told = absurd (never Reads ask (NotCompiled refusal) (λ _ h. h) (λ _ h. h) (λ _ h. h) told)
   ends (NotServed fault) status is told = absurd (never Reads ask (NotServed fault) (λ _ h. h) (λ _ h. h) (λ _ h. h) told)
   ends Socket status is told = absurd (never Reads ask Socket (λ _ h. h) (λ _ h. h) (λ _ h. h) told)
   ends (NoRefusal number) status is told = ends_strange status is (strange Reads ask number told)
-  ends (Unmade file) status is told = absurd (never Reads ask (Unmade file) (λ _ h. h) (λ _ h. h) (λ _ h. h) told)
-  ends (Unread file) status is told = ends_else status (omega arith)
   ends Unwritten status is told = ends_else status (omega arith)
   ends NoMemory status is told = ends_else status (omega arith)

@@ -1,3 +1,3 @@
 pub mod Answers
 pub mod Ends
-pub mod TableLaws
+pub mod Lines

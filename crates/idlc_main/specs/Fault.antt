@@ -2,42 +2,34 @@
 use Rattle.std.specs.Prelude.{ℕ}
 use Rattle.command_words.specs.declared.mistake.Mistake.{Mistake}
 use Rattle.command_words.specs.declared.mistake.Mistake.TheVariants as mistakes
-use Rattle.command_words.specs.Mistake.{IsOfWords as IsWrong}
 use Rattle.idl_compiler.specs.declared.refusal.CompileRefusal.{CompileRefusal}
 use Rattle.idl_compiler.specs.declared.refusal.CompileRefusal.TheVariants as compile_refusals
 use Rattle.table_commands.specs.declared.refusal.Refusal.{Refusal}
 use Rattle.table_commands.specs.declared.refusal.Refusal.TheVariants as refusals
-use Rattle.table_commands.specs.declared.reference_refusal.ReferenceRefusal.{ReferenceRefusal}
-use Rattle.table_commands.specs.declared.reference_refusal.ReferenceRefusal.TheVariants as reference_refusals
 use Rattle.socket_server.specs.declared.fault.ServeFault.{ServeFault}
 use Rattle.socket_server.specs.declared.fault.ServeFault.TheVariants as serve_faults
 use Rattle.idlc_main.specs.declared.fault.Fault.{Fault}
-use Rattle.idlc_main.specs.declared.fault.Fault.TheVariants.{Words, NotText, Unread, Refused, NoReference, NotCompiled, NotServed, Socket, NoRefusal, Unmade, Unwritten, NoMemory}
+use Rattle.idlc_main.specs.declared.fault.Fault.TheVariants.{Words, NotText, Refused, NotCompiled, NotServed, Socket, NoRefusal, Unwritten, NoMemory}
+
+abbrev pub status_of_refusal : Refusal → ℕ
+status_of_refusal (refusals.Unread file) = 3
+status_of_refusal (refusals.Unwritten file) = 3
+status_of_refusal refusals.NoMemory = 4
+status_of_refusal refusal = 1
 
 -- 1 for refused input, 2 for usage, 3 for files, sockets and standard output, 4 for want of memory
 abbrev pub status_of : Fault → ℕ
 status_of (Words mistake) = 2
 status_of NotText = 2
-status_of (Unread file) = 3
-status_of (Refused refusal) = 1
-status_of (NoReference refusal) = 1
+status_of (Refused refusal) = status_of_refusal refusal
 status_of (NotCompiled refusal) = 1
 status_of (NotServed fault) = 1
 status_of Socket = 3
 status_of (NoRefusal number) = 2
-status_of (Unmade file) = 3
 status_of Unwritten = 3
 status_of NoMemory = 4
 
--- what a refusal of a command is to the program
-abbrev pub fault_of : Refusal → Fault
-fault_of refusals.NoMemory = NoMemory
-fault_of refusal = Refused refusal
-
-abbrev pub fault_of_reference : ReferenceRefusal → Fault
-fault_of_reference reference_refusals.NoMemory = NoMemory
-fault_of_reference refusal = NoReference refusal
-
+-- what the refusals of other calls are to the program
 abbrev pub fault_of_source : CompileRefusal → Fault
 fault_of_source compile_refusals.NoMemory = NoMemory
 fault_of_source refusal = NotCompiled refusal
@@ -51,12 +43,6 @@ fault_of_service fault = NotServed fault
 abbrev pub fault_of_words : Mistake → Fault
 fault_of_words mistakes.NoMemory = NoMemory
 fault_of_words mistake = Words mistake
-
--- a fault that the reading of the words may have
-abbrev pub IsOfWords : Fault → Type 0
-IsOfWords (Words mistake) = IsWrong mistake
-IsOfWords NoMemory = Unit {0}
-IsOfWords fault = ⊥
 
 -- a fault that standard error tells of
 abbrev pub IsTold : Fault → Type 0

@@ -4,7 +4,7 @@ use Rattle.command_words.specs.declared.task.Service.{Service}
 use Rattle.socket_server.specs.Serving.{IsDone}
 use Rattle.socket_server.specs.Visits.{untold}
 use Rattle.table_file.specs.Table.{TableParts}
-use Rattle.idlc_main.specs.Files.{Passing, IsTableOf}
+use Rattle.table_commands.specs.Named.{Passing, IsTableOf}
 
 -- just so many connections came as the words say, and the object that they name was served to each, by the table
 -- that they name

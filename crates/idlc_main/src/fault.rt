@@ -1,14 +1,14 @@
 //! Why a run of the program didn't do what was asked for.
 
 ghost use Rattle.std.specs.Prelude.{◌≡◌, ◌≤◌};
-ghost use Rattle.idlc_main.specs.Fault.{fault_of, fault_of_reference, fault_of_service, fault_of_source, fault_of_words};
-ghost use Rattle.idlc_main.specs.declared.fault.Fault.TheVariants.{NoMemory};
+ghost use Rattle.idlc_main.specs.Fault.{fault_of_service, fault_of_source, fault_of_words, status_of_refusal};
+ghost use Rattle.idlc_main.specs.declared.fault.Fault.TheVariants.{NoMemory, Refused};
 
 use command_words::Mistake;
 use idl_compiler::CompileRefusal;
 use socket_server::ServeFault;
 use std::alloc::AllocError;
-use table_commands::{ReferenceRefusal, Refusal};
+use table_commands::Refusal;
 use thiserror::Error;
 
 /// A fault has as its text the line that stands behind `idlc: ` on standard error, but for words.
@@ -19,14 +19,9 @@ pub enum Fault<'a> {
     Words(Mistake),
     #[error("a word isn't UTF-8")]
     NotText,
-    #[error("cannot read {file}")]
-    Unread { file: &'a str },
-    /// A table or its input was refused.
+    /// A file, a table or what was asked of it.
     #[error(transparent)]
     Refused(Refusal<'a>),
-    /// There is no such reference.
-    #[error(transparent)]
-    NoReference(ReferenceRefusal<'a>),
     /// The IDL file has no table.
     #[error(transparent)]
     NotCompiled(CompileRefusal),
@@ -39,13 +34,23 @@ pub enum Fault<'a> {
     /// No refusal has the number whose meaning is asked for.
     #[error("no refusal has the number {number}")]
     NoRefusal { number: u8 },
-    #[error("cannot write {file}")]
-    Unmade { file: &'a str },
     /// Standard output can't be written, of which no line tells.
     #[error("cannot write")]
     Unwritten,
     #[error("no memory")]
     NoMemory,
+}
+
+/// The status with which the program ends on a refusal.
+fn refused_status(refusal: &Refusal<'_>) -> u8
+    ensures status { result ≡ status_of_refusal refusal.now }
+    ensures range { (1 ≤ result) × (result ≤ 4) }
+{
+    match refusal {
+        Refusal::Unread { .. } | Refusal::Unwritten { .. } => 3,
+        Refusal::NoMemory => 4,
+        _ => 1,
+    }
 }
 
 impl<'a> Fault<'a> {
@@ -58,10 +63,9 @@ impl<'a> Fault<'a> {
         ensures range { (1 ≤ result) × (result ≤ 4) }
     {
         match self {
-            Fault::Refused(_) | Fault::NoReference(_) => 1,
+            Fault::Refused(refusal) => refused_status(refusal),
             Fault::NotCompiled(_) | Fault::NotServed(_) => 1,
             Fault::Words(_) | Fault::NotText | Fault::NoRefusal { .. } => 2,
-            Fault::Unread { .. } | Fault::Unmade { .. } => 3,
             Fault::Socket | Fault::Unwritten => 3,
             Fault::NoMemory => 4,
         }
@@ -88,24 +92,10 @@ impl<'a> From<Mistake> for Fault<'a> {
 }
 
 impl<'a> From<Refusal<'a>> for Fault<'a> {
-    ghost from_gives = { λ refusal fault. fault ≡ fault_of refusal };
+    ghost from_gives = { λ refusal fault. fault ≡ Refused refusal };
 
     fn from(refusal: Refusal<'a>) -> Fault<'a> {
-        match refusal {
-            Refusal::NoMemory => Fault::NoMemory,
-            refusal => Fault::Refused(refusal),
-        }
-    }
-}
-
-impl<'a> From<ReferenceRefusal<'a>> for Fault<'a> {
-    ghost from_gives = { λ refusal fault. fault ≡ fault_of_reference refusal };
-
-    fn from(refusal: ReferenceRefusal<'a>) -> Fault<'a> {
-        match refusal {
-            ReferenceRefusal::NoMemory => Fault::NoMemory,
-            refusal => Fault::NoReference(refusal),
-        }
+        Fault::Refused(refusal)
     }
 }
 

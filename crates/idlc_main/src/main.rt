@@ -12,7 +12,6 @@ ghost use Rattle.idlc_main.specs.Answer.{IsEndOf, MayServe};
 
 mod fault;
 mod service;
-mod tables;
 mod tasks;
 #[cfg(test)]
 mod tests;
@@ -23,6 +22,7 @@ use crate::service::served;
 use crate::tasks::done;
 use crate::told::Answer;
 use command_words::{Said, parse};
+use std::alloc::AllocError;
 use std::net::Net;
 use std::process::ExitCode;
 use std::rt::Env;
@@ -99,21 +99,23 @@ fn wordless(error: io::Error) -> Fault<'static> {
     }
 }
 
-fn run_on_own_words<R: Env + WholeFiles + Net + AllocGlobal, O: io::Write, E: io::Write>(
-    rt: &R,
-    out: &mut O,
-    err: &mut E,
-) -> Result<u8, Fault<'static>> {
-    let words: Vec<String> = env::args(rt).map_err(wordless)?.collect(rt.alloc())?;
-    let words: Vec<&str> = words.iter().map(|word| word.as_str()).collect(rt.alloc())?;
-    Ok(run(rt, words.as_slice(), out, err))
+/// The words of the command line.
+fn own_words<R: Env + AllocGlobal>(rt: &R) -> Result<Vec<String>, Fault<'static>> {
+    Ok(env::args(rt).map_err(wordless)?.collect(rt.alloc())?)
 }
 
 fn main(rt: HostRuntime) -> ExitCode {
     let mut out = rt.stdout();
     let mut err = rt.stderr();
-    match run_on_own_words(&rt, &mut out, &mut err) {
-        Ok(status) => ExitCode::from(status),
-        Err(fault) => ExitCode::from(failed(&mut err, &fault)),
-    }
+    let words = match own_words(&rt) {
+        Ok(words) => words,
+        Err(fault) => return ExitCode::from(failed(&mut err, &fault)),
+    };
+    let texts: Result<Vec<&str>, AllocError> =
+        words.iter().map(|word| word.as_str()).collect(rt.alloc());
+    let status = match texts {
+        Ok(texts) => run(&rt, texts.as_slice(), &mut out, &mut err),
+        Err(_) => failed(&mut err, &Fault::NoMemory),
+    };
+    ExitCode::from(status)
 }

@@ -9,12 +9,11 @@ ghost use Rattle.idlc_main.specs.Service.{IsServed};
 ghost use Rattle.idlc_main.specs.declared.fault.Fault.TheVariants.{NoMemory};
 
 use crate::fault::Fault;
-use crate::tables::table_of;
 use command_words::Service;
 use socket_server::{Asked, serve};
 use std::io::Write;
 use std::net::Net;
-use table_commands::WholeFiles;
+use table_commands::{WholeFiles, table_of};
 
 /// Serves calls by a table, which is checked before anything listens.
 pub fn served<'a, R: WholeFiles + Net + AllocGlobal, O: Write>(
@@ -30,7 +29,7 @@ pub fn served<'a, R: WholeFiles + Net + AllocGlobal, O: Write>(
 {
     let table = match table_of(rt, service.table) {
         Ok(table) => table,
-        Err(fault) => return Err(fault),
+        Err(refusal) => return Err(Fault::from(refusal)),
     };
     let asked = Asked {
         port: service.port,

@@ -6,49 +6,25 @@ ghost use Rattle.command_words.specs.Ask.{Explanation, Reference, Value, referen
 ghost use Rattle.command_words.specs.declared.task.Asked.{Asked};
 ghost use Rattle.command_words.specs.declared.task.AskedReference.{AskedReference};
 ghost use Rattle.idl_compiler.specs.Files.{IsCompiledFile};
-ghost use Rattle.idlc_main.specs.Answer.{IsAnswer};
+ghost use Rattle.idlc_main.specs.Answer.{IsAnswer, lined as lined_of};
 ghost use Rattle.idlc_main.specs.Fault.{IsTold};
-ghost use Rattle.idlc_main.specs.Files.{IsCompiledTo, IsCounted, IsDone, IsUpgraded, IsWritten};
-ghost use Rattle.table_commands.specs.Lines.{accepted};
+ghost use Rattle.idlc_main.specs.Files.{IsCompiledTo, IsDone};
 
 use crate::fault::Fault;
-use crate::tables::{put, table_of, unread};
 use crate::told::{Answer, Notice};
-use command_words::{Asked, AskedReference, Task};
+use command_words::Task;
 use fault_texts::explanation;
 use idl_compiler::{CompiledFile, compile_file};
-use position_checker::Accepted;
-use std::alloc::Global;
 use table_commands::{
-    MAX_LEN, WholeFiles, accepted_line, listing, marshal, reference_line, upgraded,
+    Refusal, WholeFiles, accepted_of, listing_of, marshal_by, read_file, reference_by, upgrade,
+    write_file,
 };
 
-fn value<'a, R: WholeFiles + AllocGlobal>(rt: &R, asked: &Asked<'a>) -> Result<Answer, Fault<'a>>
-    ensures answers { IsAnswer (R.reads rt.now) (Value (value_ask_of asked.now)) result }
-    ensures told { IfErr result IsTold }
+/// The answer that is a line, or the fault that is its refusal.
+fn lined<'a>(line: Result<String, Refusal<'a>>) -> Result<Answer, Fault<'a>>
+    ensures { result ≡ lined_of line.entry }
 {
-    let table = match table_of(rt, asked.table) {
-        Ok(table) => table,
-        Err(fault) => return Err(fault),
-    };
-    match marshal(rt.alloc(), &table, &asked.request) {
-        Ok(line) => Ok(Answer::plain(line)),
-        Err(refusal) => Err(Fault::from(refusal)),
-    }
-}
-
-fn reference<'a, R: WholeFiles + AllocGlobal>(
-    rt: &R,
-    asked: &AskedReference<'a>,
-) -> Result<Answer, Fault<'a>>
-    ensures answers { IsAnswer (R.reads rt.now) (Reference (reference_ask_of asked.now)) result }
-    ensures told { IfErr result IsTold }
-{
-    let table = match table_of(rt, asked.table) {
-        Ok(table) => table,
-        Err(fault) => return Err(fault),
-    };
-    match reference_line(rt.alloc(), &table, &asked.wanted) {
+    match line {
         Ok(line) => Ok(Answer::plain(line)),
         Err(refusal) => Err(Fault::from(refusal)),
     }
@@ -64,78 +40,8 @@ fn explained<'a, R: WholeFiles + AllocGlobal>(rt: &R, number: u8) -> Result<Answ
     }
 }
 
-fn check<'a, R: WholeFiles + AllocGlobal>(rt: &R, table: &'a str) -> Result<Answer, Fault<'a>>
-    ensures counted { IfOk result (λ answer. IsCounted (R.reads rt.now) table.now (string_bytes answer.text)) }
-    ensures told { IfErr result IsTold }
-{
-    let table = match table_of(rt, table) {
-        Ok(table) => table,
-        Err(fault) => return Err(fault),
-    };
-    counted(rt.alloc(), &table)
-}
-
-/// How many routines a table has.
-fn counted<'a>(alloc: Global, table: &Accepted) -> Result<Answer, Fault<'a>>
-    ensures line { IfOk result (λ answer. string_bytes answer.text ≡ accepted table.now) }
-    ensures told { IfErr result IsTold }
-{
-    Ok(Answer::plain(accepted_line(alloc, table)?))
-}
-
-fn show<'a, R: WholeFiles + AllocGlobal>(rt: &R, table: &'a str) -> Result<Answer, Fault<'a>>
-    ensures told { IfErr result IsTold }
-{
-    let table = match table_of(rt, table) {
-        Ok(table) => table,
-        Err(fault) => return Err(fault),
-    };
-    listed(rt.alloc(), &table)
-}
-
-/// What is in a table.
-fn listed<'a>(alloc: Global, table: &Accepted) -> Result<Answer, Fault<'a>>
-    ensures told { IfErr result IsTold }
-{
-    Ok(Answer::plain(listing(alloc, table)?))
-}
-
-/// The table anew, in the newest version, in another file; then how many routines it has.
-fn upgrade<'a, R: WholeFiles + AllocGlobal>(
-    rt: &R,
-    table: &'a str,
-    output: &'a str,
-) -> Result<Answer, Fault<'a>>
-    ensures upgraded { IfOk result (λ answer.
-        IsUpgraded (R.reads rt.now) (R.takes rt.now) table.now output.now (string_bytes answer.text)) }
-    ensures told { IfErr result IsTold }
-{
-    let table = match table_of(rt, table) {
-        Ok(table) => table,
-        Err(fault) => return Err(fault),
-    };
-    put_upgraded(rt, &table, output)
-}
-
-/// What is done with the table stands apart from the function that owns it, of which the prover would list all parts at each
-/// step.
-fn put_upgraded<'a, R: WholeFiles + AllocGlobal>(
-    rt: &R,
-    table: &Accepted,
-    output: &'a str,
-) -> Result<Answer, Fault<'a>>
-    ensures written { OnOk result (IsWritten (R.takes rt.now) output.now table.now) }
-    ensures line { IfOk result (λ answer. string_bytes answer.text ≡ accepted table.now) }
-    ensures told { IfErr result IsTold }
-{
-    let octets = upgraded(rt.alloc(), table)?;
-    let line = accepted_line(rt.alloc(), table)?;
-    put(rt, output, octets.as_slice())?;
-    Ok(Answer::plain(line))
-}
-
 /// Writes the table file of an IDL file. It is handed no other octets.
-fn put_compiled<'a, R: WholeFiles + AllocGlobal>(
+fn put_compiled<'a, R: WholeFiles>(
     rt: &R,
     output: &'a str,
     source: &[u8],
@@ -145,7 +51,7 @@ fn put_compiled<'a, R: WholeFiles + AllocGlobal>(
     ensures taken { OnOk result (R.takes rt.now output.now file.now.octets.items) }
     ensures told { IfErr result IsTold }
 {
-    put(rt, output, file.octets.as_slice())
+    Ok(write_file(rt, output, file.octets.as_slice())?)
 }
 
 /// The table of an IDL file, in another file; then how many routines it has.
@@ -158,10 +64,7 @@ fn compile<'a, R: WholeFiles + AllocGlobal>(
         IsCompiledTo (R.reads rt.now) (R.takes rt.now) source.now output.now (string_bytes answer.text)) }
     ensures told { IfErr result IsTold }
 {
-    let source = match rt.octets_in(source, MAX_LEN) {
-        Ok(octets) => octets,
-        Err(fault) => return Err(unread(source, fault)),
-    };
+    let source = read_file(rt, source)?;
     let file = compile_file(rt.alloc(), source.as_slice())?;
     put_compiled(rt, output, source.as_slice(), &file)?;
     Ok(Answer {
@@ -187,12 +90,12 @@ pub fn done<'a, R: WholeFiles + AllocGlobal>(rt: &R, task: &Task<'a>) -> Result<
     ensures told { IfErr result IsTold }
 {
     match task {
-        Task::Value(asked) => value(rt, asked),
-        Task::Reference(asked) => reference(rt, asked),
+        Task::Value(asked) => lined(marshal_by(rt, asked.table, &asked.request)),
+        Task::Reference(asked) => lined(reference_by(rt, asked.table, &asked.wanted)),
         Task::Explain { number } => explained(rt, *number),
-        Task::Check { table } => check(rt, table),
-        Task::Show { table } => show(rt, table),
-        Task::Upgrade { table, output } => upgrade(rt, table, output),
+        Task::Check { table } => lined(accepted_of(rt, table)),
+        Task::Show { table } => lined(listing_of(rt, table)),
+        Task::Upgrade { table, output } => lined(upgrade(rt, table, output)),
         Task::Compile { source, output } => compile(rt, source, output),
     }
 }

@@ -9,9 +9,10 @@ use Rattle.object_references.specs.Profiles.{IsProfile}
 use Rattle.object_references.specs.Refusal.{OnlyIf}
 use Rattle.object_references.specs.Texts.{IsTextOf}
 use Rattle.object_references.proofs.ProfileLaws.{profile_once}
-use Rattle.table_commands.specs.declared.reference_refusal.ReferenceRefusal.{ReferenceRefusal}
+use Rattle.table_commands.specs.declared.refusal.Refusal.{Refusal}
 use Rattle.table_commands.specs.References.{ReferenceParts, IsObject, IsReferenceText, IsText, interface_named, reference_with}
-use Rattle.table_commands.specs.ReferenceRefusal.{IsReferenceRefusal, reference_refusal_of}
+use Rattle.table_commands.specs.NoReference.{IsReferenceRefusal}
+use Rattle.table_commands.specs.Refusal.{refusal_of_reference}
 use Rattle.table_commands.proofs.Objects.{object_once}
 
 -- of a host and a key that were lent
@@ -50,14 +51,14 @@ text_of_it model ask key name id interface o found e text t =
 by_fault : (model : Parts) (ask : ReferenceParts) (key name id : List ℕ) (interface : Interface) (fault : ReferenceFault)
     → IsObject ask.object key name → interface_named name model.interfaces ≡ Some interface → id ≡ interface.id
     → OnlyIf fault ((text : List ℕ) → IsReferenceText ask.host ask.port key id text → ⊥)
-    → IsReferenceRefusal model ask (reference_refusal_of fault)
+    → IsReferenceRefusal model ask (refusal_of_reference fault)
 by_fault model ask key name id interface faults.NoMemory o found e h = tt
 by_fault model ask key name id interface faults.BadIor o found e h =
     λ text t. h text (text_of_it model ask key name id interface o found e text t)
 
 pub refused : (model : Parts) (ask : ReferenceParts) (key name id : List ℕ) (interface : Interface) (fault : ReferenceFault)
-    (refusal : ReferenceRefusal) → refusal ≡ reference_refusal_of fault → IsObject ask.object key name
+    (refusal : Refusal) → refusal ≡ refusal_of_reference fault → IsObject ask.object key name
     → interface_named name model.interfaces ≡ Some interface → id ≡ interface.id
     → OnlyIf fault ((text : List ℕ) → IsReferenceText ask.host ask.port key id text → ⊥) → IsReferenceRefusal model ask refusal
 refused model ask key name id interface fault refusal is o found e h =
-    subst (λ (r : ReferenceRefusal). IsReferenceRefusal model ask r) (sym is) (by_fault model ask key name id interface fault o found e h)
+    subst (λ (r : Refusal). IsReferenceRefusal model ask r) (sym is) (by_fault model ask key name id interface fault o found e h)

@@ -4,4 +4,5 @@ pub mod Answer
 pub mod Refusal
 pub mod Files
 pub mod References
-pub mod ReferenceRefusal
+pub mod NoReference
+pub mod Named

@@ -5,8 +5,10 @@ use Rattle.marshal_program.specs.declared.fault.TableFault.{TableFault}
 use Rattle.marshal_program.specs.declared.fault.TableFault.TheVariants as files
 use Rattle.position_checker.specs.declared.fault.CheckFault.{CheckFault}
 use Rattle.position_checker.specs.declared.fault.CheckFault.TheVariants as checks
+use Rattle.object_references.specs.declared.fault.ReferenceFault.{ReferenceFault}
+use Rattle.object_references.specs.declared.fault.ReferenceFault.TheVariants as references
 use Rattle.table_commands.specs.declared.refusal.Refusal.{Refusal}
-use Rattle.table_commands.specs.declared.refusal.Refusal.TheVariants.{NoTable, NotRight, Refused, NoMemory}
+use Rattle.table_commands.specs.declared.refusal.Refusal.TheVariants.{NoTable, NotRight, Refused, NoReference, NoMemory}
 
 abbrev pub refusal_of_run : RunFault → Refusal
 refusal_of_run runs.NoMemory = NoMemory
@@ -19,6 +21,10 @@ refusal_of_file fault = NoTable fault
 abbrev pub refusal_of_check : CheckFault → Refusal
 refusal_of_check checks.NoMemory = NoMemory
 refusal_of_check fault = NotRight fault
+
+abbrev pub refusal_of_reference : ReferenceFault → Refusal
+refusal_of_reference references.NoMemory = NoMemory
+refusal_of_reference fault = NoReference fault
 
 -- want of memory is the cause, or the fact holds
 abbrev pub OnlyIf : Refusal → Type 0 → Type 0

@@ -4,9 +4,9 @@
 #![tactic(auto)]
 
 mod builtin;
+mod named;
 mod object;
 mod reference;
-mod reference_refusal;
 mod refusal;
 mod shown_instr;
 mod shown_program;
@@ -19,9 +19,9 @@ mod whole_read;
 mod whole_write;
 
 pub use builtin::sample;
+pub use named::{SAMPLE, accepted_of, listing_of, marshal_by, read_file, reference_by, table_of, upgrade, write_file};
 pub use object::{interface_place, object_in};
 pub use reference::{WantedReference, reference_line};
-pub use reference_refusal::ReferenceRefusal;
 pub use refusal::Refusal;
 pub use shown_instr::ShownInstr;
 pub use shown_table::listing;

@@ -5,10 +5,10 @@ ghost use Rattle.std.specs.String.{string_bytes};
 ghost use Rattle.object_references.specs.References.{reference_of};
 ghost use Rattle.object_references.specs.Refusal.{OnlyIf};
 ghost use Rattle.table_commands.specs.References.{IsReferenceLine, IsReferenceText, reference_parts_of, reference_with};
-ghost use Rattle.table_commands.specs.ReferenceRefusal.{IsReferenceRefusal};
+ghost use Rattle.table_commands.specs.NoReference.{IsReferenceRefusal};
 
 use crate::object::{interface_named, object_in};
-use crate::reference_refusal::ReferenceRefusal;
+use crate::refusal::Refusal;
 use giop_types::GiopTypes;
 use object_references::{Ior, ReferenceFault, ior_to_text, profile};
 use position_checker::Accepted;
@@ -68,16 +68,16 @@ pub fn reference_line<'a>(
     alloc: Global,
     table: &Accepted,
     wanted: &WantedReference<'a>,
-) -> Result<String, ReferenceRefusal<'a>>
+) -> Result<String, Refusal<'a>>
     ensures line { IfOk result (λ line.
         IsReferenceLine table.now.model (reference_parts_of wanted.now) (string_bytes line)) }
     ensures refused { IfErr result (IsReferenceRefusal table.now.model (reference_parts_of wanted.now)) }
 {
     let Some((key, name)) = object_in(wanted.object) else {
-        return Err(ReferenceRefusal::BadObject);
+        return Err(Refusal::BadObject);
     };
     let Some(interface) = interface_named(table.table().model().interfaces(), name) else {
-        return Err(ReferenceRefusal::NoInterface { name });
+        return Err(Refusal::NoInterface { name });
     };
     let id = interface.id.as_str();
     match reference_text(alloc, wanted.host, wanted.port, key, id) {
@@ -85,6 +85,6 @@ pub fn reference_line<'a>(
             text.push_str("\n")?;
             Ok(text)
         }
-        Err(fault) => Err(ReferenceRefusal::from(fault)),
+        Err(fault) => Err(Refusal::from(fault)),
     }
 }

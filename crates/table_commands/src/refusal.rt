@@ -2,9 +2,10 @@
 
 ghost use Rattle.std.specs.Prelude.{◌≡◌};
 ghost use Rattle.table_commands.specs.declared.refusal.Refusal.TheVariants.{NoMemory};
-ghost use Rattle.table_commands.specs.Refusal.{refusal_of_check, refusal_of_file, refusal_of_run};
+ghost use Rattle.table_commands.specs.Refusal.{refusal_of_check, refusal_of_file, refusal_of_reference, refusal_of_run};
 
 use marshal_program::TableFault;
+use object_references::ReferenceFault;
 use position_checker::CheckFault;
 use program_runner::RunFault;
 use std::alloc::AllocError;
@@ -13,13 +14,17 @@ use thiserror::Error;
 /// A refusal has as its text the line that the program puts behind its name.
 #[derive(Debug, Drop, Error)]
 pub enum Refusal<'a> {
+    #[error("cannot read {file}")]
+    Unread { file: &'a str },
+    #[error("cannot write {file}")]
+    Unwritten { file: &'a str },
     /// The octets are no table's.
     #[error(transparent)]
     NoTable(TableFault),
     /// The table isn't right.
     #[error(transparent)]
     NotRight(CheckFault),
-    /// The table has more octets than a file may have.
+    /// The file has more octets than one may have.
     #[error("too long")]
     TooLong,
     /// The table has no type of that name.
@@ -31,6 +36,15 @@ pub enum Refusal<'a> {
     /// The tape or the octets are no value's.
     #[error(transparent)]
     Refused(RunFault),
+    /// A word for an object without an equals sign, or without a key before it.
+    #[error("bad object")]
+    BadObject,
+    /// The table has no interface of that name.
+    #[error("no interface {name}")]
+    NoInterface { name: &'a str },
+    /// There is no reference with these parts.
+    #[error(transparent)]
+    NoReference(ReferenceFault),
     #[error("no memory")]
     NoMemory,
 }
@@ -72,6 +86,17 @@ impl<'a> From<CheckFault> for Refusal<'a> {
         match fault {
             CheckFault::NoMemory => Refusal::NoMemory,
             fault => Refusal::NotRight(fault),
+        }
+    }
+}
+
+impl<'a> From<ReferenceFault> for Refusal<'a> {
+    ghost from_gives = { λ fault refusal. refusal ≡ refusal_of_reference fault };
+
+    fn from(fault: ReferenceFault) -> Refusal<'a> {
+        match fault {
+            ReferenceFault::NoMemory => Refusal::NoMemory,
+            fault => Refusal::NoReference(fault),
         }
     }
 }

@@ -1,16 +1,10 @@
 -- Why no reference is printed.
 use Rattle.std.specs.Prelude.{◌≡◌, ℕ, List, None}
 use Rattle.type_model.specs.ModelRules.{Parts}
-use Rattle.object_references.specs.declared.fault.ReferenceFault.{ReferenceFault}
 use Rattle.object_references.specs.declared.fault.ReferenceFault.TheVariants as faults
-use Rattle.table_commands.specs.declared.reference_refusal.ReferenceRefusal.{ReferenceRefusal}
-use Rattle.table_commands.specs.declared.reference_refusal.ReferenceRefusal.TheVariants.{BadObject, NoInterface, Refused, NoMemory}
+use Rattle.table_commands.specs.declared.refusal.Refusal.{Refusal}
+use Rattle.table_commands.specs.declared.refusal.Refusal.TheVariants.{BadObject, NoInterface, NoReference, NoMemory}
 use Rattle.table_commands.specs.References.{ReferenceParts, IsObject, IsText, interface_named}
-
--- what the faults of references are to the command
-abbrev pub reference_refusal_of : ReferenceFault → ReferenceRefusal
-reference_refusal_of faults.NoMemory = NoMemory
-reference_refusal_of fault = Refused fault
 
 -- the interface of the object isn't there
 pub record HasNoInterface (model : Parts) (ask : ReferenceParts) (name : List ℕ) : Type 0 where
@@ -19,9 +13,10 @@ pub record HasNoInterface (model : Parts) (ask : ReferenceParts) (name : List �
   pub missing : interface_named name model.interfaces ≡ None
 
 -- the refusal that answers
-abbrev pub IsReferenceRefusal : Parts → ReferenceParts → ReferenceRefusal → Type 0
+abbrev pub IsReferenceRefusal : Parts → ReferenceParts → Refusal → Type 0
 IsReferenceRefusal model ask BadObject = (key name : List ℕ) → IsObject ask.object key name → ⊥
 IsReferenceRefusal model ask (NoInterface name) = HasNoInterface model ask name.now
-IsReferenceRefusal model ask (Refused faults.BadIor) = (text : List ℕ) → IsText model ask text → ⊥
-IsReferenceRefusal model ask (Refused faults.NoMemory) = ⊥
+IsReferenceRefusal model ask (NoReference faults.BadIor) = (text : List ℕ) → IsText model ask text → ⊥
+IsReferenceRefusal model ask (NoReference faults.NoMemory) = ⊥
 IsReferenceRefusal model ask NoMemory = Unit {0}
+IsReferenceRefusal model ask refusal = ⊥

@@ -1,0 +1,101 @@
+-- Tables by their names: the sample, or files.
+use Rattle.std.specs.Prelude.{◌≡◌, ◌≢◌, ◌⊎◌, ℕ, List, codes}
+use Rattle.position_checker.specs.Acceptance.{IsRight}
+use Rattle.table_commands.specs.Answer.{Ask, IsLine, IsRefusalOf}
+use Rattle.table_commands.specs.Lines.{accepted}
+use Rattle.table_commands.specs.NoReference.{IsReferenceRefusal}
+use Rattle.table_commands.specs.References.{ReferenceParts, IsReferenceLine}
+use Rattle.table_commands.specs.declared.refusal.Refusal.{Refusal}
+use Rattle.table_commands.specs.declared.refusal.Refusal.TheVariants.{Unread, Unwritten, NoTable, NotRight, TooLong, NoMemory}
+use Rattle.table_commands.specs.Sample.{sample_table}
+use Rattle.table_file.specs.Table.{TableParts}
+use Rattle.table_file.specs.TableSpelling.{Spells, SpellsOld}
+
+-- by its name, a file was read as octets, or written as them
+abbrev pub Passing : Type 1
+Passing = List ℕ → List ℕ → Type 0
+
+-- the file of a name was read, and its octets spell the table, in the newest version or an older one
+pub record IsReadAs (Reads : Passing) (name : List ℕ) (table : TableParts) : Type 0 where
+  pub octets : List ℕ
+  pub read : Reads name octets
+  pub spelled : Spells table octets ⊎ SpellsOld table octets
+
+-- the table of a name, which is right: the sample where that was asked for, else that of the file
+pub record IsTableOf (Reads : Passing) (name : List ℕ) (table : TableParts) : Type 0 where
+  pub right : IsRight table
+  pub sample : name ≡ codes "builtin" → table ≡ sample_table
+  pub file : name ≢ codes "builtin" → IsReadAs Reads name table
+
+-- the line tells of the table of a name how many routines it has
+pub record IsCounted (Reads : Passing) (name line : List ℕ) : Type 0 where
+  pub table : TableParts
+  pub is : IsTableOf Reads name table
+  pub line_is : line ≡ accepted table
+
+-- a file was written as octets that spell a table in the newest version, all of them
+pub record IsWritten (Takes : Passing) (output : List ℕ) (table : TableParts) : Type 0 where
+  pub octets : List ℕ
+  pub spelled : Spells table octets
+  pub taken : Takes output octets
+
+-- the table of a name was written to another file, and the line tells of it
+pub record IsUpgraded (Reads Takes : Passing) (name output line : List ℕ) : Type 0 where
+  pub table : TableParts
+  pub is : IsTableOf Reads name table
+  pub written : IsWritten Takes output table
+  pub line_is : line ≡ accepted table
+
+-- the line that answers for a value, by the table of a name
+pub record IsValueLine (Reads : Passing) (name : List ℕ) (ask : Ask) (line : List ℕ) : Type 0 where
+  pub table : TableParts
+  pub is : IsTableOf Reads name table
+  pub answers : IsLine table ask line
+
+-- the line of a reference, by the table of a name
+pub record IsReferenceOf (Reads : Passing) (name : List ℕ) (ask : ReferenceParts) (line : List ℕ) : Type 0 where
+  pub table : TableParts
+  pub is : IsTableOf Reads name table
+  pub answers : IsReferenceLine table.model ask line
+
+-- ---- refusals
+
+-- the file can't be read
+abbrev pub IsUnread : List ℕ → Refusal → Type 0
+IsUnread name (Unread file) = file.now ≡ name
+IsUnread name TooLong = Unit {0}
+IsUnread name NoMemory = Unit {0}
+IsUnread name refusal = ⊥
+
+-- the file can't be written
+abbrev pub IsUnwritten : List ℕ → Refusal → Type 0
+IsUnwritten name (Unwritten file) = file.now ≡ name
+IsUnwritten name NoMemory = Unit {0}
+IsUnwritten name refusal = ⊥
+
+-- a file can't be read, or it is no table's, or its table isn't right; of the sample want of memory alone
+abbrev pub IsNoTable : List ℕ → Refusal → Type 0
+IsNoTable name (Unread file) = (name ≢ codes "builtin") × (file.now ≡ name)
+IsNoTable name (NoTable fault) = name ≢ codes "builtin"
+IsNoTable name (NotRight fault) = name ≢ codes "builtin"
+IsNoTable name TooLong = name ≢ codes "builtin"
+IsNoTable name NoMemory = Unit {0}
+IsNoTable name refusal = ⊥
+
+-- the table of a name has no answer
+pub record HasNoValue (Reads : Passing) (name : List ℕ) (ask : Ask) (refusal : Refusal) : Type 0 where
+  pub table : TableParts
+  pub is : IsTableOf Reads name table
+  pub refused : IsRefusalOf table ask refusal
+
+pub record HasNoReference (Reads : Passing) (name : List ℕ) (ask : ReferenceParts) (refusal : Refusal) : Type 0 where
+  pub table : TableParts
+  pub is : IsTableOf Reads name table
+  pub refused : IsReferenceRefusal table.model ask refusal
+
+-- the refusal that answers
+abbrev pub IsValueRefusal : Passing → List ℕ → Ask → Refusal → Type 0
+IsValueRefusal Reads name ask refusal = IsNoTable name refusal ⊎ HasNoValue Reads name ask refusal
+
+abbrev pub IsNoReference : Passing → List ℕ → ReferenceParts → Refusal → Type 0
+IsNoReference Reads name ask refusal = IsNoTable name refusal ⊎ HasNoReference Reads name ask refusal
