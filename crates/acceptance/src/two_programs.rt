@@ -6,7 +6,7 @@ use position_checker::Accepted;
 use routine_checker::check_names;
 use std::alloc::Global;
 use std::test::Fail;
-use table_commands::{Request, ShownInstr, Way, listing, marshal};
+use table_commands::{ValueRequest, ShownInstr, Way, listing, marshal};
 use table_file::Use;
 use type_graph::{Arms, Order, Width};
 
@@ -72,7 +72,7 @@ fn served(alloc: Global, table: &Accepted, node: u32) -> Result<String, Fail> {
 
 /// The octets of a value in little order at position 3.
 fn octets_of_a_value(alloc: Global, table: &Accepted) -> Result<String, Fail> {
-    let request = Request {
+    let request = ValueRequest {
         way: Way::Encode,
         name: "S",
         order: Order::Little,

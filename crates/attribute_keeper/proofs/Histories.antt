@@ -7,23 +7,23 @@ use Rattle.std.proofs.lemmas.List.{get_or-set_same, get_or-set_other, length-set
 use Rattle.type_model.specs.ModelRules.{Parts}
 use Rattle.broker_answers.specs.Objects.{Objects, Served, first_named, has_name}
 use Rattle.broker_answers.specs.Servants.{Call, Done}
-use Rattle.attribute_keeper.specs.declared.deed.Deed.{Deed}
-use Rattle.attribute_keeper.specs.declared.deed.Deed.TheVariants.{Get, Set, Empty, Echo, Nothing}
-use Rattle.attribute_keeper.specs.Attributes.{attribute_named, deed_at, first_tape, getters_of, operations_at, place_from}
-use Rattle.attribute_keeper.specs.Keeping.{Keeping, after, all_deeds, all_zeros, deed, deed_in, deeds_of, first_keeping, kept_after, said, says, tape_at, tapes_at, with_tape, zeros_of}
+use Rattle.attribute_keeper.specs.declared.action.Action.{Action}
+use Rattle.attribute_keeper.specs.declared.action.Action.TheVariants.{Get, Set, Empty, Echo, Nothing}
+use Rattle.attribute_keeper.specs.Attributes.{attribute_named, action_at, first_tape, getters_of, operations_at, place_from}
+use Rattle.attribute_keeper.specs.Keeping.{Keeping, after, all_actions, all_zeros, action, action_in, actions_of, first_keeping, kept_after, said, says, tape_at, tapes_at, with_tape, zeros_of}
 use Rattle.attribute_keeper.specs.History.{after_all, is_setter, last_set, operations_served, sets}
 use Rattle.attribute_keeper.proofs.Names.{none_isnt}
 use Rattle.attribute_keeper.proofs.Places.{IsGot, got_there}
-use Rattle.attribute_keeper.proofs.Deeds.{deed_found, first_found, IsFound, number_gets, number_sets, sets_at}
+use Rattle.attribute_keeper.proofs.Actions.{action_found, first_found, IsFound, number_gets, number_sets, sets_at}
 
 -- ---- at first
 
-served_deeds : (model : Parts) (objects : Objects) (object : ℕ)
-    → slice_index_or (all_deeds model objects) object []
-    ≡ deeds_of model (option_map_or (λ o. operations_at model o.1) (slice_get objects object) [])
-served_deeds model [] object = refl
-served_deeds model (o ∷ more) zero = refl
-served_deeds model (o ∷ more) (suc object) = served_deeds model more object
+served_actions : (model : Parts) (objects : Objects) (object : ℕ)
+    → slice_index_or (all_actions model objects) object []
+    ≡ actions_of model (option_map_or (λ o. operations_at model o.1) (slice_get objects object) [])
+served_actions model [] object = refl
+served_actions model (o ∷ more) zero = refl
+served_actions model (o ∷ more) (suc object) = served_actions model more object
 
 served_zeros : (model : Parts) (objects : Objects) (object : ℕ)
     → slice_index_or (all_zeros model objects) object []
@@ -53,7 +53,7 @@ mapped_within f (y ∷ ys) (suc k) x e = let less = mapped_within f ys k x e in 
 
 -- an object has an attribute at a place, and its operations do what they did at first
 record IsReady (s : Served) (object k : ℕ) (kept : Keeping) : Type 0 where
-  pub deeds : kept.deeds ≡ all_deeds s.model s.objects
+  pub actions : kept.actions ≡ all_actions s.model s.objects
   pub there : object < length kept.tapes
   pub held : k < length (tapes_at kept object)
 
@@ -68,19 +68,19 @@ tapes_other kept object other j tape apart = get_or-set_other kept.tapes object 
 set_ready : (s : Served) (object k : ℕ) (kept : Keeping) (at j : ℕ) (tape : List ℕ) (same : Bool) → nat_eq at object ≡ same
     → IsReady s object k kept → IsReady s object k (with_tape kept at j tape)
 set_ready s object k kept at j tape true same r = record {
-  deeds = r.deeds;
+  actions = r.actions;
   there = subst (λ n. object < n) (sym (length-set kept.tapes at (slice_set (tapes_at kept at) j tape))) r.there;
   held = subst (λ o. k < length (tapes_at (with_tape kept o j tape) object)) (sym (eqb-true at object same))
       (subst (λ ts. k < length ts) (sym (tapes_same kept object j tape r.there))
       (subst (λ n. k < n) (sym (length-set (tapes_at kept object) j tape)) r.held));
 }
 set_ready s object k kept at j tape false apart r = record {
-  deeds = r.deeds;
+  actions = r.actions;
   there = subst (λ n. object < n) (sym (length-set kept.tapes at (slice_set (tapes_at kept at) j tape))) r.there;
   held = subst (λ ts. k < length ts) (sym (tapes_other kept at object j tape (λ e. eqb-false at object apart (sym e)))) r.held;
 }
 
-stays_ready : (s : Served) (object k : ℕ) (kept : Keeping) (call : Call) (d : Deed) → IsReady s object k kept
+stays_ready : (s : Served) (object k : ℕ) (kept : Keeping) (call : Call) (d : Action) → IsReady s object k kept
     → IsReady s object k (kept_after kept call d)
 stays_ready s object k kept call (Get j) r = r
 stays_ready s object k kept call (Set j) r =
@@ -110,7 +110,7 @@ tape_set s object k kept at j tape false apart r =
     ap (λ ts. slice_index_or ts k []) (tapes_other kept at object j tape (λ e. eqb-false at object apart (sym e)))
 
 -- a call sets the tape, or it stays
-tape_after : (s : Served) (object k : ℕ) (kept : Keeping) (call : Call) (d : Deed) → IsReady s object k kept
+tape_after : (s : Served) (object k : ℕ) (kept : Keeping) (call : Call) (d : Action) → IsReady s object k kept
     → tape_at (kept_after kept call d) object k
     ≡ cond (nat_eq call.object object && sets_at k d) call.arguments (tape_at kept object k)
 tape_after s object k kept call (Get j) r = unset (nat_eq call.object object) call.arguments (tape_at kept object k)
@@ -121,36 +121,36 @@ tape_after s object k kept call Echo r = unset (nat_eq call.object object) call.
 tape_after s object k kept call Nothing r = unset (nat_eq call.object object) call.arguments (tape_at kept object k)
 
 -- what an operation does by its number
-abbrev deed_served_at : Served → ℕ → ℕ → Deed
-deed_served_at s object number = deed_at (attribute_named s.model (getters_of s.model (operations_served s object))) s.model number
+abbrev action_served_at : Served → ℕ → ℕ → Action
+action_served_at s object number = action_at (attribute_named s.model (getters_of s.model (operations_served s object))) s.model number
 
 -- what a call to an object does is by its number alone
-deed_served : (s : Served) (kept : Keeping) (call : Call) → kept.deeds ≡ all_deeds s.model s.objects
-    → deed kept call
+action_served : (s : Served) (kept : Keeping) (call : Call) → kept.actions ≡ all_actions s.model s.objects
+    → action kept call
     ≡ cond (list_any (λ other. nat_eq other call.operation) (operations_served s call.object))
-    (deed_served_at s call.object call.operation) Nothing
-deed_served s kept call deeds =
-    ap (λ ds. deed_in (slice_index_or ds call.object []) call.operation) deeds
-    ∙ ap (λ rows. deed_in rows call.operation) (served_deeds s.model s.objects call.object)
-    ∙ deed_found s.model (getters_of s.model (operations_served s call.object)) (operations_served s call.object) call.operation
+    (action_served_at s call.object call.operation) Nothing
+action_served s kept call actions =
+    ap (λ ds. action_in (slice_index_or ds call.object []) call.operation) actions
+    ∙ ap (λ rows. action_in rows call.operation) (served_actions s.model s.objects call.object)
+    ∙ action_found s.model (getters_of s.model (operations_served s call.object)) (operations_served s call.object) call.operation
 
 -- whether a call sets the attribute is by its operation's name
 sets_by_name : (s : Served) (object k : ℕ) (name : List ℕ) (kept : Keeping) (call : Call)
-    → kept.deeds ≡ all_deeds s.model s.objects
+    → kept.actions ≡ all_actions s.model s.objects
     → place_from s.model 0 name (getters_of s.model (operations_served s object)) ≡ Some k
-    → (nat_eq call.object object && sets_at k (deed kept call)) ≡ sets s object name call
-sets_by_name s object k name kept call deeds place = by (nat_eq call.object object) refl where
-  among : (b : Bool) → sets_at k (cond b (deed_served_at s object call.operation) Nothing)
+    → (nat_eq call.object object && sets_at k (action kept call)) ≡ sets s object name call
+sets_by_name s object k name kept call actions place = by (nat_eq call.object object) refl where
+  among : (b : Bool) → sets_at k (cond b (action_served_at s object call.operation) Nothing)
       ≡ (b && has_name (codes "_set_" ++ name) (slice_get s.model.operations call.operation))
   among true = number_sets s.model (getters_of s.model (operations_served s object)) name k call.operation place
   among false = refl
 
   by : (same : Bool) → nat_eq call.object object ≡ same
-      → (same && sets_at k (deed kept call)) ≡ (same && is_setter s object name call.operation)
+      → (same && sets_at k (action kept call)) ≡ (same && is_setter s object name call.operation)
   by true same =
-      ap (sets_at k) (deed_served s kept call deeds
+      ap (sets_at k) (action_served s kept call actions
       ∙ ap (λ o. cond (list_any (λ other. nat_eq other call.operation) (operations_served s o))
-      (deed_served_at s o call.operation) Nothing) (eqb-true call.object object same))
+      (action_served_at s o call.operation) Nothing) (eqb-true call.object object same))
       ∙ among (list_any (λ other. nat_eq other call.operation) (operations_served s object))
   by false apart = refl
 
@@ -160,25 +160,25 @@ all_ready : (s : Served) (object k : ℕ) (kept : Keeping) (calls : List Call) �
     → IsReady s object k (after_all kept calls)
 all_ready s object k kept [] r = r
 all_ready s object k kept (call ∷ calls) r =
-    all_ready s object k (after kept call) calls (stays_ready s object k kept call (deed kept call) r)
+    all_ready s object k (after kept call) calls (stays_ready s object k kept call (action kept call) r)
 
 all_set : (s : Served) (object k : ℕ) (name : List ℕ) (kept : Keeping) (calls : List Call) → IsReady s object k kept
     → place_from s.model 0 name (getters_of s.model (operations_served s object)) ≡ Some k
     → tape_at (after_all kept calls) object k ≡ last_set (sets s object name) (tape_at kept object k) calls
 all_set s object k name kept [] r place = refl
 all_set s object k name kept (call ∷ calls) r place =
-    all_set s object k name (after kept call) calls (stays_ready s object k kept call (deed kept call) r) place
+    all_set s object k name (after kept call) calls (stays_ready s object k kept call (action kept call) r) place
     ∙ ap (λ tape. last_set (sets s object name) tape calls)
-    (tape_after s object k kept call (deed kept call) r
-    ∙ ap (λ b. cond b call.arguments (tape_at kept object k)) (sets_by_name s object k name kept call r.deeds place))
+    (tape_after s object k kept call (action kept call) r
+    ∙ ap (λ b. cond b call.arguments (tape_at kept object k)) (sets_by_name s object k name kept call r.actions place))
 
 -- the call gets the attribute, whatever was called before
-gets_then : (s : Served) (x : List ℕ) (call : Call) (k : ℕ) (kept : Keeping) → kept.deeds ≡ all_deeds s.model s.objects
+gets_then : (s : Served) (x : List ℕ) (call : Call) (k : ℕ) (kept : Keeping) → kept.actions ≡ all_actions s.model s.objects
     → place_from s.model 0 x (getters_of s.model (operations_served s call.object)) ≡ Some k
-    → IsFound s.model (codes "_get_" ++ x) (operations_served s call.object) call.operation → deed kept call ≡ Get k
-gets_then s x call k kept deeds place found =
-    deed_served s kept call deeds
-    ∙ ap (λ b. cond b (deed_served_at s call.object call.operation) Nothing) found.among
+    → IsFound s.model (codes "_get_" ++ x) (operations_served s call.object) call.operation → action kept call ≡ Get k
+gets_then s x call k kept actions place found =
+    action_served s kept call actions
+    ∙ ap (λ b. cond b (action_served_at s call.object call.operation) Nothing) found.among
     ∙ number_gets s.model (getters_of s.model (operations_served s call.object)) x k call.operation place found.named
 
 pub says_last_set : (s : Served) (x : List ℕ) (call : Call) (before : List Call)
@@ -186,7 +186,7 @@ pub says_last_set : (s : Served) (x : List ℕ) (call : Call) (before : List Cal
     → says (after_all (first_keeping s.model s.objects) before) call
     ≡ Done (last_set (sets s call.object x) (first_tape s.model call.operation) before)
 says_last_set s x call before e =
-    ap (said last call) (gets_then s x call got.k last ready_last.deeds place (first_found s.model (codes "_get_" ++ x) numbers call.operation e))
+    ap (said last call) (gets_then s x call got.k last ready_last.actions place (first_found s.model (codes "_get_" ++ x) numbers call.operation e))
     ∙ ap Done (all_set s call.object got.k x first before ready place ∙ ap (λ tape. last_set (sets s call.object x) tape before) zeros)
   where
     numbers : List ℕ
@@ -206,7 +206,7 @@ says_last_set s x call before e =
 
     ready : IsReady s call.object got.k first
     ready = record {
-      deeds = refl;
+      actions = refl;
       there = zeros_there s.model s.objects call.object call.operation (codes "_get_" ++ x) e;
       held = subst (λ ts. got.k < length ts) (sym (served_zeros s.model s.objects call.object))
           (mapped_within (first_tape s.model) (getters_of s.model numbers) got.k call.operation got.there);

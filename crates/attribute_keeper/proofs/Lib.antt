@@ -1,5 +1,5 @@
 pub mod Names
 pub mod Places
 pub mod Looked
-pub mod Deeds
+pub mod Actions
 pub mod Histories

@@ -5,7 +5,7 @@ use Rattle.std.specs.Str.{bytes_eq}
 use Rattle.std.proofs.Math.Seq.{drop-cons}
 use Rattle.type_model.specs.declared.signatures.Operation.{Operation}
 use Rattle.type_model.specs.ModelRules.{Parts}
-use Rattle.attribute_keeper.specs.Attributes.{deed_at, gets, got_by, is_getter_of, place_from}
+use Rattle.attribute_keeper.specs.Attributes.{action_at, gets, got_by, is_getter_of, place_from}
 use Rattle.attribute_keeper.proofs.Names.{none_isnt}
 
 got_of : (name key : List ℕ) (o : Option Operation) → option_and_then got_by o ≡ Some key
@@ -27,5 +27,5 @@ one_more model getters p q before after key name updates got was next less =
 
 -- what an operation does is by where attributes are, however they are looked up
 pub same_deed : (model : Parts) (number : ℕ) (one other : List ℕ → Option ℕ) → ((name : List ℕ) → one name ≡ other name)
-    → deed_at one model number ≡ deed_at other model number
-same_deed model number one other same = ap (λ place. deed_at place model number) (λ i name. same name i)
+    → action_at one model number ≡ action_at other model number
+same_deed model number one other same = ap (λ place. action_at place model number) (λ i name. same name i)

@@ -11,8 +11,8 @@ use Rattle.type_graph.specs.Value.{node_at, tape_of}
 use Rattle.type_graph.specs.Zero.{zero_of}
 use Rattle.type_model.specs.declared.signatures.Operation.{Operation}
 use Rattle.type_model.specs.ModelRules.{Parts}
-use Rattle.attribute_keeper.specs.declared.deed.Deed.{Deed}
-use Rattle.attribute_keeper.specs.declared.deed.Deed.TheVariants.{Get, Set, Empty, Echo, Nothing}
+use Rattle.attribute_keeper.specs.declared.action.Action.{Action}
+use Rattle.attribute_keeper.specs.declared.action.Action.TheVariants.{Get, Set, Empty, Echo, Nothing}
 
 -- ---- names
 
@@ -71,31 +71,31 @@ members_of node = []
 
 -- by the members of the frames of request and reply: there is nothing to answer, the answer is of the same types as
 -- the arguments, or it is something else
-abbrev pub deed_by : List ℕ → List ℕ → Deed
-deed_by request [] = Empty
-deed_by request (member ∷ more) = cond (pointwise nat_eq request (member ∷ more)) Echo Nothing
+abbrev pub action_by : List ℕ → List ℕ → Action
+action_by request [] = Empty
+action_by request (member ∷ more) = cond (pointwise nat_eq request (member ∷ more)) Echo Nothing
 
-abbrev pub frame_deed : List Node → Operation → Deed
-frame_deed graph operation = deed_by (members_of (node_at graph operation.request)) (members_of (node_at graph operation.reply))
+abbrev pub frame_action : List Node → Operation → Action
+frame_action graph operation = action_by (members_of (node_at graph operation.request)) (members_of (node_at graph operation.reply))
 
 -- it gets an attribute, or sets one, or else
-abbrev pub deed_or : Option ℕ → Option ℕ → Deed → Deed
-deed_or (Some attribute) set other = Get attribute
-deed_or None (Some attribute) other = Set attribute
-deed_or None None other = other
+abbrev pub action_or : Option ℕ → Option ℕ → Action → Action
+action_or (Some attribute) set other = Get attribute
+action_or None (Some attribute) other = Set attribute
+action_or None None other = other
 
 -- what an operation does, where the attributes of an object are at these places by their names
-abbrev pub deed_where : (List ℕ → Option ℕ) → List Node → Operation → Deed
-deed_where place graph operation =
-    deed_or (option_and_then place (got_by operation)) (option_and_then place (set_by operation)) (frame_deed graph operation)
+abbrev pub action_where : (List ℕ → Option ℕ) → List Node → Operation → Action
+action_where place graph operation =
+    action_or (option_and_then place (got_by operation)) (option_and_then place (set_by operation)) (frame_action graph operation)
 
 -- what that of a number does
-abbrev pub deed_at : (List ℕ → Option ℕ) → Parts → ℕ → Deed
-deed_at place model number = option_map_or (deed_where place model.graph) (slice_get model.operations number) Nothing
+abbrev pub action_at : (List ℕ → Option ℕ) → Parts → ℕ → Action
+action_at place model number = option_map_or (action_where place model.graph) (slice_get model.operations number) Nothing
 
 -- operations by their numbers, and what each does
-abbrev pub with_deeds : Parts → List ℕ → List ℕ → List (ℕ × Deed)
-with_deeds model getters numbers = map (λ number. (number, deed_at (attribute_named model getters) model number)) numbers
+abbrev pub with_actions : Parts → List ℕ → List ℕ → List (ℕ × Action)
+with_actions model getters numbers = map (λ number. (number, action_at (attribute_named model getters) model number)) numbers
 
 -- ---- tapes
 

@@ -2,10 +2,10 @@
 
 ghost use Rattle.std.specs.Prelude.{◌≡◌, ◌<◌, ℕ, List, length, option_and_then, option_map, slice_get, IfOk};
 ghost use Rattle.type_graph.specs.Value.{node_at};
-ghost use Rattle.attribute_keeper.specs.Attributes.{HasFrames, attribute_named, deed_at, deed_where, first_tape, first_tapes, frame_deed, getters_of, got_by, is_getter, members_of, operations_at, set_by, with_deeds};
+ghost use Rattle.attribute_keeper.specs.Attributes.{HasFrames, attribute_named, action_at, action_where, first_tape, first_tapes, frame_action, getters_of, got_by, is_getter, members_of, operations_at, set_by, with_actions};
 ghost use Rattle.attribute_keeper.specs.Places.{place_in};
 
-use crate::deed::Deed;
+use crate::action::Action;
 use indexmap::IndexMap;
 use std::alloc::{AllocError, Global};
 use type_graph::{Graph, Items, Node};
@@ -109,59 +109,59 @@ fn frame_members(graph: &Graph, frame: u32) -> &[u32]
 }
 
 /// What an operation does that neither gets nor sets an attribute.
-fn other_deed(graph: &Graph, operation: &Operation) -> Deed
+fn other_deed(graph: &Graph, operation: &Operation) -> Action
     requires { HasFrames graph.now operation.now }
-    ensures { result ≡ frame_deed graph.now operation.now }
+    ensures { result ≡ frame_action graph.now operation.now }
 {
     let request = frame_members(graph, operation.request);
     let reply = frame_members(graph, operation.reply);
     if reply.is_empty() {
-        Deed::Empty
+        Action::Empty
     } else if request == reply {
-        Deed::Echo
+        Action::Echo
     } else {
-        Deed::Nothing
+        Action::Nothing
     }
 }
 
 /// What an operation of an object does whose attributes are there.
-fn operation_deed(graph: &Graph, places: &Places<'_>, operation: &Operation) -> Deed
+fn operation_deed(graph: &Graph, places: &Places<'_>, operation: &Operation) -> Action
     requires { HasFrames graph.now operation.now }
-    ensures { result ≡ deed_where (place_in places.now.entries) graph.now operation.now }
+    ensures { result ≡ action_where (place_in places.now.entries) graph.now operation.now }
 {
     if let Some(attribute) = place_of(places, got_name(operation)) {
-        return Deed::Get(attribute);
+        return Action::Get(attribute);
     }
     match place_of(places, set_name(operation)) {
-        Some(attribute) => Deed::Set(attribute),
+        Some(attribute) => Action::Set(attribute),
         None => other_deed(graph, operation),
     }
 }
 
-fn number_deed(model: &Model, places: &Places<'_>, number: u32) -> Deed
-    ensures { result ≡ deed_at (place_in places.now.entries) model.now number }
+fn number_deed(model: &Model, places: &Places<'_>, number: u32) -> Action
+    ensures { result ≡ action_at (place_in places.now.entries) model.now number }
 {
     match model.operations().get(number as usize) {
         Some(operation) => operation_deed(model.graph(), places, operation),
-        None => Deed::Nothing,
+        None => Action::Nothing,
     }
 }
 
 /// The operations of an object that has these attributes, each with what it does.
-pub(crate) fn find_deeds(
+pub(crate) fn find_actions(
     alloc: Global,
     model: &Model,
     getters: &[u32],
     numbers: &[u32],
-) -> Result<Items<(u32, Deed)>, AllocError>
-    ensures { IfOk result (λ deeds. deeds ≡ with_deeds model.now getters.now numbers.now) }
+) -> Result<Items<(u32, Action)>, AllocError>
+    ensures { IfOk result (λ actions. actions ≡ with_actions model.now getters.now numbers.now) }
 {
     let places = find_places(alloc, model, getters)?;
-    let mut deeds = Vec::new(alloc);
+    let mut actions = Vec::new(alloc);
     for number in numbers {
-        deeds.push((*number, number_deed(model, &places, *number)))?;
+        actions.push((*number, number_deed(model, &places, *number)))?;
     }
-    Ok(Items::new(deeds))
+    Ok(Items::new(actions))
 }
 
 /// The tape of zeros of what an operation replies.

@@ -2,10 +2,10 @@
 
 ghost use Rattle.std.specs.Prelude.{◌≡◌, [], slice_index_or, IfOk};
 ghost use Rattle.broker_answers.specs.Objects.{objects_of};
-ghost use Rattle.attribute_keeper.specs.Keeping.{deed_in};
+ghost use Rattle.attribute_keeper.specs.Keeping.{action_in};
 
-use crate::attributes::{find_deeds, find_getters, operations_of, zero_replies};
-use crate::deed::Deed;
+use crate::attributes::{find_actions, find_getters, operations_of, zero_replies};
+use crate::action::Action;
 use crate::kept::Kept;
 use broker_answers::{Outcome, Servant};
 use position_checker::Accepted;
@@ -19,7 +19,7 @@ use type_graph::Items;
 /// contract sees what the operations of each object do, and the tapes.
 #[derive(Drop)]
 pub struct Keeper {
-    deeds: Vec<Items<(u32, Deed)>>,
+    actions: Vec<Items<(u32, Action)>>,
     kept: Vec<Kept>,
 }
 
@@ -28,18 +28,18 @@ impl Model for Keeper {
 
     ghost Value = { Keeping };
 
-    ghost view = { λ k. keeping k.deeds.items k.kept.items };
+    ghost view = { λ k. keeping k.actions.items k.kept.items };
 }
 
-fn row_deed(rows: &[(u32, Deed)], number: u32) -> Deed
-    ensures { result ≡ deed_in rows.now number }
+fn row_deed(rows: &[(u32, Action)], number: u32) -> Action
+    ensures { result ≡ action_in rows.now number }
 {
-    for (other, deed) in rows {
+    for (other, action) in rows {
         if *other == number {
-            return *deed;
+            return *action;
         }
     }
-    Deed::Nothing
+    Action::Nothing
 }
 
 impl Keeper {
@@ -58,24 +58,24 @@ impl Keeper {
         ensures { IfOk result (λ keeper. keeper ≡ first_keeping accepted.now.model (objects_of objects.now)) }
     {
         let model = accepted.table().model();
-        let mut deeds = Vec::new(alloc);
+        let mut actions = Vec::new(alloc);
         let mut kept = Vec::new(alloc);
         for (_, interface) in objects {
             let numbers = operations_of(model, *interface);
             let getters = find_getters(alloc, model, numbers)?;
-            deeds.push(find_deeds(alloc, model, getters.as_slice(), numbers)?)?;
+            actions.push(find_actions(alloc, model, getters.as_slice(), numbers)?)?;
             kept.push(Kept::new(zero_replies(alloc, model, getters.as_slice())?))?;
         }
-        Ok(Keeper { deeds, kept })
+        Ok(Keeper { actions, kept })
     }
 
     /// What an operation of an object does.
-    fn deed(&self, object: usize, operation: u32) -> Deed
-        ensures { result ≡ deed_in (slice_index_or self.now.deeds object []) operation }
+    fn action(&self, object: usize, operation: u32) -> Action
+        ensures { result ≡ action_in (slice_index_or self.now.actions object []) operation }
     {
-        match self.deeds.get(object) {
+        match self.actions.get(object) {
             Some(rows) => row_deed(rows.as_slice(), operation),
-            None => Deed::Nothing,
+            None => Action::Nothing,
         }
     }
 
@@ -113,18 +113,18 @@ impl Servant for Keeper {
         operation: u32,
         arguments: &[u8],
     ) -> Result<Outcome, AllocError> {
-        match self.deed(object, operation) {
-            Deed::Get(attribute) => {
+        match self.action(object, operation) {
+            Action::Get(attribute) => {
                 let tape = self.tape(object, attribute);
                 Ok(Outcome::Done(Vec::from_slice(alloc, tape)?))
             }
-            Deed::Set(attribute) => {
+            Action::Set(attribute) => {
                 self.set(object, attribute, Vec::from_slice(alloc, arguments)?);
                 Ok(Outcome::Done(Vec::new(alloc)))
             }
-            Deed::Empty => Ok(Outcome::Done(Vec::new(alloc))),
-            Deed::Echo => Ok(Outcome::Done(Vec::from_slice(alloc, arguments)?)),
-            Deed::Nothing => Ok(Outcome::NoImplement),
+            Action::Empty => Ok(Outcome::Done(Vec::new(alloc))),
+            Action::Echo => Ok(Outcome::Done(Vec::from_slice(alloc, arguments)?)),
+            Action::Nothing => Ok(Outcome::NoImplement),
         }
     }
 }

@@ -2,10 +2,10 @@
 #![tactic(auto)]
 
 mod attributes;
-mod deed;
+mod action;
 mod keeper;
 mod kept;
 pub mod laws;
 
-pub use deed::Deed;
+pub use action::Action;
 pub use keeper::Keeper;

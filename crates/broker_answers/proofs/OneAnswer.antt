@@ -18,7 +18,7 @@ use Rattle.broker_answers.specs.declared.exception.SystemException.TheVariants a
 use Rattle.broker_answers.specs.Servants.{Acting, Call, Said, Done, Raised, NoImplement}
 use Rattle.broker_answers.specs.Objects.{Served, object_with}
 use Rattle.broker_answers.specs.Findings.{Finding, Refuses, Tells, Calls}
-use Rattle.broker_answers.specs.Replies.{Reply, acceptance, exception_reply, truth_reply, success, throw, IsSent, IsUnsendable, IsThrown, IsUnthrown, Replies, Succeeds, FailsToSucceed, Throws, FailsToThrow, ThrowsUnknown, IsntImplemented, Wanted, AllOfIt, Acceptance, Silence, wanted, IsAnswer, IsWhole, AnswersRequest}
+use Rattle.broker_answers.specs.Replies.{Reply, acceptance, exception_reply, truth_reply, success, throw, IsSent, IsUnsendable, IsThrown, IsUnthrown, Replies, Succeeds, FailsToSucceed, Throws, FailsToThrow, ThrowsUnknown, IsntImplemented, SyncScope, WithTarget, WithServer, NoResponse, wanted, IsAnswer, IsWhole, AnswersRequest}
 use Rattle.broker_answers.specs.Serving.{Item, IsItem, AnswersItem, IsLocated, MovesItem, MovesRequest, ServesRaw, Serves, closes, state_after}
 use Rattle.broker_answers.specs.OneAnswer.{IsSame}
 use Rattle.broker_answers.proofs.Sent.{written_once}
@@ -193,21 +193,21 @@ whole_once served rules asked (Calls call) says x y a b =
     (subst (λ (o : Operation). Replies served.model asked o (says call) x) same a.2))
     (by_said served.model asked b.0 (says call) y b.2)
 
-answer_once : (served : Served) → IsGraph served.model.graph → (asked : Asked) (want : Wanted) (finding : Finding)
-    (says : Call → Said) (x y : List ℕ) → IsAnswer want served asked finding says x
-    → IsAnswer want served asked finding says y → x ≡ y
-answer_once served rules asked AllOfIt finding says x y a b = whole_once served rules asked finding says x y a b
-answer_once served rules asked Acceptance (Refuses e) says x y a b = exception_once asked e x y a b
-answer_once served rules asked Acceptance (Tells truth) says x y a b = acceptance_once asked x y a b
-answer_once served rules asked Acceptance (Calls call) says x y a b = acceptance_once asked x y a b
-answer_once served rules asked Silence finding says x y a b = a ∙ sym b
+answer_once : (served : Served) → IsGraph served.model.graph → (asked : Asked) (scope : SyncScope) (finding : Finding)
+    (says : Call → Said) (x y : List ℕ) → IsAnswer scope served asked finding says x
+    → IsAnswer scope served asked finding says y → x ≡ y
+answer_once served rules asked WithTarget finding says x y a b = whole_once served rules asked finding says x y a b
+answer_once served rules asked WithServer (Refuses e) says x y a b = exception_once asked e x y a b
+answer_once served rules asked WithServer (Tells truth) says x y a b = acceptance_once asked x y a b
+answer_once served rules asked WithServer (Calls call) says x y a b = acceptance_once asked x y a b
+answer_once served rules asked NoResponse finding says x y a b = a ∙ sym b
 
 request_once : (served : Served) → IsGraph served.model.graph → (asked : Asked) (says : Call → Said) (x y : List ℕ)
     → AnswersRequest served asked says x → AnswersRequest served asked says y → x ≡ y
 request_once served rules asked says x y a b =
     let same = finds_once served rules asked a.finding b.finding a.finds b.finds in
-    answer_once served rules asked (wanted asked.flags) b.finding says x y
-    (subst (λ (f : Finding). IsAnswer (wanted asked.flags) served asked f says x) same a.answer) b.answer
+    answer_once served rules asked (sync_scope asked.flags) b.finding says x y
+    (subst (λ (f : Finding). IsAnswer (sync_scope asked.flags) served asked f says x) same a.answer) b.answer
 
 -- ---- items
 

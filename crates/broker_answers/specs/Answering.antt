@@ -2,23 +2,23 @@
 use Rattle.std.specs.Prelude.{◌≡◌, ◌⊎◌, ℕ, List, Some, slice_get}
 use Rattle.type_model.specs.declared.signatures.Operation.{Operation}
 use Rattle.giop_messages.specs.Messages.{Asked}
-use Rattle.broker_answers.specs.declared.wanted.Wanted.{Wanted as Wish}
-use Rattle.broker_answers.specs.declared.wanted.Wanted.TheVariants as wishes
+use Rattle.broker_answers.specs.declared.scope.SyncScope.{SyncScope as Scope}
+use Rattle.broker_answers.specs.declared.scope.SyncScope.TheVariants as scopes
 use Rattle.broker_answers.specs.Servants.{Acting, Call, Said}
 use Rattle.broker_answers.specs.Objects.{Served}
 use Rattle.broker_answers.specs.Findings.{Finding}
-use Rattle.broker_answers.specs.Replies.{Wanted, AllOfIt, Acceptance, Silence, IsAnswer, wanted}
+use Rattle.broker_answers.specs.Replies.{SyncScope, WithTarget, WithServer, NoResponse, IsAnswer, sync_scope}
 use Rattle.broker_answers.specs.Streams.{Raw}
 use Rattle.broker_answers.specs.Serving.{Item, MovesRaw, MovesRequest}
 
-abbrev pub wanted_by : Wish → Wanted
-wanted_by wishes.AllOfIt = AllOfIt
-wanted_by wishes.Acceptance = Acceptance
-wanted_by wishes.Silence = Silence
+abbrev pub scope_by : Scope → SyncScope
+scope_by scopes.WithTarget = WithTarget
+scope_by scopes.WithServer = WithServer
+scope_by scopes.NoResponse = NoResponse
 
 -- the answer to what a request asks
 pub record IsAnswered (served : Served) (asked : Asked) (finding : Finding) (says : Call → Said) (octets : List ℕ) : Type 0 where
-  pub answer : IsAnswer (wanted asked.flags) served asked finding says octets
+  pub answer : IsAnswer (sync_scope asked.flags) served asked finding says octets
 
 -- it wasn't seen to, or it was
 abbrev pub MayMove : {S : Type 0} → Acting S → Served → Asked → S → S → Type 0

@@ -90,22 +90,22 @@ pub data Replies (model : Parts) (asked : Asked) (operation : Operation) (said :
   IsntImplemented : said ≡ NoImplement → IsSent asked (exception_reply raised.NoImplement) octets
       → Replies model asked operation said octets
 
--- Which answers the response flags want (GIOP: request header): all; that it was done, or that it can't be; none. Bits 0
+-- Which answers the response flags ask for (GIOP: request header): all; that it was done, or that it can't be; none. Bits 0
 -- and 1 alone are looked at, and 2 is read as 0 (own).
-pub data Wanted : Type 0 where
-  AllOfIt : Wanted
-  Acceptance : Wanted
-  Silence : Wanted
+pub data SyncScope : Type 0 where
+  WithTarget : SyncScope
+  WithServer : SyncScope
+  NoResponse : SyncScope
 
-abbrev pub wanted_of : ℕ → Wanted
-wanted_of zero = Silence
-wanted_of (suc zero) = Acceptance
-wanted_of (suc (suc zero)) = Silence
-wanted_of (suc (suc (suc zero))) = AllOfIt
-wanted_of (suc (suc (suc (suc n)))) = Silence
+abbrev pub scope_of : ℕ → SyncScope
+scope_of zero = NoResponse
+scope_of (suc zero) = WithServer
+scope_of (suc (suc zero)) = NoResponse
+scope_of (suc (suc (suc zero))) = WithTarget
+scope_of (suc (suc (suc (suc n)))) = NoResponse
 
-abbrev pub wanted : ℕ → Wanted
-wanted flags = wanted_of (flags % 4)
+abbrev pub sync_scope : ℕ → SyncScope
+sync_scope flags = scope_of (flags % 4)
 
 -- all of the answer; `says` is what the servant says to a call
 abbrev pub IsWhole : Served → Asked → Finding → (Call → Said) → List ℕ → Type 0
@@ -121,13 +121,13 @@ IsAccepted asked (Refuses exception) octets = IsSent asked (exception_reply exce
 IsAccepted asked (Tells truth) octets = IsSent asked acceptance octets
 IsAccepted asked (Calls call) octets = IsSent asked acceptance octets
 
-abbrev pub IsAnswer : Wanted → Served → Asked → Finding → (Call → Said) → List ℕ → Type 0
-IsAnswer AllOfIt served asked finding says octets = IsWhole served asked finding says octets
-IsAnswer Acceptance served asked finding says octets = IsAccepted asked finding octets
-IsAnswer Silence served asked finding says octets = octets ≡ []
+abbrev pub IsAnswer : SyncScope → Served → Asked → Finding → (Call → Said) → List ℕ → Type 0
+IsAnswer WithTarget served asked finding says octets = IsWhole served asked finding says octets
+IsAnswer WithServer served asked finding says octets = IsAccepted asked finding octets
+IsAnswer NoResponse served asked finding says octets = octets ≡ []
 
 -- the answer to a request
 pub record AnswersRequest (served : Served) (asked : Asked) (says : Call → Said) (octets : List ℕ) : Type 0 where
   pub finding : Finding
   pub finds : Finds served asked finding
-  pub answer : IsAnswer (wanted asked.flags) served asked finding says octets
+  pub answer : IsAnswer (sync_scope asked.flags) served asked finding says octets

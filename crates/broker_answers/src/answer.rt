@@ -15,7 +15,7 @@ use crate::outcome::reply_to;
 use crate::reply::{send_acceptance, send_exception, send_truth};
 use crate::servant::{Outcome, Servant};
 use crate::service::Service;
-use crate::wanted::{Wanted, wish};
+use crate::scope::{SyncScope, sync_scope};
 use giop::Request;
 use std::alloc::{AllocError, Global};
 use type_model::Operation;
@@ -30,11 +30,11 @@ impl Service {
     ) -> Result<Vec<u8>, AllocError>
         ensures { IfOk result (λ octets. (says : Call → Said) → IsAnswered self.now (asked_of request.now) (Refuses exception) says octets.items) }
     {
-        match wish(request.flags) {
-            Wanted::AllOfIt | Wanted::Acceptance => {
+        match sync_scope(request.flags) {
+            SyncScope::WithTarget | SyncScope::WithServer => {
                 send_exception(&self.giop, alloc, request, exception)
             }
-            Wanted::Silence => Ok(Vec::new(alloc)),
+            SyncScope::NoResponse => Ok(Vec::new(alloc)),
         }
     }
 
@@ -42,10 +42,10 @@ impl Service {
     fn tell(&self, alloc: Global, request: &Request<'_>, truth: bool) -> Result<Vec<u8>, AllocError>
         ensures { IfOk result (λ octets. (says : Call → Said) → IsAnswered self.now (asked_of request.now) (Tells truth) says octets.items) }
     {
-        match wish(request.flags) {
-            Wanted::AllOfIt => send_truth(&self.giop, alloc, request, truth),
-            Wanted::Acceptance => send_acceptance(&self.giop, alloc, request),
-            Wanted::Silence => Ok(Vec::new(alloc)),
+        match sync_scope(request.flags) {
+            SyncScope::WithTarget => send_truth(&self.giop, alloc, request, truth),
+            SyncScope::WithServer => send_acceptance(&self.giop, alloc, request),
+            SyncScope::NoResponse => Ok(Vec::new(alloc)),
         }
     }
 
@@ -62,8 +62,8 @@ impl Service {
         ensures { IfOk result (λ octets. (says : Call → Said) (object : ℕ) (arguments : List ℕ) → says (call_of object number arguments) ≡ said_of outcome.now
             → IsAnswered self.now (asked_of request.now) (Calls (call_of object number arguments)) says octets.items) }
     {
-        match wish(request.flags) {
-            Wanted::AllOfIt => reply_to(
+        match sync_scope(request.flags) {
+            SyncScope::WithTarget => reply_to(
                 &self.giop,
                 alloc,
                 request,
@@ -72,8 +72,8 @@ impl Service {
                 operation,
                 outcome,
             ),
-            Wanted::Acceptance => send_acceptance(&self.giop, alloc, request),
-            Wanted::Silence => Ok(Vec::new(alloc)),
+            SyncScope::WithServer => send_acceptance(&self.giop, alloc, request),
+            SyncScope::NoResponse => Ok(Vec::new(alloc)),
         }
     }
 

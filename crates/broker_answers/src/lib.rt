@@ -13,7 +13,7 @@ mod reply;
 mod servant;
 mod service;
 mod serving;
-mod wanted;
+mod scope;
 
 pub use exception::SystemException;
 pub use servant::{Outcome, Servant};

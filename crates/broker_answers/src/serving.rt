@@ -26,7 +26,7 @@ fn closes(message: &Message<'_>) -> bool
 {
     match message {
         Message::Request(_) | Message::Cancel(_) | Message::Locate(_) => false,
-        Message::Reply(_) | Message::Bye | Message::PeerError => true,
+        Message::Reply(_) | Message::CloseConnection | Message::MessageError => true,
     }
 }
 

@@ -4,21 +4,21 @@ use Rattle.std.specs.Str.Parse.{IsNumeral, digits_value, without_leading_plus}
 use Rattle.clap.specs.Words.{Text, first_of, first_value, one_text, rows_of}
 use Rattle.clap.specs.declared.parser.matches.Found.{Found}
 use Rattle.clap.proofs.WalkLemmas.{first_value-rows, one_text-rows}
-use Rattle.command_words.specs.declared.task.AskedReference.{AskedReference}
+use Rattle.command_words.specs.declared.task.ReferenceTask.{ReferenceTask}
 use Rattle.command_words.specs.Ask.{Reference, ReferenceAsk, reference_ask_of}
 use Rattle.command_words.specs.Words.{TellsReference}
 use Rattle.command_words.proofs.Requests.{same_some, some_since}
 
 module _ (found : Found) where
   -- the reference has what was found for each word
-  pub record IsRequest (asked : AskedReference) : Type 0 where
+  pub record IsRequest (asked : ReferenceTask) : Type 0 where
     pub table : first_value found (codes "T") ≡ Some asked.table.now
     pub host : first_value found (codes "host") ≡ Some asked.wanted.host.now
     pub port : (text : Text) → one_text found (codes "port") ≡ Some text → digits_value 10 (without_leading_plus text) ≡ asked.wanted.port
     pub object : first_value found (codes "object") ≡ Some asked.wanted.object.now
 
   -- nothing is missing where each word was found
-  abbrev pub IsWhole : Option AskedReference → Type 0
+  abbrev pub IsWhole : Option ReferenceTask → Type 0
   IsWhole result = IsSome (first_value found (codes "T"))
       → IsSome (first_value found (codes "host"))
       → IsSome (first_value found (codes "object"))
@@ -33,7 +33,7 @@ module _ (found : Found) where
     digits_are : one_text found (codes "port") ≡ Some tells.port.digits
     digits_are = one_text-rows found (codes "port") ∙ tells.port.found
 
-    is_asked : (asked : AskedReference) → IsRequest asked → reference_ask_of asked ≡ ask
+    is_asked : (asked : ReferenceTask) → IsRequest asked → reference_ask_of asked ≡ ask
     is_asked asked is =
         let table : asked.table.now ≡ ask.table = same_some _ _ _ is.table (found_first _ _ tells.table) in
         let host : asked.wanted.host.now ≡ ask.parts.host = same_some _ _ _ is.host (found_first _ _ tells.host) in
@@ -41,11 +41,11 @@ module _ (found : Found) where
         let object : asked.wanted.object.now ≡ ask.parts.object = same_some _ _ _ is.object (found_first _ _ tells.object) in
         rw (table, host, port, object) refl
 
-    some_asked : (result : Option AskedReference) → IsWhole result → IsSome result
+    some_asked : (result : Option ReferenceTask) → IsWhole result → IsSome result
     some_asked result whole = whole (some_since _ _ (found_first _ _ tells.table)) (some_since _ _ (found_first _ _ tells.host))
         (some_since _ _ (found_first _ _ tells.object)) tells.port.digits digits_are tells.port.numeral (rw tells.port.is tells.port.fits)
 
-    pub asked : (result : Option AskedReference) → IsWhole result
+    pub asked : (result : Option ReferenceTask) → IsWhole result
         → IfSome result (λ asked. first_value found (codes "T") ≡ Some asked.table.now)
         → IfSome result (λ asked. first_value found (codes "host") ≡ Some asked.wanted.host.now)
         → IfSome result (λ asked. (text : Text) → one_text found (codes "port") ≡ Some text → digits_value 10 (without_leading_plus text) ≡ asked.wanted.port)

@@ -9,7 +9,7 @@ use Rattle.type_graph.specs.declared.width.Order.TheVariants.{Big, Little}
 use Rattle.table_commands.specs.declared.values.Way.{Way}
 use Rattle.table_commands.specs.declared.values.Way.TheVariants.{Encode, Decode}
 use Rattle.command_words.specs.Way.{name_of}
-use Rattle.command_words.specs.declared.task.Asked.{Asked}
+use Rattle.command_words.specs.declared.task.ValueTask.{ValueTask}
 use Rattle.command_words.specs.Ask.{Value, ValueAsk, value_ask_of}
 use Rattle.command_words.specs.Words.{TellsValue, word_of}
 
@@ -30,7 +30,7 @@ order_of found Little Big is little =
 
 module _ (found : Found) (way : Way) where
   -- the request has what was found for each word
-  pub record IsRequest (asked : Asked) : Type 0 where
+  pub record IsRequest (asked : ValueTask) : Type 0 where
     pub way_is : asked.request.way ≡ way
     pub table : first_value found (codes "T") ≡ Some asked.table.now
     pub name : first_value found (codes "NAME") ≡ Some asked.request.name.now
@@ -39,7 +39,7 @@ module _ (found : Found) (way : Way) where
     pub hex : first_value found (codes "HEX") ≡ Some asked.request.hex.now
 
   -- nothing is missing where each word was found
-  abbrev pub IsWhole : Option Asked → Type 0
+  abbrev pub IsWhole : Option ValueTask → Type 0
   IsWhole result = IsSome (first_value found (codes "T"))
       → IsSome (first_value found (codes "NAME"))
       → IsSome (first_value found (codes "ORDER"))
@@ -55,7 +55,7 @@ module _ (found : Found) (way : Way) where
     digits_are : one_text found (codes "POS") ≡ Some tells.pos.digits
     digits_are = one_text-rows found (codes "POS") ∙ tells.pos.found
 
-    pub is_asked : (asked : Asked) → way ≡ ask.value.way → IsRequest asked → value_ask_of asked ≡ ask
+    pub is_asked : (asked : ValueTask) → way ≡ ask.value.way → IsRequest asked → value_ask_of asked ≡ ask
     is_asked asked way_is is =
         let table : asked.table.now ≡ ask.table = same_some _ _ _ is.table (found_first _ _ tells.table) in
         let name : asked.request.name.now ≡ ask.value.name = same_some _ _ _ is.name (found_first _ _ tells.name) in
@@ -64,12 +64,12 @@ module _ (found : Found) (way : Way) where
         let hex : asked.request.hex.now ≡ ask.value.hex = same_some _ _ _ is.hex (found_first _ _ tells.hex) in
         rw (is.way_is ∙ way_is, table, name, order, pos, hex) refl
 
-    pub some_asked : (result : Option Asked) → IsWhole result → IsSome result
+    pub some_asked : (result : Option ValueTask) → IsWhole result → IsSome result
     some_asked result whole = whole (some_since _ _ (found_first _ _ tells.table)) (some_since _ _ (found_first _ _ tells.name))
         (some_since _ _ (found_first _ _ tells.order)) (some_since _ _ (found_first _ _ tells.hex))
         tells.pos.digits digits_are tells.pos.numeral (rw tells.pos.is tells.pos.fits)
 
-    pub asked : (result : Option Asked) → way ≡ ask.value.way → IsWhole result
+    pub asked : (result : Option ValueTask) → way ≡ ask.value.way → IsWhole result
         → IfSome result (λ asked. asked.request.way ≡ way)
         → IfSome result (λ asked. first_value found (codes "T") ≡ Some asked.table.now)
         → IfSome result (λ asked. first_value found (codes "NAME") ≡ Some asked.request.name.now)

@@ -2,8 +2,8 @@
 use Rattle.std.specs.Prelude.{ℕ, List, Option, Some, None, codes}
 use Rattle.table_commands.specs.Answer.{Ask as Marshalling, ask_of as marshalling_of}
 use Rattle.table_commands.specs.References.{ReferenceParts, reference_parts_of}
-use Rattle.command_words.specs.declared.task.Asked.{Asked}
-use Rattle.command_words.specs.declared.task.AskedReference.{AskedReference}
+use Rattle.command_words.specs.declared.task.ValueTask.{ValueTask}
+use Rattle.command_words.specs.declared.task.ReferenceTask.{ReferenceTask}
 use Rattle.command_words.specs.declared.task.Task.{Task}
 use Rattle.command_words.specs.declared.task.Task.TheVariants as tasks
 use Rattle.command_words.specs.Way.{name_of}
@@ -24,10 +24,10 @@ pub data Ask : Type 0 where
   -- what the refusal of a number means
   Explanation : ℕ → Ask
 
-abbrev pub value_ask_of : Asked → ValueAsk
+abbrev pub value_ask_of : ValueTask → ValueAsk
 value_ask_of asked = record { table = asked.table.now; value = marshalling_of asked.request }
 
-abbrev pub reference_ask_of : AskedReference → ReferenceAsk
+abbrev pub reference_ask_of : ReferenceTask → ReferenceAsk
 reference_ask_of asked = record { table = asked.table.now; parts = reference_parts_of asked.wanted }
 
 -- what a task answers, but for tables

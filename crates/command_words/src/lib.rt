@@ -9,4 +9,4 @@ mod task;
 
 pub use line::parse;
 pub use mistake::Mistake;
-pub use task::{Asked, AskedReference, Said, Service, Task};
+pub use task::{ValueTask, ReferenceTask, Said, Service, Task};

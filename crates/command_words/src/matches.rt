@@ -7,12 +7,12 @@ ghost use Rattle.clap.specs.Matches.{found_of, first_value, one_text};
 ghost use Rattle.command_words.specs.Ask.{Ask, Explanation, Reference, ReferenceAsk, Value, ValueAsk, ask_of, command_of};
 ghost use Rattle.command_words.specs.Words.{Tells, TellsNumber, TellsReference, TellsValue};
 
-use crate::task::{Asked, AskedReference, Service, Task};
+use crate::task::{ValueTask, ReferenceTask, Service, Task};
 use clap::ArgMatches;
-use table_commands::{Request, WantedReference, Way};
+use table_commands::{ValueRequest, ReferenceRequest, Way};
 use type_graph::Order;
 
-fn asked_in<'a>(way: Way, matches: &ArgMatches<'a>) -> Option<Asked<'a>>
+fn asked_in<'a>(way: Way, matches: &ArgMatches<'a>) -> Option<ValueTask<'a>>
     ensures way { IfSome result (λ asked. asked.request.way ≡ way) }
     ensures table { IfSome result (λ asked.
         first_value (found_of matches.now) (codes "T") ≡ Some asked.table.now) }
@@ -37,9 +37,9 @@ fn asked_in<'a>(way: Way, matches: &ArgMatches<'a>) -> Option<Asked<'a>>
         "little" => Order::Little,
         _ => Order::Big,
     };
-    Some(Asked {
+    Some(ValueTask {
         table: matches.get_str("T")?,
-        request: Request {
+        request: ValueRequest {
             way,
             name: matches.get_str("NAME")?,
             order,
@@ -59,7 +59,7 @@ fn value<'a>(way: Way, words: &ArgMatches<'a>) -> Option<Task<'a>>
     }
 }
 
-fn reference_in<'a>(matches: &ArgMatches<'a>) -> Option<AskedReference<'a>>
+fn reference_in<'a>(matches: &ArgMatches<'a>) -> Option<ReferenceTask<'a>>
     ensures table { IfSome result (λ asked.
         first_value (found_of matches.now) (codes "T") ≡ Some asked.table.now) }
     ensures host { IfSome result (λ asked.
@@ -76,9 +76,9 @@ fn reference_in<'a>(matches: &ArgMatches<'a>) -> Option<AskedReference<'a>>
         → IsNumeral 10 (without_leading_plus text)
         → digits_value 10 (without_leading_plus text) < 2 ^ 16 → IsSome result }
 {
-    Some(AskedReference {
+    Some(ReferenceTask {
         table: matches.get_str("T")?,
-        wanted: WantedReference {
+        wanted: ReferenceRequest {
             host: matches.get_str("host")?,
             port: matches.get_one::<u16>("port")?,
             object: matches.get_str("object")?,

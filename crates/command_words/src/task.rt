@@ -1,21 +1,21 @@
 //! What a run of the program may be asked to do.
 
-use table_commands::{Request, WantedReference};
+use table_commands::{ValueRequest, ReferenceRequest};
 
 /// A value of a table.
 #[derive(Clone, Copy)]
-pub struct Asked<'a> {
+pub struct ValueTask<'a> {
     /// The name of the table.
     pub table: &'a str,
-    pub request: Request<'a>,
+    pub request: ValueRequest<'a>,
 }
 
 /// A reference to an object of a table's interface.
 #[derive(Clone, Copy)]
-pub struct AskedReference<'a> {
+pub struct ReferenceTask<'a> {
     /// The name of the table.
     pub table: &'a str,
-    pub wanted: WantedReference<'a>,
+    pub wanted: ReferenceRequest<'a>,
 }
 
 /// Calls to an object of a table's interface, that come by a socket.
@@ -33,8 +33,8 @@ pub struct Service<'a> {
 /// What a run is asked to do.
 #[derive(Clone, Copy)]
 pub enum Task<'a> {
-    Value(Asked<'a>),
-    Reference(AskedReference<'a>),
+    Value(ValueTask<'a>),
+    Reference(ReferenceTask<'a>),
     /// What the refusal of a number means.
     Explain { number: u8 },
     Check { table: &'a str },

@@ -2,7 +2,7 @@
 use Rattle.std.proofs.Common.{◌≡◌, ℕ, List, Option, Some, None, Ok, IfNone, IfSome, sym, ap, ◌∙◌, subst}
 use Rattle.type_graph.specs.declared.width.Order.{Order}
 use Rattle.type_graph.specs.Value.{Tree}
-use Rattle.giop_messages.specs.declared.head.Kind.TheVariants as kinds
+use Rattle.giop_messages.specs.declared.head.MessageKind.TheVariants as kinds
 use Rattle.giop_messages.specs.declared.head.Head.{Head}
 use Rattle.giop_messages.specs.Runs.{IsMessage}
 use Rattle.giop_messages.specs.declared.message.Request.{Request}
@@ -11,7 +11,7 @@ use Rattle.giop_messages.specs.Messages.{Asked, Answered, Sought, IsWhole, HasHe
 use Rattle.giop.specs.declared.reading.header.RequestHeader.{RequestHeader}
 use Rattle.giop.specs.declared.reading.header.LocateHeader.{LocateHeader}
 use Rattle.giop.specs.Tapes.{Begins, IsTapeAt}
-use Rattle.giop.specs.Targets.{Tells, HasFields, IsRequestHeader, IsLocateHeader}
+use Rattle.giop.specs.Targets.{TellsTarget, HasFields, IsRequestHeader, IsLocateHeader}
 
 pub none_then : {X : Type 0} (o : Option X) (P : Type 0) → o ≡ None → IfNone o P → P
 none_then None P e h = h
@@ -57,7 +57,7 @@ pub request_said : (octets : List ℕ) (head : Head) (tape : List ℕ) (stop : �
     → IsWhole kinds.Request octets head → IsTapeAt octets head.order 17 tape stop
     → ((value : Tree) (rest : List ℕ) → Begins 17 value tape rest → IsRequestHeader value header)
     → HasFields request header head
-    → ((target : Tree) → Tells target header.target → IsKeyOf target (asked_of request).key)
+    → ((target : Tree) → TellsTarget target header.target → IsKeyOf target (asked_of request).key)
     → HasBody octets stop request.body_at request.octets.now → IsRequest octets (asked_of request)
 request_said octets head tape stop header request is at told fields key body =
     let h = told at.value _ at.begins in
@@ -82,7 +82,7 @@ pub locate_said : (octets : List ℕ) (head : Head) (tape : List ℕ) (stop : �
     → IsWhole kinds.LocateRequest octets head → IsTapeAt octets head.order 20 tape stop
     → ((value : Tree) (rest : List ℕ) → Begins 20 value tape rest → IsLocateHeader value header)
     → sought.id ≡ header.id → sought.order ≡ head.order
-    → ((target : Tree) → Tells target header.target → IsKeyOf target sought.key) → IsLocate octets sought
+    → ((target : Tree) → TellsTarget target header.target → IsKeyOf target sought.key) → IsLocate octets sought
 locate_said octets head tape stop header sought is at told id order key =
     let h = told at.value _ at.begins in
     record {

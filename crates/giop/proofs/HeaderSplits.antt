@@ -14,7 +14,7 @@ use Rattle.giop_messages.specs.declared.message.ReplyStatus.{ReplyStatus}
 use Rattle.giop_messages.specs.declared.message.ReplyStatus.TheVariants.{NoException, UserException, SystemException, LocationForward, LocationForwardPerm, NeedsAddressingMode}
 use Rattle.giop.specs.declared.reading.target.Target.{Target}
 use Rattle.giop.specs.Tapes.{Begins}
-use Rattle.giop.specs.Targets.{Tells, IsRequestHeader, IsReplyHeader, IsLocateHeader}
+use Rattle.giop.specs.Targets.{TellsTarget, IsRequestHeader, IsReplyHeader, IsLocateHeader}
 use Rattle.giop.proofs.HeaderParts.{RequestParts, request_parts, reply_parts, cancel_parts, locate_parts}
 
 pub octet_front : (m n : ℕ) (r s : List ℕ) → m < 2 ^ 8 → n < 2 ^ 8 → word Big One (pos m) ++ r ≡ word Big One (pos n) ++ s
@@ -27,7 +27,7 @@ octet_front m n r s hm hn e =
 
 -- a tape that a reader of targets was given tells this
 abbrev pub Split : Target → List ℕ → List ℕ → Type 0
-Split target tape behind = (tree : Tree) (rest : List ℕ) → Begins 16 tree tape rest → Tells tree target × (rest ≡ behind)
+Split target tape behind = (tree : Tree) (rest : List ℕ) → Begins 16 tree tape rest → TellsTarget tree target × (rest ≡ behind)
 
 -- what of it stands behind the number, behind the flags, behind the reserved octets
 pub record AtFlags (value : Tree) (id : ℕ) (tape rest : List ℕ) : Type 0 where

@@ -13,8 +13,8 @@ use Rattle.type_graph.specs.Encoding.{Means}
 use Rattle.type_graph.proofs.WrittenRead.{written_is_read}
 use Rattle.giop_messages.specs.declared.fault.FramingFault.{FramingFault}
 use Rattle.giop_messages.specs.declared.fault.FramingFault.TheVariants.{TooLong}
-use Rattle.giop_messages.specs.declared.head.Kind.{Kind}
-use Rattle.giop_messages.specs.declared.head.Kind.TheVariants as kinds
+use Rattle.giop_messages.specs.declared.head.MessageKind.{MessageKind}
+use Rattle.giop_messages.specs.declared.head.MessageKind.TheVariants as kinds
 use Rattle.giop_messages.specs.declared.head.Head.{Head}
 use Rattle.giop_messages.specs.Heads.{head_in, max_size, number_in}
 use Rattle.giop_types.specs.Fields.{Holds, octet_trees}
@@ -37,7 +37,7 @@ size_read Little size more small =
     little_from-bytes 4 0 size more ∙ omega (arith, mod-eq_of_lt {n = size} fits)
 
 -- the head of a message of a type that nothing follows
-abbrev head_of_written : Order → Kind → ℕ → Head
+abbrev head_of_written : Order → MessageKind → ℕ → Head
 head_of_written order kind size = record { kind = kind; order = order; goes_on = false; size = size }
 
 limited : (n size : ℕ) (found : Result Head FramingFault) → n ≡ size → size ≤ max_size

@@ -13,10 +13,10 @@ use Rattle.giop.specs.declared.reading.header.ReplyHeader.{ReplyHeader}
 use Rattle.giop.specs.declared.reading.header.LocateHeader.{LocateHeader}
 
 -- what a target tells: this key, the key of this profile, or none
-abbrev pub Tells : Tree → Target → Type 0
-Tells target (Key key) = IsKeyOf target (Some key.now)
-Tells target (Profile profile) = (key : Option (List ℕ)) → IsIn (pair_of profile) key → IsKeyOf target key
-Tells target Nothing = IsKeyOf target None
+abbrev pub TellsTarget : Tree → Target → Type 0
+TellsTarget target (Key key) = IsKeyOf target (Some key.now)
+TellsTarget target (Profile profile) = (key : Option (List ℕ)) → IsIn (pair_of profile) key → IsKeyOf target key
+TellsTarget target Nothing = IsKeyOf target None
 
 -- the value of the header of a request
 pub record IsRequestHeader (value : Tree) (header : RequestHeader) : Type 0 where
@@ -24,7 +24,7 @@ pub record IsRequestHeader (value : Tree) (header : RequestHeader) : Type 0 wher
   pub target : Tree
   pub contexts : Trees
   pub is : value ≡ request_tree header.id header.flags reserved target header.operation.now contexts
-  pub tells : Tells target header.target
+  pub tells : TellsTarget target header.target
 
 -- that of a reply
 pub record IsReplyHeader (value : Tree) (header : ReplyHeader) : Type 0 where
@@ -35,7 +35,7 @@ pub record IsReplyHeader (value : Tree) (header : ReplyHeader) : Type 0 where
 pub record IsLocateHeader (value : Tree) (header : LocateHeader) : Type 0 where
   pub target : Tree
   pub is : value ≡ locate_tree header.id target
-  pub tells : Tells target header.target
+  pub tells : TellsTarget target header.target
 
 -- a request with the fields of a header
 pub record HasFields (request : Request) (header : RequestHeader) (head : Head) : Type 0 where

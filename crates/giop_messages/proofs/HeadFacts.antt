@@ -8,7 +8,7 @@ use Rattle.type_graph.specs.declared.width.Order.{Order}
 use Rattle.type_graph.specs.declared.width.Order.TheVariants.{Big, Little}
 use Rattle.giop_messages.specs.declared.fault.FramingFault.{FramingFault}
 use Rattle.giop_messages.specs.declared.fault.FramingFault.TheVariants.{NotGiop, Version, TooLong, BadHead}
-use Rattle.giop_messages.specs.declared.head.Kind.{Kind}
+use Rattle.giop_messages.specs.declared.head.MessageKind.{MessageKind}
 use Rattle.giop_messages.specs.declared.head.Head.{Head}
 use Rattle.giop_messages.specs.Heads.{number_in, order_of, goes_on, kinds, may_go_on, is_giop, is_1_2, flags_in, size_in, max_size, head_of, typed, head_in}
 use Rattle.giop_messages.specs.Framing.{order_in}
@@ -20,7 +20,7 @@ past : (b : Bool) (fault : FramingFault) (r : Result Head FramingFault) (head : 
 past true fault r head e = absurd (cc)
 past false fault r head e = (refl, e)
 
-typed_ok : (flags size : ℕ) (kind : Option Kind) (head : Head) → typed flags size kind ≡ Ok head
+typed_ok : (flags size : ℕ) (kind : Option MessageKind) (head : Head) → typed flags size kind ≡ Ok head
     → head ≡ head_of flags size head.kind
 typed_ok flags size None head e = absurd (cc)
 typed_ok flags size (Some kind) head e =
@@ -36,7 +36,7 @@ judge giop version flags size number =
     else if nat_lt max_size size then Err TooLong else typed flags size (slice_get kinds number)
 
 -- which type it is
-kind_typed : (flags size : ℕ) (kind : Option Kind) (head : Head) → typed flags size kind ≡ Ok head
+kind_typed : (flags size : ℕ) (kind : Option MessageKind) (head : Head) → typed flags size kind ≡ Ok head
     → kind ≡ Some head.kind
 kind_typed flags size None head e = absurd (cc)
 kind_typed flags size (Some kind) head e =
@@ -68,7 +68,7 @@ judged_alone giop version flags size number head other long e off le =
     ∙ ap (λ (b : Bool). if b && not (may_go_on head.kind) then Err BadHead else Ok (head_of other long head.kind)) off
 
 -- fragments follow a request or a fragment alone
-on_typed : (flags size : ℕ) (kind : Kind) (head : Head) → typed flags size (Some kind) ≡ Ok head → goes_on flags ≡ true
+on_typed : (flags size : ℕ) (kind : MessageKind) (head : Head) → typed flags size (Some kind) ≡ Ok head → goes_on flags ≡ true
     → may_go_on kind ≡ true
 on_typed flags size kind head e on =
     let p = past (goes_on flags && not (may_go_on kind)) BadHead (Ok (head_of flags size kind)) head e in

@@ -6,8 +6,8 @@ use Rattle.type_graph.specs.Value.{Tree, node_at}
 use Rattle.giop_types.proofs.GraphFacts.{giop_is_graph}
 use Rattle.type_graph.proofs.OneTape.{graph_fits_words}
 use Rattle.type_graph.proofs.OneReading.{one_reading}
-use Rattle.giop_messages.specs.declared.head.Kind.{Kind}
-use Rattle.giop_messages.specs.declared.head.Kind.TheVariants as kinds
+use Rattle.giop_messages.specs.declared.head.MessageKind.{MessageKind}
+use Rattle.giop_messages.specs.declared.head.MessageKind.TheVariants as kinds
 use Rattle.giop_messages.specs.declared.head.Head.{Head}
 use Rattle.giop_types.specs.GiopNodes.{giop_nodes}
 use Rattle.object_references.specs.Profiles.{HasKey}
@@ -17,7 +17,7 @@ use Rattle.giop_messages.specs.declared.message.ReplyStatus.{ReplyStatus}
 use Rattle.giop_messages.specs.declared.message.ReplyStatus.TheVariants.{NoException, UserException, SystemException, LocationForward, LocationForwardPerm, NeedsAddressingMode}
 use Rattle.giop_messages.proofs.OneKey.{keys_once}
 
-heads_same : (kind other : Kind) (octets : List ℕ) (a b : Head) → IsWhole kind octets a → IsWhole other octets b → a ≡ b
+heads_same : (kind other : MessageKind) (octets : List ℕ) (a b : Head) → IsWhole kind octets a → IsWhole other octets b → a ≡ b
 heads_same kind other octets a b one two =
     let same : Ok a ≡ Ok b = sym one.is.head_is ∙ two.is.head_is in
     cc
@@ -79,7 +79,7 @@ statuses_same LocationForwardPerm LocationForwardPerm e = refl
 statuses_same NeedsAddressingMode NeedsAddressingMode e = refl
 statuses_same a b e = absurd (omega (arith, e))
 
-kind_of : Content → Kind
+kind_of : Content → MessageKind
 kind_of (Asks asked) = kinds.Request
 kind_of (Answers answered) = kinds.Reply
 kind_of (Cancels id) = kinds.CancelRequest

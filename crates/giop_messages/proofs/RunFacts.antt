@@ -11,8 +11,8 @@ use Rattle.type_graph.specs.declared.width.Order.{Order}
 use Rattle.type_graph.specs.declared.width.Order.TheVariants.{Big, Little}
 use Rattle.type_graph.specs.Words.{plain_word}
 use Rattle.type_graph.proofs.WordLaws.{length-plain_word}
-use Rattle.giop_messages.specs.declared.head.Kind.{Kind}
-use Rattle.giop_messages.specs.declared.head.Kind.TheVariants.{Request, Reply, CancelRequest, LocateRequest, LocateReply, CloseConnection, MessageError, Fragment}
+use Rattle.giop_messages.specs.declared.head.MessageKind.{MessageKind}
+use Rattle.giop_messages.specs.declared.head.MessageKind.TheVariants.{Request, Reply, CancelRequest, LocateRequest, LocateReply, CloseConnection, MessageError, Fragment}
 use Rattle.giop_messages.specs.declared.head.Head.{Head}
 use Rattle.giop_messages.specs.Heads.{flags_in, goes_on, head_in, head_of, max_size, may_go_on, number_in, order_of, size_in}
 use Rattle.giop_messages.specs.Framing.{Whole, begun, front, is_fragment, order_in, sized}
@@ -78,7 +78,7 @@ begun_run message first =
       request = request_kind head.kind (head_on message head first.is.head_is first.goes_on) first.request;
       alone = off;
     } where
-      request_kind : (kind : Kind) → may_go_on kind ≡ true → is_fragment kind ≡ false → kind ≡ Request
+      request_kind : (kind : MessageKind) → may_go_on kind ≡ true → is_fragment kind ≡ false → kind ≡ Request
       request_kind Request on plain = refl
       request_kind Reply on plain = absurd (cc)
       request_kind CancelRequest on plain = absurd (cc)

@@ -8,8 +8,8 @@ use Rattle.type_graph.specs.declared.width.Width.TheVariants.{Four}
 use Rattle.type_graph.specs.Words.{plain_word}
 use Rattle.giop_messages.specs.declared.fault.FramingFault.{FramingFault}
 use Rattle.giop_messages.specs.declared.fault.FramingFault.TheVariants.{BadFragment}
-use Rattle.giop_messages.specs.declared.head.Kind.{Kind}
-use Rattle.giop_messages.specs.declared.head.Kind.TheVariants.{CancelRequest, Fragment}
+use Rattle.giop_messages.specs.declared.head.MessageKind.{MessageKind}
+use Rattle.giop_messages.specs.declared.head.MessageKind.TheVariants.{CancelRequest, Fragment}
 use Rattle.giop_messages.specs.declared.head.Head.{Head}
 use Rattle.giop_messages.specs.Heads.{flags_in, order_of, number_in, head_in, max_size}
 
@@ -34,11 +34,11 @@ sized message = take 8 message ++ (plain_word (order_in message) Four (length me
 abbrev pub added : List ℕ → List ℕ → List ℕ
 added run fragment = sized (run ++ drop 16 fragment)
 
-abbrev pub is_fragment : Kind → Bool
+abbrev pub is_fragment : MessageKind → Bool
 is_fragment Fragment = true
 is_fragment kind = false
 
-abbrev pub is_cancel : Kind → Bool
+abbrev pub is_cancel : MessageKind → Bool
 is_cancel CancelRequest = true
 is_cancel kind = false
 

@@ -7,8 +7,8 @@ use Rattle.type_graph.specs.declared.width.Order.{Order}
 use Rattle.type_graph.specs.declared.width.Order.TheVariants.{Big, Little}
 use Rattle.giop_messages.specs.declared.fault.FramingFault.{FramingFault}
 use Rattle.giop_messages.specs.declared.fault.FramingFault.TheVariants.{NotGiop, Version, TooLong, BadHead}
-use Rattle.giop_messages.specs.declared.head.Kind.{Kind}
-use Rattle.giop_messages.specs.declared.head.Kind.TheVariants.{Request, Reply, CancelRequest, LocateRequest, LocateReply, CloseConnection, MessageError, Fragment}
+use Rattle.giop_messages.specs.declared.head.MessageKind.{MessageKind}
+use Rattle.giop_messages.specs.declared.head.MessageKind.TheVariants.{Request, Reply, CancelRequest, LocateRequest, LocateReply, CloseConnection, MessageError, Fragment}
 use Rattle.giop_messages.specs.declared.head.Head.{Head}
 
 -- the unsigned number of k octets at the front, in a byte order
@@ -25,12 +25,12 @@ abbrev pub goes_on : ℕ → Bool
 goes_on flags = nat_eq (flags / 2 % 2) 1
 
 -- the types of messages, by their number
-abbrev pub kinds : List Kind
+abbrev pub kinds : List MessageKind
 kinds =
     Request ∷ Reply ∷ CancelRequest ∷ LocateRequest ∷ LocateReply ∷ CloseConnection ∷ MessageError ∷ Fragment ∷ []
 
 -- Messages that may be followed by fragments. Fragmented replies and locate requests are left out (own).
-abbrev pub may_go_on : Kind → Bool
+abbrev pub may_go_on : MessageKind → Bool
 may_go_on Request = true
 may_go_on Fragment = true
 may_go_on kind = false
@@ -56,11 +56,11 @@ size_in octets = number_in (order_of (flags_in octets)) 4 (drop 8 octets)
 abbrev pub max_size : ℕ
 max_size = 1048576
 
-abbrev pub head_of : ℕ → ℕ → Kind → Head
+abbrev pub head_of : ℕ → ℕ → MessageKind → Head
 head_of flags size kind = record { kind = kind; order = order_of flags; goes_on = goes_on flags; size = size }
 
 -- What a head says of its message, given its type. Only requests and their fragments may be followed by fragments.
-abbrev pub typed : ℕ → ℕ → Option Kind → Result Head FramingFault
+abbrev pub typed : ℕ → ℕ → Option MessageKind → Result Head FramingFault
 typed flags size None = Err BadHead
 typed flags size (Some kind) =
     if goes_on flags && not (may_go_on kind) then Err BadHead else Ok (head_of flags size kind)

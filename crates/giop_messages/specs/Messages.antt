@@ -3,8 +3,8 @@ use Rattle.std.specs.Prelude.{◌≡◌, ℕ, ◌+◌, false, List, ◌++◌, le
 use Rattle.type_graph.specs.declared.width.Order.{Order}
 use Rattle.type_graph.specs.Words.{reading, pad}
 use Rattle.type_graph.specs.Value.{Tree, Trees}
-use Rattle.giop_messages.specs.declared.head.Kind.{Kind}
-use Rattle.giop_messages.specs.declared.head.Kind.TheVariants as kinds
+use Rattle.giop_messages.specs.declared.head.MessageKind.{MessageKind}
+use Rattle.giop_messages.specs.declared.head.MessageKind.TheVariants as kinds
 use Rattle.giop_messages.specs.declared.head.Head.{Head}
 use Rattle.giop_messages.specs.Runs.{IsMessage}
 use Rattle.giop_types.specs.Fields.{Holds}
@@ -50,7 +50,7 @@ pub data Content : Type 0 where
   Fails : Content
 
 -- the whole message of this type, not followed by fragments, and what its head says
-pub record IsWhole (kind : Kind) (octets : List ℕ) (head : Head) : Type 0 where
+pub record IsWhole (kind : MessageKind) (octets : List ℕ) (head : Head) : Type 0 where
   pub is : IsMessage head octets
   pub kind_is : head.kind ≡ kind
   pub alone : head.goes_on ≡ false
@@ -111,7 +111,7 @@ pub record IsLocate (octets : List ℕ) (sought : Sought) : Type 0 where
   pub key_is : IsKeyOf target sought.key
 
 -- a message that is its head, and any octets
-pub record IsBare (kind : Kind) (octets : List ℕ) : Type 0 where
+pub record IsBare (kind : MessageKind) (octets : List ℕ) : Type 0 where
   pub head : Head
   pub is : IsWhole kind octets head
 
@@ -147,5 +147,5 @@ content_of (messages.Request request) = Asks (asked_of request)
 content_of (messages.Reply reply) = Answers (answered_of reply)
 content_of (messages.Cancel id) = Cancels id
 content_of (messages.Locate locate) = Seeks (sought_of locate)
-content_of messages.Bye = Closes
-content_of messages.PeerError = Fails
+content_of messages.CloseConnection = Closes
+content_of messages.MessageError = Fails

@@ -1,7 +1,7 @@
 -- What pieces of a run are, and what a run keeps.
 use Rattle.std.specs.Prelude.{◌≡◌, ℕ, ◌+◌, ◌≤◌, true, false, List, length, take, drop, Option, Some, None, IsSomeAnd, Result, Ok, Err}
 use Rattle.giop_messages.specs.declared.fault.FramingFault.{FramingFault}
-use Rattle.giop_messages.specs.declared.head.Kind.TheVariants.{Request}
+use Rattle.giop_messages.specs.declared.head.MessageKind.TheVariants.{Request}
 use Rattle.giop_messages.specs.declared.head.Head.{Head}
 use Rattle.giop_messages.specs.declared.frame.Frame.{Frame}
 use Rattle.giop_messages.specs.Heads.{head_in, max_size}

@@ -16,7 +16,7 @@ pub const MAX_SIZE: u32 = 1_048_576;
 
 /// What a message is (ISO/IEC 19500-2, GIOP message header: message_type).
 #[derive(Clone, Copy, Debug, PartialEq, Eq)]
-pub enum Kind {
+pub enum MessageKind {
     Request,
     Reply,
     CancelRequest,
@@ -30,7 +30,7 @@ pub enum Kind {
 /// What the head of a message says.
 #[derive(Clone, Copy, Debug, PartialEq, Eq)]
 pub struct Head {
-    pub kind: Kind,
+    pub kind: MessageKind,
     pub order: Order,
     /// Fragments follow.
     pub goes_on: bool,
@@ -38,20 +38,20 @@ pub struct Head {
     pub size: u32,
 }
 
-impl Kind {
+impl MessageKind {
     /// The type of a number.
-    fn of(number: u8) -> Option<Kind>
+    fn of(number: u8) -> Option<MessageKind>
         ensures { result ≡ slice_get kinds number }
     {
         match number {
-            0 => Some(Kind::Request),
-            1 => Some(Kind::Reply),
-            2 => Some(Kind::CancelRequest),
-            3 => Some(Kind::LocateRequest),
-            4 => Some(Kind::LocateReply),
-            5 => Some(Kind::CloseConnection),
-            6 => Some(Kind::MessageError),
-            7 => Some(Kind::Fragment),
+            0 => Some(MessageKind::Request),
+            1 => Some(MessageKind::Reply),
+            2 => Some(MessageKind::CancelRequest),
+            3 => Some(MessageKind::LocateRequest),
+            4 => Some(MessageKind::LocateReply),
+            5 => Some(MessageKind::CloseConnection),
+            6 => Some(MessageKind::MessageError),
+            7 => Some(MessageKind::Fragment),
             _ => None,
         }
     }
@@ -60,7 +60,7 @@ impl Kind {
     fn may_go_on(self) -> bool
         ensures { result ≡ may_go_on self }
     {
-        matches!(self, Kind::Request | Kind::Fragment)
+        matches!(self, MessageKind::Request | MessageKind::Fragment)
     }
 }
 
@@ -106,7 +106,7 @@ fn typed_head(octets: &[u8], size: u32) -> Result<Head, FramingFault>
 {
     let flags = octets[6];
     let goes_on = flags / 2 % 2 == 1;
-    match Kind::of(octets[7]) {
+    match MessageKind::of(octets[7]) {
         Some(kind) if !goes_on || kind.may_go_on() => Ok(Head {
             kind,
             order: order_in(flags),
@@ -122,7 +122,7 @@ impl Head {
     pub fn is_fragment(&self) -> bool
         ensures { result ≡ is_fragment self.now.kind }
     {
-        matches!(self.kind, Kind::Fragment)
+        matches!(self.kind, MessageKind::Fragment)
     }
 
     /// What the 12 octets at the front say.

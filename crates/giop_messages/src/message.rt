@@ -83,7 +83,7 @@ pub enum Message<'b> {
     Cancel(u32),
     Locate(Locate),
     /// The connection is closed.
-    Bye,
+    CloseConnection,
     /// A message before was none.
-    PeerError,
+    MessageError,
 }

@@ -1,8 +1,8 @@
 -- What a task answers is what was asked for.
 use Rattle.std.proofs.Common.{◌≡◌, refl, sym, ℕ, subst, Some, Result}
 use Rattle.idlc_main.specs.declared.fault.Fault.{Fault}
-use Rattle.command_words.specs.declared.task.Asked.{Asked}
-use Rattle.command_words.specs.declared.task.AskedReference.{AskedReference}
+use Rattle.command_words.specs.declared.task.ValueTask.{ValueTask}
+use Rattle.command_words.specs.declared.task.ReferenceTask.{ReferenceTask}
 use Rattle.command_words.specs.declared.task.Task.{Task}
 use Rattle.command_words.specs.declared.task.Task.TheVariants as tasks
 use Rattle.command_words.specs.Ask.{Ask, Value, Reference, Explanation, ask_of, reference_ask_of, value_ask_of}
@@ -19,8 +19,8 @@ module _ (Reads : Passing) (ask : Ask) (result : Result Answer Fault) where
   of_same other same is = let one : other ≡ ask = cc in subst (λ (a : Ask). IsAnswer Reads a result) one is
 
   pub answers : (task : Task) → ask_of task ≡ Some ask
-      → ((asked : Asked) → task ≡ tasks.Value asked → IsAnswer Reads (Value (value_ask_of asked)) result)
-      → ((asked : AskedReference) → task ≡ tasks.Reference asked → IsAnswer Reads (Reference (reference_ask_of asked)) result)
+      → ((asked : ValueTask) → task ≡ tasks.Value asked → IsAnswer Reads (Value (value_ask_of asked)) result)
+      → ((asked : ReferenceTask) → task ≡ tasks.Reference asked → IsAnswer Reads (Reference (reference_ask_of asked)) result)
       → ((number : ℕ) → task ≡ tasks.Explain number → IsAnswer Reads (Explanation number) result) → IsAnswer Reads ask result
   answers (tasks.Value asked) is value reference explanation = of_same _ is (value asked refl)
   answers (tasks.Reference asked) is value reference explanation = of_same _ is (reference asked refl)

@@ -10,7 +10,7 @@ ghost use Rattle.idlc_main.specs.declared.fault.Fault.TheVariants.{NoMemory};
 
 use crate::fault::Fault;
 use command_words::Service;
-use socket_server::{Asked, serve};
+use socket_server::{ServeOptions, serve};
 use std::io::Write;
 use std::net::Net;
 use table_commands::{WholeFiles, table_of};
@@ -31,12 +31,12 @@ pub fn served<'a, R: WholeFiles + Net + AllocGlobal, O: Write>(
         Ok(table) => table,
         Err(refusal) => return Err(Fault::from(refusal)),
     };
-    let asked = Asked {
+    let options = ServeOptions {
         port: service.port,
         object: service.object,
         connections: service.connections,
     };
-    match serve(rt, out, table, &asked) {
+    match serve(rt, out, table, &options) {
         Ok(()) => Ok(()),
         Err(fault) => Err(Fault::from(fault)),
     }

@@ -3,8 +3,8 @@
 ghost use Rattle.std.specs.Prelude.{◌≡◌, ℕ, IfErr, IfOk, OnOk};
 ghost use Rattle.std.specs.String.{string_bytes};
 ghost use Rattle.command_words.specs.Ask.{Explanation, Reference, Value, reference_ask_of, value_ask_of};
-ghost use Rattle.command_words.specs.declared.task.Asked.{Asked};
-ghost use Rattle.command_words.specs.declared.task.AskedReference.{AskedReference};
+ghost use Rattle.command_words.specs.declared.task.ValueTask.{ValueTask};
+ghost use Rattle.command_words.specs.declared.task.ReferenceTask.{ReferenceTask};
 ghost use Rattle.idl_compiler.specs.Files.{IsCompiledFile};
 ghost use Rattle.idlc_main.specs.Answer.{IsAnswer, lined as lined_of};
 ghost use Rattle.idlc_main.specs.Fault.{IsTold};
@@ -79,9 +79,9 @@ fn compile<'a, R: WholeFiles + AllocGlobal>(
 
 /// Does what is asked for, and gives the text for standard output.
 pub fn done<'a, R: WholeFiles + AllocGlobal>(rt: &R, task: &Task<'a>) -> Result<Answer, Fault<'a>>
-    ensures value { (asked : Asked) → task.now ≡ Task.Value asked
+    ensures value { (asked : ValueTask) → task.now ≡ Task.Value asked
         → IsAnswer (R.reads rt.now) (Value (value_ask_of asked)) result }
-    ensures reference { (asked : AskedReference) → task.now ≡ Task.Reference asked
+    ensures reference { (asked : ReferenceTask) → task.now ≡ Task.Reference asked
         → IsAnswer (R.reads rt.now) (Reference (reference_ask_of asked)) result }
     ensures explanation { (number : ℕ) → task.now ≡ Task.Explain number
         → IsAnswer (R.reads rt.now) (Explanation number) result }

@@ -12,11 +12,11 @@ use Rattle.iiop_broker.specs.Listed.{IsThere}
 use Rattle.iiop_broker.proofs.Places.{at_split}
 use Rattle.iiop_broker.specs.declared.stream_fault.StreamFault.{StreamFault}
 use Rattle.iiop_broker.specs.declared.stream_fault.StreamFault.TheVariants as faults
-use Rattle.iiop_broker.specs.Courses.{GivenUp}
+use Rattle.iiop_broker.specs.AnsweredStreams.{GivenUp}
 use Rattle.iiop_broker.specs.Outcomes.{Ends, IsOutcome}
 use Rattle.iiop_broker.specs.Running.{running, running_in_part}
 use Rattle.iiop_broker.specs.Serving.{IsServed}
-use Rattle.iiop_broker.proofs.Courses.{talked, talked_in_part}
+use Rattle.iiop_broker.proofs.AnsweredStreams.{talked, talked_in_part}
 use Rattle.iiop_broker.proofs.Going.{still_there}
 
 given_there : {S : Type 0} (acting : Acting S) (served : Served) (c : ℕ) (others : List (ℕ × Stream)) (before : S)

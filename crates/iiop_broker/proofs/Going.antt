@@ -8,10 +8,10 @@ use Rattle.broker_answers.specs.Objects.{Served}
 use Rattle.iiop_broker.specs.Listed.{IsThere}
 use Rattle.iiop_broker.specs.declared.stream_piece.Sent.{Sent}
 use Rattle.iiop_broker.specs.Ends.{Gives, IsEmpty, written_with}
-use Rattle.iiop_broker.specs.Courses.{Course, GivenUp}
+use Rattle.iiop_broker.specs.AnsweredStreams.{AnsweredStream, GivenUp}
 use Rattle.iiop_broker.specs.Outcomes.{Ends, Finished, Unread, Unended, Unwritten, Unserved}
 use Rattle.iiop_broker.specs.StreamPieces.{IsSent, IsStuck, IsGivenUp}
-use Rattle.iiop_broker.proofs.Courses.{course_on, given_up, is_kept}
+use Rattle.iiop_broker.proofs.AnsweredStreams.{stream_on, given_up, is_kept}
 use Rattle.iiop_broker.proofs.Written.{written_nothing, written_then}
 
 -- ---- what is read
@@ -42,19 +42,19 @@ empty_still (Some left) b (rest, is, now) e = subst IsEmpty (sym now) (sym is �
 pub record Going {S : Type 0} (acting : Acting S) (served : Served) (c : ℕ) (others : List (ℕ × Stream)) (before : S) (start now : Ends) (sent count : ℕ) (w : World S Stream) : Type 0 where
   pub octets : List ℕ
   pub answer : List ℕ
-  pub course : Course acting served c others before octets answer false w
+  pub stream : AnsweredStream acting served c others before octets answer false w
   pub read : Gives start.left octets now.left
   pub wrote : now.written ≡ written_with start.written answer
   pub sent_is : sent ≡ length answer
   pub many : count ≤ length octets
 
 pub going_start : {S : Type 0} (acting : Acting S) (served : Served) (c : ℕ) (others : List (ℕ × Stream)) (before : S)
-    (start : Ends) (w : World S Stream) → Course acting served c others before [] [] false w
+    (start : Ends) (w : World S Stream) → AnsweredStream acting served c others before [] [] false w
     → Going acting served c others before start start 0 0 w
-going_start acting served c others before start w course = record {
+going_start acting served c others before start w stream = record {
   octets = [];
   answer = [];
-  course = course;
+  stream = stream;
   read = gives_start start.left;
   wrote = sym (written_nothing start.written);
   sent_is = refl;
@@ -63,10 +63,10 @@ going_start acting served c others before start w course = record {
 
 pub still_there : {S : Type 0} (acting : Acting S) (served : Served) (c : ℕ) (others : List (ℕ × Stream)) (before : S)
     (octets answer : List ℕ) (closes : Bool) (w : World S Stream)
-    → Course acting served c others before octets answer closes w → IsThere c w.there
-still_there acting served c others before octets answer closes w course = record {
+    → AnsweredStream acting served c others before octets answer closes w → IsThere c w.there
+still_there acting served c others before octets answer closes w stream = record {
   kept = kept_or_shut rests closes (cut None octets).left;
-  found = is_kept acting served c others before octets answer closes w course;
+  found = is_kept acting served c others before octets answer closes w stream;
 }
 
 same_kept : (a b : Stream) → Some a ≡ Some b → a ≡ b
@@ -83,11 +83,11 @@ wrote_then start now after answer more e f =
 -- the connection isn't closed, so no message closed it
 open_still : {S : Type 0} (acting : Acting S) (served : Served) (c : ℕ) (others : List (ℕ × Stream)) (before : S)
     (octets answer : List ℕ) (closes closed : Bool) (w : World S Stream)
-    → Course acting served c others before octets answer closes w → (at c w.there ≡ Some Closed → closed ≡ true)
-    → closed ≡ false → Course acting served c others before octets answer false w
-open_still acting served c others before octets answer true closed w course tells e =
-    true_false (sym (tells (is_kept acting served c others before octets answer true w course)) ∙ e)
-open_still acting served c others before octets answer false closed w course tells e = course
+    → AnsweredStream acting served c others before octets answer closes w → (at c w.there ≡ Some Closed → closed ≡ true)
+    → closed ≡ false → AnsweredStream acting served c others before octets answer false w
+open_still acting served c others before octets answer true closed w stream tells e =
+    true_false (sym (tells (is_kept acting served c others before octets answer true w stream)) ∙ e)
+open_still acting served c others before octets answer false closed w stream tells e = stream
 
 pub going_on : {S : Type 0} (acting : Acting S) (served : Served) (c : ℕ) (others : List (ℕ × Stream)) (before : S)
     (start now after : Ends) (sent count : ℕ) (w w' : World S Stream) (piece : List ℕ) (s : Sent)
@@ -97,8 +97,8 @@ pub going_on : {S : Type 0} (acting : Acting S) (served : Served) (c : ℕ) (oth
 going_on acting served c others before start now after sent count w w' piece s going gives some is unshut = record {
   octets = going.octets ++ piece;
   answer = going.answer ++ is.answer;
-  course = open_still acting served c others before (going.octets ++ piece) (going.answer ++ is.answer) is.answers.closes s.closed w'
-      (course_on acting served c others before going.octets going.answer piece is.answer w w' going.course is.answers)
+  stream = open_still acting served c others before (going.octets ++ piece) (going.answer ++ is.answer) is.answers.closes s.closed w'
+      (stream_on acting served c others before going.octets going.answer piece is.answer w w' going.stream is.answers)
       is.closed.1 unshut;
   read = gives_then start.left now.left after.left going.octets piece going.read gives;
   wrote = wrote_then start.written now.written after.written going.answer is.answer going.wrote is.wrote;
@@ -110,14 +110,14 @@ pub all_read : {S : Type 0} (acting : Acting S) (served : Served) (c : ℕ) (oth
     (start now after : Ends) (sent count : ℕ) (w : World S Stream) (got : List ℕ)
     → Going acting served c others before start now sent count w → Gives now.left got after.left → got ≡ []
     → IsEmpty now.left → after.written ≡ now.written
-    → Finished (λ o a k. Course acting served c others before o a k w) start after
+    → Finished (λ o a k. AnsweredStream acting served c others before o a k w) start after
 all_read acting served c others before start now after sent count w got going gives none end same =
     let nothing : Gives now.left [] after.left = subst (λ (g : List ℕ). Gives now.left g after.left) none gives in
     record {
       octets = going.octets;
       answer = going.answer;
       closes = false;
-      told = going.course;
+      told = going.stream;
       read = subst (λ (o : List ℕ). Gives start.left o after.left) (append-nil going.octets)
           (gives_then start.left now.left after.left going.octets [] going.read nothing);
       wrote = same ∙ going.wrote;
@@ -128,20 +128,20 @@ pub all_said : {S : Type 0} (acting : Acting S) (served : Served) (c : ℕ) (oth
     (start now after : Ends) (sent count : ℕ) (w w' : World S Stream) (piece : List ℕ) (s : Sent)
     → Going acting served c others before start now sent count w → Gives now.left piece after.left
     → IsSent acting served c w piece now.written s w' after.written → s.closed ≡ true
-    → Finished (λ o a k. Course acting served c others before o a k w') start after
+    → Finished (λ o a k. AnsweredStream acting served c others before o a k w') start after
 all_said acting served c others before start now after sent count w w' piece s going gives is shut =
-    let course =
-    course_on acting served c others before going.octets going.answer piece is.answer w w' going.course is.answers in
+    let stream =
+    stream_on acting served c others before going.octets going.answer piece is.answer w w' going.stream is.answers in
     record {
       octets = going.octets ++ piece;
       answer = going.answer ++ is.answer;
       closes = is.answers.closes;
-      told = course;
+      told = stream;
       read = gives_then start.left now.left after.left going.octets piece going.read gives;
       wrote = wrote_then start.written now.written after.written going.answer is.answer going.wrote is.wrote;
       finished = inl
           (same_kept (kept_or_shut rests is.answers.closes (cut None (going.octets ++ piece)).left) Closed
-          (sym (is_kept acting served c others before (going.octets ++ piece) (going.answer ++ is.answer) is.answers.closes w' course)
+          (sym (is_kept acting served c others before (going.octets ++ piece) (going.answer ++ is.answer) is.answers.closes w' stream)
           ∙ is.closed.0 shut));
     }
 
@@ -155,7 +155,7 @@ pub stuck : {S : Type 0} (acting : Acting S) (served : Served) (c : ℕ) (others
     (start now after : Ends) (sent count n : ℕ) (w w' : World S Stream) (piece : List ℕ)
     → Going acting served c others before start now sent count w → Gives now.left piece after.left
     → IsStuck acting served c w piece now.written n w' after.written after.unwritten
-    → Unwritten (λ o a k. Course acting served c others before o a k w') (sent + n) start after
+    → Unwritten (λ o a k. AnsweredStream acting served c others before o a k w') (sent + n) start after
 stuck acting served c others before start now after sent count n w w' piece going gives is =
     let so_far = going.sent_is in
     let here : length going.answer + n ≡ sent + n = omega (arith, so_far) in
@@ -163,7 +163,7 @@ stuck acting served c others before start now after sent count n w w' piece goin
       octets = going.octets ++ piece;
       answer = going.answer ++ is.answer;
       closes = is.answers.closes;
-      told = course_on acting served c others before going.octets going.answer piece is.answer w w' going.course is.answers;
+      told = stream_on acting served c others before going.octets going.answer piece is.answer w w' going.stream is.answers;
       read = gives_then start.left now.left after.left going.octets piece going.read gives;
       within = let m = is.within in omega (arith, so_far, m, length-append going.answer is.answer);
       wrote = wrote_then start.written now.written after.written going.answer (take n is.answer) going.wrote is.wrote
@@ -181,7 +181,7 @@ unserved acting served c others before start now after sent count w w' piece goi
   octets = going.octets;
   answer = going.answer;
   more = piece;
-  told = given_up acting served c others before going.octets going.answer piece [] is.j w w' going.course is.abandons;
+  told = given_up acting served c others before going.octets going.answer piece [] is.j w w' going.stream is.abandons;
   read = gives_then start.left now.left after.left going.octets piece going.read gives;
   wrote = is.silent ∙ going.wrote;
 }
@@ -189,11 +189,11 @@ unserved acting served c others before start now after sent count w w' piece goi
 pub unread : {S : Type 0} (acting : Acting S) (served : Served) (c : ℕ) (others : List (ℕ × Stream)) (before : S)
     (start now after : Ends) (sent count : ℕ) (w : World S Stream)
     → Going acting served c others before start now sent count w → after.left ≡ now.left → after.written ≡ now.written
-    → after.unread ≡ true → Unread (λ o a k. Course acting served c others before o a k w) start after
+    → after.unread ≡ true → Unread (λ o a k. AnsweredStream acting served c others before o a k w) start after
 unread acting served c others before start now after sent count w going same kept failed = record {
   octets = going.octets;
   answer = going.answer;
-  told = going.course;
+  told = going.stream;
   read = subst (λ (l : Option (List ℕ)). Gives start.left going.octets l) (sym same) going.read;
   wrote = kept ∙ going.wrote;
   failed = failed;
@@ -202,11 +202,11 @@ unread acting served c others before start now after sent count w going same kep
 pub unended : {S : Type 0} (acting : Acting S) (served : Served) (c : ℕ) (others : List (ℕ × Stream)) (before : S)
     (start now : Ends) (sent count reads : ℕ) (w : World S Stream)
     → Going acting served c others before start now sent count w → reads ≤ count
-    → Unended (λ o a k. Course acting served c others before o a k w) reads start now
+    → Unended (λ o a k. AnsweredStream acting served c others before o a k w) reads start now
 unended acting served c others before start now sent count reads w going enough = record {
   octets = going.octets;
   answer = going.answer;
-  told = going.course;
+  told = going.stream;
   read = going.read;
   wrote = going.wrote;
   many = let m = going.many in omega (arith, m, enough);

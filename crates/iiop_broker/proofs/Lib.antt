@@ -5,6 +5,6 @@ pub mod Steps
 pub mod Fit
 pub mod Rests
 pub mod Written
-pub mod Courses
+pub mod AnsweredStreams
 pub mod Going
 pub mod Ending

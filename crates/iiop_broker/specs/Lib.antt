@@ -6,7 +6,7 @@ pub mod World
 pub mod Listed
 pub mod Rests
 pub mod Ends
-pub mod Courses
+pub mod AnsweredStreams
 pub mod Outcomes
 pub mod StreamPieces
 pub mod Running

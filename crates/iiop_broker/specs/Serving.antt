@@ -8,7 +8,7 @@ use Rattle.broker_answers.specs.Objects.{Served}
 use Rattle.iiop_broker.specs.Listed.{IsThere}
 use Rattle.iiop_broker.specs.declared.stream_fault.StreamFault.{StreamFault}
 use Rattle.iiop_broker.specs.declared.stream_fault.StreamFault.TheVariants as faults
-use Rattle.iiop_broker.specs.Courses.{Talked, TalkedInPart}
+use Rattle.iiop_broker.specs.AnsweredStreams.{Talked, TalkedInPart}
 use Rattle.iiop_broker.specs.Outcomes.{Ends, IsOutcome}
 
 -- nothing changed

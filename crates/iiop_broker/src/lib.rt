@@ -4,7 +4,7 @@
 
 mod broker;
 mod connections;
-mod course;
+mod pieces;
 mod ends;
 mod event;
 mod fault;

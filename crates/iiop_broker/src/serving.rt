@@ -6,7 +6,7 @@ ghost use Rattle.iiop_broker.specs.Outcomes.{ends};
 ghost use Rattle.iiop_broker.specs.Serving.{IsServed};
 
 use crate::broker::Broker;
-use crate::course::serve_course;
+use crate::pieces::serve_pieces;
 use crate::ends::{Input, Output};
 use crate::event::Event;
 use crate::fault::BrokerFault;
@@ -46,7 +46,7 @@ pub fn serve_stream_within<S: Servant, I: Input, O: Output>(
             });
         }
     }
-    let result = serve_course(broker, c, reader, writer, reads);
+    let result = serve_pieces(broker, c, reader, writer, reads);
     match broker.step(Event::End(c)) {
         Ok(_) => result,
         Err(_) => unreachable!(),

@@ -7,7 +7,7 @@ ghost use Rattle.giop_messages.specs.Runs.{IsFrame, IsMessage};
 ghost use Rattle.iiop_broker.specs.Turns.{IsTaken};
 
 use byteorder::{BigEndian, ByteOrder, LittleEndian};
-use giop_messages::{Frame, FramingFault, HEAD_LEN, Head, Kind, Run, frame_in};
+use giop_messages::{Frame, FramingFault, HEAD_LEN, Head, MessageKind, Run, frame_in};
 use std::alloc::{AllocError, Global};
 use type_graph::Order;
 
@@ -43,7 +43,7 @@ fn cancels(run: &Run, head: &Head, message: &[u8]) -> bool
     ensures { result ≡ cancels_run run.now head.now message.now }
 {
     match head.kind {
-        Kind::CancelRequest => head.size >= 4 && number_behind(head.order, message) == run.id(),
+        MessageKind::CancelRequest => head.size >= 4 && number_behind(head.order, message) == run.id(),
         _ => false,
     }
 }

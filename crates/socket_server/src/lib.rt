@@ -3,7 +3,7 @@
 #![tactic(auto)]
 
 mod announcing;
-mod asked;
+mod options;
 mod connections;
 mod fault;
 mod listener;
@@ -12,7 +12,7 @@ mod object;
 mod serving;
 
 pub use announcing::serving_line;
-pub use asked::Asked;
+pub use options::ServeOptions;
 pub use connections::{Interruption, serve_connections};
 pub use fault::ServeFault;
 pub use listener::Listener;

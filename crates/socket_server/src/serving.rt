@@ -8,7 +8,7 @@ ghost use Rattle.socket_server.specs.Serving.{IsDone, IsFaultOf, IsLineOrNothing
 ghost use Rattle.socket_server.specs.Visits.{AreServed, untold};
 
 use crate::announcing::serving_line;
-use crate::asked::Asked;
+use crate::options::ServeOptions;
 use crate::connections::serve_connections;
 use crate::fault::ServeFault;
 use crate::listener::Listener;
@@ -49,20 +49,20 @@ fn serve_by<'a, S: Servant, L: Listener, W: Write>(
     broker: &mut Broker<S>,
     listener: &mut L,
     out: &mut W,
-    asked: &Asked<'_>,
+    options: &ServeOptions<'_>,
 ) -> Result<(), ServeFault<'a>>
     requires alone { broker.old.world.there ≡ [] }
-    ensures done { OnOk result (AreServed (acts S.says S.after) broker.old.served asked.now.connections (L.came listener.old) broker.old.world.servant (L.came listener.new) broker.new.world.servant) }
-    ensures listens { OnOk result (L.port listener.new ≡ Some asked.now.port) }
-    ensures printed { OnOk result (Appends (W.contents out.old) (W.contents out.new) (serving asked.now.port)) }
-    ensures printing { IfErr result (IsLineOrNothing asked.now.port (W.contents out.old) (W.contents out.new)) }
+    ensures done { OnOk result (AreServed (acts S.says S.after) broker.old.served options.now.connections (L.came listener.old) broker.old.world.servant (L.came listener.new) broker.new.world.servant) }
+    ensures listens { OnOk result (L.port listener.new ≡ Some options.now.port) }
+    ensures printed { OnOk result (Appends (W.contents out.old) (W.contents out.new) (serving options.now.port)) }
+    ensures printing { IfErr result (IsLineOrNothing options.now.port (W.contents out.old) (W.contents out.new)) }
     ensures later { IfErr result (λ fault. IsOfObject fault → ⊥) }
 {
-    match announce(alloc, listener, out, asked.port) {
+    match announce(alloc, listener, out, options.port) {
         Ok(()) => {}
         Err(fault) => return Err(fault),
     }
-    match serve_connections(broker, listener, asked.connections) {
+    match serve_connections(broker, listener, options.connections) {
         Ok(()) => Ok(()),
         Err(interruption) => Err(ServeFault::from(interruption)),
     }
@@ -81,21 +81,21 @@ pub fn serve_at<'a, L: Listener, W: Write>(
     listener: &mut L,
     out: &mut W,
     table: Accepted,
-    asked: &Asked<'a>,
+    options: &ServeOptions<'a>,
 ) -> Result<(), ServeFault<'a>>
-    ensures done { OnOk result (IsDone table.model asked.now.object.now asked.now.connections (L.came listener.old) (L.came listener.new)) }
-    ensures listens { OnOk result (L.port listener.new ≡ Some asked.now.port) }
-    ensures printed { OnOk result (Appends (W.contents out.old) (W.contents out.new) (serving asked.now.port)) }
-    ensures refused { IfErr result (IsFaultOf table.model asked.now.object.now) }
-    ensures printing { IfErr result (IsLineOrNothing asked.now.port (W.contents out.old) (W.contents out.new)) }
+    ensures done { OnOk result (IsDone table.model options.now.object.now options.now.connections (L.came listener.old) (L.came listener.new)) }
+    ensures listens { OnOk result (L.port listener.new ≡ Some options.now.port) }
+    ensures printed { OnOk result (Appends (W.contents out.old) (W.contents out.new) (serving options.now.port)) }
+    ensures refused { IfErr result (IsFaultOf table.model options.now.object.now) }
+    ensures printing { IfErr result (IsLineOrNothing options.now.port (W.contents out.old) (W.contents out.new)) }
     ensures silent { IfErr result (λ fault. IsOfObject fault → out.new ≡ out.old) }
     ensures deaf { IfErr result (λ fault. IsOfObject fault → listener.new ≡ listener.old) }
 {
-    let mut broker = match broker_of(alloc, table, asked.object) {
+    let mut broker = match broker_of(alloc, table, options.object) {
         Ok(broker) => broker,
         Err(fault) => return Err(fault),
     };
-    serve_by(alloc, &mut broker, listener, out, asked)
+    serve_by(alloc, &mut broker, listener, out, options)
 }
 
 /// The same on TCP, to connections to 127.0.0.1, which tell nothing of what they carry.
@@ -106,14 +106,14 @@ pub fn serve<'a, R: Net + AllocGlobal, W: Write>(
     rt: &R,
     out: &mut W,
     table: Accepted,
-    asked: &Asked<'a>,
+    options: &ServeOptions<'a>,
 ) -> Result<(), ServeFault<'a>>
-    ensures done { OnOk result (IsDone table.model asked.now.object.now asked.now.connections [] (replicate asked.now.connections untold)) }
-    ensures printed { OnOk result (Appends (W.contents out.old) (W.contents out.new) (serving asked.now.port)) }
-    ensures refused { IfErr result (IsFaultOf table.model asked.now.object.now) }
-    ensures printing { IfErr result (IsLineOrNothing asked.now.port (W.contents out.old) (W.contents out.new)) }
+    ensures done { OnOk result (IsDone table.model options.now.object.now options.now.connections [] (replicate options.now.connections untold)) }
+    ensures printed { OnOk result (Appends (W.contents out.old) (W.contents out.new) (serving options.now.port)) }
+    ensures refused { IfErr result (IsFaultOf table.model options.now.object.now) }
+    ensures printing { IfErr result (IsLineOrNothing options.now.port (W.contents out.old) (W.contents out.new)) }
     ensures silent { IfErr result (λ fault. IsOfObject fault → out.new ≡ out.old) }
 {
     let mut loopback = Loopback::new(rt);
-    serve_at(rt.alloc(), &mut loopback, out, table, asked)
+    serve_at(rt.alloc(), &mut loopback, out, table, options)
 }

@@ -4,7 +4,7 @@ use Rattle.hex.specs.Hex.{decode_of}
 use Rattle.type_graph.specs.declared.width.Order.{Order}
 use Rattle.table_file.specs.Table.{TableParts}
 use Rattle.table_commands.specs.declared.values.Way.{Way}
-use Rattle.table_commands.specs.declared.values.Request.{Request}
+use Rattle.table_commands.specs.declared.values.ValueRequest.{ValueRequest}
 use Rattle.table_commands.specs.declared.refusal.Refusal.{Refusal}
 use Rattle.table_commands.specs.declared.refusal.Refusal.TheVariants.{NoType, BadHex, Refused, NoMemory}
 use Rattle.table_commands.specs.Lines.{Answers, HasNoAnswer}
@@ -17,7 +17,7 @@ pub record Ask : Type 0 where
   pub pos : ℕ
   pub hex : List ℕ
 
-abbrev pub ask_of : Request → Ask
+abbrev pub ask_of : ValueRequest → Ask
 ask_of request = record {
   way = request.way;
   name = request.name.now;

@@ -6,7 +6,7 @@ use Rattle.type_model.specs.ModelRules.{Parts}
 use Rattle.object_references.specs.References.{Reference}
 use Rattle.object_references.specs.Profiles.{IsProfile}
 use Rattle.object_references.specs.Texts.{IsTextOf}
-use Rattle.table_commands.specs.declared.reference.WantedReference.{WantedReference}
+use Rattle.table_commands.specs.declared.reference.ReferenceRequest.{ReferenceRequest}
 
 -- what is asked for
 pub record ReferenceParts : Type 0 where
@@ -14,7 +14,7 @@ pub record ReferenceParts : Type 0 where
   pub port : ℕ
   pub object : List ℕ
 
-abbrev pub reference_parts_of : WantedReference → ReferenceParts
+abbrev pub reference_parts_of : ReferenceRequest → ReferenceParts
 reference_parts_of wanted = record { host = wanted.host.now; port = wanted.port; object = wanted.object.now }
 
 -- A word for an object: the key is what stands before the first equals sign, and isn't empty.

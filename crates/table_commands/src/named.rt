@@ -8,12 +8,12 @@ ghost use Rattle.table_commands.specs.Named.{IsCounted, IsNoReference, IsNoTable
 ghost use Rattle.table_commands.specs.References.{reference_parts_of};
 
 use crate::builtin::sample;
-use crate::reference::{WantedReference, reference_line};
+use crate::reference::{ReferenceRequest, reference_line};
 use crate::refusal::Refusal;
 use crate::shown_table::listing;
 use crate::source::{MAX_LEN, accepted, upgraded};
 use crate::summary::accepted_line;
-use crate::values::{Request, marshal};
+use crate::values::{ValueRequest, marshal};
 use crate::whole_files::WholeFiles;
 use crate::whole_read::ReadFault;
 use crate::whole_write::WriteFault;
@@ -130,7 +130,7 @@ pub fn listing_of<'a, R: WholeFiles + AllocGlobal>(
 pub fn marshal_by<'a, R: WholeFiles + AllocGlobal>(
     rt: &R,
     name: &'a str,
-    request: &Request<'a>,
+    request: &ValueRequest<'a>,
 ) -> Result<String, Refusal<'a>>
     ensures line { IfOk result (λ line.
         IsValueLine (R.reads rt.now) name.now (ask_of request.now) (string_bytes line)) }
@@ -150,7 +150,7 @@ pub fn marshal_by<'a, R: WholeFiles + AllocGlobal>(
 pub fn reference_by<'a, R: WholeFiles + AllocGlobal>(
     rt: &R,
     name: &'a str,
-    wanted: &WantedReference<'a>,
+    wanted: &ReferenceRequest<'a>,
 ) -> Result<String, Refusal<'a>>
     ensures line { IfOk result (λ line.
         IsReferenceOf (R.reads rt.now) name.now (reference_parts_of wanted.now) (string_bytes line)) }

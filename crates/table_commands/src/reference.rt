@@ -19,7 +19,7 @@ const IIOP: u32 = 0;
 
 /// A reference to print.
 #[derive(Clone, Copy)]
-pub struct WantedReference<'a> {
+pub struct ReferenceRequest<'a> {
     pub host: &'a str,
     pub port: u16,
     /// The key of the object, an equals sign, and the name of its interface.
@@ -67,7 +67,7 @@ fn reference_text(
 pub fn reference_line<'a>(
     alloc: Global,
     table: &Accepted,
-    wanted: &WantedReference<'a>,
+    wanted: &ReferenceRequest<'a>,
 ) -> Result<String, Refusal<'a>>
     ensures line { IfOk result (λ line.
         IsReferenceLine table.now.model (reference_parts_of wanted.now) (string_bytes line)) }

@@ -24,7 +24,7 @@ pub enum Way {
 
 /// One value to marshal.
 #[derive(Clone, Copy)]
-pub struct Request<'a> {
+pub struct ValueRequest<'a> {
     pub way: Way,
     /// The name of a type of the table.
     pub name: &'a str,
@@ -69,7 +69,7 @@ fn encode<'a>(
     alloc: Global,
     table: &Accepted,
     node: u32,
-    request: &Request<'a>,
+    request: &ValueRequest<'a>,
     tape: &[u8],
 ) -> Result<String, Refusal<'a>>
     requires { IsNamed table.now.model.names node }
@@ -85,7 +85,7 @@ fn decode<'a>(
     alloc: Global,
     table: &Accepted,
     node: u32,
-    request: &Request<'a>,
+    request: &ValueRequest<'a>,
     octets: &[u8],
 ) -> Result<String, Refusal<'a>>
     requires { IsNamed table.now.model.names node }
@@ -102,7 +102,7 @@ fn answer<'a>(
     alloc: Global,
     table: &Accepted,
     node: u32,
-    request: &Request<'a>,
+    request: &ValueRequest<'a>,
     input: &[u8],
 ) -> Result<String, Refusal<'a>>
     requires { IsNamed table.now.model.names node }
@@ -125,7 +125,7 @@ fn answer<'a>(
 pub fn marshal<'a>(
     alloc: Global,
     table: &Accepted,
-    request: &Request<'a>,
+    request: &ValueRequest<'a>,
 ) -> Result<String, Refusal<'a>>
     ensures line { IfOk result (λ line. IsLine table.now (ask_of request.now) (string_bytes line)) }
     ensures refused { IfErr result (IsRefusalOf table.now (ask_of request.now)) }

@@ -3,7 +3,7 @@
 ghost use Rattle.std.specs.Prelude.{◌≡◌, IfOk, option_map};
 ghost use Rattle.type_graph.specs.Value.{Tree};
 ghost use Rattle.giop_messages.specs.Headers.{IsKeyOf};
-ghost use Rattle.giop.specs.Targets.{Tells};
+ghost use Rattle.giop.specs.Targets.{TellsTarget};
 
 use crate::reading::profile::profile_key;
 use crate::reading::target::Target;
@@ -25,7 +25,7 @@ pub(crate) fn key_of(
     alloc: Global,
     target: Target<'_>,
 ) -> Result<Option<Vec<u8>>, AllocError>
-    ensures { IfOk result (λ key. (tree : Tree) → Tells tree target.entry → IsKeyOf tree (option_map (λ k. k.items) key)) }
+    ensures { IfOk result (λ key. (tree : Tree) → TellsTarget tree target.entry → IsKeyOf tree (option_map (λ k. k.items) key)) }
 {
     match target {
         Target::Key(key) => Ok(Some(copy(alloc, key)?)),

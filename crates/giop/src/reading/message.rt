@@ -1,11 +1,11 @@
 //! Whole messages read.
 
 ghost use Rattle.std.specs.Prelude.{◌≡◌, ◌≤◌, ℕ, List, length, false, IfOk, IfSome, IfNone};
-ghost use Rattle.giop_messages.specs.declared.head.Kind.TheVariants as kinds;
+ghost use Rattle.giop_messages.specs.declared.head.MessageKind.TheVariants as kinds;
 ghost use Rattle.giop_messages.specs.Runs.{IsMessage};
 ghost use Rattle.type_graph.specs.Value.{Tree};
 ghost use Rattle.giop_messages.specs.Headers.{IsKeyOf};
-ghost use Rattle.giop.specs.Targets.{HasFields, Tells};
+ghost use Rattle.giop.specs.Targets.{HasFields, TellsTarget};
 ghost use Rattle.giop_messages.specs.Messages.{HasBody, Answered, Asked, Content, Sought, IsCancel, IsLocate, IsReply, IsRequest, IsWhole, Says, answered_of, asked_of, content_of, sought_of};
 
 use crate::giop_calls::Giop;
@@ -14,7 +14,7 @@ use crate::reading::header::{
 };
 use crate::reading::key::{copy, key_of};
 use crate::reading::place::{body_behind, header_tape};
-use giop_messages::{Head, Kind, Locate, Message, Reply, Request};
+use giop_messages::{Head, MessageKind, Locate, Message, Reply, Request};
 use giop_types::{
     CANCEL_REQUEST_HEADER, GiopTypes, LOCATE_REQUEST_HEADER, REPLY_HEADER, REQUEST_HEADER,
     TapeFault,
@@ -77,7 +77,7 @@ fn request_of<'b>(
 ) -> Result<Request<'b>, AllocError>
     requires within { stop ≤ length octets.now }
     ensures fields { IfOk result (λ request. HasFields request header.entry head.now) }
-    ensures key { IfOk result (λ request. (target : Tree) → Tells target header.entry.target → IsKeyOf target (asked_of request).key) }
+    ensures key { IfOk result (λ request. (target : Tree) → TellsTarget target header.entry.target → IsKeyOf target (asked_of request).key) }
     ensures body { IfOk result (λ request. HasBody octets.now stop request.body_at request.octets.now) }
 {
     let key = key_of(types, alloc, header.target)?;
@@ -165,25 +165,25 @@ impl Giop {
         ensures refused { IfOk result (λ o. IfNone o ((content : Content) → Says octets.now content → ⊥)) }
     {
         match head.kind {
-            Kind::Request => match read_request(&self.types, alloc, head, octets)? {
+            MessageKind::Request => match read_request(&self.types, alloc, head, octets)? {
                 Some(said) => Ok(Some(Message::Request(said))),
                 None => Ok(None),
             },
-            Kind::Reply => match read_reply(&self.types, alloc, head, octets)? {
+            MessageKind::Reply => match read_reply(&self.types, alloc, head, octets)? {
                 Some(said) => Ok(Some(Message::Reply(said))),
                 None => Ok(None),
             },
-            Kind::CancelRequest => match read_cancel(&self.types, alloc, head, octets)? {
+            MessageKind::CancelRequest => match read_cancel(&self.types, alloc, head, octets)? {
                 Some(said) => Ok(Some(Message::Cancel(said))),
                 None => Ok(None),
             },
-            Kind::LocateRequest => match read_locate(&self.types, alloc, head, octets)? {
+            MessageKind::LocateRequest => match read_locate(&self.types, alloc, head, octets)? {
                 Some(said) => Ok(Some(Message::Locate(said))),
                 None => Ok(None),
             },
-            Kind::CloseConnection => Ok(Some(Message::Bye)),
-            Kind::MessageError => Ok(Some(Message::PeerError)),
-            Kind::LocateReply | Kind::Fragment => Ok(None),
+            MessageKind::CloseConnection => Ok(Some(Message::CloseConnection)),
+            MessageKind::MessageError => Ok(Some(Message::MessageError)),
+            MessageKind::LocateReply | MessageKind::Fragment => Ok(None),
         }
     }
 }

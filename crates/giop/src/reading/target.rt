@@ -4,7 +4,7 @@ ghost use Rattle.std.specs.Prelude.{◌≡◌, ℕ, List, IfOk, IfErr};
 ghost use Rattle.type_graph.specs.Value.{Tree};
 ghost use Rattle.giop_types.specs.TapeRefusal.{RefusesReading};
 ghost use Rattle.giop.specs.Tapes.{Begins, BeginsBehind};
-ghost use Rattle.giop.specs.Targets.{Tells};
+ghost use Rattle.giop.specs.Targets.{TellsTarget};
 
 use giop_types::{
     Tagged, TapeFault, split_octets, split_tagged, split_tagged_list, split_u16, split_u32,
@@ -24,7 +24,7 @@ pub(crate) enum Target<'t> {
 
 /// What stands behind the discriminator of a target by its key.
 fn split_key(tape: &[u8]) -> Result<(Target<'_>, &[u8]), TapeFault>
-    ensures found { IfOk result (λ r. (target : Tree) (rest : List ℕ) → BeginsBehind 0 target tape.now rest → Tells target r.0 × (rest ≡ r.1.now)) }
+    ensures found { IfOk result (λ r. (target : Tree) (rest : List ℕ) → BeginsBehind 0 target tape.now rest → TellsTarget target r.0 × (rest ≡ r.1.now)) }
     ensures refused { IfErr result (λ fault. RefusesReading fault ((target : Tree) (rest : List ℕ) → BeginsBehind 0 target tape.now rest → ⊥)) }
 {
     match split_octets(tape) {
@@ -35,7 +35,7 @@ fn split_key(tape: &[u8]) -> Result<(Target<'_>, &[u8]), TapeFault>
 
 /// What stands behind the discriminator of a target by a profile.
 fn split_profile(tape: &[u8]) -> Result<(Target<'_>, &[u8]), TapeFault>
-    ensures found { IfOk result (λ r. (target : Tree) (rest : List ℕ) → BeginsBehind 1 target tape.now rest → Tells target r.0 × (rest ≡ r.1.now)) }
+    ensures found { IfOk result (λ r. (target : Tree) (rest : List ℕ) → BeginsBehind 1 target tape.now rest → TellsTarget target r.0 × (rest ≡ r.1.now)) }
     ensures refused { IfErr result (λ fault. RefusesReading fault ((target : Tree) (rest : List ℕ) → BeginsBehind 1 target tape.now rest → ⊥)) }
 {
     match split_tagged(tape) {
@@ -46,7 +46,7 @@ fn split_profile(tape: &[u8]) -> Result<(Target<'_>, &[u8]), TapeFault>
 
 /// What stands behind the discriminator of a target by a profile of an object reference.
 fn split_reference(alloc: Global, tape: &[u8]) -> Result<(Target<'_>, &[u8]), TapeFault>
-    ensures found { IfOk result (λ r. (target : Tree) (rest : List ℕ) → BeginsBehind 2 target tape.now rest → Tells target r.0 × (rest ≡ r.1.now)) }
+    ensures found { IfOk result (λ r. (target : Tree) (rest : List ℕ) → BeginsBehind 2 target tape.now rest → TellsTarget target r.0 × (rest ≡ r.1.now)) }
     ensures refused { IfErr result (λ fault. RefusesReading fault ((target : Tree) (rest : List ℕ) → BeginsBehind 2 target tape.now rest → ⊥)) }
 {
     let Some((selected, behind)) = split_u32(tape) else {
@@ -70,7 +70,7 @@ fn split_reference(alloc: Global, tape: &[u8]) -> Result<(Target<'_>, &[u8]), Ta
 /// # Errors
 /// `NotATape` where none stands there. Want of memory.
 pub(crate) fn split_target(alloc: Global, tape: &[u8]) -> Result<(Target<'_>, &[u8]), TapeFault>
-    ensures found { IfOk result (λ r. (target : Tree) (rest : List ℕ) → Begins 16 target tape.now rest → Tells target r.0 × (rest ≡ r.1.now)) }
+    ensures found { IfOk result (λ r. (target : Tree) (rest : List ℕ) → Begins 16 target tape.now rest → TellsTarget target r.0 × (rest ≡ r.1.now)) }
     ensures refused { IfErr result (λ fault. RefusesReading fault ((target : Tree) (rest : List ℕ) → Begins 16 target tape.now rest → ⊥)) }
 {
     let Some((label, behind)) = split_u16(tape) else {

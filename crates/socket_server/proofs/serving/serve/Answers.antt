@@ -3,5 +3,5 @@ use Rattle.socket_server.proofs.serving.serve.Goals as goal
 
 pub returns-clause-done : goal.returns-clause-done
 returns-clause-done g c =
-    all_came c.args.table.model c.args.asked.now.object.now c.args.asked.now.connections c.new-loopback.result.count
+    all_came c.args.table.model c.args.options.now.object.now c.args.options.now.connections c.new-loopback.result.count
     c.serve_at.new.listener.count c.serve_at.result c.new-loopback.ensures c.serve_at.ensures.done

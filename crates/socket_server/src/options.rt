@@ -1,8 +1,8 @@
-//! What is asked for.
+//! What is served, and how.
 
 /// An object to serve, and how.
 #[derive(Clone, Copy)]
-pub struct Asked<'a> {
+pub struct ServeOptions<'a> {
     /// The port of TCP, on 127.0.0.1.
     pub port: u16,
     /// The object's key, an equals sign, and the name of its interface.

@@ -3,7 +3,7 @@
 /// What an operation of an object does. Attributes are counted from 0, in the order of the
 /// interface's operations.
 #[derive(Clone, Copy)]
-pub enum Deed {
+pub enum Action {
     /// It gets an attribute.
     Get(usize),
     /// It sets an attribute to its argument.

@@ -2,10 +2,10 @@ use Rattle.std.proofs.Common.{◌≡◌, ◌≤◌, ◌<◌, ◌*◌, ◌^◌, �
 use Rattle.broker_answers.specs.Streams.{Stream}
 use Rattle.broker_answers.specs.Servants.{acts}
 use Rattle.iiop_broker.specs.Listed.{IsThere}
-use Rattle.iiop_broker.specs.Courses.{Course}
+use Rattle.iiop_broker.specs.AnsweredStreams.{AnsweredStream}
 use Rattle.iiop_broker.specs.Outcomes.{ends}
 use Rattle.iiop_broker.proofs.Going.{Going}
-use Rattle.iiop_broker.proofs.course.serve_course.Given as goal
+use Rattle.iiop_broker.proofs.pieces.serve_pieces.Given as goal
 
 abbrev pub invariant-loop-count : goal.invariant-loop-count
 invariant-loop-count g l = record {
@@ -15,7 +15,7 @@ invariant-loop-count g l = record {
   upto : l.count ≤ l.reads;
   room : 0 < length l.buffer;
   going : (others : List (ℕ × Stream)) (before : g.row.S.Denot)
-      → Course (acts g.S.Servant.says g.S.Servant.after) l.fn.broker.served l.c others before [] [] false l.fn.broker.world
+      → AnsweredStream (acts g.S.Servant.says g.S.Servant.after) l.fn.broker.served l.c others before [] [] false l.fn.broker.world
       → Going (acts g.S.Servant.says g.S.Servant.after) l.fn.broker.served l.c others before
       (ends (g.I.Input.left l.fn.reader) (g.O.Output.written l.fn.writer) (g.I.Input.failure l.fn.reader) (g.O.Output.failure l.fn.writer))
       (ends (g.I.Input.left l.reader) (g.O.Output.written l.writer) (g.I.Input.failure l.reader) (g.O.Output.failure l.writer))

@@ -8,27 +8,27 @@ use Rattle.type_graph.specs.Value.{node_at}
 use Rattle.type_model.specs.declared.signatures.Operation.{Operation}
 use Rattle.type_model.specs.ModelRules.{Parts}
 use Rattle.broker_answers.specs.Objects.{first_named, has_name}
-use Rattle.attribute_keeper.specs.declared.deed.Deed.{Deed}
-use Rattle.attribute_keeper.specs.declared.deed.Deed.TheVariants.{Get, Set, Echo, Nothing}
-use Rattle.attribute_keeper.specs.Attributes.{attribute_named, deed_at, deed_by, deed_or, deed_where, frame_deed, got_by, members_of, place_from, set_by, with_deeds}
-use Rattle.attribute_keeper.specs.Keeping.{deed_in}
+use Rattle.attribute_keeper.specs.declared.action.Action.{Action}
+use Rattle.attribute_keeper.specs.declared.action.Action.TheVariants.{Get, Set, Echo, Nothing}
+use Rattle.attribute_keeper.specs.Attributes.{attribute_named, action_at, action_by, action_or, action_where, frame_action, got_by, members_of, place_from, set_by, with_actions}
+use Rattle.attribute_keeper.specs.Keeping.{action_in}
 use Rattle.attribute_keeper.proofs.Names.{some_is, none_isnt, false_isnt, false_unless, same_name, equal_name, named_behind, sets_none, got_is}
 use Rattle.attribute_keeper.proofs.Places.{one_name}
 
 -- an operation of the object does what its number says
-pub deed_found : (model : Parts) (getters numbers : List ℕ) (number : ℕ)
-    → deed_in (with_deeds model getters numbers) number
-    ≡ cond (list_any (λ other. nat_eq other number) numbers) (deed_at (attribute_named model getters) model number) Nothing
-deed_found model getters [] number = refl
-deed_found model getters (m ∷ more) number = by (nat_eq m number) refl (deed_found model getters more number) where
+pub action_found : (model : Parts) (getters numbers : List ℕ) (number : ℕ)
+    → action_in (with_actions model getters numbers) number
+    ≡ cond (list_any (λ other. nat_eq other number) numbers) (action_at (attribute_named model getters) model number) Nothing
+action_found model getters [] number = refl
+action_found model getters (m ∷ more) number = by (nat_eq m number) refl (action_found model getters more number) where
   any : Bool
   any = list_any (λ other. nat_eq other number) more
 
   by : (b : Bool) → nat_eq m number ≡ b
-      → deed_in (with_deeds model getters more) number ≡ cond any (deed_at (attribute_named model getters) model number) Nothing
-      → cond b (deed_at (attribute_named model getters) model m) (deed_in (with_deeds model getters more) number)
-      ≡ cond (b || any) (deed_at (attribute_named model getters) model number) Nothing
-  by true same further = ap (deed_at (attribute_named model getters) model) (eqb-true m number same)
+      → action_in (with_actions model getters more) number ≡ cond any (action_at (attribute_named model getters) model number) Nothing
+      → cond b (action_at (attribute_named model getters) model m) (action_in (with_actions model getters more) number)
+      ≡ cond (b || any) (action_at (attribute_named model getters) model number) Nothing
+  by true same further = ap (action_at (attribute_named model getters) model) (eqb-true m number same)
   by false same further = further
 
 -- the first that has a name is one of them
@@ -64,30 +64,30 @@ first_found model name (m ∷ more) number e =
 
 -- ---- what sets
 
--- whether a deed sets the attribute at a place
-abbrev pub sets_at : ℕ → Deed → Bool
+-- whether a action sets the attribute at a place
+abbrev pub sets_at : ℕ → Action → Bool
 sets_at k (Set j) = nat_eq j k
-sets_at k deed = false
+sets_at k action = false
 
-frames_set_none : (k : ℕ) (request reply : List ℕ) → sets_at k (deed_by request reply) ≡ false
+frames_set_none : (k : ℕ) (request reply : List ℕ) → sets_at k (action_by request reply) ≡ false
 frames_set_none k request [] = refl
 frames_set_none k request (member ∷ more) = by _ where
   by : (b : Bool) → sets_at k (cond b Echo Nothing) ≡ false
   by true = refl
   by false = refl
 
-frame_sets_none : (k : ℕ) (graph : List Node) (operation : Operation) → sets_at k (frame_deed graph operation) ≡ false
+frame_sets_none : (k : ℕ) (graph : List Node) (operation : Operation) → sets_at k (frame_action graph operation) ≡ false
 frame_sets_none k graph operation =
     frames_set_none k (members_of (node_at graph operation.request)) (members_of (node_at graph operation.reply))
 
-got_sets_none : (k : ℕ) (got : Option ℕ) (other : Deed) → sets_at k other ≡ false → sets_at k (deed_or got None other) ≡ false
+got_sets_none : (k : ℕ) (got : Option ℕ) (other : Action) → sets_at k other ≡ false → sets_at k (action_or got None other) ≡ false
 got_sets_none k None other e = e
 got_sets_none k (Some j) other e = refl
 
 -- the operation `_set_x` sets the attribute x
-placed_sets : (model : Parts) (getters name y : List ℕ) (k : ℕ) (other : Deed) → sets_at k other ≡ false
+placed_sets : (model : Parts) (getters name y : List ℕ) (k : ℕ) (other : Action) → sets_at k other ≡ false
     → place_from model 0 name getters ≡ Some k → (p : Option ℕ) → place_from model 0 y getters ≡ p
-    → sets_at k (deed_or None p other) ≡ bytes_eq y name
+    → sets_at k (action_or None p other) ≡ bytes_eq y name
 placed_sets model getters name y k other e place None none = e ∙ sym (false_unless (bytes_eq y name) (λ t.
     none_isnt k (sym none ∙ ap (λ n. place_from model 0 n getters) (same_name y name t) ∙ place)))
 placed_sets model getters name y k other e place (Some j) is = by (bytes_eq y name) refl where
@@ -99,12 +99,12 @@ placed_sets model getters name y k other e place (Some j) is = by (bytes_eq y na
 
 pub operation_sets : (model : Parts) (getters name : List ℕ) (k : ℕ) (operation : Operation)
     → place_from model 0 name getters ≡ Some k
-    → sets_at k (deed_where (attribute_named model getters) model.graph operation) ≡ bytes_eq operation.name (codes "_set_" ++ name)
+    → sets_at k (action_where (attribute_named model getters) model.graph operation) ≡ bytes_eq operation.name (codes "_set_" ++ name)
 operation_sets model getters name k operation place =
     by_got (got_by operation) refl ∙ sym (named_behind (codes "_set_") operation.name name)
   where
-    frame : Deed
-    frame = frame_deed model.graph operation
+    frame : Action
+    frame = frame_action model.graph operation
 
     none : sets_at k frame ≡ false
     none = frame_sets_none k model.graph operation
@@ -112,22 +112,22 @@ operation_sets model getters name k operation place =
     is_name : Option (List ℕ) → Bool
     is_name o = option_map_or (λ other. bytes_eq other name) o false
 
-    by_set : (set : Option (List ℕ)) → sets_at k (deed_or None (option_and_then (attribute_named model getters) set) frame) ≡ is_name set
+    by_set : (set : Option (List ℕ)) → sets_at k (action_or None (option_and_then (attribute_named model getters) set) frame) ≡ is_name set
     by_set None = none
     by_set (Some y) = placed_sets model getters name y k frame none place (place_from model 0 y getters) refl
 
     by_got : (got : Option (List ℕ)) → got_by operation ≡ got
-        → sets_at k (deed_or (option_and_then (attribute_named model getters) got) (option_and_then (attribute_named model getters) (set_by operation)) frame)
+        → sets_at k (action_or (option_and_then (attribute_named model getters) got) (option_and_then (attribute_named model getters) (set_by operation)) frame)
         ≡ is_name (set_by operation)
     by_got None e = by_set (set_by operation)
     by_got (Some x) e =
-        subst (λ s. sets_at k (deed_or (place_from model 0 x getters) (option_and_then (attribute_named model getters) s) frame) ≡ is_name s)
+        subst (λ s. sets_at k (action_or (place_from model 0 x getters) (option_and_then (attribute_named model getters) s) frame) ≡ is_name s)
         (sym (sets_none operation x e)) (got_sets_none k (place_from model 0 x getters) frame none)
 
 pub number_sets : (model : Parts) (getters name : List ℕ) (k : ℕ) (number : ℕ) → place_from model 0 name getters ≡ Some k
-    → sets_at k (deed_at (attribute_named model getters) model number) ≡ has_name (codes "_set_" ++ name) (slice_get model.operations number)
+    → sets_at k (action_at (attribute_named model getters) model number) ≡ has_name (codes "_set_" ++ name) (slice_get model.operations number)
 number_sets model getters name k number place = by (slice_get model.operations number) where
-  by : (o : Option Operation) → sets_at k (option_map_or (deed_where (attribute_named model getters) model.graph) o Nothing) ≡ has_name (codes "_set_" ++ name) o
+  by : (o : Option Operation) → sets_at k (option_map_or (action_where (attribute_named model getters) model.graph) o Nothing) ≡ has_name (codes "_set_" ++ name) o
   by None = refl
   by (Some operation) = operation_sets model getters name k operation place
 
@@ -135,12 +135,12 @@ number_sets model getters name k number place = by (slice_get model.operations n
 
 -- the operation `_get_x` gets the attribute x
 pub number_gets : (model : Parts) (getters name : List ℕ) (k number : ℕ) → place_from model 0 name getters ≡ Some k
-    → has_name (codes "_get_" ++ name) (slice_get model.operations number) ≡ true → deed_at (attribute_named model getters) model number ≡ Get k
+    → has_name (codes "_get_" ++ name) (slice_get model.operations number) ≡ true → action_at (attribute_named model getters) model number ≡ Get k
 number_gets model getters name k number there = by (slice_get model.operations number) where
-  by : (o : Option Operation) → has_name (codes "_get_" ++ name) o ≡ true → option_map_or (deed_where (attribute_named model getters) model.graph) o Nothing ≡ Get k
+  by : (o : Option Operation) → has_name (codes "_get_" ++ name) o ≡ true → option_map_or (action_where (attribute_named model getters) model.graph) o Nothing ≡ Get k
   by None e = absurd (false_isnt e)
   by (Some operation) e =
-      ap (λ o. deed_or (option_and_then place o) set frame) (got_is operation name e) ∙ ap (λ o. deed_or o set frame) there
+      ap (λ o. action_or (option_and_then place o) set frame) (got_is operation name e) ∙ ap (λ o. action_or o set frame) there
     where
       place : List ℕ → Option ℕ
       place = attribute_named model getters
@@ -148,5 +148,5 @@ number_gets model getters name k number there = by (slice_get model.operations n
       set : Option ℕ
       set = option_and_then place (set_by operation)
 
-      frame : Deed
-      frame = frame_deed model.graph operation
+      frame : Action
+      frame = frame_action model.graph operation

@@ -4,10 +4,10 @@ use Rattle.iiop_broker.specs.Ends.{Gives}
 use Rattle.iiop_broker.specs.Outcomes.{Unwritten, ends}
 use Rattle.iiop_broker.specs.Running.{running}
 use Rattle.iiop_broker.specs.StreamPieces.{IsGivenUp, IsSent, IsStuck, IsTrouble}
-use Rattle.iiop_broker.specs.Courses.{Course}
+use Rattle.iiop_broker.specs.AnsweredStreams.{AnsweredStream}
 use Rattle.broker_answers.specs.Streams.{Stream}
 use Rattle.iiop_broker.proofs.Going.{Going, all_read, all_said, going_on, going_start, still_there, stuck, unended, unread, unserved}
-use Rattle.iiop_broker.proofs.course.serve_course.Goals as goal
+use Rattle.iiop_broker.proofs.pieces.serve_pieces.Goals as goal
 
 pub loop-count-init : goal.loop-count-init
 loop-count-init g c =
@@ -15,46 +15,46 @@ loop-count-init g c =
     let served = c.args.broker.now.served in
     let start = ends (g.I.Input.left c.args.reader.now) (g.O.Output.written c.args.writer.now) (g.I.Input.failure c.args.reader.now) (g.O.Output.failure c.args.writer.now) in
     record {
-      there = still_there acting served c.args.c c.requires.others c.requires.before [] [] false c.args.broker.now.world c.requires.course;
+      there = still_there acting served c.args.c c.requires.others c.requires.before [] [] false c.args.broker.now.world c.requires.stream;
       served = refl;
       bound = omega arith;
       upto = omega arith;
       room = omega arith;
-      going = λ others before course. going_start acting served c.args.c others before start c.args.broker.now.world course;
+      going = λ others before stream. going_start acting served c.args.c others before start c.args.broker.now.world stream;
     }
 
 pub returns-in-Ok-eq0-clause-outcome : goal.returns-in-Ok-eq0-clause-outcome
-returns-in-Ok-eq0-clause-outcome g c = λ others before course.
+returns-in-Ok-eq0-clause-outcome g c = λ others before stream.
     let acting = acts g.S.Servant.says g.S.Servant.after in
     let served = c.args.broker.now.served in
     let start = ends (g.I.Input.left c.args.reader.now) (g.O.Output.written c.args.writer.now) (g.I.Input.failure c.args.reader.now) (g.O.Output.failure c.args.writer.now) in
     let now = ends (g.I.Input.left c.loop-count.reader) (g.O.Output.written c.loop-count.writer) (g.I.Input.failure c.loop-count.reader) (g.O.Output.failure c.loop-count.writer) in
     let after = ends (g.I.Input.left c.read.new.self) (g.O.Output.written c.loop-count.writer) (g.I.Input.failure c.read.new.self) (g.O.Output.failure c.loop-count.writer) in
-    let going = c.loop-count.invariant.going others before course in
+    let going = c.loop-count.invariant.going others before stream in
     all_read acting served c.args.c others before start now after c.loop-count.sent c.loop-count.count c.loop-count.broker.world
     (take c.in-Ok-eq0.field-0 c.read.new.buffer) going c.in-Ok-eq0.ensures.given
     (ap (λ (k : ℕ). take k c.read.new.buffer) c.in-Ok-eq0.field-0-test)
     (c.in-Ok-eq0.ensures.end c.in-Ok-eq0.field-0-test c.loop-count.invariant.room) refl
 
 pub returns-in-Err-clause-outcome : goal.returns-in-Err-clause-outcome
-returns-in-Err-clause-outcome g c = λ others before course.
+returns-in-Err-clause-outcome g c = λ others before stream.
     let acting = acts g.S.Servant.says g.S.Servant.after in
     let served = c.args.broker.now.served in
     let start = ends (g.I.Input.left c.args.reader.now) (g.O.Output.written c.args.writer.now) (g.I.Input.failure c.args.reader.now) (g.O.Output.failure c.args.writer.now) in
     let now = ends (g.I.Input.left c.loop-count.reader) (g.O.Output.written c.loop-count.writer) (g.I.Input.failure c.loop-count.reader) (g.O.Output.failure c.loop-count.writer) in
     let after = ends (g.I.Input.left c.read.new.self) (g.O.Output.written c.loop-count.writer) (g.I.Input.failure c.read.new.self) (g.O.Output.failure c.loop-count.writer) in
-    let going = c.loop-count.invariant.going others before course in
+    let going = c.loop-count.invariant.going others before stream in
     unread acting served c.args.c others before start now after c.loop-count.sent c.loop-count.count c.loop-count.broker.world going
     c.in-Err.ensures.kept refl c.in-Err.ensures.failed
 
 pub returns-then-piece-clause-outcome : goal.returns-then-piece-clause-outcome
-returns-then-piece-clause-outcome g c = λ others before course.
+returns-then-piece-clause-outcome g c = λ others before stream.
     let acting = acts g.S.Servant.says g.S.Servant.after in
     let served = c.args.broker.now.served in
     let start = ends (g.I.Input.left c.args.reader.now) (g.O.Output.written c.args.writer.now) (g.I.Input.failure c.args.reader.now) (g.O.Output.failure c.args.writer.now) in
     let now = ends (g.I.Input.left c.loop-count.reader) (g.O.Output.written c.loop-count.writer) (g.I.Input.failure c.loop-count.reader) (g.O.Output.failure c.loop-count.writer) in
     let after = ends (g.I.Input.left c.read.new.self) (g.O.Output.written c.serve_piece.new.writer) (g.I.Input.failure c.read.new.self) (g.O.Output.failure c.serve_piece.new.writer) in
-    let going = c.loop-count.invariant.going others before course in
+    let going = c.loop-count.invariant.going others before stream in
     let piece = c.split_at.result.0.now in
     let cut_is : take c.in-Ok.n c.read.new.buffer ≡ piece =
     ap (take c.in-Ok.n) (sym c.as_slice.ensures) ∙ sym c.split_at.ensures.front in
@@ -66,13 +66,13 @@ returns-then-piece-clause-outcome g c = λ others before course.
     c.in-Ok-serve_piece.piece going gives is c.if-piece.true
 
 pub returns-in-Err-NoMemory-clause-outcome : goal.returns-in-Err-NoMemory-clause-outcome
-returns-in-Err-NoMemory-clause-outcome g c = λ others before course.
+returns-in-Err-NoMemory-clause-outcome g c = λ others before stream.
     let acting = acts g.S.Servant.says g.S.Servant.after in
     let served = c.args.broker.now.served in
     let start = ends (g.I.Input.left c.args.reader.now) (g.O.Output.written c.args.writer.now) (g.I.Input.failure c.args.reader.now) (g.O.Output.failure c.args.writer.now) in
     let now = ends (g.I.Input.left c.loop-count.reader) (g.O.Output.written c.loop-count.writer) (g.I.Input.failure c.loop-count.reader) (g.O.Output.failure c.loop-count.writer) in
     let after = ends (g.I.Input.left c.read.new.self) (g.O.Output.written c.serve_piece.new.writer) (g.I.Input.failure c.read.new.self) (g.O.Output.failure c.serve_piece.new.writer) in
-    let going = c.loop-count.invariant.going others before course in
+    let going = c.loop-count.invariant.going others before stream in
     let piece = c.split_at.result.0.now in
     let cut_is : take c.in-Ok.n c.read.new.buffer ≡ piece =
     ap (take c.in-Ok.n) (sym c.as_slice.ensures) ∙ sym c.split_at.ensures.front in
@@ -83,13 +83,13 @@ returns-in-Err-NoMemory-clause-outcome g c = λ others before course.
     c.in-Err-NoMemory.field-0-is c.in-Err-NoMemory.ensures.trouble))
 
 pub returns-in-Err-Stuck-clause-outcome : goal.returns-in-Err-Stuck-clause-outcome
-returns-in-Err-Stuck-clause-outcome g c = λ others before course.
+returns-in-Err-Stuck-clause-outcome g c = λ others before stream.
     let acting = acts g.S.Servant.says g.S.Servant.after in
     let served = c.args.broker.now.served in
     let start = ends (g.I.Input.left c.args.reader.now) (g.O.Output.written c.args.writer.now) (g.I.Input.failure c.args.reader.now) (g.O.Output.failure c.args.writer.now) in
     let now = ends (g.I.Input.left c.loop-count.reader) (g.O.Output.written c.loop-count.writer) (g.I.Input.failure c.loop-count.reader) (g.O.Output.failure c.loop-count.writer) in
     let after = ends (g.I.Input.left c.read.new.self) (g.O.Output.written c.serve_piece.new.writer) (g.I.Input.failure c.read.new.self) (g.O.Output.failure c.serve_piece.new.writer) in
-    let going = c.loop-count.invariant.going others before course in
+    let going = c.loop-count.invariant.going others before stream in
     let piece = c.split_at.result.0.now in
     let cut_is : take c.in-Ok.n c.read.new.buffer ≡ piece =
     ap (take c.in-Ok.n) (sym c.as_slice.ensures) ∙ sym c.split_at.ensures.front in
@@ -117,14 +117,14 @@ loop-count-preserved g c =
     let is : IsSent acting served c.args.c c.loop-count.broker.world piece now.written c.in-Ok-serve_piece.piece c.serve_piece.new.broker.world after.written =
     subst (λ s. IsSent acting s c.args.c c.loop-count.broker.world piece now.written c.in-Ok-serve_piece.piece c.serve_piece.new.broker.world after.written)
     c.loop-count.invariant.served c.in-Ok-serve_piece.ensures.sent in
-    let going : (others : List (ℕ × Stream)) (before : g.row.S.Denot) → Course acting served c.args.c others before [] [] false c.args.broker.now.world
+    let going : (others : List (ℕ × Stream)) (before : g.row.S.Denot) → AnsweredStream acting served c.args.c others before [] [] false c.args.broker.now.world
     → Going acting served c.args.c others before start after (c.loop-count.sent + c.in-Ok-serve_piece.piece.octets) (c.loop-count.count + 1) c.serve_piece.new.broker.world =
-    λ others before course. going_on acting served c.args.c others before start now after c.loop-count.sent c.loop-count.count c.loop-count.broker.world c.serve_piece.new.broker.world piece
-    c.in-Ok-serve_piece.piece (c.loop-count.invariant.going others before course) gives
+    λ others before stream. going_on acting served c.args.c others before start now after c.loop-count.sent c.loop-count.count c.loop-count.broker.world c.serve_piece.new.broker.world piece
+    c.in-Ok-serve_piece.piece (c.loop-count.invariant.going others before stream) gives
     (omega (arith, ap length cut_is, c.split_at.ensures.front_len, c.in-Ok.n-test.1, c.in-Ok.ensures.within)) is c.if-piece.false in
-    let kept = going c.requires.others c.requires.before c.requires.course in
+    let kept = going c.requires.others c.requires.before c.requires.stream in
     record {
-      there = still_there acting served c.args.c c.requires.others c.requires.before kept.octets kept.answer false c.serve_piece.new.broker.world kept.course;
+      there = still_there acting served c.args.c c.requires.others c.requires.before kept.octets kept.answer false c.serve_piece.new.broker.world kept.stream;
       served = c.in-Ok-serve_piece.ensures.served ∙ c.loop-count.invariant.served;
       bound = let b = c.loop-count.invariant.bound in search rules;
       upto = let t = c.loop-count-test.true in omega (arith, t);
@@ -133,10 +133,10 @@ loop-count-preserved g c =
     }
 
 pub returns-clause-outcome : goal.returns-clause-outcome
-returns-clause-outcome g c = λ others before course.
+returns-clause-outcome g c = λ others before stream.
     let acting = acts g.S.Servant.says g.S.Servant.after in
     let served = c.args.broker.now.served in
     let start = ends (g.I.Input.left c.args.reader.now) (g.O.Output.written c.args.writer.now) (g.I.Input.failure c.args.reader.now) (g.O.Output.failure c.args.writer.now) in
     let now = ends (g.I.Input.left c.loop-count.reader) (g.O.Output.written c.loop-count.writer) (g.I.Input.failure c.loop-count.reader) (g.O.Output.failure c.loop-count.writer) in
-    let going = c.loop-count.invariant.going others before course in
+    let going = c.loop-count.invariant.going others before stream in
     unended acting served c.args.c others before start now c.loop-count.sent c.loop-count.count c.args.reads c.loop-count.broker.world going c.loop-count-test.false

@@ -3,12 +3,12 @@ use Rattle.std.proofs.lemmas.Grind.{common_steps}
 use Rattle.attribute_keeper.specs.Attributes.{attribute_named}
 use Rattle.attribute_keeper.specs.Places.{place_in}
 use Rattle.attribute_keeper.proofs.Looked.{same_deed}
-use Rattle.attribute_keeper.proofs.attributes.find_deeds.Goals as goal
+use Rattle.attribute_keeper.proofs.attributes.find_actions.Goals as goal
 
 pub loop-number-preserved : goal.loop-number-preserved
 loop-number-preserved c =
     let model = c.args.model.now in
     let number = get_or c.args.numbers.now c.loop-number.number-index 0 in
     let same = same_deed model number (place_in c.in_ok-places.places.entries) (attribute_named model c.args.getters.now) c.in_ok-places.ensures in
-    let deed = c.number_deed.ensures ∙ same in
+    let action = c.number_deed.ensures ∙ same in
     grind (arith, common_steps)

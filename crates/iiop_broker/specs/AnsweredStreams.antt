@@ -8,7 +8,7 @@ use Rattle.broker_answers.specs.Objects.{Served}
 use Rattle.broker_answers.specs.Serving.{Moves, Serves}
 
 -- octets of a connection were answered as one stream, however they came in pieces; other connections are as they were
-pub record Course {S : Type 0} (acting : Acting S) (served : Served) (c : ℕ) (others : List (ℕ × Stream))
+pub record AnsweredStream {S : Type 0} (acting : Acting S) (served : Served) (c : ℕ) (others : List (ℕ × Stream))
     (before : S) (octets answer : List ℕ) (closes : Bool) (now : World S Stream) : Type 0 where
   pub absent : at c others ≡ None
   pub serves : Serves acting served (cut None octets).raws before answer closes now.servant

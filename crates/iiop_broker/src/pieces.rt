@@ -3,7 +3,7 @@
 ghost use Rattle.std.specs.Prelude.{◌≡◌, ℕ, List, [], false};
 ghost use Rattle.broker_answers.specs.Streams.{Stream};
 ghost use Rattle.broker_answers.specs.Servants.{acts};
-ghost use Rattle.iiop_broker.specs.Courses.{Course};
+ghost use Rattle.iiop_broker.specs.AnsweredStreams.{AnsweredStream};
 ghost use Rattle.iiop_broker.specs.Outcomes.{IsOutcome, ends};
 ghost use Rattle.iiop_broker.specs.Running.{IsFresh, running, running_in_part};
 
@@ -14,7 +14,7 @@ use crate::stream_piece::{Trouble, serve_piece};
 use broker_answers::Servant;
 
 /// Serves what is read until all is read or the broker closes the connection.
-pub(crate) fn serve_course<S: Servant, I: Input, O: Output>(
+pub(crate) fn serve_pieces<S: Servant, I: Input, O: Output>(
     broker: &mut Broker<S>,
     c: u32,
     reader: &mut I,
@@ -22,7 +22,7 @@ pub(crate) fn serve_course<S: Servant, I: Input, O: Output>(
     reads: u64,
 ) -> Result<(), StreamFault>
     requires { IsFresh (acts S.says S.after) broker.old.served c broker.old.world }
-    ensures outcome { (others : List (ℕ × Stream)) (before : S) → Course (acts S.says S.after) broker.old.served c others before [] [] false broker.old.world
+    ensures outcome { (others : List (ℕ × Stream)) (before : S) → AnsweredStream (acts S.says S.after) broker.old.served c others before [] [] false broker.old.world
         → IsOutcome (running (acts S.says S.after) broker.old.served c others before broker.new.world) (running_in_part (acts S.says S.after) broker.old.served c others before broker.new.world) reads
         (ends (I.left reader.old) (O.written writer.old) (I.failure reader.old) (O.failure writer.old)) result
         (ends (I.left reader.new) (O.written writer.new) (I.failure reader.new) (O.failure writer.new)) }
