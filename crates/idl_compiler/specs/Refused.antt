@@ -11,7 +11,7 @@ use Rattle.idl_tree.specs.declared.definitions.Definition.{Definition}
 use Rattle.scoped_names.specs.declared.fault.NameFault.{NameFault}
 use Rattle.scoped_names.specs.declared.fault.NameFault.TheVariants as Naming
 use Rattle.scoped_names.specs.Whole.{AreNames, Whole, names_of}
-use Rattle.written_types.specs.declared.fault.TypeFault.{TypeFault}
+use Rattle.lowered_types.specs.declared.fault.TypeFault.{TypeFault}
 use Rattle.model_builder.specs.declared.fault.ModelFault.{ModelFault}
 use Rattle.model_builder.specs.declared.fault.ModelFault.TheVariants as Modelling
 use Rattle.model_builder.specs.Faults.{IsFault}

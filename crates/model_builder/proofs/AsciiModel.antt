@@ -7,20 +7,20 @@ use Rattle.std.proofs.lemmas.Str.{IsAscii-append}
 use Rattle.std.proofs.lemmas.Str.Ascii.{IsAscii-nil}
 use Rattle.name_table.specs.Entry.{Entry, around, name_in}
 use Rattle.scoped_names.specs.Whole.{Whole}
-use Rattle.written_types.specs.declared.place.Place.{Place}
-use Rattle.written_types.specs.declared.place.Place.TheVariants.{Typed, Raised, Called, Got, GotAndSet}
-use Rattle.written_types.specs.Written.{Written, place_of}
-use Rattle.written_operations.specs.declared.signature.Offered.{Offered}
-use Rattle.written_operations.specs.declared.signature.Role.{Role}
-use Rattle.written_operations.specs.declared.signature.Role.TheVariants.{Operation, Getting, Setting}
-use Rattle.written_operations.specs.declared.signature.Signature.{Signature}
-use Rattle.written_operations.specs.Operations.{Defined}
+use Rattle.lowered_types.specs.declared.place.Place.{Place}
+use Rattle.lowered_types.specs.declared.place.Place.TheVariants.{Typed, Raised, Called, Got, GotAndSet}
+use Rattle.lowered_types.specs.Lowered.{Lowered, place_of}
+use Rattle.lowered_operations.specs.declared.signature.Offered.{Offered}
+use Rattle.lowered_operations.specs.declared.signature.Role.{Role}
+use Rattle.lowered_operations.specs.declared.signature.Role.TheVariants.{Operation, Getting, Setting}
+use Rattle.lowered_operations.specs.declared.signature.Signature.{Signature}
+use Rattle.lowered_operations.specs.Operations.{Defined}
 use Rattle.model_builder.specs.Ascii.{HasAsciiTexts, IsAsciiException, IsAsciiInterface}
 use Rattle.model_builder.specs.Naming.{called, mark_of, marked, name_of, names_at, names_of, names_of_place, scopes_of, with_colons}
 use Rattle.model_builder.specs.Shown.{model_of}
 use Rattle.model_builder.specs.Signatures.{exception_of, id_of, interface_of, interfaces_from, operation_of}
-use Rattle.written_names.proofs.AsciiNames.{AllAscii, SaysAscii, id_ascii, name_ascii, names_ascii, told_ascii, word_ascii}
-use Rattle.written_names.proofs.EntryWords.{AreProper}
+use Rattle.lowered_names.proofs.AsciiNames.{AllAscii, SaysAscii, id_ascii, name_ascii, names_ascii, told_ascii, word_ascii}
+use Rattle.lowered_names.proofs.EntryWords.{AreProper}
 use Rattle.model_builder.proofs.Joined.{mark_word}
 
 colons_ascii : (ns : List (List ℕ)) → AllAscii ns → IsAscii (with_colons ns)
@@ -57,7 +57,7 @@ place_ascii es proper e (Some (GotAndSet request)) = (
   ),
 )
 
-names_list : (es : List Entry) → AreProper es → (w : Written) (k n : ℕ) → AllByRecursion (λ name. IsAscii name.0) (flat_map (names_at es w) (range_with_len k n))
+names_list : (es : List Entry) → AreProper es → (w : Lowered) (k n : ℕ) → AllByRecursion (λ name. IsAscii name.0) (flat_map (names_at es w) (range_with_len k n))
 names_list es proper w k zero = tt
 names_list es proper w k (suc n) =
     both (names_at es w k) (flat_map (names_at es w) (range_with_len (k + 1) n)) (place_ascii es proper k (place_of w k)) (names_list es proper w (k + 1) n)

@@ -10,13 +10,13 @@ use Rattle.type_model.specs.Names.{AreDistinct}
 use Rattle.name_table.specs.Entry.{Entry, around, name_in, named, scope_in}
 use Rattle.scoped_names.specs.RepositoryIds.{names_to}
 use Rattle.scoped_names.proofs.Introducing.{all_map}
-use Rattle.written_types.specs.declared.place.Place.{Place}
-use Rattle.written_types.specs.declared.place.Place.TheVariants.{Typed, Raised, Called, Got, GotAndSet}
-use Rattle.written_types.specs.Written.{Written, place_of}
-use Rattle.written_operations.specs.declared.signature.Role.{Role}
-use Rattle.written_operations.specs.declared.signature.Role.TheVariants.{Operation, Getting, Setting}
+use Rattle.lowered_types.specs.declared.place.Place.{Place}
+use Rattle.lowered_types.specs.declared.place.Place.TheVariants.{Typed, Raised, Called, Got, GotAndSet}
+use Rattle.lowered_types.specs.Lowered.{Lowered, place_of}
+use Rattle.lowered_operations.specs.declared.signature.Role.{Role}
+use Rattle.lowered_operations.specs.declared.signature.Role.TheVariants.{Operation, Getting, Setting}
 use Rattle.model_builder.specs.Naming.{called, mark_of, marked, names_at, names_of, names_of_place, scopes_of, with_colons}
-use Rattle.written_names.proofs.EntryWords.{AreProper, IsNameWord}
+use Rattle.lowered_names.proofs.EntryWords.{AreProper, IsNameWord}
 use Rattle.model_builder.proofs.Joined.{IsFree, Ending, Bare, Request, Reply, colons_apart, ending, ending_colons, endings_apart, free_both, mark_word, marks_apart, word_colons, word_slashes}
 
 -- ---- entries
@@ -198,7 +198,7 @@ both_called : (es : List Entry) (k : ℕ) (ns ms : List (List ℕ × ℕ)) → A
 both_called es k [] ms h g = g
 both_called es k (n ∷ ns) ms h g = (h.0, both_called es k ns ms h.1 g)
 
-rest_called : (es : List Entry) (w : Written) (k n : ℕ) → k + n ≤ length es → AllByRecursion (IsCalledFrom es k) (flat_map (names_at es w) (range_with_len k n))
+rest_called : (es : List Entry) (w : Lowered) (k n : ℕ) → k + n ≤ length es → AllByRecursion (IsCalledFrom es k) (flat_map (names_at es w) (range_with_len k n))
 rest_called es w k zero le = tt
 rest_called es w k (suc n) le =
     let own : (x : List ℕ × ℕ) → IsCalled es k x → IsCalledFrom es k x = λ x c. (k, omega arith, omega arith, c) in
@@ -214,7 +214,7 @@ later_apart es proper k lt n m (r, x, is) (e, le, low, (s, y, there)) h =
     let number = same.entry in
     omega (arith, number, le)
 
-apart_from : (es : List Entry) → AreProper es → (w : Written) (k n : ℕ) → k + n ≤ length es → Apart (flat_map (names_at es w) (range_with_len k n))
+apart_from : (es : List Entry) → AreProper es → (w : Lowered) (k n : ℕ) → k + n ≤ length es → Apart (flat_map (names_at es w) (range_with_len k n))
 apart_from es proper w k zero le = tt
 apart_from es proper w k (suc n) le =
     let rest = flat_map (names_at es w) (range_with_len (k + 1) n) in
@@ -229,5 +229,5 @@ pairs_apart : (ns : List (List ℕ × ℕ)) → Apart ns → AreDistinct ns
 pairs_apart [] h = λ i j d lt within. absurd (omega arith)
 pairs_apart (n ∷ ns) h = AllPairs-cons (λ one other. one.0 ≢ other.0) n ns (All-from_recursion (λ m. n.0 ≢ m.0) ns h.0) (pairs_apart ns h.1)
 
-pub names_distinct : (es : List Entry) → AreProper es → (w : Written) → AreDistinct (names_of es w)
+pub names_distinct : (es : List Entry) → AreProper es → (w : Lowered) → AreDistinct (names_of es w)
 names_distinct es proper w = pairs_apart (names_of es w) (apart_from es proper w 0 (length es) (omega arith))

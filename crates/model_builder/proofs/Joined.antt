@@ -5,8 +5,8 @@ use Rattle.std.specs.Char.{is_ascii_alphabetic}
 use Rattle.std.specs.List.{AllByRecursion, list_all}
 use Rattle.std.proofs.lemmas.Bool.{and_parts}
 use Rattle.idl_lexer.specs.Octets.{is_word}
-use Rattle.written_operations.specs.declared.signature.Role.{Role}
-use Rattle.written_operations.specs.declared.signature.Role.TheVariants.{Operation, Getting, Setting}
+use Rattle.lowered_operations.specs.declared.signature.Role.{Role}
+use Rattle.lowered_operations.specs.declared.signature.Role.TheVariants.{Operation, Getting, Setting}
 use Rattle.model_builder.specs.Naming.{mark_of, with_colons}
 
 -- ---- an octet that isn't there

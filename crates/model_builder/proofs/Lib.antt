@@ -3,4 +3,4 @@ pub mod DistinctNames
 pub mod RightModel
 pub mod AsciiModel
 pub mod NamesMore
-pub mod Written
+pub mod Lowered

@@ -1,7 +1,7 @@
 -- What each number of a range gives, one behind another.
 use Rattle.std.proofs.Common.{◌≡◌, ◌∙◌, ℕ, ◌+◌, ◌-◌, ◌<◌, List, ◌++◌, sym, ap, append_assoc}
 use Rattle.std.specs.List.{flat_map, range_with_len}
-use Rattle.written_operations.proofs.PlacesMore.{range_step}
+use Rattle.lowered_operations.proofs.PlacesMore.{range_step}
 
 -- what one number gives more, and what those that are left give
 pub given_more : {T : Type 0} (f : ℕ → List T) (xs ys all : List T) (k e : ℕ) → k < e → ys ≡ xs ++ f k

@@ -1,4 +1,4 @@
--- What a file writes under its own names keeps the rules of models.
+-- What a file is lowered to under its own names keeps the rules of models.
 use Rattle.std.proofs.Common.{◌≡◌, ◌<◌, ◌≤◌, ◌+◌, ◌^◌, ◌⊎◌, inl, inr, ℕ, zero, suc, List, [], ◌∷◌, ◌++◌, All, length, map, slice_get, Option, Some, None, Err, IfSome, refl, sym, subst, arith}
 use Rattle.std.specs.Prelude.{EachIndex, IsSomeAnd}
 use Rattle.std.specs.List.{AllByRecursion, flat_map, range_with_len}
@@ -13,26 +13,26 @@ use Rattle.type_model.specs.Names.{AreNames, IsNamed}
 use Rattle.name_table.specs.Entry.{Entry}
 use Rattle.idl_tree.specs.declared.spec.Spec.{Spec}
 use Rattle.scoped_names.specs.Whole.{AreNames as AreNamesOf, Whole}
-use Rattle.written_types.specs.declared.place.Place.{Place}
-use Rattle.written_types.specs.declared.place.Place.TheVariants.{Typed, Raised, Called, Got, GotAndSet}
-use Rattle.written_types.specs.Written.{Written, place_in, place_of}
-use Rattle.written_operations.specs.declared.signature.Offered.{Offered}
-use Rattle.written_operations.specs.declared.signature.Role.{Role}
-use Rattle.written_operations.specs.declared.signature.Role.TheVariants.{Operation, Getting, Setting}
-use Rattle.written_operations.specs.declared.signature.Signature.{Signature}
-use Rattle.written_types.specs.Sound.{BeginsWithText, IsFrame as IsWrittenFrame, IsOfTypes, IsPlaceAmong}
-use Rattle.written_types.specs.declared.fault.BuildFault.{BuildFault}
-use Rattle.written_types.specs.declared.fault.BuildFault.TheVariants.{NoMemory, OtherNames}
-use Rattle.written_operations.specs.Definitions.{defined_by}
-use Rattle.written_operations.specs.Operations.{Defined}
-use Rattle.written_operations.specs.Sound.{HasFrames as HasCallFrames, IsSoundException, IsSoundFile, IsSoundOffer, IsSoundSignature}
-use Rattle.written_operations.proofs.FileKeep.{only_types}
-use Rattle.written_operations.proofs.FileLaws.{sound_written}
+use Rattle.lowered_types.specs.declared.place.Place.{Place}
+use Rattle.lowered_types.specs.declared.place.Place.TheVariants.{Typed, Raised, Called, Got, GotAndSet}
+use Rattle.lowered_types.specs.Lowered.{Lowered, place_in, place_of}
+use Rattle.lowered_operations.specs.declared.signature.Offered.{Offered}
+use Rattle.lowered_operations.specs.declared.signature.Role.{Role}
+use Rattle.lowered_operations.specs.declared.signature.Role.TheVariants.{Operation, Getting, Setting}
+use Rattle.lowered_operations.specs.declared.signature.Signature.{Signature}
+use Rattle.lowered_types.specs.Sound.{BeginsWithText, IsFrame as IsLoweredFrame, IsOfTypes, IsPlaceAmong}
+use Rattle.lowered_types.specs.declared.fault.BuildFault.{BuildFault}
+use Rattle.lowered_types.specs.declared.fault.BuildFault.TheVariants.{NoMemory, OtherNames}
+use Rattle.lowered_operations.specs.Definitions.{defined_by}
+use Rattle.lowered_operations.specs.Operations.{Defined}
+use Rattle.lowered_operations.specs.Sound.{HasFrames as HasCallFrames, IsSoundException, IsSoundFile, IsSoundOffer, IsSoundSignature}
+use Rattle.lowered_operations.proofs.FileKeep.{only_types}
+use Rattle.lowered_operations.proofs.FileLaws.{sound_lowered}
 use Rattle.model_builder.specs.Naming.{names_at, names_of, names_of_place}
 use Rattle.model_builder.specs.Signatures.{exception_of, interfaces_from, operation_of}
-use Rattle.model_builder.specs.Own.{IsOwn, IsWritten}
+use Rattle.model_builder.specs.Own.{IsOwn, IsLowered}
 use Rattle.model_builder.specs.Theirs.{AreTheirs, HasFrames, IsOffered, IsSignature}
-use Rattle.written_names.proofs.EntryWords.{AreProper, entries_proper}
+use Rattle.lowered_names.proofs.EntryWords.{AreProper, entries_proper}
 use Rattle.model_builder.proofs.DistinctNames.{names_distinct}
 
 -- ---- names that are there
@@ -57,7 +57,7 @@ named_of (p ∷ ps) n (inl is) = (0, omega arith, is)
 named_of (p ∷ ps) n (inr h) = let (k, lt, is) = named_of ps n h in (suc k, omega (arith, lt), is)
 
 -- the names of an entry are among those of all
-among : (es : List Entry) (w : Written) (k n j number : ℕ) → j < n → HasNumber (names_at es w (k + j)) number
+among : (es : List Entry) (w : Lowered) (k n j number : ℕ) → j < n → HasNumber (names_at es w (k + j)) number
     → HasNumber (flat_map (names_at es w) (range_with_len k n)) number
 among es w k zero j number lt h = absurd (omega (arith, lt))
 among es w k (suc n) zero number lt h =
@@ -68,7 +68,7 @@ among es w k (suc n) (suc j) number lt h =
     number_right (names_at es w k) (flat_map (names_at es w) (range_with_len (k + 1) n)) number
     (among es w (k + 1) n j number (omega (arith, lt)) (subst (λ x. HasNumber (names_at es w x) number) same h))
 
-named_at : (es : List Entry) (w : Written) (e number : ℕ) → e < length es → HasNumber (names_at es w e) number → IsNamed (names_of es w) number
+named_at : (es : List Entry) (w : Lowered) (e number : ℕ) → e < length es → HasNumber (names_at es w e) number → IsNamed (names_of es w) number
 named_at es w e number lt h =
     let same : e ≡ 0 + e = omega arith in
     named_of (names_of es w) number (among es w 0 (length es) e number lt (subst (λ x. HasNumber (names_at es w x) number) same h))
@@ -90,16 +90,16 @@ node_low graph P n h = by (slice_get graph n) refl h
     by None is h = absurd h
     by (Some x) is h = slice_get_within graph n x is
 
-place_low : (w : Written) (p : Place) → IsPlaceAmong w.nodes (length w.exceptions) p → IsPlaceOf w.nodes p
+place_low : (w : Lowered) (p : Place) → IsPlaceAmong w.nodes (length w.exceptions) p → IsPlaceOf w.nodes p
 place_low w (Typed n) h = node_low w.nodes IsNoFrame n h
 place_low w (Raised frame place) h = node_low w.nodes (BeginsWithText w.nodes) frame h.0
-place_low w (Called request) h = node_low w.nodes IsWrittenFrame (request + 1) h.1
-place_low w (Got request) h = node_low w.nodes IsWrittenFrame (request + 1) h.1
-place_low w (GotAndSet request) h = node_low w.nodes IsWrittenFrame (request + 3) h.3
+place_low w (Called request) h = node_low w.nodes IsLoweredFrame (request + 1) h.1
+place_low w (Got request) h = node_low w.nodes IsLoweredFrame (request + 1) h.1
+place_low w (GotAndSet request) h = node_low w.nodes IsLoweredFrame (request + 3) h.3
 
 -- ---- frames
 
-frame_of : (o : Option Node) → IsSomeAnd o IsWrittenFrame → IsSomeAnd o IsFrame
+frame_of : (o : Option Node) → IsSomeAnd o IsLoweredFrame → IsSomeAnd o IsFrame
 frame_of None h = h
 frame_of (Some (Frame members)) h = tt
 frame_of (Some node) h = absurd h
@@ -160,10 +160,10 @@ are_names es proper entries d r = record {
 
 -- ---- operations
 
-has_at : (es : List Entry) (w : Written) (e number : ℕ) (p : Place) → place_of w e ≡ Some p → HasNumber (names_of_place es e (Some p)) number → HasNumber (names_at es w e) number
+has_at : (es : List Entry) (w : Lowered) (e number : ℕ) (p : Place) → place_of w e ≡ Some p → HasNumber (names_of_place es e (Some p)) number → HasNumber (names_at es w e) number
 has_at es w e number p is h = subst (λ o. HasNumber (names_of_place es e o) number) (sym is) h
 
-call_named : (es : List Entry) (w : Written) (role : Role) (request e : ℕ) → HasCallFrames role request (place_of w e)
+call_named : (es : List Entry) (w : Lowered) (role : Role) (request e : ℕ) → HasCallFrames role request (place_of w e)
     → HasNumber (names_at es w e) request × HasNumber (names_at es w e) (request + 1)
 call_named es w Operation request e is = (has_at es w e request (Called request) is (inl refl), has_at es w e (request + 1) (Called request) is (inr (inl refl)))
 call_named es w Getting request e (inl is) = (has_at es w e request (Got request) is (inl refl), has_at es w e (request + 1) (Got request) is (inr (inl refl)))
@@ -233,13 +233,13 @@ frames_small graph le (Called request) h = omega (arith, le, h)
 frames_small graph le (Got request) h = omega (arith, le, h)
 frames_small graph le (GotAndSet request) h = omega (arith, le, h)
 
-may_small : (w : Written) → length w.nodes ≤ 4096 → (o : Option Place) → IfSome o (IsPlaceAmong w.nodes (length w.exceptions)) → IfSome o HasFrames
+may_small : (w : Lowered) → length w.nodes ≤ 4096 → (o : Option Place) → IfSome o (IsPlaceAmong w.nodes (length w.exceptions)) → IfSome o HasFrames
 may_small w le None h = tt
 may_small w le (Some p) h = frames_small w.nodes le p (place_low w p h)
 
 their_signature : (entries : ℕ) (d : Defined) → IsSoundFile entries d → (s : Signature) → IsSoundSignature entries d.types s → IsSignature entries s
 their_signature entries d r s h =
-    let low = node_low d.types.nodes IsWrittenFrame (s.request + 1) h.reply in
+    let low = node_low d.types.nodes IsLoweredFrame (s.request + 1) h.reply in
     let t = r.types_sound in
     let limited : length d.types.nodes ≤ 4096 = t.limited in
     let few = r.exceptions_few in
@@ -274,9 +274,9 @@ theirs entries d r =
 
 -- ---- the model
 
-pub own_of : (spec : Spec) (names : Whole) (d : Defined) → IsWritten spec.definitions.items names d → IsOwn names d
+pub own_of : (spec : Spec) (names : Whole) (d : Defined) → IsLowered spec.definitions.items names d → IsOwn names d
 own_of spec names d h =
-    let r = sound_written spec names h.own d h.told in
+    let r = sound_lowered spec names h.own d h.told in
     record {
       theirs = theirs (length names.entries) d r;
       graph = graph_of (length names.entries) d r;

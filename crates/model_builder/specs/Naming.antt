@@ -5,11 +5,11 @@ use Rattle.std.specs.Prelude.{ℕ, suc, ◌+◌, List, [], ◌∷◌, ◌++◌, 
 use Rattle.std.specs.List.{flat_map, range_with_len}
 use Rattle.name_table.specs.Entry.{Entry, around, name_in}
 use Rattle.scoped_names.specs.RepositoryIds.{names_to}
-use Rattle.written_types.specs.declared.place.Place.{Place}
-use Rattle.written_types.specs.declared.place.Place.TheVariants.{Typed, Raised, Called, Got, GotAndSet}
-use Rattle.written_types.specs.Written.{Written, place_of}
-use Rattle.written_operations.specs.declared.signature.Role.{Role}
-use Rattle.written_operations.specs.declared.signature.Role.TheVariants.{Operation, Getting, Setting}
+use Rattle.lowered_types.specs.declared.place.Place.{Place}
+use Rattle.lowered_types.specs.declared.place.Place.TheVariants.{Typed, Raised, Called, Got, GotAndSet}
+use Rattle.lowered_types.specs.Lowered.{Lowered, place_of}
+use Rattle.lowered_operations.specs.declared.signature.Role.{Role}
+use Rattle.lowered_operations.specs.declared.signature.Role.TheVariants.{Operation, Getting, Setting}
 
 -- the scopes around an entry
 abbrev pub scopes_of : List Entry → ℕ → List (List ℕ)
@@ -47,9 +47,9 @@ names_of_place es e (Some (Called request)) = frames_of es Operation e request
 names_of_place es e (Some (Got request)) = frames_of es Getting e request
 names_of_place es e (Some (GotAndSet request)) = frames_of es Getting e request ++ frames_of es Setting e (request + 2)
 
-abbrev pub names_at : List Entry → Written → ℕ → List (List ℕ × ℕ)
+abbrev pub names_at : List Entry → Lowered → ℕ → List (List ℕ × ℕ)
 names_at es w e = names_of_place es e (place_of w e)
 
 -- those of all entries, in order of declaration
-abbrev pub names_of : List Entry → Written → List (List ℕ × ℕ)
+abbrev pub names_of : List Entry → Lowered → List (List ℕ × ℕ)
 names_of es w = flat_map (names_at es w) (range_with_len 0 (length es))

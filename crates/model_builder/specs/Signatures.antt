@@ -6,8 +6,8 @@ use Rattle.type_model.specs.declared.signatures.Exception.{Exception}
 use Rattle.name_table.specs.Entry.{Entry}
 use Rattle.scoped_names.specs.RepositoryIds.{repository_id}
 use Rattle.scoped_names.specs.Whole.{Whole}
-use Rattle.written_operations.specs.declared.signature.Signature.{Signature}
-use Rattle.written_operations.specs.declared.signature.Offered.{Offered}
+use Rattle.lowered_operations.specs.declared.signature.Signature.{Signature}
+use Rattle.lowered_operations.specs.declared.signature.Offered.{Offered}
 use Rattle.model_builder.specs.Naming.{mark_of, marked, name_of}
 
 -- the reply's frame comes behind that of the request

@@ -1,10 +1,10 @@
--- What is written speaks of no entry that isn't among the names; its frames and its places are numbers of 32 bits.
+-- What is lowered speaks of no entry that isn't among the names; its frames and its places are numbers of 32 bits.
 use Rattle.std.specs.Prelude.{ℕ, ◌+◌, ◌<◌, ◌≤◌, ◌^◌, List, length, All, IfSome}
-use Rattle.written_types.specs.declared.place.Place.{Place}
-use Rattle.written_types.specs.declared.place.Place.TheVariants.{Typed, Raised, Called, Got, GotAndSet}
-use Rattle.written_operations.specs.declared.signature.Offered.{Offered}
-use Rattle.written_operations.specs.declared.signature.Signature.{Signature}
-use Rattle.written_operations.specs.Operations.{Defined}
+use Rattle.lowered_types.specs.declared.place.Place.{Place}
+use Rattle.lowered_types.specs.declared.place.Place.TheVariants.{Typed, Raised, Called, Got, GotAndSet}
+use Rattle.lowered_operations.specs.declared.signature.Offered.{Offered}
+use Rattle.lowered_operations.specs.declared.signature.Signature.{Signature}
+use Rattle.lowered_operations.specs.Operations.{Defined}
 
 -- the frames of a place
 abbrev pub HasFrames : Place → Type 0
@@ -27,7 +27,7 @@ pub record IsOffered (entries : ℕ) (o : Offered) : Type 0 where
   pub operations : ArePlaces o.operations
   pub bases : All (λ base. base < entries) o.bases
 
--- what is written, where there are so many entries
+-- what is lowered, where there are so many entries
 pub record AreTheirs (entries : ℕ) (d : Defined) : Type 0 where
   pub places : All (λ place. IfSome place HasFrames) d.types.places
   pub exceptions : All (λ exception. exception.0 < entries) d.types.exceptions

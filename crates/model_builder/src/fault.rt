@@ -5,7 +5,7 @@ ghost use Rattle.model_builder.specs.declared.fault.ModelFault.TheVariants.{NoMe
 
 use std::alloc::AllocError;
 use thiserror::Error;
-use written_types::TypeFault;
+use lowered_types::TypeFault;
 
 /// Why a file has no model. The text of a fault is its number and name, with its line.
 #[derive(Debug, Drop, Error)]

@@ -3,7 +3,7 @@
 ghost use Rattle.std.specs.Prelude.{IfErr, IfOk};
 ghost use Rattle.scoped_names.specs.Whole.{AreNames};
 ghost use Rattle.model_builder.specs.Faults.{IsRefused};
-ghost use Rattle.model_builder.specs.Own.{IsWritten};
+ghost use Rattle.model_builder.specs.Own.{IsLowered};
 ghost use Rattle.model_builder.specs.Shown.{AreParts, Shows};
 
 use crate::fault::ModelFault;
@@ -13,9 +13,9 @@ use part_names::PartNames;
 use scoped_names::Names;
 use std::alloc::Global;
 use type_model::Model;
-use written_names::name_parts;
-use written_operations::{OperationTable, write_file};
-use written_types::BuildFault;
+use lowered_names::name_parts;
+use lowered_operations::{OperationTable, lower_file};
+use lowered_types::BuildFault;
 
 /// The model of a file, and the names of the parts of its nodes.
 #[derive(Drop)]
@@ -24,14 +24,14 @@ pub struct Built {
     pub parts: PartNames,
 }
 
-/// What is built of what the file writes.
+/// What is built of what the file is lowered to.
 fn built_of<'a>(
     alloc: Global,
     spec: &Spec<'a>,
     names: &Names<'a>,
     table: OperationTable,
 ) -> Result<Built, ModelFault>
-    requires { IsWritten spec.now.definitions.items names.now table }
+    requires { IsLowered spec.now.definitions.items names.now table }
     ensures shows { IfOk result (λ built. Shows spec.now.definitions.items names.now built.model) }
     ensures named { IfOk result (λ built. AreParts spec.now.definitions.items names.now built.parts) }
     ensures refused { IfErr result (IsRefused spec.now.definitions.items names.now) }
@@ -54,7 +54,7 @@ pub fn build<'a>(alloc: Global, spec: &Spec<'a>, names: &Names<'a>) -> Result<Bu
     ensures named { IfOk result (λ built. AreParts spec.now.definitions.items names.now built.parts) }
     ensures refused { IfErr result (IsRefused spec.now.definitions.items names.now) }
 {
-    match write_file(alloc, names, spec) {
+    match lower_file(alloc, names, spec) {
         Ok(table) => built_of(alloc, spec, names, table),
         Err(BuildFault::Types(fault)) => Err(ModelFault::Types(fault)),
         Err(BuildFault::NoMemory) => Err(ModelFault::NoMemory),

@@ -6,9 +6,9 @@ ghost use Rattle.idl_tree.specs.declared.spec.Spec.{Spec};
 ghost use Rattle.type_graph.specs.GraphRules.{IsShallow};
 ghost use Rattle.type_model.specs.ModelRules.{IsModel, Parts};
 ghost use Rattle.scoped_names.specs.Whole.{AreNames, Whole};
-ghost use Rattle.written_types.specs.declared.fault.TypeFault.{TypeFault};
-ghost use Rattle.written_operations.specs.Definitions.{defined_by};
-ghost use Rattle.written_operations.specs.Operations.{Defined};
+ghost use Rattle.lowered_types.specs.declared.fault.TypeFault.{TypeFault};
+ghost use Rattle.lowered_operations.specs.Definitions.{defined_by};
+ghost use Rattle.lowered_operations.specs.Operations.{Defined};
 ghost use Rattle.model_builder.specs.Ascii.{HasAsciiTexts};
 ghost use Rattle.model_builder.specs.Faults.{IsFault};
 ghost use Rattle.model_builder.specs.Shown.{Shows, model_of};
@@ -37,9 +37,9 @@ pub fn fault_is_one()
     path_fault_is_one()
 }
 
-/// What a file writes under its own names is a model, where its paths are short enough: no other
+/// What a file is lowered to under its own names is a model, where its paths are short enough: no other
 /// rule of graphs or models is left to be broken.
-pub fn written_is_a_model()
+pub fn lowered_is_a_model()
     ensures { (spec : Spec) (names : Whole) (d : Defined) → AreNames spec.definitions.items names
         → defined_by names.entries spec.definitions.items ≡ Ok d
         → EachIndex d.types.nodes (IsShallow 64 d.types.nodes) → IsModel (model_of names d) }

@@ -11,4 +11,4 @@ mod signatures;
 
 pub use fault::ModelFault;
 pub use file::{Built, build};
-pub use written_types::{Answer, LabelWorth, TypeFault, TypeKind};
+pub use lowered_types::{Answer, LabelWorth, TypeFault, TypeKind};

@@ -1,4 +1,4 @@
-//! The model of what a file writes.
+//! The model of what a file is lowered to.
 
 ghost use Rattle.std.specs.Prelude.{◌≡◌, IfErr, IfOk};
 ghost use Rattle.model_builder.specs.Faults.{IsRefusedBehind};
@@ -13,10 +13,10 @@ use scoped_names::Names;
 use std::alloc::Global;
 use type_graph::{GraphFault, Items};
 use type_model::Model;
-use written_operations::{Offered, Signature};
-use written_types::TypeTable;
+use lowered_operations::{Offered, Signature};
+use lowered_types::TypeTable;
 
-/// The model of types, operations and interfaces that are written under these names.
+/// The model of types, operations and interfaces that are lowered under these names.
 ///
 /// # Errors
 /// A type that holds itself, too long a path; want of memory.

@@ -9,8 +9,8 @@ ghost use Rattle.model_builder.specs.Theirs.{HasFrames};
 use scoped_names::Names;
 use std::alloc::{AllocError, Global};
 use type_model::Name;
-use written_operations::Role;
-use written_types::{Place, TypeTable};
+use lowered_operations::Role;
+use lowered_types::{Place, TypeTable};
 
 /// What stands before the name of an operation on the wire.
 pub(crate) fn mark_of(role: Role) -> &'static str

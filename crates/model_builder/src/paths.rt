@@ -10,7 +10,7 @@ use basic_types::BASIC_NODES;
 use std::alloc::Global;
 use type_graph::{Graph, GraphFault, GraphLimit};
 use type_paths::{PathFault, find_path_fault};
-use written_types::{TypeFault, TypeTable};
+use lowered_types::{TypeFault, TypeTable};
 
 /// The most nodes of a path.
 const MAX_PATH: u32 = 64;

@@ -9,7 +9,7 @@ use scoped_names::Names;
 use std::alloc::{AllocError, Global};
 use type_graph::Items;
 use type_model::{Exception, Interface, Name, Operation};
-use written_operations::{Offered, Signature};
+use lowered_operations::{Offered, Signature};
 
 /// The repository id of an entry.
 fn id_of<'a>(alloc: Global, names: &Names<'a>, entry: usize) -> Result<Name, AllocError>

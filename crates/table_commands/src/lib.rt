@@ -21,7 +21,7 @@ mod whole_write;
 pub use builtin::sample;
 pub use named::{
     SAMPLE, accepted_of, listing_of, marshal_by, read_file, reference_by, table_of, upgrade,
-    write_file,
+    lower_file,
 };
 pub use object::{interface_place, object_in};
 pub use reference::{ReferenceRequest, reference_line};

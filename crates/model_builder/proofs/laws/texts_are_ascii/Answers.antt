@@ -1,11 +1,11 @@
 use Rattle.std.proofs.Common.{subst, sym}
 use Rattle.model_builder.specs.Ascii.{HasAsciiTexts}
 use Rattle.model_builder.proofs.AsciiModel.{model_ascii}
-use Rattle.written_names.proofs.AsciiNames.{says_ascii}
-use Rattle.written_names.proofs.EntryWords.{entries_proper}
+use Rattle.lowered_names.proofs.AsciiNames.{says_ascii}
+use Rattle.lowered_names.proofs.EntryWords.{entries_proper}
 use Rattle.model_builder.proofs.laws.texts_are_ascii.Goals as goal
 
 pub returns : goal.returns
 returns c = λ spec names model own s.
     subst HasAsciiTexts (sym s.shows.parts)
-    (model_ascii names (entries_proper spec names own) (says_ascii spec.definitions.items names own) s.written)
+    (model_ascii names (entries_proper spec names own) (says_ascii spec.definitions.items names own) s.lowered)

@@ -2,7 +2,7 @@ use Rattle.std.proofs.Common.{◌≡◌, ◌∙◌, ℕ, suc, ◌+◌, List, [],
 use Rattle.std.proofs.lemmas.List.Elements.{All-tail}
 use Rattle.std.specs.Vec.Iter.{into_iter_items}
 use Rattle.scoped_names.specs.Whole.{Whole}
-use Rattle.written_operations.specs.declared.signature.Offered.{Offered}
+use Rattle.lowered_operations.specs.declared.signature.Offered.{Offered}
 use Rattle.model_builder.specs.Signatures.{interface_of, interfaces_from}
 use Rattle.model_builder.specs.Theirs.{IsOffered}
 use Rattle.model_builder.proofs.signatures.interfaces_of.Goals as goal

@@ -1,0 +1,8 @@
+-- The names of the parts of the nodes that a file is lowered to.
+pub mod Types
+pub mod Definitions
+pub mod Named
+pub mod OneForOne
+pub mod ByNode
+pub mod Apart
+pub mod Signed

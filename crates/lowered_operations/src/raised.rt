@@ -1,0 +1,114 @@
+//! What operations and attributes raise.
+
+ghost use Rattle.std.specs.Prelude.{◌≡◌, ◌≤◌, length};
+ghost use Rattle.idl_tree.specs.Lists.{parts};
+ghost use Rattle.lowered_types.specs.Faults.{Tells};
+ghost use Rattle.lowered_operations.specs.Oneway.{parts_of};
+ghost use Rattle.lowered_operations.specs.Operations.{exception_found, get_raises, raised, set_raises};
+
+use idl_tree::definitions::Attributes;
+use idl_tree::names::{Listed, ScopedName};
+use scoped_names::Names;
+use std::alloc::Global;
+use lowered_types::{BuildFault, Place, TypeTable, resolved};
+
+/// The place of the exception that a name finds. Takes no memory.
+fn find_exception<'a>(
+    types: &TypeTable,
+    names: &Names<'a>,
+    scope: usize,
+    name: &ScopedName<'a>,
+) -> Result<usize, BuildFault>
+    requires { scope ≤ length names.now.entries }
+    ensures { result ≡ exception_found names.now.entries types.now scope name.now }
+{
+    let entry = resolved(names, scope, name)?;
+    match types.place(entry) {
+        Some(Place::Raised { place, .. }) => Ok(place),
+        _ => Err(BuildFault::OtherNames),
+    }
+}
+
+/// The places of the exceptions that names find, in order.
+///
+/// # Errors
+/// Those of `resolved`, `OtherNames` where a name finds no exception, want of memory.
+fn find_raised<'a>(
+    types: &TypeTable,
+    alloc: Global,
+    names: &Names<'a>,
+    scope: usize,
+    raises: &Listed<ScopedName<'a>>,
+) -> Result<Vec<usize>, BuildFault>
+    requires { scope ≤ length names.now.entries }
+    ensures { Tells result (λ found. found.items) (raised names.now.entries types.now scope (parts raises.now)) }
+{
+    let mut places = Vec::new(alloc);
+    for name in raises.iter() {
+        let place = find_exception(types, names, scope, name)?;
+        places.push(place)?;
+    }
+    Ok(places)
+}
+
+/// As `find_raised`, of a list that may be absent.
+///
+/// # Errors
+/// As `find_raised`.
+pub(crate) fn find_all_raised<'a>(
+    types: &TypeTable,
+    alloc: Global,
+    names: &Names<'a>,
+    scope: usize,
+    raises: &Option<Listed<ScopedName<'a>>>,
+) -> Result<Vec<usize>, BuildFault>
+    requires { scope ≤ length names.now.entries }
+    ensures { Tells result (λ found. found.items) (raised names.now.entries types.now scope (parts_of raises.now)) }
+{
+    match raises {
+        Some(raises) => find_raised(types, alloc, names, scope, raises),
+        None => Ok(Vec::new(alloc)),
+    }
+}
+
+/// What is raised where attributes are got.
+///
+/// # Errors
+/// As `find_raised`.
+pub(crate) fn find_get_raised<'a>(
+    types: &TypeTable,
+    alloc: Global,
+    names: &Names<'a>,
+    scope: usize,
+    declared: &Attributes<'a>,
+) -> Result<Vec<usize>, BuildFault>
+    requires { scope ≤ length names.now.entries }
+    ensures { Tells result (λ found. found.items) (raised names.now.entries types.now scope (get_raises declared.now)) }
+{
+    match declared {
+        Attributes::Readonly { raises, .. } => find_raised(types, alloc, names, scope, raises),
+        Attributes::Get { get, .. } => find_raised(types, alloc, names, scope, get),
+        Attributes::Silent { .. } | Attributes::Set { .. } => Ok(Vec::new(alloc)),
+    }
+}
+
+/// What is raised where attributes are set.
+///
+/// # Errors
+/// As `find_raised`.
+pub(crate) fn find_set_raised<'a>(
+    types: &TypeTable,
+    alloc: Global,
+    names: &Names<'a>,
+    scope: usize,
+    declared: &Attributes<'a>,
+) -> Result<Vec<usize>, BuildFault>
+    requires { scope ≤ length names.now.entries }
+    ensures { Tells result (λ found. found.items) (raised names.now.entries types.now scope (set_raises declared.now)) }
+{
+    match declared {
+        Attributes::Get { set, .. } => find_all_raised(types, alloc, names, scope, set),
+        Attributes::Set { set, .. } => find_raised(types, alloc, names, scope, set),
+        Attributes::Silent { .. } | Attributes::Readonly { .. } => Ok(Vec::new(alloc)),
+    }
+}

@@ -1,0 +1,22 @@
+//! Which types a specification is lowered to, and what each is in a graph of types (ISO/IEC 19500-1, type
+//! declaration, constant declaration, exception declaration).
+#![tactic(auto)]
+
+mod arms;
+mod declarations;
+mod fault;
+mod kinds;
+mod labels;
+mod members;
+mod place;
+mod readings;
+mod simple;
+mod table;
+mod types;
+mod lowered;
+
+pub use fault::{Answer, BuildFault, LabelWorth, TypeFault, TypeKind};
+pub use members::MemberList;
+pub use place::Place;
+pub use readings::{declared_entry, resolved};
+pub use table::TypeTable;

@@ -1,0 +1,82 @@
+//! The members of structures and frames, while they are read.
+
+ghost use Rattle.std.specs.Prelude.{◌≡◌, length};
+ghost use Rattle.lowered_types.specs.Faults.{Tells};
+ghost use Rattle.lowered_types.specs.Types.{member_added, no_members};
+
+use crate::fault::{BuildFault, at_most};
+use idl_tree::names::At;
+use std::alloc::Global;
+use std::marker::Model;
+use type_graph::{GraphLimit, Members};
+
+pub(crate) const MAX_MEMBERS: u32 = 1024;
+
+/// The members of a structure or a frame. A contract sees the numbers of their types, and where
+/// their declarators stand.
+#[derive(Drop)]
+pub struct MemberList {
+    numbers: Vec<u32>,
+    sites: Vec<At>,
+}
+
+impl Model for MemberList {
+    ghost use Rattle.lowered_types.specs.Members.{Members};
+
+    ghost Value = { Members };
+
+    ghost view = { λ m. record { numbers = m.numbers.items; sites = m.sites.items } };
+}
+
+impl MemberList {
+    /// No members. Takes no memory.
+    pub fn new(alloc: Global) -> Self
+        ensures { result ≡ no_members }
+    {
+        MemberList {
+            numbers: Vec::new(alloc),
+            sites: Vec::new(alloc),
+        }
+    }
+
+    /// One member more, of a type that has a number.
+    ///
+    /// # Errors
+    /// `Limit` where there are 1,024, want of memory.
+    pub(crate) fn push(&mut self, number: u32, at: At) -> Result<(), BuildFault>
+        ensures { Tells result (λ u. self.new) (member_added self.old number at) }
+    {
+        let count = self.numbers.len() as u128 + 1;
+        at_most(MAX_MEMBERS, GraphLimit::Members, at, count)?;
+        self.sites.push(at)?;
+        self.numbers.push(number)?;
+        Ok(())
+    }
+
+    /// One member more, of a type that has a number.
+    ///
+    /// # Errors
+    /// `Limit` where there are 1,024, want of memory.
+    pub fn with_member(self, number: u32, at: At) -> Result<MemberList, BuildFault>
+        ensures { Tells result (λ members. members) (member_added self number at) }
+    {
+        let mut members = self;
+        members.push(number, at)?;
+        Ok(members)
+    }
+
+    /// How many there are.
+    pub fn len(&self) -> usize
+        ensures { result ≡ length self.now.numbers }
+    {
+        self.numbers.len()
+    }
+
+    /// Gives the members and where they stand. Takes no memory.
+    pub fn into_parts(self) -> (Members, Vec<At>)
+        ensures numbers { result.0 ≡ self.numbers }
+        ensures sites { result.1.items ≡ self.sites }
+    {
+        (Members::new(self.numbers), self.sites)
+    }
+}

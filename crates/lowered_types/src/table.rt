@@ -1,0 +1,295 @@
+//! The types that are lowered so far.
+
+ghost use Rattle.std.specs.Prelude.{◌≡◌, ◌≤◌, length, slice_get, Ok};
+ghost use Rattle.lowered_types.specs.Faults.{Tells};
+ghost use Rattle.lowered_types.specs.SimpleTypes.{type_found};
+ghost use Rattle.lowered_types.specs.Lowered.{added, added_at, already, counted, held_at, is_undefined as has_no_definition, named_type, node_set, one_site, opened as opened_of, place_of, placed, raised_at, type_of, undefined as undefined_node, unlowered};
+
+use crate::fault::{BuildFault, at_most};
+use crate::place::Place;
+use crate::readings::resolved;
+use basic_types::basic_nodes;
+use idl_tree::names::{At, ScopedName};
+use scoped_names::Names;
+use std::alloc::Global;
+use std::marker::Model;
+use type_graph::{GraphLimit, Members, Node};
+use type_paths::NodeSites;
+
+const MAX_NODES: u32 = 4096;
+
+const MAX_ALL_MEMBERS: u32 = 32768;
+
+/// Those of the two structures among the basic types.
+const BASIC_MEMBERS: usize = 4;
+
+/// The types that are lowered so far, and what the entries among the names have of them. A contract
+/// sees the nodes, what each entry has, the exceptions, where the nodes behind the basic types
+/// stand, and how many members all types have.
+#[derive(Drop)]
+pub struct TypeTable {
+    nodes: Vec<Node>,
+    places: Vec<Option<Place>>,
+    exceptions: Vec<(usize, u32)>,
+    sites: Vec<NodeSites>,
+    members: usize,
+}
+
+impl Model for TypeTable {
+    ghost use Rattle.lowered_types.specs.Lowered.{Lowered};
+
+    ghost Value = { Lowered };
+
+    ghost view = { λ t. record { nodes = t.nodes.items; places = t.places.items; exceptions = t.exceptions.items; sites = t.sites.items; members = t.members } };
+}
+
+/// A structure that has no members yet.
+fn undefined_type(alloc: Global) -> Node
+    ensures { result ≡ undefined_node }
+{
+    Node::Struct {
+        members: Members::new(Vec::new(alloc)),
+    }
+}
+
+/// Where a node stands that holds one other at most.
+fn one_site(alloc: Global, at: At) -> Result<NodeSites, BuildFault>
+    ensures { Tells result (λ sites. sites) (Ok (one_site at)) }
+{
+    let held = vec![in alloc; at]?;
+    Ok(NodeSites::new(at, held))
+}
+
+impl TypeTable {
+    /// The types of every specification, where there are so many entries.
+    ///
+    /// # Errors
+    /// Want of memory.
+    pub fn new(alloc: Global, entries: usize) -> Result<TypeTable, BuildFault>
+        ensures { Tells result (λ t. t) (Ok (unlowered entries)) }
+    {
+        Ok(TypeTable {
+            nodes: basic_nodes(alloc)?,
+            places: vec![in alloc; None; entries]?,
+            exceptions: Vec::new(alloc),
+            sites: Vec::new(alloc),
+            members: BASIC_MEMBERS,
+        })
+    }
+
+    /// A node more, with its sites; gives its number.
+    ///
+    /// # Errors
+    /// `Limit` where there are 4,096, want of memory.
+    pub(crate) fn add(&mut self, node: Node, sites: NodeSites) -> Result<u32, BuildFault>
+        ensures { Tells result (already self.new) (added self.old node sites) }
+    {
+        let number = self.nodes.len();
+        let count = number as u128 + 1;
+        at_most(MAX_NODES, GraphLimit::Nodes, sites.at(), count)?;
+        self.nodes.push(node)?;
+        self.sites.push(sites)?;
+        Ok(number as u32)
+    }
+
+    /// A node at `at` that holds one other at most.
+    ///
+    /// # Errors
+    /// As `add`.
+    pub(crate) fn add_at(&mut self, alloc: Global, node: Node, at: At) -> Result<u32, BuildFault>
+        ensures { Tells result (already self.new) (added_at self.old node at) }
+    {
+        let sites = one_site(alloc, at)?;
+        self.add(node, sites)
+    }
+
+    /// An entry has this from now on.
+    ///
+    /// # Errors
+    /// `OtherNames` where there is no such entry, or one that has something.
+    pub(crate) fn put(&mut self, entry: usize, place: Place) -> Result<(), BuildFault>
+        ensures { Tells result (λ u. self.new) (placed self.old entry place) }
+    {
+        let Some(None) = self.places.get(entry) else {
+            return Err(BuildFault::OtherNames);
+        };
+        self.places[entry] = Some(place);
+        Ok(())
+    }
+
+    /// What an entry has.
+    pub fn place(&self, entry: usize) -> Option<Place>
+        ensures { result ≡ place_of self.now entry }
+    {
+        match self.places.get(entry) {
+            Some(place) => *place,
+            None => None,
+        }
+    }
+
+    /// The node of the type that an entry is the name of.
+    fn type_at(&self, entry: usize) -> Option<u32>
+        ensures { result ≡ type_of self.now entry }
+    {
+        match self.places.get(entry) {
+            Some(Some(Place::Typed(number))) => Some(*number),
+            _ => None,
+        }
+    }
+
+    /// The node of the type that a name finds. Takes no memory.
+    ///
+    /// # Errors
+    /// `OtherNames` where it finds no type.
+    pub(crate) fn named<'a>(
+        &self,
+        names: &Names<'a>,
+        scope: usize,
+        name: &ScopedName<'a>,
+    ) -> Result<u32, BuildFault>
+        requires { scope ≤ length names.now.entries }
+        ensures { result ≡ type_found names.now.entries self.now scope name.now }
+    {
+        let entry = resolved(names, scope, name)?;
+        match self.type_at(entry) {
+            Some(number) => Ok(number),
+            None => Err(BuildFault::OtherNames),
+        }
+    }
+
+    /// A type more that an entry is the name of.
+    ///
+    /// # Errors
+    /// As `add`, `OtherNames` where there is no such entry.
+    pub(crate) fn add_named(
+        &mut self,
+        alloc: Global,
+        entry: usize,
+        node: Node,
+        at: At,
+    ) -> Result<u32, BuildFault>
+        ensures { Tells result (already self.new) (named_type self.old entry node at) }
+    {
+        let number = self.add_at(alloc, node, at)?;
+        self.put(entry, Place::Typed(number))?;
+        Ok(number)
+    }
+
+    /// A structure or a union that is declared there: gives its number, which it has since its
+    /// first declaration.
+    ///
+    /// # Errors
+    /// As `add_named`.
+    pub(crate) fn declare(&mut self, alloc: Global, entry: usize, at: At) -> Result<u32, BuildFault>
+        ensures { Tells result (already self.new) (opened_of self.old entry at) }
+    {
+        match self.type_at(entry) {
+            Some(number) => Ok(number),
+            None => self.add_named(alloc, entry, undefined_type(alloc), at),
+        }
+    }
+
+    /// Whether a node is a structure or a union that has no definition yet.
+    fn is_undefined(&self, number: usize) -> bool
+        ensures { result ≡ has_no_definition (slice_get self.now.nodes number) }
+    {
+        match self.nodes.get(number) {
+            Some(Node::Struct { members }) => members.as_slice().is_empty(),
+            _ => false,
+        }
+    }
+
+    /// What a structure or a union is, and where what it holds stands. Takes no memory.
+    ///
+    /// # Errors
+    /// `OtherNames` where there is no such node, or one that has a definition.
+    pub(crate) fn define(
+        &mut self,
+        number: u32,
+        node: Node,
+        held: Vec<At>,
+    ) -> Result<(), BuildFault>
+        ensures { Tells result (λ u. self.new) (node_set self.old number node held.items) }
+    {
+        let place = number as usize;
+        if !self.is_undefined(place) {
+            return Err(BuildFault::OtherNames);
+        }
+        self.nodes[place] = node;
+        self.set_held(place, held);
+        Ok(())
+    }
+
+    /// Where what a node holds stands; a basic type has no sites.
+    fn set_held(&mut self, number: usize, held: Vec<At>)
+        ensures { self.new ≡ record self.old { sites = held_at self.old.sites number held.items } }
+    {
+        let Some(place) = number.checked_sub(basic_types::BASIC_NODES as usize) else {
+            return;
+        };
+        if place < self.sites.len() {
+            let at = self.sites[place].at();
+            self.sites[place] = NodeSites::new(at, held);
+        }
+    }
+
+    /// So many members more of one type, which stands there. Takes no memory.
+    ///
+    /// # Errors
+    /// `Limit` where all types have more than 32,768.
+    pub(crate) fn count_members(&mut self, count: usize, at: At) -> Result<(), BuildFault>
+        ensures { Tells result (λ u. self.new) (counted self.old count at) }
+    {
+        let all = self.members as u128 + count as u128;
+        let all = at_most(MAX_ALL_MEMBERS, GraphLimit::AllMembers, at, all)?;
+        self.members = all as usize;
+        Ok(())
+    }
+
+    /// The exceptions so far, each by its entry and its frame.
+    pub fn exceptions(&self) -> &[(usize, u32)]
+        ensures { result.now ≡ self.now.exceptions }
+    {
+        self.exceptions.as_slice()
+    }
+
+    /// An exception that an entry is the name of, whose frame is the node of the number.
+    ///
+    /// # Errors
+    /// `OtherNames` where there is no such entry, want of memory.
+    pub(crate) fn raise(&mut self, entry: usize, frame: u32) -> Result<(), BuildFault>
+        ensures { Tells result (λ u. self.new) (raised_at self.old entry frame) }
+    {
+        let place = self.exceptions.len();
+        self.put(entry, Place::Raised { frame, place })?;
+        self.exceptions.push((entry, frame))?;
+        Ok(())
+    }
+
+    pub fn nodes(&self) -> &[Node]
+        ensures { result.now ≡ self.now.nodes }
+    {
+        self.nodes.as_slice()
+    }
+
+    /// What each entry has.
+    pub fn places(&self) -> &[Option<Place>]
+        ensures { result.now ≡ self.now.places }
+    {
+        self.places.as_slice()
+    }
+
+    /// Where the nodes stand behind the basic types.
+    pub fn sites(&self) -> &[NodeSites]
+        ensures { result.now ≡ self.now.sites }
+    {
+        self.sites.as_slice()
+    }
+
+    /// Gives the nodes back. Takes no memory.
+    pub fn into_nodes(self) -> Vec<Node>
+        ensures { result.items ≡ self.nodes }
+    {
+        self.nodes
+    }
+}

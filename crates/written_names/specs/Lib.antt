@@ -1,8 +1,0 @@
--- The names of the parts of the nodes that a file writes.
-pub mod Types
-pub mod Definitions
-pub mod Named
-pub mod OneForOne
-pub mod ByNode
-pub mod Apart
-pub mod Signed

@@ -1,5 +1,0 @@
-use Rattle.written_operations.proofs.Kept.{rule_kept}
-use Rattle.written_operations.proofs.laws.oneway_gives_nothing_back.Goals as goal
-
-pub returns : goal.returns
-returns c = rule_kept

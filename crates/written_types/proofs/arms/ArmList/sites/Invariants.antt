@@ -1,6 +1,0 @@
-use Rattle.std.proofs.Common.{◌≡◌, ◌++◌, drop, map}
-use Rattle.written_types.specs.Types.{arm_at}
-use Rattle.written_types.proofs.arms.ArmList.sites.Given as goal
-
-abbrev pub invariant-loop-arm : goal.invariant-loop-arm
-invariant-loop-arm l = l.sites.items ++ map arm_at (drop l.arm-index l.arm-items) ≡ map arm_at l.self.arms
