@@ -6,7 +6,7 @@ use position_checker::Accepted;
 use routine_checker::check_names;
 use std::alloc::Global;
 use std::test::Fail;
-use table_commands::{ValueRequest, ShownInstr, Way, listing, marshal};
+use table_commands::{ShownInstr, ValueRequest, Way, listing, marshal};
 use table_file::Use;
 use type_graph::{Arms, Order, Width};
 

@@ -4,8 +4,8 @@ ghost use Rattle.std.specs.Prelude.{◌≡◌, [], slice_index_or, IfOk};
 ghost use Rattle.broker_answers.specs.Objects.{objects_of};
 ghost use Rattle.attribute_keeper.specs.Keeping.{action_in};
 
-use crate::attributes::{find_actions, find_getters, operations_of, zero_replies};
 use crate::action::Action;
+use crate::attributes::{find_actions, find_getters, operations_of, zero_replies};
 use crate::kept::Kept;
 use broker_answers::{Outcome, Servant};
 use position_checker::Accepted;

@@ -1,8 +1,8 @@
 //! A servant that keeps the attributes of objects.
 #![tactic(auto)]
 
-mod attributes;
 mod action;
+mod attributes;
 mod keeper;
 mod kept;
 pub mod laws;

@@ -10,10 +10,10 @@ mod message;
 mod objects;
 mod outcome;
 mod reply;
+mod scope;
 mod servant;
 mod service;
 mod serving;
-mod scope;
 
 pub use exception::SystemException;
 pub use servant::{Outcome, Servant};

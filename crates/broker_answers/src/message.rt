@@ -56,7 +56,9 @@ impl Service {
             Message::Request(request) => self.answer_request(alloc, servant, request),
             Message::Locate(locate) => self.locate(alloc, locate),
             Message::Reply(_) => self.giop.write_message_error(alloc),
-            Message::Cancel(_) | Message::CloseConnection | Message::MessageError => Ok(Vec::new(alloc)),
+            Message::Cancel(_) | Message::CloseConnection | Message::MessageError => Ok(Vec::new(
+                alloc,
+            )),
         }
     }
 }

@@ -9,4 +9,4 @@ mod task;
 
 pub use line::parse;
 pub use mistake::Mistake;
-pub use task::{ValueTask, ReferenceTask, Said, Service, Task};
+pub use task::{ReferenceTask, Said, Service, Task, ValueTask};

@@ -7,9 +7,9 @@ ghost use Rattle.clap.specs.Matches.{found_of, first_value, one_text};
 ghost use Rattle.command_words.specs.Ask.{Ask, Explanation, Reference, ReferenceAsk, Value, ValueAsk, ask_of, command_of};
 ghost use Rattle.command_words.specs.Words.{Tells, TellsNumber, TellsReference, TellsValue};
 
-use crate::task::{ValueTask, ReferenceTask, Service, Task};
+use crate::task::{ReferenceTask, Service, Task, ValueTask};
 use clap::ArgMatches;
-use table_commands::{ValueRequest, ReferenceRequest, Way};
+use table_commands::{ReferenceRequest, ValueRequest, Way};
 use type_graph::Order;
 
 fn asked_in<'a>(way: Way, matches: &ArgMatches<'a>) -> Option<ValueTask<'a>>

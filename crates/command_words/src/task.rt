@@ -1,6 +1,6 @@
 //! What a run of the program may be asked to do.
 
-use table_commands::{ValueRequest, ReferenceRequest};
+use table_commands::{ReferenceRequest, ValueRequest};
 
 /// A value of a table.
 #[derive(Clone, Copy)]

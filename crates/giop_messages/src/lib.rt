@@ -11,6 +11,6 @@ mod run;
 
 pub use fault::{FramingFault, GiopFault};
 pub use frame::{Frame, frame_in};
-pub use head::{HEAD_LEN, Head, MessageKind, MAX_SIZE};
+pub use head::{HEAD_LEN, Head, MAX_SIZE, MessageKind};
 pub use message::{Locate, Message, Reply, ReplyStatus, Request};
 pub use run::Run;

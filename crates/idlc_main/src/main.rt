@@ -111,8 +111,10 @@ fn main(rt: HostRuntime) -> ExitCode {
         Ok(words) => words,
         Err(fault) => return ExitCode::from(failed(&mut err, &fault)),
     };
-    let texts: Result<Vec<&str>, AllocError> =
-        words.iter().map(|word| word.as_str()).collect(rt.alloc());
+    let texts: Result<Vec<&str>, AllocError> = words
+        .iter()
+        .map(|word| word.as_str())
+        .collect(rt.alloc());
     let status = match texts {
         Ok(texts) => run(&rt, texts.as_slice(), &mut out, &mut err),
         Err(_) => failed(&mut err, &Fault::NoMemory),

@@ -16,8 +16,8 @@ use command_words::Task;
 use fault_texts::explanation;
 use idl_compiler::{CompiledFile, compile_file};
 use table_commands::{
-    Refusal, WholeFiles, accepted_of, listing_of, marshal_by, read_file, reference_by, upgrade,
-    lower_file,
+    Refusal, WholeFiles, accepted_of, listing_of, lower_file, marshal_by, read_file, reference_by,
+    upgrade,
 };
 
 /// The answer that is a line, or the fault that is its refusal.

@@ -4,7 +4,6 @@
 
 mod broker;
 mod connections;
-mod pieces;
 mod ends;
 mod event;
 mod fault;
@@ -15,6 +14,7 @@ mod kept;
 pub mod laws;
 mod memory;
 mod piece;
+mod pieces;
 mod sending;
 mod serving;
 mod stream_fault;

@@ -6,10 +6,10 @@ ghost use Rattle.iiop_broker.specs.Outcomes.{ends};
 ghost use Rattle.iiop_broker.specs.Serving.{IsServed};
 
 use crate::broker::Broker;
-use crate::pieces::serve_pieces;
 use crate::ends::{Input, Output};
 use crate::event::Event;
 use crate::fault::BrokerFault;
+use crate::pieces::serve_pieces;
 use crate::stream_fault::StreamFault;
 use broker_answers::Servant;
 

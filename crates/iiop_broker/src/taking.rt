@@ -43,7 +43,8 @@ fn cancels(run: &Run, head: &Head, message: &[u8]) -> bool
     ensures { result ≡ cancels_run run.now head.now message.now }
 {
     match head.kind {
-        MessageKind::CancelRequest => head.size >= 4 && number_behind(head.order, message) == run.id(),
+        MessageKind::CancelRequest => head.size >= 4
+            && number_behind(head.order, message) == run.id(),
         _ => false,
     }
 }

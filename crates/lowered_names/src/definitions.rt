@@ -9,10 +9,10 @@ use crate::list::PartList;
 use idl_tree::definitions::{Attributes, Definition, Export, Interface};
 use idl_tree::names::{Leaf, Listed};
 use idl_tree::spec::Spec;
-use scoped_names::Names;
-use std::alloc::Global;
 use lowered_operations::Signature;
 use lowered_types::{BuildFault, TypeTable, declared_entry};
+use scoped_names::Names;
+use std::alloc::Global;
 
 impl<'a> PartList<'a> {
     fn name_silent(

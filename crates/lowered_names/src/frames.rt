@@ -10,10 +10,10 @@ ghost use Rattle.lowered_names.specs.Definitions.{call, getting, goes_in, goes_o
 use crate::list::{NameList, PartList};
 use idl_tree::definitions::{Direction, Operation, Param};
 use idl_tree::names::{Leaf, Listed};
-use scoped_names::Names;
-use std::alloc::{AllocError, Global};
 use lowered_operations::{Role, Signature};
 use lowered_types::{BuildFault, declared_entry};
+use scoped_names::Names;
+use std::alloc::{AllocError, Global};
 
 fn is_in(direction: Direction) -> bool
     ensures { result ≡ goes_in direction }

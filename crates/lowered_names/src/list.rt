@@ -4,9 +4,9 @@ ghost use Rattle.std.specs.Prelude.{◌≡◌, ◌++◌, ◌∷◌, [], map, OnO
 ghost use Rattle.lowered_types.specs.Faults.{Tells};
 ghost use Rattle.lowered_names.specs.Types.{part, raising, typed};
 
+use lowered_types::{BuildFault, Place, TypeTable};
 use std::alloc::{AllocError, Global};
 use std::marker::Model;
-use lowered_types::{BuildFault, Place, TypeTable};
 
 /// Names in order.
 #[derive(Drop)]

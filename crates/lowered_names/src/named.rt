@@ -9,12 +9,12 @@ ghost use Rattle.lowered_names.specs.Named.{AreNamed, Lowers};
 use crate::definitions::parts_of_file;
 use crate::list::{NamedPart, PartList};
 use idl_tree::spec::Spec;
+use lowered_operations::Signature;
+use lowered_types::{BuildFault, TypeTable};
 use part_names::{NodeNames, PartNames};
 use scoped_names::Names;
 use std::alloc::{AllocError, Global};
 use type_model::Name;
-use lowered_operations::Signature;
-use lowered_types::{BuildFault, TypeTable};
 
 /// So many nodes without names.
 fn unnamed(alloc: Global, count: usize) -> Result<Vec<NodeNames>, AllocError>

@@ -13,9 +13,9 @@ use idl_tree::names::{Leaf, Listed};
 use idl_tree::types::{
     Case, Declarator, EnumType, Member, StructType, SwitchType, TypeSpec, UnionType,
 };
+use lowered_types::{BuildFault, TypeTable, declared_entry};
 use scoped_names::Names;
 use std::alloc::{AllocError, Global};
-use lowered_types::{BuildFault, TypeTable, declared_entry};
 
 impl<'a> NameList<'a> {
     fn push_declarators(&mut self, declarators: &Listed<Declarator<'a>>) -> Result<(), AllocError>

@@ -11,9 +11,9 @@ use crate::signature::Role;
 use crate::table::OperationTable;
 use idl_tree::definitions::{Attribute, Attributes, Direction};
 use idl_tree::names::{At, Leaf, Listed};
+use lowered_types::{BuildFault, Place, declared_entry};
 use scoped_names::Names;
 use std::alloc::Global;
-use lowered_types::{BuildFault, Place, declared_entry};
 
 /// Whether attributes that are declared together are set too.
 fn is_set(declared: &Attributes<'_>) -> bool

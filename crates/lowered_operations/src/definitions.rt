@@ -7,9 +7,9 @@ ghost use Rattle.lowered_operations.specs.Definitions.{defined_by, definition as
 use crate::table::OperationTable;
 use idl_tree::definitions::Definition;
 use idl_tree::spec::Spec;
+use lowered_types::{BuildFault, declared_entry};
 use scoped_names::Names;
 use std::alloc::Global;
-use lowered_types::{BuildFault, declared_entry};
 
 impl OperationTable {
     #[cycle(definitions)]

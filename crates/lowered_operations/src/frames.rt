@@ -8,11 +8,11 @@ ghost use Rattle.lowered_operations.specs.Frames.{all_carried, frame_added, fram
 
 use idl_tree::definitions::{Direction, Operation, Param};
 use idl_tree::names::{At, Listed};
+use lowered_types::{BuildFault, MemberList, TypeTable};
 use scoped_names::Names;
 use std::alloc::Global;
 use type_graph::Node;
 use type_paths::NodeSites;
-use lowered_types::{BuildFault, MemberList, TypeTable};
 
 /// The types that a request and its reply carry.
 #[derive(Drop)]

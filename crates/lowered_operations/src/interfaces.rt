@@ -11,10 +11,10 @@ use crate::table::OperationTable;
 use idl_tree::definitions::{Export, Interface};
 use idl_tree::names::Leaf;
 use indexmap::IndexSet;
+use lowered_types::{BuildFault, Place, declared_entry};
 use scoped_names::Names;
 use std::alloc::Global;
 use type_graph::Items;
-use lowered_types::{BuildFault, Place, declared_entry};
 
 /// The identifier of an interface.
 fn identifier_of<'a>(interface: &Interface<'a>) -> Leaf<'a>

@@ -10,9 +10,9 @@ use crate::raised::find_all_raised;
 use crate::signature::Role;
 use crate::table::OperationTable;
 use idl_tree::definitions::Operation;
+use lowered_types::{BuildFault, Place, declared_entry};
 use scoped_names::Names;
 use std::alloc::Global;
-use lowered_types::{BuildFault, Place, declared_entry};
 
 impl OperationTable {
     /// What an operation is lowered to behind the types that it carries.

@@ -6,8 +6,8 @@ ghost use Rattle.lowered_types.specs.Faults.{Tells};
 ghost use Rattle.lowered_operations.specs.Interfaces.{with_once};
 
 use indexmap::IndexSet;
-use std::alloc::Global;
 use lowered_types::BuildFault;
+use std::alloc::Global;
 
 /// More numbers, each unless it is there.
 ///

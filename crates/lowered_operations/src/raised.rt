@@ -8,9 +8,9 @@ ghost use Rattle.lowered_operations.specs.Operations.{exception_found, get_raise
 
 use idl_tree::definitions::Attributes;
 use idl_tree::names::{Listed, ScopedName};
+use lowered_types::{BuildFault, Place, TypeTable, resolved};
 use scoped_names::Names;
 use std::alloc::Global;
-use lowered_types::{BuildFault, Place, TypeTable, resolved};
 
 /// The place of the exception that a name finds. Takes no memory.
 fn find_exception<'a>(

@@ -8,11 +8,11 @@ use crate::frames::{Carried, lower_frames};
 use crate::signature::{Offered, Role, Signature};
 use idl_tree::definitions::Declaration;
 use idl_tree::names::At;
+use lowered_types::{BuildFault, Place, TypeTable};
 use scoped_names::Names;
 use std::alloc::Global;
 use std::marker::Model;
 use type_graph::Items;
-use lowered_types::{BuildFault, Place, TypeTable};
 
 /// The types and operations that are lowered so far. A contract sees them, and what each entry has
 /// that is a defined interface.

@@ -7,13 +7,13 @@ mod declarations;
 mod fault;
 mod kinds;
 mod labels;
+mod lowered;
 mod members;
 mod place;
 mod readings;
 mod simple;
 mod table;
 mod types;
-mod lowered;
 
 pub use fault::{Answer, BuildFault, LabelWorth, TypeFault, TypeKind};
 pub use members::MemberList;

@@ -3,9 +3,9 @@
 ghost use Rattle.std.specs.Prelude.{◌≡◌};
 ghost use Rattle.model_builder.specs.declared.fault.ModelFault.TheVariants.{NoMemory};
 
+use lowered_types::TypeFault;
 use std::alloc::AllocError;
 use thiserror::Error;
-use lowered_types::TypeFault;
 
 /// Why a file has no model. The text of a fault is its number and name, with its line.
 #[derive(Debug, Drop, Error)]

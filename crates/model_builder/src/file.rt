@@ -9,13 +9,13 @@ ghost use Rattle.model_builder.specs.Shown.{AreParts, Shows};
 use crate::fault::ModelFault;
 use crate::model::model_of;
 use idl_tree::spec::Spec;
+use lowered_names::name_parts;
+use lowered_operations::{OperationTable, lower_file};
+use lowered_types::BuildFault;
 use part_names::PartNames;
 use scoped_names::Names;
 use std::alloc::Global;
 use type_model::Model;
-use lowered_names::name_parts;
-use lowered_operations::{OperationTable, lower_file};
-use lowered_types::BuildFault;
 
 /// The model of a file, and the names of the parts of its nodes.
 #[derive(Drop)]

@@ -9,12 +9,12 @@ use crate::fault::ModelFault;
 use crate::naming::names_of;
 use crate::paths::{check_paths, graph_of};
 use crate::signatures::{exceptions_of, interfaces_of, operations_of};
+use lowered_operations::{Offered, Signature};
+use lowered_types::TypeTable;
 use scoped_names::Names;
 use std::alloc::Global;
 use type_graph::{GraphFault, Items};
 use type_model::Model;
-use lowered_operations::{Offered, Signature};
-use lowered_types::TypeTable;
 
 /// The model of types, operations and interfaces that are lowered under these names.
 ///

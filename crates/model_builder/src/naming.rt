@@ -6,11 +6,11 @@ ghost use Rattle.std.specs.String.{string_bytes};
 ghost use Rattle.model_builder.specs.Naming.{called, frames_of, mark_of as its_mark, marked, name_of as its_name, names_at, names_of as its_names, names_of_place, scopes_of, with_colons};
 ghost use Rattle.model_builder.specs.Theirs.{HasFrames};
 
+use lowered_operations::Role;
+use lowered_types::{Place, TypeTable};
 use scoped_names::Names;
 use std::alloc::{AllocError, Global};
 use type_model::Name;
-use lowered_operations::Role;
-use lowered_types::{Place, TypeTable};
 
 /// What stands before the name of an operation on the wire.
 pub(crate) fn mark_of(role: Role) -> &'static str

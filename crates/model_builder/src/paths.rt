@@ -7,10 +7,10 @@ ghost use Rattle.model_builder.specs.declared.fault.ModelFault.TheVariants.{NoMe
 
 use crate::fault::ModelFault;
 use basic_types::BASIC_NODES;
+use lowered_types::{TypeFault, TypeTable};
 use std::alloc::Global;
 use type_graph::{Graph, GraphFault, GraphLimit};
 use type_paths::{PathFault, find_path_fault};
-use lowered_types::{TypeFault, TypeTable};
 
 /// The most nodes of a path.
 const MAX_PATH: u32 = 64;

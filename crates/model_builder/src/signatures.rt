@@ -5,11 +5,11 @@ ghost use Rattle.model_builder.specs.Signatures.{exception_of as its_exception, 
 ghost use Rattle.model_builder.specs.Theirs.{ArePlaces, IsOffered, IsSignature};
 
 use crate::naming::{marked_name, name_of};
+use lowered_operations::{Offered, Signature};
 use scoped_names::Names;
 use std::alloc::{AllocError, Global};
 use type_graph::Items;
 use type_model::{Exception, Interface, Name, Operation};
-use lowered_operations::{Offered, Signature};
 
 /// The repository id of an entry.
 fn id_of<'a>(alloc: Global, names: &Names<'a>, entry: usize) -> Result<Name, AllocError>

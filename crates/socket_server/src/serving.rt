@@ -8,12 +8,12 @@ ghost use Rattle.socket_server.specs.Serving.{IsDone, IsFaultOf, IsLineOrNothing
 ghost use Rattle.socket_server.specs.Visits.{AreServed, untold};
 
 use crate::announcing::serving_line;
-use crate::options::ServeOptions;
 use crate::connections::serve_connections;
 use crate::fault::ServeFault;
 use crate::listener::Listener;
 use crate::loopback::Loopback;
 use crate::object::broker_of;
+use crate::options::ServeOptions;
 use iiop_broker::{Broker, Servant};
 use position_checker::Accepted;
 use std::alloc::Global;

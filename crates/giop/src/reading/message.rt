@@ -14,7 +14,7 @@ use crate::reading::header::{
 };
 use crate::reading::key::{copy, key_of};
 use crate::reading::place::{body_behind, header_tape};
-use giop_messages::{Head, MessageKind, Locate, Message, Reply, Request};
+use giop_messages::{Head, Locate, Message, MessageKind, Reply, Request};
 use giop_types::{
     CANCEL_REQUEST_HEADER, GiopTypes, LOCATE_REQUEST_HEADER, REPLY_HEADER, REQUEST_HEADER,
     TapeFault,
