@@ -7,7 +7,7 @@
 Every second table is right and has to be accepted. The others have a change in their programs, and may
 be accepted or refused; but what is accepted has to write and read as the standard says. A question is a
 line: `table` with the octets of one, and then of that table what is asked of idlc, without its name.
-An answer is a line: the status and what was printed. `tests/random_tables` runs all this.
+An answer is a line: the status and what was printed. `tests/run tables_of_others` runs all this.
 """
 import os
 import random

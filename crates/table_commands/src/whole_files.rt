@@ -24,7 +24,7 @@ pub trait WholeFiles {
         ensures within { IfOk result (λ octets. length octets.items ≤ limit) }
         ensures read { IfOk result (λ octets. reads self.now path.now octets.items) };
 
-    /// Writes the octets to a file, whole or not at all.
+    /// Writes the octets to a file, all of them where it answers Ok.
     ///
     /// # Errors
     /// `Unwritten` where the file can't be made or written.

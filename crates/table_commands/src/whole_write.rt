@@ -1,4 +1,4 @@
-//! Files written whole or not at all.
+//! Files written beside their place and renamed, or where they are if none can be made beside it.
 
 use std::alloc::AllocError;
 use std::fs::{self, Files, OpenOptions, Permissions};
