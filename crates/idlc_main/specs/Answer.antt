@@ -1,5 +1,5 @@
 -- What a run answers, by what it is asked for.
-use Rattle.std.specs.Prelude.{◌≡◌, ◌⊎◌, ℕ, List, String, Option, Some, None, Result, Ok, Err, true, false, IfOk, IfErr}
+use Rattle.std.specs.Prelude.{◌≡◌, ◌⊎◌, ℕ, List, Option, Some, Result, Ok, Err, true, false, IfOk, IfErr}
 use Rattle.std.specs.String.{string_bytes}
 use Rattle.std.specs.Io.KnownBytes.{Appends, Keeps}
 use Rattle.fault_texts.specs.Headings.{first_line, heading, is_refusal}
@@ -12,14 +12,11 @@ use Rattle.idlc_main.specs.Fault.{status_of}
 use Rattle.command_words.specs.Ask.{Ask, Explanation, Reference, ReferenceAsk, Value, ValueAsk}
 use Rattle.idlc_main.specs.declared.told.Answer.{Answer}
 
--- an answer behind which nothing else is told
-abbrev pub plain : String → Answer
-plain text = record { text = text; notice = None }
-
--- the answer that is a line, or the fault that is its refusal
-abbrev pub lined : Result String Refusal → Result Answer Fault
-lined (Ok line) = Ok (plain line)
-lined (Err refusal) = Err (Refused refusal)
+-- the answer has a line's text, or the fault is its refusal
+abbrev pub IsLined : {A : Type 0} → (A → List ℕ) → Result A Refusal → Result Answer Fault → Type 0
+IsLined text_of (Ok line) (Ok answer) = string_bytes answer.text ≡ text_of line
+IsLined text_of (Err refusal) (Err fault) = fault ≡ Refused refusal
+IsLined text_of line result = ⊥
 
 -- the lines of an explanation
 pub record Explains (number : ℕ) (lines : List ℕ) : Type 0 where

@@ -6,7 +6,7 @@ ghost use Rattle.command_words.specs.Ask.{Explanation, Reference, Value, referen
 ghost use Rattle.command_words.specs.declared.task.ValueTask.{ValueTask};
 ghost use Rattle.command_words.specs.declared.task.ReferenceTask.{ReferenceTask};
 ghost use Rattle.idl_compiler.specs.Files.{IsCompiledFile};
-ghost use Rattle.idlc_main.specs.Answer.{IsAnswer, lined as lined_of};
+ghost use Rattle.idlc_main.specs.Answer.{IsAnswer, IsLined};
 ghost use Rattle.idlc_main.specs.Fault.{IsTold};
 ghost use Rattle.idlc_main.specs.Files.{IsCompiledTo, IsDone};
 
@@ -22,7 +22,7 @@ use table_commands::{
 
 /// The answer that is a line, or the fault that is its refusal.
 fn lined<'a>(line: Result<String, Refusal<'a>>) -> Result<Answer, Fault<'a>>
-    ensures { result ≡ lined_of line.entry }
+    ensures { IsLined string_bytes line.entry result }
 {
     match line {
         Ok(line) => Ok(Answer::plain(line)),

@@ -1,7 +1,6 @@
 //! What a run tells when it did what was asked for.
 
 ghost use Rattle.std.specs.Prelude.{◌≡◌};
-ghost use Rattle.idlc_main.specs.Answer.{plain};
 
 use std::fmt::{self, Formatter};
 
@@ -30,7 +29,7 @@ pub struct Answer {
 impl Answer {
     /// An answer behind which nothing else is told.
     pub fn plain(text: String) -> Answer
-        ensures { result ≡ plain text }
+        ensures { result.text ≡ text }
     {
         Answer { text, notice: None }
     }

@@ -3,7 +3,7 @@ use Rattle.std.proofs.Common.{◌≡◌, List, ℕ, Contains, Result, Ok, Err, I
 use Rattle.hex.specs.Hex.{decode_of}
 use Rattle.table_file.specs.Table.{TableParts}
 use Rattle.table_commands.specs.declared.refusal.Refusal.{Refusal}
-use Rattle.table_commands.specs.declared.refusal.Refusal.TheVariants.{NoTable, NotRight, TooLong, NoType, BadHex, Refused, NoMemory}
+use Rattle.table_commands.specs.declared.refusal.Refusal.TheVariants.{Unread, Unwritten, NoTable, NotRight, TooLong, NoType, BadHex, Refused, BadObject, NoInterface, NoReference, NoMemory}
 use Rattle.table_commands.specs.Answer.{Ask, IsLine, IsRefusalOf}
 use Rattle.table_commands.specs.Lines.{Prints, HasNoAnswer}
 use Rattle.table_commands.specs.Refusal.{OnlyIf, IsOfRun}
@@ -18,6 +18,11 @@ module _ (table : TableParts) (ask : Ask) (node : ℕ) (named : Contains table.m
   bad_digits TooLong h = absurd cc
   bad_digits (NoType name) h = absurd cc
   bad_digits (Refused fault) h = absurd cc
+  bad_digits (Unread file) h = absurd cc
+  bad_digits (Unwritten file) h = absurd cc
+  bad_digits BadObject h = absurd cc
+  bad_digits (NoInterface name) h = absurd cc
+  bad_digits (NoReference fault) h = absurd cc
 
   module _ (input : List ℕ) (digits_are : decode_of ask.hex ≡ Ok input) where
     pub line_of : {A : Type 0} (text_of : A → List ℕ) (r : Result A Refusal)
@@ -37,6 +42,11 @@ module _ (table : TableParts) (ask : Ask) (node : ℕ) (named : Contains table.m
     refused (NotRight fault) h = absurd h.0
     refused TooLong h = absurd h.0
     refused (NoType name) h = absurd h.0
+    refused (Unread file) h = absurd h.0
+    refused (Unwritten file) h = absurd h.0
+    refused BadObject h = absurd h.0
+    refused (NoInterface name) h = absurd h.0
+    refused (NoReference fault) h = absurd h.0
 
     pub refusal_of : {A : Type 0} (r : Result A Refusal)
         → IfErr r (λ refusal. IsOfRun refusal × OnlyIf refusal (HasNoAnswer table.model.graph node ask.way ask.order ask.pos input))

@@ -1,4 +1,4 @@
-use Rattle.std.proofs.Common.{◌≡◌, ◌⊎◌, ℕ, List, sym, subst}
+use Rattle.std.proofs.Common.{◌⊎◌, ℕ, List, sym, subst}
 use Rattle.table_file.specs.Table.{TableParts}
 use Rattle.table_file.specs.TableSpelling.{Spells, SpellsOld}
 use Rattle.position_checker.specs.Acceptance.{IsLone}

@@ -1,0 +1,8 @@
+use Rattle.std.proofs.Common.{string_bytes}
+use Rattle.table_commands.proofs.NamedLaws.{upgraded_is}
+use Rattle.table_commands.proofs.named.upgrade.Goals as goal
+
+pub returns : goal.returns
+returns g c =
+    upgraded_is (g.R.WholeFiles.reads c.args.rt.now) c.args.name.now c.in-Ok.table c.in-Ok.ensures.is string_bytes (g.R.WholeFiles.takes c.args.rt.now)
+    c.args.output.now c.write_upgraded.result c.write_upgraded.ensures.written c.write_upgraded.ensures.line
