@@ -1,4 +1,4 @@
 pub mod Attributes
 pub mod Keeping
 pub mod History
-pub mod Places
+pub mod inner

@@ -3,7 +3,7 @@
 ghost use Rattle.std.specs.Prelude.{◌≡◌, ◌<◌, ℕ, List, length, option_and_then, option_map, slice_get, IfOk};
 ghost use Rattle.type_graph.specs.Value.{node_at};
 ghost use Rattle.attribute_keeper.specs.Attributes.{HasFrames, attribute_named, action_at, action_where, first_tape, first_tapes, frame_action, getters_of, got_by, is_getter, members_of, operations_at, set_by, with_actions};
-ghost use Rattle.attribute_keeper.specs.Places.{place_in};
+ghost use Rattle.attribute_keeper.specs.inner.Places.{place_in};
 
 use crate::action::Action;
 use indexmap::IndexMap;

@@ -5,7 +5,7 @@ use Rattle.type_model.specs.declared.signatures.Operation.{Operation}
 use Rattle.giop_messages.specs.Messages.{Asked}
 use Rattle.broker_answers.specs.Objects.{Served, IsNamedOperation}
 use Rattle.broker_answers.specs.Findings.{Finding, Finds, AsksType, AsksNoType, NoOperation, NoArguments, ForServant, IsFor, IsOwn, is_a_name}
-use Rattle.broker_answers.specs.FindingSteps.{IsTypeAsked, IsOwnAsked, IsCallAsked, HasOperation}
+use Rattle.broker_answers.specs.inner.FindingSteps.{IsTypeAsked, IsOwnAsked, IsCallAsked, HasOperation}
 
 pub type_found : (served : Served) (asked : Asked) (object : ℕ) (interface : Interface) (finding : Finding)
     → IsFor served asked object interface → asked.operation ≡ is_a_name → IsTypeAsked interface asked finding

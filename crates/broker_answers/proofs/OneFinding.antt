@@ -19,7 +19,7 @@ use Rattle.broker_answers.specs.declared.exception.SystemException.TheVariants.{
 use Rattle.broker_answers.specs.Servants.{call_of}
 use Rattle.broker_answers.specs.Objects.{Served, IsNamedOperation, object_with, interface_of, is_a}
 use Rattle.broker_answers.specs.Findings.{Finding, Refuses, Tells, Calls, Finds, NoObject, AsksType, AsksNoType, AsksWhetherGone, NoOperation, NoArguments, ForServant, IsFor, IsOwn, IsRead, is_a_name, non_existent_name}
-use Rattle.broker_answers.specs.FindingSteps.{IsTypeAsked, IsOwnAsked, IsCallAsked, HasId, HasOperation}
+use Rattle.broker_answers.specs.inner.FindingSteps.{IsTypeAsked, IsOwnAsked, IsCallAsked, HasId, HasOperation}
 
 one_some : {A : Type 0} (x : Option A) (a b : A) → x ≡ Some a → x ≡ Some b → a ≡ b
 one_some x a b e f = let same : Some a ≡ Some b = sym e ∙ f in cc

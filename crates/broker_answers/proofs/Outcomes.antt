@@ -7,7 +7,7 @@ use Rattle.giop_types.specs.TapeParts.{IsCounted}
 use Rattle.giop_messages.specs.Messages.{Asked}
 use Rattle.broker_answers.specs.Servants.{Done, Raised}
 use Rattle.broker_answers.specs.Replies.{Replies, Succeeds, FailsToSucceed, Throws, FailsToThrow, ThrowsUnknown, IsThrown, success, throw}
-use Rattle.broker_answers.specs.Sending.{IsTried, IsThrowing, IsRaising}
+use Rattle.broker_answers.specs.inner.Sending.{IsTried, IsThrowing, IsRaising}
 
 pub done_replied : (model : Parts) (asked : Asked) (operation : Operation) (tape octets : List ℕ)
     → IsTried asked (success model operation tape) octets → Replies model asked operation (Done tape) octets

@@ -16,7 +16,7 @@ use Rattle.giop_types.proofs.Named.{named}
 use Rattle.giop_types.proofs.PartTrees.{text_shape, text_counted}
 use Rattle.giop_messages.specs.Messages.{Asked}
 use Rattle.broker_answers.specs.Replies.{Reply, IsUnsendable}
-use Rattle.broker_answers.specs.Sending.{IsSending}
+use Rattle.broker_answers.specs.inner.Sending.{IsSending}
 use Rattle.broker_answers.specs.Findings.{IsRead, IsUnread, IsReading}
 
 pub read_is : (graph : List Node) (asked : Asked) (node n : ℕ) (tape : List ℕ)

@@ -5,9 +5,8 @@ pub mod Servants
 pub mod Objects
 pub mod Exceptions
 pub mod Findings
-pub mod FindingSteps
 pub mod Replies
-pub mod Sending
 pub mod Serving
 pub mod Answering
 pub mod OneAnswer
+pub mod inner

@@ -5,7 +5,7 @@ ghost use Rattle.type_model.specs.Names.{IsNamed};
 ghost use Rattle.giop_messages.specs.Messages.{asked_of};
 ghost use Rattle.giop_types.specs.GiopNodes.{giop_nodes};
 ghost use Rattle.broker_answers.specs.Findings.{IsRead, IsReading, Tells};
-ghost use Rattle.broker_answers.specs.FindingSteps.{HasId, IsCallAsked, IsTypeAsked, finding_of};
+ghost use Rattle.broker_answers.specs.inner.FindingSteps.{HasId, IsCallAsked, IsTypeAsked, finding_of};
 
 use crate::exception::SystemException;
 use crate::objects::is_a;

@@ -6,7 +6,7 @@ ghost use Rattle.giop_types.specs.TapeParts.{counted, IsCounted};
 ghost use Rattle.giop_types.specs.TapeRefusal.{RefusesWriting};
 ghost use Rattle.giop_messages.specs.Messages.{asked_of};
 ghost use Rattle.broker_answers.specs.Replies.{IsThrown, Replies, reply_of, success};
-ghost use Rattle.broker_answers.specs.Sending.{IsRaising, IsThrowing, IsTried};
+ghost use Rattle.broker_answers.specs.inner.Sending.{IsRaising, IsThrowing, IsTried};
 ghost use Rattle.broker_answers.specs.Servants.{said_of};
 
 use crate::exception::SystemException;

@@ -9,7 +9,7 @@ ghost use Rattle.giop_types.specs.GiopNodes.{giop_nodes};
 ghost use Rattle.giop_types.specs.Named.{has_name};
 ghost use Rattle.giop_messages.specs.Messages.{asked_of};
 ghost use Rattle.broker_answers.specs.Replies.{IsSent, IsUnsendable, acceptance, exception_reply, reply_of, truth_number, truth_reply};
-ghost use Rattle.broker_answers.specs.Sending.{IsSending};
+ghost use Rattle.broker_answers.specs.inner.Sending.{IsSending};
 
 use crate::exception::SystemException;
 use giop::{Giop, GiopFault, ReplyStatus, Request};

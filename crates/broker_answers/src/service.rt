@@ -3,7 +3,7 @@
 ghost use Rattle.std.specs.Prelude.{◌≡◌, option_map, IfOk};
 ghost use Rattle.giop_messages.specs.Messages.{asked_of};
 ghost use Rattle.broker_answers.specs.Findings.{Finds, IsFor};
-ghost use Rattle.broker_answers.specs.FindingSteps.{IsOwnAsked, finding_of};
+ghost use Rattle.broker_answers.specs.inner.FindingSteps.{IsOwnAsked, finding_of};
 ghost use Rattle.broker_answers.specs.Objects.{AreServed, interface_of, object_with as object_of, objects_of, served};
 
 use crate::exception::SystemException;

@@ -10,8 +10,8 @@ use Rattle.giop_messages.specs.Headers.{IsKeyOf, request_tree, locate_tree}
 use Rattle.giop_messages.specs.Messages.{Asked, Answered, Sought, IsWhole, HasHeader, HasBody, IsRequest, IsReply, IsCancel, IsLocate, asked_of}
 use Rattle.giop.specs.declared.reading.header.RequestHeader.{RequestHeader}
 use Rattle.giop.specs.declared.reading.header.LocateHeader.{LocateHeader}
-use Rattle.giop.specs.Tapes.{Begins, IsTapeAt}
-use Rattle.giop.specs.Targets.{TellsTarget, HasFields, IsRequestHeader, IsLocateHeader}
+use Rattle.giop.specs.inner.Tapes.{Begins, IsTapeAt}
+use Rattle.giop.specs.inner.Targets.{TellsTarget, HasFields, IsRequestHeader, IsLocateHeader}
 
 pub none_then : {X : Type 0} (o : Option X) (P : Type 0) → o ≡ None → IfNone o P → P
 none_then None P e h = h

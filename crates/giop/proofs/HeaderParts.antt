@@ -10,7 +10,7 @@ use Rattle.giop_types.specs.Fields.{number_tree}
 use Rattle.giop_types.proofs.PartTrees.{long_shape, octet_shape, struct_shape, text_shape, text_counted}
 use Rattle.giop_messages.specs.Headers.{request_tree, reply_tree, cancel_tree, locate_tree}
 use Rattle.giop_types.specs.TapeParts.{counted, IsCounted}
-use Rattle.giop.specs.Tapes.{Begins}
+use Rattle.giop.specs.inner.Tapes.{Begins}
 use Rattle.object_references.proofs.Shapes.{peel, none_left, enumerator, sequence}
 
 -- three octets

@@ -13,8 +13,8 @@ use Rattle.giop_messages.specs.Headers.{request_tree, reply_tree, locate_tree, n
 use Rattle.giop_messages.specs.declared.message.ReplyStatus.{ReplyStatus}
 use Rattle.giop_messages.specs.declared.message.ReplyStatus.TheVariants.{NoException, UserException, SystemException, LocationForward, LocationForwardPerm, NeedsAddressingMode}
 use Rattle.giop.specs.declared.reading.target.Target.{Target}
-use Rattle.giop.specs.Tapes.{Begins}
-use Rattle.giop.specs.Targets.{TellsTarget, IsRequestHeader, IsReplyHeader, IsLocateHeader}
+use Rattle.giop.specs.inner.Tapes.{Begins}
+use Rattle.giop.specs.inner.Targets.{TellsTarget, IsRequestHeader, IsReplyHeader, IsLocateHeader}
 use Rattle.giop.proofs.HeaderParts.{RequestParts, request_parts, reply_parts, cancel_parts, locate_parts}
 
 pub octet_front : (m n : ℕ) (r s : List ℕ) → m < 2 ^ 8 → n < 2 ^ 8 → word Big One (pos m) ++ r ≡ word Big One (pos n) ++ s

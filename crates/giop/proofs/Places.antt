@@ -7,7 +7,7 @@ use Rattle.type_graph.specs.Value.{Tree, node_at, tape_of}
 use Rattle.type_graph.specs.Encoding.{Means}
 use Rattle.giop_types.specs.GiopNodes.{giop_nodes}
 use Rattle.giop_messages.specs.Messages.{HasHeader}
-use Rattle.giop.specs.Tapes.{IsTapeAt}
+use Rattle.giop.specs.inner.Tapes.{IsTapeAt}
 
 pub tape_found : (octets behind : List ℕ) (order : Order) (node : ℕ) (tape : List ℕ) (taken : ℕ) → behind ≡ drop 12 octets
     → Means giop_nodes (reading order) 64 node 12 tape (take taken behind) → taken ≤ length behind

@@ -22,8 +22,8 @@ use Rattle.object_references.specs.Profiles.{Body, body_node, body_tree, HasKey}
 use Rattle.object_references.specs.Encapsulations.{flag_of}
 use Rattle.object_references.proofs.Encapsulated.{orders_same}
 use Rattle.giop.specs.declared.reading.profile.BodyStart.{BodyStart}
-use Rattle.giop.specs.Tapes.{Begins, IsIn}
-use Rattle.giop.specs.Profiles.{IsAddress, IsBodyStart, IsTapeIn, TellsKeyIn, TellsSomeKey, is_later, minor_of}
+use Rattle.giop.specs.inner.Tapes.{Begins, IsIn}
+use Rattle.giop.specs.inner.Profiles.{IsAddress, IsBodyStart, IsTapeIn, TellsKeyIn, TellsSomeKey, is_later, minor_of}
 use Rattle.object_references.proofs.Shapes.{peel, none_left, counted_value, tag_list}
 use Rattle.giop.proofs.HeaderParts.{six}
 use Rattle.giop.proofs.HeaderSplits.{octet_front}

@@ -12,7 +12,7 @@ use Rattle.giop_types.specs.TapeParts.{counted, IsCounted, tagged, IsTagged, tag
 use Rattle.giop_types.specs.TapeRefusal.{RefusesReading}
 use Rattle.giop_types.proofs.PartLaws.{word_front, counted_front, tagged_front, tagged_list_front}
 use Rattle.giop_messages.specs.Headers.{IsKeyOf, reference_target}
-use Rattle.giop.specs.Tapes.{Begins, BeginsBehind, IsAt, IsIn}
+use Rattle.giop.specs.inner.Tapes.{Begins, BeginsBehind, IsAt, IsIn}
 use Rattle.giop.proofs.Targets.{key_part, profile_part, ReferencePart, reference_part, has_label}
 use Rattle.giop.proofs.Told.{key_told, profile_told, reference_told}
 

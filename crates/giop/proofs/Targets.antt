@@ -13,7 +13,7 @@ use Rattle.giop_types.specs.GiopNodes.{giop_nodes}
 use Rattle.giop_types.specs.Fields.{number_tree, struct_tree, trees, tagged_list_tree}
 use Rattle.giop_messages.specs.Headers.{key_target, profile_target, reference_target}
 use Rattle.giop_types.specs.TapeParts.{counted, IsCounted, tagged_list, AreTagged}
-use Rattle.giop.specs.Tapes.{Begins, HasValue, CountedFront, TaggedFront, SelectedFront}
+use Rattle.giop.specs.inner.Tapes.{Begins, HasValue, CountedFront, TaggedFront, SelectedFront}
 use Rattle.giop_types.proofs.PartTrees.{long_shape, struct_shape, text_shape, text_counted}
 use Rattle.object_references.proofs.Shapes.{peel, none_left, counted_value, tag_value, tag_list}
 

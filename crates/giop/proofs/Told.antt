@@ -5,7 +5,7 @@ use Rattle.giop_types.specs.Fields.{tagged_tree, tagged_trees}
 use Rattle.object_references.specs.Profiles.{HasKey}
 use Rattle.giop_messages.specs.Headers.{IsKeyOf, TellsKey, ByKey, ByProfile, ByReference, key_target, profile_target, reference_target}
 use Rattle.object_references.proofs.TreeLaws.{tagged_same, all_tagged_same}
-use Rattle.giop.specs.Tapes.{IsAt, IsIn}
+use Rattle.giop.specs.inner.Tapes.{IsAt, IsIn}
 
 -- the same of an equal target
 moved : (target other : Tree) (key : Option (List ℕ)) → target ≡ other → IsKeyOf other key → IsKeyOf target key

@@ -14,7 +14,7 @@ use Rattle.iiop_broker.specs.declared.stream_fault.StreamFault.{StreamFault}
 use Rattle.iiop_broker.specs.declared.stream_fault.StreamFault.TheVariants as faults
 use Rattle.iiop_broker.specs.AnsweredStreams.{GivenUp}
 use Rattle.iiop_broker.specs.Outcomes.{Ends, IsOutcome}
-use Rattle.iiop_broker.specs.Running.{running, running_in_part}
+use Rattle.iiop_broker.specs.inner.Running.{running, running_in_part}
 use Rattle.iiop_broker.specs.Serving.{IsServed}
 use Rattle.iiop_broker.proofs.AnsweredStreams.{talked, talked_in_part}
 use Rattle.iiop_broker.proofs.Going.{still_there}

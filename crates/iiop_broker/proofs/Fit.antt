@@ -6,7 +6,7 @@ use Rattle.std.proofs.lemmas.Bool.{ltb-true, lt-ltb}
 use Rattle.std.proofs.lemmas.List.Sums.{AllPass-from_list_all, list_all-from_AllPass}
 use Rattle.type_model.specs.ModelRules.{Parts}
 use Rattle.broker_answers.specs.Objects.{AreServed, Objects}
-use Rattle.iiop_broker.specs.Fitting.{AreFit, are_distinct, has_key}
+use Rattle.iiop_broker.specs.inner.Fitting.{AreFit, are_distinct, has_key}
 
 both : (a b : Bool) → (a && b) ≡ true → (a ≡ true) × (b ≡ true)
 both true b e = (refl, e)

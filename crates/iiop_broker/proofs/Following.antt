@@ -5,7 +5,7 @@ use Rattle.broker_answers.specs.Servants.{Acting}
 use Rattle.broker_answers.specs.Objects.{Served}
 use Rattle.broker_answers.specs.Serving.{Serves}
 use Rattle.broker_answers.proofs.ServedLists.{serves_then, serves_closed, moves_then, moved_of}
-use Rattle.iiop_broker.specs.Progress.{Progress, Ended, Stopped, behind}
+use Rattle.iiop_broker.specs.inner.Progress.{Progress, Ended, Stopped, behind}
 
 pub progress_start : {S : Type 0} (acting : Acting S) (served : Served) (all : Cut) (before : S) (answer : List ℕ)
     → answer ≡ [] → Progress acting served all all before answer before

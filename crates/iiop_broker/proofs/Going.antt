@@ -10,7 +10,7 @@ use Rattle.iiop_broker.specs.declared.stream_piece.Sent.{Sent}
 use Rattle.iiop_broker.specs.Ends.{Gives, IsEmpty, written_with}
 use Rattle.iiop_broker.specs.AnsweredStreams.{AnsweredStream, GivenUp}
 use Rattle.iiop_broker.specs.Outcomes.{Ends, Finished, Unread, Unended, Unwritten, Unserved}
-use Rattle.iiop_broker.specs.StreamPieces.{IsSent, IsStuck, IsGivenUp}
+use Rattle.iiop_broker.specs.inner.StreamPieces.{IsSent, IsStuck, IsGivenUp}
 use Rattle.iiop_broker.proofs.AnsweredStreams.{stream_on, given_up, is_kept}
 use Rattle.iiop_broker.proofs.Written.{written_nothing, written_then}
 

@@ -9,7 +9,7 @@ use Rattle.broker_answers.specs.Objects.{Served}
 use Rattle.broker_answers.specs.Serving.{Moves, Serves}
 use Rattle.iiop_broker.specs.declared.kept.Kept.{Kept}
 use Rattle.iiop_broker.specs.Kept.{stream_of}
-use Rattle.iiop_broker.specs.Progress.{IsHeard, Stopped}
+use Rattle.iiop_broker.specs.inner.Progress.{IsHeard, Stopped}
 
 pub heard_step : {S : Type 0} (acting : Acting S) (served : Served) (c : ℕ) (before after : List (ℕ × Stream))
     (run : Option (List ℕ)) (rest octets : List ℕ) (servant servant' : S) (answer : List ℕ) (kept : Kept)

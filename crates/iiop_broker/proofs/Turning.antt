@@ -11,8 +11,8 @@ use Rattle.broker_answers.specs.Answering.{MayMoveRaw}
 use Rattle.broker_answers.proofs.ServedLists.{serves_alone, moves_alone}
 use Rattle.iiop_broker.specs.declared.front.Turn.{Turn}
 use Rattle.iiop_broker.specs.declared.front.Turn.TheVariants as turns
-use Rattle.iiop_broker.specs.Progress.{Progress, Ended, Stopped, behind}
-use Rattle.iiop_broker.specs.Turns.{IsPart, IsServedTurn, IsTurned}
+use Rattle.iiop_broker.specs.inner.Progress.{Progress, Ended, Stopped, behind}
+use Rattle.iiop_broker.specs.inner.Turns.{IsPart, IsServedTurn, IsTurned}
 
 pub piece_turned : {S : Type 0} (acting : Acting S) (served : Served) (run : Option (List ℕ)) (octets begun rest : List ℕ)
     (before : S) (answer : List ℕ) → front run octets ≡ Piece begun rest → answer ≡ []

@@ -1,13 +1,9 @@
-pub mod Fitting
 pub mod Kept
-pub mod Progress
-pub mod Turns
 pub mod World
 pub mod Listed
 pub mod Rests
 pub mod Ends
 pub mod AnsweredStreams
 pub mod Outcomes
-pub mod StreamPieces
-pub mod Running
 pub mod Serving
+pub mod inner

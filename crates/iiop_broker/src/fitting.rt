@@ -3,7 +3,7 @@
 ghost use Rattle.std.specs.Prelude.{◌≡◌, ◌↔◌, IsTrue, nat_lt};
 ghost use Rattle.std.specs.List.{list_all};
 ghost use Rattle.broker_answers.specs.Objects.{AreServed, objects_of};
-ghost use Rattle.iiop_broker.specs.Fitting.{AreFit, are_distinct as are_all_distinct, has_key as some_has_key};
+ghost use Rattle.iiop_broker.specs.inner.Fitting.{AreFit, are_distinct as are_all_distinct, has_key as some_has_key};
 
 use position_checker::Accepted;
 

@@ -5,8 +5,8 @@ ghost use Rattle.giop_messages.specs.Runs.{IsMessage};
 ghost use Rattle.broker_answers.specs.Streams.{cut};
 ghost use Rattle.broker_answers.specs.Answering.{MayMoveRaw};
 ghost use Rattle.broker_answers.specs.Servants.{acts};
-ghost use Rattle.iiop_broker.specs.Progress.{Stopped};
-ghost use Rattle.iiop_broker.specs.Turns.{IsServedTurn, IsTurnOf, IsTurned};
+ghost use Rattle.iiop_broker.specs.inner.Progress.{Stopped};
+ghost use Rattle.iiop_broker.specs.inner.Turns.{IsServedTurn, IsTurnOf, IsTurned};
 
 use crate::taking::{Taken, take_front};
 use broker_answers::{Answer, Servant, Service};

@@ -3,8 +3,8 @@
 ghost use Rattle.std.specs.Prelude.{◌≡◌, ◌≤◌, length, drop, IfOk, OnErr};
 ghost use Rattle.broker_answers.specs.Streams.{cut};
 ghost use Rattle.broker_answers.specs.Servants.{acts};
-ghost use Rattle.iiop_broker.specs.Progress.{IsHeard, Stopped};
-ghost use Rattle.iiop_broker.specs.Turns.{IsFollowed};
+ghost use Rattle.iiop_broker.specs.inner.Progress.{IsHeard, Stopped};
+ghost use Rattle.iiop_broker.specs.inner.Turns.{IsFollowed};
 
 use crate::front::{Turn, serve_front};
 use crate::kept::Kept;

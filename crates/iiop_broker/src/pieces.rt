@@ -5,7 +5,7 @@ ghost use Rattle.broker_answers.specs.Streams.{Stream};
 ghost use Rattle.broker_answers.specs.Servants.{acts};
 ghost use Rattle.iiop_broker.specs.AnsweredStreams.{AnsweredStream};
 ghost use Rattle.iiop_broker.specs.Outcomes.{IsOutcome, ends};
-ghost use Rattle.iiop_broker.specs.Running.{IsFresh, running, running_in_part};
+ghost use Rattle.iiop_broker.specs.inner.Running.{IsFresh, running, running_in_part};
 
 use crate::broker::Broker;
 use crate::ends::{Input, Output};

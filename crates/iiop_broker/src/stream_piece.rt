@@ -3,7 +3,7 @@
 ghost use Rattle.std.specs.Prelude.{◌≡◌, IfOk, IfErr, OnOk};
 ghost use Rattle.broker_answers.specs.Servants.{acts};
 ghost use Rattle.iiop_broker.specs.Listed.{IsThere};
-ghost use Rattle.iiop_broker.specs.StreamPieces.{IsSent, IsTrouble};
+ghost use Rattle.iiop_broker.specs.inner.StreamPieces.{IsSent, IsTrouble};
 
 use crate::broker::Broker;
 use crate::ends::Output;

@@ -4,7 +4,7 @@ ghost use Rattle.std.specs.Prelude.{◌≡◌, ◌≤◌, length, drop, true, If
 ghost use Rattle.giop_messages.specs.Framing.{cancels as cancels_run, is_fragment, run_behind};
 ghost use Rattle.giop_messages.specs.Heads.{number_in};
 ghost use Rattle.giop_messages.specs.Runs.{IsFrame, IsMessage};
-ghost use Rattle.iiop_broker.specs.Turns.{IsTaken};
+ghost use Rattle.iiop_broker.specs.inner.Turns.{IsTaken};
 
 use byteorder::{BigEndian, ByteOrder, LittleEndian};
 use giop_messages::{Frame, FramingFault, HEAD_LEN, Head, MessageKind, Run, frame_in};

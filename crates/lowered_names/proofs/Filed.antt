@@ -42,8 +42,8 @@ use Rattle.lowered_operations.specs.declared.signature.Role.TheVariants as Roles
 use Rattle.lowered_operations.specs.declared.signature.Signature.{Signature}
 use Rattle.lowered_operations.specs.Operations.{attribute_identifiers, is_set}
 use Rattle.part_names.specs.Names.{AreApart}
-use Rattle.lowered_names.specs.Apart.{HavePlaces}
-use Rattle.lowered_names.specs.Signed.{AreSigned, DefinitionSigned, DefinitionsSigned, ExportSigned, HasCall, InterfaceSigned, IsAccessed, IsSigned}
+use Rattle.lowered_names.specs.inner.Apart.{HavePlaces}
+use Rattle.lowered_names.specs.inner.Signed.{AreSigned, DefinitionSigned, DefinitionsSigned, ExportSigned, HasCall, InterfaceSigned, IsAccessed, IsSigned}
 use Rattle.lowered_names.specs.Types.{Part, declaration_parts, except_parts, member_names, member_parts, raising, type_dcl_parts, with_id}
 use Rattle.lowered_names.specs.Definitions.{call, definition_parts, definitions_parts, export_parts, file_parts, getting, goes_in, goes_out, identifier_parts, interface_parts, operation_parts, param_name, reply_names, request_names, request_of, result_names, setting, setting_parts}
 use Rattle.lowered_names.proofs.EntryWords.{IsNameWord, IsNamedByWord, name_word}

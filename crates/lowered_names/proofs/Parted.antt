@@ -28,7 +28,7 @@ use Rattle.lowered_types.specs.Faults.{each, or_other}
 use Rattle.lowered_types.specs.SimpleTypes.{entry_of}
 use Rattle.lowered_types.specs.Lowered.{Lowered, place_of}
 use Rattle.part_names.specs.Names.{AreApart}
-use Rattle.lowered_names.specs.Apart.{HasItsPlace, HavePlaces, IsRaised, IsType}
+use Rattle.lowered_names.specs.inner.Apart.{HasItsPlace, HavePlaces, IsRaised, IsType}
 use Rattle.lowered_names.specs.Types.{Part, Parted, enum_parts, frame_in, members_parts, cases_parts, name_of, names_in, names_of_cases, names_of_members, part, raising, struct_parts, switch_parts, type_in, type_parts, typed, union_parts}
 use Rattle.lowered_names.proofs.Good.{Good, good_both, good_inside, good_tail, good_walk}
 use Rattle.lowered_names.proofs.Picked.{Picked, picked_apart, picked_behind, picked_both, stands_apart, stands_enumerator}

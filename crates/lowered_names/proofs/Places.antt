@@ -18,7 +18,7 @@ use Rattle.lowered_operations.specs.Operations.{Defined}
 use Rattle.lowered_operations.proofs.FileKeep.{of_names_fine}
 use Rattle.lowered_operations.proofs.FileLaws.{given_by}
 use Rattle.lowered_operations.proofs.OperationsKeep.{KeepsAll}
-use Rattle.lowered_names.specs.Apart.{HasItsPlace, HavePlaces}
+use Rattle.lowered_names.specs.inner.Apart.{HasItsPlace, HavePlaces}
 
 onto_both : (xs ys g : List Introduction) → onto (xs ++ ys) g ≡ onto ys (onto xs g)
 onto_both [] ys g = refl

@@ -16,7 +16,7 @@ use Rattle.scoped_names.proofs.Introducing.{all_map}
 use Rattle.lowered_types.specs.Lowered.{Lowered}
 use Rattle.lowered_types.proofs.Spots.{set_here, set_other, some_is, there_at}
 use Rattle.lowered_operations.specs.declared.signature.Signature.{Signature}
-use Rattle.lowered_names.specs.ByNode.{by_node, placed}
+use Rattle.lowered_names.specs.inner.ByNode.{by_node, placed}
 use Rattle.lowered_names.specs.Definitions.{file_parts}
 use Rattle.lowered_names.specs.Named.{AreNamed, Lowers}
 use Rattle.lowered_names.specs.OneForOne.{HaveNames, IsOfNode, is_one_node}

@@ -37,7 +37,7 @@ use Rattle.lowered_operations.specs.Definitions.{defined_by, definition, definit
 use Rattle.idl_tree.specs.declared.definitions.Direction.TheVariants.{In, Out}
 use Rattle.idl_tree.specs.Starts.{leaf_at}
 use Rattle.lowered_names.specs.Definitions.{is_role, request_of}
-use Rattle.lowered_names.specs.Signed.{AreSigned, DefinitionSigned, DefinitionsSigned, ExportSigned, HasCall, InterfaceSigned, IsAccessed, IsSigned}
+use Rattle.lowered_names.specs.inner.Signed.{AreSigned, DefinitionSigned, DefinitionsSigned, ExportSigned, HasCall, InterfaceSigned, IsAccessed, IsSigned}
 
 pub then_done : {A B : Type 0} (r : Result A BuildFault) (next : A → Result B BuildFault) (y : B) → (r >> next) ≡ Ok y → (x : A) × (r ≡ Ok x) × (next x ≡ Ok y)
 then_done (Ok x) next y h = (x, refl, h)

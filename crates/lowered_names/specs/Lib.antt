@@ -3,6 +3,4 @@ pub mod Types
 pub mod Definitions
 pub mod Named
 pub mod OneForOne
-pub mod ByNode
-pub mod Apart
-pub mod Signed
+pub mod inner

@@ -3,7 +3,7 @@
 ghost use Rattle.std.specs.Prelude.{◌≡◌, [], map, replicate, All, IfOk, OnOk};
 ghost use Rattle.part_names.specs.Names.{AreApart};
 ghost use Rattle.lowered_types.specs.declared.fault.BuildFault.TheVariants.{NoMemory};
-ghost use Rattle.lowered_names.specs.ByNode.{by_node, placed};
+ghost use Rattle.lowered_names.specs.inner.ByNode.{by_node, placed};
 ghost use Rattle.lowered_names.specs.Named.{AreNamed, Lowers};
 
 use crate::definitions::parts_of_file;

@@ -30,8 +30,8 @@ use Rattle.lowered_operations.proofs.FileKeep.{only_types}
 use Rattle.lowered_operations.proofs.FileLaws.{sound_lowered}
 use Rattle.model_builder.specs.Naming.{names_at, names_of, names_of_place}
 use Rattle.model_builder.specs.Signatures.{exception_of, interfaces_from, operation_of}
-use Rattle.model_builder.specs.Own.{IsOwn, IsLowered}
-use Rattle.model_builder.specs.Theirs.{AreTheirs, HasFrames, IsOffered, IsSignature}
+use Rattle.model_builder.specs.inner.Own.{IsOwn, IsLowered}
+use Rattle.model_builder.specs.inner.Theirs.{AreTheirs, HasFrames, IsOffered, IsSignature}
 use Rattle.lowered_names.proofs.EntryWords.{AreProper, entries_proper}
 use Rattle.model_builder.proofs.DistinctNames.{names_distinct}
 

@@ -3,7 +3,7 @@
 ghost use Rattle.std.specs.Prelude.{IfErr, IfOk};
 ghost use Rattle.scoped_names.specs.Whole.{AreNames};
 ghost use Rattle.model_builder.specs.Faults.{IsRefused};
-ghost use Rattle.model_builder.specs.Own.{IsLowered};
+ghost use Rattle.model_builder.specs.inner.Own.{IsLowered};
 ghost use Rattle.model_builder.specs.Shown.{AreParts, Shows};
 
 use crate::fault::ModelFault;

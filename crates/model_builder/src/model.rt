@@ -2,7 +2,7 @@
 
 ghost use Rattle.std.specs.Prelude.{◌≡◌, IfErr, IfOk};
 ghost use Rattle.model_builder.specs.Faults.{IsRefusedBehind};
-ghost use Rattle.model_builder.specs.Own.{IsOwn};
+ghost use Rattle.model_builder.specs.inner.Own.{IsOwn};
 ghost use Rattle.model_builder.specs.Shown.{IsModelOf, defined};
 
 use crate::fault::ModelFault;

@@ -4,7 +4,7 @@ ghost use Rattle.std.specs.Prelude.{◌≡◌, ◌<◌, ◌+◌, ◌^◌, ◌++�
 ghost use Rattle.std.specs.List.{flat_map};
 ghost use Rattle.std.specs.String.{string_bytes};
 ghost use Rattle.model_builder.specs.Naming.{called, frames_of, mark_of as its_mark, marked, name_of as its_name, names_at, names_of as its_names, names_of_place, scopes_of, with_colons};
-ghost use Rattle.model_builder.specs.Theirs.{HasFrames};
+ghost use Rattle.model_builder.specs.inner.Theirs.{HasFrames};
 
 use lowered_operations::Role;
 use lowered_types::{Place, TypeTable};

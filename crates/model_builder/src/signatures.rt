@@ -2,7 +2,7 @@
 
 ghost use Rattle.std.specs.Prelude.{◌≡◌, ◌<◌, ◌≤◌, ◌^◌, ◌++◌, ◌∷◌, [], length, map, All, IfOk, IfSome, OnOk};
 ghost use Rattle.model_builder.specs.Signatures.{exception_of as its_exception, id_of as its_id, interface_of as its_interface, interfaces_from, operation_of as its_operation};
-ghost use Rattle.model_builder.specs.Theirs.{ArePlaces, IsOffered, IsSignature};
+ghost use Rattle.model_builder.specs.inner.Theirs.{ArePlaces, IsOffered, IsSignature};
 
 use crate::naming::{marked_name, name_of};
 use lowered_operations::{Offered, Signature};

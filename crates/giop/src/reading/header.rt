@@ -5,8 +5,8 @@ ghost use Rattle.type_graph.specs.Value.{Tree};
 ghost use Rattle.giop_types.specs.TapeRefusal.{RefusesReading};
 ghost use Rattle.giop_messages.specs.declared.message.ReplyStatus.{ReplyStatus};
 ghost use Rattle.giop_messages.specs.Headers.{cancel_tree, number_of};
-ghost use Rattle.giop.specs.Tapes.{Begins};
-ghost use Rattle.giop.specs.Targets.{IsLocateHeader, IsReplyHeader, IsRequestHeader};
+ghost use Rattle.giop.specs.inner.Tapes.{Begins};
+ghost use Rattle.giop.specs.inner.Targets.{IsLocateHeader, IsReplyHeader, IsRequestHeader};
 
 use crate::reading::target::{Target, split_target};
 use giop_messages::ReplyStatus as Status;

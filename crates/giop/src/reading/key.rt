@@ -3,7 +3,7 @@
 ghost use Rattle.std.specs.Prelude.{◌≡◌, IfOk, option_map};
 ghost use Rattle.type_graph.specs.Value.{Tree};
 ghost use Rattle.giop_messages.specs.Headers.{IsKeyOf};
-ghost use Rattle.giop.specs.Targets.{TellsTarget};
+ghost use Rattle.giop.specs.inner.Targets.{TellsTarget};
 
 use crate::reading::profile::profile_key;
 use crate::reading::target::Target;

@@ -5,7 +5,7 @@ ghost use Rattle.giop_messages.specs.declared.head.MessageKind.TheVariants as ki
 ghost use Rattle.giop_messages.specs.Runs.{IsMessage};
 ghost use Rattle.type_graph.specs.Value.{Tree};
 ghost use Rattle.giop_messages.specs.Headers.{IsKeyOf};
-ghost use Rattle.giop.specs.Targets.{HasFields, TellsTarget};
+ghost use Rattle.giop.specs.inner.Targets.{HasFields, TellsTarget};
 ghost use Rattle.giop_messages.specs.Messages.{HasBody, Answered, Asked, Content, Sought, IsCancel, IsLocate, IsReply, IsRequest, IsWhole, Says, answered_of, asked_of, content_of, sought_of};
 
 use crate::giop_calls::Giop;

@@ -4,7 +4,7 @@ ghost use Rattle.std.specs.Prelude.{◌≡◌, ◌≤◌, ℕ, length, IfOk, IfS
 ghost use Rattle.type_graph.specs.Value.{Tree};
 ghost use Rattle.giop_types.specs.Named.{has_name};
 ghost use Rattle.giop_messages.specs.Messages.{HasBody, HasHeader};
-ghost use Rattle.giop.specs.Tapes.{IsTapeAt};
+ghost use Rattle.giop.specs.inner.Tapes.{IsTapeAt};
 
 use crate::gap::gap_at;
 use giop_messages::HEAD_LEN;

@@ -9,8 +9,8 @@ ghost use Rattle.type_graph.specs.Value.{Tree};
 ghost use Rattle.giop_types.specs.Fields.{Holds};
 ghost use Rattle.giop_types.specs.Named.{has_name};
 ghost use Rattle.object_references.specs.Profiles.{body_node};
-ghost use Rattle.giop.specs.Profiles.{IsAddress, IsBodyStart, IsTapeIn, TellsKeyIn, TellsSomeKey, is_later as is_later_than_0, minor_of};
-ghost use Rattle.giop.specs.Tapes.{Begins, IsIn};
+ghost use Rattle.giop.specs.inner.Profiles.{IsAddress, IsBodyStart, IsTapeIn, TellsKeyIn, TellsSomeKey, is_later as is_later_than_0, minor_of};
+ghost use Rattle.giop.specs.inner.Tapes.{Begins, IsIn};
 
 use crate::reading::key::copy;
 use giop_types::{

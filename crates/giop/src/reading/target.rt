@@ -3,8 +3,8 @@
 ghost use Rattle.std.specs.Prelude.{◌≡◌, ℕ, List, IfOk, IfErr};
 ghost use Rattle.type_graph.specs.Value.{Tree};
 ghost use Rattle.giop_types.specs.TapeRefusal.{RefusesReading};
-ghost use Rattle.giop.specs.Tapes.{Begins, BeginsBehind};
-ghost use Rattle.giop.specs.Targets.{TellsTarget};
+ghost use Rattle.giop.specs.inner.Tapes.{Begins, BeginsBehind};
+ghost use Rattle.giop.specs.inner.Targets.{TellsTarget};
 
 use giop_types::{
     Tagged, TapeFault, split_octets, split_tagged, split_tagged_list, split_u16, split_u32,

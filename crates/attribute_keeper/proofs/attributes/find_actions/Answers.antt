@@ -1,7 +1,7 @@
 use Rattle.std.proofs.Common.{◌∙◌, arith, get_or}
 use Rattle.std.proofs.lemmas.Grind.{common_steps}
 use Rattle.attribute_keeper.specs.Attributes.{attribute_named}
-use Rattle.attribute_keeper.specs.Places.{place_in}
+use Rattle.attribute_keeper.specs.inner.Places.{place_in}
 use Rattle.attribute_keeper.proofs.Looked.{same_deed}
 use Rattle.attribute_keeper.proofs.attributes.find_actions.Goals as goal
 

@@ -1,5 +1,5 @@
 use Rattle.std.proofs.Common.{◌-◌, sym, ap, ◌∙◌, arith, option_map}
-use Rattle.attribute_keeper.specs.Places.{place_in}
+use Rattle.attribute_keeper.specs.inner.Places.{place_in}
 use Rattle.attribute_keeper.proofs.Looked.{one_more}
 use Rattle.attribute_keeper.proofs.attributes.find_places.Goals as goal
 

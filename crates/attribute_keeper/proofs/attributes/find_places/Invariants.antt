@@ -1,6 +1,6 @@
 use Rattle.std.proofs.Common.{◌≡◌, ℕ, List, drop}
 use Rattle.attribute_keeper.specs.Attributes.{place_from}
-use Rattle.attribute_keeper.specs.Places.{place_in}
+use Rattle.attribute_keeper.specs.inner.Places.{place_in}
 use Rattle.attribute_keeper.proofs.attributes.find_places.Given as goal
 
 abbrev pub invariant-loop-place : goal.invariant-loop-place

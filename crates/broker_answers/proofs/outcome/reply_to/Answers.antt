@@ -1,7 +1,7 @@
 use Rattle.std.proofs.Common.{IfOk, ap, subst, sym, ◌∙◌}
 use Rattle.giop_messages.specs.Messages.{asked_of}
 use Rattle.broker_answers.specs.Replies.{Replies, success}
-use Rattle.broker_answers.specs.Sending.{IsRaising, IsTried}
+use Rattle.broker_answers.specs.inner.Sending.{IsRaising, IsTried}
 use Rattle.broker_answers.specs.Servants.{Said, Done, Raised, said_of}
 use Rattle.broker_answers.proofs.Cases.{if_ok}
 use Rattle.broker_answers.proofs.Outcomes.{done_replied, raising_replied}

@@ -2,7 +2,7 @@ use Rattle.std.proofs.Common.{ap, inr, option_map}
 use Rattle.giop_messages.specs.Messages.{asked_of}
 use Rattle.broker_answers.specs.declared.exception.SystemException.TheVariants.{Internal}
 use Rattle.broker_answers.specs.Replies.{IsSent, exception_reply, reply_of}
-use Rattle.broker_answers.specs.Sending.{IsTried}
+use Rattle.broker_answers.specs.inner.Sending.{IsTried}
 use Rattle.broker_answers.proofs.Cases.{if_ok}
 use Rattle.broker_answers.proofs.Readings.{none_is_unsendable}
 use Rattle.broker_answers.proofs.outcome.try_send.Goals as goal

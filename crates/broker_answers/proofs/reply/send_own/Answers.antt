@@ -3,7 +3,7 @@ use Rattle.table_file.specs.Table.{TableParts}
 use Rattle.giop_types.specs.GiopNodes.{giop_nodes}
 use Rattle.giop_messages.specs.Messages.{asked_of}
 use Rattle.broker_answers.specs.Replies.{reply_of}
-use Rattle.broker_answers.specs.Sending.{IsSending}
+use Rattle.broker_answers.specs.inner.Sending.{IsSending}
 use Rattle.broker_answers.proofs.Readings.{giop_named, none_is_unsendable}
 use Rattle.broker_answers.proofs.reply.send_own.Goals as goal
 

@@ -1,6 +1,6 @@
 use Rattle.std.proofs.Common.{◌≡◌, drop}
 use Rattle.broker_answers.specs.Objects.{objects_of}
-use Rattle.iiop_broker.specs.Fitting.{has_key}
+use Rattle.iiop_broker.specs.inner.Fitting.{has_key}
 use Rattle.iiop_broker.proofs.fitting.has_key.Given as goal
 
 abbrev pub invariant-loop-object : goal.invariant-loop-object

@@ -4,10 +4,10 @@ use Rattle.broker_answers.specs.Servants.{acts}
 use Rattle.broker_answers.specs.Answering.{MayMoveRaw}
 use Rattle.broker_answers.specs.Serving.{ServesRaw}
 use Rattle.broker_answers.specs.Streams.{cut}
-use Rattle.iiop_broker.specs.Progress.{Stopped}
+use Rattle.iiop_broker.specs.inner.Progress.{Stopped}
 use Rattle.broker_answers.proofs.Cases.{if_ok, on_err_map}
 use Rattle.broker_answers.proofs.ServedRaws.{broken}
-use Rattle.iiop_broker.specs.Turns.{IsServedTurn, IsTaken, IsTurned}
+use Rattle.iiop_broker.specs.inner.Turns.{IsServedTurn, IsTaken, IsTurned}
 use Rattle.iiop_broker.proofs.Turning.{broken_turned, message_stopped, message_turned, piece_turned}
 use Rattle.iiop_broker.proofs.front.serve_front.Goals as goal
 

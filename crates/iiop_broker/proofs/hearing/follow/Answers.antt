@@ -2,8 +2,8 @@ use Rattle.std.proofs.Common.{◌+◌, ◌∙◌, ◌++◌, List, ℕ, drop, sym
 use Rattle.std.proofs.lemmas.List.{length-drop}
 use Rattle.broker_answers.specs.Streams.{cut}
 use Rattle.broker_answers.specs.Servants.{acts}
-use Rattle.iiop_broker.specs.Progress.{Ended, Progress, Stopped}
-use Rattle.iiop_broker.specs.Turns.{IsTurned}
+use Rattle.iiop_broker.specs.inner.Progress.{Ended, Progress, Stopped}
+use Rattle.iiop_broker.specs.inner.Turns.{IsTurned}
 use Rattle.iiop_broker.proofs.Following.{dropped, ended_then, on_err, progress_then, stopped_ended, stopped_here, stopped_then}
 use Rattle.iiop_broker.proofs.hearing.follow.Goals as goal
 

@@ -1,7 +1,7 @@
 use Rattle.std.proofs.Common.{◌≤◌, ◌-◌, length, drop}
 use Rattle.broker_answers.specs.Streams.{cut}
 use Rattle.broker_answers.specs.Servants.{acts}
-use Rattle.iiop_broker.specs.Progress.{Progress}
+use Rattle.iiop_broker.specs.inner.Progress.{Progress}
 use Rattle.iiop_broker.proofs.hearing.follow.Given as goal
 
 abbrev pub invariant-loop-answer : goal.invariant-loop-answer

@@ -1,7 +1,7 @@
 use Rattle.std.proofs.Common.{List, ℕ, true, refl, subst}
 use Rattle.broker_answers.specs.Streams.{cut}
 use Rattle.broker_answers.specs.Servants.{acts}
-use Rattle.iiop_broker.specs.Turns.{IsFollowed}
+use Rattle.iiop_broker.specs.inner.Turns.{IsFollowed}
 use Rattle.iiop_broker.proofs.Following.{all_ended}
 use Rattle.iiop_broker.proofs.hearing.hear.Goals as goal
 

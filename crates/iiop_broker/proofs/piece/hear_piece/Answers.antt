@@ -4,7 +4,7 @@ use Rattle.broker_answers.specs.Connections.{at, put}
 use Rattle.broker_answers.specs.Servants.{acts}
 use Rattle.iiop_broker.specs.Kept.{stream_of, streams_of}
 use Rattle.iiop_broker.specs.Listed.{IsPlace}
-use Rattle.iiop_broker.specs.Progress.{IsHeard, Stopped}
+use Rattle.iiop_broker.specs.inner.Progress.{IsHeard, Stopped}
 use Rattle.iiop_broker.proofs.Places.{put_twice}
 use Rattle.iiop_broker.proofs.Steps.{heard_step, stopped_step}
 use Rattle.iiop_broker.proofs.Turning.{stopped_at_once}

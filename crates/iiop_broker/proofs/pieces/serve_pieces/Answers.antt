@@ -2,8 +2,8 @@ use Rattle.std.proofs.Common.{rules, ◌≡◌, ◌∙◌, ◌+◌, ℕ, false, 
 use Rattle.broker_answers.specs.Servants.{acts}
 use Rattle.iiop_broker.specs.Ends.{Gives}
 use Rattle.iiop_broker.specs.Outcomes.{Unwritten, ends}
-use Rattle.iiop_broker.specs.Running.{running}
-use Rattle.iiop_broker.specs.StreamPieces.{IsGivenUp, IsSent, IsStuck, IsTrouble}
+use Rattle.iiop_broker.specs.inner.Running.{running}
+use Rattle.iiop_broker.specs.inner.StreamPieces.{IsGivenUp, IsSent, IsStuck, IsTrouble}
 use Rattle.iiop_broker.specs.AnsweredStreams.{AnsweredStream}
 use Rattle.broker_answers.specs.Streams.{Stream}
 use Rattle.iiop_broker.proofs.Going.{Going, all_read, all_said, going_on, going_start, still_there, stuck, unended, unread, unserved}

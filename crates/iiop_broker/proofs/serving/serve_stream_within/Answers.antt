@@ -1,7 +1,7 @@
 use Rattle.std.proofs.Common.{subst}
 use Rattle.broker_answers.specs.Servants.{acts}
 use Rattle.iiop_broker.specs.Outcomes.{IsOutcome, ends}
-use Rattle.iiop_broker.specs.Running.{running, running_in_part}
+use Rattle.iiop_broker.specs.inner.Running.{running, running_in_part}
 use Rattle.iiop_broker.proofs.AnsweredStreams.{begun}
 use Rattle.iiop_broker.proofs.Ending.{end_is_taken, outcome_there, served_of}
 use Rattle.iiop_broker.proofs.serving.serve_stream_within.Goals as goal

@@ -2,7 +2,7 @@ use Rattle.std.proofs.Common.{◌≡◌, ◌∙◌, length, ap}
 use Rattle.std.proofs.lemmas.List.Elements.{All-from_recursion}
 use Rattle.std.proofs.lemmas.Result.{IfOk-weaker}
 use Rattle.part_names.specs.Names.{AreApart}
-use Rattle.lowered_names.specs.ByNode.{by_node}
+use Rattle.lowered_names.specs.inner.ByNode.{by_node}
 use Rattle.lowered_names.specs.Named.{AreNamed}
 use Rattle.lowered_names.proofs.FileNames.{only_memory, parts_apart}
 use Rattle.lowered_names.proofs.Placing.{named_by_node}

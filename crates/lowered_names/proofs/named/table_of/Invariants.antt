@@ -1,7 +1,7 @@
 use Rattle.std.proofs.Common.{◌≡◌, All, drop}
 use Rattle.std.specs.List.{fold}
 use Rattle.part_names.specs.Names.{AreApart}
-use Rattle.lowered_names.specs.ByNode.{by_node, placed}
+use Rattle.lowered_names.specs.inner.ByNode.{by_node, placed}
 use Rattle.lowered_names.proofs.named.table_of.Given as goal
 
 -- the parts so far, and those that are left

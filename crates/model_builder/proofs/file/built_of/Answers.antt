@@ -1,5 +1,5 @@
 use Rattle.std.proofs.Common.{◌≡◌, ◌∙◌, ap, sym, subst}
-use Rattle.model_builder.specs.Own.{IsOwn}
+use Rattle.model_builder.specs.inner.Own.{IsOwn}
 use Rattle.model_builder.specs.Shown.{defined}
 use Rattle.model_builder.proofs.RightModel.{own_of}
 use Rattle.model_builder.proofs.file.built_of.Goals as goal

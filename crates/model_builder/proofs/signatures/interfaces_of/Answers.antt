@@ -4,7 +4,7 @@ use Rattle.std.specs.Vec.Iter.{into_iter_items}
 use Rattle.scoped_names.specs.Whole.{Whole}
 use Rattle.lowered_operations.specs.declared.signature.Offered.{Offered}
 use Rattle.model_builder.specs.Signatures.{interface_of, interfaces_from}
-use Rattle.model_builder.specs.Theirs.{IsOffered}
+use Rattle.model_builder.specs.inner.Theirs.{IsOffered}
 use Rattle.model_builder.proofs.signatures.interfaces_of.Goals as goal
 
 pub overflow_add-entry : goal.overflow_add-entry

@@ -1,7 +1,7 @@
 use Rattle.std.proofs.Common.{◌≡◌, ◌+◌, ◌++◌, length, All, IfSome}
 use Rattle.std.specs.Vec.Iter.{into_iter_items}
 use Rattle.model_builder.specs.Signatures.{interfaces_from}
-use Rattle.model_builder.specs.Theirs.{IsOffered}
+use Rattle.model_builder.specs.inner.Theirs.{IsOffered}
 use Rattle.model_builder.proofs.signatures.interfaces_of.Given as goal
 
 -- the interfaces so far, and those of the entries that are left

@@ -3,7 +3,7 @@ use Rattle.std.proofs.Math.Seq.{append_snoc}
 use Rattle.std.proofs.lemmas.List.Elements.{All-tail}
 use Rattle.std.specs.Vec.Iter.{into_iter_items}
 use Rattle.model_builder.specs.Signatures.{operation_of}
-use Rattle.model_builder.specs.Theirs.{IsSignature}
+use Rattle.model_builder.specs.inner.Theirs.{IsSignature}
 use Rattle.model_builder.proofs.signatures.operations_of.Goals as goal
 
 pub loop-signature-preserved : goal.loop-signature-preserved

@@ -1,7 +1,7 @@
 use Rattle.std.proofs.Common.{◌≡◌, ◌++◌, map, length, All}
 use Rattle.std.specs.Vec.Iter.{into_iter_items}
 use Rattle.model_builder.specs.Signatures.{operation_of}
-use Rattle.model_builder.specs.Theirs.{IsSignature}
+use Rattle.model_builder.specs.inner.Theirs.{IsSignature}
 use Rattle.model_builder.proofs.signatures.operations_of.Given as goal
 
 -- the operations so far, and those that are left

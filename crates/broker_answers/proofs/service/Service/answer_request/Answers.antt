@@ -2,7 +2,7 @@ use Rattle.std.proofs.Common.{◌≡◌, ◌⊎◌, List, ℕ, refl, sym, subst}
 use Rattle.giop_messages.specs.Messages.{asked_of}
 use Rattle.broker_answers.specs.Servants.{Call, Said, acts, call_of}
 use Rattle.broker_answers.specs.Findings.{Calls, Refuses, Tells, Finds}
-use Rattle.broker_answers.specs.FindingSteps.{finding_of}
+use Rattle.broker_answers.specs.inner.FindingSteps.{finding_of}
 use Rattle.broker_answers.specs.Replies.{AnswersRequest}
 use Rattle.broker_answers.specs.Answering.{IsAnswered, MayMove}
 use Rattle.broker_answers.specs.Serving.{MovesRequest}

@@ -1,7 +1,7 @@
 use Rattle.std.proofs.Common.{refl}
 use Rattle.giop_messages.specs.Messages.{asked_of}
 use Rattle.broker_answers.specs.Findings.{AsksWhetherGone, Finds}
-use Rattle.broker_answers.specs.FindingSteps.{IsOwnAsked, IsTypeAsked, finding_of}
+use Rattle.broker_answers.specs.inner.FindingSteps.{IsOwnAsked, IsTypeAsked, finding_of}
 use Rattle.broker_answers.proofs.Cases.{both_ways, if_ok, own_found, type_found}
 use Rattle.broker_answers.proofs.service.Service.object_asked.Goals as goal
 

@@ -1,6 +1,6 @@
 use Rattle.std.proofs.Common.{List, ℕ}
 use Rattle.type_graph.specs.Value.{Tree}
-use Rattle.giop.specs.Tapes.{Begins}
+use Rattle.giop.specs.inner.Tapes.{Begins}
 use Rattle.giop.proofs.TargetSplits.{reads_or}
 use Rattle.giop.proofs.HeaderSplits.{request_found, no_flags, no_reserved, no_target, no_operation}
 use Rattle.giop.proofs.reading.header.request_header.Goals as goal

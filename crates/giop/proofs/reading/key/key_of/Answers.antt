@@ -1,7 +1,7 @@
 use Rattle.std.proofs.Common.{List, ℕ, Some, sym, subst}
 use Rattle.giop_messages.specs.Headers.{IsKeyOf}
 use Rattle.giop.specs.declared.reading.target.Target.{Target}
-use Rattle.giop.specs.Targets.{TellsTarget}
+use Rattle.giop.specs.inner.Targets.{TellsTarget}
 use Rattle.giop.proofs.reading.key.key_of.Goals as goal
 
 pub returns-in_ok-copy-in-Key : goal.returns-in_ok-copy-in-Key

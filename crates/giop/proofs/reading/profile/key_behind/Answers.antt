@@ -1,5 +1,5 @@
 use Rattle.std.proofs.Common.{ℕ, List, true}
-use Rattle.giop.specs.Profiles.{TellsKeyIn}
+use Rattle.giop.specs.inner.Profiles.{TellsKeyIn}
 use Rattle.giop.proofs.Contents.{none_then}
 use Rattle.giop.proofs.ProfileParts.{no_key_lately}
 use Rattle.giop.proofs.reading.profile.key_behind.Goals as goal

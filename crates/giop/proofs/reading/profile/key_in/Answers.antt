@@ -1,5 +1,5 @@
 use Rattle.std.proofs.Common.{List, ℕ, sym, ◌∙◌, subst}
-use Rattle.giop.specs.Profiles.{IsTapeIn}
+use Rattle.giop.specs.inner.Profiles.{IsTapeIn}
 use Rattle.giop.proofs.Contents.{some_then}
 use Rattle.giop.proofs.ProfileParts.{bools_differ, bools_same, key_told_in, other_version}
 use Rattle.giop.proofs.reading.profile.key_in.Goals.{then-start-ne1-via-then-start-ne1, then-start-ne1-via-else-start-ne1+then-is_later-later}

@@ -1,7 +1,7 @@
 use Rattle.std.proofs.Common.{ℕ, List, Some, None, refl}
 use Rattle.type_graph.specs.Value.{Tree}
 use Rattle.giop_types.specs.TapeParts.{pair_of, pairs_of}
-use Rattle.giop.specs.Tapes.{BeginsBehind}
+use Rattle.giop.specs.inner.Tapes.{BeginsBehind}
 use Rattle.giop.proofs.TargetSplits.{reads_or, no_list, selected_found, pair_there, pair_past}
 use Rattle.giop.proofs.reading.target.split_reference.Goals as goal
 

@@ -2,7 +2,7 @@ use Rattle.std.proofs.Common.{◌≡◌, ℕ, pos, List, ◌++◌, ap, ◌∙◌
 use Rattle.type_graph.specs.declared.width.Width.TheVariants.{Two}
 use Rattle.type_graph.specs.declared.width.Order.TheVariants.{Big}
 use Rattle.type_graph.specs.Words.{word}
-use Rattle.giop.specs.Targets.{TellsTarget}
+use Rattle.giop.specs.inner.Targets.{TellsTarget}
 use Rattle.giop.proofs.TargetSplits.{labelled_found, labelled_refused}
 use Rattle.giop.proofs.reading.target.split_target.Goals as goal
 

@@ -5,7 +5,7 @@ use Rattle.giop_types.specs.TapeParts.{pair_of}
 use Rattle.giop_messages.specs.Headers.{IsKeyOf, request_tree, reply_tree, locate_tree, number_of}
 use Rattle.giop_messages.specs.declared.head.Head.{Head}
 use Rattle.giop_messages.specs.declared.message.Request.{Request}
-use Rattle.giop.specs.Tapes.{IsIn}
+use Rattle.giop.specs.inner.Tapes.{IsIn}
 use Rattle.giop.specs.declared.reading.target.Target.{Target}
 use Rattle.giop.specs.declared.reading.target.Target.TheVariants.{Key, Profile, Nothing}
 use Rattle.giop.specs.declared.reading.header.RequestHeader.{RequestHeader}

@@ -8,7 +8,7 @@ use Rattle.type_graph.specs.Value.{Tree}
 use Rattle.giop_types.specs.Fields.{Holds}
 use Rattle.giop_types.specs.TapeParts.{counted, IsCounted}
 use Rattle.object_references.specs.Profiles.{Body, body_node, body_tree}
-use Rattle.giop.specs.Tapes.{Begins}
+use Rattle.giop.specs.inner.Tapes.{Begins}
 use Rattle.giop.specs.declared.reading.profile.BodyStart.{BodyStart}
 
 -- a body of minor version 0 has no components, a later one has

@@ -7,7 +7,7 @@ use Rattle.scoped_names.specs.Whole.{AreNames, Whole}
 use Rattle.lowered_operations.specs.Definitions.{defined_by}
 use Rattle.lowered_operations.specs.Operations.{Defined}
 use Rattle.model_builder.specs.Shown.{model_of}
-use Rattle.model_builder.specs.Theirs.{AreTheirs}
+use Rattle.model_builder.specs.inner.Theirs.{AreTheirs}
 
 pub record IsOwn (names : Whole) (d : Defined) : Type 0 where
   pub theirs : AreTheirs (length names.entries) d

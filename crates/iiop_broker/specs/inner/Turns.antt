@@ -13,7 +13,7 @@ use Rattle.iiop_broker.specs.declared.front.Turn.{Turn}
 use Rattle.iiop_broker.specs.declared.front.Turn.TheVariants as turns
 use Rattle.iiop_broker.specs.declared.hearing.Left.{Left}
 use Rattle.iiop_broker.specs.declared.hearing.Left.TheVariants as lefts
-use Rattle.iiop_broker.specs.Progress.{Progress, Ended}
+use Rattle.iiop_broker.specs.inner.Progress.{Progress, Ended}
 
 -- a part of the stream
 pub record IsPart (octets : List ℕ) (len : ℕ) : Type 0 where
