@@ -18,7 +18,7 @@ use Rattle.broker_answers.specs.declared.exception.SystemException.TheVariants a
 use Rattle.broker_answers.specs.Servants.{Acting, Call, Said, Done, Raised, NoImplement}
 use Rattle.broker_answers.specs.Objects.{Served, object_with}
 use Rattle.broker_answers.specs.Findings.{Finding, Refuses, Tells, Calls}
-use Rattle.broker_answers.specs.Replies.{Reply, acceptance, exception_reply, truth_reply, success, throw, IsSent, IsUnsendable, IsThrown, IsUnthrown, Replies, Succeeds, FailsToSucceed, Throws, FailsToThrow, ThrowsUnknown, IsntImplemented, SyncScope, WithTarget, WithServer, NoResponse, wanted, IsAnswer, IsWhole, AnswersRequest}
+use Rattle.broker_answers.specs.Replies.{Reply, acceptance, exception_reply, truth_reply, success, throw, IsSent, IsUnsendable, IsThrown, IsUnthrown, Replies, Succeeds, FailsToSucceed, Throws, FailsToThrow, ThrowsUnknown, IsntImplemented, SyncScope, WithTarget, WithServer, NoResponse, sync_scope, IsAnswer, IsWhole, AnswersRequest}
 use Rattle.broker_answers.specs.Serving.{Item, IsItem, AnswersItem, IsLocated, MovesItem, MovesRequest, ServesRaw, Serves, closes, state_after}
 use Rattle.broker_answers.specs.OneAnswer.{IsSame}
 use Rattle.broker_answers.proofs.Sent.{written_once}
