@@ -44,7 +44,7 @@ fn turned(answer: Answer, run: Option<Run>, len: usize) -> Turn
 }
 
 /// Serves a whole message, behind which a run may be open.
-fn serve_whole<S: Servant>(
+fn answer_whole<S: Servant>(
     service: &Service,
     alloc: Global,
     servant: &mut S,
@@ -65,7 +65,7 @@ fn serve_whole<S: Servant>(
 }
 
 /// Serves the request that a run is.
-fn serve_run<S: Servant>(
+fn answer_run<S: Servant>(
     service: &Service,
     alloc: Global,
     servant: &mut S,
@@ -76,14 +76,14 @@ fn serve_run<S: Servant>(
     ensures given_up { OnErr result (MayMoveRaw (acts S.says S.after) service.now (Some run.now) servant.old servant.new) }
 {
     let head = run.head();
-    serve_whole(service, alloc, servant, &head, run.octets(), None, len)
+    answer_whole(service, alloc, servant, &head, run.octets(), None, len)
 }
 
 /// Serves what stands at the front of a stream while a run may be open.
 ///
 /// # Errors
 /// Want of memory: the servant was given the message's call before, or it wasn't.
-pub(crate) fn serve_front<S: Servant>(
+pub(crate) fn take_turn<S: Servant>(
     service: &Service,
     alloc: Global,
     servant: &mut S,
@@ -110,7 +110,7 @@ pub(crate) fn serve_front<S: Servant>(
         }),
         Taken::Message { frame, run } => {
             let message = octets.split_at(frame.len).0;
-            serve_whole(
+            answer_whole(
                 service,
                 alloc,
                 servant,
@@ -120,6 +120,6 @@ pub(crate) fn serve_front<S: Servant>(
                 frame.len,
             )
         }
-        Taken::Joined { run, len } => serve_run(service, alloc, servant, &run, len),
+        Taken::Joined { run, len } => answer_run(service, alloc, servant, &run, len),
     }
 }

@@ -6,7 +6,7 @@ ghost use Rattle.broker_answers.specs.Servants.{acts};
 ghost use Rattle.iiop_broker.specs.inner.Progress.{IsHeard, Stopped};
 ghost use Rattle.iiop_broker.specs.inner.Turns.{IsFollowed};
 
-use crate::front::{Turn, serve_front};
+use crate::front::{Turn, take_turn};
 use crate::kept::Kept;
 use broker_answers::{Servant, Service};
 use giop_messages::Run;
@@ -49,7 +49,7 @@ fn follow<S: Servant>(
     let mut open = run;
     let mut at = 0;
     loop {
-        match serve_front(service, alloc, servant, open, octets.split_at(at).1)? {
+        match take_turn(service, alloc, servant, open, octets.split_at(at).1)? {
             Turn::Waits(run) => {
                 return Ok(Followed {
                     answer,

@@ -14,7 +14,7 @@ returns-in_err-run-clause-given_up g c =
     let all = cut c.args.run c.args.octets.now in
     let mid = cut c.loop-answer.open (drop c.loop-answer.at c.args.octets.now) in
     let before = c.args.servant.now in
-    let after = c.serve_front.new.servant in
+    let after = c.take_turn.new.servant in
     on_err c.from_residual.result (Stopped acting service all.raws before after)
     (stopped_then acting service all mid before c.loop-answer.servant after c.loop-answer.answer.items c.loop-answer.invariant.1
     (subst (λ (rest : List ℕ). Stopped acting service (cut c.loop-answer.open rest).raws c.loop-answer.servant after)
@@ -31,7 +31,7 @@ returns-in_err-extend_from_slice-in-Goes-clause-given_up g c =
     let mid = cut c.loop-answer.open rest in
     let before = c.args.servant.now in
     let between = c.loop-answer.servant in
-    let after = c.serve_front.new.servant in
+    let after = c.take_turn.new.servant in
     let more = c.in-Goes.more in
     let left = cut c.in-Goes.run' (drop c.in-Goes.len rest) in
     let turned = subst (λ turn. IsTurned acting service c.loop-answer.open rest between turn after) c.in-Goes.is
@@ -54,7 +54,7 @@ loop-answer-preserved g c =
     let mid = cut c.loop-answer.open rest in
     let before = c.args.servant.now in
     let between = c.loop-answer.servant in
-    let after = c.serve_front.new.servant in
+    let after = c.take_turn.new.servant in
     let more = c.in-Goes.more in
     let left = cut c.in-Goes.run' (drop len rest) in
     let turned = subst (λ turn. IsTurned acting service c.loop-answer.open rest between turn after) c.in-Goes.is
@@ -82,7 +82,7 @@ returns-in_err-extend_from_slice-in-Ends-clause-given_up g c =
     let mid = cut c.loop-answer.open rest in
     let before = c.args.servant.now in
     let between = c.loop-answer.servant in
-    let after = c.serve_front.new.servant in
+    let after = c.take_turn.new.servant in
     let more = c.in-Ends.more in
     let turned = subst (λ turn. IsTurned acting service c.loop-answer.open rest between turn after) c.in-Ends.is
     (subst (λ (r : List ℕ). IsTurned acting service c.loop-answer.open r between c.in_ok-run.field-0 after)
@@ -102,7 +102,7 @@ returns-in-Ends-clause-followed g c =
     let mid = cut c.loop-answer.open rest in
     let before = c.args.servant.now in
     let between = c.loop-answer.servant in
-    let after = c.serve_front.new.servant in
+    let after = c.take_turn.new.servant in
     let more = c.in-Ends.more in
     let turned = subst (λ turn. IsTurned acting service c.loop-answer.open rest between turn after) c.in-Ends.is
     (subst (λ (r : List ℕ). IsTurned acting service c.loop-answer.open r between c.in_ok-run.field-0 after)

@@ -9,7 +9,7 @@ use Rattle.broker_answers.proofs.Cases.{if_ok, on_err_map}
 use Rattle.broker_answers.proofs.ServedRaws.{broken}
 use Rattle.iiop_broker.specs.inner.Turns.{IsServedTurn, IsTaken, IsTurned}
 use Rattle.iiop_broker.proofs.Turning.{broken_turned, message_stopped, message_turned, piece_turned}
-use Rattle.iiop_broker.proofs.front.serve_front.Goals as goal
+use Rattle.iiop_broker.proofs.front.take_turn.Goals as goal
 
 pub returns-in-Ok-refuse-clause-turned : goal.returns-in-Ok-refuse-clause-turned
 returns-in-Ok-refuse-clause-turned g c =
@@ -39,21 +39,21 @@ returns-in-Message-clause-turned g c =
     let behind = drop c.in-Message.frame.len c.args.octets.now in
     let e : front c.args.run c.args.octets.now ≡ Whole message c.in-Message.run' behind =
     taken.3 ∙ ap (λ (m : List ℕ). Whole m c.in-Message.run' behind) (sym c.split_at.ensures.front) in
-    if_ok c.serve_whole.result
-    (λ turn. IsServedTurn acting c.args.service.now message c.in-Message.run' c.in-Message.frame.len c.args.servant.now turn c.serve_whole.new.servant)
-    (λ turn. IsTurned acting c.args.service.now c.args.run c.args.octets.now c.args.servant.now turn c.serve_whole.new.servant)
+    if_ok c.answer_whole.result
+    (λ turn. IsServedTurn acting c.args.service.now message c.in-Message.run' c.in-Message.frame.len c.args.servant.now turn c.answer_whole.new.servant)
+    (λ turn. IsTurned acting c.args.service.now c.args.run c.args.octets.now c.args.servant.now turn c.answer_whole.new.servant)
     (λ turn h. message_turned acting c.args.service.now c.args.run c.args.octets.now message c.in-Message.run'
-    c.in-Message.frame.len c.args.servant.now turn c.serve_whole.new.servant e taken.0 h) c.serve_whole.ensures.turned
+    c.in-Message.frame.len c.args.servant.now turn c.answer_whole.new.servant e taken.0 h) c.answer_whole.ensures.turned
 
 pub returns-in-Joined-clause-turned : goal.returns-in-Joined-clause-turned
 returns-in-Joined-clause-turned g c =
     let acting = acts g.S.Servant.says g.S.Servant.after in
     let taken = subst (IsTaken c.args.run c.args.octets.now) c.in-Joined.is c.in-Ok.ensures in
-    if_ok c.serve_run.result
-    (λ turn. IsServedTurn acting c.args.service.now c.in-Joined.run' None c.in-Joined.len c.args.servant.now turn c.serve_run.new.servant)
-    (λ turn. IsTurned acting c.args.service.now c.args.run c.args.octets.now c.args.servant.now turn c.serve_run.new.servant)
+    if_ok c.answer_run.result
+    (λ turn. IsServedTurn acting c.args.service.now c.in-Joined.run' None c.in-Joined.len c.args.servant.now turn c.answer_run.new.servant)
+    (λ turn. IsTurned acting c.args.service.now c.args.run c.args.octets.now c.args.servant.now turn c.answer_run.new.servant)
     (λ turn h. message_turned acting c.args.service.now c.args.run c.args.octets.now c.in-Joined.run' None
-    c.in-Joined.len c.args.servant.now turn c.serve_run.new.servant taken.1 taken.0 h) c.serve_run.ensures.turned
+    c.in-Joined.len c.args.servant.now turn c.answer_run.new.servant taken.1 taken.0 h) c.answer_run.ensures.turned
 
 pub returns-in-Message-clause-given_up : goal.returns-in-Message-clause-given_up
 returns-in-Message-clause-given_up g c =
@@ -63,18 +63,18 @@ returns-in-Message-clause-given_up g c =
     let behind = drop c.in-Message.frame.len c.args.octets.now in
     let e : front c.args.run c.args.octets.now ≡ Whole message c.in-Message.run' behind =
     taken.3 ∙ ap (λ (m : List ℕ). Whole m c.in-Message.run' behind) (sym c.split_at.ensures.front) in
-    on_err_map c.serve_whole.result
-    (MayMoveRaw acting c.args.service.now (Some message) c.args.servant.now c.serve_whole.new.servant)
-    (Stopped acting c.args.service.now (cut c.args.run c.args.octets.now).raws c.args.servant.now c.serve_whole.new.servant)
+    on_err_map c.answer_whole.result
+    (MayMoveRaw acting c.args.service.now (Some message) c.args.servant.now c.answer_whole.new.servant)
+    (Stopped acting c.args.service.now (cut c.args.run c.args.octets.now).raws c.args.servant.now c.answer_whole.new.servant)
     (λ h. message_stopped acting c.args.service.now c.args.run c.args.octets.now message c.in-Message.run' behind
-    c.args.servant.now c.serve_whole.new.servant e h) c.serve_whole.ensures.given_up
+    c.args.servant.now c.answer_whole.new.servant e h) c.answer_whole.ensures.given_up
 
 pub returns-in-Joined-clause-given_up : goal.returns-in-Joined-clause-given_up
 returns-in-Joined-clause-given_up g c =
     let acting = acts g.S.Servant.says g.S.Servant.after in
     let taken = subst (IsTaken c.args.run c.args.octets.now) c.in-Joined.is c.in-Ok.ensures in
-    on_err_map c.serve_run.result
-    (MayMoveRaw acting c.args.service.now (Some c.in-Joined.run') c.args.servant.now c.serve_run.new.servant)
-    (Stopped acting c.args.service.now (cut c.args.run c.args.octets.now).raws c.args.servant.now c.serve_run.new.servant)
+    on_err_map c.answer_run.result
+    (MayMoveRaw acting c.args.service.now (Some c.in-Joined.run') c.args.servant.now c.answer_run.new.servant)
+    (Stopped acting c.args.service.now (cut c.args.run c.args.octets.now).raws c.args.servant.now c.answer_run.new.servant)
     (λ h. message_stopped acting c.args.service.now c.args.run c.args.octets.now c.in-Joined.run' None
-    (drop c.in-Joined.len c.args.octets.now) c.args.servant.now c.serve_run.new.servant taken.1 h) c.serve_run.ensures.given_up
+    (drop c.in-Joined.len c.args.octets.now) c.args.servant.now c.answer_run.new.servant taken.1 h) c.answer_run.ensures.given_up
