@@ -10,7 +10,7 @@ use generator::plain;
 use marshal_program::Program;
 use position_checker::{Accepted, CheckFault, check};
 use std::alloc::{AllocError, Global};
-use table_file::{Table, Use};
+use table_file::{Table, Which};
 use type_graph::Items;
 use type_model::Model;
 
@@ -37,10 +37,10 @@ fn program(alloc: Global, model: &Model) -> Result<Program, AllocError>
     }
 }
 
-fn uses(alloc: Global) -> Result<Items<Use>, AllocError>
+fn uses(alloc: Global) -> Result<Items<Which>, AllocError>
     ensures { IfOk result (λ uses. uses ≡ giop_uses) }
 {
-    let uses = vec![in alloc; Use::First; NAMES]?;
+    let uses = vec![in alloc; Which::First; NAMES]?;
     Ok(Items::new(uses))
 }
 

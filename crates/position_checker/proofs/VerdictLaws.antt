@@ -8,8 +8,8 @@ use Rattle.routine_checker.specs.declared.fault.RoutineFault.{RoutineFault}
 use Rattle.routine_checker.specs.declared.fault.RoutineFault.TheVariants as routines
 use Rattle.routine_checker.specs.Refusal.{OnlyIf as OnlyIfRoutines}
 use Rattle.routine_checker.specs.Steps.{program_fault, name_fault}
-use Rattle.table_file.specs.declared.table.Use.{Use}
-use Rattle.table_file.specs.declared.table.Use.TheVariants.{First, Second}
+use Rattle.table_file.specs.declared.table.Which.{Which}
+use Rattle.table_file.specs.declared.table.Which.TheVariants.{First, Second}
 use Rattle.table_file.specs.Table.{TableParts, program_at}
 use Rattle.position_checker.specs.declared.fault.CheckFault.{CheckFault}
 use Rattle.position_checker.specs.declared.fault.CheckFault.TheVariants as faults
@@ -18,7 +18,7 @@ use Rattle.position_checker.proofs.Lone.{only_if_weaker}
 use Rattle.position_checker.specs.Verdict.{told_of, routines_fault, named_fault, names_fault, table_fault}
 
 -- what a fault of routines stands for, the table's fault stands for
-pub told_only_if : (program : Use) (fault : RoutineFault) (P Q : Type 0) → (P → Q) → OnlyIfRoutines fault P → OnlyIf (told_of program fault) Q
+pub told_only_if : (program : Which) (fault : RoutineFault) (P Q : Type 0) → (P → Q) → OnlyIfRoutines fault P → OnlyIf (told_of program fault) Q
 told_only_if program routines.NoMemory P Q f h = tt
 told_only_if program (routines.WrongWork routine instr) P Q f h = f h
 told_only_if program (routines.WrongPadding routine instr) P Q f h = f h
@@ -42,7 +42,7 @@ pub empty_has_none : (graph : List Node) (program : List Routine) → program �
 empty_has_none graph program empty = ap (program_fault graph) empty
 
 module _ (table : TableParts) where
-  module _ (program : Use) (graph : List Node) (routines : List Routine) (is_graph : graph ≡ table.model.graph) (are : routines ≡ program_at table program) where
+  module _ (program : Which) (graph : List Node) (routines : List Routine) (is_graph : graph ≡ table.model.graph) (are : routines ≡ program_at table program) where
     fault_same : program_fault table.model.graph (program_at table program) ≡ program_fault graph routines
     fault_same = sym (ap₂ (λ (g : List Node) (p : List Routine). program_fault g p) is_graph are)
 
@@ -59,7 +59,7 @@ module _ (table : TableParts) where
         (λ e. ap (option_map (told_of program)) (fault_same ∙ e)) refused)
 
   -- the fault of a name is told as the table's
-  pub name_told : (program : Use) (routines : List Routine) (node : ℕ) (fault : RoutineFault) (told : CheckFault) → routines ≡ program_at table program
+  pub name_told : (program : Which) (routines : List Routine) (node : ℕ) (fault : RoutineFault) (told : CheckFault) → routines ≡ program_at table program
       → name_fault routines node ≡ Some fault → told ≡ told_of program fault
       → option_map (told_of program) (name_fault (program_at table program) node) ≡ Some told
   name_told program routines node fault told are e is =
@@ -67,7 +67,7 @@ module _ (table : TableParts) where
       ∙ ap (λ (f : CheckFault). Some f) (sym is)
 
   -- one more name, where those before have no fault
-  pub names_next : (place : ℕ) (name : List ℕ) (node : ℕ) (program : Use) → slice_get table.model.names place ≡ Some (name, node)
+  pub names_next : (place : ℕ) (name : List ℕ) (node : ℕ) (program : Which) → slice_get table.model.names place ≡ Some (name, node)
       → slice_get table.uses place ≡ Some program → names_fault table place ≡ None
       → names_fault table (place + 1) ≡ option_map (told_of program) (name_fault (program_at table program) node)
   names_next place name node program named used before =
@@ -75,7 +75,7 @@ module _ (table : TableParts) where
       ap (names_fault table) next
       ∙ ap (λ (first : Option CheckFault). option_or first (named_fault table (slice_get table.model.names place) (slice_get table.uses place))) before
       ∙ ap (λ (n : Option (List ℕ × ℕ)). named_fault table n (slice_get table.uses place)) named
-      ∙ ap (λ (u : Option Use). named_fault table (Some (name, node)) u) used
+      ∙ ap (λ (u : Option Which). named_fault table (Some (name, node)) u) used
 
   -- the first fault of names stays the first
   names_kept : (k n : ℕ) (fault : CheckFault) → names_fault table n ≡ Some fault → names_fault table (n + k) ≡ Some fault
@@ -86,7 +86,7 @@ module _ (table : TableParts) where
       ∙ ap (λ (first : Option CheckFault). option_or first (named_fault table (slice_get table.model.names (n + k)) (slice_get table.uses (n + k)))) (names_kept k n fault e)
 
   -- so the fault of a name is that of all
-  pub names_first : (place : ℕ) (name : List ℕ) (node : ℕ) (program : Use) (fault : CheckFault) → place < length table.uses
+  pub names_first : (place : ℕ) (name : List ℕ) (node : ℕ) (program : Which) (fault : CheckFault) → place < length table.uses
       → slice_get table.model.names place ≡ Some (name, node) → slice_get table.uses place ≡ Some program → names_fault table place ≡ None
       → option_map (told_of program) (name_fault (program_at table program) node) ≡ Some fault
       → names_fault table (length table.uses) ≡ Some fault

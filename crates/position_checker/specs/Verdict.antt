@@ -4,19 +4,19 @@ use Rattle.std.specs.Option.{option_or}
 use Rattle.routine_checker.specs.declared.fault.RoutineFault.{RoutineFault}
 use Rattle.routine_checker.specs.declared.fault.RoutineFault.TheVariants as routines
 use Rattle.routine_checker.specs.Steps.{program_fault, name_fault}
-use Rattle.table_file.specs.declared.table.Use.{Use}
-use Rattle.table_file.specs.declared.table.Use.TheVariants.{First, Second}
+use Rattle.table_file.specs.declared.table.Which.{Which}
+use Rattle.table_file.specs.declared.table.Which.TheVariants.{First, Second}
 use Rattle.table_file.specs.Table.{TableParts, program_at}
 use Rattle.position_checker.specs.declared.fault.CheckFault.{CheckFault}
 use Rattle.position_checker.specs.declared.fault.CheckFault.TheVariants as faults
 
 -- the number of a program in what is told
-abbrev pub program_number : Use → ℕ
+abbrev pub program_number : Which → ℕ
 program_number First = 0
 program_number Second = 1
 
 -- the fault of a table one of whose programs has a fault
-abbrev pub told_of : Use → RoutineFault → CheckFault
+abbrev pub told_of : Which → RoutineFault → CheckFault
 told_of program (routines.WrongWork routine instr) = faults.WrongWork (program_number program) routine instr
 told_of program (routines.WrongPadding routine instr) = faults.WrongPadding (program_number program) routine instr
 told_of program (routines.EntryOutside routine instr) = faults.EntryOutside (program_number program) routine instr
@@ -26,11 +26,11 @@ told_of program (routines.NamedEntryNotFull node) = faults.NamedEntryNotFull nod
 told_of program routines.NoMemory = faults.NoMemory
 
 -- of the routines of a program
-abbrev pub routines_fault : TableParts → Use → Option CheckFault
+abbrev pub routines_fault : TableParts → Which → Option CheckFault
 routines_fault table program = option_map (told_of program) (program_fault table.model.graph (program_at table program))
 
 -- of a name's node in the program that the name uses
-abbrev pub named_fault : TableParts → Option (List ℕ × ℕ) → Option Use → Option CheckFault
+abbrev pub named_fault : TableParts → Option (List ℕ × ℕ) → Option Which → Option CheckFault
 named_fault table None program = None
 named_fault table (Some name) None = None
 named_fault table (Some name) (Some program) = option_map (told_of program) (name_fault (program_at table program) name.1)

@@ -5,7 +5,7 @@ ghost use Rattle.type_graph.specs.Words.{reading, writing};
 ghost use Rattle.type_graph.specs.Encoding.{Means};
 ghost use Rattle.type_model.specs.Names.{IsNamed};
 ghost use Rattle.program_runner.specs.Refusal.{OnlyIf as OnlyIfRun};
-ghost use Rattle.table_file.specs.declared.table.Use.{Use};
+ghost use Rattle.table_file.specs.declared.table.Which.{Which};
 ghost use Rattle.position_checker.specs.Acceptance.{IsRight, Serves, Uses};
 ghost use Rattle.position_checker.specs.Routes.{IsRoute};
 
@@ -13,7 +13,7 @@ use crate::routes::Route;
 use program_runner::RunFault;
 use std::alloc::Global;
 use std::marker::Model;
-use table_file::{Table, Use};
+use table_file::{Table, Which};
 use type_graph::Order;
 
 /// A table whose routines are right. A contract sees the table's parts.
@@ -73,7 +73,7 @@ impl Accepted {
     }
 
     /// Which of the two programs a name uses. Takes no memory.
-    pub fn program_of(&self, name: &str) -> Option<Use>
+    pub fn program_of(&self, name: &str) -> Option<Which>
         ensures found { IfSome result (λ program. (node : ℕ) → Contains self.now.model.names (name.now, node) → Uses self.now node program) }
         ensures missing { IfNone result (All (λ pair. pair.0 ≢ name.now) self.now.model.names) }
         ensures there { IfSome result (λ _. All (λ pair. pair.0 ≢ name.now) self.now.model.names → ⊥) }
@@ -85,7 +85,7 @@ impl Accepted {
     /// The number of the routine that serves a name, in the program that the name uses. Takes no
     /// memory.
     pub fn routine_of(&self, name: &str) -> Option<u32>
-        ensures found { IfSome result (λ routine. (node : ℕ) (program : Use) → Contains self.now.model.names (name.now, node) → Uses self.now node program → Serves self.now node program routine) }
+        ensures found { IfSome result (λ routine. (node : ℕ) (program : Which) → Contains self.now.model.names (name.now, node) → Uses self.now node program → Serves self.now node program routine) }
         ensures missing { IfNone result (All (λ pair. pair.0 ≢ name.now) self.now.model.names) }
         ensures there { IfSome result (λ _. All (λ pair. pair.0 ≢ name.now) self.now.model.names → ⊥) }
     {

@@ -6,7 +6,7 @@ ghost use Rattle.routine_checker.specs.declared.fault.RoutineFault.TheVariants.{
 
 use routine_checker::RoutineFault;
 use std::alloc::{AllocError, AllocFailed};
-use table_file::Use;
+use table_file::Which;
 use thiserror::Error;
 
 /// A fault has its number and name as its text, with the place.
@@ -70,13 +70,13 @@ impl CheckFault {
     ghost use Rattle.position_checker.specs.Verdict.{told_of};
 
     /// The fault of a table one of whose programs has a fault of its routines.
-    pub(crate) fn of(of: Use, fault: RoutineFault) -> CheckFault
+    pub(crate) fn of(of: Which, fault: RoutineFault) -> CheckFault
         ensures told { result ≡ told_of of fault }
         ensures memory { (result ≡ NoMemory) ↔ (fault ≡ NoMemoryOfRoutines) }
     {
         let program = match of {
-            Use::First => 0,
-            Use::Second => 1,
+            Which::First => 0,
+            Which::Second => 1,
         };
         match fault {
             RoutineFault::WrongWork { routine, instr } => CheckFault::WrongWork {

@@ -15,7 +15,7 @@ use crate::fault::CheckFault;
 use crate::routes::{Route, routes_of};
 use routine_checker::check_routines;
 use std::alloc::Global;
-use table_file::{Table, Use};
+use table_file::{Table, Which};
 
 /// A table that was refused, and why.
 #[derive(Drop)]
@@ -25,7 +25,7 @@ pub struct Refused {
 }
 
 /// The routines of one of the two programs. One without routines is right.
-fn check_program(alloc: Global, table: &Table, of: Use) -> Result<(), CheckFault>
+fn check_program(alloc: Global, table: &Table, of: Which) -> Result<(), CheckFault>
     ensures right { OnOk result (AreRight table.now.model.graph (program_at table.now of)) }
     ensures empty { IfErr result (λ fault. OnlyIf fault (program_at table.now of ≢ [])) }
     ensures plain { IfErr result (λ fault. OnlyIf fault (program_at table.now of ≢ plain_program table.now.model.graph)) }
@@ -50,11 +50,11 @@ fn judge(alloc: Global, table: &Table) -> Result<Vec<Option<Route>>, CheckFault>
     ensures accepted { OnOk result (table_fault table.now ≡ None) }
     ensures fault { IfErr result (λ fault. OnlyIf fault (table_fault table.now ≡ Some fault)) }
 {
-    match check_program(alloc, table, Use::First) {
+    match check_program(alloc, table, Which::First) {
         Ok(()) => (),
         Err(fault) => return Err(fault),
     }
-    match check_program(alloc, table, Use::Second) {
+    match check_program(alloc, table, Which::Second) {
         Ok(()) => (),
         Err(fault) => return Err(fault),
     }

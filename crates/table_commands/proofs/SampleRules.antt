@@ -10,7 +10,7 @@ use Rattle.marshal_program.specs.declared.instr.Routine.{Routine}
 use Rattle.marshal_program.specs.ProgramRules.{IsProgram, IsRoutine}
 use Rattle.marshal_program.proofs.PlainRules.{plain_is_program}
 use Rattle.type_model.specs.ModelRules.{IsModel, IsInterface, IsOperation, IsException}
-use Rattle.table_file.specs.declared.table.Use.TheVariants.{First}
+use Rattle.table_file.specs.declared.table.Which.TheVariants.{First}
 use Rattle.table_file.specs.Table.{AreUses}
 use Rattle.position_checker.specs.Acceptance.{IsLone}
 use Rattle.table_commands.specs.Sample.{sample_model, sample_nodes, sample_program, sample_table}

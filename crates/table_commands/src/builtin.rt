@@ -9,7 +9,7 @@ ghost use Rattle.table_commands.specs.Sample.{everywhere, sample_model, sample_n
 use marshal_program::{Code, Instr, Program, Routine};
 use position_checker::{Accepted, CheckFault, check};
 use std::alloc::{AllocError, Global};
-use table_file::{Table, Use};
+use table_file::{Table, Which};
 use type_graph::{Graph, GraphFault, Items, Members, Node, Width};
 use type_model::{Model, Name};
 
@@ -133,7 +133,7 @@ fn no_program(alloc: Global) -> Program
 fn table(alloc: Global) -> Result<Table, AllocError>
     ensures { IfOk result (λ table. table ≡ sample_table) }
 {
-    let uses = Items::new(vec![in alloc; Use::First]?);
+    let uses = Items::new(vec![in alloc; Which::First]?);
     match Table::new(model(alloc)?, program(alloc)?, no_program(alloc), uses) {
         Ok(table) => Ok(table),
         Err(_) => unreachable!(),

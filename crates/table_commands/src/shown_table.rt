@@ -4,7 +4,7 @@ use crate::shown_program::ShownProgram;
 use position_checker::Accepted;
 use std::alloc::{AllocError, Global};
 use std::fmt;
-use table_file::Use;
+use table_file::Which;
 
 /// An accepted table as the listing shows it: a line for each name, with its node and the routine
 /// that serves it; then the two programs, each with its routines.
@@ -20,10 +20,10 @@ struct ShownName<'t> {
 }
 
 /// 0 for the first program, 1 for the second.
-fn number_of(program: Use) -> u8 {
+fn number_of(program: Which) -> u8 {
     match program {
-        Use::First => 0,
-        Use::Second => 1,
+        Which::First => 0,
+        Which::Second => 1,
     }
 }
 
@@ -48,7 +48,7 @@ impl fmt::Display for ShownTable<'_> {
             let (name, node) = names.pair(place);
             write!(f, "{}", ShownName { table, name, node })?;
         }
-        for program in [Use::First, Use::Second] {
+        for program in [Which::First, Which::Second] {
             writeln!(f, "program {}", number_of(program))?;
             write!(f, "{}", ShownProgram(table.table().program(program)))?;
         }

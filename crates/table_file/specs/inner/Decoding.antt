@@ -5,9 +5,9 @@ use Rattle.type_graph.specs.declared.fault.GraphFault.{GraphFault}
 use Rattle.type_graph.specs.declared.fault.GraphFault.TheVariants as graph_faults
 use Rattle.marshal_program.specs.declared.fault.TableFault.{TableFault}
 use Rattle.marshal_program.specs.declared.fault.TableFault.TheVariants.{NoMemory, BadNumber}
-use Rattle.table_file.specs.declared.table.Use.TheVariants.{First}
+use Rattle.table_file.specs.declared.table.Which.TheVariants.{First}
 use Rattle.table_file.specs.Table.{TableParts}
-use Rattle.table_file.specs.TableCodes.{OldFields, TableFields, spelled_old_body}
+use Rattle.table_file.specs.inner.TableCodes.{OldFields, TableFields, spelled_old_body}
 
 -- a broken rule of a graph or a model, as that of a table
 abbrev pub table_fault : GraphFault → TableFault

@@ -4,8 +4,8 @@ use Rattle.std.proofs.lemmas.List.{append-nil}
 use Rattle.std.proofs.lemmas.Bool.{eqb-true, eq-eqb}
 use Rattle.std.specs.Fmt.{◌++?◌}
 use Rattle.table_file.specs.Octets.{spelled_ascii, spelled_word, spelled_each, spelled_run, spelled_list, spelled_text}
-use Rattle.table_file.specs.Joins.{split, parted}
-use Rattle.table_file.specs.Codes.{IsCode, word_code, ascii_code}
+use Rattle.table_file.specs.inner.Joins.{split, parted}
+use Rattle.table_file.specs.inner.Codes.{IsCode, word_code, ascii_code}
 
 -- two lists of one length
 pub one_each : {A : Type 0} (f : A → Option (List ℕ)) → IsCode f → (xs ys : List A) (x y octets : List ℕ)

@@ -2,12 +2,7 @@
 use Rattle.std.specs.Prelude.{◌≡◌, ℕ, List, ◌++◌, length, Option, Some, None, Result, Ok, Err}
 use Rattle.std.specs.Fmt.{◌++?◌}
 use Rattle.marshal_program.specs.declared.fault.TableFault.{TableFault}
-use Rattle.marshal_program.specs.declared.fault.TableFault.TheVariants.{NoMemory}
-
--- want of memory is the cause, or the fact holds
-abbrev pub OnlyIf : TableFault → Type 0 → Type 0
-OnlyIf NoMemory fact = Unit {0}
-OnlyIf fault fact = fact
+use Rattle.table_file.specs.Refusal.{OnlyIf}
 
 -- no spelling stands at the front of the octets
 abbrev pub BeginsWithNone : {A : Type 0} → (A → Option (List ℕ)) → List ℕ → Type 0

@@ -9,11 +9,10 @@ use Rattle.marshal_program.specs.declared.instr.Instr.{Instr}
 use Rattle.marshal_program.specs.declared.instr.Routine.{Routine}
 use Rattle.table_file.specs.Octets.{spelled_octet, spelled_word, spelled_flag, spelled_run, spelled_list, spelled_pair, spelled_text}
 use Rattle.table_file.specs.Spelling.{spelled_node, spelled_name, spelled_interface, spelled_operation, spelled_exception, spelled_model, spelled_instr, spelled_routine, spelled_program}
-use Rattle.table_file.specs.Codes.{IsCode, via_code, pair_code, octet_code, word_code}
-use Rattle.table_file.specs.FlagCode.{flag_code}
-use Rattle.table_file.specs.ListCodes.{list_code, run_code, text_code}
-use Rattle.table_file.specs.NodeCode.{node_code}
-use Rattle.table_file.specs.InstrCode.{instr_code}
+use Rattle.table_file.specs.inner.Codes.{IsCode, via_code, pair_code, octet_code, flag_code, word_code}
+use Rattle.table_file.specs.inner.ListCodes.{list_code, run_code, text_code}
+use Rattle.table_file.specs.inner.NodeCode.{node_code}
+use Rattle.table_file.specs.inner.InstrCode.{instr_code}
 
 pub name_code : IsCode spelled_name
 name_code = pair_code spelled_text spelled_word text_code word_code

@@ -7,8 +7,8 @@ use Rattle.type_graph.specs.declared.width.Order.TheVariants.{Big}
 use Rattle.type_graph.specs.Words.{octets_of, twos_complement}
 use Rattle.table_file.specs.Octets.{spelled_label, spelled_word}
 use Rattle.table_file.specs.Spelling.{spelled_arm}
-use Rattle.table_file.specs.Joins.{passed}
-use Rattle.table_file.specs.Codes.{IsCode, fixed_code, pair_code, word_code}
+use Rattle.table_file.specs.inner.Joins.{passed}
+use Rattle.table_file.specs.inner.Codes.{IsCode, fixed_code, pair_code, word_code}
 
 -- the patterns of so many octets
 pow_octets : (k : ℕ) → 256 ^ k ≡ 2 ^ (8 * k)

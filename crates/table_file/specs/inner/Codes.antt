@@ -1,5 +1,5 @@
 -- What is spelled at the front of octets is one thing alone: the laws of octets, words, lists and what is made of them.
-use Rattle.std.proofs.Common.{◌≡◌, ℕ, zero, suc, ◌<◌, ◌+◌, ◌^◌, Bool, List, [], ◌∷◌, ◌++◌, length, length-append, Option, Some, refl, sym, ap, ap₂, ◌∙◌, nat_lt, arith}
+use Rattle.std.proofs.Common.{◌≡◌, ℕ, zero, suc, ◌<◌, ◌+◌, ◌^◌, Bool, true, false, if◌then◌else◌, List, [], ◌∷◌, ◌++◌, length, length-append, Option, Some, refl, sym, ap, ap₂, ◌∙◌, nat_lt, arith}
 use Rattle.std.proofs.lemmas.Bool.{ltb-true}
 use Rattle.std.specs.Bool.{then_some}
 use Rattle.std.specs.Fmt.{◌++?◌}
@@ -8,13 +8,17 @@ use Rattle.type_graph.specs.declared.width.Width.TheVariants.{One, Two, Four, Ei
 use Rattle.type_graph.specs.declared.width.Order.TheVariants.{Big}
 use Rattle.type_graph.specs.Words.{octets_in, plain_octets}
 use Rattle.type_graph.proofs.WordLaws.{plain_word_same}
-use Rattle.table_file.specs.Octets.{spelled_octet, spelled_ascii, spelled_word, spelled_pair}
-use Rattle.table_file.specs.Joins.{split, parted, passed, same_fronts}
+use Rattle.table_file.specs.Octets.{spelled_octet, spelled_flag, spelled_ascii, spelled_word, spelled_pair}
+use Rattle.table_file.specs.inner.Joins.{split, parted, passed, same_fronts}
 
--- A code: what stands at the front of octets is the spelling of one thing at most, and none is empty.
+-- what stands at the front of octets is the spelling of one thing at most
+abbrev pub IsOne : {A : Type 0} → (A → Option (List ℕ)) → Type 0
+IsOne {A} spelled = (a b : A) (x y octets : List ℕ) → spelled a ++? Some x ≡ Some octets
+    → spelled b ++? Some y ≡ Some octets → (a ≡ b) × (x ≡ y)
+
+-- A code: so it is, and no spelling is empty.
 pub record IsCode {A : Type 0} (spelled : A → Option (List ℕ)) : Type 0 where
-  pub one : (a b : A) (x y octets : List ℕ) → spelled a ++? Some x ≡ Some octets
-      → spelled b ++? Some y ≡ Some octets → (a ≡ b) × (x ≡ y)
+  pub one : IsOne spelled
   pub some : (a : A) (octets : List ℕ) → spelled a ≡ Some octets → 0 < length octets
 
 -- what is spelled as something else, from which it is read off
@@ -83,6 +87,19 @@ word_code = fixed_code spelled_word 4 (omega arith)
     let p = passed (nat_lt a (2 ^ 32)) (plain_octets Big 4 a) s ea in
     let q = passed (nat_lt b (2 ^ 32)) (plain_octets Big 4 b) s eb in
     plain_word_same Big Four a b (ltb-true a (2 ^ 32) p.0) (ltb-true b (2 ^ 32) q.0) (p.1 ∙ sym q.1))
+
+-- the flag of a number
+flag_of : ℕ → Bool
+flag_of zero = false
+flag_of n = true
+
+flag_back : (b : Bool) → flag_of (if b then 1 else 0) ≡ b
+unfolding flag_of
+flag_back false = refl
+flag_back true = refl
+
+pub flag_code : IsCode spelled_flag
+flag_code = via_code spelled_octet (λ (b : Bool). if b then 1 else 0) flag_of flag_back octet_code
 
 -- the width of so many octets
 width_of : ℕ → Width

@@ -1,28 +1,40 @@
 -- What is spelled as a table file is one table alone.
-use Rattle.std.proofs.Common.{◌≡◌, ℕ, List, [], ◌∷◌, length, Option, Some, None, refl, sym, ap, ap₂, ◌∙◌, arith}
+use Rattle.std.proofs.Common.{◌≡◌, ℕ, zero, List, [], ◌∷◌, length, Option, Some, None, refl, sym, ap, ap₂, ◌∙◌, arith}
 use Rattle.std.proofs.lemmas.List.{append-nil}
 use Rattle.std.specs.Fmt.{◌++?◌}
 use Rattle.std.specs.List.{AllByRecursion}
 use Rattle.marshal_program.specs.declared.instr.Routine.{Routine}
 use Rattle.type_model.specs.ModelRules.{Parts}
-use Rattle.table_file.specs.declared.table.Use.{Use}
-use Rattle.table_file.specs.declared.table.Use.TheVariants.{First}
-use Rattle.table_file.specs.Octets.{spelled_each, spelled_run, spelled_pair}
+use Rattle.table_file.specs.declared.table.Which.{Which}
+use Rattle.table_file.specs.declared.table.Which.TheVariants.{First, Second}
+use Rattle.table_file.specs.Octets.{spelled_octet, spelled_each, spelled_run, spelled_pair}
 use Rattle.table_file.specs.Spelling.{spelled_model, spelled_program}
-use Rattle.table_file.specs.Table.{TableParts, table_of}
-use Rattle.table_file.specs.TableSpelling.{spelled_use, spelled_start, Spells, SpellsOld}
-use Rattle.table_file.specs.Joins.{joins_assoc, parted}
-use Rattle.table_file.specs.Codes.{IsCode, pair_code}
-use Rattle.table_file.specs.ListCodes.{one_each, run_at, run_of}
-use Rattle.table_file.specs.UseCode.{use_code}
-use Rattle.table_file.specs.PartCodes.{ModelFields, model_fields, spelled_model_fields, model_fields_code, program_code}
+use Rattle.table_file.specs.Table.{TableParts, program_number, table_of}
+use Rattle.table_file.specs.TableSpelling.{spelled_which, spelled_start, Spells, SpellsOld}
+use Rattle.table_file.specs.inner.Joins.{joins_assoc, parted}
+use Rattle.table_file.specs.inner.Codes.{IsCode, via_code, pair_code, octet_code}
+use Rattle.table_file.specs.inner.ListCodes.{one_each, run_at, run_of}
+use Rattle.table_file.specs.inner.PartCodes.{ModelFields, model_fields, spelled_model_fields, model_fields_code, program_code}
+
+-- the program of a number
+which_of : ℕ → Which
+which_of zero = First
+which_of n = Second
+
+which_back : (which : Which) → which_of (program_number which) ≡ which
+unfolding which_of
+which_back First = refl
+which_back Second = refl
+
+pub which_code : IsCode spelled_which
+which_code = via_code spelled_octet program_number which_of which_back octet_code
 
 -- a table as pairs: all but its uses, and those
 abbrev pub MostFields : Type 0
 MostFields = ModelFields × (List Routine × List Routine)
 
 abbrev pub TableFields : Type 0
-TableFields = MostFields × List Use
+TableFields = MostFields × List Which
 
 abbrev pub table_fields : TableParts → TableFields
 table_fields x = ((model_fields x.model, (x.first, x.second)), x.uses)
@@ -43,7 +55,7 @@ most_code = pair_code spelled_model_fields (spelled_pair spelled_program spelled
 
 -- as many uses as names
 abbrev pub spelled_fields : TableFields → Option (List ℕ)
-spelled_fields x = spelled_most x.0 ++? spelled_run (length x.0.0.1.0) spelled_use x.1
+spelled_fields x = spelled_most x.0 ++? spelled_run (length x.0.0.1.0) spelled_which x.1
 
 -- what is read of a file of version 1
 abbrev pub OldFields : Type 0
@@ -59,21 +71,21 @@ old_code = pair_code spelled_model_fields spelled_program model_fields_code prog
 pub one_fields : (a b : TableFields) (x y octets : List ℕ) → spelled_fields a ++? Some x ≡ Some octets
     → spelled_fields b ++? Some y ≡ Some octets → (a ≡ b) × (x ≡ y)
 one_fields a b x y octets ea eb =
-    let pa = parted (spelled_most a.0) (spelled_run (length a.0.0.1.0) spelled_use a.1) (Some x) octets ea in
-    let pb = parted (spelled_most b.0) (spelled_run (length b.0.0.1.0) spelled_use b.1) (Some y) octets eb in
+    let pa = parted (spelled_most a.0) (spelled_run (length a.0.0.1.0) spelled_which a.1) (Some x) octets ea in
+    let pb = parted (spelled_most b.0) (spelled_run (length b.0.0.1.0) spelled_which b.1) (Some y) octets eb in
     let most = most_code.one a.0 b.0 pa.0 pb.0 octets pa.2 pb.2 in
-    let ra = run_at (length a.0.0.1.0) spelled_use a.1 x pa.0 pa.1 in
-    let rb = run_at (length b.0.0.1.0) spelled_use b.1 y pb.0 pb.1 in
+    let ra = run_at (length a.0.0.1.0) spelled_which a.1 x pa.0 pa.1 in
+    let rb = run_at (length b.0.0.1.0) spelled_which b.1 y pb.0 pb.1 in
     let counts : length a.0.0.1.0 ≡ length b.0.0.1.0 = ap (λ (m : MostFields). length m.0.1.0) most.0 in
-    let uses = one_each spelled_use use_code a.1 b.1 x y pb.0 (ra.0 ∙ counts ∙ sym rb.0) (ra.1 ∙ ap Some most.1) rb.1 in
-    let same : a ≡ b = ap₂ (λ (i : MostFields) (j : List Use). (i, j)) most.0 uses.0 in
+    let uses = one_each spelled_which which_code a.1 b.1 x y pb.0 (ra.0 ∙ counts ∙ sym rb.0) (ra.1 ∙ ap Some most.1) rb.1 in
+    let same : a ≡ b = ap₂ (λ (i : MostFields) (j : List Which). (i, j)) most.0 uses.0 in
     (same, uses.1)
 
 -- what stands behind the start
 abbrev pub spelled_body : TableParts → Option (List ℕ)
 spelled_body table =
     spelled_model table.model ++? spelled_program table.first ++? spelled_program table.second
-    ++? spelled_each spelled_use table.uses
+    ++? spelled_each spelled_which table.uses
 
 abbrev pub spelled_old_body : TableParts → Option (List ℕ)
 spelled_old_body table = spelled_model table.model ++? spelled_program table.first
@@ -84,11 +96,11 @@ pub body_fields : (table : TableParts) → length table.uses ≡ length table.mo
 body_fields table each =
     let first = spelled_program table.first in
     let second = spelled_program table.second in
-    let uses = spelled_each spelled_use table.uses in
+    let uses = spelled_each spelled_which table.uses in
     ap (λ o. spelled_model table.model ++? o) (sym (joins_assoc first second uses))
     ∙ sym (joins_assoc (spelled_model table.model) (first ++? second) uses)
     ∙ ap (λ o. (spelled_model table.model ++? first ++? second) ++? o)
-    (sym (run_of (length table.model.names) spelled_use table.uses each))
+    (sym (run_of (length table.model.names) spelled_which table.uses each))
 
 -- behind the start
 pub behind_start : (version : ℕ) (body : Option (List ℕ)) (octets : List ℕ)
@@ -115,7 +127,7 @@ one_table t u octets lt lu st su =
     ap table_from same.0
 
 -- uses of the first program alone
-pub all_first : (xs ys : List Use) → AllByRecursion (λ use_. use_ ≡ First) xs
+pub all_first : (xs ys : List Which) → AllByRecursion (λ use_. use_ ≡ First) xs
     → AllByRecursion (λ use_. use_ ≡ First) ys → length xs ≡ length ys → xs ≡ ys
 all_first [] [] hx hy l = refl
 all_first [] (y ∷ ys) hx hy l = absurd (omega arith)
