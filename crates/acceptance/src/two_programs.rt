@@ -3,7 +3,7 @@
 use crate::table_files::{CODE, ROUTINE, SAMPLE, table_of, verdict};
 use marshal_program::{Disc, Instr};
 use position_checker::Accepted;
-use routine_checker::check_names;
+use routine_checker::check_name;
 use std::alloc::Global;
 use std::test::Fail;
 use table_commands::{Request, ShownInstr, Way, listing, marshal};
@@ -60,11 +60,9 @@ fn answered(alloc: Global, table: &Accepted, name: &str) -> Result<String, Fail>
     }
 }
 
-/// What is told of nodes of the first program, and then of one of the second.
+/// What is told of a node of the second program.
 fn served(alloc: Global, table: &Accepted, node: u32) -> Result<String, Fail> {
-    let first = table.table().program(Which::First);
-    let second = table.table().program(Which::Second);
-    match check_names(&[(first, 2), (first, 3), (second, node)]) {
+    match check_name(table.table().program(Which::Second), node) {
         Ok(()) => Ok(String::new(alloc)),
         Err(fault) => Ok(format!(in alloc; "{fault}\n")?),
     }

@@ -9,20 +9,7 @@ use Rattle.routine_checker.specs.Right.{AreRight}
 use Rattle.table_file.specs.declared.table.Which.{Which}
 use Rattle.table_file.specs.declared.table.Which.TheVariants.{First}
 use Rattle.table_file.specs.Table.{TableParts, program_at}
-use Rattle.position_checker.specs.declared.fault.CheckFault.{CheckFault}
-use Rattle.position_checker.specs.declared.fault.CheckFault.TheVariants as faults
 use Rattle.position_checker.specs.Acceptance.{IsLone}
-use Rattle.position_checker.specs.Refusal.{OnlyIf}
-
--- what a fault stands for may be put more weakly
-pub only_if_weaker : (fault : CheckFault) (P Q : Type 0) → (P → Q) → OnlyIf fault P → OnlyIf fault Q
-only_if_weaker faults.NoMemory P Q f h = tt
-only_if_weaker (faults.WrongWork program routine instr) P Q f h = f h
-only_if_weaker (faults.WrongPadding program routine instr) P Q f h = f h
-only_if_weaker (faults.EntryOutside program routine instr) P Q f h = f h
-only_if_weaker (faults.ExitsTooSmall program routine entry) P Q f h = f h
-only_if_weaker (faults.NoRoutine node) P Q f h = f h
-only_if_weaker (faults.NamedEntryNotFull node) P Q f h = f h
 
 -- a program without routines is right
 pub empty_is_right : (graph : List Node) (program : List Routine) → program ≡ [] → AreRight graph program

@@ -10,12 +10,13 @@ use Rattle.type_model.specs.Names.{IsNamed}
 use Rattle.table_file.specs.declared.table.Which.{Which}
 use Rattle.table_file.specs.declared.table.Which.TheVariants.{First}
 use Rattle.table_file.specs.Table.{TableParts, IsTable, program_at}
-use Rattle.position_checker.specs.declared.fault.CheckFault.{CheckFault}
+use Rattle.routine_checker.specs.declared.fault.CheckFault.{CheckFault}
 use Rattle.position_checker.specs.Acceptance.{IsLone, Uses}
-use Rattle.position_checker.specs.Refusal.{OnlyIf}
-use Rattle.position_checker.proofs.Lone.{lone_serves, only_if_weaker}
+use Rattle.routine_checker.specs.Refusal.{OnlyIf}
+use Rattle.routine_checker.proofs.CheckCode.{only_if}
+use Rattle.position_checker.proofs.Lone.{lone_serves}
 use Rattle.position_checker.specs.declared.routes.Route.{Route}
-use Rattle.position_checker.specs.Routes.{IsRoute, AreRoutes}
+use Rattle.position_checker.specs.inner.Routes.{IsRoute, AreRoutes}
 
 abbrev pub nodes_of : TableParts → List ℕ
 nodes_of table = map (λ name. name.1) table.model.names
@@ -144,7 +145,7 @@ module _ (table : TableParts) (rules : IsTable table) where
       let within : place < length table.uses = omega (arith, slice_get_within table.model.names place (name, node) named, rules.uses.each) in
       let is : (lone : IsLone table) → slice_get table.uses place ≡ Some First = λ lone.
       slice_get-get_or table.uses place First within ∙ ap (λ (u : Which). Some u) (lone.uses place First within) in
-      only_if_weaker fault _ _ (λ unserved lone. unserved First (is lone) (lone_serves table lone First node refl (node_within place name node named))) refused
+      only_if fault _ _ (λ unserved lone. unserved First (is lone) (lone_serves table lone First node refl (node_within place name node named))) refused
 
   -- each node of a name is served
   pub all_served : (routes : List (Option Route)) → AreRoutes table routes → (node : ℕ) (program : Which) → Uses table node program → IsSome (served_by (program_at table program) node)

@@ -20,7 +20,8 @@ pub record Uses (table : TableParts) (node : ℕ) (program : Which) : Type 0 whe
 pub record IsRight (table : TableParts) : Type 0 where
   pub first : AreRight table.model.graph table.first
   pub second : AreRight table.model.graph table.second
-  pub served : (node : ℕ) (program : Which) → Uses table node program → IsSome (served_by (program_at table program) node)
+  pub served : (node : ℕ) (program : Which) → Uses table node program
+      → IsSome (served_by (program_at table program) node)
 
 -- this routine of this program serves the node: the first with the node that may start everywhere, in the program that
 -- the node's names use

@@ -1,10 +1,10 @@
-use Rattle.std.proofs.Common.{arith, ◌≡◌, ◌<◌, ◌∙◌, ℕ, List, Some, slice_get, ap, sym, subst, length, option_map, get_or}
+use Rattle.std.proofs.Common.{arith, ◌≡◌, ◌<◌, ◌∙◌, ℕ, List, Some, slice_get, ap, sym, subst, length, get_or}
 use Rattle.std.proofs.lemmas.List.{length-map}
 use Rattle.std.proofs.lemmas.Option.{slice_get-get_or}
 use Rattle.type_model.specs.ModelRules.{Parts as Model}
 use Rattle.table_file.specs.declared.table.Which.{Which}
 use Rattle.table_file.specs.declared.table.Which.TheVariants.{First}
-use Rattle.position_checker.specs.Verdict.{told_of, names_fault}
+use Rattle.position_checker.specs.Verdict.{names_fault}
 use Rattle.position_checker.proofs.RouteLaws.{routes_next, routes_done, lone_refused, all_served}
 use Rattle.position_checker.proofs.VerdictLaws.{names_next, names_first, only_if_holds}
 use Rattle.position_checker.proofs.routes.routes_of.Goals as goal
@@ -40,7 +40,7 @@ loop-place-preserved c =
     let program = c.in-Ok.route.program in (
       routes_next table c.uses-place-end.ensures.rules c.loop-place.place c.pair-node.result.0.now node c.loop-place.routes.items c.in-Ok.route named c.in-Ok.ensures.used c.in-Ok.ensures.served c.loop-place.invariant.0,
       names_next table c.loop-place.place c.pair-node.result.0.now node program named c.in-Ok.ensures.used c.loop-place.invariant.1
-          ∙ ap (option_map (told_of program)) (c.in-Ok.ensures.accepted program c.in-Ok.ensures.used),
+          ∙ c.in-Ok.ensures.accepted program c.in-Ok.ensures.used,
     )
 
 pub returns-clause-routes : goal.returns-clause-routes

@@ -1,7 +1,7 @@
 use Rattle.std.proofs.Common.{◌<◌, sym, ◌∙◌, arith}
-use Rattle.routine_checker.specs.Work.{wants}
+use Rattle.routine_checker.specs.inner.Work.{wants}
 use Rattle.routine_checker.proofs.CountLaws.{more_opened}
-use Rattle.routine_checker.proofs.work.Wanted.parts_of_more.Goals as goal
+use Rattle.routine_checker.proofs.work.NodesTaken.parts_of_more.Goals as goal
 
 pub returns : goal.returns
 returns c =

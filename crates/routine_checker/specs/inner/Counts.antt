@@ -3,13 +3,13 @@ use Rattle.std.specs.Prelude.{ℕ, zero, suc, Bool, eqb, ◌<◌, ◌≤◌, ◌
 use Rattle.std.specs.List.{list_any}
 use Rattle.type_graph.specs.declared.node.Node.{Node}
 use Rattle.type_graph.specs.Value.{node_at}
-use Rattle.routine_checker.specs.declared.pieces.Kind.{Kind}
-use Rattle.routine_checker.specs.declared.pieces.Kind.TheVariants as kinds
+use Rattle.routine_checker.specs.declared.pieces.RunKind.{RunKind}
+use Rattle.routine_checker.specs.declared.pieces.RunKind.TheVariants as kinds
 use Rattle.type_graph.specs.declared.width.Width.TheVariants.{Two, Four, Eight}
 use Rattle.routine_checker.specs.declared.counts.Counts.{Counts}
 use Rattle.routine_checker.specs.declared.counts.RunCounts.{RunCounts}
 use Rattle.routine_checker.specs.Taking.{parts_of, taken}
-use Rattle.routine_checker.specs.Kinds.{is_of}
+use Rattle.routine_checker.specs.inner.Kinds.{is_of}
 
 -- the sum for the parts, 0 where one of them has none
 abbrev pub parts_in : (ℕ → ℕ) → Option (List ℕ) → ℕ
@@ -40,7 +40,7 @@ abbrev pub AreCounts : ℕ → (Node → Bool) → List Node → List ℕ → Ty
 AreCounts levels wanted graph numbers =
     (number : ℕ) → 0 < count_in numbers number → pieces_in levels wanted graph number ≡ count_in numbers number
 
-abbrev pub IsCounted : Kind → List Node → Counts → Type 0
+abbrev pub IsCounted : RunKind → List Node → Counts → Type 0
 IsCounted kind graph counts = (counts.levels ≤ 64) × AreCounts counts.levels (is_of kind) graph counts.numbers.items
 
 -- of each kind
