@@ -41,12 +41,9 @@ fn uses_of(alloc: Global, count: usize) -> Result<Items<Which>, AllocError> {
 
 /// The table of a model and one program, which all of its names use.
 fn table_of(alloc: Global, model: Model, program: Program) -> Option<Table> {
-    match (
-        uses_of(alloc, model.names().len()),
-        Program::new(Vec::new(alloc)),
-    ) {
-        (Ok(uses), Ok(nothing)) => Table::new(model, program, nothing, uses).ok(),
-        _ => None,
+    match uses_of(alloc, model.names().len()) {
+        Ok(uses) => Table::new(model, program, Program::empty(alloc), uses).ok(),
+        Err(_) => None,
     }
 }
 

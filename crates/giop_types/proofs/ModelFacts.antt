@@ -5,7 +5,6 @@ use Rattle.std.specs.Str.{bytes_eq}
 use Rattle.std.proofs.lemmas.Bool.{and_parts}
 use Rattle.std.proofs.lemmas.Slice.Eq.{bytes_eq-Decides}
 use Rattle.std.proofs.lemmas.Option.{slice_get_within}
-use Rattle.marshal_program.specs.ProgramRules.{IsProgram, IsRoutine}
 use Rattle.std.proofs.lemmas.List.Elements.{All-from_recursion}
 use Rattle.type_model.specs.Names.{AreDistinct}
 use Rattle.type_model.specs.ModelRules.{IsModel, IsInterface, IsOperation, IsException}
@@ -19,9 +18,6 @@ use Rattle.giop_types.proofs.GraphFacts.{giop_is_graph}
 
 unlike : false ≡ true → ⊥
 unlike e = absurd (cc)
-
-pub no_routine : IsProgram []
-no_routine = record { limited = omega arith; instrs = omega arith; routines = All-from_recursion (IsRoutine []) [] tt }
 
 -- the name is none of these
 abbrev is_new : List ℕ → List (List ℕ × ℕ) → Bool

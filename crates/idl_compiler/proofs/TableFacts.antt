@@ -4,16 +4,12 @@ use Rattle.std.proofs.lemmas.List.{length-replicate}
 use Rattle.std.proofs.lemmas.List.Elements.{All-from_recursion}
 use Rattle.std.proofs.lemmas.Option.{slice_get_within}
 use Rattle.std.specs.List.{AllByRecursion}
-use Rattle.marshal_program.specs.ProgramRules.{IsProgram, IsRoutine}
 use Rattle.type_model.specs.ModelRules.{Parts}
 use Rattle.table_file.specs.declared.table.Which.{Which}
 use Rattle.table_file.specs.declared.table.Which.TheVariants.{First}
 use Rattle.table_file.specs.Table.{AreUses}
 use Rattle.position_checker.specs.Acceptance.{IsLone}
 use Rattle.idl_compiler.specs.Settlement.{plain_table}
-
-pub no_routine : IsProgram []
-no_routine = record { limited = omega arith; instrs = omega arith; routines = All-from_recursion (IsRoutine []) [] tt }
 
 get_replicate : {X : Type 0} (n i : ℕ) (x : X) → i < n → slice_get (replicate n x) i ≡ Some x
 get_replicate zero i x within = absurd (omega (arith, within))

@@ -19,17 +19,6 @@ pub struct Settled {
     pub is_planned: bool,
 }
 
-/// A program without routines.
-#[tactic(auto, using(crate::proofs::TableFacts::no_routine))]
-fn no_program(alloc: Global) -> Program
-    ensures { result ≡ [] }
-{
-    match Program::new(Vec::new(alloc)) {
-        Ok(program) => program,
-        Err(_) => unreachable!(),
-    }
-}
-
 /// One use for all names.
 fn uses(alloc: Global, model: &Model, program: Which) -> Result<Items<Which>, AllocError>
     ensures { IfOk result (λ uses. uses ≡ replicate (length model.now.names) program) }
@@ -65,7 +54,7 @@ fn with_plain(alloc: Global, model: Model, plain: Program) -> Result<Settled, Al
 {
     match check(
         alloc,
-        table(alloc, model, plain, no_program(alloc), Which::First)?,
+        table(alloc, model, plain, Program::empty(alloc), Which::First)?,
     ) {
         Ok(table) => Ok(Settled {
             table,

@@ -19,19 +19,11 @@ struct ShownName<'t> {
     node: u32,
 }
 
-/// 0 for the first program, 1 for the second.
-fn number_of(program: Which) -> u8 {
-    match program {
-        Which::First => 0,
-        Which::Second => 1,
-    }
-}
-
 impl fmt::Display for ShownName<'_> {
     fn fmt<W: fmt::Write>(&self, f: &mut fmt::Formatter<W>) -> fmt::Result {
         write!(f, "name {} node {}", self.name, self.node)?;
         if let Some(program) = self.table.program_of(self.name) {
-            write!(f, " program {}", number_of(program))?;
+            write!(f, " program {}", program.number())?;
         }
         if let Some(routine) = self.table.routine_of(self.name) {
             write!(f, " routine {routine}")?;
@@ -49,7 +41,7 @@ impl fmt::Display for ShownTable<'_> {
             write!(f, "{}", ShownName { table, name, node })?;
         }
         for program in [Which::First, Which::Second] {
-            writeln!(f, "program {}", number_of(program))?;
+            writeln!(f, "program {}", program.number())?;
             write!(f, "{}", ShownProgram(table.table().program(program)))?;
         }
         Ok(())
