@@ -5,7 +5,7 @@ use marshal_program::Program;
 use position_checker::{Accepted, CheckFault, Refused, check};
 use std::alloc::{AllocError, Global};
 use std::test::Fail;
-use table_file::{Table, Use};
+use table_file::{Table, Which};
 use type_graph::{GraphFault, Items};
 use type_model::{Model, Name};
 
@@ -35,18 +35,15 @@ pub fn model_of(alloc: Global, nodes: &[Sketch<'_>], named: &[u32]) -> Result<Mo
     }
 }
 
-fn uses_of(alloc: Global, count: usize) -> Result<Items<Use>, AllocError> {
-    Ok(Items::new(vec![in alloc; Use::First; count]?))
+fn uses_of(alloc: Global, count: usize) -> Result<Items<Which>, AllocError> {
+    Ok(Items::new(vec![in alloc; Which::First; count]?))
 }
 
 /// The table of a model and one program, which all of its names use.
 fn table_of(alloc: Global, model: Model, program: Program) -> Option<Table> {
-    match (
-        uses_of(alloc, model.names().len()),
-        Program::new(Vec::new(alloc)),
-    ) {
-        (Ok(uses), Ok(nothing)) => Table::new(model, program, nothing, uses).ok(),
-        _ => None,
+    match uses_of(alloc, model.names().len()) {
+        Ok(uses) => Table::new(model, program, Program::empty(alloc), uses).ok(),
+        Err(_) => None,
     }
 }
 

@@ -2,7 +2,7 @@
 
 use idl_value::ValueFault;
 use marshal_program::{GenFault, TableFault};
-use position_checker::CheckFault;
+use position_checker::{CheckFault, RoutinePlace};
 use program_runner::RunFault;
 use std::alloc::{AllocError, Global};
 use std::fmt::Display;
@@ -98,28 +98,26 @@ fn faults_of_runs(rt: HostRuntime) {
 
 #[test]
 fn faults_of_tables(rt: HostRuntime) {
-    let program = 1;
-    let routine = 4;
+    let at = RoutinePlace {
+        program: 1,
+        routine: 4,
+    };
     let instr = 2;
     let faults = [
         CheckFault::WrongWork {
-            program,
-            routine,
+            at,
             instr,
         },
         CheckFault::WrongPadding {
-            program,
-            routine,
+            at,
             instr,
         },
         CheckFault::EntryOutside {
-            program,
-            routine,
+            at,
             instr,
         },
         CheckFault::ExitsTooSmall {
-            program,
-            routine,
+            at,
             entry: 7,
         },
         CheckFault::NoRoutine { node: 3 },

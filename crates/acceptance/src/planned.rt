@@ -11,7 +11,7 @@ use position_checker::{Accepted, CheckFault};
 use program_runner::write;
 use std::alloc::{AllocError, Global};
 use std::test::Fail;
-use table_file::Use;
+use table_file::Which;
 
 /// The basic nodes, and behind them these.
 fn behind_basic<'a>(alloc: Global, more: &[Sketch<'a>]) -> Result<Vec<Sketch<'a>>, AllocError> {
@@ -51,7 +51,7 @@ fn accepted_types(alloc: Global, types: Types<'_>) -> Result<Accepted, CheckFaul
 }
 
 fn program_of_table(accepted: &Accepted) -> &Program {
-    accepted.table().program(Use::First)
+    accepted.table().program(Which::First)
 }
 
 /// The listing of that program; where it isn't accepted, a text that says so.

@@ -12,10 +12,10 @@ use type_graph::Width;
 /// The number and the two places of the fault.
 fn told(fault: CheckFault) -> [u32; 3] {
     match fault {
-        CheckFault::WrongWork { routine, instr, .. } => [80, routine, instr],
-        CheckFault::WrongPadding { routine, instr, .. } => [81, routine, instr],
-        CheckFault::EntryOutside { routine, instr, .. } => [82, routine, instr],
-        CheckFault::ExitsTooSmall { routine, entry, .. } => [83, routine, entry],
+        CheckFault::WrongWork { at, instr } => [80, at.routine, instr],
+        CheckFault::WrongPadding { at, instr } => [81, at.routine, instr],
+        CheckFault::EntryOutside { at, instr } => [82, at.routine, instr],
+        CheckFault::ExitsTooSmall { at, entry } => [83, at.routine, entry],
         CheckFault::NoRoutine { node } => [84, node, 0],
         CheckFault::NamedEntryNotFull { node } => [85, node, 0],
         CheckFault::NoMemory => [99; 3],

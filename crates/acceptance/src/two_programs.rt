@@ -3,11 +3,11 @@
 use crate::table_files::{CODE, ROUTINE, SAMPLE, table_of, verdict};
 use marshal_program::{Disc, Instr};
 use position_checker::Accepted;
-use routine_checker::check_names;
+use routine_checker::check_name;
 use std::alloc::Global;
 use std::test::Fail;
 use table_commands::{ShownInstr, ValueRequest, Way, listing, marshal};
-use table_file::Use;
+use table_file::Which;
 use type_graph::{Arms, Order, Width};
 
 /// The plain program of the sample.
@@ -48,7 +48,7 @@ fn answers(table: &Accepted, name: &str) -> Option<(u32, bool, u32)> {
     let node = table.node_of(name)?;
     let used = table.program_of(name)?;
     let routine = table.routine_of(name)?;
-    Some((node, used == Use::Second, routine))
+    Some((node, used == Which::Second, routine))
 }
 
 fn answered(alloc: Global, table: &Accepted, name: &str) -> Result<String, Fail> {
@@ -60,11 +60,9 @@ fn answered(alloc: Global, table: &Accepted, name: &str) -> Result<String, Fail>
     }
 }
 
-/// What is told of nodes of the first program, and then of one of the second.
+/// What is told of a node of the second program.
 fn served(alloc: Global, table: &Accepted, node: u32) -> Result<String, Fail> {
-    let first = table.table().program(Use::First);
-    let second = table.table().program(Use::Second);
-    match check_names(&[(first, 2), (first, 3), (second, node)]) {
+    match check_name(table.table().program(Which::Second), node) {
         Ok(()) => Ok(String::new(alloc)),
         Err(fault) => Ok(format!(in alloc; "{fault}\n")?),
     }

@@ -5,12 +5,11 @@ use Rattle.std.specs.Str.{bytes_eq}
 use Rattle.std.proofs.lemmas.Bool.{and_parts}
 use Rattle.std.proofs.lemmas.Slice.Eq.{bytes_eq-Decides}
 use Rattle.std.proofs.lemmas.Option.{slice_get_within}
-use Rattle.marshal_program.specs.ProgramRules.{IsProgram, IsRoutine}
 use Rattle.std.proofs.lemmas.List.Elements.{All-from_recursion}
 use Rattle.type_model.specs.Names.{AreDistinct}
 use Rattle.type_model.specs.ModelRules.{IsModel, IsInterface, IsOperation, IsException}
-use Rattle.table_file.specs.declared.table.Use.{Use}
-use Rattle.table_file.specs.declared.table.Use.TheVariants.{First}
+use Rattle.table_file.specs.declared.table.Which.{Which}
+use Rattle.table_file.specs.declared.table.Which.TheVariants.{First}
 use Rattle.table_file.specs.Table.{AreUses}
 use Rattle.position_checker.specs.Acceptance.{IsLone}
 use Rattle.giop_types.specs.GiopNodes.{giop_nodes}
@@ -19,9 +18,6 @@ use Rattle.giop_types.proofs.GraphFacts.{giop_is_graph}
 
 unlike : false ≡ true → ⊥
 unlike e = absurd (cc)
-
-pub no_routine : IsProgram []
-no_routine = record { limited = omega arith; instrs = omega arith; routines = All-from_recursion (IsRoutine []) [] tt }
 
 -- the name is none of these
 abbrev is_new : List ℕ → List (List ℕ × ℕ) → Bool
@@ -52,7 +48,7 @@ distinct (name ∷ more) e (suc i) (suc j) d before within same =
     (omega (arith, within)) same
 
 -- a use is the first program's
-firsts : (uses : List Use) → AllByRecursion (λ program. program ≡ First) uses → (i : ℕ) → i < length uses
+firsts : (uses : List Which) → AllByRecursion (λ program. program ≡ First) uses → (i : ℕ) → i < length uses
     → slice_get uses i ≡ Some First
 firsts [] all i within = absurd (omega (arith, within))
 firsts (program ∷ more) all zero within = ap Some all.0

@@ -2,8 +2,8 @@
 use Rattle.std.specs.Prelude.{ℕ, List, [], ◌∷◌, ◌++◌, codes}
 use Rattle.marshal_program.specs.Plain.{plain_program}
 use Rattle.type_model.specs.ModelRules.{Parts, parts_of}
-use Rattle.table_file.specs.declared.table.Use.{Use}
-use Rattle.table_file.specs.declared.table.Use.TheVariants.{First}
+use Rattle.table_file.specs.declared.table.Which.{Which}
+use Rattle.table_file.specs.declared.table.Which.TheVariants.{First}
 use Rattle.table_file.specs.Table.{TableParts, table_of}
 use Rattle.giop_types.specs.GiopNodes.{giop_nodes}
 
@@ -41,7 +41,7 @@ abbrev pub giop_model : Parts
 giop_model = parts_of giop_nodes giop_names [] [] []
 
 -- each name is served by the first program
-abbrev pub giop_uses : List Use
+abbrev pub giop_uses : List Which
 giop_uses =
     First ∷ First ∷ First ∷ First ∷ First ∷ First ∷ First ∷ First ∷ First ∷ First ∷ First ∷ First ∷ First ∷ []
 

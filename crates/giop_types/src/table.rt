@@ -10,23 +10,12 @@ use generator::plain;
 use marshal_program::Program;
 use position_checker::{Accepted, CheckFault, check};
 use std::alloc::{AllocError, Global};
-use table_file::{Table, Use};
+use table_file::{Table, Which};
 use type_graph::Items;
 use type_model::Model;
 
 /// So many names have the types.
 const NAMES: usize = 13;
-
-/// A program without routines.
-#[tactic(auto, using(crate::proofs::ModelFacts::no_routine))]
-fn no_program(alloc: Global) -> Program
-    ensures { result ≡ [] }
-{
-    match Program::new(Vec::new(alloc)) {
-        Ok(program) => program,
-        Err(_) => unreachable!(),
-    }
-}
 
 fn program(alloc: Global, model: &Model) -> Result<Program, AllocError>
     ensures { IfOk result (λ program. program ≡ plain_program model.now.graph) }
@@ -37,10 +26,10 @@ fn program(alloc: Global, model: &Model) -> Result<Program, AllocError>
     }
 }
 
-fn uses(alloc: Global) -> Result<Items<Use>, AllocError>
+fn uses(alloc: Global) -> Result<Items<Which>, AllocError>
     ensures { IfOk result (λ uses. uses ≡ giop_uses) }
 {
-    let uses = vec![in alloc; Use::First; NAMES]?;
+    let uses = vec![in alloc; Which::First; NAMES]?;
     Ok(Items::new(uses))
 }
 
@@ -51,7 +40,7 @@ fn table(alloc: Global) -> Result<Table, AllocError>
     let model = model(alloc)?;
     let first = program(alloc, &model)?;
     let uses = uses(alloc)?;
-    match Table::new(model, first, no_program(alloc), uses) {
+    match Table::new(model, first, Program::empty(alloc), uses) {
         Ok(table) => Ok(table),
         Err(_) => unreachable!(),
     }

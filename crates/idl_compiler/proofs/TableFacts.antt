@@ -4,23 +4,19 @@ use Rattle.std.proofs.lemmas.List.{length-replicate}
 use Rattle.std.proofs.lemmas.List.Elements.{All-from_recursion}
 use Rattle.std.proofs.lemmas.Option.{slice_get_within}
 use Rattle.std.specs.List.{AllByRecursion}
-use Rattle.marshal_program.specs.ProgramRules.{IsProgram, IsRoutine}
 use Rattle.type_model.specs.ModelRules.{Parts}
-use Rattle.table_file.specs.declared.table.Use.{Use}
-use Rattle.table_file.specs.declared.table.Use.TheVariants.{First}
+use Rattle.table_file.specs.declared.table.Which.{Which}
+use Rattle.table_file.specs.declared.table.Which.TheVariants.{First}
 use Rattle.table_file.specs.Table.{AreUses}
 use Rattle.position_checker.specs.Acceptance.{IsLone}
 use Rattle.idl_compiler.specs.Settlement.{plain_table}
-
-pub no_routine : IsProgram []
-no_routine = record { limited = omega arith; instrs = omega arith; routines = All-from_recursion (IsRoutine []) [] tt }
 
 get_replicate : {X : Type 0} (n i : ℕ) (x : X) → i < n → slice_get (replicate n x) i ≡ Some x
 get_replicate zero i x within = absurd (omega (arith, within))
 get_replicate (suc n) zero x within = refl
 get_replicate (suc n) (suc i) x within = get_replicate n i x (omega (arith, within))
 
-pub one_use : (names : List (List ℕ × ℕ)) (program : Use) → AreUses names (replicate (length names) program)
+pub one_use : (names : List (List ℕ × ℕ)) (program : Which) → AreUses names (replicate (length names) program)
 one_use names program = record {
   each = length-replicate (length names) program;
   alike = λ i j one other here there same.
@@ -28,7 +24,7 @@ one_use names program = record {
       ∙ sym (get_replicate (length names) j program (slice_get_within names j other there));
 }
 
-all_same : (n : ℕ) (program : Use) → AllByRecursion (λ used. used ≡ program) (replicate n program)
+all_same : (n : ℕ) (program : Which) → AllByRecursion (λ used. used ≡ program) (replicate n program)
 all_same zero program = tt
 all_same (suc n) program = (refl, all_same n program)
 

@@ -5,7 +5,7 @@ use Rattle.marshal_program.specs.declared.fault.GenFault.TheVariants.{NoMemory, 
 use Rattle.marshal_program.specs.declared.instr.Routine.{Routine}
 use Rattle.marshal_program.specs.Plain.{plain_program}
 use Rattle.type_model.specs.ModelRules.{Parts}
-use Rattle.table_file.specs.declared.table.Use.TheVariants.{First, Second}
+use Rattle.table_file.specs.declared.table.Which.TheVariants.{First, Second}
 use Rattle.table_file.specs.Table.{TableParts, table_of}
 use Rattle.position_checker.specs.Verdict.{table_fault}
 use Rattle.idl_compiler.specs.declared.choice.Settled.{Settled}

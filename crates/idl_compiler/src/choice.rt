@@ -8,7 +8,7 @@ ghost use Rattle.idl_compiler.specs.Settlement.{IsSettled, plain_table};
 use marshal_program::{GenFault, Program};
 use position_checker::{Accepted, CheckFault, check};
 use std::alloc::{AllocError, Global};
-use table_file::{Table, Use};
+use table_file::{Table, Which};
 use type_graph::Items;
 use type_model::Model;
 
@@ -19,19 +19,8 @@ pub struct Settled {
     pub is_planned: bool,
 }
 
-/// A program without routines.
-#[tactic(auto, using(crate::proofs::TableFacts::no_routine))]
-fn no_program(alloc: Global) -> Program
-    ensures { result ≡ [] }
-{
-    match Program::new(Vec::new(alloc)) {
-        Ok(program) => program,
-        Err(_) => unreachable!(),
-    }
-}
-
 /// One use for all names.
-fn uses(alloc: Global, model: &Model, program: Use) -> Result<Items<Use>, AllocError>
+fn uses(alloc: Global, model: &Model, program: Which) -> Result<Items<Which>, AllocError>
     ensures { IfOk result (λ uses. uses ≡ replicate (length model.now.names) program) }
 {
     let uses = vec![in alloc; program; model.names().len()]?;
@@ -45,7 +34,7 @@ fn table(
     model: Model,
     first: Program,
     second: Program,
-    program: Use,
+    program: Which,
 ) -> Result<Table, AllocError>
     ensures { IfOk result (λ table. table ≡ table_of model first second (replicate (length model.names) program)) }
 {
@@ -65,7 +54,7 @@ fn with_plain(alloc: Global, model: Model, plain: Program) -> Result<Settled, Al
 {
     match check(
         alloc,
-        table(alloc, model, plain, no_program(alloc), Use::First)?,
+        table(alloc, model, plain, Program::empty(alloc), Which::First)?,
     ) {
         Ok(table) => Ok(Settled {
             table,
@@ -97,7 +86,7 @@ fn with_planned(
     requires { plain ≡ plain_program model.graph }
     ensures { IfOk result (λ settled. IsSettled model (Ok planned) settled) }
 {
-    match check(alloc, table(alloc, model, plain, planned, Use::Second)?) {
+    match check(alloc, table(alloc, model, plain, planned, Which::Second)?) {
         Ok(table) => Ok(Settled {
             table,
             is_planned: true,

@@ -7,3 +7,4 @@ pub mod PlainPlaces
 pub mod PlainRules
 pub mod JoinedPlaces
 pub mod JoinedRules
+pub mod NoRoutine

@@ -1,12 +1,13 @@
 //! A marshalling program: a list of routines that keeps the rules of a program.
 
-ghost use Rattle.std.specs.Prelude.{◌≡◌, ◌<◌, length, slice_get, IfOk, IfSome, OnErr, Some};
+ghost use Rattle.std.specs.Prelude.{◌≡◌, ◌<◌, [], length, slice_get, IfOk, IfSome, OnErr, Some};
 ghost use Rattle.marshal_program.specs.ProgramRules.{IsRoutine, IsProgram};
 ghost use Rattle.marshal_program.specs.Served.{served_by};
 
 use crate::fault::TableFault;
 use crate::instr::Routine;
 use crate::rules::{MAX_ROUTINES, calls_lower, has_all_numbers, has_few_instrs, names_work};
+use std::alloc::Global;
 use std::marker::Model;
 
 /// The routines, each named by its place in the list. A contract sees a program as that list.
@@ -71,6 +72,17 @@ impl Program {
             return Err(TableFault::RankRises);
         }
         Ok(Program { routines })
+    }
+
+    /// The program without routines. Takes no memory.
+    #[tactic(auto, using(crate::proofs::NoRoutine::no_routine))]
+    pub fn empty(alloc: Global) -> Program
+        ensures value { result ≡ [] }
+        ensures rules { IsProgram result }
+    {
+        Program {
+            routines: Vec::new(alloc),
+        }
     }
 
     /// All routines, in order.

@@ -17,8 +17,8 @@ use Rattle.routine_checker.proofs.SetLaws.{among_all}
 use Rattle.program_runner.specs.declared.fault.RunFault.{RunFault}
 use Rattle.program_runner.specs.declared.fault.RunFault.TheVariants.{Short, BadBool, BadEnum, BadLength, NoTerminator, ZeroInside, OverBound, TooDeep, TapeLeft, NoMemory}
 use Rattle.program_runner.specs.Refusal.{OnlyIf}
-use Rattle.table_file.specs.declared.table.Use.{Use}
-use Rattle.table_file.specs.declared.table.Use.TheVariants.{First, Second}
+use Rattle.table_file.specs.declared.table.Which.{Which}
+use Rattle.table_file.specs.declared.table.Which.TheVariants.{First, Second}
 use Rattle.table_file.specs.Table.{TableParts, program_at}
 use Rattle.position_checker.specs.Acceptance.{IsRight, Serves}
 
@@ -59,11 +59,11 @@ relates graph program node number right e format p tape octets =
     (good.to p tape octets among, good.from p tape octets among)
 
 -- both programs of a table that is right are
-right_at : (table : TableParts) (number : Use) → IsRight table → AreRight table.model.graph (program_at table number)
+right_at : (table : TableParts) (number : Which) → IsRight table → AreRight table.model.graph (program_at table number)
 right_at table First right = right.first
 right_at table Second right = right.second
 
-pub served_relates : (table : TableParts) (node : ℕ) (program : Use) (number : ℕ) → IsRight table → Serves table node program number → Relates table.model.graph (program_at table program) node number
+pub served_relates : (table : TableParts) (node : ℕ) (program : Which) (number : ℕ) → IsRight table → Serves table node program number → Relates table.model.graph (program_at table program) node number
 served_relates table node program number right serves =
     relates table.model.graph (program_at table program) node number (right_at table program right) serves.first_is
 
@@ -88,7 +88,7 @@ if_ok_weaker : {A : Type 0} {E : Type 0} (P Q : A → Type 0) → ((x : A) → P
 if_ok_weaker P Q f (Ok x) h = f x h
 if_ok_weaker P Q f (Err e) h = tt
 
-module _ (table : TableParts) (right : IsRight table) (order : Order) (node : ℕ) (program : Use) (routine p : ℕ) (serves : Serves table node program routine) (routines : List Routine) (are : routines ≡ program_at table program) where
+module _ (table : TableParts) (right : IsRight table) (order : Order) (node : ℕ) (program : Which) (routine p : ℕ) (serves : Serves table node program routine) (routines : List Routine) (are : routines ≡ program_at table program) where
   related : (format : Format) (tape octets : List ℕ) → Runs routines format 64 routine p tape octets ↔ Means table.model.graph format 64 node p tape octets
   related format tape octets = rw are (served_relates table node program routine right serves format p tape octets)
 

@@ -6,23 +6,10 @@ use Rattle.marshal_program.proofs.PlainPlaces.{plain_serves}
 use Rattle.marshal_program.proofs.JoinedPlaces.{joined_serves}
 use Rattle.type_graph.specs.declared.node.Node.{Node}
 use Rattle.routine_checker.specs.Right.{AreRight}
-use Rattle.table_file.specs.declared.table.Use.{Use}
-use Rattle.table_file.specs.declared.table.Use.TheVariants.{First}
+use Rattle.table_file.specs.declared.table.Which.{Which}
+use Rattle.table_file.specs.declared.table.Which.TheVariants.{First}
 use Rattle.table_file.specs.Table.{TableParts, program_at}
-use Rattle.position_checker.specs.declared.fault.CheckFault.{CheckFault}
-use Rattle.position_checker.specs.declared.fault.CheckFault.TheVariants as faults
 use Rattle.position_checker.specs.Acceptance.{IsLone}
-use Rattle.position_checker.specs.Refusal.{OnlyIf}
-
--- what a fault stands for may be put more weakly
-pub only_if_weaker : (fault : CheckFault) (P Q : Type 0) → (P → Q) → OnlyIf fault P → OnlyIf fault Q
-only_if_weaker faults.NoMemory P Q f h = tt
-only_if_weaker (faults.WrongWork program routine instr) P Q f h = f h
-only_if_weaker (faults.WrongPadding program routine instr) P Q f h = f h
-only_if_weaker (faults.EntryOutside program routine instr) P Q f h = f h
-only_if_weaker (faults.ExitsTooSmall program routine entry) P Q f h = f h
-only_if_weaker (faults.NoRoutine node) P Q f h = f h
-only_if_weaker (faults.NamedEntryNotFull node) P Q f h = f h
 
 -- a program without routines is right
 pub empty_is_right : (graph : List Node) (program : List Routine) → program ≡ [] → AreRight graph program
@@ -30,10 +17,10 @@ empty_is_right graph program empty number routine there =
     let none : slice_get [] number ≡ Some routine = subst (λ (p : List Routine). slice_get p number ≡ Some routine) empty there in absurd cc
 
 -- a lone program serves each node of the graph
-pub lone_serves : (table : TableParts) → IsLone table → (program : Use) (node : ℕ) → program ≡ First → node < length table.model.graph
+pub lone_serves : (table : TableParts) → IsLone table → (program : Which) (node : ℕ) → program ≡ First → node < length table.model.graph
     → IsSome (served_by (program_at table program) node)
 lone_serves table lone program node is_first within =
-    subst (λ (u : Use). IsSome (served_by (program_at table u) node)) (sym is_first)
+    subst (λ (u : Which). IsSome (served_by (program_at table u) node)) (sym is_first)
     (elim lone.first [
       | inl plain ↦ ap is_some (ap (λ (p : List Routine). served_by p node) plain ∙ plain_serves table.model.graph node within)
       | inr joined ↦ ap is_some (ap (λ (p : List Routine). served_by p node) joined ∙ joined_serves table.model.graph node within)

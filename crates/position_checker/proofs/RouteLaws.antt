@@ -7,15 +7,16 @@ use Rattle.std.proofs.lemmas.List.Elements.{All-more, All-weaker, All-contains, 
 use Rattle.std.proofs.lemmas.Option.{slice_get-get_or, slice_get-map, slice_get_within, get_or_from_slice_get}
 use Rattle.marshal_program.specs.Served.{served_by}
 use Rattle.type_model.specs.Names.{IsNamed}
-use Rattle.table_file.specs.declared.table.Use.{Use}
-use Rattle.table_file.specs.declared.table.Use.TheVariants.{First}
+use Rattle.table_file.specs.declared.table.Which.{Which}
+use Rattle.table_file.specs.declared.table.Which.TheVariants.{First}
 use Rattle.table_file.specs.Table.{TableParts, IsTable, program_at}
-use Rattle.position_checker.specs.declared.fault.CheckFault.{CheckFault}
+use Rattle.routine_checker.specs.declared.fault.CheckFault.{CheckFault}
 use Rattle.position_checker.specs.Acceptance.{IsLone, Uses}
-use Rattle.position_checker.specs.Refusal.{OnlyIf}
-use Rattle.position_checker.proofs.Lone.{lone_serves, only_if_weaker}
+use Rattle.routine_checker.specs.Refusal.{OnlyIf}
+use Rattle.routine_checker.proofs.CheckCode.{only_if}
+use Rattle.position_checker.proofs.Lone.{lone_serves}
 use Rattle.position_checker.specs.declared.routes.Route.{Route}
-use Rattle.position_checker.specs.Routes.{IsRoute, AreRoutes}
+use Rattle.position_checker.specs.inner.Routes.{IsRoute, AreRoutes}
 
 abbrev pub nodes_of : TableParts → List ℕ
 nodes_of table = map (λ name. name.1) table.model.names
@@ -139,15 +140,15 @@ module _ (table : TableParts) (rules : IsTable table) where
 
   -- a name whose node isn't served is in no lone table
   pub lone_refused : (place : ℕ) (name : List ℕ) (node : ℕ) (fault : CheckFault) → slice_get table.model.names place ≡ Some (name, node)
-      → OnlyIf fault ((program : Use) → slice_get table.uses place ≡ Some program → IsSome (served_by (program_at table program) node) → ⊥) → OnlyIf fault (IsLone table → ⊥)
+      → OnlyIf fault ((program : Which) → slice_get table.uses place ≡ Some program → IsSome (served_by (program_at table program) node) → ⊥) → OnlyIf fault (IsLone table → ⊥)
   lone_refused place name node fault named refused =
       let within : place < length table.uses = omega (arith, slice_get_within table.model.names place (name, node) named, rules.uses.each) in
       let is : (lone : IsLone table) → slice_get table.uses place ≡ Some First = λ lone.
-      slice_get-get_or table.uses place First within ∙ ap (λ (u : Use). Some u) (lone.uses place First within) in
-      only_if_weaker fault _ _ (λ unserved lone. unserved First (is lone) (lone_serves table lone First node refl (node_within place name node named))) refused
+      slice_get-get_or table.uses place First within ∙ ap (λ (u : Which). Some u) (lone.uses place First within) in
+      only_if fault _ _ (λ unserved lone. unserved First (is lone) (lone_serves table lone First node refl (node_within place name node named))) refused
 
   -- each node of a name is served
-  pub all_served : (routes : List (Option Route)) → AreRoutes table routes → (node : ℕ) (program : Use) → Uses table node program → IsSome (served_by (program_at table program) node)
+  pub all_served : (routes : List (Option Route)) → AreRoutes table routes → (node : ℕ) (program : Which) → Uses table node program → IsSome (served_by (program_at table program) node)
   all_served routes are node program used =
       let named = named_at table.model.names used.place used.name node used.named in
       by_route (get_or routes node None) (are.there node named) (are.right node)
@@ -155,4 +156,4 @@ module _ (table : TableParts) (rules : IsTable table) where
       by_route : (o : Option Route) → is_some o ≡ true → IfSome o (IsRoute table node) → IsSome (served_by (program_at table program) node)
       by_route None has right = absurd cc
       by_route (Some route) has right =
-          subst (λ (u : Use). IsSome (served_by (program_at table u) node)) (sym (right.alone program used)) (ap is_some right.serves.first_is)
+          subst (λ (u : Which). IsSome (served_by (program_at table u) node)) (sym (right.alone program used)) (ap is_some right.serves.first_is)

@@ -1,81 +1,42 @@
 -- The verdict on a table, from those on its parts.
-use Rattle.std.proofs.Common.{◌≡◌, ℕ, zero, suc, ◌<◌, ◌+◌, ◌-◌, List, [], length, Option, Some, None, option_map, slice_get, Result, OnOk, IfErr, sym, ap, ap₂, subst, ◌∙◌, arith}
+use Rattle.std.proofs.Common.{◌≡◌, ℕ, zero, suc, ◌<◌, ◌+◌, ◌-◌, List, [], length, Option, Some, None, slice_get, Result, OnOk, IfErr, ap, ◌∙◌, arith}
 use Rattle.std.proofs.lemmas.Result.{MatchResult-weaker, on_ok_weaker}
 use Rattle.std.specs.Option.{option_or}
 use Rattle.type_graph.specs.declared.node.Node.{Node}
 use Rattle.marshal_program.specs.declared.instr.Routine.{Routine}
-use Rattle.routine_checker.specs.declared.fault.RoutineFault.{RoutineFault}
-use Rattle.routine_checker.specs.declared.fault.RoutineFault.TheVariants as routines
-use Rattle.routine_checker.specs.Refusal.{OnlyIf as OnlyIfRoutines}
+use Rattle.routine_checker.specs.declared.fault.CheckFault.{CheckFault}
+use Rattle.routine_checker.specs.declared.fault.CheckFault.TheVariants as faults
+use Rattle.routine_checker.specs.Refusal.{OnlyIf}
+use Rattle.routine_checker.proofs.CheckCode.{only_if}
 use Rattle.routine_checker.specs.Steps.{program_fault, name_fault}
-use Rattle.table_file.specs.declared.table.Use.{Use}
-use Rattle.table_file.specs.declared.table.Use.TheVariants.{First, Second}
+use Rattle.table_file.specs.declared.table.Which.{Which}
+use Rattle.table_file.specs.declared.table.Which.TheVariants.{First, Second}
 use Rattle.table_file.specs.Table.{TableParts, program_at}
-use Rattle.position_checker.specs.declared.fault.CheckFault.{CheckFault}
-use Rattle.position_checker.specs.declared.fault.CheckFault.TheVariants as faults
-use Rattle.position_checker.specs.Refusal.{OnlyIf}
-use Rattle.position_checker.proofs.Lone.{only_if_weaker}
-use Rattle.position_checker.specs.Verdict.{told_of, routines_fault, named_fault, names_fault, table_fault}
-
--- what a fault of routines stands for, the table's fault stands for
-pub told_only_if : (program : Use) (fault : RoutineFault) (P Q : Type 0) → (P → Q) → OnlyIfRoutines fault P → OnlyIf (told_of program fault) Q
-told_only_if program routines.NoMemory P Q f h = tt
-told_only_if program (routines.WrongWork routine instr) P Q f h = f h
-told_only_if program (routines.WrongPadding routine instr) P Q f h = f h
-told_only_if program (routines.EntryOutside routine instr) P Q f h = f h
-told_only_if program (routines.ExitsTooSmall routine entry) P Q f h = f h
-told_only_if program (routines.NoRoutine node) P Q f h = f h
-told_only_if program (routines.NamedEntryNotFull node) P Q f h = f h
+use Rattle.position_checker.specs.Verdict.{routines_fault, named_fault, names_fault, table_fault}
 
 -- what holds anyway holds of a fault
 pub only_if_holds : (fault : CheckFault) (P : Type 0) → P → OnlyIf fault P
-only_if_holds faults.NoMemory P h = tt
-only_if_holds (faults.WrongWork program routine instr) P h = h
-only_if_holds (faults.WrongPadding program routine instr) P h = h
-only_if_holds (faults.EntryOutside program routine instr) P h = h
-only_if_holds (faults.ExitsTooSmall program routine entry) P h = h
-only_if_holds (faults.NoRoutine node) P h = h
-only_if_holds (faults.NamedEntryNotFull node) P h = h
+only_if_holds fault P h = only_if fault (Unit {0}) P (λ t. h) (always fault)
+  where
+    always : (f : CheckFault) → OnlyIf f (Unit {0})
+    always faults.NoMemory = tt
+    always f = tt
 
 -- a program without routines has no fault
-pub empty_has_none : (graph : List Node) (program : List Routine) → program ≡ [] → program_fault graph program ≡ None
-empty_has_none graph program empty = ap (program_fault graph) empty
+pub empty_has_none : (which : ℕ) (graph : List Node) (program : List Routine) → program ≡ [] → program_fault which graph program ≡ None
+empty_has_none which graph program empty = ap (program_fault which graph) empty
 
 module _ (table : TableParts) where
-  module _ (program : Use) (graph : List Node) (routines : List Routine) (is_graph : graph ≡ table.model.graph) (are : routines ≡ program_at table program) where
-    fault_same : program_fault table.model.graph (program_at table program) ≡ program_fault graph routines
-    fault_same = sym (ap₂ (λ (g : List Node) (p : List Routine). program_fault g p) is_graph are)
-
-    -- a program without a fault gives the table none
-    pub program_passes : program_fault graph routines ≡ None → routines_fault table program ≡ None
-    program_passes e = ap (option_map (told_of program)) (fault_same ∙ e)
-
-    -- the fault of a program is told as the table's
-    pub program_told : (fault : RoutineFault) (told : CheckFault) → told ≡ told_of program fault
-        → OnlyIfRoutines fault (program_fault graph routines ≡ Some fault) → OnlyIf told (routines_fault table program ≡ Some told)
-    program_told fault told is refused =
-        subst (λ (f : CheckFault). OnlyIf f (routines_fault table program ≡ Some f)) (sym is)
-        (told_only_if program fault (program_fault graph routines ≡ Some fault) (routines_fault table program ≡ Some (told_of program fault))
-        (λ e. ap (option_map (told_of program)) (fault_same ∙ e)) refused)
-
-  -- the fault of a name is told as the table's
-  pub name_told : (program : Use) (routines : List Routine) (node : ℕ) (fault : RoutineFault) (told : CheckFault) → routines ≡ program_at table program
-      → name_fault routines node ≡ Some fault → told ≡ told_of program fault
-      → option_map (told_of program) (name_fault (program_at table program) node) ≡ Some told
-  name_told program routines node fault told are e is =
-      ap (λ (p : List Routine). option_map (told_of program) (name_fault p node)) (sym are) ∙ ap (option_map (told_of program)) e
-      ∙ ap (λ (f : CheckFault). Some f) (sym is)
-
   -- one more name, where those before have no fault
-  pub names_next : (place : ℕ) (name : List ℕ) (node : ℕ) (program : Use) → slice_get table.model.names place ≡ Some (name, node)
+  pub names_next : (place : ℕ) (name : List ℕ) (node : ℕ) (program : Which) → slice_get table.model.names place ≡ Some (name, node)
       → slice_get table.uses place ≡ Some program → names_fault table place ≡ None
-      → names_fault table (place + 1) ≡ option_map (told_of program) (name_fault (program_at table program) node)
+      → names_fault table (place + 1) ≡ name_fault (program_at table program) node
   names_next place name node program named used before =
       let next : place + 1 ≡ suc place = omega arith in
       ap (names_fault table) next
       ∙ ap (λ (first : Option CheckFault). option_or first (named_fault table (slice_get table.model.names place) (slice_get table.uses place))) before
       ∙ ap (λ (n : Option (List ℕ × ℕ)). named_fault table n (slice_get table.uses place)) named
-      ∙ ap (λ (u : Option Use). named_fault table (Some (name, node)) u) used
+      ∙ ap (λ (u : Option Which). named_fault table (Some (name, node)) u) used
 
   -- the first fault of names stays the first
   names_kept : (k n : ℕ) (fault : CheckFault) → names_fault table n ≡ Some fault → names_fault table (n + k) ≡ Some fault
@@ -86,9 +47,9 @@ module _ (table : TableParts) where
       ∙ ap (λ (first : Option CheckFault). option_or first (named_fault table (slice_get table.model.names (n + k)) (slice_get table.uses (n + k)))) (names_kept k n fault e)
 
   -- so the fault of a name is that of all
-  pub names_first : (place : ℕ) (name : List ℕ) (node : ℕ) (program : Use) (fault : CheckFault) → place < length table.uses
+  pub names_first : (place : ℕ) (name : List ℕ) (node : ℕ) (program : Which) (fault : CheckFault) → place < length table.uses
       → slice_get table.model.names place ≡ Some (name, node) → slice_get table.uses place ≡ Some program → names_fault table place ≡ None
-      → option_map (told_of program) (name_fault (program_at table program) node) ≡ Some fault
+      → name_fault (program_at table program) node ≡ Some fault
       → names_fault table (length table.uses) ≡ Some fault
   names_first place name node program fault within named used before e =
       let all : length table.uses ≡ place + 1 + (length table.uses - (place + 1)) = omega (arith, within) in
@@ -121,4 +82,4 @@ module _ (table : TableParts) where
       → IfErr r (λ fault. OnlyIf fault (table_fault table ≡ Some fault))
   names_told r first second h =
       MatchResult-weaker r h (λ x t. t)
-      (λ fault. only_if_weaker fault (names_fault table (length table.uses) ≡ Some fault) (table_fault table ≡ Some fault) (names_are_last (Some fault) first second))
+      (λ fault. only_if fault (names_fault table (length table.uses) ≡ Some fault) (table_fault table ≡ Some fault) (names_are_last (Some fault) first second))

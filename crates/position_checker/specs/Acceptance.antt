@@ -4,12 +4,12 @@ use Rattle.marshal_program.specs.Plain.{plain_program}
 use Rattle.marshal_program.specs.Joined.{joined_program}
 use Rattle.marshal_program.specs.Served.{served_by}
 use Rattle.routine_checker.specs.Right.{AreRight}
-use Rattle.table_file.specs.declared.table.Use.{Use}
-use Rattle.table_file.specs.declared.table.Use.TheVariants.{First}
+use Rattle.table_file.specs.declared.table.Which.{Which}
+use Rattle.table_file.specs.declared.table.Which.TheVariants.{First}
 use Rattle.table_file.specs.Table.{TableParts, program_at}
 
 -- the name at some place has this node, and uses this program
-pub record Uses (table : TableParts) (node : ℕ) (program : Use) : Type 0 where
+pub record Uses (table : TableParts) (node : ℕ) (program : Which) : Type 0 where
   pub place : ℕ
   pub name : List ℕ
   pub named : slice_get table.model.names place ≡ Some (name, node)
@@ -20,11 +20,12 @@ pub record Uses (table : TableParts) (node : ℕ) (program : Use) : Type 0 where
 pub record IsRight (table : TableParts) : Type 0 where
   pub first : AreRight table.model.graph table.first
   pub second : AreRight table.model.graph table.second
-  pub served : (node : ℕ) (program : Use) → Uses table node program → IsSome (served_by (program_at table program) node)
+  pub served : (node : ℕ) (program : Which) → Uses table node program
+      → IsSome (served_by (program_at table program) node)
 
 -- this routine of this program serves the node: the first with the node that may start everywhere, in the program that
 -- the node's names use
-pub record Serves (table : TableParts) (node : ℕ) (program : Use) (routine : ℕ) : Type 0 where
+pub record Serves (table : TableParts) (node : ℕ) (program : Which) (routine : ℕ) : Type 0 where
   pub used : Uses table node program
   pub first_is : served_by (program_at table program) node ≡ Some routine
 

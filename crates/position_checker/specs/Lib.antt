@@ -1,4 +1,3 @@
 pub mod Acceptance
-pub mod Refusal
-pub mod Routes
 pub mod Verdict
+pub mod inner

@@ -5,15 +5,15 @@ ghost use Rattle.type_graph.specs.Words.{reading, writing};
 ghost use Rattle.type_graph.specs.Encoding.{Means};
 ghost use Rattle.type_model.specs.Names.{IsNamed};
 ghost use Rattle.program_runner.specs.Refusal.{OnlyIf as OnlyIfRun};
-ghost use Rattle.table_file.specs.declared.table.Use.{Use};
+ghost use Rattle.table_file.specs.declared.table.Which.{Which};
 ghost use Rattle.position_checker.specs.Acceptance.{IsRight, Serves, Uses};
-ghost use Rattle.position_checker.specs.Routes.{IsRoute};
+ghost use Rattle.position_checker.specs.inner.Routes.{IsRoute};
 
 use crate::routes::Route;
 use program_runner::RunFault;
 use std::alloc::Global;
 use std::marker::Model;
-use table_file::{Table, Use};
+use table_file::{Table, Which};
 use type_graph::Order;
 
 /// A table whose routines are right. A contract sees the table's parts.
@@ -27,7 +27,7 @@ pub struct Accepted {
 impl Model for Accepted {
     ghost use Rattle.table_file.specs.Table.{TableParts};
     ghost use Rattle.position_checker.specs.Acceptance.{IsRight};
-    ghost use Rattle.position_checker.specs.Routes.{AreRoutes};
+    ghost use Rattle.position_checker.specs.inner.Routes.{AreRoutes};
 
     ghost Value = { TableParts };
 
@@ -73,8 +73,9 @@ impl Accepted {
     }
 
     /// Which of the two programs a name uses. Takes no memory.
-    pub fn program_of(&self, name: &str) -> Option<Use>
-        ensures found { IfSome result (λ program. (node : ℕ) → Contains self.now.model.names (name.now, node) → Uses self.now node program) }
+    pub fn program_of(&self, name: &str) -> Option<Which>
+        ensures found { IfSome result (λ program. (node : ℕ) → Contains self.now.model.names (name.now, node)
+            → Uses self.now node program) }
         ensures missing { IfNone result (All (λ pair. pair.0 ≢ name.now) self.now.model.names) }
         ensures there { IfSome result (λ _. All (λ pair. pair.0 ≢ name.now) self.now.model.names → ⊥) }
     {
@@ -85,7 +86,9 @@ impl Accepted {
     /// The number of the routine that serves a name, in the program that the name uses. Takes no
     /// memory.
     pub fn routine_of(&self, name: &str) -> Option<u32>
-        ensures found { IfSome result (λ routine. (node : ℕ) (program : Use) → Contains self.now.model.names (name.now, node) → Uses self.now node program → Serves self.now node program routine) }
+        ensures found { IfSome result (λ routine. (node : ℕ) (program : Which)
+            → Contains self.now.model.names (name.now, node) → Uses self.now node program
+            → Serves self.now node program routine) }
         ensures missing { IfNone result (All (λ pair. pair.0 ≢ name.now) self.now.model.names) }
         ensures there { IfSome result (λ _. All (λ pair. pair.0 ≢ name.now) self.now.model.names → ⊥) }
     {
@@ -106,8 +109,10 @@ impl Accepted {
         tape: &[u8],
     ) -> Result<Vec<u8>, RunFault>
         requires { IsNamed self.now.model.names node }
-        ensures found { IfOk result (λ octets. Means self.now.model.graph (writing order) 64 node pos tape.now octets.items) }
-        ensures refused { IfErr result (λ fault. OnlyIfRun fault ((octets : List ℕ) → Means self.now.model.graph (writing order) 64 node pos tape.now octets → ⊥)) }
+        ensures found { IfOk result (λ octets.
+            Means self.now.model.graph (writing order) 64 node pos tape.now octets.items) }
+        ensures refused { IfErr result (λ fault. OnlyIfRun fault
+            ((octets : List ℕ) → Means self.now.model.graph (writing order) 64 node pos tape.now octets → ⊥)) }
     {
         let Route { program, routine } = self.serving(node);
         program_runner::write(
@@ -134,9 +139,12 @@ impl Accepted {
         octets: &[u8],
     ) -> Result<(Vec<u8>, usize), RunFault>
         requires { IsNamed self.now.model.names node }
-        ensures found { IfOk result (λ r. Means self.now.model.graph (reading order) 64 node pos r.0.items (take r.1 octets.now)) }
+        ensures found { IfOk result (λ r.
+            Means self.now.model.graph (reading order) 64 node pos r.0.items (take r.1 octets.now)) }
         ensures within { IfOk result (λ r. r.1 ≤ length octets.now) }
-        ensures refused { IfErr result (λ fault. OnlyIfRun fault ((tape front rest : List ℕ) → octets.now ≡ front ++ rest → Means self.now.model.graph (reading order) 64 node pos tape front → ⊥)) }
+        ensures refused { IfErr result (λ fault. OnlyIfRun fault
+            ((tape front rest : List ℕ) → octets.now ≡ front ++ rest
+            → Means self.now.model.graph (reading order) 64 node pos tape front → ⊥)) }
     {
         let Route { program, routine } = self.serving(node);
         program_runner::read(

@@ -2,11 +2,10 @@
 #![tactic(auto)]
 
 mod accepted;
-mod fault;
 pub mod laws;
 mod routes;
 mod verdict;
 
 pub use accepted::Accepted;
-pub use fault::CheckFault;
+pub use routine_checker::{CheckFault, RoutinePlace};
 pub use verdict::{Refused, check};

@@ -3,19 +3,18 @@
 ghost use Rattle.std.specs.Prelude.{◌≡◌, ◌≢◌, [], None, Some, IfOk, IfErr, OnOk};
 ghost use Rattle.marshal_program.specs.Plain.{plain_program};
 ghost use Rattle.marshal_program.specs.Joined.{joined_program};
+ghost use Rattle.routine_checker.specs.Refusal.{OnlyIf};
 ghost use Rattle.routine_checker.specs.Right.{AreRight};
 ghost use Rattle.table_file.specs.Table.{program_at};
 ghost use Rattle.position_checker.specs.Acceptance.{IsLone, IsRight};
-ghost use Rattle.position_checker.specs.Refusal.{OnlyIf};
-ghost use Rattle.position_checker.specs.Routes.{AreRoutes};
+ghost use Rattle.position_checker.specs.inner.Routes.{AreRoutes};
 ghost use Rattle.position_checker.specs.Verdict.{routines_fault, table_fault};
 
 use crate::accepted::Accepted;
-use crate::fault::CheckFault;
 use crate::routes::{Route, routes_of};
-use routine_checker::check_routines;
+use routine_checker::{CheckFault, check_routines};
 use std::alloc::Global;
-use table_file::{Table, Use};
+use table_file::{Table, Which};
 
 /// A table that was refused, and why.
 #[derive(Drop)]
@@ -25,22 +24,21 @@ pub struct Refused {
 }
 
 /// The routines of one of the two programs. One without routines is right.
-fn check_program(alloc: Global, table: &Table, of: Use) -> Result<(), CheckFault>
-    ensures right { OnOk result (AreRight table.now.model.graph (program_at table.now of)) }
-    ensures empty { IfErr result (λ fault. OnlyIf fault (program_at table.now of ≢ [])) }
-    ensures plain { IfErr result (λ fault. OnlyIf fault (program_at table.now of ≢ plain_program table.now.model.graph)) }
-    ensures joined { IfErr result (λ fault. OnlyIf fault (program_at table.now of ≢ joined_program table.now.model.graph)) }
-    ensures accepted { OnOk result (routines_fault table.now of ≡ None) }
-    ensures fault { IfErr result (λ fault. OnlyIf fault (routines_fault table.now of ≡ Some fault)) }
+fn check_program(alloc: Global, table: &Table, which: Which) -> Result<(), CheckFault>
+    ensures right { OnOk result (AreRight table.now.model.graph (program_at table.now which)) }
+    ensures empty { IfErr result (λ fault. OnlyIf fault (program_at table.now which ≢ [])) }
+    ensures plain { IfErr result (λ fault. OnlyIf fault
+        (program_at table.now which ≢ plain_program table.now.model.graph)) }
+    ensures joined { IfErr result (λ fault. OnlyIf fault
+        (program_at table.now which ≢ joined_program table.now.model.graph)) }
+    ensures accepted { OnOk result (routines_fault table.now which ≡ None) }
+    ensures fault { IfErr result (λ fault. OnlyIf fault (routines_fault table.now which ≡ Some fault)) }
 {
-    let program = table.program(of);
+    let program = table.program(which);
     if program.routines().is_empty() {
         return Ok(());
     }
-    match check_routines(alloc, table.model().graph(), program) {
-        Ok(()) => Ok(()),
-        Err(fault) => Err(CheckFault::of(of, fault)),
-    }
+    check_routines(alloc, table.model().graph(), program, which.number())
 }
 
 fn judge(alloc: Global, table: &Table) -> Result<Vec<Option<Route>>, CheckFault>
@@ -50,11 +48,11 @@ fn judge(alloc: Global, table: &Table) -> Result<Vec<Option<Route>>, CheckFault>
     ensures accepted { OnOk result (table_fault table.now ≡ None) }
     ensures fault { IfErr result (λ fault. OnlyIf fault (table_fault table.now ≡ Some fault)) }
 {
-    match check_program(alloc, table, Use::First) {
+    match check_program(alloc, table, Which::First) {
         Ok(()) => (),
         Err(fault) => return Err(fault),
     }
-    match check_program(alloc, table, Use::Second) {
+    match check_program(alloc, table, Which::Second) {
         Ok(()) => (),
         Err(fault) => return Err(fault),
     }

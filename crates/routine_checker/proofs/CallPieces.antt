@@ -21,7 +21,7 @@ use Rattle.marshal_program.specs.Does.{Runs}
 use Rattle.marshal_program.specs.ProgramRules.{IsLower, called_by}
 use Rattle.routine_checker.specs.Sets.{Among, moved, gaps_serve}
 use Rattle.routine_checker.specs.Taking.{is_node_of, is_routine_of, is_piece}
-use Rattle.routine_checker.specs.Steps.{State, entry_of, exits_of, node_in, enters, enters_times, times_left, pads}
+use Rattle.routine_checker.specs.Steps.{Judged, entry_of, exits_of, node_in, enters, enters_times, times_left, pads}
 use Rattle.routine_checker.proofs.Claim.{IsRightAt, Assumes, DoesPieces}
 use Rattle.routine_checker.proofs.GapLaws.{gap_moved, gap_serves}
 use Rattle.routine_checker.proofs.RoutineUse.{Found, found_routine, lower_right, repeated_same, repeated_ends, node_leads_with}
@@ -56,7 +56,7 @@ module _ (graph : List Node) (program : List Routine) (format : Format) (depth n
 
 module _ (graph : List Node) (program : List Routine) (format : Format) (depth rank : ℕ) (rules : IsGraph graph) (assumes : Assumes graph program format depth rank) where
   -- so many times, at least once
-  times_found : (n number : ℕ) (state : State) (numbers : List ℕ) (m : ℕ) → Found program number m → IsLower program rank number
+  times_found : (n number : ℕ) (state : Judged) (numbers : List ℕ) (m : ℕ) → Found program number m → IsLower program rank number
       → AllByRecursion (λ m. is_routine_of program number m ≡ true) numbers → length numbers ≡ suc n
       → enters program (Times (suc n) number) state.places state.gap ≡ true → pads graph program (Times (suc n) number) state.places state.gap ≡ true
       → DoesPieces graph program format depth (Times (suc n) number) state numbers
@@ -79,7 +79,7 @@ module _ (graph : List Node) (program : List Routine) (format : Format) (depth r
             (repeated_behind_ends graph program format depth number routine right leads set gap n entered padded));
       }
 
-  pub times_pieces : (n number : ℕ) (state : State) (numbers : List ℕ) → 0 < n → All (IsLower program rank) (called_by (Times n number))
+  pub times_pieces : (n number : ℕ) (state : Judged) (numbers : List ℕ) → 0 < n → All (IsLower program rank) (called_by (Times n number))
       → AllByRecursion (λ m. is_piece graph program (Times n number) m ≡ true) numbers → length numbers ≡ n
       → enters program (Times n number) state.places state.gap ≡ true → pads graph program (Times n number) state.places state.gap ≡ true
       → DoesPieces graph program format depth (Times n number) state numbers
@@ -93,7 +93,7 @@ module _ (graph : List Node) (program : List Routine) (format : Format) (depth r
   and_nothing false h = h
 
   -- a call is one time
-  pub call_pieces : (number : ℕ) (state : State) (numbers : List ℕ) → All (IsLower program rank) (called_by (Call number))
+  pub call_pieces : (number : ℕ) (state : Judged) (numbers : List ℕ) → All (IsLower program rank) (called_by (Call number))
       → AllByRecursion (λ m. is_piece graph program (Call number) m ≡ true) numbers → length numbers ≡ 1
       → enters program (Call number) state.places state.gap ≡ true → pads graph program (Call number) state.places state.gap ≡ true
       → DoesPieces graph program format depth (Call number) state numbers

@@ -9,9 +9,9 @@ use Rattle.type_graph.specs.declared.node.Node.{Node}
 use Rattle.type_graph.specs.declared.node.Node.TheVariants.{Array}
 use Rattle.type_graph.specs.Value.{node_at}
 use Rattle.routine_checker.specs.Taking.{parts_of, opened, taken_within, and_then, taken}
-use Rattle.routine_checker.specs.Counts.{parts_in, pieces_by, pieces_in, count_in, AreNumbersOf, AreCounts, Yields}
+use Rattle.routine_checker.specs.inner.Counts.{parts_in, pieces_by, pieces_in, count_in, AreNumbersOf, AreCounts, Yields}
 use Rattle.routine_checker.specs.declared.work.Item.{Item}
-use Rattle.routine_checker.specs.Work.{held, held_of}
+use Rattle.routine_checker.specs.inner.Work.{held, held_of}
 use Rattle.routine_checker.proofs.TakeLaws.{within_here, within_below, taken_next, taken_none, took_first}
 
 -- ---- how many copies go into so many pieces

@@ -239,16 +239,16 @@ joined_own graph number lt = record {
   exits_are = refl;
 }
 
-pub joined_passes : (graph : List Node) → IsGraph graph → program_fault graph (joined_program graph) ≡ None
-joined_passes graph rules =
-    routines_none graph (joined_program graph) 0 (joined_program graph)
-    (λ k routine there number.
+pub joined_passes : (which : ℕ) (graph : List Node) → IsGraph graph → program_fault which graph (joined_program graph) ≡ None
+joined_passes which graph rules =
+    routines_none graph (joined_program graph) which 0 (joined_program graph)
+    (λ k routine there at.
     let long = length-joined_program graph in
     let inside = slice_get_within (joined_program graph) k routine there in
     let lt : k < length graph = omega (arith, inside, long) in
     let own : Routine = joined_routine graph k (node_at graph k) in
-    subst (λ r. routine_fault graph (joined_program graph) number r ≡ None) (same_Some own routine (sym (joined_program_at graph k lt) ∙ there))
-    (routine_none graph (joined_program graph) number own lt refl (joined_through graph (joined_program graph) (joined_own graph) rules k lt)))
+    subst (λ r. routine_fault graph (joined_program graph) at r ≡ None) (same_Some own routine (sym (joined_program_at graph k lt) ∙ there))
+    (routine_none graph (joined_program graph) at own lt refl (joined_through graph (joined_program graph) (joined_own graph) rules k lt)))
 
 joined_own_within : (graph : List Node) (number : ℕ) → number < length (joined_program graph) → Own (joined_program graph) number
 joined_own_within graph number lt = let long = length-joined_program graph in joined_own graph number (omega (arith, lt, long))

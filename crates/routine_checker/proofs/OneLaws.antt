@@ -3,7 +3,7 @@ use Rattle.std.proofs.Common.{◌≡◌, ℕ, zero, suc, ◌-◌, ◌<◌, Bool,
 use Rattle.type_graph.specs.declared.node.Node.{Node}
 use Rattle.type_graph.specs.Value.{node_at}
 use Rattle.routine_checker.specs.Taking.{only_part, is_one}
-use Rattle.routine_checker.specs.Kinds.{part_holds}
+use Rattle.routine_checker.specs.inner.Kinds.{part_holds}
 
 -- one level down
 pub one_next : (levels : ℕ) (holds : Node → Bool) (graph : List Node) (number : ℕ) → 0 < levels

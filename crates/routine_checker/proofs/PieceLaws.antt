@@ -23,7 +23,7 @@ use Rattle.marshal_program.specs.declared.instr.Routine.{Routine}
 use Rattle.marshal_program.specs.Does.{Does, Runs}
 use Rattle.routine_checker.specs.Sets.{Among, moved, gaps_agree}
 use Rattle.routine_checker.specs.Taking.{is_octet, is_whole, is_boolean, is_enum, is_text, is_piece}
-use Rattle.routine_checker.specs.Steps.{State, ends}
+use Rattle.routine_checker.specs.Steps.{Judged, ends}
 use Rattle.routine_checker.proofs.Claim.{DoesPieces}
 use Rattle.routine_checker.proofs.SetLaws.{among_all}
 use Rattle.routine_checker.proofs.GapLaws.{gaps_same, Long, gap_long_ends}
@@ -105,7 +105,7 @@ module _ (graph : List Node) (format : Format) (depth : ℕ) where
 
 -- ---- instructions
 
-module _ (graph : List Node) (program : List Routine) (format : Format) (depth : ℕ) (state : State) where
+module _ (graph : List Node) (program : List Routine) (format : Format) (depth : ℕ) (state : Judged) where
   -- what an instruction does
   abbrev Done : Instr → Relation
   Done = Does (Runs program format) format depth

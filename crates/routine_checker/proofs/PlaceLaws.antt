@@ -4,7 +4,7 @@ use Rattle.type_graph.specs.declared.width.Width.{Width}
 use Rattle.type_graph.specs.declared.width.Width.TheVariants.{One, Two, Four, Eight}
 use Rattle.type_graph.specs.Words.{octets_in, pad}
 use Rattle.routine_checker.specs.Sets.{has, at_places, each_place, from_places, gathered, is_within, moved, left, closure, gaps_agree, gaps_serve}
-use Rattle.routine_checker.specs.Places.{agreeing}
+use Rattle.routine_checker.specs.inner.Places.{agreeing}
 
 pub at_first_next : (n set : ℕ) (holds : ℕ → Bool) → at_places (n + 1) set holds ≡ (at_places n set holds && (holds n || not (has set n)))
 at_first_next n set holds = let e : n + 1 ≡ suc n = omega arith in rw e refl

@@ -209,16 +209,16 @@ plain_own graph number lt = record {
   exits_are = refl;
 }
 
-pub plain_passes : (graph : List Node) → IsGraph graph → program_fault graph (plain_program graph) ≡ None
-plain_passes graph rules =
-    routines_none graph (plain_program graph) 0 (plain_program graph)
-    (λ k routine there number.
+pub plain_passes : (which : ℕ) (graph : List Node) → IsGraph graph → program_fault which graph (plain_program graph) ≡ None
+plain_passes which graph rules =
+    routines_none graph (plain_program graph) which 0 (plain_program graph)
+    (λ k routine there at.
     let long = length-plain_program graph in
     let inside = slice_get_within (plain_program graph) k routine there in
     let lt : k < length graph = omega (arith, inside, long) in
     let own : Routine = plain_routine graph k (node_at graph k) in
-    subst (λ r. routine_fault graph (plain_program graph) number r ≡ None) (same_Some own routine (sym (plain_program_at graph k lt) ∙ there))
-    (routine_none graph (plain_program graph) number own lt refl (plain_through graph (plain_program graph) (plain_own graph) rules k lt)))
+    subst (λ r. routine_fault graph (plain_program graph) at r ≡ None) (same_Some own routine (sym (plain_program_at graph k lt) ∙ there))
+    (routine_none graph (plain_program graph) at own lt refl (plain_through graph (plain_program graph) (plain_own graph) rules k lt)))
 
 plain_own_within : (graph : List Node) (number : ℕ) → number < length (plain_program graph) → Own (plain_program graph) number
 plain_own_within graph number lt = let long = length-plain_program graph in plain_own graph number (omega (arith, lt, long))

@@ -25,7 +25,7 @@ use Rattle.marshal_program.specs.declared.instr.Routine.{Routine}
 use Rattle.marshal_program.specs.Does.{Does, Runs}
 use Rattle.routine_checker.specs.Sets.{Among, is_within, moved, left, closure, gaps_agree, gaps_serve, multiples}
 use Rattle.routine_checker.specs.Taking.{is_octet, is_boolean, is_whole, is_seq, is_one, is_routine_of, is_piece}
-use Rattle.routine_checker.specs.Steps.{State, counted, entry_of, exits_of, node_in, lead_at, enters, enters_elements, pads, ends}
+use Rattle.routine_checker.specs.Steps.{Judged, counted, entry_of, exits_of, node_in, lead_at, enters, enters_elements, pads, ends}
 use Rattle.routine_checker.proofs.Claim.{IsRightAt, Assumes, DoesPieces}
 use Rattle.routine_checker.proofs.SetLaws.{both, among_or_left, among_or_right, among_all, among_place}
 use Rattle.routine_checker.proofs.GapLaws.{gaps_same, Behind, gap_behind, behind_moved, gap_moved, gap_serves}
@@ -188,7 +188,7 @@ module _ (graph : List Node) (program : List Routine) (format : Format) (depth :
       → Same S (OctetRun limit n) (Many n (Means graph format (depth - 1) elem))
   run_elements limit elem n small e = same_trans (octets_words format n small) (many_same_anywhere n (same_sym e))
 
-  seq_run : (limit bound : ℕ) (instr : Instr) (test : ℕ → Bool) (state : State) (number : ℕ) → limit ≤ 256
+  seq_run : (limit bound : ℕ) (instr : Instr) (test : ℕ → Bool) (state : Judged) (number : ℕ) → limit ≤ 256
       → ((n : ℕ) → test n ≡ true → Same Anywhere (Means graph format (depth - 1) n) (WordBelow format One limit))
       → Does (Runs program format) format depth instr ≡ Counted format depth bound (λ n. OctetRun limit n) → ends program instr state.places state.gap ≡ 255
       → is_seq bound test (node_at graph number) ≡ true → gaps_agree state.places state.gap Four ≡ true → DoesPieces graph program format depth instr state (number ∷ [])
@@ -200,7 +200,7 @@ module _ (graph : List Node) (program : List Routine) (format : Format) (depth :
         ended = subst (λ set. Ends (Among state.places) (Among set) (Chain (Means graph format depth) (number ∷ []))) (sym end) ends_among_all;
       }
 
-  pub seq_octets_pieces : (bound : ℕ) (state : State) (numbers : List ℕ) → Pass (SeqOctets bound) numbers → length numbers ≡ 1 → gaps_agree state.places state.gap Four ≡ true → DoesPieces graph program format depth (SeqOctets bound) state numbers
+  pub seq_octets_pieces : (bound : ℕ) (state : Judged) (numbers : List ℕ) → Pass (SeqOctets bound) numbers → length numbers ≡ 1 → gaps_agree state.places state.gap Four ≡ true → DoesPieces graph program format depth (SeqOctets bound) state numbers
   seq_octets_pieces bound state [] all long pad = absurd (omega arith)
   seq_octets_pieces bound state (number ∷ []) all long pad =
       seq_run 256 bound (SeqOctets bound) (is_one 64 is_octet graph) state number (omega arith)
@@ -208,7 +208,7 @@ module _ (graph : List Node) (program : List Routine) (format : Format) (depth :
       refl refl all.0 pad
   seq_octets_pieces bound state (number ∷ other ∷ more) all long pad = absurd (omega arith)
 
-  pub seq_bools_pieces : (bound : ℕ) (state : State) (numbers : List ℕ) → Pass (SeqBools bound) numbers → length numbers ≡ 1 → gaps_agree state.places state.gap Four ≡ true → DoesPieces graph program format depth (SeqBools bound) state numbers
+  pub seq_bools_pieces : (bound : ℕ) (state : Judged) (numbers : List ℕ) → Pass (SeqBools bound) numbers → length numbers ≡ 1 → gaps_agree state.places state.gap Four ≡ true → DoesPieces graph program format depth (SeqBools bound) state numbers
   seq_bools_pieces bound state [] all long pad = absurd (omega arith)
   seq_bools_pieces bound state (number ∷ []) all long pad =
       seq_run 2 bound (SeqBools bound) (is_one 64 is_boolean graph) state number (omega arith)
@@ -216,7 +216,7 @@ module _ (graph : List Node) (program : List Routine) (format : Format) (depth :
       refl refl all.0 pad
   seq_bools_pieces bound state (number ∷ other ∷ more) all long pad = absurd (omega arith)
 
-  seq_words_one : (width first : Width) (bound : ℕ) (state : State) (number : ℕ) → is_seq bound (is_one 64 (is_whole width) graph) (node_at graph number) ≡ true
+  seq_words_one : (width first : Width) (bound : ℕ) (state : Judged) (number : ℕ) → is_seq bound (is_one 64 (is_whole width) graph) (node_at graph number) ≡ true
       → gaps_agree state.places state.gap Four ≡ true → gaps_agree (counted state.places) first width ≡ true → DoesPieces graph program format depth (SeqWords width first bound) state (number ∷ [])
   seq_words_one width first bound state number piece pad agree =
       let node = seq_node bound (is_one 64 (is_whole width) graph) (node_at graph number) piece in
@@ -227,7 +227,7 @@ module _ (graph : List Node) (program : List Routine) (format : Format) (depth :
         ended = seq_ends graph format depth state.places bound node.elem number node.is (λ h n. word_elements_end (counted state.places) width n means);
       }
 
-  pub seq_words_pieces : (width first : Width) (bound : ℕ) (state : State) (numbers : List ℕ) → Pass (SeqWords width first bound) numbers → length numbers ≡ 1
+  pub seq_words_pieces : (width first : Width) (bound : ℕ) (state : Judged) (numbers : List ℕ) → Pass (SeqWords width first bound) numbers → length numbers ≡ 1
       → pads graph program (SeqWords width first bound) state.places state.gap ≡ true → DoesPieces graph program format depth (SeqWords width first bound) state numbers
   seq_words_pieces width first bound state [] all long pad = absurd (omega arith)
   seq_words_pieces width first bound state (number ∷ []) all long pad =
@@ -235,7 +235,7 @@ module _ (graph : List Node) (program : List Routine) (format : Format) (depth :
       seq_words_one width first bound state number all.0 parts.0 parts.1
   seq_words_pieces width first bound state (number ∷ other ∷ more) all long pad = absurd (omega arith)
 
-  seq_of_found : (rules : IsGraph graph) (bound : ℕ) (first : Width) (number : ℕ) (state : State) (node elem : ℕ) → node_at graph node ≡ nodes.Seq elem bound
+  seq_of_found : (rules : IsGraph graph) (bound : ℕ) (first : Width) (number : ℕ) (state : Judged) (node elem : ℕ) → node_at graph node ≡ nodes.Seq elem bound
       → (1 ≤ depth → (routine : Routine) → slice_get program number ≡ Some routine → IsRightAt graph program format (depth - 1) number routine)
       → (found : Found program number elem)
       → enters program (SeqOf bound first number) state.places state.gap ≡ true
@@ -260,7 +260,7 @@ module _ (graph : List Node) (program : List Routine) (format : Format) (depth :
             (λ h n. elements_end graph program format (depth - 1) number routine (right h routine found.there) leads set first n tests.0 tests.1 served));
       }
 
-  pub seq_of_pieces : (rules : IsGraph graph) (rank : ℕ) → Assumes graph program format depth rank → (bound : ℕ) (first : Width) (number : ℕ) (state : State) (numbers : List ℕ)
+  pub seq_of_pieces : (rules : IsGraph graph) (rank : ℕ) → Assumes graph program format depth rank → (bound : ℕ) (first : Width) (number : ℕ) (state : Judged) (numbers : List ℕ)
       → Pass (SeqOf bound first number) numbers → length numbers ≡ 1
       → enters program (SeqOf bound first number) state.places state.gap ≡ true → pads graph program (SeqOf bound first number) state.places state.gap ≡ true
       → DoesPieces graph program format depth (SeqOf bound first number) state numbers

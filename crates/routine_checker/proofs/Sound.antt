@@ -21,12 +21,12 @@ use Rattle.marshal_program.specs.declared.instr.Routine.{Routine}
 use Rattle.marshal_program.specs.Does.{Does, Runs, code_of}
 use Rattle.marshal_program.specs.ProgramRules.{IsRoutine, IsProgram}
 use Rattle.marshal_program.proofs.RunLaws.{runs_opened}
-use Rattle.routine_checker.specs.declared.fault.StepFault.{StepFault}
-use Rattle.routine_checker.specs.declared.fault.RoutineFault.{RoutineFault}
-use Rattle.routine_checker.specs.declared.fault.RoutineFault.TheVariants.{WrongWork, WrongPadding, ExitsTooSmall}
+use Rattle.routine_checker.specs.declared.fault.RoutinePlace.{RoutinePlace}
+use Rattle.routine_checker.specs.declared.fault.CheckFault.{CheckFault}
+use Rattle.routine_checker.specs.declared.fault.CheckFault.TheVariants.{WrongWork, WrongPadding, ExitsTooSmall}
 use Rattle.routine_checker.specs.Sets.{has, Among, is_within, gaps_agree}
 use Rattle.routine_checker.specs.Taking.{is_done_within}
-use Rattle.routine_checker.specs.Steps.{State, step, followed_by, followed, end_fault, ended, entry_fault, or_else, entries_fault, routine_fault, routines_fault, program_fault}
+use Rattle.routine_checker.specs.Steps.{Judged, step, followed_by, followed, end_fault, ended, entry_fault, or_else, entries_fault, routine_fault, routines_fault, program_fault, place_of}
 use Rattle.routine_checker.specs.Right.{AreRight}
 use Rattle.routine_checker.proofs.SetLaws.{has_place, within_among, among_place}
 use Rattle.routine_checker.proofs.GapLaws.{gaps_same}
@@ -38,15 +38,15 @@ use Rattle.routine_checker.proofs.InstrPieces.{right_step}
 -- ---- from the end of a code to its start
 
 -- all three tests at the end passed
-end_tests : (done padded within : Bool) (routine instr entry : ℕ) → end_fault done padded within routine instr entry ≡ None → (done ≡ true) × (padded ≡ true) × (within ≡ true)
-end_tests false padded within routine instr entry e = absurd (none-some (WrongWork routine instr) (sym e))
-end_tests true false within routine instr entry e = absurd (none-some (WrongPadding routine instr) (sym e))
-end_tests true true false routine instr entry e = absurd (none-some (ExitsTooSmall routine entry) (sym e))
-end_tests true true true routine instr entry e = (refl, refl, refl)
+end_tests : (done padded within : Bool) (at : RoutinePlace) (n entry : ℕ) → end_fault done padded within at n entry ≡ None → (done ≡ true) × (padded ≡ true) × (within ≡ true)
+end_tests false padded within at n entry e = absurd (none-some (WrongWork at n) (sym e))
+end_tests true false within at n entry e = absurd (none-some (WrongPadding at n) (sym e))
+end_tests true true false at n entry e = absurd (none-some (ExitsTooSmall at entry) (sym e))
+end_tests true true true at n entry e = (refl, refl, refl)
 
 module _ (graph : List Node) (program : List Routine) (format : Format) (depth : ℕ) where
   -- where nothing is left, no gap is made and the positions are among the exits, the claim holds of no instructions
-  end_claim : (exits : ℕ) (state : State) → is_done_within 64 graph state.work ≡ true → gaps_agree state.places state.gap One ≡ true → is_within state.places exits ≡ true → Claim graph program format depth (Among exits) [] state
+  end_claim : (exits : ℕ) (state : Judged) → is_done_within 64 graph state.work ≡ true → gaps_agree state.places state.gap One ≡ true → is_within state.places exits ≡ true → Claim graph program format depth (Among exits) [] state
   end_claim exits state done padded within =
       let nothing : Same (Among state.places) Nothing (Chain (Means graph format depth) state.work) = same_at (same_sym ((done_means graph 64 state.work done).same format depth)) in
       record {
@@ -55,27 +55,27 @@ module _ (graph : List Node) (program : List Routine) (format : Format) (depth :
       }
 
   -- what is claimed at the end of instructions that were followed is claimed at their start
-  followed_claim : (X : Positions) (routine instr : ℕ) (code : List Instr) (state : State) → All (IsRightStep graph program format depth) code
-      → IfOk (followed graph program routine instr code state) (λ last. Claim graph program format depth X [] last → Claim graph program format depth X code state)
-  followed_claim X routine instr [] state right = λ claim. claim
-  followed_claim X routine instr (this ∷ code) state right =
-      by_step (step graph program this state) refl (λ next. followed_claim X routine (suc instr) code next (All-tail (IsRightStep graph program format depth) this code right))
+  followed_claim : (X : Positions) (at : RoutinePlace) (n : ℕ) (code : List Instr) (state : Judged) → All (IsRightStep graph program format depth) code
+      → IfOk (followed graph program at n code state) (λ last. Claim graph program format depth X [] last → Claim graph program format depth X code state)
+  followed_claim X at n [] state right = λ claim. claim
+  followed_claim X at n (this ∷ code) state right =
+      by_step (step graph program at n this state) refl (λ next. followed_claim X at (suc n) code next (All-tail (IsRightStep graph program format depth) this code right))
     where
-      by_step : (result : Result State StepFault) → step graph program this state ≡ result
-          → ((next : State) → IfOk (followed graph program routine (suc instr) code next) (λ last. Claim graph program format depth X [] last → Claim graph program format depth X code next))
-          → IfOk (followed_by (followed graph program routine (suc instr) code) routine instr result) (λ last. Claim graph program format depth X [] last → Claim graph program format depth X (this ∷ code) state)
+      by_step : (result : Result Judged CheckFault) → step graph program at n this state ≡ result
+          → ((next : Judged) → IfOk (followed graph program at (suc n) code next) (λ last. Claim graph program format depth X [] last → Claim graph program format depth X code next))
+          → IfOk (followed_by (followed graph program at (suc n) code) result) (λ last. Claim graph program format depth X [] last → Claim graph program format depth X (this ∷ code) state)
       by_step (Err stop) e ih = tt
       by_step (Ok next) e ih =
-          IfOk-weaker (followed graph program routine (suc instr) code next) (λ last. Claim graph program format depth X [] last → Claim graph program format depth X code next) (λ last. Claim graph program format depth X [] last → Claim graph program format depth X (this ∷ code) state)
-          (λ last ih claim. step_claim graph program format depth X this code state next (All-head (IsRightStep graph program format depth) this code right) e (ih claim)) (ih next)
+          IfOk-weaker (followed graph program at (suc n) code next) (λ last. Claim graph program format depth X [] last → Claim graph program format depth X code next) (λ last. Claim graph program format depth X [] last → Claim graph program format depth X (this ∷ code) state)
+          (λ last ih claim. step_claim graph program format depth X at n this code state next (All-head (IsRightStep graph program format depth) this code right) e (ih claim)) (ih next)
 
   -- where a routine ends well, what is claimed at its start holds
-  ended_claim : (X : Type 0) (number : ℕ) (routine : Routine) (entry : ℕ) (result : Result State RoutineFault) → ended graph number routine entry result ≡ None
+  ended_claim : (X : Type 0) (at : RoutinePlace) (routine : Routine) (entry : ℕ) (result : Result Judged CheckFault) → ended graph at routine entry result ≡ None
       → IfOk result (λ last. Claim graph program format depth (Among (slice_index_or routine.exits entry 0)) [] last → X) → X
-  ended_claim X number routine entry (Err fault) e claim = absurd (none-some fault (sym e))
-  ended_claim X number routine entry (Ok last) e claim =
+  ended_claim X at routine entry (Err fault) e claim = absurd (none-some fault (sym e))
+  ended_claim X at routine entry (Ok last) e claim =
       let exits = slice_index_or routine.exits entry 0 in
-      let tests = end_tests (is_done_within 64 graph last.work) (gaps_agree last.places last.gap One) (is_within last.places exits) number (length routine.code) entry e in
+      let tests = end_tests (is_done_within 64 graph last.work) (gaps_agree last.places last.gap One) (is_within last.places exits) at (length routine.code) entry e in
       claim (end_claim exits last tests.0 tests.1 tests.2)
 
   -- ---- a routine
@@ -85,12 +85,12 @@ module _ (graph : List Node) (program : List Routine) (format : Format) (depth :
     same : Same (Among (2 ^ entry)) (Runs program format depth number) (Means graph format depth routine.node)
     ends : Ends (Among (2 ^ entry)) (Among (slice_index_or routine.exits entry 0)) (Means graph format depth routine.node)
 
-  from_entry : (number : ℕ) (routine : Routine) (entry : ℕ) → slice_get program number ≡ Some routine → All (IsRightStep graph program format depth) routine.code → entry_fault graph program number routine entry ≡ None → FromEntry number routine entry
-  from_entry number routine entry there right e =
+  from_entry : (at : RoutinePlace) (number : ℕ) (routine : Routine) (entry : ℕ) → slice_get program number ≡ Some routine → All (IsRightStep graph program format depth) routine.code → entry_fault graph program at routine entry ≡ None → FromEntry number routine entry
+  from_entry at number routine entry there right e =
       let X : Positions = Among (slice_index_or routine.exits entry 0) in
-      let start : State = record { work = routine.node ∷ []; places = 2 ^ entry; gap = One } in
+      let start : Judged = record { work = routine.node ∷ []; places = 2 ^ entry; gap = One } in
       let claim : Claim graph program format depth X routine.code start =
-      ended_claim (Claim graph program format depth X routine.code start) number routine entry (followed graph program number 0 routine.code start) e (followed_claim X number 0 routine.code start right) in
+      ended_claim (Claim graph program format depth X routine.code start) at routine entry (followed graph program at 0 routine.code start) e (followed_claim X at 0 routine.code start right) in
       let done = Does (Runs program format) format depth in
       let opened : Same (Among (2 ^ entry)) (Runs program format depth number) (Chain done routine.code) =
       subst (λ (found : Option Routine). Same (Among (2 ^ entry)) (Runs program format depth number) (Chain done (code_of found))) there (runs_opened program format depth number) in
@@ -100,51 +100,51 @@ module _ (graph : List Node) (program : List Routine) (format : Format) (depth :
       }
 
 -- neither is a fault
-both_none : (first other : Option RoutineFault) → or_else first other ≡ None → (first ≡ None) × (other ≡ None)
+both_none : (first other : Option CheckFault) → or_else first other ≡ None → (first ≡ None) × (other ≡ None)
 both_none None other e = (refl, e)
 both_none (Some fault) other e = absurd (none-some fault (sym e))
 
 module _ (graph : List Node) (program : List Routine) where
   -- no entry of the first n has a fault
-  entry_passes : (number : ℕ) (routine : Routine) (n : ℕ) → entries_fault graph program number routine n ≡ None → (entry : ℕ) → entry < n → has routine.entry entry ≡ true → entry_fault graph program number routine entry ≡ None
-  entry_passes number routine zero e entry lt h = absurd (omega (arith, lt))
-  entry_passes number routine (suc n) e entry lt h =
-      let parts = both_none (entries_fault graph program number routine n) (if has routine.entry n then entry_fault graph program number routine n else None) e in
-      elim (cases_lt entry n) as (λ v. entry_fault graph program number routine entry ≡ None) [
-        | inl before ↦ entry_passes number routine n parts.0 entry before h
+  entry_passes : (at : RoutinePlace) (routine : Routine) (n : ℕ) → entries_fault graph program at routine n ≡ None → (entry : ℕ) → entry < n → has routine.entry entry ≡ true → entry_fault graph program at routine entry ≡ None
+  entry_passes at routine zero e entry lt h = absurd (omega (arith, lt))
+  entry_passes at routine (suc n) e entry lt h =
+      let parts = both_none (entries_fault graph program at routine n) (if has routine.entry n then entry_fault graph program at routine n else None) e in
+      elim (cases_lt entry n) as (λ v. entry_fault graph program at routine entry ≡ None) [
+        | inl before ↦ entry_passes at routine n parts.0 entry before h
         | inr past ↦
             let same : entry ≡ n = omega (arith, lt, past) in
             let there : has routine.entry n ≡ true = subst (λ q. has routine.entry q ≡ true) same h in
-            subst (λ q. entry_fault graph program number routine q ≡ None) (sym same) (subst (λ b. (if b then entry_fault graph program number routine n else None) ≡ None) there parts.1)
+            subst (λ q. entry_fault graph program at routine q ≡ None) (sym same) (subst (λ b. (if b then entry_fault graph program at routine n else None) ≡ None) there parts.1)
       ]
 
   -- no entry of a routine without a fault has one
-  routine_passes : (number : ℕ) (routine : Routine) → routine_fault graph program number routine ≡ None → (entry : ℕ) → entry < 8 → has routine.entry entry ≡ true → entry_fault graph program number routine entry ≡ None
+  routine_passes : (at : RoutinePlace) (routine : Routine) → routine_fault graph program at routine ≡ None → (entry : ℕ) → entry < 8 → has routine.entry entry ≡ true → entry_fault graph program at routine entry ≡ None
   unfolding routine_fault
-  routine_passes number routine e = by_node (ltb routine.node (length graph)) e
+  routine_passes at routine e = by_node (ltb routine.node (length graph)) e
     where
-      by_node : (there : Bool) → (if there then entries_fault graph program number routine 8 else Some (WrongWork number 0)) ≡ None → (entry : ℕ) → entry < 8 → has routine.entry entry ≡ true → entry_fault graph program number routine entry ≡ None
-      by_node true e = entry_passes number routine 8 e
-      by_node false e = absurd (none-some (WrongWork number 0) (sym e))
+      by_node : (there : Bool) → (if there then entries_fault graph program at routine 8 else Some (WrongWork at 0)) ≡ None → (entry : ℕ) → entry < 8 → has routine.entry entry ≡ true → entry_fault graph program at routine entry ≡ None
+      by_node true e = entry_passes at routine 8 e
+      by_node false e = absurd (none-some (WrongWork at 0) (sym e))
 
   -- no routine has a fault
-  routines_pass : (from : ℕ) (routines : List Routine) → routines_fault graph program from routines ≡ None → (k : ℕ) (routine : Routine) → slice_get routines k ≡ Some routine → routine_fault graph program (from + k) routine ≡ None
-  routines_pass from [] e k routine there = absurd (let lt = slice_get_within {A = Routine} [] k routine there in omega (arith, lt))
-  routines_pass from (first ∷ more) e zero routine there =
+  routines_pass : (which from : ℕ) (routines : List Routine) → routines_fault which graph program from routines ≡ None → (k : ℕ) (routine : Routine) → slice_get routines k ≡ Some routine → routine_fault graph program (place_of which (from + k)) routine ≡ None
+  routines_pass which from [] e k routine there = absurd (let lt = slice_get_within {A = Routine} [] k routine there in omega (arith, lt))
+  routines_pass which from (first ∷ more) e zero routine there =
       let place : from ≡ from + 0 = omega arith in
-      let parts = both_none (routine_fault graph program from first) (routines_fault graph program (suc from) more) e in
-      subst (λ n. routine_fault graph program n routine ≡ None) place (subst (λ r. routine_fault graph program from r ≡ None) (same_Some first routine there) parts.0)
-  routines_pass from (first ∷ more) e (suc k) routine there =
+      let parts = both_none (routine_fault graph program (place_of which from) first) (routines_fault which graph program (suc from) more) e in
+      subst (λ n. routine_fault graph program (place_of which n) routine ≡ None) place (subst (λ r. routine_fault graph program (place_of which from) r ≡ None) (same_Some first routine there) parts.0)
+  routines_pass which from (first ∷ more) e (suc k) routine there =
       let place : suc from + k ≡ from + suc k = omega arith in
-      let parts = both_none (routine_fault graph program from first) (routines_fault graph program (suc from) more) e in
-      subst (λ n. routine_fault graph program n routine ≡ None) place (routines_pass (suc from) more parts.1 k routine there)
+      let parts = both_none (routine_fault graph program (place_of which from) first) (routines_fault which graph program (suc from) more) e in
+      subst (λ n. routine_fault graph program (place_of which n) routine ≡ None) place (routines_pass which (suc from) more parts.1 k routine there)
 
-module _ (graph : List Node) (program : List Routine) (graph_rules : IsGraph graph) (rules : IsProgram program) (passes : program_fault graph program ≡ None) where
+module _ (which : ℕ) (graph : List Node) (program : List Routine) (graph_rules : IsGraph graph) (rules : IsProgram program) (passes : program_fault which graph program ≡ None) where
   -- no entry of a routine has a fault
-  program_passes : (number : ℕ) (routine : Routine) → slice_get program number ≡ Some routine → (entry : ℕ) → entry < 8 → has routine.entry entry ≡ true → entry_fault graph program number routine entry ≡ None
+  program_passes : (number : ℕ) (routine : Routine) → slice_get program number ≡ Some routine → (entry : ℕ) → entry < 8 → has routine.entry entry ≡ true → entry_fault graph program (place_of which number) routine entry ≡ None
   program_passes number routine there =
       let place : 0 + number ≡ number = omega arith in
-      routine_passes graph program number routine (subst (λ n. routine_fault graph program n routine ≡ None) place (routines_pass graph program 0 program passes number routine there))
+      routine_passes graph program (place_of which number) routine (subst (λ n. routine_fault graph program (place_of which n) routine ≡ None) place (routines_pass graph program which 0 program passes number routine there))
 
   routine_rules : (number : ℕ) (routine : Routine) → slice_get program number ≡ Some routine → IsRoutine program routine
   routine_rules number routine there =
@@ -157,7 +157,7 @@ module _ (graph : List Node) (program : List Routine) (graph_rules : IsGraph gra
       let right : All (IsRightStep graph program format depth) routine.code =
       λ k d lt. right_step graph program format depth routine.rank graph_rules assumes (slice_index_or routine.code k d) (kept.instrs k d lt) (kept.lower k d lt) in
       let from : (p : ℕ) → Among routine.entry p → FromEntry graph program format depth number routine (p % 8) =
-      λ p s. from_entry graph program format depth number routine (p % 8) there right (program_passes number routine there (p % 8) (omega arith) (has_place routine.entry p ∙ s)) in
+      λ p s. from_entry graph program format depth (place_of which number) number routine (p % 8) there right (program_passes number routine there (p % 8) (omega arith) (has_place routine.entry p ∙ s)) in
       record {
         related = record {
           to = λ p t x s r. (from p s).same.to p t x (among_place (p % 8) p refl) r;
@@ -190,5 +190,5 @@ module _ (graph : List Node) (program : List Routine) (graph_rules : IsGraph gra
   }
 
 -- a program without a fault is right
-pub sound : (graph : List Node) (program : List Routine) → IsGraph graph → IsProgram program → program_fault graph program ≡ None → AreRight graph program
-sound graph program graph_rules rules passes = sound_by_rules graph program graph_rules rules passes
+pub sound : (which : ℕ) (graph : List Node) (program : List Routine) → IsGraph graph → IsProgram program → program_fault which graph program ≡ None → AreRight graph program
+sound which graph program graph_rules rules passes = sound_by_rules which graph program graph_rules rules passes

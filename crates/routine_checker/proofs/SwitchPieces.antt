@@ -32,7 +32,7 @@ use Rattle.marshal_program.specs.Does.{node_of, Runs}
 use Rattle.marshal_program.specs.ProgramRules.{IsLower, arms_of, called_by}
 use Rattle.routine_checker.specs.Sets.{Among, is_within, moved, left, gaps_agree}
 use Rattle.routine_checker.specs.Taking.{is_disc_of, is_routine_of, are_arms_of, is_default_of, is_switch_of, is_piece}
-use Rattle.routine_checker.specs.Steps.{State, chosen_from, entry_of, exits_of, entry_at, exits_at, enters, pads, ends, values_of, memberless, left_by}
+use Rattle.routine_checker.specs.Steps.{Judged, chosen_from, entry_of, exits_of, entry_at, exits_at, enters, pads, ends, values_of, memberless, left_by}
 use Rattle.routine_checker.proofs.Claim.{Assumes, DoesPieces}
 use Rattle.routine_checker.proofs.SetLaws.{both, among_or_left, among_or_right}
 use Rattle.routine_checker.proofs.GapLaws.{gaps_same, Behind, gap_behind, behind_moved}
@@ -291,7 +291,7 @@ module _ (graph : List Node) (program : List Routine) (format : Format) (depth r
     pair_ends (routine ∷ other ∷ routines) (member ∷ members) h none = absurd h
 
   -- the pieces of a switch, whose union is known
-  switch_found : (disc : Disc) (arms : List (ℤ × ℕ)) (otherwise : Option ℕ) (state : State) (number : ℕ) → All (IsLower program rank) (arms_of arms otherwise)
+  switch_found : (disc : Disc) (arms : List (ℤ × ℕ)) (otherwise : Option ℕ) (state : Judged) (number : ℕ) → All (IsLower program rank) (arms_of arms otherwise)
       → UnionNode graph program disc arms otherwise (node_at graph number)
       → enters program (Switch disc arms otherwise) state.places state.gap ≡ true → gaps_agree state.places state.gap (number_width (node_of disc)) ≡ true
       → DoesPieces graph program format depth (Switch disc arms otherwise) state (number ∷ [])
@@ -329,7 +329,7 @@ module _ (graph : List Node) (program : List Routine) (format : Format) (depth r
         ended = same_ends opened (then_ends (gap_behind state.places w) (chosen_ends state.places w (λ label is. pair_ends set all (arm_of arms otherwise label) (arm_of union.members union.default label) (pairs label) (memberless_ends label is))));
       }
 
-  pub switch_pieces : (disc : Disc) (arms : List (ℤ × ℕ)) (otherwise : Option ℕ) (state : State) (numbers : List ℕ) → All (IsLower program rank) (called_by (Switch disc arms otherwise))
+  pub switch_pieces : (disc : Disc) (arms : List (ℤ × ℕ)) (otherwise : Option ℕ) (state : Judged) (numbers : List ℕ) → All (IsLower program rank) (called_by (Switch disc arms otherwise))
       → AllByRecursion (λ m. is_piece graph program (Switch disc arms otherwise) m ≡ true) numbers → length numbers ≡ 1
       → enters program (Switch disc arms otherwise) state.places state.gap ≡ true → pads graph program (Switch disc arms otherwise) state.places state.gap ≡ true
       → DoesPieces graph program format depth (Switch disc arms otherwise) state numbers

@@ -1,7 +1,7 @@
 -- The work on a stack.
 use Rattle.std.proofs.Common.{◌≡◌, ℕ, zero, suc, ◌-◌, ◌<◌, List, [], ◌∷◌, ◌++◌, replicate, sym, ap, ◌∙◌, append_assoc, append-nil, arith}
 use Rattle.routine_checker.specs.declared.work.Item.{Item}
-use Rattle.routine_checker.specs.Work.{held, work_of}
+use Rattle.routine_checker.specs.inner.Work.{held, work_of}
 
 -- what is put on top comes first
 pub work_pushed : (items : List Item) (item : Item) → work_of (items ++ item ∷ []) ≡ held item ++ work_of items

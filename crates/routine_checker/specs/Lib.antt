@@ -1,10 +1,6 @@
 pub mod Sets
-pub mod Places
 pub mod Taking
 pub mod Steps
 pub mod Refusal
 pub mod Right
-pub mod Kinds
-pub mod Counts
-pub mod Work
-pub mod Progress
+pub mod inner

@@ -1,8 +1,8 @@
--- What a fault of the checker of routines says.
-use Rattle.routine_checker.specs.declared.fault.RoutineFault.{RoutineFault}
-use Rattle.routine_checker.specs.declared.fault.RoutineFault.TheVariants as faults
+-- What a fault of the checker says.
+use Rattle.routine_checker.specs.declared.fault.CheckFault.{CheckFault}
+use Rattle.routine_checker.specs.declared.fault.CheckFault.TheVariants as faults
 
 -- want of memory is the cause, or the fact holds
-abbrev pub OnlyIf : RoutineFault → Type 0 → Type 0
+abbrev pub OnlyIf : CheckFault → Type 0 → Type 0
 OnlyIf faults.NoMemory fact = Unit {0}
 OnlyIf fault fact = fact

@@ -19,10 +19,10 @@ use Rattle.marshal_program.specs.declared.instr.Routine.{Routine}
 use Rattle.marshal_program.specs.Does.{node_of}
 use Rattle.marshal_program.specs.ProgramRules.{arms_of}
 use Rattle.marshal_program.specs.Served.{served_by}
-use Rattle.routine_checker.specs.declared.fault.StepFault.{StepFault}
-use Rattle.routine_checker.specs.declared.fault.StepFault.TheVariants as stops
-use Rattle.routine_checker.specs.declared.fault.RoutineFault.{RoutineFault}
-use Rattle.routine_checker.specs.declared.fault.RoutineFault.TheVariants.{NoMemory, WrongWork, WrongPadding, EntryOutside, ExitsTooSmall, NoRoutine, NamedEntryNotFull}
+use Rattle.routine_checker.specs.declared.fault.RoutinePlace.{RoutinePlace}
+use Rattle.routine_checker.specs.declared.fault.CheckFault.{CheckFault}
+use Rattle.routine_checker.specs.declared.fault.CheckFault.TheVariants.{WrongWork, WrongPadding, EntryOutside, ExitsTooSmall}
+use Rattle.routine_checker.specs.declared.fault.CheckFault.TheVariants.{NoRoutine, NamedEntryNotFull}
 use Rattle.routine_checker.specs.Sets.{has, is_within, moved, left, closure, gaps_agree, gaps_serve, multiples}
 use Rattle.routine_checker.specs.Taking.{taken, is_done_within, is_piece, pieces}
 
@@ -53,7 +53,7 @@ lead_at graph program routine = lead_of graph (node_in (slice_get program routin
 -- ---- one instruction
 
 -- the work that is left, the positions that are possible in front of the gap that is made, and that gap
-pub record State : Type 0 where
+pub record Judged : Type 0 where
   pub work : List ℕ
   pub places : ℕ
   pub gap : Width
@@ -156,85 +156,84 @@ ends program (Switch disc arms otherwise) places gap =
     (memberless disc arms otherwise (chosen_from disc places))
 
 -- the work is judged first, then the entries, then the gaps
-abbrev pub judged : Bool → Bool → State → Result State StepFault
-judged false padded next = Err stops.Entry
-judged true false next = Err stops.Padding
-judged true true next = Ok next
+abbrev pub tested : RoutinePlace → ℕ → Bool → Bool → Judged → Result Judged CheckFault
+tested at n false padded next = Err (EntryOutside at n)
+tested at n true false next = Err (WrongPadding at n)
+tested at n true true next = Ok next
 
-abbrev pub worked : List Node → List Routine → Instr → State → Option (List ℕ) → Result State StepFault
-worked graph program instr state None = Err stops.Work
-worked graph program instr state (Some rest) =
-    judged (enters program instr state.places state.gap) (pads graph program instr state.places state.gap)
+abbrev pub worked : List Node → List Routine → RoutinePlace → ℕ → Instr → Judged → Option (List ℕ) → Result Judged CheckFault
+worked graph program at n instr state None = Err (WrongWork at n)
+worked graph program at n instr state (Some rest) =
+    tested at n (enters program instr state.places state.gap) (pads graph program instr state.places state.gap)
     (record { work = rest; places = ends program instr state.places state.gap; gap = One })
 
--- A gap is judged with the instruction behind it; two in a row are the wider one.
-unfoldable pub step : List Node → List Routine → Instr → State → Result State StepFault
-step graph program (Align to) state = Ok (record { work = state.work; places = state.places; gap = wider state.gap to })
-step graph program instr state =
-    worked graph program instr state (taken (pieces instr) (is_piece graph program instr) graph state.work)
+-- The instruction with a number. A gap is judged with the instruction behind it; two in a row are the wider one.
+unfoldable pub step : List Node → List Routine → RoutinePlace → ℕ → Instr → Judged → Result Judged CheckFault
+step graph program at n (Align to) state =
+    Ok (record { work = state.work; places = state.places; gap = wider state.gap to })
+step graph program at n instr state =
+    worked graph program at n instr state (taken (pieces instr) (is_piece graph program instr) graph state.work)
 
 -- ---- a routine, a program
 
-abbrev pub fault_at : ℕ → ℕ → StepFault → RoutineFault
-fault_at routine instr stops.Work = WrongWork routine instr
-fault_at routine instr stops.Entry = EntryOutside routine instr
-fault_at routine instr stops.Padding = WrongPadding routine instr
-fault_at routine instr stops.NoMemory = NoMemory
-
-abbrev pub followed_by : (State → Result State RoutineFault) → ℕ → ℕ → Result State StepFault → Result State RoutineFault
-followed_by further routine instr (Err stop) = Err (fault_at routine instr stop)
-followed_by further routine instr (Ok state) = further state
+abbrev pub followed_by : (Judged → Result Judged CheckFault) → Result Judged CheckFault → Result Judged CheckFault
+followed_by further (Err fault) = Err fault
+followed_by further (Ok state) = further state
 
 -- the instructions from a number on
-abbrev pub followed : List Node → List Routine → ℕ → ℕ → List Instr → State → Result State RoutineFault
-followed graph program routine instr [] state = Ok state
-followed graph program routine instr (this ∷ code) state =
-    followed_by (followed graph program routine (suc instr) code) routine instr (step graph program this state)
+abbrev pub followed : List Node → List Routine → RoutinePlace → ℕ → List Instr → Judged → Result Judged CheckFault
+followed graph program at n [] state = Ok state
+followed graph program at n (instr ∷ code) state =
+    followed_by (followed graph program at (suc n) code) (step graph program at n instr state)
 
 -- The end of the code: nothing is left, the gap that is made is none, the positions are among the exits.
-abbrev pub end_fault : Bool → Bool → Bool → ℕ → ℕ → ℕ → Option RoutineFault
-end_fault false padded within routine instr entry = Some (WrongWork routine instr)
-end_fault true false within routine instr entry = Some (WrongPadding routine instr)
-end_fault true true false routine instr entry = Some (ExitsTooSmall routine entry)
-end_fault true true true routine instr entry = None
+abbrev pub end_fault : Bool → Bool → Bool → RoutinePlace → ℕ → ℕ → Option CheckFault
+end_fault false padded within at n entry = Some (WrongWork at n)
+end_fault true false within at n entry = Some (WrongPadding at n)
+end_fault true true false at n entry = Some (ExitsTooSmall at entry)
+end_fault true true true at n entry = None
 
-abbrev pub ended : List Node → ℕ → Routine → ℕ → Result State RoutineFault → Option RoutineFault
-ended graph number routine entry (Err fault) = Some fault
-ended graph number routine entry (Ok state) =
+abbrev pub ended : List Node → RoutinePlace → Routine → ℕ → Result Judged CheckFault → Option CheckFault
+ended graph at routine entry (Err fault) = Some fault
+ended graph at routine entry (Ok state) =
     end_fault (is_done_within 64 graph state.work) (gaps_agree state.places state.gap One)
-    (is_within state.places (slice_index_or routine.exits entry 0)) number (length routine.code) entry
+    (is_within state.places (slice_index_or routine.exits entry 0)) at (length routine.code) entry
 
 -- a routine from one of its entries
-abbrev pub entry_fault : List Node → List Routine → ℕ → Routine → ℕ → Option RoutineFault
-entry_fault graph program number routine entry =
-    ended graph number routine entry
-    (followed graph program number 0 routine.code (record { work = routine.node ∷ []; places = 2 ^ entry; gap = One }))
+abbrev pub entry_fault : List Node → List Routine → RoutinePlace → Routine → ℕ → Option CheckFault
+entry_fault graph program at routine entry =
+    ended graph at routine entry
+    (followed graph program at 0 routine.code (record { work = routine.node ∷ []; places = 2 ^ entry; gap = One }))
 
-abbrev pub or_else : Option RoutineFault → Option RoutineFault → Option RoutineFault
+abbrev pub or_else : Option CheckFault → Option CheckFault → Option CheckFault
 or_else None other = other
 or_else (Some fault) other = Some fault
 
 -- from the entries below n, which rise
-abbrev pub entries_fault : List Node → List Routine → ℕ → Routine → ℕ → Option RoutineFault
-entries_fault graph program number routine zero = None
-entries_fault graph program number routine (suc n) =
-    or_else (entries_fault graph program number routine n)
-    (if has routine.entry n then entry_fault graph program number routine n else None)
+abbrev pub entries_fault : List Node → List Routine → RoutinePlace → Routine → ℕ → Option CheckFault
+entries_fault graph program at routine zero = None
+entries_fault graph program at routine (suc n) =
+    or_else (entries_fault graph program at routine n)
+    (if has routine.entry n then entry_fault graph program at routine n else None)
 
 -- the node has to be there
-unfoldable pub routine_fault : List Node → List Routine → ℕ → Routine → Option RoutineFault
-routine_fault graph program number routine =
-    if ltb routine.node (length graph) then entries_fault graph program number routine 8 else Some (WrongWork number 0)
+unfoldable pub routine_fault : List Node → List Routine → RoutinePlace → Routine → Option CheckFault
+routine_fault graph program at routine =
+    if ltb routine.node (length graph) then entries_fault graph program at routine 8 else Some (WrongWork at 0)
 
--- the routines from a number on
-abbrev pub routines_fault : List Node → List Routine → ℕ → List Routine → Option RoutineFault
-routines_fault graph program number [] = None
-routines_fault graph program number (routine ∷ routines) =
-    or_else (routine_fault graph program number routine) (routines_fault graph program (suc number) routines)
+abbrev pub place_of : ℕ → ℕ → RoutinePlace
+place_of which number = record { program = which; routine = number }
+
+-- the routines from a number on, in the first or second program
+abbrev pub routines_fault : ℕ → List Node → List Routine → ℕ → List Routine → Option CheckFault
+routines_fault which graph program number [] = None
+routines_fault which graph program number (routine ∷ routines) =
+    or_else (routine_fault graph program (place_of which number) routine)
+    (routines_fault which graph program (suc number) routines)
 
 -- the first fault of a program
-abbrev pub program_fault : List Node → List Routine → Option RoutineFault
-program_fault graph program = routines_fault graph program 0 program
+abbrev pub program_fault : ℕ → List Node → List Routine → Option CheckFault
+program_fault which graph program = routines_fault which graph program 0 program
 
 -- ---- names
 
@@ -242,11 +241,11 @@ program_fault graph program = routines_fault graph program 0 program
 abbrev pub has_routine : List Routine → ℕ → Bool
 has_routine program node = list_any (λ routine. eqb routine.node node) program
 
-abbrev pub name_fault_by : Bool → Bool → ℕ → Option RoutineFault
+abbrev pub name_fault_by : Bool → Bool → ℕ → Option CheckFault
 name_fault_by true some node = None
 name_fault_by false true node = Some (NamedEntryNotFull node)
 name_fault_by false false node = Some (NoRoutine node)
 
 -- a node that is asked for by name has a routine that may start everywhere
-abbrev pub name_fault : List Routine → ℕ → Option RoutineFault
+abbrev pub name_fault : List Routine → ℕ → Option CheckFault
 name_fault program node = name_fault_by (is_some (served_by program node)) (has_routine program node) node

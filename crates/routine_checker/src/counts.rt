@@ -5,11 +5,11 @@ ghost use Rattle.std.specs.Prelude.{◌≡◌, ◌<◌, ◌*◌, List, Some, IfO
 ghost use Rattle.type_graph.specs.declared.node.Node.{Node};
 ghost use Rattle.type_graph.specs.Value.{node_at};
 ghost use Rattle.marshal_program.specs.declared.instr.Routine.{Routine};
-ghost use Rattle.routine_checker.specs.Kinds.{is_of};
+ghost use Rattle.routine_checker.specs.inner.Kinds.{is_of};
 ghost use Rattle.routine_checker.specs.Taking.{is_piece};
-ghost use Rattle.routine_checker.specs.Counts.{parts_in, pieces_by, count_in, AreNumbersOf, IsCounted, AreRunCounts, Yields};
+ghost use Rattle.routine_checker.specs.inner.Counts.{parts_in, pieces_by, count_in, AreNumbersOf, IsCounted, AreRunCounts, Yields};
 
-use crate::pieces::{Kind, is_of};
+use crate::pieces::{RunKind, is_of};
 use marshal_program::Instr;
 use std::alloc::{AllocError, Global};
 use type_graph::{Node, Width};
@@ -59,7 +59,7 @@ fn members_count(counts: &[u32], members: &[u32]) -> u32
 }
 
 /// By the counts of its parts.
-fn node_count(counts: &[u32], kind: Kind, node: &Node) -> u32
+fn node_count(counts: &[u32], kind: RunKind, node: &Node) -> u32
     ensures { 0 < result → pieces_by (count_in counts.now) (is_of kind) node.now ≡ result }
 {
     if is_of(kind, node) {
@@ -75,7 +75,12 @@ fn node_count(counts: &[u32], kind: Kind, node: &Node) -> u32
 }
 
 /// With one level more.
-fn deeper(alloc: Global, nodes: &[Node], kind: Kind, counts: &[u32]) -> Result<Vec<u32>, AllocError>
+fn deeper(
+    alloc: Global,
+    nodes: &[Node],
+    kind: RunKind,
+    counts: &[u32],
+) -> Result<Vec<u32>, AllocError>
     ensures { IfOk result (λ numbers. AreNumbersOf (pieces_by (count_in counts.now) (is_of kind)) nodes.now numbers.items) }
 {
     let mut numbers = Vec::with_capacity(alloc, nodes.len())?;
@@ -87,7 +92,7 @@ fn deeper(alloc: Global, nodes: &[Node], kind: Kind, counts: &[u32]) -> Result<V
 
 impl Counts {
     /// Of one kind. A graph has no more levels than 64.
-    pub fn new(alloc: Global, nodes: &[Node], kind: Kind) -> Result<Counts, AllocError>
+    pub fn new(alloc: Global, nodes: &[Node], kind: RunKind) -> Result<Counts, AllocError>
         ensures { IfOk result (λ counts. IsCounted kind nodes.now counts) }
     {
         let mut numbers = Vec::new(alloc);
@@ -119,13 +124,13 @@ pub struct RunCounts {
 }
 
 /// The kind of an instruction that takes a run.
-fn kind_of(instr: &Instr) -> Option<Kind>
+fn kind_of(instr: &Instr) -> Option<RunKind>
     ensures { IfSome result (λ kind. (graph : List Node) (program : List Routine) → is_piece graph program instr.now ≡ (λ number. is_of kind (node_at graph number))) }
 {
     match instr {
-        Instr::Octets { .. } => Some(Kind::Octet),
-        Instr::Bools { .. } => Some(Kind::Boolean),
-        Instr::Words { width, .. } => Some(Kind::Word(*width)),
+        Instr::Octets { .. } => Some(RunKind::Octet),
+        Instr::Bools { .. } => Some(RunKind::Boolean),
+        Instr::Words { width, .. } => Some(RunKind::Word(*width)),
         _ => None,
     }
 }
@@ -135,24 +140,24 @@ impl RunCounts {
         ensures { IfOk result (λ counts. AreRunCounts nodes.now counts) }
     {
         Ok(RunCounts {
-            octets: Counts::new(alloc, nodes, Kind::Octet)?,
-            booleans: Counts::new(alloc, nodes, Kind::Boolean)?,
-            twos: Counts::new(alloc, nodes, Kind::Word(Width::Two))?,
-            fours: Counts::new(alloc, nodes, Kind::Word(Width::Four))?,
-            eights: Counts::new(alloc, nodes, Kind::Word(Width::Eight))?,
+            octets: Counts::new(alloc, nodes, RunKind::Octet)?,
+            booleans: Counts::new(alloc, nodes, RunKind::Boolean)?,
+            twos: Counts::new(alloc, nodes, RunKind::Word(Width::Two))?,
+            fours: Counts::new(alloc, nodes, RunKind::Word(Width::Four))?,
+            eights: Counts::new(alloc, nodes, RunKind::Word(Width::Eight))?,
         })
     }
 
-    fn of(&self, kind: Kind) -> Option<&Counts>
+    fn of(&self, kind: RunKind) -> Option<&Counts>
         ensures { (graph : List Node) → AreRunCounts graph self.now → IfSome result (λ counts. IsCounted kind graph counts.now) }
     {
         match kind {
-            Kind::Octet => Some(&self.octets),
-            Kind::Boolean => Some(&self.booleans),
-            Kind::Word(Width::Two) => Some(&self.twos),
-            Kind::Word(Width::Four) => Some(&self.fours),
-            Kind::Word(Width::Eight) => Some(&self.eights),
-            Kind::Word(Width::One) => None,
+            RunKind::Octet => Some(&self.octets),
+            RunKind::Boolean => Some(&self.booleans),
+            RunKind::Word(Width::Two) => Some(&self.twos),
+            RunKind::Word(Width::Four) => Some(&self.fours),
+            RunKind::Word(Width::Eight) => Some(&self.eights),
+            RunKind::Word(Width::One) => None,
         }
     }
 

@@ -1,4 +1,4 @@
-//! What is judged at an instruction beside its work: where routines are entered, the gaps, and the
+//! What is tested at an instruction beside its work: where routines are entered, the gaps, and the
 //! positions behind it.
 
 ghost use Rattle.std.specs.Prelude.{◌≡◌, ◌<◌, ◌≤◌, [], bit_or, option_to_list};

@@ -14,5 +14,5 @@ mod times;
 mod work;
 
 pub use check::check_routines;
-pub use fault::{RoutineFault, StepFault};
-pub use names::{check_name, check_names};
+pub use fault::{CheckFault, RoutinePlace};
+pub use names::check_name;

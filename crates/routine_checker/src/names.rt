@@ -4,7 +4,7 @@ ghost use Rattle.std.specs.Prelude.{◌≡◌, All, IfErr, OnOk, OnErr, IsSome, 
 ghost use Rattle.marshal_program.specs.Served.{served_by};
 ghost use Rattle.routine_checker.specs.Steps.{name_fault, has_routine};
 
-use crate::fault::RoutineFault;
+use crate::fault::CheckFault;
 use marshal_program::{Program, Routine};
 
 fn has_routine(program: &[Routine], node: u32) -> bool
@@ -17,7 +17,7 @@ fn has_routine(program: &[Routine], node: u32) -> bool
 ///
 /// # Errors
 /// `NamedEntryNotFull` where some routine is one of the node, else `NoRoutine`.
-pub fn check_name(program: &Program, node: u32) -> Result<(), RoutineFault>
+pub fn check_name(program: &Program, node: u32) -> Result<(), CheckFault>
     ensures ok { OnOk result (IsSome (served_by program.now node)) }
     ensures refused { OnErr result (IsSome (served_by program.now node) → ⊥) }
     ensures accepted { OnOk result (name_fault program.now node ≡ None) }
@@ -26,27 +26,8 @@ pub fn check_name(program: &Program, node: u32) -> Result<(), RoutineFault>
     if program.serving(node).is_some() {
         Ok(())
     } else if has_routine(program.routines(), node) {
-        Err(RoutineFault::NamedEntryNotFull { node })
+        Err(CheckFault::NamedEntryNotFull { node })
     } else {
-        Err(RoutineFault::NoRoutine { node })
+        Err(CheckFault::NoRoutine { node })
     }
-}
-
-/// Accepts nodes that each have, in the program beside them, a routine that may start at every
-/// position. Takes no memory.
-///
-/// # Errors
-/// Of the first that has none: `NamedEntryNotFull` where some routine is one of the node, else
-/// `NoRoutine`.
-pub fn check_names(names: &[(&Program, u32)]) -> Result<(), RoutineFault>
-    ensures served { OnOk result (All (λ name. IsSome (served_by name.0.now name.1)) names.now) }
-    ensures refused { OnErr result (All (λ name. IsSome (served_by name.0.now name.1)) names.now → ⊥) }
-{
-    for name in names {
-        match check_name(name.0, name.1) {
-            Ok(()) => (),
-            Err(fault) => return Err(fault),
-        }
-    }
-    Ok(())
 }

@@ -2,7 +2,7 @@
 
 ghost use Rattle.std.specs.Prelude.{◌≡◌, ◌<◌, ◌==◌, ◌&&◌, ℕ, Bool, slice_get};
 ghost use Rattle.std.specs.Ordering.{int_eq};
-ghost use Rattle.routine_checker.specs.Kinds.{is_of, part_holds};
+ghost use Rattle.routine_checker.specs.inner.Kinds.{is_of, part_holds};
 ghost use Rattle.type_graph.specs.Value.{node_at};
 ghost use Rattle.type_graph.specs.Words.{octets_in};
 ghost use Rattle.routine_checker.specs.Taking.{is_octet, is_whole, is_boolean, is_enum, is_text, is_seq, only_part, is_one, is_routine_of, is_disc_of, are_arms_of, is_default_of, is_switch_of, is_piece, pieces};
@@ -63,30 +63,30 @@ fn is_text(bound: u32, node: &Node) -> bool
 
 /// A kind of node that a run has.
 #[derive(Clone, Copy, Debug, PartialEq, Eq)]
-pub enum Kind {
+pub enum RunKind {
     Octet,
     Boolean,
     Word(Width),
 }
 
-pub fn is_of(kind: Kind, node: &Node) -> bool
+pub fn is_of(kind: RunKind, node: &Node) -> bool
     ensures { result ≡ is_of kind node.now }
 {
     match kind {
-        Kind::Octet => is_octet(node),
-        Kind::Boolean => is_boolean(node),
-        Kind::Word(width) => is_whole(width, node),
+        RunKind::Octet => is_octet(node),
+        RunKind::Boolean => is_boolean(node),
+        RunKind::Word(width) => is_whole(width, node),
     }
 }
 
 /// The same of the node of a number. What stands past the end of a graph counts as an octet.
-fn is_of_at(nodes: &[Node], kind: Kind, number: u32) -> bool
+fn is_of_at(nodes: &[Node], kind: RunKind, number: u32) -> bool
     ensures { result ≡ is_of kind (node_at nodes.now number) }
 {
     match nodes.get(number as usize) {
         Some(node) => is_of(kind, node),
         None => match kind {
-            Kind::Octet => true,
+            RunKind::Octet => true,
             _ => false,
         },
     }
@@ -116,7 +116,7 @@ fn only_part_at(nodes: &[Node], number: u32) -> Option<u32>
 }
 
 /// Whether the node, or the only part of it, is of the kind.
-fn is_one(nodes: &[Node], kind: Kind, number: u32) -> bool
+fn is_one(nodes: &[Node], kind: RunKind, number: u32) -> bool
     ensures { result ≡ is_one 64 (is_of kind) nodes.now number }
 {
     let mut at = number;
@@ -133,7 +133,7 @@ fn is_one(nodes: &[Node], kind: Kind, number: u32) -> bool
 }
 
 /// A sequence of the bound, whose elements are one of the kind each.
-fn is_seq_of_kind(nodes: &[Node], bound: u32, kind: Kind, node: &Node) -> bool
+fn is_seq_of_kind(nodes: &[Node], bound: u32, kind: RunKind, node: &Node) -> bool
     ensures { result ≡ is_seq bound (is_one 64 (is_of kind) nodes.now) node.now }
 {
     match node {
@@ -266,10 +266,10 @@ fn is_piece_of(nodes: &[Node], program: &[Routine], instr: &Instr, number: u32, 
         Instr::Bools { .. } => is_boolean(node),
         Instr::EnumWord { limit } => is_enum(*limit, node),
         Instr::Text { bound } => is_text(*bound, node),
-        Instr::SeqOctets { bound } => is_seq_of_kind(nodes, *bound, Kind::Octet, node),
-        Instr::SeqBools { bound } => is_seq_of_kind(nodes, *bound, Kind::Boolean, node),
+        Instr::SeqOctets { bound } => is_seq_of_kind(nodes, *bound, RunKind::Octet, node),
+        Instr::SeqBools { bound } => is_seq_of_kind(nodes, *bound, RunKind::Boolean, node),
         Instr::SeqWords { width, bound, .. } => {
-            is_seq_of_kind(nodes, *bound, Kind::Word(*width), node)
+            is_seq_of_kind(nodes, *bound, RunKind::Word(*width), node)
         }
         Instr::SeqOf { bound, routine, .. } => is_seq_of(program, *bound, *routine, node),
         Instr::Times { routine, .. } | Instr::Call { routine } => {

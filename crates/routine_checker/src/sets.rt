@@ -3,7 +3,7 @@
 
 ghost use Rattle.std.specs.Prelude.{◌≡◌, ◌<◌, ◌≤◌, ◌+◌, ◌%◌, ◌^◌, length, slice_index_or, if◌then◌else◌};
 ghost use Rattle.routine_checker.specs.Sets.{has, is_within, moved, left, closure, gaps_agree, gaps_serve, multiples};
-ghost use Rattle.routine_checker.specs.Places.{agreeing};
+ghost use Rattle.routine_checker.specs.inner.Places.{agreeing};
 ghost use Rattle.type_graph.specs.Words.{octets_in, pad};
 
 use type_graph::Width;

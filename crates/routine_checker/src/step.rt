@@ -3,16 +3,17 @@
 ghost use Rattle.std.specs.Prelude.{◌≡◌, ◌<◌, [], ◌∷◌, Ok, Err, IfOk, OnOk, IfErr};
 ghost use Rattle.type_graph.specs.declared.width.Width.TheVariants.{One};
 ghost use Rattle.type_graph.specs.Words.{wider};
-ghost use Rattle.routine_checker.specs.Steps.{State, step};
-ghost use Rattle.routine_checker.specs.Work.{work_of};
-ghost use Rattle.routine_checker.specs.Counts.{AreRunCounts};
-ghost use Rattle.routine_checker.specs.Progress.{state_of, OnlyIfStep};
+ghost use Rattle.routine_checker.specs.Steps.{Judged, step};
+ghost use Rattle.routine_checker.specs.inner.Work.{work_of};
+ghost use Rattle.routine_checker.specs.inner.Counts.{AreRunCounts};
+ghost use Rattle.routine_checker.specs.inner.Progress.{state_of};
+ghost use Rattle.routine_checker.specs.Refusal.{OnlyIf};
 
 use crate::counts::RunCounts;
-use crate::fault::StepFault;
+use crate::fault::{CheckFault, RoutinePlace};
 use crate::judge::{ends, enters, pads};
 use crate::pieces::pieces;
-use crate::work::{Wanted, Work};
+use crate::work::{NodesTaken, Work};
 use marshal_program::{Instr, Routine};
 use std::alloc::{AllocError, Global};
 use type_graph::{Graph, Width};
@@ -50,35 +51,37 @@ impl<'g> Progress<'g> {
         })
     }
 
-    /// Judges the work of the instruction, then the entries of what it names, then the gaps.
+    /// Judges the work of the instruction with a number, then the entries of what it names, then the gaps.
     pub fn step(
         &mut self,
         graph: &'g Graph,
         counts: &RunCounts,
         program: &'g [Routine],
+        at: RoutinePlace,
+        n: u32,
         instr: &'g Instr,
-    ) -> Result<(), StepFault>
+    ) -> Result<(), CheckFault>
         requires { AreRunCounts graph.now counts.now }
-        ensures ok { OnOk result (step graph.now program.now instr.now (state_of self.old) ≡ Ok (state_of self.new)) }
-        ensures refused { IfErr result (λ fault. OnlyIfStep fault (step graph.now program.now instr.now (state_of self.old) ≡ Err fault)) }
+        ensures ok { OnOk result (step graph.now program.now at n instr.now (state_of self.old) ≡ Ok (state_of self.new)) }
+        ensures refused { IfErr result (λ fault. OnlyIf fault (step graph.now program.now at n instr.now (state_of self.old) ≡ Err fault)) }
     {
         if let Instr::Align { to } = instr {
             self.gap = wider(self.gap, *to);
             return Ok(());
         }
-        let wanted = Wanted {
+        let wanted = NodesTaken {
             nodes: graph.nodes(),
             program,
             instr,
         };
         if !self.work.take(wanted, counts, pieces(instr))? {
-            return Err(StepFault::Work);
+            return Err(CheckFault::WrongWork { at, instr: n });
         }
         if !enters(program, instr, self.places, self.gap) {
-            return Err(StepFault::Entry);
+            return Err(CheckFault::EntryOutside { at, instr: n });
         }
         if !pads(graph, program, instr, self.places, self.gap) {
-            return Err(StepFault::Padding);
+            return Err(CheckFault::WrongPadding { at, instr: n });
         }
         self.places = ends(program, instr, self.places, self.gap);
         self.gap = Width::One;

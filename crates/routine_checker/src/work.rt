@@ -3,8 +3,8 @@
 ghost use Rattle.std.specs.Prelude.{ℕ, List, ◌≡◌, ◌<◌, ◌≤◌, ◌-◌, [], ◌∷◌, ◌++◌, IfOk, IfSome, IfNone, IsTrue, IsFalse, Some, None, replicate};
 ghost use Rattle.type_graph.specs.Value.{node_at};
 ghost use Rattle.routine_checker.specs.Taking.{parts_of, taken_within, taken, is_done_within};
-ghost use Rattle.routine_checker.specs.Counts.{AreRunCounts, Yields};
-ghost use Rattle.routine_checker.specs.Work.{wants, held, held_of, work_of};
+ghost use Rattle.routine_checker.specs.inner.Counts.{AreRunCounts, Yields};
+ghost use Rattle.routine_checker.specs.inner.Work.{wants, held, held_of, work_of};
 
 use crate::counts::RunCounts;
 use crate::pieces::is_piece;
@@ -14,13 +14,13 @@ use type_graph::Node;
 
 /// The nodes that an instruction of a program takes.
 #[derive(Clone, Copy)]
-pub struct Wanted<'g> {
+pub struct NodesTaken<'g> {
     pub nodes: &'g [Node],
     pub program: &'g [Routine],
     pub instr: &'g Instr,
 }
 
-impl<'g> Wanted<'g> {
+impl<'g> NodesTaken<'g> {
     fn is(self, number: u32) -> bool
         ensures { result ≡ wants self.entry number }
     {
@@ -90,7 +90,7 @@ fn parts_at(nodes: &[Node], number: u32) -> Option<Item<'_>>
     }
 }
 
-impl<'g> Wanted<'g> {
+impl<'g> NodesTaken<'g> {
     /// What a node is opened into that is made of more than so many pieces.
     fn parts_of_more(self, counts: &RunCounts, pieces: u32, number: u32) -> Option<Item<'g>>
         requires some { 0 < pieces }
@@ -162,7 +162,7 @@ impl<'g> Work<'g> {
 
     /// Takes the first node that the instruction wants, if nothing but opened nodes stands before
     /// it.
-    fn take_one(&mut self, wanted: Wanted<'g>) -> Result<bool, AllocError>
+    fn take_one(&mut self, wanted: NodesTaken<'g>) -> Result<bool, AllocError>
         ensures taken { IfOk result (λ took. IsTrue took → taken_within 64 (wants wanted.entry) wanted.entry.nodes.now (work_of self.old.items.items) ≡ Some (work_of self.new.items.items)) }
         ensures refused { IfOk result (λ took. IsFalse took → taken_within 64 (wants wanted.entry) wanted.entry.nodes.now (work_of self.old.items.items) ≡ None) }
     {
@@ -185,7 +185,7 @@ impl<'g> Work<'g> {
     /// Opens the first node as long as it is made of more pieces than are wanted.
     fn open(
         &mut self,
-        wanted: Wanted<'g>,
+        wanted: NodesTaken<'g>,
         counts: &RunCounts,
         pieces: u32,
     ) -> Result<(), AllocError>
@@ -218,7 +218,7 @@ impl<'g> Work<'g> {
     /// none where the first can't be taken.
     fn take_some(
         &mut self,
-        wanted: Wanted<'g>,
+        wanted: NodesTaken<'g>,
         counts: &RunCounts,
         pieces: u32,
     ) -> Result<u32, AllocError>
@@ -248,7 +248,7 @@ impl<'g> Work<'g> {
     /// Takes so many pieces of an instruction, and tells whether they were there.
     pub fn take(
         &mut self,
-        wanted: Wanted<'g>,
+        wanted: NodesTaken<'g>,
         counts: &RunCounts,
         pieces: u32,
     ) -> Result<bool, AllocError>

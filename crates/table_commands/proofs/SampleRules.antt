@@ -6,11 +6,10 @@ use Rattle.std.proofs.lemmas.List.Elements.{All-from_recursion}
 use Rattle.type_graph.specs.GraphRules.{IsNode, IsPart, AreMembers, IsShallow, IsGraph}
 use Rattle.type_graph.specs.Walks.{height_within}
 use Rattle.marshal_program.specs.Plain.{plain_program}
-use Rattle.marshal_program.specs.declared.instr.Routine.{Routine}
-use Rattle.marshal_program.specs.ProgramRules.{IsProgram, IsRoutine}
+use Rattle.marshal_program.specs.ProgramRules.{IsProgram}
 use Rattle.marshal_program.proofs.PlainRules.{plain_is_program}
 use Rattle.type_model.specs.ModelRules.{IsModel, IsInterface, IsOperation, IsException}
-use Rattle.table_file.specs.declared.table.Use.TheVariants.{First}
+use Rattle.table_file.specs.declared.table.Which.TheVariants.{First}
 use Rattle.table_file.specs.Table.{AreUses}
 use Rattle.position_checker.specs.Acceptance.{IsLone}
 use Rattle.table_commands.specs.Sample.{sample_model, sample_nodes, sample_program, sample_table}
@@ -70,9 +69,6 @@ sample_has_uses = record {
       let j_is : j ≡ 0 = omega (arith, slice_get_within ((codes "S", 3) ∷ []) j other there) in
       ap (slice_get (First ∷ [])) (i_is ∙ sym j_is);
 }
-
-pub empty_is_program : IsProgram []
-empty_is_program = record { limited = omega arith; instrs = omega arith; routines = All-from_recursion (IsRoutine []) [] tt }
 
 pub sample_is_lone : IsLone sample_table
 sample_is_lone = record {

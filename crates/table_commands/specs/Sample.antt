@@ -7,7 +7,7 @@ use Rattle.type_model.specs.ModelRules.{Parts, parts_of}
 use Rattle.marshal_program.specs.declared.instr.Instr.{Instr}
 use Rattle.marshal_program.specs.declared.instr.Instr.TheVariants.{Align, Octets, Words, Text, Call}
 use Rattle.marshal_program.specs.declared.instr.Routine.{Routine}
-use Rattle.table_file.specs.declared.table.Use.TheVariants.{First}
+use Rattle.table_file.specs.declared.table.Which.TheVariants.{First}
 use Rattle.table_file.specs.Table.{TableParts, table_of}
 
 -- an octet, an unsigned long, a string, and the structure of the three

@@ -9,7 +9,7 @@ ghost use Rattle.table_commands.specs.Sample.{everywhere, sample_model, sample_n
 use marshal_program::{Code, Instr, Program, Routine};
 use position_checker::{Accepted, CheckFault, check};
 use std::alloc::{AllocError, Global};
-use table_file::{Table, Use};
+use table_file::{Table, Which};
 use type_graph::{Graph, GraphFault, Items, Members, Node, Width};
 use type_model::{Model, Name};
 
@@ -118,23 +118,12 @@ fn program(alloc: Global) -> Result<Program, AllocError>
     }
 }
 
-/// A program without routines.
-#[tactic(auto, using(crate::proofs::SampleRules::empty_is_program))]
-fn no_program(alloc: Global) -> Program
-    ensures { result ≡ [] }
-{
-    match Program::new(Vec::new(alloc)) {
-        Ok(program) => program,
-        Err(_) => unreachable!(),
-    }
-}
-
 #[tactic(auto, using(crate::proofs::SampleRules::sample_has_uses))]
 fn table(alloc: Global) -> Result<Table, AllocError>
     ensures { IfOk result (λ table. table ≡ sample_table) }
 {
-    let uses = Items::new(vec![in alloc; Use::First]?);
-    match Table::new(model(alloc)?, program(alloc)?, no_program(alloc), uses) {
+    let uses = Items::new(vec![in alloc; Which::First]?);
+    match Table::new(model(alloc)?, program(alloc)?, Program::empty(alloc), uses) {
         Ok(table) => Ok(table),
         Err(_) => unreachable!(),
     }

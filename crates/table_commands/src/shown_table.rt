@@ -4,7 +4,7 @@ use crate::shown_program::ShownProgram;
 use position_checker::Accepted;
 use std::alloc::{AllocError, Global};
 use std::fmt;
-use table_file::Use;
+use table_file::Which;
 
 /// An accepted table as the listing shows it: a line for each name, with its node and the routine
 /// that serves it; then the two programs, each with its routines.
@@ -19,19 +19,11 @@ struct ShownName<'t> {
     node: u32,
 }
 
-/// 0 for the first program, 1 for the second.
-fn number_of(program: Use) -> u8 {
-    match program {
-        Use::First => 0,
-        Use::Second => 1,
-    }
-}
-
 impl fmt::Display for ShownName<'_> {
     fn fmt<W: fmt::Write>(&self, f: &mut fmt::Formatter<W>) -> fmt::Result {
         write!(f, "name {} node {}", self.name, self.node)?;
         if let Some(program) = self.table.program_of(self.name) {
-            write!(f, " program {}", number_of(program))?;
+            write!(f, " program {}", program.number())?;
         }
         if let Some(routine) = self.table.routine_of(self.name) {
             write!(f, " routine {routine}")?;
@@ -48,8 +40,8 @@ impl fmt::Display for ShownTable<'_> {
             let (name, node) = names.pair(place);
             write!(f, "{}", ShownName { table, name, node })?;
         }
-        for program in [Use::First, Use::Second] {
-            writeln!(f, "program {}", number_of(program))?;
+        for program in [Which::First, Which::Second] {
+            writeln!(f, "program {}", program.number())?;
             write!(f, "{}", ShownProgram(table.table().program(program)))?;
         }
         Ok(())

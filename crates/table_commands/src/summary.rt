@@ -6,13 +6,13 @@ ghost use Rattle.table_commands.specs.Lines.{accepted};
 
 use position_checker::Accepted;
 use std::alloc::{AllocError, Global};
-use table_file::Use;
+use table_file::Which;
 
 /// The line `accepted N`: how many routines both programs have.
 pub fn accepted_line(alloc: Global, table: &Accepted) -> Result<String, AllocError>
     ensures { IfOk result (λ line. string_bytes line ≡ accepted table.now) }
 {
-    let first = table.table().program(Use::First).routines().len();
-    let second = table.table().program(Use::Second).routines().len();
+    let first = table.table().program(Which::First).routines().len();
+    let second = table.table().program(Which::Second).routines().len();
     format!(in alloc; "accepted {}\n", first + second)
 }

@@ -5,17 +5,18 @@ use Rattle.std.specs.Prelude.{◌⊎◌, IfOk, IfErr}
 use Rattle.std.specs.Fmt.{◌++?◌}
 use Rattle.std.specs.List.{AllByRecursion}
 use Rattle.marshal_program.specs.declared.fault.TableFault.{TableFault}
-use Rattle.table_file.specs.declared.table.Use.{Use}
-use Rattle.table_file.specs.declared.table.Use.TheVariants.{First}
+use Rattle.table_file.specs.declared.table.Which.{Which}
+use Rattle.table_file.specs.declared.table.Which.TheVariants.{First}
 use Rattle.table_file.specs.Table.{TableParts, IsTable}
-use Rattle.table_file.specs.TableSpelling.{Spells, SpellsOld, spelled_use}
+use Rattle.table_file.specs.TableSpelling.{Spells, SpellsOld, spelled_which}
 use Rattle.table_file.specs.Octets.{spelled_run}
-use Rattle.table_file.specs.Reading.{OnlyIf, BeginsWithNone, Reads, Whole, beside}
-use Rattle.table_file.specs.Joins.{joins_assoc, parted}
-use Rattle.table_file.specs.ListCodes.{run_at}
-use Rattle.table_file.specs.TableCodes.{MostFields, OldFields, TableFields, all_first, behind_start, body_fields, model_from, most_code, of_parts, old_code, one_fields, spelled_body, spelled_fields, spelled_most, spelled_old_body, spelled_old_fields, table_fields, table_from, whole}
-use Rattle.table_file.specs.PartCodes.{model_fields}
-use Rattle.table_file.specs.Decoding.{IsOldBody, fields_of}
+use Rattle.table_file.specs.inner.Reading.{BeginsWithNone, Reads, Whole, beside}
+use Rattle.table_file.specs.Refusal.{OnlyIf}
+use Rattle.table_file.specs.inner.Joins.{joins_assoc, parted}
+use Rattle.table_file.specs.inner.ListCodes.{run_at}
+use Rattle.table_file.specs.inner.TableCodes.{MostFields, OldFields, TableFields, all_first, behind_start, body_fields, model_from, most_code, of_parts, old_code, one_fields, spelled_body, spelled_fields, spelled_most, spelled_old_body, spelled_old_fields, table_fields, table_from, whole}
+use Rattle.table_file.specs.inner.PartCodes.{model_fields}
+use Rattle.table_file.specs.inner.Decoding.{IsOldBody, fields_of}
 use Rattle.table_file.proofs.ReadLaws.{only_if, only_if_then}
 
 -- what follows of every fault
@@ -58,25 +59,25 @@ whole_read {A} f one octets r (Err fault) old new start reads kept refused =
 
 no_most : (octets : List ℕ) → BeginsWithNone spelled_most octets → BeginsWithNone spelled_fields octets
 no_most octets none = λ x rest e.
-    let p = parted (spelled_most x.0) (spelled_run (length x.0.0.1.0) spelled_use x.1) (Some rest) octets e in
+    let p = parted (spelled_most x.0) (spelled_run (length x.0.0.1.0) spelled_which x.1) (Some rest) octets e in
     none x.0 p.0 p.2
 
 pub most_fails : (fault : TableFault) (old new : Option (List ℕ)) → Reads spelled_most (Err fault) old new → Reads spelled_fields (Err fault) old new
 most_fails fault (Some octets) new r = record { reads = only_if_then fault (BeginsWithNone spelled_most octets) (BeginsWithNone spelled_fields octets) (no_most octets) r.reads }
 most_fails fault None new r = record { reads = tt }
 
-no_uses : (most : MostFields) (mid octets : List ℕ) → spelled_most most ++? Some mid ≡ Some octets → BeginsWithNone (spelled_run (length most.0.1.0) spelled_use) mid
+no_uses : (most : MostFields) (mid octets : List ℕ) → spelled_most most ++? Some mid ≡ Some octets → BeginsWithNone (spelled_run (length most.0.1.0) spelled_which) mid
     → BeginsWithNone spelled_fields octets
 no_uses most mid octets e none = λ x rest ex.
-    let p = parted (spelled_most x.0) (spelled_run (length x.0.0.1.0) spelled_use x.1) (Some rest) octets ex in
+    let p = parted (spelled_most x.0) (spelled_run (length x.0.0.1.0) spelled_which x.1) (Some rest) octets ex in
     let same = most_code.one x.0 most p.0 mid octets p.2 e in
     let counts : length x.0.0.1.0 ≡ length most.0.1.0 = ap (λ (m : MostFields). length m.0.1.0) same.0 in
-    none x.1 rest (ap (λ n. spelled_run n spelled_use x.1 ++? Some rest) (sym counts) ∙ p.1 ∙ ap Some same.1)
+    none x.1 rest (ap (λ n. spelled_run n spelled_which x.1 ++? Some rest) (sym counts) ∙ p.1 ∙ ap Some same.1)
 
-behind : (most : MostFields) (r : Result (List Use) TableFault) (old mid new : Option (List ℕ))
-    → Reads spelled_most (Ok most) old mid → Reads (spelled_run (length most.0.1.0) spelled_use) r mid new → Reads spelled_fields (beside most r) old new
+behind : (most : MostFields) (r : Result (List Which) TableFault) (old mid new : Option (List ℕ))
+    → Reads spelled_most (Ok most) old mid → Reads (spelled_run (length most.0.1.0) spelled_which) r mid new → Reads spelled_fields (beside most r) old new
 behind most (Ok uses) (Some octets) (Some m) (Some rest) one two =
-    record { reads = joins_assoc (spelled_most most) (spelled_run (length most.0.1.0) spelled_use uses) (Some rest) ∙ ap (λ o. spelled_most most ++? o) two.reads ∙ one.reads }
+    record { reads = joins_assoc (spelled_most most) (spelled_run (length most.0.1.0) spelled_which uses) (Some rest) ∙ ap (λ o. spelled_most most ++? o) two.reads ∙ one.reads }
 behind most (Ok uses) (Some octets) (Some m) None one two = record { reads = no_uses most m octets one.reads two.reads }
 behind most (Ok uses) (Some octets) None (Some rest) one two = absurd two.reads
 behind most (Ok uses) (Some octets) None None one two = record { reads = no_most octets one.reads }
@@ -84,21 +85,21 @@ behind most (Ok uses) None (Some m) new one two = absurd one.reads
 behind most (Ok uses) None None (Some rest) one two = absurd two.reads
 behind most (Ok uses) None None None one two = record { reads = tt }
 behind most (Err fault) (Some octets) (Some m) new one two =
-    record { reads = only_if_then fault (BeginsWithNone (spelled_run (length most.0.1.0) spelled_use) m) (BeginsWithNone spelled_fields octets) (no_uses most m octets one.reads) two.reads }
+    record { reads = only_if_then fault (BeginsWithNone (spelled_run (length most.0.1.0) spelled_which) m) (BeginsWithNone spelled_fields octets) (no_uses most m octets one.reads) two.reads }
 behind most (Err fault) (Some octets) None new one two = record { reads = only_if fault (BeginsWithNone spelled_fields octets) (no_most octets one.reads) }
 behind most (Err fault) None mid new one two = record { reads = tt }
 
-pub uses_read : (most : MostFields) (count : ℕ) (r : Result (List Use) TableFault) (q : Result TableFields TableFault) (old mid new : Option (List ℕ)) → count ≡ length most.0.1.0 → q ≡ beside most r
-    → Reads spelled_most (Ok most) old mid → Reads (spelled_run count spelled_use) r mid new → Reads spelled_fields q old new
+pub uses_read : (most : MostFields) (count : ℕ) (r : Result (List Which) TableFault) (q : Result TableFields TableFault) (old mid new : Option (List ℕ)) → count ≡ length most.0.1.0 → q ≡ beside most r
+    → Reads spelled_most (Ok most) old mid → Reads (spelled_run count spelled_which) r mid new → Reads spelled_fields q old new
 uses_read most count r q old mid new c is m u =
-    subst (λ s. Reads spelled_fields s old new) (sym is) (behind most r old mid new m (subst (λ n. Reads (spelled_run n spelled_use) r mid new) c u))
+    subst (λ s. Reads spelled_fields s old new) (sym is) (behind most r old mid new m (subst (λ n. Reads (spelled_run n spelled_which) r mid new) c u))
 
 -- ---- tables of what was read
 
 pub fields_body : (d : TableFields) (octets : List ℕ) → spelled_fields d ≡ Some octets → spelled_body (table_from d) ≡ Some octets
 fields_body d octets e =
-    let p = parted (spelled_most d.0) (spelled_run (length d.0.0.1.0) spelled_use d.1) (Some []) octets (whole (spelled_fields d) octets e) in
-    let long = run_at (length d.0.0.1.0) spelled_use d.1 [] p.0 p.1 in
+    let p = parted (spelled_most d.0) (spelled_run (length d.0.0.1.0) spelled_which d.1) (Some []) octets (whole (spelled_fields d) octets e) in
+    let long = run_at (length d.0.0.1.0) spelled_which d.1 [] p.0 p.1 in
     body_fields (table_from d) long.0 ∙ e
 
 abbrev pub NoBody : List ℕ → Type 0

@@ -7,7 +7,7 @@ use Rattle.type_graph.specs.declared.width.Order.TheVariants.{Big}
 use Rattle.type_graph.specs.Words.{octets_of, plain_octets, twos_complement}
 use Rattle.type_graph.specs.Value.{IsSignedIn}
 use Rattle.table_file.specs.Octets.{spelled_label}
-use Rattle.table_file.specs.LabelCode.{halves}
+use Rattle.table_file.specs.inner.LabelCode.{halves}
 
 -- a number that 16 octets say
 pub label_is : (z : ℤ) → IsSignedIn 16 z → spelled_label z ≡ Some (octets_of Big 16 z)

@@ -4,10 +4,10 @@ use Rattle.std.specs.Prelude.{IfSome}
 use Rattle.std.specs.Fmt.{◌++?◌}
 use Rattle.marshal_program.specs.declared.fault.TableFault.{TableFault}
 use Rattle.table_file.specs.Octets.{spelled_word, spelled_each, spelled_run, spelled_list}
-use Rattle.table_file.specs.Reading.{BeginsWithNone, Reads}
-use Rattle.table_file.specs.Joins.{joins_assoc, nothing_before, split, parted}
-use Rattle.table_file.specs.Codes.{IsCode, word_code}
-use Rattle.table_file.specs.ListCodes.{run_at, run_of, each_long}
+use Rattle.table_file.specs.inner.Reading.{BeginsWithNone, Reads}
+use Rattle.table_file.specs.inner.Joins.{joins_assoc, nothing_before, split, parted}
+use Rattle.table_file.specs.inner.Codes.{IsCode, word_code}
+use Rattle.table_file.specs.inner.ListCodes.{run_at, run_of, each_long}
 use Rattle.table_file.proofs.ReadLaws.{only_if, only_if_then}
 
 -- what was read of a run of so many

@@ -4,8 +4,8 @@ use Rattle.std.specs.Prelude.{slice_get}
 use Rattle.std.specs.Fmt.{◌++?◌}
 use Rattle.marshal_program.specs.declared.fault.TableFault.{TableFault}
 use Rattle.table_file.specs.Octets.{spelled_each}
-use Rattle.table_file.specs.Reading.{OnlyIf}
-use Rattle.table_file.specs.Joins.{joins_assoc}
+use Rattle.table_file.specs.Refusal.{OnlyIf}
+use Rattle.table_file.specs.inner.Joins.{joins_assoc}
 use Rattle.table_file.proofs.ReadLaws.{only_if_then}
 
 drop_at : {A : Type 0} (xs : List A) (i : ℕ) (x : A) → slice_get xs i ≡ Some x → drop i xs ≡ x ∷ drop (suc i) xs

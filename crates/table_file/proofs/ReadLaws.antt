@@ -5,9 +5,10 @@ use Rattle.std.specs.Fmt.{◌++?◌}
 use Rattle.marshal_program.specs.declared.fault.TableFault.{TableFault}
 use Rattle.marshal_program.specs.declared.fault.TableFault.TheVariants.{NoMemory}
 use Rattle.table_file.specs.Octets.{spelled_pair}
-use Rattle.table_file.specs.Reading.{OnlyIf, BeginsWithNone, Reads, Takes, beside}
-use Rattle.table_file.specs.Joins.{joins_assoc, split, parted}
-use Rattle.table_file.specs.Codes.{IsCode}
+use Rattle.table_file.specs.inner.Reading.{BeginsWithNone, Reads, Takes, beside}
+use Rattle.table_file.specs.Refusal.{OnlyIf}
+use Rattle.table_file.specs.inner.Joins.{joins_assoc, split, parted}
+use Rattle.table_file.specs.inner.Codes.{IsCode}
 
 -- a fact is no less than is asked
 pub only_if : (fault : TableFault) (P : Type 0) → P → OnlyIf fault P

@@ -4,9 +4,9 @@ use Rattle.std.specs.Prelude.{slice_get}
 use Rattle.std.proofs.lemmas.Bool.{cases_lt}
 use Rattle.std.proofs.lemmas.Bool.Decides.{eqb_tells}
 use Rattle.std.proofs.lemmas.Option.{slice_get_within}
-use Rattle.table_file.specs.declared.table.Use.{Use}
+use Rattle.table_file.specs.declared.table.Which.{Which}
 use Rattle.table_file.specs.Table.{AreAlike}
-use Rattle.table_file.specs.Seen.{AllNone}
+use Rattle.table_file.specs.inner.Seen.{AllNone}
 
 -- after a write
 get_set : {X : Type 0} (xs : List X) (i : ℕ) (v : X) → i < length xs → slice_get (set xs i v) i ≡ Some v
@@ -26,19 +26,19 @@ abbrev pub Names : Type 0
 Names = List (List ℕ × ℕ)
 
 -- the uses of the names before a place were seen, and no others
-pub record Seen (names : Names) (uses : List Use) (seen : List (Option Use)) (place : ℕ) : Type 0 where
+pub record Seen (names : Names) (uses : List Which) (seen : List (Option Which)) (place : ℕ) : Type 0 where
   pub before : (j : ℕ) (name : List ℕ × ℕ) → j < place → slice_get names j ≡ Some name → slice_get seen name.1 ≡ Some (slice_get uses j)
-  pub from : (node : ℕ) (u : Use) → slice_get seen node ≡ Some (Some u)
+  pub from : (node : ℕ) (u : Which) → slice_get seen node ≡ Some (Some u)
       → (j : ℕ) × (name : List ℕ × ℕ) × (slice_get names j ≡ Some name) × (name.1 ≡ node) × (slice_get uses j ≡ Some u)
 
-pub nothing_seen : (names : Names) (uses : List Use) (seen : List (Option Use)) → AllNone seen → Seen names uses seen 0
+pub nothing_seen : (names : Names) (uses : List Which) (seen : List (Option Which)) → AllNone seen → Seen names uses seen 0
 nothing_seen names uses seen none = record {
   before = λ j name h e. absurd (omega arith);
   from = λ node u e. absurd (none node u e);
 }
 
 -- one of which the use was seen
-pub seen_again : (names : Names) (uses : List Use) (seen : List (Option Use)) (place next : ℕ) (name : List ℕ × ℕ) (u : Use) → next ≡ place + 1
+pub seen_again : (names : Names) (uses : List Which) (seen : List (Option Which)) (place next : ℕ) (name : List ℕ × ℕ) (u : Which) → next ≡ place + 1
     → slice_get names place ≡ Some name → slice_get seen name.1 ≡ Some (Some u) → slice_get uses place ≡ Some u → Seen names uses seen place → Seen names uses seen next
 seen_again names uses seen place next name u n at is used s = record {
   before = λ j other h e. elim (cases_lt j place) [
@@ -51,13 +51,13 @@ seen_again names uses seen place next name u n at is used s = record {
   from = s.from;
 }
 
-no_use : (xs : List Use) (j : ℕ) → j < length xs → slice_get xs j ≡ None → ⊥
+no_use : (xs : List Which) (j : ℕ) → j < length xs → slice_get xs j ≡ None → ⊥
 no_use [] j h e = absurd (omega arith)
 no_use (x ∷ xs) zero h e = absurd (cc)
 no_use (x ∷ xs) (suc j) h e = no_use xs j (omega arith) e
 
 -- one of which it wasn't
-pub seen_first : (names : Names) (uses : List Use) (seen now : List (Option Use)) (place next : ℕ) (name : List ℕ × ℕ) (u : Use) → next ≡ place + 1
+pub seen_first : (names : Names) (uses : List Which) (seen now : List (Option Which)) (place next : ℕ) (name : List ℕ × ℕ) (u : Which) → next ≡ place + 1
     → now ≡ set seen name.1 (Some u) → length uses ≡ length names
     → slice_get names place ≡ Some name → slice_get seen name.1 ≡ Some None → slice_get uses place ≡ Some u → Seen names uses seen place → Seen names uses now next
 seen_first names uses seen now place next name u n write each at is used s =
@@ -90,7 +90,7 @@ seen_first names uses seen now place next name u n write each at is used s =
     }
 
 -- all were seen
-pub all_alike : (names : Names) (uses : List Use) (seen : List (Option Use)) (place : ℕ) → length names ≤ place → Seen names uses seen place → AreAlike names uses
+pub all_alike : (names : Names) (uses : List Which) (seen : List (Option Which)) (place : ℕ) → length names ≤ place → Seen names uses seen place → AreAlike names uses
 all_alike names uses seen place all s = λ i j one other ei ej same.
     let wi = slice_get_within names i one ei in
     let wj = slice_get_within names j other ej in
@@ -100,7 +100,7 @@ all_alike names uses seen place all s = λ i j one other ei ej same.
     cc
 
 -- one that was seen otherwise
-pub not_alike : (names : Names) (uses : List Use) (seen : List (Option Use)) (place : ℕ) (name : List ℕ × ℕ) (b u : Use)
+pub not_alike : (names : Names) (uses : List Which) (seen : List (Option Which)) (place : ℕ) (name : List ℕ × ℕ) (b u : Which)
     → slice_get names place ≡ Some name → slice_get seen name.1 ≡ Some (Some b) → slice_get uses place ≡ Some u → (b ≡ u → ⊥) → Seen names uses seen place → AreAlike names uses → ⊥
 not_alike names uses seen place name b u at is used apart s alike =
     let p = s.from name.1 b is in
@@ -109,7 +109,7 @@ not_alike names uses seen place name b u at is used apart s alike =
     apart (cc)
 
 -- at the start
-pub none_seen : (n node : ℕ) (u : Use) → slice_get (replicate n None) node ≡ Some (Some u) → ⊥
+pub none_seen : (n node : ℕ) (u : Which) → slice_get (replicate n None) node ≡ Some (Some u) → ⊥
 none_seen zero node u e = absurd (cc)
 none_seen (suc n) zero u e = let none : None ≡ Some u = cc in absurd (cc)
 none_seen (suc n) (suc node) u e = none_seen n node u e

@@ -4,7 +4,7 @@ use Rattle.std.proofs.lemmas.Bool.{lt-ltb}
 use Rattle.std.specs.Bool.{then_some}
 use Rattle.std.specs.Fmt.{◌++?◌}
 use Rattle.table_file.specs.Octets.{spelled_octet, spelled_each, spelled_run}
-use Rattle.table_file.specs.ListCodes.{run_of}
+use Rattle.table_file.specs.inner.ListCodes.{run_of}
 
 -- read place by place
 pub eight : (xs : List ℕ) → length xs ≡ 8 → get_or xs 0 0 ∷ get_or xs 1 0 ∷ get_or xs 2 0 ∷ get_or xs 3 0 ∷ get_or xs 4 0 ∷ get_or xs 5 0 ∷ get_or xs 6 0 ∷ get_or xs 7 0 ∷ [] ≡ xs

@@ -7,9 +7,10 @@ use Rattle.std.specs.List.{list_all}
 use Rattle.std.specs.Prelude.{IfOk, IfErr, OnOk, ◌&&◌}
 use Rattle.marshal_program.specs.declared.fault.TableFault.{TableFault}
 use Rattle.table_file.specs.Octets.{spelled_ascii, spelled_each, spelled_run}
-use Rattle.table_file.specs.Reading.{OnlyIf, BeginsWithNone, Reads, Takes}
-use Rattle.table_file.specs.Joins.{split, passed, same_fronts}
-use Rattle.table_file.specs.ListCodes.{run_at, run_of}
+use Rattle.table_file.specs.inner.Reading.{BeginsWithNone, Reads, Takes}
+use Rattle.table_file.specs.Refusal.{OnlyIf}
+use Rattle.table_file.specs.inner.Joins.{split, passed, same_fronts}
+use Rattle.table_file.specs.inner.ListCodes.{run_at, run_of}
 use Rattle.table_file.proofs.ReadLaws.{only_if_then, taken_reads}
 
 abbrev pub all_ascii : List ℕ → Bool

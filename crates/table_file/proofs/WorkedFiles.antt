@@ -5,7 +5,7 @@ use Rattle.type_graph.specs.declared.node.Node.TheVariants as nodes
 use Rattle.marshal_program.specs.declared.instr.Instr.TheVariants as instrs
 use Rattle.marshal_program.specs.declared.instr.Routine.{Routine}
 use Rattle.type_model.specs.ModelRules.{parts_of}
-use Rattle.table_file.specs.declared.table.Use.TheVariants.{First}
+use Rattle.table_file.specs.declared.table.Which.TheVariants.{First}
 use Rattle.table_file.specs.Table.{TableParts, table_of}
 use Rattle.table_file.specs.TableSpelling.{Spells, SpellsOld}
 

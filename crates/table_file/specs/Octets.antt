@@ -1,6 +1,6 @@
 -- What a table file is made of: octets, words, labels, flags, texts and lists. Each definition is a function from what is
 -- spelled to its octets; it is None for what has no spelling. `a ++? b` is the one behind the other, where both are.
-use Rattle.std.specs.Prelude.{ℕ, ◌^◌, ℤ, pos, negsuc, Bool, true, false, List, [], ◌∷◌, length, Option, Some, None, nat_lt, ◌==◌, if◌then◌else◌}
+use Rattle.std.specs.Prelude.{ℕ, ◌^◌, ℤ, pos, negsuc, Bool, List, [], ◌∷◌, length, Option, Some, None, nat_lt, ◌==◌, if◌then◌else◌}
 use Rattle.std.specs.Bool.{then_some}
 use Rattle.std.specs.Fmt.{◌++?◌}
 use Rattle.type_graph.specs.declared.width.Order.TheVariants.{Big}
@@ -20,13 +20,22 @@ spelled_label (negsuc n) = then_some (nat_lt n (2 ^ 127)) (octets_of Big 16 (neg
 
 -- an octet 0 or 1
 abbrev pub spelled_flag : Bool → Option (List ℕ)
-spelled_flag false = spelled_octet 0
-spelled_flag true = spelled_octet 1
+spelled_flag flag = spelled_octet (if flag then 1 else 0)
+
+-- a tag, the octet that says which of several it is, and what stands behind it
+abbrev pub Tagged : Type 0
+Tagged = ℕ × Option (List ℕ)
+
+abbrev pub spelled_tagged : Tagged → Option (List ℕ)
+spelled_tagged x = spelled_octet x.0 ++? x.1
 
 -- a flag, and the number where there is one
+abbrev pub tagged_maybe : Option ℕ → Tagged
+tagged_maybe None = (0, Some [])
+tagged_maybe (Some n) = (1, spelled_word n)
+
 abbrev pub spelled_maybe : Option ℕ → Option (List ℕ)
-spelled_maybe None = spelled_flag false
-spelled_maybe (Some n) = spelled_flag true ++? spelled_word n
+spelled_maybe x = spelled_tagged (tagged_maybe x)
 
 -- each as the function says, one behind the other
 abbrev pub spelled_each : {A : Type 0} → (A → Option (List ℕ)) → List A → Option (List ℕ)

@@ -1,5 +1,5 @@
 -- The parts of a table file, each as its octets: a line for each line of the format.
-use Rattle.std.specs.Prelude.{ℕ, ℤ, List, Option}
+use Rattle.std.specs.Prelude.{ℕ, ℤ, List, [], Option, Some}
 use Rattle.std.specs.Fmt.{◌++?◌}
 use Rattle.type_graph.specs.declared.width.Width.{Width}
 use Rattle.type_graph.specs.declared.node.Node.{Node}
@@ -14,11 +14,7 @@ use Rattle.marshal_program.specs.declared.instr.Disc.TheVariants as discs
 use Rattle.marshal_program.specs.declared.instr.Instr.{Instr}
 use Rattle.marshal_program.specs.declared.instr.Instr.TheVariants as instrs
 use Rattle.marshal_program.specs.declared.instr.Routine.{Routine}
-use Rattle.table_file.specs.Octets.{spelled_octet, spelled_word, spelled_label, spelled_flag, spelled_maybe, spelled_run, spelled_list, spelled_pair, spelled_text}
-
--- the octet that says which of several it is
-abbrev pub tag : ℕ → Option (List ℕ)
-tag n = spelled_octet n
+use Rattle.table_file.specs.Octets.{Tagged, spelled_tagged, spelled_octet, spelled_word, spelled_label, spelled_flag, spelled_maybe, spelled_run, spelled_list, spelled_pair, spelled_text}
 
 -- how many octets it has, as an octet
 abbrev pub spelled_width : Width → Option (List ℕ)
@@ -28,19 +24,23 @@ spelled_width width = spelled_octet (octets_in width)
 abbrev pub spelled_arm : ℤ × ℕ → Option (List ℕ)
 spelled_arm = spelled_pair spelled_label spelled_word
 
+-- each kind of node
+abbrev pub tagged_node : Node → Tagged
+tagged_node (nodes.Whole width signed) = (0, spelled_width width ++? spelled_flag signed)
+tagged_node nodes.Octet = (1, Some [])
+tagged_node nodes.Char = (2, Some [])
+tagged_node nodes.Boolean = (3, Some [])
+tagged_node (nodes.Enum n) = (4, spelled_word n)
+tagged_node (nodes.Text bound) = (5, spelled_word bound)
+tagged_node (nodes.Seq elem bound) = (6, spelled_word elem ++? spelled_word bound)
+tagged_node (nodes.Array elem n) = (7, spelled_word elem ++? spelled_word n)
+tagged_node (nodes.Struct members) = (8, spelled_list spelled_word members)
+tagged_node (nodes.Union switch arms default) =
+    (9, spelled_word switch ++? spelled_list spelled_arm arms ++? spelled_maybe default)
+tagged_node (nodes.Frame members) = (10, spelled_list spelled_word members)
+
 abbrev pub spelled_node : Node → Option (List ℕ)
-spelled_node (nodes.Whole width signed) = tag 0 ++? spelled_width width ++? spelled_flag signed
-spelled_node nodes.Octet = tag 1
-spelled_node nodes.Char = tag 2
-spelled_node nodes.Boolean = tag 3
-spelled_node (nodes.Enum n) = tag 4 ++? spelled_word n
-spelled_node (nodes.Text bound) = tag 5 ++? spelled_word bound
-spelled_node (nodes.Seq elem bound) = tag 6 ++? spelled_word elem ++? spelled_word bound
-spelled_node (nodes.Array elem n) = tag 7 ++? spelled_word elem ++? spelled_word n
-spelled_node (nodes.Struct members) = tag 8 ++? spelled_list spelled_word members
-spelled_node (nodes.Union switch arms default) =
-    tag 9 ++? spelled_word switch ++? spelled_list spelled_arm arms ++? spelled_maybe default
-spelled_node (nodes.Frame members) = tag 10 ++? spelled_list spelled_word members
+spelled_node x = spelled_tagged (tagged_node x)
 
 -- a name and its node
 abbrev pub spelled_name : List ℕ × ℕ → Option (List ℕ)
@@ -66,29 +66,37 @@ spelled_model model = spelled_list spelled_node model.graph ++? spelled_list spe
     ++? spelled_list spelled_interface model.interfaces ++? spelled_list spelled_operation model.operations
     ++? spelled_list spelled_exception model.exceptions
 
+-- each kind of discriminator
+abbrev pub tagged_disc : Disc → Tagged
+tagged_disc discs.Char = (0, Some [])
+tagged_disc discs.Boolean = (1, Some [])
+tagged_disc (discs.Word width signed) = (2, spelled_width width ++? spelled_flag signed)
+tagged_disc (discs.Enum n) = (3, spelled_word n)
+
 abbrev pub spelled_disc : Disc → Option (List ℕ)
-spelled_disc discs.Char = tag 0
-spelled_disc discs.Boolean = tag 1
-spelled_disc (discs.Word width signed) = tag 2 ++? spelled_width width ++? spelled_flag signed
-spelled_disc (discs.Enum n) = tag 3 ++? spelled_word n
+spelled_disc x = spelled_tagged (tagged_disc x)
+
+-- each instruction
+abbrev pub tagged_instr : Instr → Tagged
+tagged_instr (instrs.Align to) = (0, spelled_width to)
+tagged_instr (instrs.Octets n) = (1, spelled_word n)
+tagged_instr (instrs.Words width n) = (2, spelled_width width ++? spelled_word n)
+tagged_instr (instrs.Bools n) = (3, spelled_word n)
+tagged_instr (instrs.EnumWord limit) = (4, spelled_word limit)
+tagged_instr (instrs.Text bound) = (5, spelled_word bound)
+tagged_instr (instrs.SeqOctets bound) = (6, spelled_word bound)
+tagged_instr (instrs.SeqBools bound) = (7, spelled_word bound)
+tagged_instr (instrs.SeqWords width first bound) =
+    (8, spelled_width width ++? spelled_width first ++? spelled_word bound)
+tagged_instr (instrs.SeqOf bound first routine) =
+    (9, spelled_word bound ++? spelled_width first ++? spelled_word routine)
+tagged_instr (instrs.Times n routine) = (10, spelled_word n ++? spelled_word routine)
+tagged_instr (instrs.Call routine) = (11, spelled_word routine)
+tagged_instr (instrs.Switch disc arms otherwise) =
+    (12, spelled_disc disc ++? spelled_list spelled_arm arms ++? spelled_maybe otherwise)
 
 abbrev pub spelled_instr : Instr → Option (List ℕ)
-spelled_instr (instrs.Align to) = tag 0 ++? spelled_width to
-spelled_instr (instrs.Octets n) = tag 1 ++? spelled_word n
-spelled_instr (instrs.Words width n) = tag 2 ++? spelled_width width ++? spelled_word n
-spelled_instr (instrs.Bools n) = tag 3 ++? spelled_word n
-spelled_instr (instrs.EnumWord limit) = tag 4 ++? spelled_word limit
-spelled_instr (instrs.Text bound) = tag 5 ++? spelled_word bound
-spelled_instr (instrs.SeqOctets bound) = tag 6 ++? spelled_word bound
-spelled_instr (instrs.SeqBools bound) = tag 7 ++? spelled_word bound
-spelled_instr (instrs.SeqWords width first bound) =
-    tag 8 ++? spelled_width width ++? spelled_width first ++? spelled_word bound
-spelled_instr (instrs.SeqOf bound first routine) =
-    tag 9 ++? spelled_word bound ++? spelled_width first ++? spelled_word routine
-spelled_instr (instrs.Times n routine) = tag 10 ++? spelled_word n ++? spelled_word routine
-spelled_instr (instrs.Call routine) = tag 11 ++? spelled_word routine
-spelled_instr (instrs.Switch disc arms otherwise) =
-    tag 12 ++? spelled_disc disc ++? spelled_list spelled_arm arms ++? spelled_maybe otherwise
+spelled_instr x = spelled_tagged (tagged_instr x)
 
 -- the set of entries, and the set of exits for each of eight positions
 abbrev pub spelled_routine : Routine → Option (List ℕ)

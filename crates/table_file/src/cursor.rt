@@ -1,7 +1,7 @@
 //! How far the octets of a table file are read.
 
 ghost use Rattle.std.specs.Prelude.{◌≡◌, ◌<◌, List, ℕ, [], ◌∷◌, length, Option, Some, None, IfOk, IfSome, OnErr, is_some};
-ghost use Rattle.table_file.specs.Reading.{Takes};
+ghost use Rattle.table_file.specs.inner.Reading.{Takes};
 
 use marshal_program::TableFault;
 use std::alloc::Global;

@@ -3,9 +3,10 @@
 ghost use Rattle.std.specs.Prelude.{◌≡◌, ◌≢◌, ◌⊎◌, ℕ, List, [], ◌∷◌, Some, IfOk, IfErr, OnErr};
 ghost use Rattle.table_file.specs.Table.{IsTable, TableParts};
 ghost use Rattle.table_file.specs.TableSpelling.{Spells, SpellsOld};
-ghost use Rattle.table_file.specs.Reading.{OnlyIf, Reads, Whole, beside};
-ghost use Rattle.table_file.specs.TableCodes.{spelled_body, spelled_fields, spelled_old_fields};
-ghost use Rattle.table_file.specs.Decoding.{IsOldBody};
+ghost use Rattle.table_file.specs.inner.Reading.{Reads, Whole, beside};
+ghost use Rattle.table_file.specs.Refusal.{OnlyIf};
+ghost use Rattle.table_file.specs.inner.TableCodes.{spelled_body, spelled_fields, spelled_old_fields};
+ghost use Rattle.table_file.specs.inner.Decoding.{IsOldBody};
 
 use crate::cursor::Cursor;
 use crate::draft::{OldDraft, ProgramsDraft, TableDraft, draft_of, finish};

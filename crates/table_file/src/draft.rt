@@ -6,11 +6,11 @@ ghost use Rattle.marshal_program.specs.ProgramRules.{IsProgram};
 ghost use Rattle.type_graph.specs.GraphRules.{IsGraph};
 ghost use Rattle.type_model.specs.ModelRules.{IsModel};
 ghost use Rattle.table_file.specs.Table.{IsTable};
-ghost use Rattle.table_file.specs.Reading.{OnlyIf};
-ghost use Rattle.table_file.specs.TableCodes.{model_from, table_from};
-ghost use Rattle.table_file.specs.Decoding.{fields_of, table_fault};
+ghost use Rattle.table_file.specs.Refusal.{OnlyIf};
+ghost use Rattle.table_file.specs.inner.TableCodes.{model_from, table_from};
+ghost use Rattle.table_file.specs.inner.Decoding.{fields_of, table_fault};
 
-use crate::table::{Table, Use};
+use crate::table::{Table, Which};
 use crate::uses::are_uses;
 use marshal_program::{Program, Routine, TableFault};
 use std::alloc::Global;
@@ -30,7 +30,7 @@ pub(crate) type ModelDraft = (
 pub(crate) type ProgramsDraft = (ModelDraft, (Items<Routine>, Items<Routine>));
 
 /// All parts of a table.
-pub(crate) type TableDraft = (ProgramsDraft, Items<Use>);
+pub(crate) type TableDraft = (ProgramsDraft, Items<Which>);
 
 /// The parts of a file of version 1.
 pub(crate) type OldDraft = (ModelDraft, Items<Routine>);
@@ -118,7 +118,7 @@ pub(crate) fn draft_of(alloc: Global, old: OldDraft) -> Result<TableDraft, Table
     ensures refused { IfErr result (λ fault. fault ≡ NoMemory) }
 {
     let (model, first) = old;
-    let uses = vec![in alloc; Use::First; model.1.0.as_slice().len()]?;
+    let uses = vec![in alloc; Which::First; model.1.0.as_slice().len()]?;
     let second = Items::new(Vec::new(alloc));
     Ok(((model, (first, second)), Items::new(uses)))
 }

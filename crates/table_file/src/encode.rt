@@ -4,8 +4,9 @@ ghost use Rattle.std.specs.Prelude.{◌≡◌, ◌<◌, ℕ, List, length, Some,
 ghost use Rattle.std.specs.Fmt.{◌++?◌};
 ghost use Rattle.table_file.specs.Octets.{spelled_each, spelled_list};
 ghost use Rattle.table_file.specs.Spelling.{spelled_exception, spelled_interface, spelled_model, spelled_name, spelled_operation, spelled_program};
-ghost use Rattle.table_file.specs.TableSpelling.{Spells, spelled_start, spelled_table, spelled_use};
-ghost use Rattle.table_file.specs.Reading.{OnlyIf, Writes};
+ghost use Rattle.table_file.specs.TableSpelling.{Spells, spelled_start, spelled_table, spelled_which};
+ghost use Rattle.table_file.specs.inner.Reading.{Writes};
+ghost use Rattle.table_file.specs.Refusal.{OnlyIf};
 
 use crate::lists::{write_count, write_each, write_list};
 use crate::part::Part;
@@ -60,7 +61,7 @@ fn write_model(model: &Model, out: &mut Vec<u8>) -> Result<(), TableFault>
 
 /// Puts the programs of a table and its uses behind what was written before.
 fn write_programs(table: &Table, out: &mut Vec<u8>) -> Result<(), TableFault>
-    ensures { Writes (spelled_program table.now.first ++? spelled_program table.now.second ++? spelled_each spelled_use table.now.uses) result out.old.items out.new.items }
+    ensures { Writes (spelled_program table.now.first ++? spelled_program table.now.second ++? spelled_each spelled_which table.now.uses) result out.old.items out.new.items }
 {
     write_list(table.first().routines(), out)?;
     write_list(table.second().routines(), out)?;

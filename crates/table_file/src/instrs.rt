@@ -3,7 +3,7 @@
 ghost use Rattle.std.specs.Fmt.{◌++?◌};
 ghost use Rattle.table_file.specs.Octets.{spelled_list, spelled_maybe};
 ghost use Rattle.table_file.specs.Spelling.{spelled_arm, spelled_disc};
-ghost use Rattle.table_file.specs.Reading.{Writes};
+ghost use Rattle.table_file.specs.inner.Reading.{Writes};
 
 use crate::cursor::Cursor;
 use crate::part::Part;
@@ -11,7 +11,7 @@ use marshal_program::{Disc, Instr, TableFault};
 use type_graph::{Arms, Width};
 
 impl Part for Disc {
-    ghost use Rattle.table_file.specs.DiscCode.{disc_code};
+    ghost use Rattle.table_file.specs.inner.DiscCode.{disc_code};
 
     ghost spelled = { spelled_disc };
 
@@ -23,10 +23,9 @@ impl Part for Disc {
                 let (width, signed) = <(Width, bool)>::read(cursor)?;
                 Ok(Disc::Word { width, signed })
             }
-            3 => {
-                let n = u32::read(cursor)?;
-                Ok(Disc::Enum { n })
-            }
+            3 => Ok(Disc::Enum {
+                n: u32::read(cursor)?,
+            }),
             _ => Err(TableFault::NotATable),
         }
     }
@@ -35,15 +34,8 @@ impl Part for Disc {
         match self {
             Disc::Char => 0u8.write(out),
             Disc::Boolean => 1u8.write(out),
-            Disc::Word { width, signed } => {
-                2u8.write(out)?;
-                width.write(out)?;
-                signed.write(out)
-            }
-            Disc::Enum { n } => {
-                3u8.write(out)?;
-                n.write(out)
-            }
+            Disc::Word { width, signed } => (2u8, (*width, *signed)).write(out),
+            Disc::Enum { n } => (3u8, *n).write(out),
         }
     }
 
@@ -66,44 +58,37 @@ fn write_switch(
 
 impl Part for Instr {
     ghost use Rattle.table_file.specs.Spelling.{spelled_instr};
-    ghost use Rattle.table_file.specs.InstrCode.{instr_code};
+    ghost use Rattle.table_file.specs.inner.InstrCode.{instr_code};
 
     ghost spelled = { spelled_instr };
 
     fn read(cursor: &mut Cursor<'_>) -> Result<Self, TableFault> {
         match cursor.octet()? {
-            0 => {
-                let to = Width::read(cursor)?;
-                Ok(Instr::Align { to })
-            }
-            1 => {
-                let n = u32::read(cursor)?;
-                Ok(Instr::Octets { n })
-            }
+            0 => Ok(Instr::Align {
+                to: Width::read(cursor)?,
+            }),
+            1 => Ok(Instr::Octets {
+                n: u32::read(cursor)?,
+            }),
             2 => {
                 let (width, n) = <(Width, u32)>::read(cursor)?;
                 Ok(Instr::Words { width, n })
             }
-            3 => {
-                let n = u32::read(cursor)?;
-                Ok(Instr::Bools { n })
-            }
-            4 => {
-                let limit = u32::read(cursor)?;
-                Ok(Instr::EnumWord { limit })
-            }
-            5 => {
-                let bound = u32::read(cursor)?;
-                Ok(Instr::Text { bound })
-            }
-            6 => {
-                let bound = u32::read(cursor)?;
-                Ok(Instr::SeqOctets { bound })
-            }
-            7 => {
-                let bound = u32::read(cursor)?;
-                Ok(Instr::SeqBools { bound })
-            }
+            3 => Ok(Instr::Bools {
+                n: u32::read(cursor)?,
+            }),
+            4 => Ok(Instr::EnumWord {
+                limit: u32::read(cursor)?,
+            }),
+            5 => Ok(Instr::Text {
+                bound: u32::read(cursor)?,
+            }),
+            6 => Ok(Instr::SeqOctets {
+                bound: u32::read(cursor)?,
+            }),
+            7 => Ok(Instr::SeqBools {
+                bound: u32::read(cursor)?,
+            }),
             8 => {
                 let (width, (first, bound)) = <(Width, (Width, u32))>::read(cursor)?;
                 Ok(Instr::SeqWords {
@@ -124,10 +109,9 @@ impl Part for Instr {
                 let (n, routine) = <(u32, u32)>::read(cursor)?;
                 Ok(Instr::Times { n, routine })
             }
-            11 => {
-                let routine = u32::read(cursor)?;
-                Ok(Instr::Call { routine })
-            }
+            11 => Ok(Instr::Call {
+                routine: u32::read(cursor)?,
+            }),
             12 => {
                 let (disc, (arms, otherwise)) = <(Disc, (Arms, Option<u32>))>::read(cursor)?;
                 Ok(Instr::Switch {
@@ -142,68 +126,26 @@ impl Part for Instr {
 
     fn write(&self, out: &mut Vec<u8>) -> Result<(), TableFault> {
         match self {
-            Instr::Align { to } => {
-                0u8.write(out)?;
-                to.write(out)
-            }
-            Instr::Octets { n } => {
-                1u8.write(out)?;
-                n.write(out)
-            }
-            Instr::Words { width, n } => {
-                2u8.write(out)?;
-                width.write(out)?;
-                n.write(out)
-            }
-            Instr::Bools { n } => {
-                3u8.write(out)?;
-                n.write(out)
-            }
-            Instr::EnumWord { limit } => {
-                4u8.write(out)?;
-                limit.write(out)
-            }
-            Instr::Text { bound } => {
-                5u8.write(out)?;
-                bound.write(out)
-            }
-            Instr::SeqOctets { bound } => {
-                6u8.write(out)?;
-                bound.write(out)
-            }
-            Instr::SeqBools { bound } => {
-                7u8.write(out)?;
-                bound.write(out)
-            }
+            Instr::Align { to } => (0u8, *to).write(out),
+            Instr::Octets { n } => (1u8, *n).write(out),
+            Instr::Words { width, n } => (2u8, (*width, *n)).write(out),
+            Instr::Bools { n } => (3u8, *n).write(out),
+            Instr::EnumWord { limit } => (4u8, *limit).write(out),
+            Instr::Text { bound } => (5u8, *bound).write(out),
+            Instr::SeqOctets { bound } => (6u8, *bound).write(out),
+            Instr::SeqBools { bound } => (7u8, *bound).write(out),
             Instr::SeqWords {
                 width,
                 first,
                 bound,
-            } => {
-                8u8.write(out)?;
-                width.write(out)?;
-                first.write(out)?;
-                bound.write(out)
-            }
+            } => (8u8, (*width, (*first, *bound))).write(out),
             Instr::SeqOf {
                 bound,
                 first,
                 routine,
-            } => {
-                9u8.write(out)?;
-                bound.write(out)?;
-                first.write(out)?;
-                routine.write(out)
-            }
-            Instr::Times { n, routine } => {
-                10u8.write(out)?;
-                n.write(out)?;
-                routine.write(out)
-            }
-            Instr::Call { routine } => {
-                11u8.write(out)?;
-                routine.write(out)
-            }
+            } => (9u8, (*bound, (*first, *routine))).write(out),
+            Instr::Times { n, routine } => (10u8, (*n, *routine)).write(out),
+            Instr::Call { routine } => (11u8, *routine).write(out),
             Instr::Switch {
                 disc,
                 arms,

@@ -52,7 +52,7 @@ fn octets_of_label(label: i128) -> [u8; 16]
 
 impl Part for i128 {
     ghost use Rattle.table_file.specs.Octets.{spelled_label};
-    ghost use Rattle.table_file.specs.LabelCode.{label_code};
+    ghost use Rattle.table_file.specs.inner.LabelCode.{label_code};
 
     ghost spelled = { spelled_label };
 

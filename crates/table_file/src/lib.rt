@@ -20,4 +20,4 @@ mod uses;
 
 pub use decode::decode_table;
 pub use encode::encode_table;
-pub use table::{Table, Use};
+pub use table::{Table, Which};

@@ -2,7 +2,7 @@
 
 ghost use Rattle.std.specs.Prelude.{◌≡◌, ℕ, List};
 ghost use Rattle.table_file.specs.Octets.{spelled_each, spelled_list, spelled_run, spelled_word};
-ghost use Rattle.table_file.specs.Reading.{Reads, Writes};
+ghost use Rattle.table_file.specs.inner.Reading.{Reads, Writes};
 
 use crate::cursor::Cursor;
 use crate::part::Part;
@@ -54,7 +54,7 @@ pub(crate) fn write_count(count: usize, out: &mut Vec<u8>) -> Result<(), TableFa
 
 impl<T: Part> Part for Items<T> {
     ghost use Rattle.table_file.specs.Octets.{spelled_list};
-    ghost use Rattle.table_file.specs.ListCodes.{list_code};
+    ghost use Rattle.table_file.specs.inner.ListCodes.{list_code};
 
     ghost spelled = { spelled_list T.spelled };
 

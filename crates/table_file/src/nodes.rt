@@ -7,7 +7,7 @@ use type_graph::{Arms, Members, Node, Width};
 
 impl Part for Node {
     ghost use Rattle.table_file.specs.Spelling.{spelled_node};
-    ghost use Rattle.table_file.specs.NodeCode.{node_code};
+    ghost use Rattle.table_file.specs.inner.NodeCode.{node_code};
 
     ghost spelled = { spelled_node };
 
@@ -20,14 +20,12 @@ impl Part for Node {
             1 => Ok(Node::Octet),
             2 => Ok(Node::Char),
             3 => Ok(Node::Boolean),
-            4 => {
-                let n = u32::read(cursor)?;
-                Ok(Node::Enum { n })
-            }
-            5 => {
-                let bound = u32::read(cursor)?;
-                Ok(Node::Text { bound })
-            }
+            4 => Ok(Node::Enum {
+                n: u32::read(cursor)?,
+            }),
+            5 => Ok(Node::Text {
+                bound: u32::read(cursor)?,
+            }),
             6 => {
                 let (elem, bound) = <(u32, u32)>::read(cursor)?;
                 Ok(Node::Seq { elem, bound })
@@ -36,10 +34,9 @@ impl Part for Node {
                 let (elem, n) = <(u32, u32)>::read(cursor)?;
                 Ok(Node::Array { elem, n })
             }
-            8 => {
-                let members = Members::read(cursor)?;
-                Ok(Node::Struct { members })
-            }
+            8 => Ok(Node::Struct {
+                members: Members::read(cursor)?,
+            }),
             9 => {
                 let (switch, (arms, default)) = <(u32, (Arms, Option<u32>))>::read(cursor)?;
                 Ok(Node::Union {
@@ -48,42 +45,23 @@ impl Part for Node {
                     default,
                 })
             }
-            10 => {
-                let members = Members::read(cursor)?;
-                Ok(Node::Frame { members })
-            }
+            10 => Ok(Node::Frame {
+                members: Members::read(cursor)?,
+            }),
             _ => Err(TableFault::NotATable),
         }
     }
 
     fn write(&self, out: &mut Vec<u8>) -> Result<(), TableFault> {
         match self {
-            Node::Whole { width, signed } => {
-                0u8.write(out)?;
-                width.write(out)?;
-                signed.write(out)
-            }
+            Node::Whole { width, signed } => (0u8, (*width, *signed)).write(out),
             Node::Octet => 1u8.write(out),
             Node::Char => 2u8.write(out),
             Node::Boolean => 3u8.write(out),
-            Node::Enum { n } => {
-                4u8.write(out)?;
-                n.write(out)
-            }
-            Node::Text { bound } => {
-                5u8.write(out)?;
-                bound.write(out)
-            }
-            Node::Seq { elem, bound } => {
-                6u8.write(out)?;
-                elem.write(out)?;
-                bound.write(out)
-            }
-            Node::Array { elem, n } => {
-                7u8.write(out)?;
-                elem.write(out)?;
-                n.write(out)
-            }
+            Node::Enum { n } => (4u8, *n).write(out),
+            Node::Text { bound } => (5u8, *bound).write(out),
+            Node::Seq { elem, bound } => (6u8, (*elem, *bound)).write(out),
+            Node::Array { elem, n } => (7u8, (*elem, *n)).write(out),
             Node::Struct { members } => {
                 8u8.write(out)?;
                 members.write(out)

@@ -11,7 +11,7 @@ use type_graph::Width;
 
 impl Part for u8 {
     ghost use Rattle.table_file.specs.Octets.{spelled_octet};
-    ghost use Rattle.table_file.specs.Codes.{octet_code};
+    ghost use Rattle.table_file.specs.inner.Codes.{octet_code};
 
     ghost spelled = { spelled_octet };
 
@@ -38,7 +38,7 @@ fn number_of_word(word: &[u8]) -> u32
 
 impl Part for u32 {
     ghost use Rattle.table_file.specs.Octets.{spelled_word};
-    ghost use Rattle.table_file.specs.Codes.{word_code};
+    ghost use Rattle.table_file.specs.inner.Codes.{word_code};
 
     ghost spelled = { spelled_word };
 
@@ -57,7 +57,7 @@ impl Part for u32 {
 
 impl Part for bool {
     ghost use Rattle.table_file.specs.Octets.{spelled_flag};
-    ghost use Rattle.table_file.specs.FlagCode.{flag_code};
+    ghost use Rattle.table_file.specs.inner.Codes.{flag_code};
 
     ghost spelled = { spelled_flag };
 
@@ -79,7 +79,7 @@ impl Part for bool {
 
 impl Part for Width {
     ghost use Rattle.table_file.specs.Spelling.{spelled_width};
-    ghost use Rattle.table_file.specs.Codes.{width_code};
+    ghost use Rattle.table_file.specs.inner.Codes.{width_code};
 
     ghost spelled = { spelled_width };
 
@@ -106,26 +106,22 @@ impl Part for Width {
 
 impl Part for Option<u32> {
     ghost use Rattle.table_file.specs.Octets.{spelled_maybe};
-    ghost use Rattle.table_file.specs.MaybeCode.{maybe_code};
+    ghost use Rattle.table_file.specs.inner.MaybeCode.{maybe_code};
 
     ghost spelled = { spelled_maybe };
 
     fn read(cursor: &mut Cursor<'_>) -> Result<Self, TableFault> {
         match cursor.octet()? {
             0 => Ok(None),
-            1 => {
-                let number = u32::read(cursor)?;
-                Ok(Some(number))
-            }
+            1 => Ok(Some(u32::read(cursor)?)),
             _ => Err(TableFault::NotATable),
         }
     }
 
     fn write(&self, out: &mut Vec<u8>) -> Result<(), TableFault> {
-        self.is_some().write(out)?;
         match self {
-            Some(number) => number.write(out),
-            None => Ok(()),
+            None => false.write(out),
+            Some(number) => (true, *number).write(out),
         }
     }
 

@@ -2,8 +2,8 @@
 
 ghost use Rattle.std.specs.Prelude.{List, ℕ, Option};
 ghost use Rattle.table_file.specs.Octets.{spelled_pair};
-ghost use Rattle.table_file.specs.Reading.{Reads, Writes};
-ghost use Rattle.table_file.specs.Codes.{IsCode};
+ghost use Rattle.table_file.specs.inner.Reading.{Reads, Writes};
+ghost use Rattle.table_file.specs.inner.Codes.{IsCode};
 
 use crate::cursor::Cursor;
 use marshal_program::TableFault;
@@ -23,7 +23,7 @@ pub(crate) trait Part: Sized + Drop {
 }
 
 impl<A: Part, B: Part> Part for (A, B) {
-    ghost use Rattle.table_file.specs.Codes.{pair_code};
+    ghost use Rattle.table_file.specs.inner.Codes.{pair_code};
 
     ghost spelled = { spelled_pair A.spelled B.spelled };
 

@@ -4,7 +4,7 @@ ghost use Rattle.std.specs.Prelude.{◌≡◌, length, Some};
 ghost use Rattle.std.specs.Fmt.{◌++?◌};
 ghost use Rattle.table_file.specs.Octets.{spelled_list, spelled_octet, spelled_run, spelled_word};
 ghost use Rattle.table_file.specs.Spelling.{spelled_instr};
-ghost use Rattle.table_file.specs.Reading.{Writes};
+ghost use Rattle.table_file.specs.inner.Reading.{Writes};
 
 use crate::cursor::Cursor;
 use crate::part::Part;
@@ -31,7 +31,7 @@ fn write_sets(sets: &[u8], out: &mut Vec<u8>) -> Result<(), TableFault>
 
 impl Part for [u8; 8] {
     ghost use Rattle.table_file.specs.Octets.{spelled_octet, spelled_run};
-    ghost use Rattle.table_file.specs.PartCodes.{exits_code};
+    ghost use Rattle.table_file.specs.inner.PartCodes.{exits_code};
 
     ghost spelled = { spelled_run 8 spelled_octet };
 
@@ -58,7 +58,7 @@ fn write_body(exits: &[u8; 8], rank: u32, code: &Code, out: &mut Vec<u8>) -> Res
 
 impl Part for Routine {
     ghost use Rattle.table_file.specs.Spelling.{spelled_routine};
-    ghost use Rattle.table_file.specs.PartCodes.{routine_code};
+    ghost use Rattle.table_file.specs.inner.PartCodes.{routine_code};
 
     ghost spelled = { spelled_routine };
 

@@ -2,7 +2,7 @@
 
 ghost use Rattle.std.specs.Fmt.{◌++?◌};
 ghost use Rattle.table_file.specs.Octets.{spelled_list, spelled_word};
-ghost use Rattle.table_file.specs.Reading.{Writes};
+ghost use Rattle.table_file.specs.inner.Reading.{Writes};
 
 use crate::cursor::Cursor;
 use crate::part::Part;
@@ -12,7 +12,7 @@ use type_model::{Exception, Interface, Name, Operation};
 
 impl Part for Interface {
     ghost use Rattle.table_file.specs.Spelling.{spelled_interface};
-    ghost use Rattle.table_file.specs.PartCodes.{interface_code};
+    ghost use Rattle.table_file.specs.inner.PartCodes.{interface_code};
 
     ghost spelled = { spelled_interface };
 
@@ -40,7 +40,7 @@ impl Part for Interface {
 
 impl Part for Operation {
     ghost use Rattle.table_file.specs.Spelling.{spelled_operation};
-    ghost use Rattle.table_file.specs.PartCodes.{operation_code};
+    ghost use Rattle.table_file.specs.inner.PartCodes.{operation_code};
 
     ghost spelled = { spelled_operation };
 
@@ -83,7 +83,7 @@ fn write_frames(
 
 impl Part for Exception {
     ghost use Rattle.table_file.specs.Spelling.{spelled_exception};
-    ghost use Rattle.table_file.specs.PartCodes.{exception_code};
+    ghost use Rattle.table_file.specs.inner.PartCodes.{exception_code};
 
     ghost spelled = { spelled_exception };
 

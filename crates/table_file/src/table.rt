@@ -13,9 +13,23 @@ use type_model::Model;
 
 /// Which of a table's two programs serves a name.
 #[derive(Clone, Copy, Debug, Drop, PartialEq, Eq)]
-pub enum Use {
+pub enum Which {
     First,
     Second,
+}
+
+impl Which {
+    ghost use Rattle.table_file.specs.Table.{program_number};
+
+    /// 0 for the first program, 1 for the second.
+    pub fn number(self) -> u8
+        ensures { result ≡ program_number self }
+    {
+        match self {
+            Which::First => 0,
+            Which::Second => 1,
+        }
+    }
 }
 
 /// A model, two programs, and for each name of the model, in order, the program that serves it.
@@ -24,7 +38,7 @@ pub struct Table {
     model: Model,
     first: Program,
     second: Program,
-    uses: Items<Use>,
+    uses: Items<Which>,
 }
 
 impl std::marker::Model for Table {
@@ -47,7 +61,7 @@ impl Table {
         model: Model,
         first: Program,
         second: Program,
-        uses: Items<Use>,
+        uses: Items<Which>,
     ) -> Result<Table, TableFault>
         ensures kept { IfOk result (λ table. table ≡ table_of model first second uses) }
         ensures rules { IfOk result IsTable }
@@ -65,7 +79,7 @@ impl Table {
     }
 
     /// Gives the parts back: the model, both programs and the uses. Takes no memory.
-    pub fn parts(self) -> (Model, Program, Program, Items<Use>)
+    pub fn parts(self) -> (Model, Program, Program, Items<Which>)
         ensures { table_of result.0 result.1 result.2 result.3 ≡ self }
     {
         (self.model, self.first, self.second, self.uses)
@@ -95,18 +109,18 @@ impl Table {
     }
 
     /// The program that serves the names of a use.
-    pub fn program(&self, of: Use) -> &Program
-        ensures value { result.now ≡ program_at self.now of }
+    pub fn program(&self, which: Which) -> &Program
+        ensures value { result.now ≡ program_at self.now which }
         ensures rules { IsTable self.now }
     {
-        match of {
-            Use::First => self.first(),
-            Use::Second => self.second(),
+        match which {
+            Which::First => self.first(),
+            Which::Second => self.second(),
         }
     }
 
     /// A use for each name, in order.
-    pub fn uses(&self) -> &[Use]
+    pub fn uses(&self) -> &[Which]
         ensures value { result.now ≡ self.now.uses }
         ensures rules { IsTable self.now }
     {

@@ -3,7 +3,8 @@
 ghost use Rattle.std.specs.Prelude.{◌≡◌, length, true, false, nat_lt, IfOk, IfErr, OnOk};
 ghost use Rattle.std.specs.List.{list_all};
 ghost use Rattle.table_file.specs.Octets.{spelled_ascii, spelled_each, spelled_run, spelled_text};
-ghost use Rattle.table_file.specs.Reading.{OnlyIf, Reads, Writes};
+ghost use Rattle.table_file.specs.inner.Reading.{Reads, Writes};
+ghost use Rattle.table_file.specs.Refusal.{OnlyIf};
 
 use crate::cursor::Cursor;
 use crate::lists::write_count;
@@ -62,7 +63,7 @@ pub(crate) fn write_text(text: &str, out: &mut Vec<u8>) -> Result<(), TableFault
 }
 
 impl Part for Name {
-    ghost use Rattle.table_file.specs.ListCodes.{text_code};
+    ghost use Rattle.table_file.specs.inner.ListCodes.{text_code};
 
     ghost spelled = { spelled_text };
 

@@ -3,43 +3,40 @@
 ghost use Rattle.std.specs.Prelude.{◌≡◌, ◌↔◌, ◌<◌, IsTrue, length, All};
 ghost use Rattle.type_model.specs.Names.{AreNames};
 ghost use Rattle.table_file.specs.Table.{AreAlike, AreUses};
-ghost use Rattle.table_file.specs.Seen.{AllNone};
+ghost use Rattle.table_file.specs.inner.Seen.{AllNone};
 
 use crate::cursor::Cursor;
 use crate::part::Part;
-use crate::table::Use;
+use crate::table::Which;
 use marshal_program::TableFault;
 use type_model::NameTable;
 
-impl Part for Use {
-    ghost use Rattle.table_file.specs.TableSpelling.{spelled_use};
-    ghost use Rattle.table_file.specs.UseCode.{use_code};
+impl Part for Which {
+    ghost use Rattle.table_file.specs.TableSpelling.{spelled_which};
+    ghost use Rattle.table_file.specs.inner.TableCodes.{which_code};
 
-    ghost spelled = { spelled_use };
+    ghost spelled = { spelled_which };
 
     fn read(cursor: &mut Cursor<'_>) -> Result<Self, TableFault> {
         match cursor.octet()? {
-            0 => Ok(Use::First),
-            1 => Ok(Use::Second),
+            0 => Ok(Which::First),
+            1 => Ok(Which::Second),
             _ => Err(TableFault::NotATable),
         }
     }
 
     fn write(&self, out: &mut Vec<u8>) -> Result<(), TableFault> {
-        match self {
-            Use::First => 0u8.write(out),
-            Use::Second => 1u8.write(out),
-        }
+        self.number().write(out)
     }
 
-    ghost is_code = { use_code };
+    ghost is_code = { which_code };
 }
 
 /// More than the numbers of nodes of any graph.
 const MAX_NODES: usize = 4096;
 
 /// Whether names of one node have one use; the uses seen are kept by node.
-fn are_alike(names: &NameTable, uses: &[Use], seen: &mut [Option<Use>]) -> bool
+fn are_alike(names: &NameTable, uses: &[Which], seen: &mut [Option<Which>]) -> bool
     requires seen { AllNone seen.old }
     requires within { All (λ name. name.1 < length seen.old) names.now }
     requires each { length uses.now ≡ length names.now }
@@ -61,7 +58,7 @@ fn are_alike(names: &NameTable, uses: &[Use], seen: &mut [Option<Use>]) -> bool
 }
 
 /// Whether there is a use for each name, the same for names of one node.
-pub(crate) fn are_uses(names: &NameTable, uses: &[Use]) -> bool
+pub(crate) fn are_uses(names: &NameTable, uses: &[Which]) -> bool
     requires { All (λ name. name.1 < 4096) names.now }
     ensures { IsTrue result ↔ AreUses names.now uses.now }
 {

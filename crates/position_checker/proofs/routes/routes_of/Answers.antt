@@ -1,10 +1,10 @@
-use Rattle.std.proofs.Common.{arith, ◌≡◌, ◌<◌, ◌∙◌, ℕ, List, Some, slice_get, ap, sym, subst, length, option_map, get_or}
+use Rattle.std.proofs.Common.{arith, ◌≡◌, ◌<◌, ◌∙◌, ℕ, List, Some, slice_get, ap, sym, subst, length, get_or}
 use Rattle.std.proofs.lemmas.List.{length-map}
 use Rattle.std.proofs.lemmas.Option.{slice_get-get_or}
 use Rattle.type_model.specs.ModelRules.{Parts as Model}
-use Rattle.table_file.specs.declared.table.Use.{Use}
-use Rattle.table_file.specs.declared.table.Use.TheVariants.{First}
-use Rattle.position_checker.specs.Verdict.{told_of, names_fault}
+use Rattle.table_file.specs.declared.table.Which.{Which}
+use Rattle.table_file.specs.declared.table.Which.TheVariants.{First}
+use Rattle.position_checker.specs.Verdict.{names_fault}
 use Rattle.position_checker.proofs.RouteLaws.{routes_next, routes_done, lone_refused, all_served}
 use Rattle.position_checker.proofs.VerdictLaws.{names_next, names_first, only_if_holds}
 use Rattle.position_checker.proofs.routes.routes_of.Goals as goal
@@ -24,7 +24,7 @@ returns-in-Err-clause-fault c =
     let names : c.names.result.now ≡ table.model.names = c.names.ensures.value ∙ ap (λ (m : Model). m.names) c.model-in-loop-place.ensures.value in
     let named : slice_get table.model.names place ≡ Some (c.pair-node.result.0.now, node) =
     subst (λ (ns : List (List ℕ × ℕ)). slice_get ns place ≡ Some (c.pair-node.result.0.now, node)) names c.pair-node.ensures.value in
-    let within : place < length table.uses = omega (arith, c.loop-place-test.true, c.loop-place.auto.place-end, ap (λ (us : List Use). length us) c.uses-place-end.ensures.value) in
+    let within : place < length table.uses = omega (arith, c.loop-place-test.true, c.loop-place.auto.place-end, ap (λ (us : List Which). length us) c.uses-place-end.ensures.value) in
     let program = get_or table.uses place First in
     let used = slice_get-get_or table.uses place First within in
     only_if_holds c.in-Err.fault _
@@ -40,12 +40,12 @@ loop-place-preserved c =
     let program = c.in-Ok.route.program in (
       routes_next table c.uses-place-end.ensures.rules c.loop-place.place c.pair-node.result.0.now node c.loop-place.routes.items c.in-Ok.route named c.in-Ok.ensures.used c.in-Ok.ensures.served c.loop-place.invariant.0,
       names_next table c.loop-place.place c.pair-node.result.0.now node program named c.in-Ok.ensures.used c.loop-place.invariant.1
-          ∙ ap (option_map (told_of program)) (c.in-Ok.ensures.accepted program c.in-Ok.ensures.used),
+          ∙ c.in-Ok.ensures.accepted program c.in-Ok.ensures.used,
     )
 
 pub returns-clause-routes : goal.returns-clause-routes
 returns-clause-routes c =
-    let whole : c.loop-place.place ≡ length c.args.table.now.uses = omega (arith, c.loop-place-test.false, c.loop-place.auto.place-end, ap (λ (us : List Use). length us) c.uses-place-end.ensures.value) in
+    let whole : c.loop-place.place ≡ length c.args.table.now.uses = omega (arith, c.loop-place-test.false, c.loop-place.auto.place-end, ap (λ (us : List Which). length us) c.uses-place-end.ensures.value) in
     routes_done c.args.table.now c.loop-place.place c.loop-place.routes.items
     (whole ∙ c.uses-place-end.ensures.rules.uses.each ∙ sym (length-map c.args.table.now.model.names (λ (pair : List ℕ × ℕ). pair.1))) c.loop-place.invariant.0
 
@@ -54,5 +54,5 @@ returns-clause-served c = all_served c.args.table.now c.uses-place-end.ensures.r
 
 pub returns-clause-accepted : goal.returns-clause-accepted
 returns-clause-accepted c =
-    let whole : c.loop-place.place ≡ length c.args.table.now.uses = omega (arith, c.loop-place-test.false, c.loop-place.auto.place-end, ap (λ (us : List Use). length us) c.uses-place-end.ensures.value) in
+    let whole : c.loop-place.place ≡ length c.args.table.now.uses = omega (arith, c.loop-place-test.false, c.loop-place.auto.place-end, ap (λ (us : List Which). length us) c.uses-place-end.ensures.value) in
     ap (names_fault c.args.table.now) (sym whole) ∙ c.loop-place.invariant.1

@@ -1,8 +1,8 @@
 use Rattle.std.proofs.Common.{◌<◌, length, sym, ap, ◌∙◌, arith}
 use Rattle.std.proofs.lemmas.List.{get_or_default}
 use Rattle.type_graph.specs.declared.node.Node.TheVariants.{Octet}
-use Rattle.routine_checker.specs.Kinds.{is_of}
-use Rattle.routine_checker.specs.Counts.{pieces_by, count_in}
+use Rattle.routine_checker.specs.inner.Kinds.{is_of}
+use Rattle.routine_checker.specs.inner.Counts.{pieces_by, count_in}
 use Rattle.routine_checker.proofs.CountLaws.{numbers_more}
 use Rattle.routine_checker.proofs.counts.deeper.Goals as goal
 

@@ -1,6 +1,6 @@
 use Rattle.std.proofs.Common.{◌≡◌, ◌+◌, eqb, drop, sum_by}
 use Rattle.std.specs.List.{list_any}
-use Rattle.routine_checker.specs.Counts.{count_in}
+use Rattle.routine_checker.specs.inner.Counts.{count_in}
 use Rattle.routine_checker.proofs.counts.members_count.Given as goal
 
 abbrev pub invariant-loop-member : goal.invariant-loop-member

@@ -1,6 +1,6 @@
 use Rattle.std.proofs.Common.{sym, ◌∙◌}
-use Rattle.routine_checker.specs.Kinds.{is_of}
-use Rattle.routine_checker.specs.Counts.{count_in}
+use Rattle.routine_checker.specs.inner.Kinds.{is_of}
+use Rattle.routine_checker.specs.inner.Counts.{count_in}
 use Rattle.routine_checker.proofs.CountLaws.{array_pieces}
 use Rattle.routine_checker.proofs.counts.node_count.Goals as goal
 

@@ -1,7 +1,7 @@
 use Rattle.std.proofs.Common.{◌≡◌, ◌+◌, ◌-◌, ◌<◌, None, Some, sym, ap, subst, ◌∙◌, arith}
 use Rattle.std.proofs.Common.{Option, ℕ, Bool}
 use Rattle.type_graph.specs.Value.{node_at}
-use Rattle.routine_checker.specs.Kinds.{is_of, part_holds}
+use Rattle.routine_checker.specs.inner.Kinds.{is_of, part_holds}
 use Rattle.routine_checker.specs.Taking.{only_part, is_one}
 use Rattle.routine_checker.proofs.OneLaws.{one_here, one_below}
 use Rattle.routine_checker.proofs.pieces.is_one.Goals as goal

@@ -1,5 +1,5 @@
 use Rattle.std.proofs.Common.{◌≡◌, ◌-◌}
-use Rattle.routine_checker.specs.Kinds.{is_of}
+use Rattle.routine_checker.specs.inner.Kinds.{is_of}
 use Rattle.routine_checker.specs.Taking.{is_one}
 use Rattle.routine_checker.proofs.pieces.is_one.Given as goal
 

@@ -1,7 +1,7 @@
 use Rattle.std.proofs.Common.{◌∙◌, ap, bit_or}
 use Rattle.type_graph.specs.declared.width.Width.TheVariants.{One}
 use Rattle.routine_checker.specs.Sets.{is_within}
-use Rattle.routine_checker.specs.Places.{agreeing}
+use Rattle.routine_checker.specs.inner.Places.{agreeing}
 use Rattle.routine_checker.proofs.PlaceLaws.{serve_within}
 use Rattle.routine_checker.proofs.sets.gaps_serve.Goals as goal
 

@@ -1,7 +1,7 @@
 use Rattle.std.proofs.Common.{◌≡◌, Some}
 use Rattle.std.proofs.lemmas.Result.{err_from_is_err_and}
 use Rattle.table_file.specs.Table.{IsTable}
-use Rattle.table_file.specs.TableCodes.{TableFields, spelled_fields, table_from}
+use Rattle.table_file.specs.inner.TableCodes.{TableFields, spelled_fields, table_from}
 use Rattle.table_file.proofs.ReadLaws.{only_if_then}
 use Rattle.table_file.proofs.Decoded.{NoBody, if_err_only, if_ok_body, no_body, no_table}
 use Rattle.table_file.proofs.decode.decode_body.Goals as goal

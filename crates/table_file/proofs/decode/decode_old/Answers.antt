@@ -1,7 +1,7 @@
 use Rattle.std.proofs.Common.{◌≡◌, Some}
 use Rattle.std.proofs.lemmas.Result.{err_from_is_err_and}
 use Rattle.table_file.specs.Table.{IsTable}
-use Rattle.table_file.specs.TableCodes.{OldFields, spelled_old_fields, table_from}
+use Rattle.table_file.specs.inner.TableCodes.{OldFields, spelled_old_fields, table_from}
 use Rattle.table_file.proofs.ReadLaws.{only_if_then}
 use Rattle.table_file.proofs.Decoded.{NoOldBody, if_err_only, if_ok_old_body, no_old_body, no_old_table, rules_of}
 use Rattle.table_file.proofs.decode.decode_old.Goals as goal

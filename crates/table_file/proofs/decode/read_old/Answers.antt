@@ -1,4 +1,4 @@
-use Rattle.table_file.specs.TableCodes.{old_code, spelled_old_fields}
+use Rattle.table_file.specs.inner.TableCodes.{old_code, spelled_old_fields}
 use Rattle.table_file.proofs.Decoded.{whole_read}
 use Rattle.table_file.proofs.decode.read_old.Goals as goal
 

@@ -1,4 +1,4 @@
-use Rattle.table_file.specs.TableCodes.{one_fields, spelled_fields}
+use Rattle.table_file.specs.inner.TableCodes.{one_fields, spelled_fields}
 use Rattle.table_file.proofs.Decoded.{whole_read}
 use Rattle.table_file.proofs.decode.read_whole.Goals as goal
 

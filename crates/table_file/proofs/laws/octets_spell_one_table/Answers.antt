@@ -1,4 +1,4 @@
-use Rattle.table_file.specs.TableCodes.{one_table}
+use Rattle.table_file.specs.inner.TableCodes.{one_table}
 use Rattle.table_file.proofs.laws.octets_spell_one_table.Goals as goal
 
 pub returns : goal.returns

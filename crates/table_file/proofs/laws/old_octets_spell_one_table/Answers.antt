@@ -1,4 +1,4 @@
-use Rattle.table_file.specs.TableCodes.{one_old_table}
+use Rattle.table_file.specs.inner.TableCodes.{one_old_table}
 use Rattle.table_file.proofs.laws.old_octets_spell_one_table.Goals as goal
 
 pub returns : goal.returns

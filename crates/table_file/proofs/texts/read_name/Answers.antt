@@ -1,6 +1,6 @@
 use Rattle.std.proofs.lemmas.Result.{err_from_is_err_and}
 use Rattle.table_file.specs.Octets.{spelled_ascii}
-use Rattle.table_file.specs.Codes.{ascii_code}
+use Rattle.table_file.specs.inner.Codes.{ascii_code}
 use Rattle.table_file.proofs.ListReads.{too_many}
 use Rattle.table_file.proofs.TextReads.{ascii_reads, is_name_of}
 use Rattle.table_file.proofs.texts.read_name.Goals as goal

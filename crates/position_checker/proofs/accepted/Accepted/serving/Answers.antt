@@ -3,7 +3,7 @@ use Rattle.std.proofs.lemmas.List.{get_or_default}
 use Rattle.type_model.specs.Names.{IsNamed}
 use Rattle.table_file.specs.Table.{TableParts}
 use Rattle.position_checker.specs.declared.routes.Route.{Route}
-use Rattle.position_checker.specs.Routes.{IsRoute}
+use Rattle.position_checker.specs.inner.Routes.{IsRoute}
 use Rattle.position_checker.proofs.RouteLaws.{has_route_within}
 use Rattle.position_checker.proofs.accepted.Accepted.serving.Goals as goal
 

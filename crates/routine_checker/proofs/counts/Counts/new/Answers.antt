@@ -1,6 +1,6 @@
 use Rattle.std.proofs.Common.{ℕ, List, subst, arith}
-use Rattle.routine_checker.specs.Kinds.{is_of}
-use Rattle.routine_checker.specs.Counts.{pieces_by, count_in, AreNumbersOf}
+use Rattle.routine_checker.specs.inner.Kinds.{is_of}
+use Rattle.routine_checker.specs.inner.Counts.{pieces_by, count_in, AreNumbersOf}
 use Rattle.routine_checker.proofs.CountLaws.{counts_more}
 use Rattle.routine_checker.proofs.counts.Counts.new.Goals as goal
 

@@ -1,6 +1,6 @@
 use Rattle.std.proofs.Common.{◌≤◌}
-use Rattle.routine_checker.specs.Kinds.{is_of}
-use Rattle.routine_checker.specs.Counts.{AreCounts}
+use Rattle.routine_checker.specs.inner.Kinds.{is_of}
+use Rattle.routine_checker.specs.inner.Counts.{AreCounts}
 use Rattle.routine_checker.proofs.counts.Counts.new.Given as goal
 
 abbrev pub invariant-loop-level : goal.invariant-loop-level

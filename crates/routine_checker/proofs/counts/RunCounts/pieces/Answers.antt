@@ -1,7 +1,7 @@
 use Rattle.std.proofs.Common.{◌≡◌, ℕ, List, ap, ◌∙◌}
-use Rattle.routine_checker.specs.Kinds.{is_of}
+use Rattle.routine_checker.specs.inner.Kinds.{is_of}
 use Rattle.routine_checker.specs.Taking.{is_piece}
-use Rattle.routine_checker.specs.Counts.{count_in}
+use Rattle.routine_checker.specs.inner.Counts.{count_in}
 use Rattle.routine_checker.proofs.CountLaws.{counted_yields}
 use Rattle.routine_checker.proofs.counts.RunCounts.pieces.Goals as goal
 

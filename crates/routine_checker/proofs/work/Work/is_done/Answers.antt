@@ -1,6 +1,6 @@
 use Rattle.std.proofs.Common.{◌≡◌, ℕ, ◌+◌, ◌-◌, ◌<◌, ◌∷◌, [], Option, Some, None, IfSome, IfNone, sym, ap, subst, ◌∙◌, arith}
 use Rattle.routine_checker.specs.Taking.{is_done_within}
-use Rattle.routine_checker.specs.Work.{held_of, work_of}
+use Rattle.routine_checker.specs.inner.Work.{held_of, work_of}
 use Rattle.routine_checker.proofs.TakeLaws.{done_nothing, done_below, done_none}
 use Rattle.routine_checker.proofs.work.Work.is_done.Goals as goal
 

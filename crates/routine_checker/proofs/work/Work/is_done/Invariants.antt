@@ -1,6 +1,6 @@
 use Rattle.std.proofs.Common.{◌≡◌, ◌-◌}
 use Rattle.routine_checker.specs.Taking.{is_done_within}
-use Rattle.routine_checker.specs.Work.{work_of}
+use Rattle.routine_checker.specs.inner.Work.{work_of}
 use Rattle.routine_checker.proofs.work.Work.is_done.Given as goal
 
 abbrev pub invariant-loop-level : goal.invariant-loop-level

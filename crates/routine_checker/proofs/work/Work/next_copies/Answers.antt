@@ -1,5 +1,5 @@
 use Rattle.std.proofs.Common.{ℕ, List, ◌++◌, replicate, sym, ap, ◌∙◌, append_assoc}
-use Rattle.routine_checker.specs.Work.{held, work_of}
+use Rattle.routine_checker.specs.inner.Work.{held, work_of}
 use Rattle.routine_checker.proofs.WorkLaws.{work_popped}
 use Rattle.routine_checker.proofs.work.Work.next_copies.Goals as goal
 

@@ -1,5 +1,5 @@
 use Rattle.std.proofs.Common.{◌≡◌, length}
-use Rattle.routine_checker.specs.Work.{work_of}
+use Rattle.routine_checker.specs.inner.Work.{work_of}
 use Rattle.routine_checker.proofs.work.Work.next_copies.Given as goal
 
 abbrev pub invariant-loop-item : goal.invariant-loop-item

@@ -1,6 +1,6 @@
 use Rattle.std.proofs.Common.{◌≡◌, ℕ, [], Option, IfNone, sym, ap, subst, ◌∙◌}
 use Rattle.routine_checker.specs.Taking.{taken}
-use Rattle.routine_checker.specs.Work.{wants, work_of}
+use Rattle.routine_checker.specs.inner.Work.{wants, work_of}
 use Rattle.routine_checker.proofs.work.Work.open.Goals as goal
 
 pub returns-in-None : goal.returns-in-None

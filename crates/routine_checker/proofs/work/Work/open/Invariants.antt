@@ -1,6 +1,6 @@
 use Rattle.std.proofs.Common.{◌≡◌}
 use Rattle.routine_checker.specs.Taking.{taken}
-use Rattle.routine_checker.specs.Work.{wants, work_of}
+use Rattle.routine_checker.specs.inner.Work.{wants, work_of}
 use Rattle.routine_checker.proofs.work.Work.open.Given as goal
 
 abbrev pub invariant-loop-level : goal.invariant-loop-level

@@ -1,6 +1,6 @@
 use Rattle.std.proofs.Common.{◌≡◌, ap, ◌∙◌, arith}
 use Rattle.routine_checker.specs.Taking.{taken}
-use Rattle.routine_checker.specs.Work.{wants, work_of}
+use Rattle.routine_checker.specs.inner.Work.{wants, work_of}
 use Rattle.routine_checker.proofs.TakeLaws.{taken_none}
 use Rattle.routine_checker.proofs.work.Work.take.Goals as goal
 

@@ -1,6 +1,6 @@
 use Rattle.std.proofs.Common.{◌≡◌, ℕ, ◌+◌, ◌-◌, ◌<◌, ◌∷◌, [], Option, Some, None, IfSome, IfNone, sym, ap, subst, ◌∙◌, arith}
 use Rattle.routine_checker.specs.Taking.{taken_within}
-use Rattle.routine_checker.specs.Work.{wants, held_of, work_of}
+use Rattle.routine_checker.specs.inner.Work.{wants, held_of, work_of}
 use Rattle.routine_checker.proofs.TakeLaws.{within_nothing, within_here, within_below, within_none}
 use Rattle.routine_checker.proofs.work.Work.take_one.Goals as goal
 

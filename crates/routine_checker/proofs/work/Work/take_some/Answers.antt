@@ -1,6 +1,6 @@
 use Rattle.std.proofs.Common.{◌≡◌, ℕ, ◌-◌, ◌*◌, ◌≤◌, ◌++◌, [], Option, IfSome, IfNone, replicate, sym, ap, subst, ◌∙◌, arith}
 use Rattle.routine_checker.specs.Taking.{taken}
-use Rattle.routine_checker.specs.Work.{wants, work_of}
+use Rattle.routine_checker.specs.inner.Work.{wants, work_of}
 use Rattle.routine_checker.proofs.TakeLaws.{within_nothing, took_first, no_first}
 use Rattle.routine_checker.proofs.CountLaws.{took_many, copies_fit}
 use Rattle.routine_checker.proofs.work.Work.take_some.Goals as goal

@@ -1,6 +1,6 @@
 use Rattle.std.proofs.lemmas.Result.{err_from_is_err_and}
 use Rattle.table_file.specs.Octets.{spelled_octet, spelled_run}
-use Rattle.table_file.specs.Codes.{octet_code}
+use Rattle.table_file.specs.inner.Codes.{octet_code}
 use Rattle.table_file.proofs.ReadLaws.{taken_reads}
 use Rattle.table_file.proofs.ListReads.{too_many}
 use Rattle.table_file.proofs.routines.ArrayU88Part.read.Goals as goal

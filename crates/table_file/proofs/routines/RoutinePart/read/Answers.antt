@@ -1,6 +1,6 @@
 use Rattle.std.proofs.lemmas.Result.{err_from_is_err_and}
 use Rattle.marshal_program.specs.declared.instr.Routine.{Routine}
-use Rattle.table_file.specs.PartCodes.{routine_fields, spelled_routine_fields}
+use Rattle.table_file.specs.inner.PartCodes.{routine_fields, spelled_routine_fields}
 use Rattle.table_file.proofs.ReadLaws.{via_fails, via_reads}
 use Rattle.table_file.proofs.routines.RoutinePart.read.Goals as goal
 

@@ -1,6 +1,6 @@
 use Rattle.std.proofs.lemmas.Result.{err_from_is_err_and}
 use Rattle.type_model.specs.declared.signatures.Exception.{Exception}
-use Rattle.table_file.specs.PartCodes.{exception_fields, spelled_exception_fields}
+use Rattle.table_file.specs.inner.PartCodes.{exception_fields, spelled_exception_fields}
 use Rattle.table_file.proofs.ReadLaws.{via_fails, via_reads}
 use Rattle.table_file.proofs.signatures.ExceptionPart.read.Goals as goal
 

@@ -1,6 +1,6 @@
 use Rattle.std.proofs.lemmas.Result.{err_from_is_err_and}
 use Rattle.type_model.specs.declared.signatures.Interface.{Interface}
-use Rattle.table_file.specs.PartCodes.{interface_fields, spelled_interface_fields}
+use Rattle.table_file.specs.inner.PartCodes.{interface_fields, spelled_interface_fields}
 use Rattle.table_file.proofs.ReadLaws.{via_fails, via_reads}
 use Rattle.table_file.proofs.signatures.InterfacePart.read.Goals as goal
 

@@ -1,6 +1,6 @@
 use Rattle.std.proofs.lemmas.Result.{err_from_is_err_and}
 use Rattle.type_model.specs.declared.signatures.Operation.{Operation}
-use Rattle.table_file.specs.PartCodes.{operation_fields, spelled_operation_fields}
+use Rattle.table_file.specs.inner.PartCodes.{operation_fields, spelled_operation_fields}
 use Rattle.table_file.proofs.ReadLaws.{via_fails, via_reads}
 use Rattle.table_file.proofs.signatures.OperationPart.read.Goals as goal
 

@@ -1,4 +1,0 @@
-use Rattle.routine_checker.proofs.work.Wanted.count.Goals as goal
-
-pub returns : goal.returns
-returns c = c.pieces.ensures c.args.self.nodes.now c.args.self.program.now c.requires

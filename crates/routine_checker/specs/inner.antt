@@ -1,0 +1,5 @@
+pub mod Kinds
+pub mod Counts
+pub mod Places
+pub mod Work
+pub mod Progress

@@ -1,0 +1,14 @@
+pub mod Joins
+pub mod Codes
+pub mod ListCodes
+pub mod LabelCode
+pub mod Variants
+pub mod MaybeCode
+pub mod NodeCode
+pub mod DiscCode
+pub mod InstrCode
+pub mod PartCodes
+pub mod TableCodes
+pub mod Reading
+pub mod Decoding
+pub mod Seen
