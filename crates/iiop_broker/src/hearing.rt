@@ -48,7 +48,7 @@ fn follow<S: Servant>(
     let mut answer = Vec::new(alloc);
     let mut open = run;
     let mut at = 0;
-    loop {
+    while at < octets.len() {
         match take_turn(service, alloc, servant, open, octets.split_at(at).1)? {
             Turn::Waits(run) => {
                 return Ok(Followed {
@@ -74,6 +74,13 @@ fn follow<S: Servant>(
             }
         }
     }
+    Ok(Followed {
+        answer,
+        left: Left::Open {
+            run: open,
+            taken: at,
+        },
+    })
 }
 
 /// Takes octets away at the front.
