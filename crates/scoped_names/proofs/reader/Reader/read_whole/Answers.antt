@@ -3,14 +3,14 @@ use Rattle.std.proofs.lemmas.Result.{err_from_is_err_and}
 use Rattle.name_table.specs.Entries.{latest}
 use Rattle.name_steps.specs.Steps.{steps_of}
 use Rattle.scoped_names.specs.Faults.{left_open, never_defined, nothing_yet, steps_read}
-use Rattle.scoped_names.specs.Reading.{Reading, Tells, passed, ◌>>◌}
+use Rattle.scoped_names.specs.Reading.{StateOrFault, Tells, passed, ◌>>◌}
 use Rattle.scoped_names.specs.Rising.{Rises}
 use Rattle.scoped_names.proofs.Readings.{checked_then, or_told}
 use Rattle.scoped_names.proofs.Rising.{rising}
 use Rattle.scoped_names.proofs.reader.Reader.read_whole.Goals as goal
 
 -- what comes of the steps
-abbrev finished : Reading → Reading
+abbrev finished : StateOrFault → StateOrFault
 finished r = r >> λ st. passed st (never_defined (left_open st 0 st.entries))
 
 pub read_definitions-requires : goal.read_definitions-requires
