@@ -6,7 +6,7 @@ use Rattle.idl_tree.specs.declared.definitions.Definition.{Definition}
 use Rattle.idl_tree.specs.Pieces.{Spell}
 use Rattle.idl_tree.specs.DefinitionYields.{definitions_spelled}
 use Rattle.idl_tree.specs.DefinitionLevels.{levels_of}
-use Rattle.scoped_names.specs.Whole.{AreNames, Whole}
+use Rattle.scoped_names.specs.FileNames.{AreNames, FileNames}
 use Rattle.type_model.specs.ModelRules.{Parts}
 use Rattle.marshal_program.specs.declared.fault.GenFault.{GenFault}
 use Rattle.marshal_program.specs.declared.instr.Routine.{Routine}
@@ -23,7 +23,7 @@ pub record IsTextOf (source : List ℕ) (definitions : List Definition) : Type 0
 
 -- the model shows the definitions, by the names that they declare
 pub record IsModelOf (definitions : List Definition) (model : Parts) : Type 0 where
-  pub names : Whole
+  pub names : FileNames
   pub named : AreNames definitions names
   pub shows : Shows definitions names model
 

@@ -10,7 +10,7 @@ use Rattle.idl_parser.specs.declared.fault.ParseFault.TheVariants as Parsing
 use Rattle.idl_tree.specs.declared.definitions.Definition.{Definition}
 use Rattle.scoped_names.specs.declared.fault.NameFault.{NameFault}
 use Rattle.scoped_names.specs.declared.fault.NameFault.TheVariants as Naming
-use Rattle.scoped_names.specs.Whole.{AreNames, Whole, names_of}
+use Rattle.scoped_names.specs.FileNames.{AreNames, FileNames, names_of}
 use Rattle.lowered_types.specs.declared.fault.TypeFault.{TypeFault}
 use Rattle.model_builder.specs.declared.fault.ModelFault.{ModelFault}
 use Rattle.model_builder.specs.declared.fault.ModelFault.TheVariants as Modelling
@@ -41,7 +41,7 @@ of_types (Modelling.Types fault) = Types fault
 
 -- their names have no fault, and this is one of their types
 pub record IsFaultOfTypes (definitions : List Definition) (fault : TypeFault) : Type 0 where
-  pub names : Whole
+  pub names : FileNames
   pub named : AreNames definitions names
   pub is : IsFault definitions names fault
 

@@ -33,12 +33,12 @@ use Rattle.scoped_names.specs.declared.fault.NameFault.{NameFault}
 use Rattle.scoped_names.specs.Faults.{again_test, base_added, base_test, based, declared_as, declares_over, entry_in, free_of, free_test, given_once, left_open, never_defined, new_test, nothing_yet, prefix_set, said_read, specification_read, step_read, steps_read, taken_by, test_of, type_kind, undefined_test, with_base_at, with_declared, declared as declared_plain}
 use Rattle.scoped_names.specs.IdPragmas.{Said, SetsPrefix, Gives, said_by, said_by_kind, said_by_word}
 use Rattle.scoped_names.specs.Meanings.{const_meant, enum_meant, enumerator_meant, typedef_meant}
-use Rattle.scoped_names.specs.Reading.{Reading, State, passed, ◌>>◌}
+use Rattle.scoped_names.specs.Reading.{State, StateOrFault, passed, ◌>>◌}
 use Rattle.scoped_names.specs.RepositoryIds.{GivenId, IdPragma, VersionOf, WholeId, given_in, given_to, id_by, idl_format, names_to, path, pragma_for, prefix_part, repository_id, with_slashes}
 use Rattle.name_steps.specs.Steps.{Step, Declares, DeclaresConst, DeclaresFeature, DeclaresEnum, DeclaresEnumerator, DeclaresTypedef, HasBase, HasMember, Enters, Leaves, Defines, Says, steps_of}
 use Rattle.scoped_names.specs.Tests.{found_at, resolved, value_of_type}
 use Rattle.scoped_names.specs.TypeKinds.{const_type_kind}
-use Rattle.scoped_names.specs.Whole.{AreNames, Whole, whole}
+use Rattle.scoped_names.specs.FileNames.{AreNames, FileNames, file_names}
 use Rattle.scoped_names.proofs.Later.{bare, bare_base}
 use Rattle.scoped_names.proofs.Introducing.{appears, below_or_last, passed_same, then_ok}
 use Rattle.lowered_names.proofs.EntryWords.{AreProper}
@@ -156,8 +156,8 @@ said_plain st next l None h own p = let is : st ≡ next = cc in subst IsPlain i
 said_plain st next l (Some (SetsPrefix text)) h own p = prefix_plain st next st.scope text (at l) h own p
 said_plain st next l (Some (Gives name given)) h own p =
     let (e, finds, h1) = then_ok (found_at st.entries (at l) (identifiers_see st.entries l.number st.scope (begins_at_root name) (words_in name)))
-    (λ e. given_once st.given e given (at l) (pragma_for st.given e) >> λ ps. let r : Reading = Ok (record st { given = ps }) in r) next h in
-    let (ps, gives, h2) = then_ok (given_once st.given e given (at l) (pragma_for st.given e)) (λ ps. let r : Reading = Ok (record st { given = ps }) in r) next h1 in
+    (λ e. given_once st.given e given (at l) (pragma_for st.given e) >> λ ps. let r : StateOrFault = Ok (record st { given = ps }) in r) next h in
+    let (ps, gives, h2) = then_ok (given_once st.given e given (at l) (pragma_for st.given e)) (λ ps. let r : StateOrFault = Ok (record st { given = ps }) in r) next h1 in
     let more : State = record st { given = ps } in
     let is : more ≡ next = cc in
     subst IsPlain is (record {
@@ -181,7 +181,7 @@ base_plain : (st next : State) (inner : ℕ) (name : ScopedName) → base_added 
 base_plain st next inner name h p =
     let (e, finds, rest) = then_ok (resolved st.entries st.scope name) (λ e. with_base_at st inner (record { token = (name_start name).number; entry = e }) (at (name_start name))) next h in
     let base : Base = record { token = (name_start name).number; entry = e } in
-    let (u, test, told) = then_ok (base_test st inner base (at (name_start name))) (λ u. let r : Reading = Ok (based st inner base) in r) next rest in
+    let (u, test, told) = then_ok (base_test st inner base (at (name_start name))) (λ u. let r : StateOrFault = Ok (based st inner base) in r) next rest in
     let is : based st inner base ≡ next = cc in
     subst IsPlain is (record {
       prefix = p.prefix;
@@ -193,7 +193,7 @@ step_plain : (st next : State) (s : Step) → step_read st s ≡ Ok next → IsP
 step_plain st next (Declares kind l) h p = declared_keeps (plain l.number kind) st next l h p
 step_plain st next (DeclaresEnum l) h p =
     let m = enum_meant (length st.entries) l in
-    let (mid, declares, rest) = then_ok (declared_as m st l) (λ next. let r : Reading = Ok (record next { enumeration = length st.entries }) in r) next h in
+    let (mid, declares, rest) = then_ok (declared_as m st l) (λ next. let r : StateOrFault = Ok (record next { enumeration = length st.entries }) in r) next h in
     let q = declared_keeps m st mid l declares p in
     let last : State = record mid { enumeration = length st.entries } in
     let is : last ≡ next = cc in
@@ -209,7 +209,7 @@ step_plain st next (DeclaresFeature kind l) h p =
     declared_keeps (plain l.number kind) st next l rest p
 step_plain st next (HasMember l) h p =
     let more : State = record st { members = st.members ++ record { scope = st.scope; name = word l; at = at l } ∷ [] } in
-    let (u, test, rest) = then_ok (new_test st l) (λ u. let r : Reading = Ok more in r) next h in
+    let (u, test, rest) = then_ok (new_test st l) (λ u. let r : StateOrFault = Ok more in r) next h in
     let is : more ≡ next = cc in
     subst IsPlain is (record { prefix = p.prefix; entries = p.entries; given = p.given })
 step_plain st next (HasBase l name) h p = base_plain st next (scope_of st.entries st.scope l) name h p
@@ -219,7 +219,7 @@ step_plain st next (Enters l) h p =
     subst IsPlain is (record { prefix = p.prefix; entries = p.entries; given = p.given })
 step_plain st next (Defines l) h p =
     let more : State = record st { defined = st.defined ++ st.scope ∷ [] } in
-    let (u, test, rest) = then_ok (undefined_test st st.scope l) (λ u. let r : Reading = Ok more in r) next h in
+    let (u, test, rest) = then_ok (undefined_test st st.scope l) (λ u. let r : StateOrFault = Ok more in r) next h in
     let is : more ≡ next = cc in
     subst IsPlain is (record { prefix = p.prefix; entries = p.entries; given = p.given })
 step_plain st next Leaves h p =
@@ -238,16 +238,16 @@ steps_plain st next (s ∷ steps) h p =
 -- ---- a whole file
 
 -- the prefixes of its entries, and what pragmas give to them
-pub record SaysAscii (names : Whole) : Type 0 where
+pub record SaysAscii (names : FileNames) : Type 0 where
   pub prefixes : (n : ℕ) (e : Entry) → slice_get names.entries n ≡ Some e → IsAscii e.prefix
   pub given : AllByRecursion (λ p. GivenAscii p.given) names.rules
 
-pub says_ascii : (definitions : List Definition) (names : Whole) → AreNames definitions names → SaysAscii names
+pub says_ascii : (definitions : List Definition) (names : FileNames) → AreNames definitions names → SaysAscii names
 says_ascii definitions names h =
-    let (read, reads, is) = then_ok (specification_read definitions) (λ st. let r : Result Whole NameFault = Ok (whole st) in r) names h in
+    let (read, reads, is) = then_ok (specification_read definitions) (λ st. let r : Result FileNames NameFault = Ok (file_names st) in r) names h in
     let (st, steps, rest) = then_ok (steps_read nothing_yet (steps_of definitions)) (λ st. passed st (never_defined (left_open st 0 st.entries))) read reads in
     let same = passed_same st (never_defined (left_open st 0 st.entries)) read rest in
-    let whole_is : whole st ≡ names = ap whole same ∙ cc in
+    let whole_is : file_names st ≡ names = ap file_names same ∙ cc in
     let p = steps_plain nothing_yet st (steps_of definitions) steps (record { prefix = IsAscii-nil; entries = λ n e none. cc; given = tt }) in
     subst SaysAscii whole_is (record { prefixes = p.entries; given = p.given })
 
@@ -260,7 +260,7 @@ name_ascii es proper n = by (slice_get es n) refl
     by None is = IsAscii-nil
     by (Some e) is = let w = proper.words n e is in word_ascii e.name w.word
 
-prefix_ascii : (names : Whole) → SaysAscii names → (n : ℕ) → IsAscii (prefix_in (slice_get names.entries n))
+prefix_ascii : (names : FileNames) → SaysAscii names → (n : ℕ) → IsAscii (prefix_in (slice_get names.entries n))
 prefix_ascii names says n = by (slice_get names.entries n) refl
   where
     by : (o : Option Entry) → slice_get names.entries n ≡ o → IsAscii (prefix_in o)
@@ -324,7 +324,7 @@ id_ascii_by None prefix ns g p n = format_ascii prefix ns (codes "1.0") p n (tol
 id_ascii_by (Some (WholeId text)) prefix ns g p n = g
 id_ascii_by (Some (VersionOf number)) prefix ns g p n = format_ascii prefix ns number p n g
 
-pub id_ascii : (names : Whole) → AreProper names.entries → SaysAscii names → (e : ℕ) → IsAscii (repository_id names.entries names.rules e)
+pub id_ascii : (names : FileNames) → AreProper names.entries → SaysAscii names → (e : ℕ) → IsAscii (repository_id names.entries names.rules e)
 id_ascii names proper says e =
     id_ascii_by (given_to names.rules e) (prefix_in (slice_get names.entries e)) (path names.entries e) (given_ascii names.rules says.given e)
     (prefix_ascii names says e) (names_ascii names.entries proper (suc e) (suc e))

@@ -24,7 +24,7 @@ use Rattle.name_table.specs.Search.{word}
 use Rattle.name_steps.specs.Asked.{asked, asked_by, is_asked, pieces_of}
 use Rattle.scoped_names.specs.Introductions.{Introduction, Stands, Has, Body, IsEntry, StandsFor, introduced, introduced_by, scope_behind}
 use Rattle.name_steps.specs.Steps.{Step, Declares, DeclaresEnum, DeclaresEnumerator, DeclaresTypedef, DeclaresConst, DeclaresFeature, HasMember, Defines, steps_of}
-use Rattle.scoped_names.specs.Whole.{AreNames, Whole}
+use Rattle.scoped_names.specs.FileNames.{AreNames, FileNames}
 use Rattle.name_steps.proofs.Asked.{all_asked}
 use Rattle.scoped_names.proofs.Introduced.{declared_once, nothing_else}
 use Rattle.scoped_names.proofs.Introducing.{named_entry}
@@ -153,7 +153,7 @@ proper_by es n e (Stands scope l kind) at stands (m, f, is, here, kind_is, name_
 proper_by es n e (Has scope l) at stands is form = absurd stands
 proper_by es n e (Body scope) at stands is form = absurd stands
 
-entry_proper : (spec : Spec) (names : Whole) → AreNames spec.definitions.items names → (n : ℕ) (e : Entry) → slice_get names.entries n ≡ Some e → IsProper names.entries n e
+entry_proper : (spec : Spec) (names : FileNames) → AreNames spec.definitions.items names → (n : ℕ) (e : Entry) → slice_get names.entries n ≡ Some e → IsProper names.entries n e
 entry_proper spec names h n e at =
     let all = introduced names.entries 0 (steps_of spec.definitions.items) in
     let (k, x, lt, is, stands) = nothing_else spec.definitions.items names h n (slice_get_within names.entries n e at) in
@@ -161,7 +161,7 @@ entry_proper spec names h n e at =
     (one_of (IsEntry names.entries) all k x (declared_once spec.definitions.items names h) lt is)
     (one_of IsNamedByWord all k x (spec_words spec names.entries) lt is)
 
-pub entries_proper : (spec : Spec) (names : Whole) → AreNames spec.definitions.items names → AreProper names.entries
+pub entries_proper : (spec : Spec) (names : FileNames) → AreNames spec.definitions.items names → AreProper names.entries
 entries_proper spec names h = record {
   nested = entries_nested spec.definitions.items names h;
   words = λ n e at. (entry_proper spec names h n e at).0;

@@ -30,7 +30,7 @@ use Rattle.name_table.specs.Entries.{scope_of}
 use Rattle.name_table.specs.Search.{word}
 use Rattle.scoped_names.specs.Introductions.{Introduction, introduced}
 use Rattle.name_steps.specs.Steps.{Step, Declares, DeclaresFeature, Defines, Enters, HasBase, HasMember, IsUndefined, Leaves, declaration_steps, definition_steps, definitions_steps, except_steps, export_steps, interface_steps, member_steps, operation_steps, optional_parts, param_steps, param_type_steps, raises_steps, result_steps, type_dcl_steps, type_steps, typedef_steps}
-use Rattle.scoped_names.specs.Whole.{AreNames, Whole}
+use Rattle.scoped_names.specs.FileNames.{AreNames, FileNames}
 use Rattle.name_steps.proofs.Asks.{bases_ask, definition_asks, definitions_ask, export_asks, member_asks, param_asks, param_type_asks, result_asks, type_asks}
 use Rattle.scoped_names.proofs.Introducing.{all_map}
 use Rattle.scoped_names.proofs.Parts.{Closed, both_closed, closed, each_closed, one_closed}
@@ -321,7 +321,7 @@ mutual
 definition_closed : (d : Definition) → Closed (definition_steps d)
 definition_closed d = closed (definition_asks {ls = []} d)
 
-pub file_named : (spec : Spec) (names : Whole) (w : Lowered) (ops : List Signature) → AreNames spec.definitions.items names → HavePlaces names.entries w
+pub file_named : (spec : Spec) (names : FileNames) (w : Lowered) (ops : List Signature) → AreNames spec.definitions.items names → HavePlaces names.entries w
     → AreSigned names.entries ops spec.definitions.items → IsNamed (file_parts names.entries w ops spec.definitions.items)
 file_named spec names w ops own placed signed =
     let es = names.entries in

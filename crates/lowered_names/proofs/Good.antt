@@ -10,7 +10,7 @@ use Rattle.name_table.specs.Search.{word}
 use Rattle.scoped_names.specs.Holding.{AllHold, Holds}
 use Rattle.scoped_names.specs.Introductions.{clashes, introduced, introduced_by, scope_behind}
 use Rattle.name_steps.specs.Steps.{Step, Enters, Leaves, steps_of}
-use Rattle.scoped_names.specs.Whole.{AreNames, Whole}
+use Rattle.scoped_names.specs.FileNames.{AreNames, FileNames}
 use Rattle.scoped_names.proofs.Held.{names_hold}
 use Rattle.scoped_names.proofs.Introduced.{IsFlat, flat_behind, nothing_clashes}
 use Rattle.scoped_names.proofs.Parts.{Closed, holds_split, inside_holds, scope_past}
@@ -82,6 +82,6 @@ good_each es scope steps c (x ∷ xs) g =
     let both = good_both es scope (steps x) (flat_map steps xs) (c x) g in
     (both.0, good_each es scope steps c xs both.1)
 
-pub spec_good : (spec : Spec) (names : Whole) → AreNames spec.definitions.items names → Good names.entries 0 (steps_of spec.definitions.items)
+pub spec_good : (spec : Spec) (names : FileNames) → AreNames spec.definitions.items names → Good names.entries 0 (steps_of spec.definitions.items)
 spec_good spec names h =
     record { holds = names_hold spec names h; apart = nothing_clashes spec.definitions.items names h; words = spec_words spec names.entries }

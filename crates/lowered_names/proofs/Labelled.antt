@@ -2,6 +2,7 @@
 use Rattle.std.proofs.Common.{◌≡◌, ℕ, suc, ◌+◌, ◌≤◌, Bool, true, false, List, [], ◌∷◌, ◌++◌, length, length-append, map}
 use Rattle.std.proofs.Common.{Option, Some, None, Result, Ok, Err, refl, ap, subst, arith, ℤ, pos, int_lt}
 use Rattle.std.specs.Prelude.{if◌then◌else◌, is_some, option_to_list}
+use Rattle.std.specs.Option.{option_or}
 use Rattle.std.proofs.lemmas.List.{length-map}
 use Rattle.idl_tree.specs.declared.names.At.{At}
 use Rattle.idl_tree.specs.declared.types.Label.{Label}
@@ -10,7 +11,6 @@ use Rattle.idl_tree.specs.Starts.{expr_start, leaf_at}
 use Rattle.type_graph.specs.declared.fault.GraphLimit.TheVariants.{Members as MembersLimit}
 use Rattle.type_graph.specs.declared.node.Node.TheVariants.{Union}
 use Rattle.name_table.specs.Entry.{Entry}
-use Rattle.scoped_names.specs.Faults.{or_then}
 use Rattle.scoped_names.specs.Reading.{◌>>◌}
 use Rattle.lowered_types.specs.declared.fault.BuildFault.{BuildFault}
 use Rattle.lowered_types.specs.Faults.{at_most, each, max_members}
@@ -57,7 +57,7 @@ pub record AreRead (a : Arms) (ls : CaseLabels) (count : ℕ) : Type 0 where
   pub long : labels_read ls ≡ count
   pub free : IsFree a ls
 
-neither_there : (arm : domain keyword_at) (read : Option At) → or_then (keyword_at arm) read ≡ None → (arm ≡ None) × (read ≡ None)
+neither_there : (arm : domain keyword_at) (read : Option At) → option_or (keyword_at arm) read ≡ None → (arm ≡ None) × (read ≡ None)
 neither_there None read h = (refl, h)
 neither_there (Some d) read h = absurd cc
 

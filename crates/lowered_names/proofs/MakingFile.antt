@@ -14,7 +14,7 @@ use Rattle.idl_tree.specs.declared.definitions.Definition.{end_of-Definition, mo
 use Rattle.idl_tree.specs.declared.spec.Spec.{Spec}
 use Rattle.type_graph.specs.declared.node.Node.{Node}
 use Rattle.name_table.specs.Entry.{Entry, bases_in}
-use Rattle.scoped_names.specs.Whole.{AreNames, Whole}
+use Rattle.scoped_names.specs.FileNames.{AreNames, FileNames}
 use Rattle.scoped_names.proofs.Introducing.{all_map}
 use Rattle.lowered_types.specs.declared.fault.BuildFault.{BuildFault}
 use Rattle.lowered_types.specs.declared.fault.BuildFault.TheVariants.{OtherNames}
@@ -145,7 +145,7 @@ of_node : (graph : List Node) (p : Part) → HasNode graph p → IsOfNode graph 
 of_node graph p (node, is, defined, has) = is_some_and (slice_get graph p.node)
     (λ node. HaveNames node (length p.names)) node is has
 
-defined_one_for_one : (spec : Spec) (names : Whole) (d : Defined) (ps : List Part)
+defined_one_for_one : (spec : Spec) (names : FileNames) (d : Defined) (ps : List Part)
     → AreNames spec.definitions.items names
     → defined_by names.entries spec.definitions.items ≡ Ok d → file_parts names.entries d.types d.operations
     spec.definitions.items ≡ Ok ps
@@ -165,7 +165,7 @@ defined_one_for_one spec names d ps own is told =
       apart = between.apart;
     })
 
-pub parts_one_for_one : (spec : Spec) (names : Whole) (w : Lowered) (ops : List Signature) (ps : List Part)
+pub parts_one_for_one : (spec : Spec) (names : FileNames) (w : Lowered) (ops : List Signature) (ps : List Part)
     → Lowers spec.definitions.items names w ops
     → file_parts names.entries w ops spec.definitions.items ≡ Ok ps → AreOneForOne w.nodes ps
 parts_one_for_one spec names w ops ps h told =

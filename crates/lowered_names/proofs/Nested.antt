@@ -10,7 +10,7 @@ use Rattle.scoped_names.specs.Faults.{left_open, never_defined, nothing_yet, spe
 use Rattle.scoped_names.specs.Meanings.{const_end, enumerator_meant, typedef_meant}
 use Rattle.scoped_names.specs.Reading.{State, passed}
 use Rattle.name_steps.specs.Steps.{Step, Declares, DeclaresConst, DeclaresFeature, DeclaresEnum, DeclaresEnumerator, DeclaresTypedef, HasBase, HasMember, Enters, Leaves, Defines, Says, steps_of}
-use Rattle.scoped_names.specs.Whole.{AreNames, Whole, whole}
+use Rattle.scoped_names.specs.FileNames.{AreNames, FileNames, file_names}
 use Rattle.scoped_names.proofs.Going.{Goes, base_goes, const_goes, declared_goes, defined_goes, enum_goes, feature_goes, goes_same, member_goes, said_goes}
 use Rattle.scoped_names.proofs.Introduced.{IsFlat}
 use Rattle.scoped_names.proofs.Introducing.{named_entry, passed_same, then_ok}
@@ -75,11 +75,11 @@ steps_nested st next (s ∷ steps) h is =
     let (mid, first, rest) = then_ok (step_read st s) (λ x. steps_read x steps) next h in
     steps_nested mid next steps rest (step_nested st mid s first is)
 
-pub entries_nested : (definitions : List Definition) (names : Whole) → AreNames definitions names → AreNested names.entries
+pub entries_nested : (definitions : List Definition) (names : FileNames) → AreNames definitions names → AreNested names.entries
 entries_nested definitions names h =
-    let (read, reads, is) = then_ok (specification_read definitions) (λ st. let r : Result Whole NameFault = Ok (whole st) in r) names h in
+    let (read, reads, is) = then_ok (specification_read definitions) (λ st. let r : Result FileNames NameFault = Ok (file_names st) in r) names h in
     let (st, steps, rest) = then_ok (steps_read nothing_yet (steps_of definitions)) (λ st. passed st (never_defined (left_open st 0 st.entries))) read reads in
     let same = passed_same st (never_defined (left_open st 0 st.entries)) read rest in
-    let whole_is : whole st ≡ names = ap whole same ∙ cc in
+    let whole_is : file_names st ≡ names = ap file_names same ∙ cc in
     subst (λ w. AreNested w.entries) whole_is
     (steps_nested nothing_yet st (steps_of definitions) steps (record { nested = λ k e none. cc; low = omega arith }))

@@ -7,7 +7,7 @@ use Rattle.idl_tree.specs.declared.kinds.EntryKind.TheVariants as Kinds
 use Rattle.name_table.specs.Entry.{Entry}
 use Rattle.scoped_names.specs.Introductions.{Introduction, introduced, introduced_by, scope_behind}
 use Rattle.name_steps.specs.Steps.{Step, steps_of}
-use Rattle.scoped_names.specs.Whole.{AreNames, Whole}
+use Rattle.scoped_names.specs.FileNames.{AreNames, FileNames}
 use Rattle.scoped_names.proofs.Introduced.{nothing_else}
 use Rattle.lowered_types.specs.declared.place.Place.{Place}
 use Rattle.lowered_types.specs.Lowered.{place_in}
@@ -30,7 +30,7 @@ behind_onto es g scope (s ∷ steps) =
     behind_onto es (onto (introduced_by scope s) g) (scope_behind es scope s) steps
     ∙ sym (onto_both (introduced_by scope s) (introduced es (scope_behind es scope s) steps) g)
 
-all_known : (spec : Spec) (names : Whole) → AreNames spec.definitions.items names → (n : ℕ) → n < length names.entries
+all_known : (spec : Spec) (names : FileNames) → AreNames spec.definitions.items names → (n : ℕ) → n < length names.entries
     → Known names.entries (behind names.entries [] 0 (steps_of spec.definitions.items)) n
 all_known spec names h n lt =
     let es = names.entries in
@@ -52,7 +52,7 @@ its_place Kinds.Exception o (inr (frame, place, is)) = (frame, place, ap place_i
 its_place Kinds.Operation o h = tt
 its_place Kinds.Attribute o h = tt
 
-pub have_places : (spec : Spec) (names : Whole) → AreNames spec.definitions.items names → (d : Defined) → defined_by names.entries spec.definitions.items ≡ Ok d
+pub have_places : (spec : Spec) (names : FileNames) → AreNames spec.definitions.items names → (d : Defined) → defined_by names.entries spec.definitions.items ≡ Ok d
     → HavePlaces names.entries d.types
 have_places spec names h d is =
     let es = names.entries in

@@ -11,7 +11,7 @@ use Rattle.std.proofs.lemmas.Option.{slice_get_within}
 use Rattle.idl_tree.specs.declared.spec.Spec.{Spec}
 use Rattle.type_graph.specs.declared.node.Node.{Node}
 use Rattle.part_names.specs.Names.{names_at, or_none}
-use Rattle.scoped_names.specs.Whole.{Whole}
+use Rattle.scoped_names.specs.FileNames.{FileNames}
 use Rattle.scoped_names.proofs.Introducing.{all_map}
 use Rattle.lowered_types.specs.Lowered.{Lowered}
 use Rattle.lowered_types.proofs.Spots.{set_here, set_other, some_is, there_at}
@@ -57,7 +57,7 @@ of_node_within graph p h =
     let (node, is, has) = some_is (slice_get graph p.node) (λ node. HaveNames node (length p.names)) h in
     slice_get_within graph p.node node is
 
-pub named_by_node : (spec : Spec) (names : Whole) (w : Lowered) (ops : List Signature) (ps : List Part)
+pub named_by_node : (spec : Spec) (names : FileNames) (w : Lowered) (ops : List Signature) (ps : List Part)
     (nodes : List (List (List ℕ))) → Lowers spec.definitions.items names w ops
     → file_parts names.entries w ops spec.definitions.items ≡ Ok ps → nodes ≡ by_node (length w.nodes) ps
     → AreNamed spec.definitions.items names w ops nodes

@@ -2,7 +2,7 @@
 
 ghost use Rattle.std.specs.Prelude.{◌≡◌, List, All, Ok};
 ghost use Rattle.idl_tree.specs.declared.spec.Spec.{Spec};
-ghost use Rattle.scoped_names.specs.Whole.{Whole};
+ghost use Rattle.scoped_names.specs.FileNames.{FileNames};
 ghost use Rattle.lowered_types.specs.Lowered.{Lowered};
 ghost use Rattle.lowered_operations.specs.declared.signature.Signature.{Signature};
 ghost use Rattle.part_names.specs.Names.{AreApart};
@@ -14,7 +14,7 @@ ghost use Rattle.lowered_names.specs.Types.{Part};
 /// The names of the parts of one node are apart: no two members, enumerators or parameters of a
 /// file are equal but for case, and none is `_return` or `_id`.
 pub fn names_are_apart()
-    ensures { (spec : Spec) (names : Whole) (w : Lowered) (ops : List Signature) (parts : List Part)
+    ensures { (spec : Spec) (names : FileNames) (w : Lowered) (ops : List Signature) (parts : List Part)
         → Lowers spec.definitions.items names w ops
         → file_parts names.entries w ops spec.definitions.items ≡ Ok parts
         → All (λ part. AreApart part.names) parts }
@@ -23,7 +23,7 @@ pub fn names_are_apart()
 /// Names stand one for one for the parts of nodes: each part of a file is of a node that is there,
 /// with a name for each of its members, enumerators or parameters, and no two are of one node.
 pub fn names_are_one_for_one()
-    ensures { (spec : Spec) (names : Whole) (w : Lowered) (ops : List Signature) (parts : List Part)
+    ensures { (spec : Spec) (names : FileNames) (w : Lowered) (ops : List Signature) (parts : List Part)
         → Lowers spec.definitions.items names w ops
         → file_parts names.entries w ops spec.definitions.items ≡ Ok parts
         → AreOneForOne w.nodes parts }

@@ -25,12 +25,12 @@ use Rattle.scoped_names.specs.declared.fault.NameFault.TheVariants.{BadBase, Col
 use Rattle.scoped_names.specs.Faults.{base_added, base_test, based, declared as declared_plain, declared_as, declares_over, entry_in, free_of, free_test, given_once, is_defined, is_defined_interface, is_interface, keeps_prefix, left_open, may_reappear, never_defined, new_test, nothing_yet, prefix_set, said_read, specification_read, step_read, steps_read, taken_by, test_of, type_kind, undefined_test, with_base_at, with_declared}
 use Rattle.scoped_names.specs.IdPragmas.{Said, SetsPrefix, Gives, said_by}
 use Rattle.scoped_names.specs.Meanings.{const_meant, enum_meant, enumerator_meant, typedef_meant}
-use Rattle.scoped_names.specs.Reading.{Reading, State, Test, ◌>>◌, passed}
+use Rattle.scoped_names.specs.Reading.{State, StateOrFault, Test, ◌>>◌, passed}
 use Rattle.scoped_names.specs.RepositoryIds.{pragma_for}
 use Rattle.name_steps.specs.Steps.{Step, Declares, DeclaresEnum, DeclaresEnumerator, DeclaresTypedef, DeclaresConst, DeclaresFeature, HasMember, HasBase, Enters, Defines, Leaves, Says, steps_of}
 use Rattle.scoped_names.specs.Tests.{at_entry, found_at, is_of, resolved, value_of_type}
 use Rattle.scoped_names.specs.TypeKinds.{const_type_kind}
-use Rattle.scoped_names.specs.Whole.{AreNames, Whole, whole}
+use Rattle.scoped_names.specs.FileNames.{AreNames, FileNames, file_names}
 use Rattle.scoped_names.proofs.Introducing.{passed_same, then_ok}
 use Rattle.lowered_types.proofs.Naming.{of_kind}
 use Rattle.lowered_types.proofs.Spots.{push_cases, set_cases}
@@ -78,7 +78,7 @@ declared_either m st next l h =
     let (u, test, rest) = then_ok (free_test l (taken_by st (word l))) (λ u. declares_over m st l (entry_in st.entries (named st.entries st.scope (word l)))) next h in
     by (entry_in st.entries (named st.entries st.scope (word l))) rest
   where
-    again : (e : Entry) (a b : Bool) → (let r : Reading = if not a then Err (Collides (at l) (at_entry (Some e))) else if b then Err (PrefixDiffers (at l) (at_entry (Some e))) else Ok st in r) ≡ Ok next → st ≡ next
+    again : (e : Entry) (a b : Bool) → (let r : StateOrFault = if not a then Err (Collides (at l) (at_entry (Some e))) else if b then Err (PrefixDiffers (at l) (at_entry (Some e))) else Ok st in r) ≡ Ok next → st ≡ next
     again e true true is = absurd cc
     again e true false is = cc
     again e false b is = absurd cc
@@ -99,7 +99,7 @@ added_based st next inner name h i =
     let (e, finds, rest) = then_ok (resolved st.entries st.scope name) (λ e. with_base_at st inner (record { token = (name_start name).number; entry = e }) (at (name_start name))) next h in
     let base : Base = record { token = (name_start name).number; entry = e } in
     let here = at (name_start name) in
-    let (u, test, last) = then_ok (base_test st inner base here) (λ u. let r : Reading = Ok (based st inner base) in r) next rest in
+    let (u, test, last) = then_ok (base_test st inner base here) (λ u. let r : StateOrFault = Ok (based st inner base) in r) next rest in
     let defined = passes (is_defined_interface st e) (list_any (λ b. nat_eq b.entry e) (bases_of st.entries inner)) (differ (features_of st.entries) inner base) here u test in
     let (x, there, kind) = of_kind is_interface (slice_get st.entries e) (and_parts (is_of is_interface (slice_get st.entries e)) (is_defined st (suc e)) defined).0 in
     let same : based st inner base ≡ next = cc in
@@ -118,8 +118,8 @@ said_based st next l (Some (SetsPrefix text)) h i = by st.scope h
     by (suc e) is = absurd cc
 said_based st next l (Some (Gives name given)) h i =
     let (e, finds, h1) = then_ok (found_at st.entries (at l) (identifiers_see st.entries l.number st.scope (begins_at_root name) (words name)))
-    (λ e. given_once st.given e given (at l) (pragma_for st.given e) >> λ ps. let r : Reading = Ok (record st { given = ps }) in r) next h in
-    let (ps, gives, h2) = then_ok (given_once st.given e given (at l) (pragma_for st.given e)) (λ ps. let r : Reading = Ok (record st { given = ps }) in r) next h1 in
+    (λ e. given_once st.given e given (at l) (pragma_for st.given e) >> λ ps. let r : StateOrFault = Ok (record st { given = ps }) in r) next h in
+    let (ps, gives, h2) = then_ok (given_once st.given e given (at l) (pragma_for st.given e)) (λ ps. let r : StateOrFault = Ok (record st { given = ps }) in r) next h1 in
     let more : State = record st { given = ps } in
     let same : more ≡ next = cc in
     subst IsBased same i
@@ -128,7 +128,7 @@ step_based : (st next : State) (s : Step) → step_read st s ≡ Ok next → IsB
 step_based st next (Declares kind l) h i = declared_based (plain_meant l.number kind) st next l h i
 step_based st next (DeclaresEnum l) h i =
     let m = enum_meant (length st.entries) l in
-    let (mid, declares, rest) = then_ok (declared_as m st l) (λ next. let r : Reading = Ok (record next { enumeration = length st.entries }) in r) next h in
+    let (mid, declares, rest) = then_ok (declared_as m st l) (λ next. let r : StateOrFault = Ok (record next { enumeration = length st.entries }) in r) next h in
     let last : State = record mid { enumeration = length st.entries } in
     let same : last ≡ next = cc in
     subst IsBased same (declared_based m st mid l declares i)
@@ -143,14 +143,14 @@ step_based st next (DeclaresFeature kind l) h i =
     declared_based (plain_meant l.number kind) st next l rest i
 step_based st next (HasMember l) h i =
     let more : State = record st { members = st.members ++ record { scope = st.scope; name = word l; at = at l } ∷ [] } in
-    let (u, test, rest) = then_ok (new_test st l) (λ u. let r : Reading = Ok more in r) next h in
+    let (u, test, rest) = then_ok (new_test st l) (λ u. let r : StateOrFault = Ok more in r) next h in
     let same : more ≡ next = cc in
     subst IsBased same i
 step_based st next (HasBase l name) h i = added_based st next (scope_of st.entries st.scope l) name h i
 step_based st next (Enters l) h i = let inside : State = record st { scope = scope_of st.entries st.scope l } in let same : inside ≡ next = cc in subst IsBased same i
 step_based st next (Defines l) h i =
     let more : State = record st { defined = st.defined ++ st.scope ∷ [] } in
-    let (u, test, rest) = then_ok (undefined_test st st.scope l) (λ u. let r : Reading = Ok more in r) next h in
+    let (u, test, rest) = then_ok (undefined_test st st.scope l) (λ u. let r : StateOrFault = Ok more in r) next h in
     let same : more ≡ next = cc in
     subst IsBased same i
 step_based st next Leaves h i = let outside : State = record st { scope = around st.entries st.scope } in let same : outside ≡ next = cc in subst IsBased same i
@@ -166,17 +166,17 @@ steps_based st next (s ∷ steps) h i =
 -- ---- a whole specification
 
 -- what reading gives at its end
-pub names_read : (definitions : List Definition) (names : Whole) → AreNames definitions names
+pub names_read : (definitions : List Definition) (names : FileNames) → AreNames definitions names
     → (st : State) × (steps_read nothing_yet (steps_of definitions) ≡ Ok st) × (never_defined (left_open st 0 st.entries) ≡ Ok tt) × (st.entries ≡ names.entries)
 names_read definitions names h =
-    let (read, reads, is) = then_ok (specification_read definitions) (λ st. let r : Result Whole NameFault = Ok (whole st) in r) names h in
+    let (read, reads, is) = then_ok (specification_read definitions) (λ st. let r : Result FileNames NameFault = Ok (file_names st) in r) names h in
     let (st, steps, rest) = then_ok (steps_read nothing_yet (steps_of definitions)) (λ st. passed st (never_defined (left_open st 0 st.entries))) read reads in
-    let (u, test, last) = then_ok (never_defined (left_open st 0 st.entries)) (λ u. let r : Reading = Ok st in r) read rest in
+    let (u, test, last) = then_ok (never_defined (left_open st 0 st.entries)) (λ u. let r : StateOrFault = Ok st in r) read rest in
     let same = passed_same st (never_defined (left_open st 0 st.entries)) read rest in
-    let whole_is : whole st ≡ names = ap whole same ∙ cc in
+    let whole_is : file_names st ≡ names = ap file_names same ∙ cc in
     (st, steps, test, ap (λ w. w.entries) whole_is)
 
-pub bases_are_entries : (definitions : List Definition) (names : Whole) → AreNames definitions names → AreBased names.entries
+pub bases_are_entries : (definitions : List Definition) (names : FileNames) → AreNames definitions names → AreBased names.entries
 bases_are_entries definitions names h =
     let (st, steps, test, is) = names_read definitions names h in
     let all = steps_based nothing_yet st (steps_of definitions) steps (λ k x none. absurd cc) in

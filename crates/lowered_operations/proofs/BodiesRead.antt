@@ -21,12 +21,12 @@ use Rattle.scoped_names.specs.Faults.{base_added, base_test, based, with_base_at
 use Rattle.scoped_names.specs.IdPragmas.{Said, SetsPrefix, Gives, said_by}
 use Rattle.scoped_names.specs.Introductions.{Introduction, introduced_by, scope_behind}
 use Rattle.scoped_names.specs.Meanings.{const_meant, enum_meant, enumerator_meant, typedef_meant}
-use Rattle.scoped_names.specs.Reading.{Reading, State, Test, ◌>>◌}
+use Rattle.scoped_names.specs.Reading.{State, StateOrFault, Test, ◌>>◌}
 use Rattle.scoped_names.specs.RepositoryIds.{pragma_for}
 use Rattle.name_steps.specs.Steps.{Step, Declares, DeclaresEnum, DeclaresEnumerator, DeclaresTypedef, IsNew, DeclaresConst, DeclaresFeature, HasMember, IsUndefined, HasBase, Enters, Defines, Leaves, Says, steps_of}
 use Rattle.scoped_names.specs.Tests.{at_entry, found_at, resolved, value_of_type}
 use Rattle.scoped_names.specs.TypeKinds.{const_type_kind}
-use Rattle.scoped_names.specs.Whole.{AreNames, Whole}
+use Rattle.scoped_names.specs.FileNames.{AreNames, FileNames}
 use Rattle.name_steps.proofs.Asks.{Asks, all_ask, none as unasked, silent, joined as both_asked, plain, base, valued, declared, featured, undefined, inside, defines}
 use Rattle.scoped_names.proofs.Introduced.{HasLeaf, IsFlat, around_named, flat_behind, plain_flat, read_append}
 use Rattle.scoped_names.proofs.Introducing.{Keeps, all_map, base_does, declared_does, defined_does, keeps_on, member_does, passed_same, then_ok}
@@ -72,8 +72,8 @@ said_moves st next l (Some (SetsPrefix text)) h = by st.scope h
     by (suc e) is = absurd cc
 said_moves st next l (Some (Gives name given)) h =
     let (e, finds, h1) = then_ok (found_at st.entries (at l) (identifiers_see st.entries l.number st.scope (begins_at_root name) (words name)))
-    (λ e. given_once st.given e given (at l) (pragma_for st.given e) >> λ ps. let r : Reading = Ok (record st { given = ps }) in r) next h in
-    let (ps, gives, h2) = then_ok (given_once st.given e given (at l) (pragma_for st.given e)) (λ ps. let r : Reading = Ok (record st { given = ps }) in r) next h1 in
+    (λ e. given_once st.given e given (at l) (pragma_for st.given e) >> λ ps. let r : StateOrFault = Ok (record st { given = ps }) in r) next h in
+    let (ps, gives, h2) = then_ok (given_once st.given e given (at l) (pragma_for st.given e)) (λ ps. let r : StateOrFault = Ok (record st { given = ps }) in r) next h1 in
     let more : State = record st { given = ps } in
     let same : more ≡ next = cc in
     moves_to st more next (Says l) same (record { scope = refl; names = λ scope name n is. is; bodies = λ k d. inl d })
@@ -82,7 +82,7 @@ defines_moves : (st next : State) (l : Leaf) → step_read st (Defines l) ≡ Ok
 defines_moves st next l h =
     let does = defined_does st next l h in
     let more : State = record st { defined = st.defined ++ st.scope ∷ [] } in
-    let (u, test, rest) = then_ok (undefined_test st st.scope l) (λ u. let r : Reading = Ok more in r) next h in
+    let (u, test, rest) = then_ok (undefined_test st st.scope l) (λ u. let r : StateOrFault = Ok more in r) next h in
     let same : more ≡ next = cc in
     record { scope = does.scope; names = does.adds.grows.names; bodies = λ k d. by k (subst (λ x. is_defined x k ≡ true) (sym same) d) }
   where
@@ -99,7 +99,7 @@ based_defined : (st next : State) (inner : ℕ) (name : ScopedName) → base_add
 based_defined st next inner name h k d =
     let (e, finds, rest) = then_ok (resolved st.entries st.scope name) (λ e. with_base_at st inner (record { token = (name_start name).number; entry = e }) (at (name_start name))) next h in
     let base : Base = record { token = (name_start name).number; entry = e } in
-    let (u, test, last) = then_ok (base_test st inner base (at (name_start name))) (λ u. let r : Reading = Ok (based st inner base) in r) next rest in
+    let (u, test, last) = then_ok (base_test st inner base (at (name_start name))) (λ u. let r : StateOrFault = Ok (based st inner base) in r) next rest in
     let same : based st inner base ≡ next = cc in
     let there : is_defined (based st inner base) k ≡ true = subst (λ x. is_defined x k ≡ true) (sym same) d in
     there
@@ -108,7 +108,7 @@ flat_moves : (st next : State) (s : Step) → IsFlat s → step_read st s ≡ Ok
 flat_moves st next (Declares kind l) flat h = declares_moves (plain_meant l.number kind) st next l (Declares kind l) h
 flat_moves st next (DeclaresEnum l) flat h =
     let m = enum_meant (length st.entries) l in
-    let (mid, declares, rest) = then_ok (declared_as m st l) (λ next. let r : Reading = Ok (record next { enumeration = length st.entries }) in r) next h in
+    let (mid, declares, rest) = then_ok (declared_as m st l) (λ next. let r : StateOrFault = Ok (record next { enumeration = length st.entries }) in r) next h in
     let last : State = record mid { enumeration = length st.entries } in
     let one = declares_moves m st mid l (DeclaresEnum l) declares in
     let same : last ≡ next = cc in
@@ -125,7 +125,7 @@ flat_moves st next (DeclaresFeature kind l) flat h =
 flat_moves st next (HasMember l) flat h =
     let does = member_does st next l h in
     let more : State = record st { members = st.members ++ record { scope = st.scope; name = word l; at = at l } ∷ [] } in
-    let (u, test, rest) = then_ok (new_test st l) (λ u. let r : Reading = Ok more in r) next h in
+    let (u, test, rest) = then_ok (new_test st l) (λ u. let r : StateOrFault = Ok more in r) next h in
     let same : more ≡ next = cc in
     moves_to st more next (HasMember l) same (record { scope = refl; names = λ scope name n is. is; bodies = λ k d. inl d })
 flat_moves st next (HasBase l name) flat h =
@@ -328,7 +328,7 @@ none_left st place (x ∷ es) h k e is body = by k (is_left_open st place x) ref
         let next : place + suc k ≡ suc place + k = omega arith in
         ap (λ n. is_defined st (suc n)) next ∙ rest k there h
 
-pub all_done : (definitions : List Definition) (names : Whole) → AreNames definitions names → AllDone names.entries (behind names.entries [] 0 (steps_of definitions))
+pub all_done : (definitions : List Definition) (names : FileNames) → AreNames definitions names → AllDone names.entries (behind names.entries [] 0 (steps_of definitions))
 all_done definitions names h =
     let (st, steps, test, is) = names_read definitions names h in
     let walk = bodied (all_ask definitions) in

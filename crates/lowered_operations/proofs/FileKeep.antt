@@ -10,7 +10,7 @@ use Rattle.type_graph.specs.declared.node.Node.{Node}
 use Rattle.type_graph.specs.GraphRules.{AreMembers, IsNode, IsPart, all_members}
 use Rattle.name_table.specs.Entry.{Entry}
 use Rattle.name_steps.specs.Steps.{definition_steps, steps_of}
-use Rattle.scoped_names.specs.Whole.{AreNames, Whole}
+use Rattle.scoped_names.specs.FileNames.{AreNames, FileNames}
 use Rattle.lowered_types.specs.declared.fault.BuildFault.{BuildFault}
 use Rattle.lowered_types.specs.declared.place.Place.{Place}
 use Rattle.lowered_types.specs.declared.place.Place.TheVariants.{Typed}
@@ -94,7 +94,7 @@ file_fine es based definitions settled =
     (λ g d x s h. weaker (GoesAll es (behind es g 0 (definition_steps x)) d) (KeepsAll es (behind es g 0 (definition_steps x))) (definition es 0 d x) (λ b goes. goes.keeps)
     (definition_fine es based g d 0 x h s)) [] (undefined_yet (length es)) definitions settled (first_all es)
 
-pub of_names_fine : (spec : Spec) (names : Whole) → AreNames spec.definitions.items names
+pub of_names_fine : (spec : Spec) (names : FileNames) → AreNames spec.definitions.items names
     → Fine (KeepsAll names.entries (behind names.entries [] 0 (steps_of spec.definitions.items))) (defined_by names.entries spec.definitions.items)
 of_names_fine spec names h =
     file_fine names.entries (bases_are_entries spec.definitions.items names h) spec.definitions.items (all_settled spec names h)
@@ -103,6 +103,6 @@ told : {A : Type 0} (P : A → Type 0) (r : Result A BuildFault) (fault : BuildF
 told P (Ok x) fault h is = absurd cc
 told P (Err other) fault h is = let same : other ≡ fault = cc in subst IsOfTypes same h
 
-pub only_types : (spec : Spec) (names : Whole) → AreNames spec.definitions.items names → (fault : BuildFault) → defined_by names.entries spec.definitions.items ≡ Err fault → IsOfTypes fault
+pub only_types : (spec : Spec) (names : FileNames) → AreNames spec.definitions.items names → (fault : BuildFault) → defined_by names.entries spec.definitions.items ≡ Err fault → IsOfTypes fault
 only_types spec names h fault is =
     told (KeepsAll names.entries (behind names.entries [] 0 (steps_of spec.definitions.items))) (defined_by names.entries spec.definitions.items) fault (of_names_fine spec names h) is

@@ -2,7 +2,7 @@
 use Rattle.std.proofs.Common.{◌≡◌, [], length, Result, Ok, Err, subst}
 use Rattle.idl_tree.specs.declared.spec.Spec.{Spec}
 use Rattle.name_steps.specs.Steps.{steps_of}
-use Rattle.scoped_names.specs.Whole.{AreNames, Whole}
+use Rattle.scoped_names.specs.FileNames.{AreNames, FileNames}
 use Rattle.lowered_types.specs.declared.fault.BuildFault.{BuildFault}
 use Rattle.lowered_types.proofs.Fine.{Fine}
 use Rattle.lowered_types.proofs.Settled.{behind}
@@ -18,7 +18,7 @@ pub given_by : {A : Type 0} (P : A → Type 0) (r : Result A BuildFault) (x : A)
 given_by P (Ok y) x h is = let same : y ≡ x = cc in subst P same h
 given_by P (Err fault) x h is = absurd cc
 
-pub sound_lowered : (spec : Spec) (names : Whole) → AreNames spec.definitions.items names → (d : Defined) → defined_by names.entries spec.definitions.items ≡ Ok d
+pub sound_lowered : (spec : Spec) (names : FileNames) → AreNames spec.definitions.items names → (d : Defined) → defined_by names.entries spec.definitions.items ≡ Ok d
     → IsSoundFile (length names.entries) d
 sound_lowered spec names h d is =
     let g = behind names.entries [] 0 (steps_of spec.definitions.items) in

@@ -2,13 +2,13 @@
 use Rattle.std.proofs.Common.{◌≡◌, ◌∙◌, ℕ, ◌+◌, ◌≤◌, Bool, true, false, List, [], ◌∷◌, ◌++◌, length, length-append, Option, Some, None, Ok, Err, refl, ap, arith, ℤ, int_lt}
 use Rattle.std.specs.Prelude.{◌||◌, if◌then◌else◌, IfSome}
 use Rattle.std.specs.List.{AllByRecursion, list_any}
+use Rattle.std.specs.Option.{option_or}
 use Rattle.std.specs.Ordering.{int_eq}
 use Rattle.std.proofs.lemmas.Int.{ints}
 use Rattle.idl_tree.specs.declared.names.At.{At}
 use Rattle.type_graph.specs.declared.node.Node.{Node}
 use Rattle.type_graph.specs.declared.fault.GraphLimit.TheVariants.{Members as MembersLimit}
 use Rattle.type_graph.specs.GraphRules.{IsPart}
-use Rattle.scoped_names.specs.Faults.{or_then}
 use Rattle.scoped_names.specs.Reading.{◌>>◌}
 use Rattle.lowered_types.specs.declared.arms.Arm.{Arm}
 use Rattle.lowered_types.specs.declared.arms.DefaultArm.{DefaultArm}
@@ -112,7 +112,7 @@ value_nowhere (l ∷ ls) n is = by (int_eq l.value n) is (value_nowhere ls n)
     by true is others = absurd cc
     by false is others = others is
 
-neither : (o p : Option At) → or_then o p ≡ None → (o ≡ None) × (p ≡ None)
+neither : (o p : Option At) → option_or o p ≡ None → (o ≡ None) × (p ≡ None)
 neither None p is = (refl, is)
 neither (Some x) p is = absurd cc
 

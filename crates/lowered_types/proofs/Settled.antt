@@ -20,7 +20,7 @@ use Rattle.scoped_names.specs.Following.{AllFollow, FindsKnown}
 use Rattle.scoped_names.specs.Holding.{AllHold, Holds}
 use Rattle.scoped_names.specs.Introductions.{Introduction, Stands, Has, Body, StandsFor, clashes, introduced, introduced_by, is_one_name, scope_behind}
 use Rattle.name_steps.specs.Steps.{Step, Declares, Defines, Enters, Leaves, steps_of}
-use Rattle.scoped_names.specs.Whole.{AreNames, Whole}
+use Rattle.scoped_names.specs.FileNames.{AreNames, FileNames}
 use Rattle.scoped_names.proofs.FollowParts.{finds_more}
 use Rattle.scoped_names.proofs.Held.{names_follow, names_hold}
 use Rattle.scoped_names.proofs.Introduced.{nothing_clashes}
@@ -261,7 +261,7 @@ settle es known g scope (s ∷ steps) knows (h, hs) (f, fs) new =
           (known_more es known g (introduced_by scope s) knows) hs fs parts.1,
     )
 
-pub all_settled : (spec : Spec) (names : Whole) → AreNames spec.definitions.items names → AllSettled names.entries [] 0 (steps_of spec.definitions.items)
+pub all_settled : (spec : Spec) (names : FileNames) → AreNames spec.definitions.items names → AllSettled names.entries [] 0 (steps_of spec.definitions.items)
 all_settled spec names h =
     let steps = steps_of spec.definitions.items in
     let all = introduced names.entries 0 steps in

@@ -1,5 +1,6 @@
 -- The discriminators of unions and their labels (ISO/IEC 19500-1, unions).
 use Rattle.std.specs.Prelude.{ℕ, ◌+◌, ◌-◌, ◌/◌, Bool, true, false, ◌&&◌, if◌then◌else◌, List, [], ◌∷◌, ◌++◌, length, Option, Some, None, Result, Ok, Err, slice_get, ℤ, pos, neg_ℤ, int_lt, int_le}
+use Rattle.std.specs.Option.{option_or}
 use Rattle.std.specs.Ordering.{int_eq}
 use Rattle.idl_tree.specs.declared.names.At.{At}
 use Rattle.idl_tree.specs.declared.expression.Expr.{Expr}
@@ -20,7 +21,6 @@ use Rattle.const_values.specs.declared.kind.ConstKind.TheVariants as Kinds
 use Rattle.const_values.specs.Kinds.{fits}
 use Rattle.name_table.specs.Entry.{Entry, meant_in}
 use Rattle.scoped_names.specs.Reading.{◌>>◌}
-use Rattle.scoped_names.specs.Faults.{or_then}
 use Rattle.scoped_names.specs.Tests.{value_read}
 use Rattle.lowered_types.specs.declared.arms.Arm.{Arm}
 use Rattle.lowered_types.specs.declared.arms.DefaultArm.{DefaultArm}
@@ -173,7 +173,7 @@ value_at (l ∷ ls) n = (if int_eq l.value n then Some l.at else value_at ls n)
 
 -- where an arm or a label before stands that has the value
 abbrev pub taken_at : Arms → CaseLabels → ℤ → Option At
-taken_at a ls n = or_then (arm_label_at a.arms n) (value_at ls.values n)
+taken_at a ls n = option_or (arm_label_at a.arms n) (value_at ls.values n)
 
 -- where the default of an arm stands, or that of the case
 abbrev pub keyword_at : Option DefaultArm → Option At
@@ -181,7 +181,7 @@ keyword_at None = None
 keyword_at (Some d) = Some d.keyword
 
 abbrev pub default_before : Arms → CaseLabels → Option At
-default_before a ls = or_then (keyword_at a.default) ls.default
+default_before a ls = option_or (keyword_at a.default) ls.default
 
 -- no other has the value, or is a default
 abbrev pub once_test : At → Option At → Result (Unit {0}) BuildFault

@@ -6,7 +6,7 @@ use Rattle.std.proofs.lemmas.List.Elements.{All-from_recursion}
 use Rattle.std.proofs.lemmas.Str.{IsAscii-append}
 use Rattle.std.proofs.lemmas.Str.Ascii.{IsAscii-nil}
 use Rattle.name_table.specs.Entry.{Entry, around, name_in}
-use Rattle.scoped_names.specs.Whole.{Whole}
+use Rattle.scoped_names.specs.FileNames.{FileNames}
 use Rattle.lowered_types.specs.declared.place.Place.{Place}
 use Rattle.lowered_types.specs.declared.place.Place.TheVariants.{Typed, Raised, Called, Got, GotAndSet}
 use Rattle.lowered_types.specs.Lowered.{Lowered, place_of}
@@ -66,11 +66,11 @@ names_list es proper w k (suc n) =
     both [] ys h k = k
     both (x ∷ xs) ys h k = (h.0, both xs ys h.1 k)
 
-bases_ascii : (names : Whole) → AreProper names.entries → SaysAscii names → (bases : List ℕ) → AllAscii (map (id_of names) bases)
+bases_ascii : (names : FileNames) → AreProper names.entries → SaysAscii names → (bases : List ℕ) → AllAscii (map (id_of names) bases)
 bases_ascii names proper says [] = tt
 bases_ascii names proper says (b ∷ bs) = (id_ascii names proper says b, bases_ascii names proper says bs)
 
-interfaces_ascii : (names : Whole) → AreProper names.entries → SaysAscii names → (e : ℕ) (os : List (Option Offered)) → AllByRecursion IsAsciiInterface (interfaces_from names e os)
+interfaces_ascii : (names : FileNames) → AreProper names.entries → SaysAscii names → (e : ℕ) (os : List (Option Offered)) → AllByRecursion IsAsciiInterface (interfaces_from names e os)
 interfaces_ascii names proper says e [] = tt
 interfaces_ascii names proper says e (None ∷ os) = interfaces_ascii names proper says (suc e) os
 interfaces_ascii names proper says e (Some o ∷ os) =
@@ -85,13 +85,13 @@ operations_ascii : (es : List Entry) → AreProper es → (ss : List Signature) 
 operations_ascii es proper [] = tt
 operations_ascii es proper (s ∷ ss) = (marked_ascii es proper s.role s.entry, operations_ascii es proper ss)
 
-exceptions_ascii : (names : Whole) → AreProper names.entries → SaysAscii names → (xs : List (ℕ × ℕ)) → AllByRecursion IsAsciiException (map (exception_of names) xs)
+exceptions_ascii : (names : FileNames) → AreProper names.entries → SaysAscii names → (xs : List (ℕ × ℕ)) → AllByRecursion IsAsciiException (map (exception_of names) xs)
 exceptions_ascii names proper says [] = tt
 exceptions_ascii names proper says (x ∷ xs) =
     let one : IsAsciiException (exception_of names x) = record { name = entry_ascii names.entries proper x.0; id = id_ascii names proper says x.0 } in
     (one, exceptions_ascii names proper says xs)
 
-pub model_ascii : (names : Whole) → AreProper names.entries → SaysAscii names → (d : Defined) → HasAsciiTexts (model_of names d)
+pub model_ascii : (names : FileNames) → AreProper names.entries → SaysAscii names → (d : Defined) → HasAsciiTexts (model_of names d)
 model_ascii names proper says d = record {
   names = All-from_recursion (λ name. IsAscii name.0) (names_of names.entries d.types) (names_list names.entries proper d.types 0 (length names.entries));
   interfaces = All-from_recursion IsAsciiInterface (interfaces_from names 0 d.interfaces) (interfaces_ascii names proper says 0 d.interfaces);

@@ -12,7 +12,7 @@ use Rattle.type_model.specs.ModelRules.{AreDeclared, IsException, IsFrame, IsIdF
 use Rattle.type_model.specs.Names.{AreNames, IsNamed}
 use Rattle.name_table.specs.Entry.{Entry}
 use Rattle.idl_tree.specs.declared.spec.Spec.{Spec}
-use Rattle.scoped_names.specs.Whole.{AreNames as AreNamesOf, Whole}
+use Rattle.scoped_names.specs.FileNames.{AreNames as AreNamesOf, FileNames}
 use Rattle.lowered_types.specs.declared.place.Place.{Place}
 use Rattle.lowered_types.specs.declared.place.Place.TheVariants.{Typed, Raised, Called, Got, GotAndSet}
 use Rattle.lowered_types.specs.Lowered.{Lowered, place_in, place_of}
@@ -185,7 +185,7 @@ is_operation es d count same s h =
       raises = subst (λ n. All (λ r. r < n) s.raises) (sym same) h.raises;
     }
 
-is_exception : (names : Whole) (d : Defined) (x : ℕ × ℕ) → IsSoundException (length names.entries) d.types x
+is_exception : (names : FileNames) (d : Defined) (x : ℕ × ℕ) → IsSoundException (length names.entries) d.types x
     → IsException d.types.nodes (names_of names.entries d.types) (exception_of names x)
 is_exception names d x h =
     let graph = d.types.nodes in
@@ -198,14 +198,14 @@ is_exception names d x h =
       id = record { first = id_of graph (slice_get graph x.1) h.frame };
     }
 
-are_interfaces : (names : Whole) (d : Defined) (count e : ℕ) → count ≡ length d.operations → (os : List (Option Offered))
+are_interfaces : (names : FileNames) (d : Defined) (count e : ℕ) → count ≡ length d.operations → (os : List (Option Offered))
     → AllByRecursion (λ o. IfSome o (IsSoundOffer (length names.entries) (length d.operations))) os → AllByRecursion (IsInterface count) (interfaces_from names e os)
 are_interfaces names d count e same [] h = tt
 are_interfaces names d count e same (None ∷ os) h = are_interfaces names d count (suc e) same os h.1
 are_interfaces names d count e same (Some o ∷ os) (first, rest) =
     (subst (λ n. All (λ k. k < n) o.operations) (sym same) first.operations_there, are_interfaces names d count (suc e) same os rest)
 
-declared_right : (names : Whole) (d : Defined) → IsSoundFile (length names.entries) d
+declared_right : (names : FileNames) (d : Defined) → IsSoundFile (length names.entries) d
     → AreDeclared d.types.nodes (names_of names.entries d.types) (interfaces_from names 0 d.interfaces) (map (operation_of names.entries) d.operations) (map (exception_of names) d.types.exceptions)
 declared_right names d r =
     let es = names.entries in
@@ -274,7 +274,7 @@ theirs entries d r =
 
 -- ---- the model
 
-pub own_of : (spec : Spec) (names : Whole) (d : Defined) → IsLowered spec.definitions.items names d → IsOwn names d
+pub own_of : (spec : Spec) (names : FileNames) (d : Defined) → IsLowered spec.definitions.items names d → IsOwn names d
 own_of spec names d h =
     let r = sound_lowered spec names h.own d h.told in
     record {
@@ -284,7 +284,7 @@ own_of spec names d h =
     }
 
 -- no fault of names is left
-pub of_types : (spec : Spec) (names : Whole) (fault : BuildFault) → AreNamesOf spec.definitions.items names
+pub of_types : (spec : Spec) (names : FileNames) (fault : BuildFault) → AreNamesOf spec.definitions.items names
     → (fault ≡ NoMemory) ⊎ (defined_by names.entries spec.definitions.items ≡ Err fault) → fault ≡ OtherNames → ⊥
 of_types spec names fault own (inl memory) is = absurd cc
 of_types spec names fault own (inr told) is = subst IsOfTypes is (only_types spec names own fault told)

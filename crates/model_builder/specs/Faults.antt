@@ -6,7 +6,7 @@ use Rattle.type_graph.specs.declared.fault.GraphLimit.TheVariants.{Path}
 use Rattle.type_paths.specs.declared.fault.PathFault.{PathFault}
 use Rattle.type_paths.specs.declared.fault.PathFault.TheVariants as Paths
 use Rattle.type_paths.specs.Paths.{IsPathFault}
-use Rattle.scoped_names.specs.Whole.{Whole}
+use Rattle.scoped_names.specs.FileNames.{FileNames}
 use Rattle.lowered_types.specs.declared.fault.BuildFault.TheVariants.{Types as TypesLowered}
 use Rattle.lowered_types.specs.declared.fault.TypeFault.{TypeFault}
 use Rattle.lowered_types.specs.declared.fault.TypeFault.TheVariants.{SelfHeld, Limit}
@@ -27,17 +27,17 @@ pub record IsFaultOfPaths (w : Lowered) (fault : TypeFault) : Type 0 where
   pub told : fault ≡ path_told path
 
 -- where all is read
-pub record IsLateFault (definitions : List Definition) (names : Whole) (fault : TypeFault) : Type 0 where
+pub record IsLateFault (definitions : List Definition) (names : FileNames) (fault : TypeFault) : Type 0 where
   pub lowered : Defined
   pub told : defined_by names.entries definitions ≡ Ok lowered
   pub late : IsFaultOfPaths lowered.types fault
 
-abbrev pub IsFault : List Definition → Whole → TypeFault → Type 0
+abbrev pub IsFault : List Definition → FileNames → TypeFault → Type 0
 IsFault definitions names fault =
     (defined_by names.entries definitions ≡ Err (TypesLowered fault)) ⊎ IsLateFault definitions names fault
 
 -- why there is no model
-abbrev pub IsRefused : List Definition → Whole → ModelFault → Type 0
+abbrev pub IsRefused : List Definition → FileNames → ModelFault → Type 0
 IsRefused definitions names (Types fault) = IsFault definitions names fault
 IsRefused definitions names NoMemory = Unit {0}
 

@@ -5,7 +5,7 @@ use Rattle.type_model.specs.declared.signatures.Operation.{Operation}
 use Rattle.type_model.specs.declared.signatures.Exception.{Exception}
 use Rattle.name_table.specs.Entry.{Entry}
 use Rattle.scoped_names.specs.RepositoryIds.{repository_id}
-use Rattle.scoped_names.specs.Whole.{Whole}
+use Rattle.scoped_names.specs.FileNames.{FileNames}
 use Rattle.lowered_operations.specs.declared.signature.Signature.{Signature}
 use Rattle.lowered_operations.specs.declared.signature.Offered.{Offered}
 use Rattle.model_builder.specs.Naming.{mark_of, marked, name_of}
@@ -20,14 +20,14 @@ operation_of es s = record {
   exceptions = s.raises;
 }
 
-abbrev pub id_of : Whole → ℕ → List ℕ
+abbrev pub id_of : FileNames → ℕ → List ℕ
 id_of names e = repository_id names.entries names.rules e
 
 -- an exception by its entry and its frame
-abbrev pub exception_of : Whole → ℕ × ℕ → Exception
+abbrev pub exception_of : FileNames → ℕ × ℕ → Exception
 exception_of names x = record { name = name_of names.entries x.0; id = id_of names x.0; frame = x.1 }
 
-abbrev pub interface_of : Whole → ℕ → Offered → Interface
+abbrev pub interface_of : FileNames → ℕ → Offered → Interface
 interface_of names e o = record {
   name = name_of names.entries e;
   id = id_of names e;
@@ -36,7 +36,7 @@ interface_of names e o = record {
 }
 
 -- of each entry from this one on the interface that it is, if it is a defined one
-abbrev pub interfaces_from : Whole → ℕ → List (Option Offered) → List Interface
+abbrev pub interfaces_from : FileNames → ℕ → List (Option Offered) → List Interface
 interfaces_from names e [] = []
 interfaces_from names e (None ∷ rest) = interfaces_from names (suc e) rest
 interfaces_from names e (Some o ∷ rest) = interface_of names e o ∷ interfaces_from names (suc e) rest

@@ -1,7 +1,7 @@
 //! The model of a whole file.
 
 ghost use Rattle.std.specs.Prelude.{IfErr, IfOk};
-ghost use Rattle.scoped_names.specs.Whole.{AreNames};
+ghost use Rattle.scoped_names.specs.FileNames.{AreNames};
 ghost use Rattle.model_builder.specs.Faults.{IsRefused};
 ghost use Rattle.model_builder.specs.inner.Own.{IsLowered};
 ghost use Rattle.model_builder.specs.Shown.{AreParts, Shows};

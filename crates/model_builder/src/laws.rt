@@ -5,7 +5,7 @@ ghost use Rattle.idl_tree.specs.declared.definitions.Definition.{Definition};
 ghost use Rattle.idl_tree.specs.declared.spec.Spec.{Spec};
 ghost use Rattle.type_graph.specs.GraphRules.{IsShallow};
 ghost use Rattle.type_model.specs.ModelRules.{IsModel, Parts};
-ghost use Rattle.scoped_names.specs.Whole.{AreNames, Whole};
+ghost use Rattle.scoped_names.specs.FileNames.{AreNames, FileNames};
 ghost use Rattle.lowered_types.specs.declared.fault.TypeFault.{TypeFault};
 ghost use Rattle.lowered_operations.specs.Definitions.{defined_by};
 ghost use Rattle.lowered_operations.specs.Operations.{Defined};
@@ -17,13 +17,13 @@ use type_paths::laws::{fault_is_of_long_paths, path_fault_is_one};
 
 /// A file shows at most one model under its names.
 pub fn model_is_one()
-    ensures { (definitions : List Definition) (names : Whole) (one other : Parts)
+    ensures { (definitions : List Definition) (names : FileNames) (one other : Parts)
         → Shows definitions names one → Shows definitions names other → one ≡ other }
 {}
 
 /// What shows a model has no fault.
 pub fn shown_or_refused()
-    ensures { (definitions : List Definition) (names : Whole) (model : Parts) (fault : TypeFault)
+    ensures { (definitions : List Definition) (names : FileNames) (model : Parts) (fault : TypeFault)
         → Shows definitions names model → IsFault definitions names fault → ⊥ }
 {
     fault_is_of_long_paths()
@@ -31,7 +31,7 @@ pub fn shown_or_refused()
 
 /// A file has at most one fault of its types.
 pub fn fault_is_one()
-    ensures { (definitions : List Definition) (names : Whole) (one other : TypeFault)
+    ensures { (definitions : List Definition) (names : FileNames) (one other : TypeFault)
         → IsFault definitions names one → IsFault definitions names other → one ≡ other }
 {
     path_fault_is_one()
@@ -40,13 +40,13 @@ pub fn fault_is_one()
 /// What a file is lowered to under its own names is a model, where its paths are short enough: no other
 /// rule of graphs or models is left to be broken.
 pub fn lowered_is_a_model()
-    ensures { (spec : Spec) (names : Whole) (d : Defined) → AreNames spec.definitions.items names
+    ensures { (spec : Spec) (names : FileNames) (d : Defined) → AreNames spec.definitions.items names
         → defined_by names.entries spec.definitions.items ≡ Ok d
         → EachIndex d.types.nodes (IsShallow 64 d.types.nodes) → IsModel (model_of names d) }
 {}
 
 /// Each text of a file's model is ASCII, as those of table files have to be.
 pub fn texts_are_ascii()
-    ensures { (spec : Spec) (names : Whole) (model : Parts) → AreNames spec.definitions.items names
+    ensures { (spec : Spec) (names : FileNames) (model : Parts) → AreNames spec.definitions.items names
         → Shows spec.definitions.items names model → HasAsciiTexts model }
 {}

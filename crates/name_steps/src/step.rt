@@ -59,6 +59,13 @@ impl<'t, 'a> Steps<'t, 'a> {
         }
     }
 
+    /// The steps in order.
+    pub fn as_slice(&self) -> &[Step<'t, 'a>]
+        ensures { result.now ≡ self.now.list.items }
+    {
+        self.list.as_slice()
+    }
+
     /// One step more.
     pub(crate) fn push(&mut self, step: Step<'t, 'a>) -> Result<(), AllocError>
         ensures { OnOk result (steps_in self.new ≡ steps_in self.old ++ step_of step.entry ∷ []) }

@@ -5,6 +5,8 @@ ghost use Rattle.std.specs.List.{flat_map};
 ghost use Rattle.idl_tree.specs.Lists.{parts};
 ghost use Rattle.name_steps.specs.StepsKept.{steps_in};
 ghost use Rattle.name_steps.specs.Steps.{bound_steps, case_steps, const_type_steps, declarator_steps, enum_steps, label_steps, member_steps, opening, param_type_steps, simple_type_steps, size_step, struct_steps, switch_steps, type_steps, union_steps, DeclaresEnumerator as EnumeratorStep};
+ghost use Rattle.idl_tree.specs.declared.types.StructType.{out-StructType};
+ghost use Rattle.idl_tree.specs.declared.types.UnionType.{out-UnionType};
 
 use crate::step::{Step, Steps};
 use idl_tree::const_expr::{Bound, ConstExpr};
@@ -15,6 +17,43 @@ use idl_tree::types::{
     SwitchType, TypeSpec, UnionType,
 };
 use std::alloc::AllocError;
+
+// Each of these is a function of its own, since such a field is dear to check in the midst of a walk.
+
+/// The sizes of an array.
+pub(crate) fn sizes_of<'t, 'a>(d: &'t Declarator<'a>) -> &'t [ConstExpr<'a>]
+    ensures { result.now ≡ d.now.sizes.items }
+{
+    d.sizes.as_slice()
+}
+
+/// The members behind the first.
+fn members_behind<'t, 'a>(s: &'t StructType<'a>) -> &'t [Member<'a>]
+    ensures { result.now ≡ (out-StructType s.now).rest.items }
+{
+    s.rest.as_slice()
+}
+
+/// The cases behind the first.
+fn cases_behind<'t, 'a>(u: &'t UnionType<'a>) -> &'t [Case<'a>]
+    ensures { result.now ≡ (out-UnionType u.now).rest.items }
+{
+    u.rest.as_slice()
+}
+
+/// The first member.
+fn first_member<'t, 'a>(s: &'t StructType<'a>) -> &'t Member<'a>
+    ensures { result.now ≡ (out-StructType s.now).first.value }
+{
+    &s.first
+}
+
+/// The first case.
+fn first_case<'t, 'a>(u: &'t UnionType<'a>) -> &'t Case<'a>
+    ensures { result.now ≡ (out-UnionType u.now).first.value }
+{
+    &u.first
+}
 
 impl<'t, 'a> Steps<'t, 'a> {
     fn add_bound(&mut self, bound: &'t Option<Bound<'a>>) -> Result<(), AllocError>
@@ -76,7 +115,7 @@ impl<'t, 'a> Steps<'t, 'a> {
         ensures { OnOk result (steps_in self.new ≡ steps_in self.old ++ declarator_steps d.now) }
     {
         self.has_member(d.identifier)?;
-        self.add_sizes(d.sizes.as_slice())
+        self.add_sizes(sizes_of(d))
     }
 
     fn add_declarators(&mut self, list: &'t Listed<Declarator<'a>>) -> Result<(), AllocError>
@@ -167,11 +206,20 @@ impl<'t, 'a> Steps<'t, 'a> {
         ensures { OnOk result (steps_in self.new ≡ steps_in self.old ++ struct_steps s.now) }
     {
         self.open(EntryKind::Struct, s.identifier)?;
-        self.add_member(&s.first)?;
-        for member in &s.rest {
+        self.add_member(first_member(s))?;
+        self.add_members(members_behind(s))?;
+        self.leaves()
+    }
+
+    /// Members one behind another.
+    #[cycle(types)]
+    pub(crate) fn add_members(&mut self, members: &'t [Member<'a>]) -> Result<(), AllocError>
+        ensures { OnOk result (steps_in self.new ≡ steps_in self.old ++ flat_map member_steps members.now) }
+    {
+        for member in members {
             self.add_member(member)?;
         }
-        self.leaves()
+        Ok(())
     }
 
     #[cycle(types)]
@@ -189,10 +237,19 @@ impl<'t, 'a> Steps<'t, 'a> {
     {
         self.open(EntryKind::Union, u.identifier)?;
         self.add_switch(&u.switch)?;
-        self.add_case(&u.first)?;
-        for case in &u.rest {
+        self.add_case(first_case(u))?;
+        self.add_cases(cases_behind(u))?;
+        self.leaves()
+    }
+
+    /// Cases one behind another.
+    #[cycle(types)]
+    fn add_cases(&mut self, cases: &'t [Case<'a>]) -> Result<(), AllocError>
+        ensures { OnOk result (steps_in self.new ≡ steps_in self.old ++ flat_map case_steps cases.now) }
+    {
+        for case in cases {
             self.add_case(case)?;
         }
-        self.leaves()
+        Ok(())
     }
 }

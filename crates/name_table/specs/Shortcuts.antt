@@ -5,8 +5,8 @@ use Rattle.name_table.specs.declared.key.Word.{Word}
 use Rattle.name_table.specs.declared.search.Found.{Found}
 use Rattle.name_table.specs.declared.shortcuts.Place.{Place}
 use Rattle.name_table.specs.declared.shortcuts.Shortcut.{Shortcut}
-use Rattle.name_table.specs.declared.shortcuts.Step.{Step}
-use Rattle.name_table.specs.declared.shortcuts.Step.TheVariants.{Done, On}
+use Rattle.name_table.specs.declared.shortcuts.SearchStep.{SearchStep}
+use Rattle.name_table.specs.declared.shortcuts.SearchStep.TheVariants.{Done, On}
 use Rattle.name_table.specs.Entry.{Entry}
 use Rattle.name_table.specs.Entries.{latest}
 use Rattle.name_table.specs.Records.{HasWord}
@@ -17,9 +17,9 @@ abbrev pub given_at : List Entry → List ℕ → Place → Found
 given_at es name place = inherited es place.token place.scope name
 
 -- a step of a search gives its end, or a place further down that gives the same
-abbrev pub IsStep : List Entry → List ℕ → Place → Step → Type 0
-IsStep es name place (Done found) = found ≡ given_at es name place
-IsStep es name place (On next) = (next.token < place.token) × (given_at es name next ≡ given_at es name place)
+abbrev pub IsSearchStep : List Entry → List ℕ → Place → SearchStep → Type 0
+IsSearchStep es name place (Done found) = found ≡ given_at es name place
+IsSearchStep es name place (On next) = (next.token < place.token) × (given_at es name next ≡ given_at es name place)
 
 -- each name that is none of the words is given at the place as it is found in the base
 abbrev pub LeadsTo : List Entry → Base → List Word → Place → Type 0

@@ -58,7 +58,7 @@ impl Meaning {
 }
 
 /// A base of an interface.
-#[derive(Clone, Copy, Debug, PartialEq, Eq)]
+#[derive(Clone, Copy)]
 pub struct Base {
     /// The number of the first token of the base's name.
     pub token: usize,

@@ -1,7 +1,7 @@
 //! What a search gives.
 
 /// What a search gives.
-#[derive(Clone, Copy, Debug, PartialEq, Eq)]
+#[derive(Clone, Copy)]
 pub enum Found {
     /// No entry.
     Nothing,
@@ -12,7 +12,7 @@ pub enum Found {
 }
 
 /// What is seen where a name is sought.
-#[derive(Clone, Copy, Debug, PartialEq, Eq)]
+#[derive(Clone, Copy)]
 pub enum Sight {
     /// Nothing of the name.
     Unseen,

@@ -6,7 +6,7 @@ ghost use Rattle.name_table.specs.Entries.{latest};
 ghost use Rattle.std.specs.List.{list_any};
 ghost use Rattle.name_table.specs.Records.{HasWord, is_word};
 ghost use Rattle.name_table.specs.Search.{within as within_of};
-ghost use Rattle.name_table.specs.Shortcuts.{given_at, way_at as way_of_scope, IsShort, IsStep, LeadsTo, Passes};
+ghost use Rattle.name_table.specs.Shortcuts.{given_at, way_at as way_of_scope, IsShort, IsSearchStep, LeadsTo, Passes};
 
 use crate::bases::list_given;
 use crate::entry::Base;
@@ -40,7 +40,7 @@ pub(crate) struct Shortcut<'a> {
 }
 
 /// What a step of a search gives.
-pub(crate) enum Step {
+pub(crate) enum SearchStep {
     Done(Found),
     On(Place),
 }
@@ -147,26 +147,26 @@ impl<'a> Table<'a> {
     }
 
     /// A step of a search.
-    pub(crate) fn step(&self, place: Place, word: Word<'a>) -> Step
-        ensures { IsStep self.now word.entry.text.now place result }
+    pub(crate) fn step(&self, place: Place, word: Word<'a>) -> SearchStep
+        ensures { IsSearchStep self.now word.entry.text.now place result }
     {
         if let Some(next) = self.way_from(place, word) {
-            return Step::On(next);
+            return SearchStep::On(next);
         }
         let Some(heir) = heir_of(self.records.as_slice(), place.scope) else {
-            return Step::Done(Found::Nothing);
+            return SearchStep::Done(Found::Nothing);
         };
         if let Some(given) = heir.other(word) {
-            return Step::Done(given.before(place.token));
+            return SearchStep::Done(given.before(place.token));
         }
         if place.token <= heir.first.token {
-            return Step::Done(Found::Nothing);
+            return SearchStep::Done(Found::Nothing);
         }
         let token = heir.first.token;
         let scope = heir.first.entry + 1;
         match self.own(token, scope, word) {
-            Found::Nothing => Step::On(Place { token, scope }),
-            found => Step::Done(found),
+            Found::Nothing => SearchStep::On(Place { token, scope }),
+            found => SearchStep::Done(found),
         }
     }
 

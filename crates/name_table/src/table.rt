@@ -14,7 +14,7 @@ use crate::key::{Key, Word};
 use crate::numbered::Numbered;
 use crate::record::{Heir, Record};
 use crate::search::{Found, Sight};
-use crate::shortcuts::{Place, Shortcut, Step, drop_way};
+use crate::shortcuts::{Place, SearchStep, Shortcut, drop_way};
 use const_values::{ConstKind, Constant};
 use idl_lexer::{Identifiers, is_rooted};
 use idl_tree::kinds::EntryKind;
@@ -113,8 +113,8 @@ impl<'a> Table<'a> {
         let mut place = Place { token, scope };
         loop {
             match self.step(place, word) {
-                Step::Done(found) => return found,
-                Step::On(next) => place = next,
+                SearchStep::Done(found) => return found,
+                SearchStep::On(next) => place = next,
             }
         }
     }

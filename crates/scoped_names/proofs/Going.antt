@@ -28,7 +28,7 @@ use Rattle.scoped_names.specs.declared.fault.Unfit.TheVariants.{NotDefined}
 use Rattle.scoped_names.specs.Faults.{may_reappear, base_added, base_test, based, declared, declared_as, declares_over, entry_in, free_of, free_test, given_once, is_defined, is_interface, new_test, prefix_set, said_read, step_read, taken_by, test_of, type_kind, undefined_test, with_base_at, with_declared}
 use Rattle.scoped_names.specs.IdPragmas.{Said, SetsPrefix, Gives, said_by}
 use Rattle.scoped_names.specs.Meanings.{const_end, const_meant, enum_meant, enumerator_meant, typedef_meant}
-use Rattle.scoped_names.specs.Reading.{Reading, State, Test, passed, ◌>>◌}
+use Rattle.scoped_names.specs.Reading.{State, StateOrFault, Test, passed, ◌>>◌}
 use Rattle.scoped_names.specs.RepositoryIds.{pragma_for}
 use Rattle.scoped_names.specs.Introductions.{Introduction, StandsFor, introduced_by}
 use Rattle.name_steps.specs.Steps.{Step, Declares, DeclaresConst, DeclaresFeature, DeclaresEnum, DeclaresEnumerator, DeclaresTypedef, HasBase, HasMember, Enters, Leaves, Defines, Says, NamesType, NamesException, HasWorth, IsSize}
@@ -103,7 +103,7 @@ declared_goes n m st next l h le =
 pub enum_goes : (n : ℕ) (st next : State) (l : Leaf) → step_read st (DeclaresEnum l) ≡ Ok next → n ≤ l.number → Goes n st next
 enum_goes n st next l h le =
     let m = enum_meant (length st.entries) l in
-    let (mid, declares, rest) = then_ok (declared_as m st l) (λ next. let r : Reading = Ok (record next { enumeration = length st.entries }) in r) next h in
+    let (mid, declares, rest) = then_ok (declared_as m st l) (λ next. let r : StateOrFault = Ok (record next { enumeration = length st.entries }) in r) next h in
     let goes = declared_goes n m st mid l declares le in
     let last : State = record mid { enumeration = length st.entries } in
     let is : last ≡ next = cc in
@@ -123,14 +123,14 @@ feature_goes n kind st next l h le =
 pub member_goes : (n : ℕ) (st next : State) (l : Leaf) → step_read st (HasMember l) ≡ Ok next → Goes n st next
 member_goes n st next l h =
     let more : State = record st { members = st.members ++ record { scope = st.scope; name = word l; at = at l } ∷ [] } in
-    let (u, test, rest) = then_ok (new_test st l) (λ u. let r : Reading = Ok more in r) next h in
+    let (u, test, rest) = then_ok (new_test st l) (λ u. let r : StateOrFault = Ok more in r) next h in
     let is : more ≡ next = cc in
     subst (Goes n st) is (goes_like n st more refl refl)
 
 pub defined_goes : (n : ℕ) (st next : State) (l : Leaf) → step_read st (Defines l) ≡ Ok next → Goes n st next
 defined_goes n st next l h =
     let more : State = record st { defined = st.defined ++ st.scope ∷ [] } in
-    let (u, test, rest) = then_ok (undefined_test st st.scope l) (λ u. let r : Reading = Ok more in r) next h in
+    let (u, test, rest) = then_ok (undefined_test st st.scope l) (λ u. let r : StateOrFault = Ok more in r) next h in
     let is : more ≡ next = cc in
     subst (Goes n st) is (goes_like n st more refl refl)
 
@@ -146,8 +146,8 @@ said_same st next l None h = let is : st ≡ next = cc in (ap (λ s. s.entries) 
 said_same st next l (Some (SetsPrefix text)) h = prefix_same st next st.scope text (at l) h
 said_same st next l (Some (Gives name given)) h =
     let (e, finds, h1) = then_ok (found_at st.entries (at l) (identifiers_see st.entries l.number st.scope (begins_at_root name) (words name)))
-    (λ e. given_once st.given e given (at l) (pragma_for st.given e) >> λ ps. let r : Reading = Ok (record st { given = ps }) in r) next h in
-    let (ps, gives, h2) = then_ok (given_once st.given e given (at l) (pragma_for st.given e)) (λ ps. let r : Reading = Ok (record st { given = ps }) in r) next h1 in
+    (λ e. given_once st.given e given (at l) (pragma_for st.given e) >> λ ps. let r : StateOrFault = Ok (record st { given = ps }) in r) next h in
+    let (ps, gives, h2) = then_ok (given_once st.given e given (at l) (pragma_for st.given e)) (λ ps. let r : StateOrFault = Ok (record st { given = ps }) in r) next h1 in
     let more : State = record st { given = ps } in
     let is : more ≡ next = cc in
     (ap (λ s. s.entries) is, sym (ap (λ s. s.scope) is))
@@ -164,7 +164,7 @@ base_parts : (st next : State) (inner : ℕ) (name : ScopedName) → base_added 
 base_parts st next inner name h =
     let (e, finds, rest) = then_ok (resolved st.entries st.scope name) (λ e. with_base_at st inner (record { token = (name_start name).number; entry = e }) (at (name_start name))) next h in
     let base : Base = record { token = (name_start name).number; entry = e } in
-    let (u, test, based_is) = then_ok (base_test st inner base (at (name_start name))) (λ u. let r : Reading = Ok (based st inner base) in r) next rest in
+    let (u, test, based_is) = then_ok (base_test st inner base (at (name_start name))) (λ u. let r : StateOrFault = Ok (based st inner base) in r) next rest in
     let is : based st inner base ≡ next = cc in
     (e, finds, (and_parts (is_of is_interface (slice_get st.entries e)) (is_defined st (suc e)) (fits (BadBase (at (name_start name)) NotDefined) _ _ u test)).0, is)
   where
@@ -220,7 +220,7 @@ pub all_new : (st next : State) (s : Step) → step_read st s ≡ Ok next → Ar
 all_new st next (Declares kind l) h = new_of st next (declared_does (plain l.number kind) st next l h)
 all_new st next (DeclaresEnum l) h =
     let m = enum_meant (length st.entries) l in
-    let (mid, declares, rest) = then_ok (declared_as m st l) (λ next. let r : Reading = Ok (record next { enumeration = length st.entries }) in r) next h in
+    let (mid, declares, rest) = then_ok (declared_as m st l) (λ next. let r : StateOrFault = Ok (record next { enumeration = length st.entries }) in r) next h in
     let last : State = record mid { enumeration = length st.entries } in
     let is : last ≡ next = cc in
     let new : AreNew st (introduced_by st.scope (DeclaresEnum l)) last = new_of st mid (declared_does m st mid l declares) in

@@ -26,7 +26,7 @@ use Rattle.scoped_names.specs.Meanings.{const_end, enumerator_meant, typedef_mea
 use Rattle.scoped_names.specs.Reading.{State, passed}
 use Rattle.name_steps.specs.Steps.{Step, Declares, DeclaresEnum, DeclaresEnumerator, DeclaresTypedef, IsNew, DeclaresConst, DeclaresFeature, HasMember, IsUndefined, HasBase, Enters, Defines, Leaves, NamesType, NamesException, HasWorth, IsSize, Says, steps_of}
 use Rattle.name_steps.specs.Asked.{pieces_of}
-use Rattle.scoped_names.specs.Whole.{AreNames, Whole, whole}
+use Rattle.scoped_names.specs.FileNames.{AreNames, FileNames, file_names}
 use Rattle.scoped_names.proofs.Introduced.{HasLeaf, IsFlat, around_named, declared_once, flat_behind, plain_flat, read_append}
 use Rattle.scoped_names.proofs.Introducing.{all_map, declared_does, passed_same, then_ok}
 use Rattle.scoped_names.specs.Following.{AllFollow, FindsKnown}
@@ -403,23 +403,23 @@ follow known es scope k (s ∷ steps) below ((is, there, worth, finds), (next, n
     by e (inr any) = inr any
 
 -- where tokens have the numbers of their places
-all_answered : (definitions : List Definition) (names : Whole) → AreNumbered 0 (definitions_spelled definitions) → AreNames definitions names
+all_answered : (definitions : List Definition) (names : FileNames) → AreNumbered 0 (definitions_spelled definitions) → AreNames definitions names
     → AllAnswered names.entries 0 0 (steps_of definitions)
 all_answered definitions names numbered h =
-    let (read, reads, is) = then_ok (specification_read definitions) (λ st. let r : Result Whole NameFault = Ok (whole st) in r) names h in
+    let (read, reads, is) = then_ok (specification_read definitions) (λ st. let r : Result FileNames NameFault = Ok (file_names st) in r) names h in
     let (st, steps, rest) = then_ok (steps_read nothing_yet (steps_of definitions)) (λ st. passed st (never_defined (left_open st 0 st.entries))) read reads in
     let same = passed_same st (never_defined (left_open st 0 st.entries)) read rest in
-    let whole_is : whole st ≡ names = ap whole same ∙ cc in
+    let whole_is : file_names st ≡ names = ap file_names same ∙ cc in
     let all = along (all_ask definitions) 0 numbered in
     let held = all.holds st.entries nothing_yet st steps (later_none _ st.entries) (record { nested = λ k e is. cc; low = omega arith }) tt in
     let answers = subst (AllAnswered st.entries 0 0) (append-nil (steps_of definitions)) (held.walks [] tt) in
     subst (λ w. AllAnswered w.entries 0 0 (steps_of definitions)) whole_is answers
 
-pub names_hold : (spec : Spec) (names : Whole) → AreNames spec.definitions.items names → AllHold names.entries 0 (steps_of spec.definitions.items)
+pub names_hold : (spec : Spec) (names : FileNames) → AreNames spec.definitions.items names → AllHold names.entries 0 (steps_of spec.definitions.items)
 names_hold spec names h =
     let steps = steps_of spec.definitions.items in
     with_entries names.entries 0 0 steps (all_answered spec.definitions.items names (Spec-numbers spec) h) (declared_once spec.definitions.items names h)
 
-pub names_follow : (spec : Spec) (names : Whole) → AreNames spec.definitions.items names → AllFollow (λ e. ⊥) names.entries 0 (steps_of spec.definitions.items)
+pub names_follow : (spec : Spec) (names : FileNames) → AreNames spec.definitions.items names → AllFollow (λ e. ⊥) names.entries 0 (steps_of spec.definitions.items)
 names_follow spec names h =
     follow (λ e. ⊥) names.entries 0 0 (steps_of spec.definitions.items) (λ e lt. omega arith) (all_answered spec.definitions.items names (Spec-numbers spec) h)

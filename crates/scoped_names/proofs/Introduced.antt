@@ -17,13 +17,13 @@ use Rattle.scoped_names.specs.Faults.{declared as declared_plain, declared_as, f
 use Rattle.scoped_names.specs.IdPragmas.{Said, SetsPrefix, Gives, said_by}
 use Rattle.scoped_names.specs.Introductions.{Introduction, Stands, Has, Body, IsEntry, StandsFor, clashes, introduced, introduced_by, scope_behind}
 use Rattle.scoped_names.specs.Meanings.{const_meant, enum_meant, enumerator_meant, typedef_meant}
-use Rattle.scoped_names.specs.Reading.{Reading, State, ◌>>◌, passed}
+use Rattle.scoped_names.specs.Reading.{State, StateOrFault, ◌>>◌, passed}
 use Rattle.scoped_names.specs.RepositoryIds.{pragma_for}
 use Rattle.name_steps.specs.Steps.{Step, Declares, DeclaresEnum, DeclaresEnumerator, DeclaresTypedef, IsNew, DeclaresConst, DeclaresFeature, HasMember, IsUndefined, HasBase, Enters, Defines, Leaves, Says, steps_of}
 use Rattle.idl_tree.specs.Starts.{leaf_at as at}
 use Rattle.scoped_names.specs.Tests.{found_at, value_of_type}
 use Rattle.scoped_names.specs.TypeKinds.{const_type_kind}
-use Rattle.scoped_names.specs.Whole.{AreNames, Whole, whole}
+use Rattle.scoped_names.specs.FileNames.{AreNames, FileNames, file_names}
 use Rattle.name_steps.proofs.Asks.{Asks, IsPlain, all_ask, none as unasked, silent, joined as both_asked, plain, base, valued, declared, featured, undefined, inside, defines}
 use Rattle.scoped_names.proofs.Introducing.{Adds, Does, Grows, Holds, IsKnown, Keeps, Known, adds_both, adds_none, all_map, base_does, declared_does, defined_does, does_none, grows_none, grows_on, keeps_on, known, member_does, named_entry, passed_same, then_ok}
 
@@ -41,8 +41,8 @@ said_does st next l None h = does_none st next cc
 said_does st next l (Some (SetsPrefix text)) h = prefix_does st next st.scope text (at l) h
 said_does st next l (Some (Gives name given)) h =
     let (e, finds, h1) = then_ok (found_at st.entries (at l) (identifiers_see st.entries l.number st.scope (begins_at_root name) (words name)))
-    (λ e. given_once st.given e given (at l) (pragma_for st.given e) >> λ ps. let r : Reading = Ok (record st { given = ps }) in r) next h in
-    let (ps, gives, h2) = then_ok (given_once st.given e given (at l) (pragma_for st.given e)) (λ ps. let r : Reading = Ok (record st { given = ps }) in r) next h1 in
+    (λ e. given_once st.given e given (at l) (pragma_for st.given e) >> λ ps. let r : StateOrFault = Ok (record st { given = ps }) in r) next h in
+    let (ps, gives, h2) = then_ok (given_once st.given e given (at l) (pragma_for st.given e)) (λ ps. let r : StateOrFault = Ok (record st { given = ps }) in r) next h1 in
     let more : State = record st { given = ps } in
     let is : more ≡ next = cc in
     subst (Does st []) is (record { adds = adds_none (known st); scope = refl })
@@ -58,7 +58,7 @@ IsFlat _ = Unit {0}
 enum_does : (st next : State) (l : Leaf) → step_read st (DeclaresEnum l) ≡ Ok next → Does st (Stands st.scope l Kinds.Enum ∷ []) next
 enum_does st next l h =
     let m = enum_meant (length st.entries) l in
-    let (mid, declares, rest) = then_ok (declared_as m st l) (λ next. let r : Reading = Ok (record next { enumeration = length st.entries }) in r) next h in
+    let (mid, declares, rest) = then_ok (declared_as m st l) (λ next. let r : StateOrFault = Ok (record next { enumeration = length st.entries }) in r) next h in
     let does = declared_does m st mid l declares in
     let last : State = record mid { enumeration = length st.entries } in
     let is : last ≡ next = cc in
@@ -257,13 +257,13 @@ closed (defines id a) = joined (one (Defines id) tt) (closed a)
 
 -- ---- a whole specification
 
-whole_adds : (definitions : List Definition) (names : Whole) → AreNames definitions names
+whole_adds : (definitions : List Definition) (names : FileNames) → AreNames definitions names
     → (st : State) × (Adds (known nothing_yet) (introduced names.entries 0 (steps_of definitions)) (known st)) × (st.entries ≡ names.entries)
 whole_adds definitions names h =
-    let (read, reads, is) = then_ok (specification_read definitions) (λ st. let r : Result Whole NameFault = Ok (whole st) in r) names h in
+    let (read, reads, is) = then_ok (specification_read definitions) (λ st. let r : Result FileNames NameFault = Ok (file_names st) in r) names h in
     let (st, steps, rest) = then_ok (steps_read nothing_yet (steps_of definitions)) (λ st. passed st (never_defined (left_open st 0 st.entries))) read reads in
     let same = passed_same st (never_defined (left_open st 0 st.entries)) read rest in
-    let whole_is : whole st ≡ names = ap whole same ∙ cc in
+    let whole_is : file_names st ≡ names = ap file_names same ∙ cc in
     let entries : st.entries ≡ names.entries = ap (λ w. w.entries) whole_is in
     let all = closed (all_ask definitions) in
     let reads = all.go names.entries nothing_yet st steps (λ scope name n there. ap (λ es. named es scope name) (sym entries) ∙ there) tt in
@@ -275,14 +275,14 @@ entry_held st (Stands scope l kind) h = h
 entry_held st (Has scope l) h = tt
 entry_held st (Body scope) h = tt
 
-pub declared_once : (definitions : List Definition) (names : Whole) → AreNames definitions names
+pub declared_once : (definitions : List Definition) (names : FileNames) → AreNames definitions names
     → AllByRecursion (IsEntry names.entries) (introduced names.entries 0 (steps_of definitions))
 declared_once definitions names h =
     let (st, adds, is) = whole_adds definitions names h in
     let all = introduced names.entries 0 (steps_of definitions) in
     subst (λ es. AllByRecursion (IsEntry es) all) is (all_map (Holds (known st)) (IsEntry st.entries) (entry_held (known st)) all adds.holds)
 
-pub nothing_else : (definitions : List Definition) (names : Whole) → AreNames definitions names → (n : ℕ) → n < length names.entries
+pub nothing_else : (definitions : List Definition) (names : FileNames) → AreNames definitions names → (n : ℕ) → n < length names.entries
     → Any (StandsFor names.entries n) (introduced names.entries 0 (steps_of definitions))
 nothing_else definitions names h n lt =
     let (st, adds, is) = whole_adds definitions names h in
@@ -293,6 +293,6 @@ nothing_else definitions names h n lt =
     by st xs adds (inl before) = absurd (omega arith)
     by st xs adds (inr any) = any
 
-pub nothing_clashes : (definitions : List Definition) (names : Whole) → AreNames definitions names
+pub nothing_clashes : (definitions : List Definition) (names : FileNames) → AreNames definitions names
     → IsDistinct clashes (introduced names.entries 0 (steps_of definitions))
 nothing_clashes definitions names h = let (st, adds, is) = whole_adds definitions names h in adds.apart

@@ -2,7 +2,7 @@
 use Rattle.std.proofs.Common.{◌≡◌, ◌∙◌, ◌<◌, ◌+◌, ◌⊎◌, inl, inr, arith, length-append, ℕ, zero, suc, Bool, true, false, not, cond, nat_eq, ◌&&◌, List, [], ◌∷◌, ◌++◌, length, map, get_or, position, slice_get, Option, Some, None, Result, Ok, Err, refl, sym, ap, subst}
 use Rattle.std.specs.Prelude.{◌||◌, if◌then◌else◌}
 use Rattle.std.specs.List.{AllByRecursion, Any, IsDistinct, list_any}
-use Rattle.std.specs.Option.{option_map}
+use Rattle.std.specs.Option.{option_map, option_or}
 use Rattle.std.specs.Str.{bytes_eq}
 use Rattle.std.proofs.lemmas.Bool.{and_parts, eq-eqb, eqb-true}
 use Rattle.std.proofs.Math.ListN.{get_or-append}
@@ -25,9 +25,9 @@ use Rattle.scoped_names.specs.declared.fault.NameFault.TheVariants.{Collides, Pr
 use Rattle.name_table.specs.Entry.{Entry, is_named, named}
 use Rattle.name_table.specs.Entries.{entry_declared, entry_with_base, with_base}
 use Rattle.name_table.specs.Search.{word}
-use Rattle.scoped_names.specs.Faults.{base_added, base_test, based, declared_as, declares_over, defined_here, entry_at, entry_in, free_test, is_defined, keeps_prefix, may_reappear, member_added, member_named, new_test, or_then, reappears, scope_at, taken_by, undefined_test, with_declared}
+use Rattle.scoped_names.specs.Faults.{base_added, base_test, based, declared_as, declares_over, defined_here, entry_at, entry_in, free_test, is_defined, keeps_prefix, may_reappear, member_added, member_named, new_test, reappears, scope_at, taken_by, undefined_test, with_declared}
 use Rattle.scoped_names.specs.Introductions.{Introduction, Stands, Has, Body, IsEntry, StandsFor, clashes, is_one_name}
-use Rattle.scoped_names.specs.Reading.{Member, Reading, State, Test, ◌>>◌, passed}
+use Rattle.scoped_names.specs.Reading.{Member, State, StateOrFault, Test, ◌>>◌, passed}
 use Rattle.scoped_names.specs.Tests.{at_entry, resolved}
 use Rattle.name_table.proofs.Lookups.{position_map}
 use Rattle.name_table.proofs.MergedBases.{lower, named_case}
@@ -267,7 +267,7 @@ apart_names scope l other m differ = by (nat_eq scope other) (same_but_for_case 
 
 -- ---- names that are free
 
-or_none : (a b : Option At) → or_then a b ≡ None → (a ≡ None) × (b ≡ None)
+or_none : (a b : Option At) → option_or a b ≡ None → (a ≡ None) × (b ≡ None)
 or_none None b h = (refl, h)
 or_none (Some x) b h = absurd cc
 
@@ -305,7 +305,7 @@ appears kind st next l e h =
     by (may_reappear kind e.kind && bytes_eq (word l) e.name) (keeps_prefix kind && not (bytes_eq st.prefix e.prefix)) refl h
   where
     by : (a b : Bool) → (may_reappear kind e.kind && bytes_eq (word l) e.name) ≡ a
-        → (let r : Reading = if not a then Err (Collides (at l) (at_entry (Some e))) else if b then Err (PrefixDiffers (at l) (at_entry (Some e))) else Ok st in r) ≡ Ok next
+        → (let r : StateOrFault = if not a then Err (Collides (at l) (at_entry (Some e))) else if b then Err (PrefixDiffers (at l) (at_entry (Some e))) else Ok st in r) ≡ Ok next
         → ((may_reappear kind e.kind && bytes_eq (word l) e.name) ≡ true) × (st ≡ next)
     by false b is h = absurd cc
     by true true is h = absurd cc
@@ -408,7 +408,7 @@ entry_none es (Some n) there h = let (e, here) = there n refl in let some = ap a
 pub member_does : (st next : State) (l : Leaf) → member_added st l ≡ Ok next → Does st (Has st.scope l ∷ []) next
 member_does st next l h =
     let more : State = record st { members = st.members ++ record { scope = st.scope; name = word l; at = at l } ∷ [] } in
-    let (u, test, rest) = then_ok (new_test st l) (λ u. let r : Reading = Ok more in r) next h in
+    let (u, test, rest) = then_ok (new_test st l) (λ u. let r : StateOrFault = Ok more in r) next h in
     let free = or_none (taken_by st (word l)) (entry_at st.entries (named st.entries st.scope (word l))) (is_free l _ u test) in
     let none = entry_none st.entries (named st.entries st.scope (word l)) (λ n there. let (e, here, in_scope) = named_entry st.entries st.scope (word l) n there in (e, here)) free.1 in
     let is : more ≡ next = cc in
@@ -444,7 +444,7 @@ undefined_is st scope l u passes = by (is_defined st scope) passes
 pub defined_does : (st next : State) (l : Leaf) → defined_here st l ≡ Ok next → Does st (Body st.scope ∷ []) next
 defined_does st next l h =
     let more : State = record st { defined = st.defined ++ st.scope ∷ [] } in
-    let (u, test, rest) = then_ok (undefined_test st st.scope l) (λ u. let r : Reading = Ok more in r) next h in
+    let (u, test, rest) = then_ok (undefined_test st st.scope l) (λ u. let r : StateOrFault = Ok more in r) next h in
     let is : more ≡ next = cc in
     let grows : Grows (known st) (known more) = record {
       names = λ s name n h. h;
@@ -518,8 +518,8 @@ pub base_does : (st next : State) (inner : ℕ) (name : ScopedName) → base_add
 base_does st next inner name h =
     let (e, finds, rest) = then_ok (resolved st.entries st.scope name) (λ e.
     let base : Base = record { token = (name_start name).number; entry = e } in
-    base_test st inner base (at (name_start name)) >> λ u. let r : Reading = Ok (based st inner base) in r) next h in
+    base_test st inner base (at (name_start name)) >> λ u. let r : StateOrFault = Ok (based st inner base) in r) next h in
     let base : Base = record { token = (name_start name).number; entry = e } in
-    let (u, test, based_is) = then_ok (base_test st inner base (at (name_start name))) (λ u. let r : Reading = Ok (based st inner base) in r) next rest in
+    let (u, test, based_is) = then_ok (base_test st inner base (at (name_start name))) (λ u. let r : StateOrFault = Ok (based st inner base) in r) next rest in
     let is : based st inner base ≡ next = cc in
     subst (Does st []) is (record { adds = adds_grown (known st) (known (based st inner base)) (based_grows st inner base) (length_like st.entries base inner); scope = refl })

@@ -6,7 +6,7 @@ use Rattle.idl_tree.specs.declared.definitions.Module.{Module as ModuleRecord}
 use Rattle.name_table.specs.Entries.{latest}
 use Rattle.scoped_names.specs.declared.fault.NameFault.{NameFault}
 use Rattle.scoped_names.specs.Faults.{step_read, steps_read}
-use Rattle.scoped_names.specs.Reading.{Reading, State, ◌>>◌}
+use Rattle.scoped_names.specs.Reading.{State, StateOrFault, ◌>>◌}
 use Rattle.scoped_names.specs.Rising.{Rises, reached}
 use Rattle.name_steps.specs.Steps.{Step, Leaves, definition_steps, steps_of}
 use Rattle.scoped_names.proofs.Introducing.{then_ok}
@@ -52,7 +52,7 @@ pub steps_stopped : (st : State) (fault : NameFault) (xs ys : List Step) → ste
 steps_stopped st fault [] ys h = absurd cc
 steps_stopped st fault (x ∷ xs) ys h = by (step_read st x) refl (λ one. steps_stopped one fault xs ys)
   where
-    by : (r : Reading) → step_read st x ≡ r → ((one : State) → steps_read one xs ≡ Err fault → steps_read one (xs ++ ys) ≡ Err fault)
+    by : (r : StateOrFault) → step_read st x ≡ r → ((one : State) → steps_read one xs ≡ Err fault → steps_read one (xs ++ ys) ≡ Err fault)
         → steps_read st ((x ∷ xs) ++ ys) ≡ Err fault
     by (Ok one) is rest =
         ap (λ r. r >> λ s. steps_read s (xs ++ ys)) is

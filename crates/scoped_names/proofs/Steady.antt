@@ -15,7 +15,7 @@ use Rattle.idl_tree.specs.declared.names.At.{At}
 use Rattle.scoped_names.specs.Faults.{base_added, base_test, based, declared, declared_as, declares_over, entry_in, free_of, free_test, given_once, new_test, prefix_set, said_read, step_read, taken_by, test_of, type_kind, undefined_test, with_base_at, with_declared}
 use Rattle.scoped_names.specs.IdPragmas.{Said, SetsPrefix, Gives, said_by}
 use Rattle.scoped_names.specs.Meanings.{const_meant, enum_meant, enumerator_meant, typedef_meant}
-use Rattle.scoped_names.specs.Reading.{Reading, State, Test, passed, ◌>>◌}
+use Rattle.scoped_names.specs.Reading.{State, StateOrFault, Test, passed, ◌>>◌}
 use Rattle.scoped_names.specs.RepositoryIds.{pragma_for}
 use Rattle.scoped_names.specs.Rising.{Follows, reached}
 use Rattle.name_steps.specs.Steps.{Step, Declares, DeclaresEnum, DeclaresEnumerator, DeclaresTypedef, IsNew, DeclaresConst, DeclaresFeature, HasMember, IsUndefined, HasBase, Enters, Defines, Leaves, NamesType, NamesException, HasWorth, IsSize, Says}
@@ -57,8 +57,8 @@ said_low st l None next h = let is : st ≡ next = cc in subst (IsLow st) is (om
 said_low st l (Some (SetsPrefix text)) next h = prefix_low st st.scope text (at l) next h
 said_low st l (Some (Gives name given)) next h =
     let (e, finds, h1) = then_ok (found_at st.entries (at l) (identifiers_see st.entries l.number st.scope (begins_at_root name) (words name)))
-    (λ e. given_once st.given e given (at l) (pragma_for st.given e) >> λ ps. let r : Reading = Ok (record st { given = ps }) in r) next h in
-    let (ps, gives, h2) = then_ok (given_once st.given e given (at l) (pragma_for st.given e)) (λ ps. let r : Reading = Ok (record st { given = ps }) in r) next h1 in
+    (λ e. given_once st.given e given (at l) (pragma_for st.given e) >> λ ps. let r : StateOrFault = Ok (record st { given = ps }) in r) next h in
+    let (ps, gives, h2) = then_ok (given_once st.given e given (at l) (pragma_for st.given e)) (λ ps. let r : StateOrFault = Ok (record st { given = ps }) in r) next h1 in
     let more : State = record st { given = ps } in
     let is : more ≡ next = cc in
     subst (IsLow st) is (omega arith)
@@ -66,7 +66,7 @@ said_low st l (Some (Gives name given)) next h =
 enum_low : (st next : State) (l : Leaf) → step_read st (DeclaresEnum l) ≡ Ok next → IsLow st next
 enum_low st next l h =
     let m = enum_meant (length st.entries) l in
-    let (mid, declares, rest) = then_ok (declared_as m st l) (λ next. let r : Reading = Ok (record next { enumeration = length st.entries }) in r) next h in
+    let (mid, declares, rest) = then_ok (declared_as m st l) (λ next. let r : StateOrFault = Ok (record next { enumeration = length st.entries }) in r) next h in
     let last : State = record mid { enumeration = length st.entries } in
     let is : last ≡ next = cc in
     subst (IsLow st) is (declared_low m st l mid declares)
@@ -75,7 +75,7 @@ base_low : (st next : State) (inner : ℕ) (name : ScopedName) → base_added st
 base_low st next inner name h late =
     let (e, finds, rest) = then_ok (resolved st.entries st.scope name) (λ e. with_base_at st inner (record { token = (name_start name).number; entry = e }) (at (name_start name))) next h in
     let base : Base = record { token = (name_start name).number; entry = e } in
-    let (u, test, based_is) = then_ok (base_test st inner base (at (name_start name))) (λ u. let r : Reading = Ok (based st inner base) in r) next rest in
+    let (u, test, based_is) = then_ok (base_test st inner base (at (name_start name))) (λ u. let r : StateOrFault = Ok (based st inner base) in r) next rest in
     let is : based st inner base ≡ next = cc in
     subst (λ s. latest s.entries ≤ (name_start name).number) is (latest_with st.entries inner base (omega arith))
 
@@ -103,7 +103,7 @@ step_low st next (DeclaresFeature kind l) h f =
     let late = f.0 in omega arith
 step_low st next (HasMember l) h f =
     let more : State = record st { members = st.members ++ record { scope = st.scope; name = word l; at = at l } ∷ [] } in
-    let (u, test, rest) = then_ok (new_test st l) (λ u. let r : Reading = Ok more in r) next h in
+    let (u, test, rest) = then_ok (new_test st l) (λ u. let r : StateOrFault = Ok more in r) next h in
     let is : more ≡ next = cc in
     let low : IsLow st next = subst (IsLow st) is (omega arith) in
     let late = f.0 in omega arith
@@ -117,7 +117,7 @@ step_low st next (Enters l) h f =
     subst (IsLow st) is (omega arith)
 step_low st next (Defines l) h f =
     let more : State = record st { defined = st.defined ++ st.scope ∷ [] } in
-    let (u, test, rest) = then_ok (undefined_test st st.scope l) (λ u. let r : Reading = Ok more in r) next h in
+    let (u, test, rest) = then_ok (undefined_test st st.scope l) (λ u. let r : StateOrFault = Ok more in r) next h in
     let is : more ≡ next = cc in
     subst (IsLow st) is (omega arith)
 step_low st next Leaves h f =

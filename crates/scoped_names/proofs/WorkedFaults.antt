@@ -17,9 +17,9 @@ use Rattle.scoped_names.specs.declared.fault.NameFault.TheVariants.{Unknown, Col
 use Rattle.name_table.specs.Entry.{Entry}
 use Rattle.scoped_names.specs.Introductions.{clashes, introduced}
 use Rattle.scoped_names.specs.Faults.{left_open, never_defined as never_defined_test, nothing_yet, steps_read}
-use Rattle.scoped_names.specs.Reading.{Reading, ◌>>◌, passed}
+use Rattle.scoped_names.specs.Reading.{StateOrFault, ◌>>◌, passed}
 use Rattle.name_steps.specs.Steps.{definition_steps, module_body, steps_of}
-use Rattle.scoped_names.specs.Whole.{Whole, names_of, whole}
+use Rattle.scoped_names.specs.FileNames.{FileNames, names_of, file_names}
 use Rattle.name_steps.proofs.ListedSteps.{module_listed}
 
 -- any leaf, with this token in its place
@@ -46,8 +46,8 @@ pragma l n form number at = Pragma (leaf l PragmaToken n form number at)
 abbrev place : ℕ → ℕ → At
 place token line = record { token = token; line = line }
 
-abbrev finished : Reading → Result Whole NameFault
-finished r = (r >> λ st. passed st (never_defined_test (left_open st 0 st.entries))) >> λ st. Ok (whole st)
+abbrev finished : StateOrFault → Result FileNames NameFault
+finished r = (r >> λ st. passed st (never_defined_test (left_open st 0 st.entries))) >> λ st. Ok (file_names st)
 
 -- struct S;
 -- union S;

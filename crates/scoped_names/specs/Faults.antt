@@ -3,6 +3,7 @@
 use Rattle.std.specs.Prelude.{ℕ, zero, suc, Bool, true, false, not, ◌&&◌, if◌then◌else◌, nat_eq, List, [], ◌∷◌, ◌++◌, Option, Some, None, Result, Ok, Err, length, slice_get}
 use Rattle.std.specs.Str.{bytes_eq}
 use Rattle.std.specs.List.{list_any}
+use Rattle.std.specs.Option.{option_or}
 use Rattle.idl_lexer.specs.Words.{same_but_for_case}
 use Rattle.idl_lexer.specs.Identifiers.{words}
 use Rattle.idl_tree.specs.declared.names.Leaf.{Leaf}
@@ -33,7 +34,7 @@ use Rattle.name_table.specs.OwnNames.{is_own_name}
 use Rattle.scoped_names.specs.Meanings.{const_meant, enum_meant, enumerator_meant, typedef_meant}
 use Rattle.scoped_names.specs.RepositoryIds.{GivenId, IdPragma, pragma_for}
 use Rattle.scoped_names.specs.IdPragmas.{Said, SetsPrefix, Gives, is_same_given, said_by}
-use Rattle.scoped_names.specs.Reading.{Member as Field, State, Reading, Test, ◌>>◌, passed}
+use Rattle.scoped_names.specs.Reading.{Member as Field, State, StateOrFault, Test, ◌>>◌, passed}
 use Rattle.name_steps.specs.Steps.{Step, Declares, DeclaresEnum, DeclaresEnumerator, DeclaresTypedef, IsNew, DeclaresConst, DeclaresFeature, HasMember, IsUndefined, HasBase, Enters, Defines, Leaves, NamesType, NamesException, HasWorth, IsSize, Says, steps_of}
 use Rattle.scoped_names.specs.Tests.{at_entry, found_at, is_of, raised_test, resolved, size_read, type_name_test, value_of_type, value_read}
 
@@ -53,13 +54,9 @@ member_named [] scope name = None
 member_named (m ∷ ms) scope name =
     (if nat_eq scope m.scope && same_but_for_case name m.name then Some m.at else member_named ms scope name)
 
-abbrev pub or_then : Option At → Option At → Option At
-or_then None other = other
-or_then (Some one) other = Some one
-
 -- the scope itself has the name, or a member or a parameter of it
 abbrev pub taken_by : State → List ℕ → Option At
-taken_by st name = or_then (own_at st.entries st.scope name) (member_named st.members st.scope name)
+taken_by st name = option_or (own_at st.entries st.scope name) (member_named st.members st.scope name)
 
 abbrev pub free_test : Leaf → Option At → Test
 free_test l None = Ok tt
@@ -71,7 +68,8 @@ entry_at es (Some e) = at_entry (slice_get es e)
 
 -- an identifier that is nothing in the scope yet
 abbrev pub new_test : State → Leaf → Test
-new_test st l = free_test l (or_then (taken_by st (word l)) (entry_at st.entries (named st.entries st.scope (word l))))
+new_test st l =
+    free_test l (option_or (taken_by st (word l)) (entry_at st.entries (named st.entries st.scope (word l))))
 
 -- ---- what is declared again
 
@@ -89,7 +87,7 @@ keeps_prefix Entries.Module = false
 keeps_prefix _ = true
 
 -- the same kind, the same spelling, and, but for a module, the same prefix
-abbrev pub reappears : EntryKind → State → Leaf → Entry → Reading
+abbrev pub reappears : EntryKind → State → Leaf → Entry → StateOrFault
 reappears kind st l e =
     (if not (may_reappear kind e.kind && bytes_eq (word l) e.name) then Err (Collides (at l) (at_entry (Some e)))
     else if keeps_prefix kind && not (bytes_eq st.prefix e.prefix) then Err (PrefixDiffers (at l) (at_entry (Some e)))
@@ -100,7 +98,7 @@ reappears kind st l e =
 abbrev pub with_declared : Meaning → State → Leaf → State
 with_declared m st l = record st { entries = st.entries ++ entry_declared m st.prefix st.scope l ∷ [] }
 
-abbrev pub declares_over : Meaning → State → Leaf → Option Entry → Reading
+abbrev pub declares_over : Meaning → State → Leaf → Option Entry → StateOrFault
 declares_over m st l None = Ok (with_declared m st l)
 declares_over m st l (Some e) = reappears m.kind st l e
 
@@ -109,19 +107,19 @@ entry_in es None = None
 entry_in es (Some e) = slice_get es e
 
 -- an identifier that is declared in the scope as what is meant
-abbrev pub declared_as : Meaning → State → Leaf → Reading
+abbrev pub declared_as : Meaning → State → Leaf → StateOrFault
 declared_as m st l = free_test l (taken_by st (word l)) >> λ u.
     declares_over m st l (entry_in st.entries (named st.entries st.scope (word l)))
 
-abbrev pub declared : EntryKind → State → Leaf → Reading
+abbrev pub declared : EntryKind → State → Leaf → StateOrFault
 declared kind st l = declared_as (plain l.number kind) st l
 
 -- an enumeration, whose enumerators follow
-abbrev pub enum_declared : State → Leaf → Reading
+abbrev pub enum_declared : State → Leaf → StateOrFault
 enum_declared st l = declared_as (enum_meant (length st.entries) l) st l >> λ next.
     Ok (record next { enumeration = length st.entries })
 
-abbrev pub enumerator_declared : State → Leaf → Reading
+abbrev pub enumerator_declared : State → Leaf → StateOrFault
 enumerator_declared st l = declared_as (enumerator_meant st.enumeration (length st.entries) l) st l
 
 -- the type of constants that a type is in the end that was read
@@ -131,17 +129,17 @@ type_kind st (StructSpec s) = None
 type_kind st (UnionSpec u) = None
 type_kind st (EnumSpec e) = Some (Kinds.Enum st.enumeration)
 
-abbrev pub typedef_declared : State → TypeSpec → Declarator → Reading
+abbrev pub typedef_declared : State → TypeSpec → Declarator → StateOrFault
 typedef_declared st t d = declared_as (typedef_meant (type_kind st t) d) st d.identifier
 
-abbrev pub const_declared : State → Const → Reading
+abbrev pub const_declared : State → Const → StateOrFault
 const_declared st c =
     value_of_type (const_type_kind st.entries st.scope c.const_type) st.entries st.scope c.value.expr >> λ worth.
     declared_as (const_meant c worth) st c.identifier
 
 -- ---- members and definitions
 
-abbrev pub member_added : State → Leaf → Reading
+abbrev pub member_added : State → Leaf → StateOrFault
 member_added st l = new_test st l >> λ u. Ok (record st {
   members = st.members ++ record { scope = st.scope; name = word l; at = at l } ∷ [];
 })
@@ -153,7 +151,7 @@ is_defined st scope = list_any (λ s. nat_eq scope s) st.defined
 abbrev pub undefined_test : State → ℕ → Leaf → Test
 undefined_test st scope l = (if is_defined st scope then Err (Collides (at l) (scope_at st.entries scope)) else Ok tt)
 
-abbrev pub defined_here : State → Leaf → Reading
+abbrev pub defined_here : State → Leaf → StateOrFault
 defined_here st l = undefined_test st st.scope l >> λ u. Ok (record st { defined = st.defined ++ st.scope ∷ [] })
 
 -- ---- operations and attributes
@@ -164,7 +162,7 @@ free_of es l (One e) = Err (Collides (at l) (at_entry (slice_get es e)))
 free_of es l (Several a b) = Err (Collides (at l) (at_entry (slice_get es a)))
 
 -- an operation or attribute, whose name isn't that of one that the interface inherits
-abbrev pub feature_declared : EntryKind → State → Leaf → Reading
+abbrev pub feature_declared : EntryKind → State → Leaf → StateOrFault
 feature_declared kind st l =
     free_of st.entries l (inherited (features_of st.entries) l.number st.scope (word l)) >> λ u. declared kind st l
 
@@ -190,11 +188,11 @@ abbrev pub based : State → ℕ → Base → State
 based st inner base = record st { entries = with_base st.entries inner base }
 
 -- one base more, where it may be one
-abbrev pub with_base_at : State → ℕ → Base → At → Reading
+abbrev pub with_base_at : State → ℕ → Base → At → StateOrFault
 with_base_at st inner base here = base_test st inner base here >> λ u. Ok (based st inner base)
 
 -- a base of the interface that has the scope `inner`
-abbrev pub base_added : State → ℕ → ScopedName → Reading
+abbrev pub base_added : State → ℕ → ScopedName → StateOrFault
 base_added st inner name = resolved st.entries st.scope name >> λ e.
     with_base_at st inner (record { token = (name_start name).number; entry = e }) (at (name_start name))
 
@@ -210,11 +208,11 @@ given_once ps entry given here None = Ok (ps ++ record { entry = entry; given = 
 given_once ps entry given here (Some first) = again_test first.given first.at given here >> λ u. Ok ps
 
 -- prefixes are set in the file's scope alone
-abbrev pub prefix_set : State → ℕ → List ℕ → At → Reading
+abbrev pub prefix_set : State → ℕ → List ℕ → At → StateOrFault
 prefix_set st zero text here = Ok (record st { prefix = text })
 prefix_set st (suc e) text here = Err (PrefixInScope here)
 
-abbrev pub said_read : State → Leaf → Option Said → Reading
+abbrev pub said_read : State → Leaf → Option Said → StateOrFault
 said_read st l None = Ok st
 said_read st l (Some (SetsPrefix text)) = prefix_set st st.scope text (at l)
 said_read st l (Some (Gives name given)) =
@@ -233,7 +231,7 @@ test_of st (HasWorth e) = value_read st.entries st.scope e >> λ c. Ok tt
 test_of st (IsSize e) = size_read st.entries st.scope e >> λ n. Ok tt
 test_of st _ = Ok tt
 
-abbrev pub step_read : State → Step → Reading
+abbrev pub step_read : State → Step → StateOrFault
 step_read st (Declares kind l) = declared kind st l
 step_read st (DeclaresEnum l) = enum_declared st l
 step_read st (DeclaresEnumerator l) = enumerator_declared st l
@@ -248,7 +246,7 @@ step_read st Leaves = Ok (record st { scope = around st.entries st.scope })
 step_read st (Says l) = said_read st l (said_by l)
 step_read st test = passed st (test_of st test)
 
-abbrev pub steps_read : State → List Step → Reading
+abbrev pub steps_read : State → List Step → StateOrFault
 steps_read st [] = Ok st
 steps_read st (s ∷ ss) = step_read st s >> λ next. steps_read next ss
 
@@ -285,6 +283,6 @@ nothing_yet = record {
 }
 
 -- what was declared ahead and never defined comes last
-abbrev pub specification_read : List Definition → Reading
+abbrev pub specification_read : List Definition → StateOrFault
 specification_read definitions = steps_read nothing_yet (steps_of definitions) >> λ st.
     passed st (never_defined (left_open st 0 st.entries))

@@ -7,7 +7,7 @@ pub mod Meanings
 pub mod RepositoryIds
 pub mod IdPragmas
 pub mod Faults
-pub mod Whole
+pub mod FileNames
 pub mod Introductions
 pub mod Rising
 pub mod IdsKept

@@ -28,8 +28,8 @@ pub record State : Type 0 where
   -- the entry of the last enumeration
   pub enumeration : ℕ
 
-abbrev pub Reading : Type 0
-Reading = Result State NameFault
+abbrev pub StateOrFault : Type 0
+StateOrFault = Result State NameFault
 
 -- a test that changes nothing
 abbrev pub Test : Type 0
@@ -42,7 +42,7 @@ abbrev pub ◌>>◌ : {A B E : Type 0} → Result A E → (A → Result B E) →
 (Err fault) >> next = Err fault
 
 -- a test before what follows, which changes nothing
-abbrev pub passed : State → Test → Reading
+abbrev pub passed : State → Test → StateOrFault
 passed st test = test >> λ u. Ok st
 
 -- what is known behind is what reading gives; a fault is the one that it gives, or memory was refused

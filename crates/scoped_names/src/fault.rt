@@ -9,7 +9,7 @@ use std::alloc::{AllocError, AllocFailed};
 use thiserror::Error;
 
 /// Why an expression isn't what has to stand in its place.
-#[derive(Clone, Copy, Debug, PartialEq, Eq)]
+#[derive(Clone, Copy, Debug)]
 pub enum Flaw {
     /// A name in it is that of no constant and no enumerator.
     NoConstant,
@@ -23,7 +23,7 @@ pub enum Flaw {
 }
 
 /// Why an entry can't be a base.
-#[derive(Clone, Copy, Debug, PartialEq, Eq)]
+#[derive(Clone, Copy, Debug)]
 pub enum Unfit {
     /// It is no interface that was defined before.
     NotDefined,
@@ -35,7 +35,7 @@ pub enum Unfit {
 
 /// The first fault in the order of reading. It is told where a name begins, or an expression, or at
 /// the identifier that is declared.
-#[derive(Clone, Copy, Debug, PartialEq, Eq, Drop, Error)]
+#[derive(Clone, Copy, Debug, Drop, Error)]
 pub enum NameFault {
     /// Nothing of the name is declared before it, or a type that was declared ahead is never
     /// defined.

@@ -1,10 +1,9 @@
 //! The types of constants that types are in the end.
 
-ghost use Rattle.std.specs.Prelude.{◌≡◌, ◌≤◌, length, IfErr, IfOk};
+ghost use Rattle.std.specs.Prelude.{◌≡◌, ◌≤◌, length, IfOk};
 ghost use Rattle.name_table.specs.Search.{finds};
 ghost use Rattle.scoped_names.specs.Constants.{meant_found};
 ghost use Rattle.scoped_names.specs.TypeKinds.{const_type_kind as const_kind_of, param_type_kind as param_kind_of, simple_type_kind as simple_kind_of, string_kind as string_kind_of};
-ghost use Rattle.scoped_names.specs.declared.fault.NameFault.TheVariants.{NoMemory};
 
 use crate::evaluation::{resolve, size};
 use crate::fault::NameFault;
@@ -13,24 +12,23 @@ use idl_tree::const_expr::Bound;
 use idl_tree::names::ScopedName;
 use idl_tree::types::{ConstType, ParamType, SimpleType};
 use name_table::Table;
-use std::alloc::Global;
+use std::alloc::{AllocError, Global};
 
 fn string_kind<'a>(
     table: &Table<'a>,
     alloc: Global,
     scope: usize,
     bound: &Option<Bound<'a>>,
-) -> Result<ConstKind, NameFault>
+) -> Result<ConstKind, AllocError>
     requires { scope ≤ length table.now }
-    ensures kind { IfOk result (λ kind. kind ≡ string_kind_of table.now scope bound.now) }
-    ensures memory { IfErr result (λ fault. fault ≡ NoMemory) }
+    ensures { IfOk result (λ kind. kind ≡ string_kind_of table.now scope bound.now) }
 {
     let Some(bound) = bound else {
         return Ok(ConstKind::String(None));
     };
     match size(table, alloc, scope, &bound.expr) {
         Ok(most) => Ok(ConstKind::String(Some(most))),
-        Err(NameFault::NoMemory) => Err(NameFault::NoMemory),
+        Err(NameFault::NoMemory) => Err(AllocError),
         Err(_) => Ok(ConstKind::String(None)),
     }
 }
@@ -50,16 +48,15 @@ fn name_kind<'a>(table: &Table<'a>, scope: usize, name: &ScopedName<'a>) -> Opti
 ///
 /// # Errors
 ///
-/// `NoMemory`.
+/// `AllocError`.
 pub(crate) fn const_type_kind<'a>(
     table: &Table<'a>,
     alloc: Global,
     scope: usize,
     t: &ConstType<'a>,
-) -> Result<Option<ConstKind>, NameFault>
+) -> Result<Option<ConstKind>, AllocError>
     requires { scope ≤ length table.now }
-    ensures kind { IfOk result (λ kind. kind ≡ const_kind_of table.now scope t.now) }
-    ensures memory { IfErr result (λ fault. fault ≡ NoMemory) }
+    ensures { IfOk result (λ kind. kind ≡ const_kind_of table.now scope t.now) }
 {
     Ok(match t {
         ConstType::Integer(integer) => Some(ConstKind::Integer(*integer)),
@@ -76,10 +73,9 @@ fn param_type_kind<'a>(
     alloc: Global,
     scope: usize,
     t: &ParamType<'a>,
-) -> Result<Option<ConstKind>, NameFault>
+) -> Result<Option<ConstKind>, AllocError>
     requires { scope ≤ length table.now }
-    ensures kind { IfOk result (λ kind. kind ≡ param_kind_of table.now scope t.now) }
-    ensures memory { IfErr result (λ fault. fault ≡ NoMemory) }
+    ensures { IfOk result (λ kind. kind ≡ param_kind_of table.now scope t.now) }
 {
     match t {
         ParamType::Plain(plain) => const_type_kind(table, alloc, scope, plain),
@@ -91,16 +87,15 @@ fn param_type_kind<'a>(
 ///
 /// # Errors
 ///
-/// `NoMemory`.
+/// `AllocError`.
 pub(crate) fn simple_type_kind<'a>(
     table: &Table<'a>,
     alloc: Global,
     scope: usize,
     t: &SimpleType<'a>,
-) -> Result<Option<ConstKind>, NameFault>
+) -> Result<Option<ConstKind>, AllocError>
     requires { scope ≤ length table.now }
-    ensures kind { IfOk result (λ kind. kind ≡ simple_kind_of table.now scope t.now) }
-    ensures memory { IfErr result (λ fault. fault ≡ NoMemory) }
+    ensures { IfOk result (λ kind. kind ≡ simple_kind_of table.now scope t.now) }
 {
     match t {
         SimpleType::Plain(plain) => param_type_kind(table, alloc, scope, plain),

@@ -30,9 +30,9 @@ pub struct Names<'a> {
 }
 
 impl<'a> Model for Names<'a> {
-    ghost use Rattle.scoped_names.specs.Whole.{Whole};
+    ghost use Rattle.scoped_names.specs.FileNames.{FileNames};
 
-    ghost Value = { Whole };
+    ghost Value = { FileNames };
 
     ghost view = { λ n. record { entries = n.table; rules = n.ids } };
 }
@@ -99,13 +99,6 @@ impl<'a> Names<'a> {
         ensures { IfSome (slice_get self.now.entries entry) (λ e. result ≡ e.token) }
     {
         self.table.token(entry)
-    }
-
-    /// The line of the identifier of an entry's first declaration.
-    pub fn line(&self, entry: usize) -> usize
-        requires { entry < length self.now.entries }
-    {
-        self.table.line(entry)
     }
 
     /// What a constant or an enumerator is worth.

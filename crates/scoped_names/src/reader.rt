@@ -4,7 +4,7 @@ ghost use Rattle.std.specs.Prelude.{◌≡◌, ◌<◌, ◌≤◌, length, IfErr
 ghost use Rattle.name_table.specs.Entries.{latest, scope_of};
 ghost use Rattle.scoped_names.specs.Faults.{base_test, declared as declared_by, declared_as, defined_here, free_of, free_test, has_body, is_defined, is_defined_interface, is_interface, is_left_open, keeps_prefix, left_open, may_reappear, member_added, never_defined as never_defined_test, new_test, nothing_yet, prefix_set, reappears, scope_at as scope_at_entry, taken_by as taken_by_name, undefined_test, with_base_at};
 ghost use Rattle.scoped_names.specs.Reading.{Checks, Tells};
-ghost use Rattle.scoped_names.specs.Whole.{whole};
+ghost use Rattle.scoped_names.specs.FileNames.{file_names};
 ghost use Rattle.scoped_names.specs.declared.fault.NameFault.TheVariants.{NoMemory};
 ghost use Rattle.name_table.specs.Entry.{AreDistinct, around as around_of};
 ghost use Rattle.name_table.specs.Features.{features_of};
@@ -470,7 +470,7 @@ impl<'a> Reader<'a> {
 
     /// The names that were read.
     pub fn names(self) -> Names<'a>
-        ensures is { result ≡ whole self.entry }
+        ensures is { result ≡ file_names self.entry }
         ensures distinct { AreDistinct result.entries }
     {
         let Reader { tables, ids, .. } = self;

@@ -1,6 +1,6 @@
 //! Reading a specification step by step.
 
-ghost use Rattle.std.specs.Prelude.{◌≡◌, ◌<◌, ◌≤◌, ◌^◌, [], length, map, IfErr, IfOk, Some, Ok};
+ghost use Rattle.std.specs.Prelude.{◌≡◌, ◌<◌, ◌≤◌, ◌^◌, [], length, map, IfOk, Some, Ok};
 ghost use Rattle.name_table.specs.Entries.{latest};
 ghost use Rattle.scoped_names.specs.Faults.{base_added, const_declared, enum_declared, enumerator_declared, feature_declared, nothing_yet, said_read, specification_read, step_read, steps_read, test_of, type_kind, typedef_declared};
 ghost use Rattle.scoped_names.specs.IdPragmas.{Gives as GivesTo, said_by};
@@ -11,7 +11,6 @@ ghost use Rattle.scoped_names.specs.Rising.{Follows, Rises};
 ghost use Rattle.name_steps.specs.Steps.{definition_steps, module_body, steps_of};
 ghost use Rattle.name_steps.specs.StepsKept.{flat_steps, step_of, steps_in};
 ghost use Rattle.scoped_names.specs.Tests.{is_exception, is_type, raised_test, type_name_test};
-ghost use Rattle.scoped_names.specs.declared.fault.NameFault.TheVariants.{NoMemory};
 ghost use Rattle.idl_tree.specs.Starts.{name_start};
 
 use crate::evaluation::{found_at, resolve, size, value, value_of_kind};
@@ -28,7 +27,7 @@ use idl_tree::spec::Spec;
 use idl_tree::types::{Declarator, TypeSpec};
 use name_steps::{Step, Steps};
 use name_table::{Base, Meaning};
-use std::alloc::Global;
+use std::alloc::{AllocError, Global};
 
 /// What may stand for a type.
 fn is_type(kind: EntryKind) -> bool
@@ -51,6 +50,22 @@ fn is_exception(kind: EntryKind) -> bool
         EntryKind::Exception => true,
         _ => false,
     }
+}
+
+// Definitions are lent by functions of their own: in the midst of a walk they take the check long.
+
+/// The definitions of a module.
+fn definitions_of<'t, 'a>(m: &'t Module<'a>) -> &'t [Definition<'a>]
+    ensures { result.now ≡ m.now.definitions.items }
+{
+    m.definitions.as_slice()
+}
+
+/// The definitions of a specification.
+fn definitions_in<'t, 'a>(spec: &'t Spec<'a>) -> &'t [Definition<'a>]
+    ensures { result.now ≡ spec.now.definitions.items }
+{
+    spec.definitions.as_slice()
 }
 
 impl<'a> Reader<'a> {
@@ -87,9 +102,8 @@ impl<'a> Reader<'a> {
     }
 
     /// The type of constants that a type is in the end that was read, if it is one.
-    fn type_kind(&self, alloc: Global, t: &TypeSpec<'a>) -> Result<Option<ConstKind>, NameFault>
-        ensures told { IfOk result (λ kind. kind ≡ type_kind self.now t.now) }
-        ensures memory { IfErr result (λ fault. fault ≡ NoMemory) }
+    fn type_kind(&self, alloc: Global, t: &TypeSpec<'a>) -> Result<Option<ConstKind>, AllocError>
+        ensures { IfOk result (λ kind. kind ≡ type_kind self.now t.now) }
     {
         match t {
             TypeSpec::Simple(simple) => simple_type_kind(self.table(), alloc, self.scope(), simple),
@@ -231,11 +245,11 @@ impl<'a> Reader<'a> {
     }
 
     /// A step that asks something of what is known.
-    fn read_test(&self, alloc: Global, step: Step<'_, 'a>) -> Result<(), NameFault>
-        ensures { Checks result (test_of self.now (step_of step.entry)) }
+    fn read_test(&self, alloc: Global, step: &Step<'_, 'a>) -> Result<(), NameFault>
+        ensures { Checks result (test_of self.now (step_of step.now)) }
     {
         let (table, scope) = (self.table(), self.scope());
-        match step {
+        match *step {
             Step::IsNew(identifier) => self.is_new(identifier),
             Step::IsUndefined(identifier) => {
                 self.is_undefined(self.scope_of(identifier), identifier)
@@ -255,11 +269,11 @@ impl<'a> Reader<'a> {
     }
 
     /// One step.
-    fn read_step(&mut self, alloc: Global, step: Step<'_, 'a>) -> Result<(), NameFault>
-        requires { Follows (latest self.old.entries) (step_of step) }
-        ensures { Tells result self.new (step_read self.old (step_of step.entry)) }
+    fn read_step(&mut self, alloc: Global, step: &Step<'_, 'a>) -> Result<(), NameFault>
+        requires { Follows (latest self.old.entries) (step_of step.now) }
+        ensures { Tells result self.new (step_read self.old (step_of step.now)) }
     {
-        match step {
+        match *step {
             Step::Declares(kind, identifier) => self.declare(alloc, identifier, kind),
             Step::DeclaresEnum(identifier) => self.declare_enum(alloc, identifier),
             Step::DeclaresEnumerator(identifier) => self.declare_enumerator(alloc, identifier),
@@ -281,7 +295,7 @@ impl<'a> Reader<'a> {
                 self.leave();
                 Ok(())
             }
-            test => self.read_test(alloc, test),
+            _ => self.read_test(alloc, step),
         }
     }
 
@@ -291,7 +305,7 @@ impl<'a> Reader<'a> {
         ensures { Tells result self.new (steps_read self.old (map step_of steps.now)) }
     {
         for step in steps {
-            self.read_step(alloc, *step)?;
+            self.read_step(alloc, step)?;
         }
         Ok(())
     }
@@ -308,7 +322,7 @@ impl<'a> Reader<'a> {
         ensures { Tells result self.new (steps_read self.old (flat_steps d.now)) }
     {
         steps.add_flat(d)?;
-        self.read_steps(alloc, steps.list.as_slice())
+        self.read_steps(alloc, steps.as_slice())
     }
 
     /// The same.
@@ -327,7 +341,7 @@ impl<'a> Reader<'a> {
     {
         self.declare(alloc, m.identifier, EntryKind::Module)?;
         self.enter(m.identifier);
-        self.read_definitions(alloc, m.definitions.as_slice())?;
+        self.read_definitions(alloc, definitions_of(m))?;
         self.leave();
         Ok(())
     }
@@ -352,7 +366,7 @@ impl<'a> Reader<'a> {
     {
         // which is a number, so no token's number passes the largest
         let _count = spec.tokens.len();
-        self.read_definitions(alloc, spec.definitions.as_slice())?;
+        self.read_definitions(alloc, definitions_in(spec))?;
         self.all_defined()
     }
 

@@ -3,7 +3,7 @@
 ghost use Rattle.std.specs.Prelude.{IfOk};
 ghost use Rattle.name_table.specs.Entry.{AreDistinct};
 ghost use Rattle.scoped_names.specs.Reading.{Gives};
-ghost use Rattle.scoped_names.specs.Whole.{names_of};
+ghost use Rattle.scoped_names.specs.FileNames.{names_of};
 
 use crate::fault::NameFault;
 use crate::names::Names;

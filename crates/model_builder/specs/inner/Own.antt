@@ -3,18 +3,18 @@ use Rattle.std.specs.Prelude.{◌≡◌, List, length, EachIndex, Ok}
 use Rattle.idl_tree.specs.declared.definitions.Definition.{Definition}
 use Rattle.type_graph.specs.GraphRules.{IsGraph, IsShallow}
 use Rattle.type_model.specs.ModelRules.{IsModel}
-use Rattle.scoped_names.specs.Whole.{AreNames, Whole}
+use Rattle.scoped_names.specs.FileNames.{AreNames, FileNames}
 use Rattle.lowered_operations.specs.Definitions.{defined_by}
 use Rattle.lowered_operations.specs.Operations.{Defined}
 use Rattle.model_builder.specs.Shown.{model_of}
 use Rattle.model_builder.specs.inner.Theirs.{AreTheirs}
 
-pub record IsOwn (names : Whole) (d : Defined) : Type 0 where
+pub record IsOwn (names : FileNames) (d : Defined) : Type 0 where
   pub theirs : AreTheirs (length names.entries) d
   pub graph : EachIndex d.types.nodes (IsShallow 64 d.types.nodes) → IsGraph d.types.nodes
   pub model : IsGraph d.types.nodes → IsModel (model_of names d)
 
 -- it is what the definitions are lowered to, whose names these are
-pub record IsLowered (definitions : List Definition) (names : Whole) (d : Defined) : Type 0 where
+pub record IsLowered (definitions : List Definition) (names : FileNames) (d : Defined) : Type 0 where
   pub own : AreNames definitions names
   pub told : defined_by names.entries definitions ≡ Ok d

@@ -1,6 +1,6 @@
 use Rattle.std.proofs.Common.{◌≡◌, ◌∙◌, inl, inr, sym, ap, subst, List}
 use Rattle.idl_tree.specs.declared.definitions.Definition.{Definition}
-use Rattle.scoped_names.specs.Whole.{Whole}
+use Rattle.scoped_names.specs.FileNames.{FileNames}
 use Rattle.lowered_types.specs.declared.fault.TypeFault.{TypeFault}
 use Rattle.model_builder.specs.Faults.{IsFault, IsFaultOfPaths, path_told}
 use Rattle.model_builder.proofs.Lowered.{refused_once, lowered_once, lowered_or_not}
@@ -9,7 +9,7 @@ use Rattle.model_builder.proofs.laws.fault_is_one.Goals as goal
 pub returns : goal.returns
 returns c = λ definitions names one other f g. by definitions names one other f g
   where
-    by : (definitions : List Definition) (names : Whole) (one other : TypeFault)
+    by : (definitions : List Definition) (names : FileNames) (one other : TypeFault)
         → IsFault definitions names one → IsFault definitions names other → one ≡ other
     by definitions names one other (inl told) (inl again) = refused_once told again
     by definitions names one other (inl told) (inr late) = absurd (lowered_or_not late.told told)

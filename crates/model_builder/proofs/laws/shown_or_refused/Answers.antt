@@ -1,7 +1,7 @@
 use Rattle.std.proofs.Common.{inl, inr, subst, List}
 use Rattle.idl_tree.specs.declared.definitions.Definition.{Definition}
 use Rattle.type_model.specs.ModelRules.{IsModel, Parts}
-use Rattle.scoped_names.specs.Whole.{Whole}
+use Rattle.scoped_names.specs.FileNames.{FileNames}
 use Rattle.lowered_types.specs.declared.fault.TypeFault.{TypeFault}
 use Rattle.model_builder.specs.Faults.{IsFault, IsFaultOfPaths}
 use Rattle.model_builder.specs.Shown.{Shows}
@@ -11,7 +11,7 @@ use Rattle.model_builder.proofs.laws.shown_or_refused.Goals as goal
 pub returns : goal.returns
 returns c = λ definitions names model fault s f. by definitions names model fault s f
   where
-    by : (definitions : List Definition) (names : Whole) (model : Parts) (fault : TypeFault)
+    by : (definitions : List Definition) (names : FileNames) (model : Parts) (fault : TypeFault)
         → Shows definitions names model → IsFault definitions names fault → ⊥
     by definitions names model fault s (inl told) = lowered_or_not s.told told
     by definitions names model fault s (inr late) =

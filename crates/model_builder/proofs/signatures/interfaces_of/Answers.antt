@@ -1,7 +1,7 @@
 use Rattle.std.proofs.Common.{◌≡◌, ◌∙◌, ℕ, suc, ◌+◌, List, [], ◌∷◌, ◌++◌, length, ap, sym, subst, append_assoc, All, IfSome, Option, Some, None, arith}
 use Rattle.std.proofs.lemmas.List.Elements.{All-tail}
 use Rattle.std.specs.Vec.Iter.{into_iter_items}
-use Rattle.scoped_names.specs.Whole.{Whole}
+use Rattle.scoped_names.specs.FileNames.{FileNames}
 use Rattle.lowered_operations.specs.declared.signature.Offered.{Offered}
 use Rattle.model_builder.specs.Signatures.{interface_of, interfaces_from}
 use Rattle.model_builder.specs.inner.Theirs.{IsOffered}
@@ -13,7 +13,7 @@ overflow_add-entry c =
     omega (arith, left, c.loop-offered.invariant.count, c.args.offered.small)
 
 -- the interface of one entry, and those of the entries behind it
-one_more : (names : Whole) (e : ℕ) (o : Option Offered) (rest : List (Option Offered))
+one_more : (names : FileNames) (e : ℕ) (o : Option Offered) (rest : List (Option Offered))
     → interfaces_from names e (o ∷ []) ++ interfaces_from names (e + 1) rest ≡ interfaces_from names e (o ∷ rest)
 one_more names e None rest = let next : e + 1 ≡ suc e = omega arith in ap (λ k. interfaces_from names k rest) next
 one_more names e (Some o) rest =

@@ -8,16 +8,16 @@ use Rattle.scoped_names.specs.Reading.{State, ◌>>◌}
 use Rattle.scoped_names.specs.RepositoryIds.{IdPragma}
 
 -- the entries in order of declaration, and what pragmas give to each
-pub record Whole : Type 0 where
+pub record FileNames : Type 0 where
   pub entries : List Entry
   pub rules : List IdPragma
 
-abbrev pub whole : State → Whole
-whole st = record { entries = st.entries; rules = st.given }
+abbrev pub file_names : State → FileNames
+file_names st = record { entries = st.entries; rules = st.given }
 
 -- the names of a specification, or its first fault
-abbrev pub names_of : List Definition → Result Whole NameFault
-names_of definitions = specification_read definitions >> λ st. Ok (whole st)
+abbrev pub names_of : List Definition → Result FileNames NameFault
+names_of definitions = specification_read definitions >> λ st. Ok (file_names st)
 
-abbrev pub AreNames : List Definition → Whole → Type 0
+abbrev pub AreNames : List Definition → FileNames → Type 0
 AreNames definitions names = names_of definitions ≡ Ok names
