@@ -104,22 +104,10 @@ fn faults_of_tables(rt: HostRuntime) {
     };
     let instr = 2;
     let faults = [
-        CheckFault::WrongWork {
-            at,
-            instr,
-        },
-        CheckFault::WrongPadding {
-            at,
-            instr,
-        },
-        CheckFault::EntryOutside {
-            at,
-            instr,
-        },
-        CheckFault::ExitsTooSmall {
-            at,
-            entry: 7,
-        },
+        CheckFault::WrongWork { at, instr },
+        CheckFault::WrongPadding { at, instr },
+        CheckFault::EntryOutside { at, instr },
+        CheckFault::ExitsTooSmall { at, entry: 7 },
         CheckFault::NoRoutine { node: 3 },
         CheckFault::NamedEntryNotFull { node: 3 },
         CheckFault::NoMemory,

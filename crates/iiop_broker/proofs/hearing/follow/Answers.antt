@@ -121,7 +121,7 @@ returns-clause-followed g c =
     let rest = drop c.loop-at.at c.args.octets.now in
     let nothing : rest ≡ [] = drop_all c.loop-at.at c.args.octets.now c.loop-at-test.false in
     let is : cut c.loop-at.open rest ≡ cut_of [] (Open c.loop-at.open rest) =
-        ap (λ (r : List ℕ). cut c.loop-at.open r) nothing ∙ ap (λ (r : List ℕ). cut_of [] (Open c.loop-at.open r)) (sym nothing) in (
+    ap (λ (r : List ℕ). cut c.loop-at.open r) nothing ∙ ap (λ (r : List ℕ). cut_of [] (Open c.loop-at.open r)) (sym nothing) in (
       c.loop-at.invariant.0,
       subst (λ (left : Cut). Progress acting c.args.service.now all left c.args.servant.now c.loop-at.answer.items c.loop-at.servant)
           is c.loop-at.invariant.1,
