@@ -16,8 +16,8 @@ use command_words::Task;
 use fault_texts::explanation;
 use idl_compiler::{CompiledFile, compile_file};
 use table_commands::{
-    Refusal, WholeFiles, accepted_of, listing_of, lower_file, marshal_by, read_file, reference_by,
-    upgrade,
+    Refusal, WholeFiles, accepted_of, listing_of, marshal_by, read_file, reference_by, upgrade,
+    write_file,
 };
 
 /// The answer that is a line, or the fault that is its refusal.
@@ -51,7 +51,7 @@ fn put_compiled<'a, R: WholeFiles>(
     ensures taken { OnOk result (R.takes rt.now output.now file.now.octets.items) }
     ensures told { IfErr result IsTold }
 {
-    Ok(lower_file(rt, output, file.octets.as_slice())?)
+    Ok(write_file(rt, output, file.octets.as_slice())?)
 }
 
 /// The table of an IDL file, in another file; then how many routines it has.

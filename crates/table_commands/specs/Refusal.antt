@@ -3,8 +3,8 @@ use Rattle.program_runner.specs.declared.fault.RunFault.{RunFault}
 use Rattle.program_runner.specs.declared.fault.RunFault.TheVariants as runs
 use Rattle.marshal_program.specs.declared.fault.TableFault.{TableFault}
 use Rattle.marshal_program.specs.declared.fault.TableFault.TheVariants as files
-use Rattle.position_checker.specs.declared.fault.CheckFault.{CheckFault}
-use Rattle.position_checker.specs.declared.fault.CheckFault.TheVariants as checks
+use Rattle.routine_checker.specs.declared.fault.CheckFault.{CheckFault}
+use Rattle.routine_checker.specs.declared.fault.CheckFault.TheVariants as checks
 use Rattle.object_references.specs.declared.fault.ReferenceFault.{ReferenceFault}
 use Rattle.object_references.specs.declared.fault.ReferenceFault.TheVariants as references
 use Rattle.table_commands.specs.declared.refusal.Refusal.{Refusal}

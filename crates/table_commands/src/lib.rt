@@ -20,8 +20,8 @@ mod whole_write;
 
 pub use builtin::sample;
 pub use named::{
-    SAMPLE, accepted_of, listing_of, lower_file, marshal_by, read_file, reference_by, table_of,
-    upgrade,
+    SAMPLE, accepted_of, listing_of, marshal_by, read_file, reference_by, table_of, upgrade,
+    write_file,
 };
 pub use object::{interface_place, object_in};
 pub use reference::{ReferenceRequest, reference_line};

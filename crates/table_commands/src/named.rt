@@ -43,7 +43,7 @@ pub fn read_file<'a, R: WholeFiles>(rt: &R, file: &'a str) -> Result<Vec<u8>, Re
 ///
 /// # Errors
 /// `Unwritten` where it can't be made or written.
-pub fn lower_file<'a, R: WholeFiles>(
+pub fn write_file<'a, R: WholeFiles>(
     rt: &R,
     file: &'a str,
     octets: &[u8],
@@ -175,7 +175,7 @@ fn write_upgraded<'a, R: WholeFiles + AllocGlobal>(
 {
     let octets = upgraded(rt.alloc(), table)?;
     let line = accepted_line(rt.alloc(), table)?;
-    lower_file(rt, output, octets.as_slice())?;
+    write_file(rt, output, octets.as_slice())?;
     Ok(line)
 }
 
@@ -183,7 +183,7 @@ fn write_upgraded<'a, R: WholeFiles + AllocGlobal>(
 /// it has, as a line.
 ///
 /// # Errors
-/// Those of `table_of`, `upgraded` and `lower_file`.
+/// Those of `table_of`, `upgraded` and `write_file`.
 pub fn upgrade<'a, R: WholeFiles + AllocGlobal>(
     rt: &R,
     name: &'a str,

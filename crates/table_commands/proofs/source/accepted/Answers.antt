@@ -2,29 +2,29 @@ use Rattle.std.proofs.Common.{◌⊎◌, ℕ, List, sym, subst}
 use Rattle.table_file.specs.Table.{TableParts}
 use Rattle.table_file.specs.TableSpelling.{Spells, SpellsOld}
 use Rattle.position_checker.specs.Acceptance.{IsLone}
-use Rattle.position_checker.specs.Refusal.{OnlyIf}
+use Rattle.routine_checker.specs.Refusal.{OnlyIf}
 use Rattle.table_commands.specs.Files.{RefusesFile}
-use Rattle.position_checker.specs.declared.fault.CheckFault.{CheckFault}
-use Rattle.position_checker.specs.declared.fault.CheckFault.TheVariants as checks
+use Rattle.routine_checker.specs.declared.fault.CheckFault.{CheckFault}
+use Rattle.routine_checker.specs.declared.fault.CheckFault.TheVariants as checks
 use Rattle.table_commands.specs.Refusal.{IsOfTable, refusal_of_check}
 use Rattle.table_commands.proofs.source.accepted.Goals as goal
 
 of_check : (fault : CheckFault) → IsOfTable (refusal_of_check fault)
 of_check checks.NoMemory = tt
-of_check (checks.WrongWork program routine instr) = tt
-of_check (checks.WrongPadding program routine instr) = tt
-of_check (checks.EntryOutside program routine instr) = tt
-of_check (checks.ExitsTooSmall program routine entry) = tt
+of_check (checks.WrongWork at instr) = tt
+of_check (checks.WrongPadding at instr) = tt
+of_check (checks.EntryOutside at instr) = tt
+of_check (checks.ExitsTooSmall at entry) = tt
 of_check (checks.NoRoutine node) = tt
 of_check (checks.NamedEntryNotFull node) = tt
 
 -- a table that the checker refuses for another cause than memory isn't one that it never refuses
 not_right : (octets : List ℕ) (table : TableParts) → Spells table octets ⊎ SpellsOld table octets → (fault : CheckFault) → OnlyIf fault (IsLone table → ⊥) → RefusesFile octets (refusal_of_check fault)
 not_right octets table spelled checks.NoMemory another = tt
-not_right octets table spelled (checks.WrongWork program routine instr) another = record { table = table; spelled = spelled; another = another }
-not_right octets table spelled (checks.WrongPadding program routine instr) another = record { table = table; spelled = spelled; another = another }
-not_right octets table spelled (checks.EntryOutside program routine instr) another = record { table = table; spelled = spelled; another = another }
-not_right octets table spelled (checks.ExitsTooSmall program routine entry) another = record { table = table; spelled = spelled; another = another }
+not_right octets table spelled (checks.WrongWork at instr) another = record { table = table; spelled = spelled; another = another }
+not_right octets table spelled (checks.WrongPadding at instr) another = record { table = table; spelled = spelled; another = another }
+not_right octets table spelled (checks.EntryOutside at instr) another = record { table = table; spelled = spelled; another = another }
+not_right octets table spelled (checks.ExitsTooSmall at entry) another = record { table = table; spelled = spelled; another = another }
 not_right octets table spelled (checks.NoRoutine node) another = record { table = table; spelled = spelled; another = another }
 not_right octets table spelled (checks.NamedEntryNotFull node) another = record { table = table; spelled = spelled; another = another }
 
