@@ -1,5 +1,5 @@
 -- The sample table keeps the rules of a graph and of a program.
-use Rattle.std.proofs.Common.{◌≡◌, ℕ, zero, suc, List, [], ◌∷◌, ◌<◌, ◌∙◌, ap, slice_get, codes, refl, sym, subst, inl, arith}
+use Rattle.std.proofs.Common.{◌≡◌, zero, suc, [], ◌∷◌, ◌<◌, ◌∙◌, ap, slice_get, codes, refl, sym, subst, inl, arith}
 use Rattle.std.specs.List.{EachIndex}
 use Rattle.std.proofs.lemmas.Option.{slice_get_within}
 use Rattle.std.proofs.lemmas.List.Elements.{All-from_recursion}

@@ -1,5 +1,4 @@
-use Rattle.std.proofs.Common.{◌≡◌, ◌∙◌, List, ℕ, Contains, Ok, ap, sym, subst, refl, string_bytes}
-use Rattle.hex.specs.Hex.{decode_of}
+use Rattle.std.proofs.Common.{◌∙◌, List, ℕ, Ok, ap, sym, refl, string_bytes}
 use Rattle.table_commands.specs.Answer.{ask_of}
 use Rattle.table_commands.proofs.AnswerLaws.{bad_digits, line_of, refusal_of}
 use Rattle.table_commands.proofs.values.marshal.Goals as goal
