@@ -6,7 +6,6 @@ ghost use Rattle.socket_server.specs.Lines.{serving};
 ghost use Rattle.idlc_main.specs.Answer.{MayServe};
 ghost use Rattle.idlc_main.specs.Fault.{status_of};
 ghost use Rattle.idlc_main.specs.Service.{IsServed};
-ghost use Rattle.idlc_main.specs.declared.fault.Fault.TheVariants.{NoMemory};
 
 use crate::fault::Fault;
 use command_words::Service;
@@ -25,7 +24,7 @@ pub fn served<'a, R: WholeFiles + Net + AllocGlobal, O: Write>(
     ensures printed { OnOk result
         (Appends (O.contents out.old) (O.contents out.new) (serving service.now.port)) }
     ensures silent { IfErr result (λ fault. status_of fault < 3 → out.new ≡ out.old) }
-    ensures memory { IfErr result (λ fault. fault ≡ NoMemory → MayServe (O.contents out.old) (O.contents out.new)) }
+    ensures memory { IfErr result (λ fault. status_of fault ≡ 4 → MayServe (O.contents out.old) (O.contents out.new)) }
 {
     let table = match table_of(rt, service.table) {
         Ok(table) => table,

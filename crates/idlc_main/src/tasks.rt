@@ -64,7 +64,10 @@ fn compile<'a, R: WholeFiles + AllocGlobal>(
         IsCompiledTo (R.reads rt.now) (R.takes rt.now) source.now output.now (string_bytes answer.text)) }
     ensures told { IfErr result IsTold }
 {
-    let source = read_file(rt, source)?;
+    let source = match read_file(rt, source) {
+        Ok(octets) => octets,
+        Err(refusal) => return Err(Fault::from(refusal)),
+    };
     let file = compile_file(rt.alloc(), source.as_slice())?;
     put_compiled(rt, output, source.as_slice(), &file)?;
     Ok(Answer {
