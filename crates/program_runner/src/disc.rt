@@ -8,8 +8,8 @@ ghost use Rattle.marshal_program.specs.Does.{node_of};
 ghost use Rattle.program_runner.specs.Steps.{Gives, number_at, disc_number};
 
 use crate::fault::RunFault;
+use crate::output::Output;
 use crate::text::number_at_front;
-use crate::words::{make_room, push_number, push_octet};
 use marshal_program::Disc;
 use std::alloc::AllocError;
 use type_graph::{Order, Width};
@@ -75,36 +75,35 @@ pub fn word_at_front(order: Order, width: Width, octets: &[u8]) -> Result<u64, R
     }
 }
 
-fn push_short(out: &mut Vec<u8>, order: Order, n: u16) -> Result<(), AllocError>
-    ensures { OnOk result (out.new.items ≡ out.old.items ++ plain_word order Two n) }
+fn push_short(out: &mut Output, order: Order, n: u16) -> Result<(), AllocError>
+    ensures { OnOk result (out.new ≡ out.old ++ plain_word order Two n) }
 {
     let word = match order {
         Order::Big => n.to_be_bytes(),
         Order::Little => n.to_le_bytes(),
     };
-    out.extend_from_slice(&word)
+    out.push_few::<2>(&word, 2)
 }
 
-fn push_long_long(out: &mut Vec<u8>, order: Order, n: u64) -> Result<(), AllocError>
-    ensures { OnOk result (out.new.items ≡ out.old.items ++ plain_word order Eight n) }
+fn push_long_long(out: &mut Output, order: Order, n: u64) -> Result<(), AllocError>
+    ensures { OnOk result (out.new ≡ out.old ++ plain_word order Eight n) }
 {
     let word = match order {
         Order::Big => n.to_be_bytes(),
         Order::Little => n.to_le_bytes(),
     };
-    out.extend_from_slice(&word)
+    out.push_few::<8>(&word, 8)
 }
 
 /// An unsigned number of a width at the end.
-pub fn push_word(out: &mut Vec<u8>, order: Order, width: Width, n: u64) -> Result<(), AllocError>
+pub fn push_word(out: &mut Output, order: Order, width: Width, n: u64) -> Result<(), AllocError>
     requires { n < words_of width }
-    ensures { OnOk result (out.new.items ≡ out.old.items ++ plain_word order width n) }
+    ensures { OnOk result (out.new ≡ out.old ++ plain_word order width n) }
 {
-    make_room(out, width.octets())?;
     match width {
-        Width::One => push_octet(out, n as u8),
+        Width::One => out.push_few::<1>(&[n as u8], 1),
         Width::Two => push_short(out, order, n as u16),
-        Width::Four => push_number(out, order, n as u32),
+        Width::Four => out.push_number(order, n as u32),
         Width::Eight => push_long_long(out, order, n),
     }
 }
