@@ -2,3 +2,4 @@ pub mod State
 pub mod Steps
 pub mod Refusal
 pub mod Levels
+pub mod Ends

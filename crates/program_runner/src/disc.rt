@@ -1,14 +1,15 @@
 //! The numbers of discriminators.
 
-ghost use Rattle.std.specs.Prelude.{◌≡◌, ◌<◌, ◌++◌, IfOk, OnOk};
+ghost use Rattle.std.specs.Prelude.{◌≡◌, ◌<◌, ◌≤◌, length, IfOk};
 ghost use Rattle.type_graph.specs.declared.width.Width.TheVariants.{One, Two, Eight};
 ghost use Rattle.type_graph.specs.Words.{words_of, plain_word};
 ghost use Rattle.type_graph.specs.Value.{number_width};
 ghost use Rattle.marshal_program.specs.Does.{node_of};
+ghost use Rattle.program_runner.specs.Ends.{Added};
 ghost use Rattle.program_runner.specs.Steps.{Gives, number_at, disc_number};
 
 use crate::fault::RunFault;
-use crate::output::Output;
+use crate::output::{push_few, push_number};
 use crate::text::number_at_front;
 use marshal_program::Disc;
 use std::alloc::AllocError;
@@ -75,36 +76,19 @@ pub fn word_at_front(order: Order, width: Width, octets: &[u8]) -> Result<u64, R
     }
 }
 
-fn push_short(out: &mut Output, order: Order, n: u16) -> Result<(), AllocError>
-    ensures { OnOk result (out.new ≡ out.old ++ plain_word order Two n) }
+/// An unsigned number of a width at the end of an output.
+pub fn push_disc(out: &mut Vec<u8>, end: usize, order: Order, width: Width, n: u64) -> Result<usize, AllocError>
+    requires within { end ≤ length out.old.items }
+    requires small { n < words_of width }
+    ensures { IfOk result (Added out.old.items end (plain_word order width n) out.new.items) }
 {
-    let word = match order {
-        Order::Big => n.to_be_bytes(),
-        Order::Little => n.to_le_bytes(),
-    };
-    out.push_few::<2>(&word, 2)
-}
-
-fn push_long_long(out: &mut Output, order: Order, n: u64) -> Result<(), AllocError>
-    ensures { OnOk result (out.new ≡ out.old ++ plain_word order Eight n) }
-{
-    let word = match order {
-        Order::Big => n.to_be_bytes(),
-        Order::Little => n.to_le_bytes(),
-    };
-    out.push_few::<8>(&word, 8)
-}
-
-/// An unsigned number of a width at the end.
-pub fn push_word(out: &mut Output, order: Order, width: Width, n: u64) -> Result<(), AllocError>
-    requires { n < words_of width }
-    ensures { OnOk result (out.new ≡ out.old ++ plain_word order width n) }
-{
-    match width {
-        Width::One => out.push_few::<1>(&[n as u8], 1),
-        Width::Two => push_short(out, order, n as u16),
-        Width::Four => out.push_number(order, n as u32),
-        Width::Eight => push_long_long(out, order, n),
+    match (width, order) {
+        (Width::One, _) => push_few::<1>(out, end, &[n as u8], 1),
+        (Width::Two, Order::Big) => push_few::<2>(out, end, &(n as u16).to_be_bytes(), 2),
+        (Width::Two, Order::Little) => push_few::<2>(out, end, &(n as u16).to_le_bytes(), 2),
+        (Width::Four, _) => push_number(out, end, order, n as u32),
+        (Width::Eight, Order::Big) => push_few::<8>(out, end, &n.to_be_bytes(), 8),
+        (Width::Eight, Order::Little) => push_few::<8>(out, end, &n.to_le_bytes(), 8),
     }
 }
 

@@ -1,13 +1,10 @@
 //! Numbers, lengths and strings at the front of an input.
 
-ghost use Rattle.std.specs.Prelude.{◌≡◌, ◌<◌, ◌≤◌, ◌++◌, IfOk, OnOk, length, take};
+ghost use Rattle.std.specs.Prelude.{◌≡◌, ◌<◌, ◌≤◌, IfOk, length, take};
 ghost use Rattle.type_graph.specs.declared.width.Width.TheVariants.{Four};
 ghost use Rattle.program_runner.specs.Steps.{Gives, Passes, number_at, is_over, read_length, tape_length, no_zero, terminated, unterminated};
 
-use crate::blocks::push_unless;
 use crate::fault::RunFault;
-use crate::lanes::Zero;
-use crate::output::Output;
 use type_graph::Order;
 
 /// The unsigned long at the front (ISO/IEC 19500-2, CDR, integer data types).
@@ -78,19 +75,6 @@ pub fn check_length(n: usize, octets: &[u8]) -> Result<(), RunFault>
 {
     if octets.len() < n {
         return Err(RunFault::Short);
-    }
-    Ok(())
-}
-
-/// So many octets of a front at the end, of which none may be zero.
-#[inline(always)]
-pub fn push_text(out: &mut Output, octets: &[u8], n: usize) -> Result<(), RunFault>
-    requires { n ≤ length octets.now }
-    ensures value { Gives (λ _. take n octets.now) result (no_zero (take n octets.now)) }
-    ensures pushed { OnOk result (out.new ≡ out.old ++ take n octets.now) }
-{
-    if push_unless::<Zero>(out, octets, n)? {
-        return Err(RunFault::ZeroInside);
     }
     Ok(())
 }
