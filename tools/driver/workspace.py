@@ -82,6 +82,6 @@ class Workspace:
         return folder
 
     def crates_named(self, text):
-        """The libraries that a source names by a path, of the repository and of those that its crates use."""
+        """The libraries that a source or a clause in it names, of the repository and of those that its crates use."""
         known = {*self.listed, "anyhow", "os", *(below for names in self.listed.values() for below in names)}
-        return [name for name in sorted(known) if re.search(rf"(?<![\w:]){name}::", text)]
+        return [name for name in sorted(known) if re.search(rf"(?<![\w:]){name}::|Rattle\.{name}\.", text)]
