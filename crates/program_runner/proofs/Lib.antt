@@ -1,7 +1,7 @@
 pub mod Chunks
 pub mod Turning
 pub mod Gaps
-pub mod Waits
+pub mod Places
 pub mod Calls
 pub mod Agreement
 pub mod PassAgreement

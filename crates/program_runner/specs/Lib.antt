@@ -1,4 +1,4 @@
 pub mod State
 pub mod Steps
 pub mod Refusal
-pub mod Waiting
+pub mod Levels

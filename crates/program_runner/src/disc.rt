@@ -1,6 +1,6 @@
 //! The numbers of discriminators.
 
-ghost use Rattle.std.specs.Prelude.{◌≡◌, ◌<◌, ◌++◌, IfOk, OnOk};
+ghost use Rattle.std.specs.Prelude.{◌≡◌, ◌<◌, IfOk};
 ghost use Rattle.type_graph.specs.declared.width.Width.TheVariants.{One, Two, Eight};
 ghost use Rattle.type_graph.specs.Words.{words_of, plain_word};
 ghost use Rattle.type_graph.specs.Value.{number_width};
@@ -9,9 +9,7 @@ ghost use Rattle.program_runner.specs.Steps.{Gives, number_at, disc_number};
 
 use crate::fault::RunFault;
 use crate::text::number_at_front;
-use crate::words::{make_room, push_number, push_octet};
 use marshal_program::Disc;
-use std::alloc::AllocError;
 use type_graph::{Order, Width};
 
 /// The size of a discriminator.
@@ -75,37 +73,23 @@ pub fn word_at_front(order: Order, width: Width, octets: &[u8]) -> Result<u64, R
     }
 }
 
-fn push_short(out: &mut Vec<u8>, order: Order, n: u16) -> Result<(), AllocError>
-    ensures { OnOk result (out.new.items ≡ out.old.items ++ plain_word order Two n) }
+/// The octets of an unsigned short.
+pub fn short_octets(order: Order, n: u16) -> [u8; 2]
+    ensures { result ≡ plain_word order Two n }
 {
-    let word = match order {
+    match order {
         Order::Big => n.to_be_bytes(),
         Order::Little => n.to_le_bytes(),
-    };
-    out.extend_from_slice(&word)
+    }
 }
 
-fn push_long_long(out: &mut Vec<u8>, order: Order, n: u64) -> Result<(), AllocError>
-    ensures { OnOk result (out.new.items ≡ out.old.items ++ plain_word order Eight n) }
+/// The octets of an unsigned long long.
+pub fn long_long_octets(order: Order, n: u64) -> [u8; 8]
+    ensures { result ≡ plain_word order Eight n }
 {
-    let word = match order {
+    match order {
         Order::Big => n.to_be_bytes(),
         Order::Little => n.to_le_bytes(),
-    };
-    out.extend_from_slice(&word)
-}
-
-/// An unsigned number of a width at the end.
-pub fn push_word(out: &mut Vec<u8>, order: Order, width: Width, n: u64) -> Result<(), AllocError>
-    requires { n < words_of width }
-    ensures { OnOk result (out.new.items ≡ out.old.items ++ plain_word order width n) }
-{
-    make_room(out, width.octets())?;
-    match width {
-        Width::One => push_octet(out, n as u8),
-        Width::Two => push_short(out, order, n as u16),
-        Width::Four => push_number(out, order, n as u32),
-        Width::Eight => push_long_long(out, order, n),
     }
 }
 

@@ -7,6 +7,7 @@ ghost use Rattle.program_runner.specs.Steps.{Gives, Passes, number_at, is_over, 
 use crate::blocks::push_unless;
 use crate::fault::RunFault;
 use crate::lanes::Zero;
+use crate::output::Output;
 use type_graph::Order;
 
 /// The unsigned long at the front (ISO/IEC 19500-2, CDR, integer data types).
@@ -83,10 +84,10 @@ pub fn check_length(n: usize, octets: &[u8]) -> Result<(), RunFault>
 
 /// So many octets of a front at the end, of which none may be zero.
 #[inline(always)]
-pub fn push_text(out: &mut Vec<u8>, octets: &[u8], n: usize) -> Result<(), RunFault>
+pub fn push_text(out: &mut Output, octets: &[u8], n: usize) -> Result<(), RunFault>
     requires { n ≤ length octets.now }
     ensures value { Gives (λ _. take n octets.now) result (no_zero (take n octets.now)) }
-    ensures pushed { OnOk result (out.new.items ≡ out.old.items ++ take n octets.now) }
+    ensures pushed { OnOk result (out.new ≡ out.old ++ take n octets.now) }
 {
     if push_unless::<Zero>(out, octets, n)? {
         return Err(RunFault::ZeroInside);
