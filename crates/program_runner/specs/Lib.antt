@@ -1,4 +1,2 @@
-pub mod State
-pub mod Steps
 pub mod Refusal
-pub mod Levels
+pub mod inner

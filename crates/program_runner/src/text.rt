@@ -2,7 +2,7 @@
 
 ghost use Rattle.std.specs.Prelude.{◌≡◌, ◌<◌, ◌≤◌, ◌++◌, IfOk, OnOk, length, take};
 ghost use Rattle.type_graph.specs.declared.width.Width.TheVariants.{Four};
-ghost use Rattle.program_runner.specs.Steps.{Gives, Passes, number_at, is_over, read_length, tape_length, no_zero, terminated, unterminated};
+ghost use Rattle.program_runner.specs.inner.Steps.{Gives, Passes, number_at, is_over, read_length, tape_length, no_zero, terminated, unterminated};
 
 use crate::blocks::push_unless;
 use crate::fault::RunFault;

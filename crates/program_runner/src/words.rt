@@ -4,7 +4,7 @@ ghost use Rattle.std.specs.Prelude.{◌≡◌, ◌<◌, ◌+◌, ◌*◌, ◌++�
 ghost use Rattle.type_graph.specs.declared.width.Order.TheVariants.{Big};
 ghost use Rattle.type_graph.specs.declared.width.Width.TheVariants.{Four};
 ghost use Rattle.type_graph.specs.Words.{octets_in, plain_word, pad};
-ghost use Rattle.program_runner.specs.Steps.{turned};
+ghost use Rattle.program_runner.specs.inner.Steps.{turned};
 
 use type_graph::{Order, Width};
 
