@@ -11,7 +11,7 @@ use Rattle.type_graph.specs.Words.{word}
 use Rattle.type_graph.specs.Value.{Tree, Trees, NoTree, AndTree, Items, Choice, count, node_at, number_width, arm_of, IsNumber, FitAll, tape_of, tapes_of}
 use Rattle.idl_value.specs.declared.value.Value.{Value}
 use Rattle.idl_value.specs.View.{tree_of, trees_of, member_of}
-use Rattle.idl_value.specs.Packing.{AddsValue, AddsValues}
+use Rattle.idl_value.specs.inner.Packing.{AddsValue, AddsValues}
 use Rattle.idl_value.proofs.FitLaws.{count-trees_of}
 
 -- the trees of what is left begin with that of the next value

@@ -7,7 +7,7 @@ use Rattle.type_graph.specs.Value.{arm_of}
 use Rattle.type_graph.specs.GraphRules.{IsNode, held_by}
 use Rattle.type_graph.proofs.Held.{held_within, elem_within}
 use Rattle.type_graph.proofs.HeldEach.{all_chosen, all_repeated}
-use Rattle.idl_value.specs.PartList.{AreWithin}
+use Rattle.idl_value.specs.inner.PartList.{AreWithin}
 
 module _ (graph : List Node) where
   -- what a node holds

@@ -16,7 +16,7 @@ use Rattle.idl_value.specs.declared.fault.ValueFault.{ValueFault}
 use Rattle.idl_value.specs.declared.fault.ValueFault.TheVariants.{NotOfType, NotATape, NoMemory}
 use Rattle.idl_value.specs.Refusal.{RefusesTape}
 use Rattle.idl_value.specs.View.{tree_of, trees_of}
-use Rattle.idl_value.specs.Unpacking.{IsItems, Begins, BeginsWithNone, BeginsAll, BeginsAllWithNone}
+use Rattle.idl_value.specs.inner.Unpacking.{IsItems, Begins, BeginsWithNone, BeginsAll, BeginsAllWithNone}
 
 -- the trees of values, and then others
 abbrev pub joined : List Value → Trees → Trees

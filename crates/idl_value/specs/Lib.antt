@@ -1,5 +1,3 @@
 pub mod View
 pub mod Refusal
-pub mod PartList
-pub mod Packing
-pub mod Unpacking
+pub mod inner

@@ -5,7 +5,7 @@ ghost use Rattle.type_graph.specs.declared.node.Node.{Node};
 ghost use Rattle.type_graph.specs.GraphRules.{IsNode};
 ghost use Rattle.type_graph.specs.Value.{node_at, Bytes, Items, Choice, IsNumber, Fits, FitAll};
 ghost use Rattle.idl_value.specs.View.{tree_of, trees_of, member_of};
-ghost use Rattle.idl_value.specs.PartList.{numbers_of, AreWithin};
+ghost use Rattle.idl_value.specs.inner.PartList.{numbers_of, AreWithin};
 
 use crate::numbers::is_count;
 use crate::parts::Parts;

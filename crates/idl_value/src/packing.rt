@@ -6,8 +6,8 @@ ghost use Rattle.type_graph.specs.Words.{word};
 ghost use Rattle.type_graph.specs.GraphRules.{IsNode};
 ghost use Rattle.type_graph.specs.Value.{node_at, IsNumber, number_width, Items, Choice};
 ghost use Rattle.idl_value.specs.View.{tree_of, trees_of, member_of};
-ghost use Rattle.idl_value.specs.PartList.{numbers_of, AreWithin};
-ghost use Rattle.idl_value.specs.Packing.{AddsValue, AddsValues};
+ghost use Rattle.idl_value.specs.inner.PartList.{numbers_of, AreWithin};
+ghost use Rattle.idl_value.specs.inner.Packing.{AddsValue, AddsValues};
 
 use crate::numbers::{push_count, push_number};
 use crate::parts::Parts;

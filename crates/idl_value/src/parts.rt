@@ -11,7 +11,7 @@ pub enum Parts<'a> {
 }
 
 impl<'a> Parts<'a> {
-    ghost use Rattle.idl_value.specs.PartList.{numbers_of};
+    ghost use Rattle.idl_value.specs.inner.PartList.{numbers_of};
 
     /// The first node, and the parts behind it.
     pub fn split_first(self) -> Option<(u32, Parts<'a>)>

@@ -6,9 +6,9 @@ ghost use Rattle.type_graph.specs.declared.node.Node.TheVariants.{Text, Seq, Uni
 ghost use Rattle.type_graph.specs.GraphRules.{IsNode, IsGraph};
 ghost use Rattle.type_graph.specs.Value.{IsNumeric, node_at};
 ghost use Rattle.idl_value.specs.View.{tree_of, trees_of};
-ghost use Rattle.idl_value.specs.PartList.{numbers_of, AreWithin};
+ghost use Rattle.idl_value.specs.inner.PartList.{numbers_of, AreWithin};
 ghost use Rattle.idl_value.specs.Refusal.{RefusesTape};
-ghost use Rattle.idl_value.specs.Unpacking.{IsItems, Begins, BeginsWithNone, BeginsAll, BeginsAllWithNone};
+ghost use Rattle.idl_value.specs.inner.Unpacking.{IsItems, Begins, BeginsWithNone, BeginsAll, BeginsAllWithNone};
 
 use crate::fault::ValueFault;
 use crate::numbers::{is_count, read_count, read_number};

@@ -122,7 +122,7 @@ pub struct Named<'i> {
 impl Instr {
     ghost use Rattle.std.specs.Prelude.{◌≡◌, ◌↔◌, IsTrue, []};
     ghost use Rattle.marshal_program.specs.ProgramRules.{arms_of, named_by, called_by};
-    ghost use Rattle.marshal_program.specs.RuleTests.{has_three_fields};
+    ghost use Rattle.marshal_program.specs.inner.RuleTests.{has_three_fields};
 
     /// Whether the two are one instruction of three fields.
     fn is_of_three(&self, other: &Instr) -> bool

@@ -5,7 +5,7 @@ ghost use Rattle.std.specs.List.{list_any};
 ghost use Rattle.type_graph.specs.GraphRules.{IsWide};
 ghost use Rattle.type_graph.specs.Value.{IsSignedIn};
 ghost use Rattle.marshal_program.specs.ProgramRules.{IsDisc, IsInstr, AreLabels, AreSets, arms_of, named_by, called_by, is_work, TakesOctet, IsLower, all_instrs};
-ghost use Rattle.marshal_program.specs.RuleTests.{HasNumbers, HasAllNumbers, NamesWork, CallsLower};
+ghost use Rattle.marshal_program.specs.inner.RuleTests.{HasNumbers, HasAllNumbers, NamesWork, CallsLower};
 
 use crate::instr::{Disc, Instr, Named, Routine};
 use type_graph::{Arms, Width};

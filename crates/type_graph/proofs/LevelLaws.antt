@@ -9,7 +9,7 @@ use Rattle.type_graph.specs.declared.node.Node.{Node}
 use Rattle.type_graph.specs.declared.node.Node.TheVariants.{Octet}
 use Rattle.type_graph.specs.Value.{node_at}
 use Rattle.type_graph.specs.GraphRules.{IsNode, held_by, IsShallow}
-use Rattle.type_graph.specs.Levels.{IsIn, IsLevel, IsLevelAbove}
+use Rattle.type_graph.specs.inner.Levels.{IsIn, IsLevel, IsLevelAbove}
 use Rattle.type_graph.proofs.Held.{held_within}
 
 abbrev AboveAt : List Node → List Bool → List Bool → ℕ → Type 0

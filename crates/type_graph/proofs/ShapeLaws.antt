@@ -13,7 +13,7 @@ use Rattle.type_graph.specs.declared.shape.Run.{Run}
 use Rattle.type_graph.specs.declared.shape.Run.TheVariants.{Empty, Mixed}
 use Rattle.type_graph.specs.Leaves.{IsWordOf, AreWords}
 use Rattle.type_graph.specs.declared.shape.Shape.{Shape}
-use Rattle.type_graph.specs.Shapes.{IsRun, IsSize, IsShape}
+use Rattle.type_graph.specs.inner.Shapes.{IsRun, IsSize, IsShape}
 use Rattle.type_graph.proofs.WordLaws.{all_append, all_front, all_back}
 
 -- a node that is made of words has one width of them

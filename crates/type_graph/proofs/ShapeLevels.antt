@@ -9,7 +9,7 @@ use Rattle.type_graph.specs.declared.node.Node.TheVariants.{Octet}
 use Rattle.type_graph.specs.declared.shape.Shape.{Shape}
 use Rattle.type_graph.specs.Value.{node_at}
 use Rattle.type_graph.specs.Leaves.{leaves_by, leaves_within, leaves_of}
-use Rattle.type_graph.specs.Shapes.{IsShape, IsShapeBy, AreShapes, AreShapesBy, AreShapesWithin, size_by, size_within, octet_shape}
+use Rattle.type_graph.specs.inner.Shapes.{IsShape, IsShapeBy, AreShapes, AreShapesBy, AreShapesWithin, size_by, size_within, octet_shape}
 
 -- an octet has the shape of an octet
 octet_is : IsShape (Octet ∷ []) 1 octet_shape

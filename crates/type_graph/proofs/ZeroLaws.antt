@@ -15,7 +15,7 @@ use Rattle.type_graph.specs.Words.{octets_in, word}
 use Rattle.type_graph.specs.Value.{Tree, node_at, number_width, arm_of, IsNumber, IsNumeric, Fits, FitAll, tape_of, tapes_of, InBound}
 use Rattle.type_graph.specs.GraphRules.{held_by, IsShallow, IsSwitch, IsNode, IsGraph}
 use Rattle.type_graph.specs.Zero.{trees_of, zero_by, zero_value}
-use Rattle.type_graph.specs.Shapes.{size_by, size_within}
+use Rattle.type_graph.specs.inner.Shapes.{size_by, size_within}
 use Rattle.type_graph.proofs.WordLaws.{all_weaken}
 use Rattle.type_graph.proofs.HeldEach.{all_chosen, all_repeated}
 

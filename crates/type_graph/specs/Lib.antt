@@ -7,9 +7,8 @@ pub mod Encoding
 pub mod GraphRules
 pub mod Walks
 pub mod Refusal
-pub mod Levels
 pub mod Labels
 pub mod Leaves
 pub mod Zero
-pub mod Shapes
 pub mod Heights
+pub mod inner

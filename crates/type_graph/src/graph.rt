@@ -34,7 +34,7 @@ impl Model for Graph {
     ghost Value = { List Node };
 
     ghost use Rattle.type_graph.specs.GraphRules.{IsGraph};
-    ghost use Rattle.type_graph.specs.Shapes.{AreShapesWithin};
+    ghost use Rattle.type_graph.specs.inner.Shapes.{AreShapesWithin};
 
     ghost view = { λ g. g.nodes.items };
 

@@ -2,7 +2,7 @@
 
 ghost use Rattle.std.specs.Prelude.{◌≡◌, ◌<◌, ◌≤◌, ◌↔◌, ℕ, All, length, slice_get, slice_index_or, IfSome, IfNone, IfOk, IfErr, OnOk, OnErr, IsTrue, EachIndex, true, false};
 ghost use Rattle.type_graph.specs.GraphRules.{IsNode, IsPart, AreMembers, IsGraph, IsShallow, IsWide, all_members, members_in, held_by};
-ghost use Rattle.type_graph.specs.Levels.{IsLevelAbove, IsLevel};
+ghost use Rattle.type_graph.specs.inner.Levels.{IsLevelAbove, IsLevel};
 ghost use Rattle.type_graph.specs.Refusal.{DeniesIfBad, IsPlaceIn, IsFault, IsWellFormed};
 
 use crate::cycles::find_cycle;

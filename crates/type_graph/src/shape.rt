@@ -8,7 +8,7 @@ ghost use Rattle.type_graph.specs.Value.{node_at, number_width};
 ghost use Rattle.type_graph.specs.Words.{octets_in};
 ghost use Rattle.type_graph.specs.Walks.{first_lead, lead_by, lead_of};
 ghost use Rattle.type_graph.specs.Leaves.{IsWordOf, AreWords};
-ghost use Rattle.type_graph.specs.Shapes.{lead_as, octet_shape, IsRun, IsSize, IsShape, AreShapes, AreShapesWithin, AreShapesBy, IsShapeBy};
+ghost use Rattle.type_graph.specs.inner.Shapes.{lead_as, octet_shape, IsRun, IsSize, IsShape, AreShapes, AreShapesWithin, AreShapesBy, IsShapeBy};
 
 use crate::node::Node;
 use crate::rules::MAX_PATH;

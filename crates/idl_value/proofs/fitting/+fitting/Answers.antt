@@ -4,7 +4,7 @@ use Rattle.type_graph.specs.declared.node.Node.TheVariants.{Union}
 use Rattle.type_graph.specs.GraphRules.{IsNode}
 use Rattle.type_graph.specs.Value.{Bytes, Items, Choice, node_at, arm_of, IsNumber, Fits, FitAll}
 use Rattle.idl_value.specs.View.{tree_of, trees_of, member_of}
-use Rattle.idl_value.specs.PartList.{AreWithin}
+use Rattle.idl_value.specs.inner.PartList.{AreWithin}
 use Rattle.std.proofs.lemmas.Bool.{false≢true}
 use Rattle.std.proofs.lemmas.Int.{to_z-of_z}
 use mir.Syntax.{w128}

@@ -1,7 +1,7 @@
 use Rattle.std.proofs.Common.{◌↔◌, drop}
 use Rattle.type_graph.specs.Value.{FitAll}
 use Rattle.idl_value.specs.View.{trees_of}
-use Rattle.idl_value.specs.PartList.{numbers_of, AreWithin}
+use Rattle.idl_value.specs.inner.PartList.{numbers_of, AreWithin}
 use Rattle.idl_value.proofs.fitting.+fitting.Given as goal
 
 abbrev pub invariant-are_values-loop-value : goal.invariant-are_values-loop-value

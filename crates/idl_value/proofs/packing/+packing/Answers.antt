@@ -11,8 +11,8 @@ use Rattle.type_graph.specs.declared.width.Order.TheVariants.{Big}
 use Rattle.type_graph.specs.Words.{word}
 use Rattle.type_graph.proofs.Held.{switch_within}
 use Rattle.idl_value.specs.View.{tree_of, trees_of, member_of}
-use Rattle.idl_value.specs.PartList.{numbers_of, AreWithin}
-use Rattle.idl_value.specs.Packing.{AddsValue, AddsValues}
+use Rattle.idl_value.specs.inner.PartList.{numbers_of, AreWithin}
+use Rattle.idl_value.specs.inner.Packing.{AddsValue, AddsValues}
 use Rattle.idl_value.proofs.ViewLaws.{tree_of-items, tree_of-choice}
 use Rattle.idl_value.proofs.PartLaws.{elements_are_within, copies_are_within, members_are_within, frame_is_within, arm_is_within}
 use Rattle.idl_value.proofs.PackLaws.{trees_of-drop, adds_next, adds_sequence, adds_union, adds_switch}

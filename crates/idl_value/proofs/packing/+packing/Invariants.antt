@@ -1,7 +1,7 @@
 use Rattle.std.proofs.Common.{◌≡◌, ℕ, ◌++◌, drop}
 use Rattle.type_graph.specs.Value.{FitAll, tapes_of}
 use Rattle.idl_value.specs.View.{trees_of}
-use Rattle.idl_value.specs.PartList.{numbers_of, AreWithin}
+use Rattle.idl_value.specs.inner.PartList.{numbers_of, AreWithin}
 use Rattle.idl_value.proofs.packing.+packing.Given as goal
 
 abbrev pub invariant-push_values-loop-value : goal.invariant-push_values-loop-value

@@ -11,9 +11,9 @@ use Rattle.type_graph.specs.GraphRules.{IsNode, held_by}
 use Rattle.type_graph.specs.Walks.{above}
 use Rattle.type_graph.proofs.Held.{switch_within, elem_within}
 use Rattle.idl_value.specs.View.{tree_of}
-use Rattle.idl_value.specs.PartList.{numbers_of, AreWithin}
+use Rattle.idl_value.specs.inner.PartList.{numbers_of, AreWithin}
 use Rattle.idl_value.specs.Refusal.{RefusesTape}
-use Rattle.idl_value.specs.Unpacking.{IsItems, Begins, BeginsWithNone, BeginsAll, BeginsAllWithNone}
+use Rattle.idl_value.specs.inner.Unpacking.{IsItems, Begins, BeginsWithNone, BeginsAll, BeginsAllWithNone}
 use Rattle.idl_value.proofs.ViewLaws.{tree_of-items, tree_of-choice}
 use Rattle.idl_value.proofs.PartLaws.{repeated_are_within, copies_are_within, members_are_within, frame_is_within, arm_is_within}
 use Rattle.type_graph.specs.Walks.{height_of}

@@ -3,8 +3,8 @@ use Rattle.type_graph.specs.declared.node.Node.TheVariants.{Union}
 use Rattle.type_graph.specs.Value.{Trees}
 use Rattle.type_graph.specs.GraphRules.{held_by, IsGraph}
 use Rattle.type_graph.specs.Walks.{above}
-use Rattle.idl_value.specs.PartList.{numbers_of, AreWithin}
-use Rattle.idl_value.specs.Unpacking.{BeginsAll}
+use Rattle.idl_value.specs.inner.PartList.{numbers_of, AreWithin}
+use Rattle.idl_value.specs.inner.Unpacking.{BeginsAll}
 use Rattle.type_graph.specs.Walks.{height_of}
 use Rattle.idl_value.proofs.UnpackLaws.{joined}
 use Rattle.idl_value.proofs.unpacking.+unpacking.Given as goal

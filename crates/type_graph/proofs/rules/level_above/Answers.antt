@@ -3,7 +3,7 @@ use Rattle.std.proofs.lemmas.List.{get_or_read}
 use Rattle.type_graph.specs.declared.node.Node.{Node}
 use Rattle.type_graph.specs.declared.node.Node.TheVariants.{Octet}
 use Rattle.type_graph.specs.GraphRules.{held_by}
-use Rattle.type_graph.specs.Levels.{IsIn}
+use Rattle.type_graph.specs.inner.Levels.{IsIn}
 use Rattle.type_graph.proofs.LevelLaws.{above_more}
 use Rattle.type_graph.proofs.rules.level_above.Goals as goal
 

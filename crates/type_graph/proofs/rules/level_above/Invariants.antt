@@ -1,7 +1,7 @@
 use Rattle.std.proofs.Common.{◌≡◌, ◌<◌, ◌↔◌, ℕ, length, All}
 use Rattle.type_graph.specs.GraphRules.{held_by}
 use Rattle.type_graph.specs.Value.{node_at}
-use Rattle.type_graph.specs.Levels.{IsIn}
+use Rattle.type_graph.specs.inner.Levels.{IsIn}
 use Rattle.type_graph.proofs.rules.level_above.Given as goal
 
 abbrev pub invariant-loop-node : goal.invariant-loop-node

@@ -1,7 +1,7 @@
 use Rattle.std.proofs.Common.{◌≡◌, ◌+◌, ◌-◌, Bool, List, subst, arith, rules}
 use Rattle.std.specs.Cmp.{booleans_Decides}
 use Rattle.std.proofs.lemmas.Slice.Eq.{slice_eq-Decides}
-use Rattle.type_graph.specs.Levels.{IsLevel, IsLevelAbove}
+use Rattle.type_graph.specs.inner.Levels.{IsLevel, IsLevelAbove}
 use Rattle.type_graph.proofs.LevelLaws.{level_none, level_more, level_stays}
 use Rattle.type_graph.proofs.rules.shallow.Goals as goal
 

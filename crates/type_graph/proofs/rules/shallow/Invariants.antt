@@ -1,4 +1,4 @@
-use Rattle.type_graph.specs.Levels.{IsLevel}
+use Rattle.type_graph.specs.inner.Levels.{IsLevel}
 use Rattle.type_graph.proofs.rules.shallow.Given as goal
 
 abbrev pub invariant-loop : goal.invariant-loop

@@ -1,5 +1,5 @@
 use Rattle.std.proofs.Common.{subst}
-use Rattle.type_graph.specs.Shapes.{IsRun}
+use Rattle.type_graph.specs.inner.Shapes.{IsRun}
 use Rattle.type_graph.proofs.ShapeLaws.{mixed_first}
 use Rattle.type_graph.proofs.shape.joined_run.Goals as goal
 

@@ -1,5 +1,5 @@
 use Rattle.std.proofs.Common.{◌≡◌, subst, rules}
-use Rattle.type_graph.specs.Shapes.{IsRun}
+use Rattle.type_graph.specs.inner.Shapes.{IsRun}
 use Rattle.type_graph.proofs.ShapeLaws.{two_widths, mixed_last}
 use Rattle.type_graph.proofs.shape.joined_words.Goals as goal
 

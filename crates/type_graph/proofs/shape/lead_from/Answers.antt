@@ -4,7 +4,7 @@ use Rattle.type_graph.specs.declared.width.Width.TheVariants.{One}
 use Rattle.type_graph.specs.declared.node.Node.{Node}
 use Rattle.type_graph.specs.Value.{node_at}
 use Rattle.type_graph.specs.Walks.{lead_by, lead_within}
-use Rattle.type_graph.specs.Shapes.{lead_as}
+use Rattle.type_graph.specs.inner.Shapes.{lead_as}
 use Rattle.type_graph.proofs.shape.lead_from.Goals as goal
 
 -- a step down takes one of the levels that are left

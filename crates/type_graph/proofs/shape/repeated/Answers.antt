@@ -1,7 +1,7 @@
 use Rattle.std.proofs.Common.{ℕ, replicate, sum_by, sym, subst}
 use Rattle.std.proofs.lemmas.List.Folds.{sum_by-replicate}
 use Rattle.std.specs.List.{flat_map}
-use Rattle.type_graph.specs.Shapes.{IsShape, IsSize}
+use Rattle.type_graph.specs.inner.Shapes.{IsShape, IsSize}
 use Rattle.type_graph.proofs.shape.repeated.Goals as goal
 
 pub returns-then-count-eq0 : goal.returns-then-count-eq0

@@ -1,7 +1,7 @@
 use Rattle.std.proofs.Common.{◌≡◌, ◌≤◌, ◌*◌, length, replicate, sym, ap, ap₂, ◌∙◌, subst}
 use Rattle.std.specs.List.{flat_map}
 use Rattle.type_graph.specs.Leaves.{IsWordOf, AreWords}
-use Rattle.type_graph.specs.Shapes.{IsRun}
+use Rattle.type_graph.specs.inner.Shapes.{IsRun}
 use Rattle.type_graph.proofs.ShapeLaws.{all_copies, length-copies, no_copies, mixed_copies, some_copies}
 use Rattle.type_graph.proofs.shape.repeated_run.Goals as goal
 

@@ -3,7 +3,7 @@ use Rattle.std.specs.List.{flat_map}
 use Rattle.std.proofs.Common.{inl, inr}
 use Rattle.type_graph.specs.declared.node.Node.{Node}
 use Rattle.type_graph.specs.Leaves.{leaves_by}
-use Rattle.type_graph.specs.Shapes.{IsShape, size_by}
+use Rattle.type_graph.specs.inner.Shapes.{IsShape, size_by}
 use Rattle.type_graph.proofs.shape.shape_of.Goals as goal
 
 pub returns-in-Array : goal.returns-in-Array

@@ -1,6 +1,6 @@
 use Rattle.std.proofs.Common.{ℕ, List, get_or, take_all, sum_by, sym, subst, arith}
 use Rattle.std.specs.List.{flat_map}
-use Rattle.type_graph.specs.Shapes.{IsShape}
+use Rattle.type_graph.specs.inner.Shapes.{IsShape}
 use Rattle.type_graph.proofs.ShapeLaws.{shape_more}
 use Rattle.type_graph.proofs.shape.shape_of_members.Goals as goal
 

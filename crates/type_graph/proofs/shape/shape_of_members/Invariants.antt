@@ -1,7 +1,7 @@
 use Rattle.std.proofs.Common.{ℕ, List, take, sum_by}
 use Rattle.std.specs.List.{flat_map}
 use Rattle.type_graph.specs.declared.node.Node.{Node}
-use Rattle.type_graph.specs.Shapes.{IsShape, AreShapes}
+use Rattle.type_graph.specs.inner.Shapes.{IsShape, AreShapes}
 use Rattle.type_graph.proofs.shape.shape_of_members.Given as goal
 
 abbrev pub invariant-loop-number : goal.invariant-loop-number

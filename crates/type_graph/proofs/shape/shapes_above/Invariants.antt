@@ -2,7 +2,7 @@ use Rattle.std.proofs.Common.{◌≡◌, ◌<◌, ℕ, List, length, slice_index
 use Rattle.type_graph.specs.declared.node.Node.{Node}
 use Rattle.type_graph.specs.Value.{node_at}
 use Rattle.type_graph.specs.Leaves.{leaves_by}
-use Rattle.type_graph.specs.Shapes.{IsShape, AreShapes, size_by, octet_shape}
+use Rattle.type_graph.specs.inner.Shapes.{IsShape, AreShapes, size_by, octet_shape}
 use Rattle.type_graph.proofs.shape.shapes_above.Given as goal
 
 abbrev pub invariant-loop-node : goal.invariant-loop-node

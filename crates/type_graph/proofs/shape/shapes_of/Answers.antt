@@ -1,6 +1,6 @@
 use Rattle.std.proofs.Common.{◌≡◌, ◌+◌, ◌-◌, List, sym, ◌∙◌, subst, arith}
 use Rattle.type_graph.specs.declared.shape.Shape.{Shape}
-use Rattle.type_graph.specs.Shapes.{AreShapesBy, AreShapesWithin}
+use Rattle.type_graph.specs.inner.Shapes.{AreShapesBy, AreShapesWithin}
 use Rattle.type_graph.proofs.ShapeLevels.{shapes_none, shapes_more, shapes_stay}
 use Rattle.type_graph.proofs.shape.shapes_of.Goals as goal
 

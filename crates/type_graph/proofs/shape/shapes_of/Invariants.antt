@@ -1,4 +1,4 @@
-use Rattle.type_graph.specs.Shapes.{AreShapesWithin}
+use Rattle.type_graph.specs.inner.Shapes.{AreShapesWithin}
 use Rattle.type_graph.proofs.shape.shapes_of.Given as goal
 
 abbrev pub invariant-loop : goal.invariant-loop

@@ -1,6 +1,6 @@
 use Rattle.std.proofs.Common.{inl, inr, subst}
 use Rattle.type_graph.specs.Leaves.{leaves_of}
-use Rattle.type_graph.specs.Shapes.{IsRun}
+use Rattle.type_graph.specs.inner.Shapes.{IsRun}
 use Rattle.type_graph.proofs.ShapeLaws.{empty_none, mixed_none}
 use Rattle.type_graph.proofs.ShapeLevels.{shape_known}
 use Rattle.type_graph.proofs.graph.Graph.uniform.Goals as goal

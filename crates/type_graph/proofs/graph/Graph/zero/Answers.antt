@@ -1,7 +1,7 @@
 use Rattle.std.proofs.Common.{◌≡◌, sym, subst}
 use Rattle.std.specs.Prelude.{IfOk}
 use Rattle.type_graph.specs.GraphRules.{IsGraph}
-use Rattle.type_graph.specs.Shapes.{size_within}
+use Rattle.type_graph.specs.inner.Shapes.{size_within}
 use Rattle.type_graph.proofs.ShapeLevels.{shape_known}
 use Rattle.type_graph.proofs.ZeroLaws.{zeros_within}
 use Rattle.type_graph.proofs.graph.Graph.zero.Goals as goal

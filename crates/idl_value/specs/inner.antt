@@ -1,0 +1,4 @@
+-- What the crate's own code and proofs name, and no public contract does.
+pub mod Packing
+pub mod PartList
+pub mod Unpacking
