@@ -3,10 +3,10 @@
 ghost use Rattle.std.specs.Prelude.{ℕ, List, ◌≡◌, ◌<◌, ◌≤◌, ◌-◌, [], ◌∷◌, ◌++◌, IfOk, IfSome, IfNone, IsTrue, IsFalse, Some, None, replicate};
 ghost use Rattle.type_graph.specs.Value.{node_at};
 ghost use Rattle.routine_checker.specs.Taking.{parts_of, taken_within, taken, is_done_within};
-ghost use Rattle.routine_checker.specs.inner.Counts.{AreRunCounts, Yields};
+ghost use Rattle.routine_checker.specs.inner.Counts.{AreCounts, Yields};
 ghost use Rattle.routine_checker.specs.inner.Work.{wants, held, held_of, work_of};
 
-use crate::counts::RunCounts;
+use crate::counts::Counts;
 use crate::pieces::is_piece;
 use marshal_program::{Instr, Routine};
 use std::alloc::{AllocError, Global};
@@ -29,14 +29,14 @@ impl<'g> NodesTaken<'g> {
 
     /// How many of them the node is made of, 0 where that isn't known.
     #[tactic(auto, using(crate::proofs::CountLaws::took_wanted))]
-    fn count(self, counts: &RunCounts, number: u32) -> u32
-        requires { AreRunCounts self.nodes.now counts.now }
+    fn count(self, counts: &Counts, number: u32) -> u32
+        requires { AreCounts self.nodes.now counts.now }
         ensures { 0 < result → Yields result (wants self.entry) self.entry.nodes.now number }
     {
         if self.is(number) {
             return 1;
         }
-        counts.pieces(self.instr, number)
+        counts.pieces(self.program, self.instr, number)
     }
 }
 
@@ -48,6 +48,15 @@ pub enum Item<'g> {
 }
 
 impl<'g> Item<'g> {
+    fn is_empty(self) -> bool
+        ensures { IsTrue result → held self.entry ≡ [] }
+    {
+        match self {
+            Item::Copies { n, .. } => n == 0,
+            Item::Numbers { numbers } => numbers.is_empty(),
+        }
+    }
+
     /// The first of them, how many of it follow one another here, and the rest.
     fn split(self) -> Option<(u32, u32, Item<'g>)>
         ensures some { IfSome result (λ split. held self.entry ≡ replicate split.1 split.0 ++ held split.2) }
@@ -92,12 +101,12 @@ fn parts_at(nodes: &[Node], number: u32) -> Option<Item<'_>>
 
 impl<'g> NodesTaken<'g> {
     /// What a node is opened into that is made of more than so many pieces.
-    fn parts_of_more(self, counts: &RunCounts, pieces: u32, number: u32) -> Option<Item<'g>>
+    fn parts_of_more(self, counts: &Counts, pieces: u32, number: u32) -> Option<Item<'g>>
         requires some { 0 < pieces }
-        requires counts { AreRunCounts self.nodes.now counts.now }
+        requires counts { AreCounts self.nodes.now counts.now }
         ensures { IfSome result (λ parts. (more : List ℕ) → taken pieces (wants self.entry) self.entry.nodes.now (number ∷ more) ≡ taken pieces (wants self.entry) self.entry.nodes.now (held parts ++ more)) }
     {
-        if self.is(number) || counts.pieces(self.instr, number) <= pieces {
+        if self.is(number) || counts.pieces(self.program, self.instr, number) <= pieces {
             return None;
         }
         parts_at(self.nodes, number)
@@ -120,11 +129,14 @@ impl<'g> Work<'g> {
         Ok(Work { items })
     }
 
-    /// Puts nodes in front.
-    #[tactic(auto, using(crate::proofs::WorkLaws::work_pushed))]
+    /// Puts nodes in front, if there are some.
+    #[tactic(auto, using(crate::proofs::WorkLaws::work_pushed, crate::proofs::WorkLaws::nothing_put))]
     fn put(&mut self, item: Item<'g>) -> Result<(), AllocError>
         ensures { IfOk result (λ done. work_of self.new.items.items ≡ held item.entry ++ work_of self.old.items.items) }
     {
+        if item.is_empty() {
+            return Ok(());
+        }
         self.items.push(item)?;
         Ok(())
     }
@@ -186,11 +198,11 @@ impl<'g> Work<'g> {
     fn open(
         &mut self,
         wanted: NodesTaken<'g>,
-        counts: &RunCounts,
+        counts: &Counts,
         pieces: u32,
     ) -> Result<(), AllocError>
         requires some { 0 < pieces }
-        requires counts { AreRunCounts wanted.nodes.now counts.now }
+        requires counts { AreCounts wanted.nodes.now counts.now }
         ensures { IfOk result (λ done. taken pieces (wants wanted.entry) wanted.entry.nodes.now (work_of self.old.items.items) ≡ taken pieces (wants wanted.entry) wanted.entry.nodes.now (work_of self.new.items.items)) }
     {
         for level in 0..64u32 {
@@ -219,11 +231,11 @@ impl<'g> Work<'g> {
     fn take_some(
         &mut self,
         wanted: NodesTaken<'g>,
-        counts: &RunCounts,
+        counts: &Counts,
         pieces: u32,
     ) -> Result<u32, AllocError>
         requires some { 0 < pieces }
-        requires counts { AreRunCounts wanted.nodes.now counts.now }
+        requires counts { AreCounts wanted.nodes.now counts.now }
         ensures within { IfOk result (λ n. n ≤ pieces) }
         ensures taken { IfOk result (λ n. 0 < n → taken pieces (wants wanted.entry) wanted.entry.nodes.now (work_of self.old.items.items) ≡ taken (pieces - n) (wants wanted.entry) wanted.entry.nodes.now (work_of self.new.items.items)) }
         ensures refused { IfOk result (λ n. n ≡ 0 → taken pieces (wants wanted.entry) wanted.entry.nodes.now (work_of self.old.items.items) ≡ None) }
@@ -249,10 +261,10 @@ impl<'g> Work<'g> {
     pub fn take(
         &mut self,
         wanted: NodesTaken<'g>,
-        counts: &RunCounts,
+        counts: &Counts,
         pieces: u32,
     ) -> Result<bool, AllocError>
-        requires { AreRunCounts wanted.nodes.now counts.now }
+        requires { AreCounts wanted.nodes.now counts.now }
         ensures taken { IfOk result (λ took. IsTrue took → taken pieces (wants wanted.entry) wanted.entry.nodes.now (work_of self.old.items.items) ≡ Some (work_of self.new.items.items)) }
         ensures refused { IfOk result (λ took. IsFalse took → taken pieces (wants wanted.entry) wanted.entry.nodes.now (work_of self.old.items.items) ≡ None) }
     {
