@@ -347,3 +347,15 @@ more_opened n k wanted graph number None here over yields is e = tt
 more_opened n k wanted graph number (Some item) here over yields is e = λ more.
     let some : 0 < n = omega (arith, over) in
     opened_alike n k wanted graph number (held item) more some (yields some) here is e
+
+-- ---- nodes in front that are made of pieces
+
+pub front_more : (graph : List Node) (wanted : ℕ → Bool) (numbers more : List ℕ) (at k t n d : ℕ) → at < length numbers → Yields n wanted graph (get_or numbers at d) → n ≤ k - t
+    → taken (k - t) wanted graph (drop at numbers ++ more) ≡ taken (k - (t + n)) wanted graph (drop (at + 1) numbers ++ more)
+front_more graph wanted numbers more at k t n d within yields fits =
+    let next : suc at ≡ at + 1 = omega arith in
+    let split = drop-cons numbers at d within ∙ ap (λ i. get_or numbers at d ∷ drop i numbers) next in
+    let some : k - t ≡ n + (k - (t + n)) = omega (arith, fits) in
+    ap (λ list. taken (k - t) wanted graph (list ++ more)) split
+    ∙ ap (λ i. taken i wanted graph (get_or numbers at d ∷ drop (at + 1) numbers ++ more)) some
+    ∙ taken_add wanted graph n (k - (t + n)) (get_or numbers at d ∷ drop (at + 1) numbers ++ more) (drop (at + 1) numbers ++ more) (yields (drop (at + 1) numbers ++ more))

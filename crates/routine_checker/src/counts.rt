@@ -1,9 +1,9 @@
 //! How many pieces of a kind each node of a graph is made of, so that many can be taken at once.
 
-ghost use Rattle.std.specs.Prelude.{◌≡◌, ◌<◌, ◌*◌, ◌&&◌, List, ℕ, Some, None, IfOk, IfSome, IsTrue, true};
+ghost use Rattle.std.specs.Prelude.{◌≡◌, ◌<◌, ◌≤◌, ◌-◌, ◌++◌, drop, length, ◌*◌, ◌&&◌, List, ℕ, Some, None, IfOk, IfSome, IsTrue, true};
 ghost use Rattle.type_graph.specs.declared.node.Node.{Node};
 ghost use Rattle.type_graph.specs.Value.{node_at};
-ghost use Rattle.routine_checker.specs.Taking.{parts_of, is_piece};
+ghost use Rattle.routine_checker.specs.Taking.{parts_of, taken, is_piece};
 ghost use Rattle.routine_checker.specs.inner.Kinds.{is_of, is_piece_of};
 ghost use Rattle.routine_checker.specs.inner.Counts.{parts_in, pieces_in, IsMade, AreCounts, Yields};
 
@@ -120,6 +120,26 @@ impl Counts {
             sum += count;
         }
         sum
+    }
+
+    /// How many of the nodes in front are made of the pieces, as long as more of these are wanted,
+    /// and how many these are.
+    fn front(&self, piece: Piece, numbers: &[u32], wanted: u32) -> (usize, u32)
+        ensures passed { result.0 ≤ length numbers.now }
+        ensures within { result.1 ≤ wanted }
+        ensures taken { (graph : List Node) → AreCounts graph self.now → (more : List ℕ)
+            → taken wanted (is_piece_of piece graph) graph (numbers.now ++ more)
+            ≡ taken (wanted - result.1) (is_piece_of piece graph) graph (drop result.0 numbers.now ++ more) }
+    {
+        let mut taken = 0;
+        for at in 0..numbers.len() {
+            let count = self.of(piece, numbers[at]);
+            if count == 0 || count > wanted - taken {
+                return (at, taken);
+            }
+            taken += count;
+        }
+        (numbers.len(), taken)
     }
 
     /// The parts of a node together.
@@ -286,6 +306,26 @@ impl Counts {
         match piece_of(program, instr) {
             Some(piece) => self.of(piece, number),
             None => 0,
+        }
+    }
+
+    /// The same of the nodes in front, as long as more pieces are wanted.
+    pub fn pieces_in_front(
+        &self,
+        program: &[Routine],
+        instr: &Instr,
+        numbers: &[u32],
+        wanted: u32,
+    ) -> (usize, u32)
+        ensures passed { result.0 ≤ length numbers.now }
+        ensures within { result.1 ≤ wanted }
+        ensures taken { (graph : List Node) → AreCounts graph self.now → (more : List ℕ)
+            → taken wanted (is_piece graph program.now instr.now) graph (numbers.now ++ more)
+            ≡ taken (wanted - result.1) (is_piece graph program.now instr.now) graph (drop result.0 numbers.now ++ more) }
+    {
+        match piece_of(program, instr) {
+            Some(piece) => self.front(piece, numbers, wanted),
+            None => (0, 0),
         }
     }
 }

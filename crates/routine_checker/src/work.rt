@@ -113,6 +113,26 @@ impl<'g> NodesTaken<'g> {
     }
 }
 
+impl<'g> NodesTaken<'g> {
+    /// How many pieces the nodes in front are made of, as long as more are wanted, and the nodes
+    /// behind these.
+    fn front(self, counts: &Counts, pieces: u32, item: Item<'g>) -> (u32, Item<'g>)
+        requires { AreCounts self.nodes.now counts.now }
+        ensures within { result.0 ≤ pieces }
+        ensures taken { (more : List ℕ) → taken pieces (wants self.entry) self.entry.nodes.now (held item.entry ++ more)
+            ≡ taken (pieces - result.0) (wants self.entry) self.entry.nodes.now (held result.1 ++ more) }
+    {
+        match item {
+            Item::Numbers { numbers } => {
+                let (passed, n) = counts.pieces_in_front(self.program, self.instr, numbers, pieces);
+                let (_, rest) = numbers.split_at(passed);
+                (n, Item::Numbers { numbers: rest })
+            }
+            Item::Copies { number, n } => (0, Item::Copies { number, n }),
+        }
+    }
+}
+
 /// The nodes whose values are still to be related: what comes first stands last in the list.
 #[derive(Drop)]
 pub struct Work<'g> {
@@ -257,6 +277,48 @@ impl<'g> Work<'g> {
         Ok(if self.take_one(wanted)? { 1 } else { 0 })
     }
 
+    /// Takes the nodes in front that are made of the wanted pieces, as long as more are wanted, and
+    /// tells how many pieces these are.
+    fn take_front(
+        &mut self,
+        wanted: NodesTaken<'g>,
+        counts: &Counts,
+        pieces: u32,
+    ) -> Result<u32, AllocError>
+        requires { AreCounts wanted.nodes.now counts.now }
+        ensures within { IfOk result (λ n. n ≤ pieces) }
+        ensures taken { IfOk result (λ n. taken pieces (wants wanted.entry) wanted.entry.nodes.now (work_of self.old.items.items) ≡ taken (pieces - n) (wants wanted.entry) wanted.entry.nodes.now (work_of self.new.items.items)) }
+    {
+        let item = match self.items.pop() {
+            Some(item) => item,
+            None => return Ok(0),
+        };
+        let (n, rest) = wanted.front(counts, pieces, item);
+        self.put(rest)?;
+        Ok(n)
+    }
+
+    /// Takes some of the wanted pieces, and tells how many; none where the first can't be taken.
+    fn take_more(
+        &mut self,
+        wanted: NodesTaken<'g>,
+        counts: &Counts,
+        pieces: u32,
+    ) -> Result<u32, AllocError>
+        requires some { 0 < pieces }
+        requires counts { AreCounts wanted.nodes.now counts.now }
+        ensures within { IfOk result (λ n. n ≤ pieces) }
+        ensures taken { IfOk result (λ n. 0 < n → taken pieces (wants wanted.entry) wanted.entry.nodes.now (work_of self.old.items.items) ≡ taken (pieces - n) (wants wanted.entry) wanted.entry.nodes.now (work_of self.new.items.items)) }
+        ensures refused { IfOk result (λ n. n ≡ 0 → taken pieces (wants wanted.entry) wanted.entry.nodes.now (work_of self.old.items.items) ≡ None) }
+    {
+        let n = self.take_front(wanted, counts, pieces)?;
+        if n > 0 {
+            return Ok(n);
+        }
+        self.open(wanted, counts, pieces)?;
+        self.take_some(wanted, counts, pieces)
+    }
+
     /// Takes so many pieces of an instruction, and tells whether they were there.
     pub fn take(
         &mut self,
@@ -270,8 +332,7 @@ impl<'g> Work<'g> {
     {
         let mut left = pieces;
         while left > 0 {
-            self.open(wanted, counts, left)?;
-            let n = self.take_some(wanted, counts, left)?;
+            let n = self.take_more(wanted, counts, left)?;
             if n == 0 {
                 return Ok(false);
             }
