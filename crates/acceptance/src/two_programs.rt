@@ -6,7 +6,7 @@ use position_checker::Accepted;
 use routine_checker::check_name;
 use std::alloc::Global;
 use std::test::Fail;
-use table_commands::{ShownInstr, ValueRequest, Way, listing, marshal};
+use table_commands::{Refusal, ShownInstr, ValueRequest, Way, listing, marshal};
 use table_file::Which;
 use type_graph::{Arms, Order, Width};
 
@@ -133,6 +133,30 @@ const TOLD: &str = "name S node 3 program 1 routine 0\n\
 fn a_table_of_two_programs(rt: HostRuntime) -> Result<(), Fail> {
     let text = told_of_both(rt.alloc())?;
     assert_eq!(rt; text.as_str(), TOLD);
+    Ok(())
+}
+
+/// The model of the sample, with a name of a line end, `b`, an escape and a backslash.
+const ODD_NAME: &str = "000000040100040005000000000800000003000000000000000100000002\
+    00000001000000040a621b5c00000003000000000000000000000000";
+
+/// The line of the listing for it, and that of the refusal of such a name.
+fn shown_name(alloc: Global) -> Result<[String; 2], Fail> {
+    let refusal = Refusal::NoType { name: "\tb\r" };
+    let refused = refusal.to_string(alloc)?;
+    match table_of(alloc, &["49444c5401", ODD_NAME, ROUTINE, CODE]) {
+        Ok(Ok(table)) => Ok([listing(alloc, &table)?, refused]),
+        Ok(Err(fault)) => Ok([fault.to_string(alloc)?, refused]),
+        Err(fail) => Err(fail),
+    }
+}
+
+#[test]
+fn odd_names_stay_on_their_line(rt: HostRuntime) -> Result<(), Fail> {
+    let [listed, refused] = shown_name(rt.alloc())?;
+    let line = listed.as_str().lines().next().unwrap_or("");
+    assert_eq!(rt; line, "name \\nb\\x1b\\\\ node 3 program 0 routine 0");
+    assert_eq!(rt; refused.as_str(), "no type \\tb\\r");
     Ok(())
 }
 

@@ -1,4 +1,5 @@
 pub mod Acceptance
 pub mod RouteLaws
+pub mod ServedLaws
 pub mod Lone
 pub mod VerdictLaws

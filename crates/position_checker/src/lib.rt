@@ -4,6 +4,7 @@
 mod accepted;
 pub mod laws;
 mod routes;
+mod served;
 mod verdict;
 
 pub use accepted::Accepted;

@@ -22,6 +22,15 @@ only_if (ExitsTooSmall at entry) P Q f h = f h
 only_if (NoRoutine node) P Q f h = f h
 only_if (NamedEntryNotFull node) P Q f h = f h
 
+pub refuses : (fault : CheckFault) (P : Type 0) → P → OnlyIf fault P
+refuses NoMemory P h = tt
+refuses (WrongWork at instr) P h = h
+refuses (WrongPadding at instr) P h = h
+refuses (EntryOutside at instr) P h = h
+refuses (ExitsTooSmall at entry) P h = h
+refuses (NoRoutine node) P h = h
+refuses (NamedEntryNotFull node) P h = h
+
 module _ (graph : List Node) (program : List Routine) (at : RoutinePlace) (routine : Routine) where
   -- the node isn't there
   pub routine_outside : length graph ≤ routine.node → routine_fault graph program at routine ≡ Some (WrongWork at 0)

@@ -1,15 +1,23 @@
 -- As many wanted nodes as a node is made of can be taken from it.
-use Rattle.std.proofs.Common.{◌≡◌, ℕ, zero, suc, ◌+◌, ◌-◌, ◌*◌, ◌<◌, ◌≤◌, Bool, true, false, ◌||◌, eqb, List, [], ◌∷◌, ◌++◌, length, replicate, Option, Some, None, IfSome, if◌then◌else◌, sum_by, refl, sym, ap, ap₂, subst, ◌∙◌, suc-mul, length-append, ◌/◌, min, le_trans, mul-le-mul_right, div-mul-le_self, le-div_iff_mul-le, mul-pos, arith}
+use Rattle.std.proofs.Common.{◌≡◌, ℕ, zero, suc, ◌+◌, ◌-◌, ◌*◌, ◌<◌, ◌≤◌, Bool, true, false, ◌||◌, eqb, List, [], ◌∷◌, ◌++◌, length, replicate, drop, drop-cons, get_or, Option, Some, None, IfSome, if◌then◌else◌, sum_by, refl, sym, ap, ap₂, subst, ◌∙◌, suc-mul, ◌/◌, min, le_trans, mul-le-mul_right, div-mul-le_self, le-div_iff_mul-le, mul-pos, arith}
 use Rattle.std.specs.List.{AllByRecursion, list_any}
-use Rattle.std.proofs.lemmas.Bool.{true≢false, eqb-true}
+use Rattle.std.proofs.lemmas.Bool.{true≢false, eqb-true, eq-eqb}
 use Rattle.std.proofs.lemmas.Option.{none-some, same_Some}
+use Rattle.std.proofs.lemmas.List.{drop_all}
 use Rattle.std.proofs.lemmas.List.Sums.{sum_by-cons}
 use Rattle.std.proofs.lemmas.List.Folds.{sum_by-replicate}
 use Rattle.type_graph.specs.declared.node.Node.{Node}
-use Rattle.type_graph.specs.declared.node.Node.TheVariants.{Array}
+use Rattle.type_graph.specs.declared.node.Node.TheVariants.{Array, Struct, Frame}
 use Rattle.type_graph.specs.Value.{node_at}
+use Rattle.type_graph.specs.GraphRules.{held_by, IsShallow, IsGraph}
+use Rattle.type_graph.proofs.WordLaws.{all_weaken}
+use Rattle.type_graph.proofs.HeldEach.{all_repeated, shallow_all}
 use Rattle.routine_checker.specs.Taking.{parts_of, opened, taken_within, and_then, taken}
-use Rattle.routine_checker.specs.inner.Counts.{parts_in, pieces_by, pieces_in, count_in, AreNumbersOf, AreCounts, Yields}
+use Rattle.routine_checker.specs.inner.Counts.{parts_in, pieces_in, IsMade, Yields}
+use Rattle.routine_checker.specs.inner.Kinds.{is_of, is_piece_of}
+use Rattle.routine_checker.specs.declared.pieces.RunKind.{RunKind}
+use Rattle.routine_checker.specs.declared.counts.Piece.{Piece}
+use Rattle.routine_checker.specs.declared.counts.Piece.TheVariants as pieces
 use Rattle.routine_checker.specs.declared.work.Item.{Item}
 use Rattle.routine_checker.specs.inner.Work.{held, held_of}
 use Rattle.routine_checker.proofs.TakeLaws.{within_here, within_below, taken_next, taken_none, took_first}
@@ -75,73 +83,95 @@ module _ (count : ℕ → ℕ) where
   pub members_in : (members : List ℕ) (sum : ℕ) → list_any (λ part. eqb (count part) 0) members ≡ false → sum_by count members ≡ sum → parts_in count (Some members) ≡ sum
   members_in members sum e f = ap (λ b. if b then 0 else sum_by count members) e ∙ f
 
--- ---- numbers that are known
+-- ---- one level more
 
-module _ (count known : ℕ → ℕ) (right : (number : ℕ) → 0 < known number → count number ≡ known number) where
-  same_any : (parts : List ℕ) → AllByRecursion (λ part. 0 < known part) parts → list_any (λ part. eqb (count part) 0) parts ≡ list_any (λ part. eqb (known part) 0) parts
-  same_any [] all = refl
-  same_any (part ∷ parts) all = ap₂ (λ a b. eqb a 0 || b) (right part all.0) (same_any parts all.1)
+-- the parts have the same counts
+parts_same : (f g : ℕ → ℕ) (parts : List ℕ) → AllByRecursion (λ part. f part ≡ g part) parts → parts_in f (Some parts) ≡ parts_in g (Some parts)
+parts_same f g parts same = ap₂ (λ b s. if b then 0 else s) (tests parts same) (sums parts same)
+  where
+    tests : (parts : List ℕ) → AllByRecursion (λ part. f part ≡ g part) parts → list_any (λ part. eqb (f part) 0) parts ≡ list_any (λ part. eqb (g part) 0) parts
+    tests [] same = refl
+    tests (part ∷ parts) same = ap₂ (λ a b. eqb a 0 || b) same.0 (tests parts same.1)
 
-  same_sum : (parts : List ℕ) → AllByRecursion (λ part. 0 < known part) parts → sum_by count parts ≡ sum_by known parts
-  same_sum [] all = refl
-  same_sum (part ∷ parts) all =
-      sum_by-cons count part parts ∙ ap₂ (λ a b. a + b) (right part all.0) (same_sum parts all.1) ∙ sym (sum_by-cons known part parts)
+    sums : (parts : List ℕ) → AllByRecursion (λ part. f part ≡ g part) parts → sum_by f parts ≡ sum_by g parts
+    sums [] same = refl
+    sums (part ∷ parts) same = sum_by-cons f part parts ∙ ap₂ (λ a b. a + b) same.0 (sums parts same.1) ∙ sym (sum_by-cons g part parts)
 
-  known_test : (test : Bool) (parts : Option (List ℕ)) → 0 < (if test then 1 else parts_in known parts)
-      → (if test then 1 else parts_in count parts) ≡ (if test then 1 else parts_in known parts)
-  known_test true parts some = refl
-  known_test false None some = refl
-  known_test false (Some parts) some =
-      let all = parts_counted known parts some in
-      ap₂ (λ b s. if b then 0 else s) (same_any parts all) (same_sum parts all)
+held_same : (f g : ℕ → ℕ) (node : Node) → AllByRecursion (λ part. f part ≡ g part) (held_by node) → parts_in f (parts_of node) ≡ parts_in g (parts_of node)
+held_same f g (Array elem n) same = parts_same f g (replicate n elem) (all_repeated (λ part. f part ≡ g part) n elem same.0)
+held_same f g (Struct members) same = parts_same f g members same
+held_same f g (Frame members) same = parts_same f g members same
+held_same f g node same = refl
 
-numbers_at : (count : Node → ℕ) (graph : List Node) (numbers : List ℕ) (number : ℕ) → AreNumbersOf count graph numbers → 0 < count_in numbers number → count (node_at graph number) ≡ count_in numbers number
-numbers_at count graph [] number all some = absurd (omega (arith, some))
-numbers_at count [] (n ∷ numbers) number all some = absurd all
-numbers_at count (node ∷ graph) (n ∷ numbers) zero all some = all.0 some
-numbers_at count (node ∷ graph) (n ∷ numbers) (suc number) all some = numbers_at count graph numbers number all.1 some
+-- one level more doesn't change the count of a shallow node
+pieces_steady : (wanted : ℕ → Bool) (graph : List Node) (levels number : ℕ) → IsShallow levels graph number → pieces_in levels wanted graph number ≡ pieces_in (suc levels) wanted graph number
+unfolding IsShallow pieces_in
+pieces_steady wanted graph zero number shallow = absurd shallow
+pieces_steady wanted graph (suc levels) number shallow =
+    ap (λ n. if wanted number then 1 else n)
+    (held_same (pieces_in levels wanted graph) (pieces_in (suc levels) wanted graph) (node_at graph number)
+    (all_weaken (IsShallow levels graph) (λ part. pieces_in levels wanted graph part ≡ pieces_in (suc levels) wanted graph part) (held_by (node_at graph number)) (λ part s. pieces_steady wanted graph levels part s) shallow))
 
--- a number for the next node
-pub numbers_pushed : (count : Node → ℕ) (graph : List Node) (numbers : List ℕ) (n : ℕ) → length numbers < length graph → AreNumbersOf count graph numbers
-    → (0 < n → count (node_at graph (length numbers)) ≡ n) → AreNumbersOf count graph (numbers ++ n ∷ [])
-numbers_pushed count [] numbers n fits all right = absurd (omega (arith, fits))
-numbers_pushed count (node ∷ graph) [] n fits all right = (right, tt)
-numbers_pushed count (node ∷ graph) (m ∷ numbers) n fits all right =
-    (all.0, numbers_pushed count graph numbers n (omega (arith, fits)) all.1 right)
-
--- no level
-pub counts_none : (levels : ℕ) (wanted : Node → Bool) (graph : List Node) → AreCounts levels wanted graph []
-counts_none levels wanted graph number some = absurd (omega (arith, some))
-
--- one level more
-pub counts_next : (levels : ℕ) (wanted : Node → Bool) (graph : List Node) (numbers next : List ℕ) → AreCounts levels wanted graph numbers
-    → AreNumbersOf (pieces_by (count_in numbers) wanted) graph next → AreCounts (suc levels) wanted graph next
+-- a wanted node is one piece
+pub own_piece : (wanted : ℕ → Bool) (graph : List Node) (number : ℕ) → wanted number ≡ true → pieces_in 64 wanted graph number ≡ 1
 unfolding pieces_in
-counts_next levels wanted graph numbers next right all number some =
-    let here = numbers_at (pieces_by (count_in numbers) wanted) graph next number all some in
-    known_test (pieces_in levels wanted graph) (count_in numbers) right (wanted (node_at graph number)) (parts_of (node_at graph number)) (subst (λ n. 0 < n) (sym here) some) ∙ here
+own_piece wanted graph number is = ap (λ b. if b then 1 else parts_in (pieces_in 63 wanted graph) (parts_of (node_at graph number))) is
 
-pub array_pieces : (count : ℕ → ℕ) (wanted : Node → Bool) (node : Node) (elem n r : ℕ) → node ≡ Array elem n → wanted node ≡ false
-    → (0 < r → 0 < count elem) → (0 < r → n * count elem ≡ r) → 0 < r → pieces_by count wanted node ≡ r
-array_pieces count wanted node elem n r e is known product some =
-    ap (λ b. if b then 1 else parts_in count (parts_of node)) is ∙ ap (λ node. parts_in count (parts_of node)) e
-    ∙ copies_in count n elem (known some) ∙ product some
+pub own_node : (graph : List Node) (number : ℕ) → IsMade graph (record { number = number; piece = pieces.Node number; n = 1 })
+own_node graph number some = own_piece (λ n. eqb number n) graph number (eq-eqb number number refl)
 
-pub numbers_more : (count : Node → ℕ) (graph : List Node) (numbers next : List ℕ) (n at : ℕ) → length numbers ≡ at → at < length graph → AreNumbersOf count graph numbers
-    → (0 < n → count (node_at graph at) ≡ n) → next ≡ numbers ++ n ∷ [] → AreNumbersOf count graph next × (length next ≡ at + 1)
-numbers_more count graph numbers next n at long fits all right e =
-    let here : length numbers < length graph = omega (arith, long, fits) in
-    let longer : length (numbers ++ n ∷ []) ≡ length numbers + 1 = length-append numbers (n ∷ []) in (
-      subst (λ list. AreNumbersOf count graph list) (sym e)
-          (numbers_pushed count graph numbers n here all (λ some. ap (λ k. count (node_at graph k)) long ∙ right some)),
-      ap (λ (list : List ℕ). length list) e ∙ longer ∙ ap (λ k. k + 1) long,
-    )
+pub own_kind : (graph : List Node) (number : ℕ) (kind : RunKind) → is_of kind (node_at graph number) ≡ true → IsMade graph (record { number = number; piece = pieces.Kind kind; n = 1 })
+own_kind graph number kind is some = own_piece (λ n. is_of kind (node_at graph n)) graph number is
 
-pub counts_more : (levels : ℕ) (wanted : Node → Bool) (graph : List Node) (numbers next : List ℕ) → AreCounts levels wanted graph numbers
-    → AreNumbersOf (pieces_by (count_in numbers) wanted) graph next → AreCounts (levels + 1) wanted graph next
-counts_more levels wanted graph numbers next right all =
-    let same : suc levels ≡ levels + 1 = omega arith in
-    subst (λ k. AreCounts k wanted graph next) same (counts_next levels wanted graph numbers next right all)
+-- another is made of what its parts are made of
+pub parts_pieces : (wanted : ℕ → Bool) (graph : List Node) (number n : ℕ) (node : Node) → IsGraph graph → wanted number ≡ false → node_at graph number ≡ node
+    → parts_in (pieces_in 64 wanted graph) (parts_of node) ≡ n → pieces_in 64 wanted graph number ≡ n
+unfolding pieces_in
+parts_pieces wanted graph number n node rules is e sum =
+    pieces_steady wanted graph 64 number (shallow_all graph rules number)
+    ∙ ap (λ b. if b then 1 else parts_in (pieces_in 64 wanted graph) (parts_of (node_at graph number))) is
+    ∙ ap (λ node. parts_in (pieces_in 64 wanted graph) (parts_of node)) e ∙ sum
+
+-- an array
+pub array_sum : (count : ℕ → ℕ) (node : Node) (elem n one r : ℕ) → node ≡ Array elem n → (0 < one → count elem ≡ one)
+    → (0 < r → 0 < one) → (0 < r → n * one ≡ r) → 0 < r → parts_in count (parts_of node) ≡ r
+array_sum count node elem n one r e known is product some =
+    let here = is some in
+    ap (λ node. parts_in count (parts_of node)) e ∙ copies_in count n elem (subst (λ k. 0 < k) (sym (known here)) here)
+    ∙ ap (λ k. n * k) (known here) ∙ product some
+
+pub made_of_parts : (graph nodes : List Node) (piece : Piece) (number n : ℕ) (node : Node) → IsGraph graph → nodes ≡ graph → is_piece_of piece nodes number ≡ false → node_at graph number ≡ node
+    → (0 < n → parts_in (pieces_in 64 (is_piece_of piece graph) graph) (parts_of node) ≡ n) → IsMade graph (record { number = number; piece = piece; n = n })
+made_of_parts graph nodes piece number n node rules same is e sum some =
+    parts_pieces (is_piece_of piece graph) graph number n node rules (subst (λ (nodes : List Node). is_piece_of piece nodes number ≡ false) same is) e (sum some)
+
+-- ---- the sum for members, as the code goes over them
+
+pub record SumsTo (count : ℕ → ℕ) (members : List ℕ) (at sum : ℕ) : Type 0 where
+  pub known : list_any (λ part. eqb (count part) 0) members ≡ list_any (λ part. eqb (count part) 0) (drop at members)
+  pub all : sum_by count members ≡ sum + sum_by count (drop at members)
+
+pub sums_first : (count : ℕ → ℕ) (members : List ℕ) → SumsTo count members 0 0
+sums_first count members = record { known = refl; all = omega arith }
+
+pub sums_next : (count : ℕ → ℕ) (members : List ℕ) (at sum n d : ℕ) → at < length members → 0 < n → count (get_or members at d) ≡ n
+    → SumsTo count members at sum → SumsTo count members (at + 1) (sum + n)
+sums_next count members at sum n d fits some e sums =
+    let next : suc at ≡ at + 1 = omega arith in
+    let split = drop-cons members at d fits ∙ ap (λ k. get_or members at d ∷ drop k members) next in
+    let here : 0 < count (get_or members at d) = subst (λ n. 0 < n) (sym e) some in
+    let total = sums.all ∙ ap (λ list. sum + sum_by count list) split ∙ ap (λ k. sum + k) (sum_by-cons count (get_or members at d) (drop (at + 1) members)) in
+    record {
+      known = sums.known ∙ ap (list_any (λ part. eqb (count part) 0)) split
+          ∙ ap (λ b. b || list_any (λ part. eqb (count part) 0) (drop (at + 1) members)) (not_zero (count (get_or members at d)) here);
+      all = omega (arith, total, e);
+    }
+
+pub sums_all : (count : ℕ → ℕ) (members : List ℕ) (at sum : ℕ) → length members ≤ at → SumsTo count members at sum → parts_in count (Some members) ≡ sum
+sums_all count members at sum past sums =
+    let nothing = drop_all at members past in
+    let total = sums.all ∙ ap (λ list. sum + sum_by count list) nothing in
+    members_in count members sum (sums.known ∙ ap (list_any (λ part. eqb (count part) 0)) nothing) (omega (arith, total))
 
 -- ---- taking
 
@@ -247,23 +277,22 @@ first_test count further ih more true parts some = (more, refl)
 first_test count further ih more false None some = absurd (omega (arith, some))
 first_test count further ih more false (Some parts) some = first_part count further ih parts more some
 
-module _ (kind : Node → Bool) (graph : List Node) where
+module _ (wanted : ℕ → Bool) (graph : List Node) where
   -- the first piece of a node with a count is within its levels
-  first : (levels number : ℕ) (more : List ℕ) → 0 < pieces_in levels kind graph number → Found (taken_within levels (λ n. kind (node_at graph n)) graph) (number ∷ more)
+  first : (levels number : ℕ) (more : List ℕ) → 0 < pieces_in levels wanted graph number → Found (taken_within levels wanted graph) (number ∷ more)
   unfolding pieces_in taken_within
   first zero number more some = absurd (omega (arith, some))
   first (suc levels) number more some =
-      first_test (pieces_in levels kind graph) (taken_within levels (λ n. kind (node_at graph n)) graph) (first levels) more (kind (node_at graph number)) (parts_of (node_at graph number)) some
+      first_test (pieces_in levels wanted graph) (taken_within levels wanted graph) (first levels) more (wanted number) (parts_of (node_at graph number)) some
 
   taken_test : (levels number : ℕ) (more : List ℕ) (test : Bool) (parts : Option (List ℕ)) → suc levels ≤ 64
-      → ((part : ℕ) (behind : List ℕ) → 0 < pieces_in levels kind graph part → taken (pieces_in levels kind graph part) (λ n. kind (node_at graph n)) graph (part ∷ behind) ≡ Some behind)
-      → kind (node_at graph number) ≡ test → parts ≡ parts_of (node_at graph number) → 0 < (if test then 1 else parts_in (pieces_in levels kind graph) parts)
-      → taken (if test then 1 else parts_in (pieces_in levels kind graph) parts) (λ n. kind (node_at graph n)) graph (number ∷ more) ≡ Some more
-  taken_test levels number more true parts few ih is e some = took_wanted (λ n. kind (node_at graph n)) graph number more is
+      → ((part : ℕ) (behind : List ℕ) → 0 < pieces_in levels wanted graph part → taken (pieces_in levels wanted graph part) wanted graph (part ∷ behind) ≡ Some behind)
+      → wanted number ≡ test → parts ≡ parts_of (node_at graph number) → 0 < (if test then 1 else parts_in (pieces_in levels wanted graph) parts)
+      → taken (if test then 1 else parts_in (pieces_in levels wanted graph) parts) wanted graph (number ∷ more) ≡ Some more
+  taken_test levels number more true parts few ih is e some = took_wanted wanted graph number more is
   taken_test levels number more false None few ih is e some = absurd (omega (arith, some))
   taken_test levels number more false (Some parts) few ih is e some =
-      let wanted : (ℕ → Bool) = λ n. kind (node_at graph n) in
-      let count : (ℕ → ℕ) = pieces_in levels kind graph in
+      let count : (ℕ → ℕ) = pieces_in levels wanted graph in
       let within : levels ≤ 64 = omega (arith, few) in
       let here : 0 < suc levels = omega arith in
       let less : suc levels - 1 ≡ levels = omega arith in
@@ -276,21 +305,19 @@ module _ (kind : Node → Bool) (graph : List Node) where
       ∙ taken_parts wanted graph count ih parts more (parts_counted count parts some)
 
   -- as many can be taken from it as are counted
-  pub took_counted : (levels : ℕ) → levels ≤ 64 → (number : ℕ) (more : List ℕ) → 0 < pieces_in levels kind graph number
-      → taken (pieces_in levels kind graph number) (λ n. kind (node_at graph n)) graph (number ∷ more) ≡ Some more
+  pub took_counted : (levels : ℕ) → levels ≤ 64 → (number : ℕ) (more : List ℕ) → 0 < pieces_in levels wanted graph number
+      → taken (pieces_in levels wanted graph number) wanted graph (number ∷ more) ≡ Some more
   unfolding pieces_in
   took_counted zero few number more some = absurd (omega (arith, some))
   took_counted (suc levels) few number more some =
       let within : levels ≤ 64 = omega (arith, few) in
-      taken_test levels number more (kind (node_at graph number)) (parts_of (node_at graph number)) few (took_counted levels within) refl refl some
+      taken_test levels number more (wanted number) (parts_of (node_at graph number)) few (took_counted levels within) refl refl some
 
-pub counted_yields : (levels : ℕ) (kind : Node → Bool) (graph : List Node) (numbers : List ℕ) (wanted : ℕ → Bool) (number k : ℕ) → levels ≤ 64
-    → AreCounts levels kind graph numbers → wanted ≡ (λ n. kind (node_at graph n)) → k ≡ count_in numbers number → 0 < k → Yields k wanted graph number
-counted_yields levels kind graph numbers wanted number k few right same e some more =
-    let here : 0 < count_in numbers number = subst (λ n. 0 < n) e some in
-    let is = right number here in
-    ap (λ (w : ℕ → Bool). taken k w graph (number ∷ more)) same ∙ ap (λ n. taken n (λ n. kind (node_at graph n)) graph (number ∷ more)) (e ∙ sym is)
-    ∙ took_counted kind graph levels few number more (subst (λ n. 0 < n) (sym is) here)
+pub counted_yields : (graph : List Node) (wanted piece : ℕ → Bool) (number k : ℕ) → wanted ≡ piece → 0 < k → pieces_in 64 piece graph number ≡ k → Yields k wanted graph number
+counted_yields graph wanted piece number k same some e more =
+    let few : 64 ≤ 64 = omega arith in
+    ap (λ (w : ℕ → Bool). taken k w graph (number ∷ more)) same ∙ ap (λ n. taken n piece graph (number ∷ more)) (sym e)
+    ∙ took_counted piece graph 64 few number more (subst (λ n. 0 < n) (sym e) some)
 
 -- ---- a node that has pieces is opened
 
@@ -320,3 +347,15 @@ more_opened n k wanted graph number None here over yields is e = tt
 more_opened n k wanted graph number (Some item) here over yields is e = λ more.
     let some : 0 < n = omega (arith, over) in
     opened_alike n k wanted graph number (held item) more some (yields some) here is e
+
+-- ---- nodes in front that are made of pieces
+
+pub front_more : (graph : List Node) (wanted : ℕ → Bool) (numbers more : List ℕ) (at k t n d : ℕ) → at < length numbers → Yields n wanted graph (get_or numbers at d) → n ≤ k - t
+    → taken (k - t) wanted graph (drop at numbers ++ more) ≡ taken (k - (t + n)) wanted graph (drop (at + 1) numbers ++ more)
+front_more graph wanted numbers more at k t n d within yields fits =
+    let next : suc at ≡ at + 1 = omega arith in
+    let split = drop-cons numbers at d within ∙ ap (λ i. get_or numbers at d ∷ drop i numbers) next in
+    let some : k - t ≡ n + (k - (t + n)) = omega (arith, fits) in
+    ap (λ list. taken (k - t) wanted graph (list ++ more)) split
+    ∙ ap (λ i. taken i wanted graph (get_or numbers at d ∷ drop (at + 1) numbers ++ more)) some
+    ∙ taken_add wanted graph n (k - (t + n)) (get_or numbers at d ∷ drop (at + 1) numbers ++ more) (drop (at + 1) numbers ++ more) (yields (drop (at + 1) numbers ++ more))

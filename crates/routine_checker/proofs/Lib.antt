@@ -27,4 +27,5 @@ pub mod JoinedPasses
 pub mod Worked
 pub mod JudgeLaws
 pub mod StepCode
+pub mod ProgressLaws
 pub mod CheckCode

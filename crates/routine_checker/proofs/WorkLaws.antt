@@ -18,3 +18,7 @@ first_copy work rest left number zero some e f = absurd (omega (arith, some))
 first_copy work rest left number (suc n) some e f =
     let fewer : suc n - 1 ≡ n = omega arith in
     e ∙ ap (λ (more : List ℕ). number ∷ more) (sym (f ∙ ap (λ k. replicate k number ++ rest) fewer))
+
+-- an item that holds nothing
+pub nothing_put : (item : Item) (work : List ℕ) → held item ≡ [] → work ≡ held item ++ work
+nothing_put item work e = sym (ap (λ first. first ++ work) e)

@@ -1,105 +1,142 @@
 //! The routines of a program, judged one after the other, and the nodes that have names.
 
-ghost use Rattle.std.specs.Prelude.{◌≡◌, ◌≢◌, ◌≤◌, ◌<◌, length, IfErr, OnOk, Some, None, Ok, Err};
+ghost use Rattle.std.specs.Prelude.{◌≡◌, ◌≢◌, ◌≤◌, ◌<◌, ℕ, List, drop, length, IfOk, IfErr, OnOk, Some, None, Ok, Err};
 ghost use Rattle.marshal_program.specs.Plain.{plain_program};
 ghost use Rattle.marshal_program.specs.Joined.{joined_program};
-ghost use Rattle.routine_checker.specs.Steps.{followed, ended, entry_fault, routine_fault, program_fault};
-ghost use Rattle.routine_checker.specs.inner.Counts.{AreRunCounts};
-ghost use Rattle.routine_checker.specs.inner.Progress.{state_of};
+ghost use Rattle.routine_checker.specs.Steps.{followed, entry_fault, routine_fault, program_fault};
+ghost use Rattle.routine_checker.specs.inner.Counts.{AreCounts};
+ghost use Rattle.routine_checker.specs.inner.Progress.{work_behind, state_of, IsTaken};
 ghost use Rattle.routine_checker.specs.Refusal.{OnlyIf};
 ghost use Rattle.routine_checker.specs.Right.{AreRight};
 
-use crate::counts::RunCounts;
+use crate::counts::Counts;
 use crate::fault::{CheckFault, RoutinePlace};
+use crate::pieces::pieces;
 use crate::sets::{gaps_agree, has, is_within, only};
-use crate::step::Progress;
+use crate::step::Reached;
+use crate::work::{NodesTaken, Work};
 use marshal_program::{Program, Routine};
-use std::alloc::Global;
+use std::alloc::{AllocError, Global};
 use type_graph::{Graph, Width};
 
-/// Follows the code to its end.
-fn follow<'g>(
-    progress: &mut Progress<'g>,
-    graph: &'g Graph,
-    counts: &RunCounts,
-    program: &'g [Routine],
-    at: RoutinePlace,
-    routine: &'g Routine,
-) -> Result<(), CheckFault>
-    requires code { length routine.now.code ≤ 65536 }
-    requires counts { AreRunCounts graph.now counts.now }
-    ensures ok { OnOk result (followed graph.now program.now at 0 routine.now.code (state_of progress.old) ≡ Ok (state_of progress.new)) }
-    ensures refused { IfErr result (λ fault. OnlyIf fault (followed graph.now program.now at 0 routine.now.code (state_of progress.old) ≡ Err fault)) }
-{
-    let code = routine.code.as_slice();
-    for n in 0..code.len() {
-        progress.step(graph, counts, program, at, n as u32, &code[n])?;
-    }
-    Ok(())
+/// How many instructions of a routine do work of its node, and whether that is all of its
+/// instructions and all of its work.
+#[derive(Clone, Copy)]
+struct Taken {
+    instrs: u32,
+    is_all: bool,
 }
 
-/// The end of the code: nothing is left, the gap that is made is none, the positions are among the
-/// exits.
-fn end<'g>(
-    progress: &mut Progress<'g>,
-    graph: &'g Graph,
+/// Takes the work of the routine's node, which is the same from each of its entries.
+fn take_work(
+    alloc: Global,
+    graph: &Graph,
+    counts: &Counts,
+    program: &[Routine],
+    routine: &Routine,
+) -> Result<Taken, AllocError>
+    requires code { length routine.now.code ≤ 65536 }
+    requires counts { AreCounts graph.now counts.now }
+    ensures { IfOk result (IsTaken graph.now program.now routine.now) }
+{
+    let code = routine.code.as_slice();
+    let mut work = Work::new(alloc, routine.node)?;
+    for n in 0..code.len() {
+        let instr = &code[n];
+        let wanted = NodesTaken {
+            nodes: graph.nodes(),
+            program,
+            instr,
+        };
+        if !work.take(wanted, counts, pieces(instr))? {
+            return Ok(Taken {
+                instrs: n as u32,
+                is_all: false,
+            });
+        }
+    }
+    Ok(Taken {
+        instrs: code.len() as u32,
+        is_all: work.is_done(graph.nodes())?,
+    })
+}
+
+/// Follows the first instructions.
+fn follow(
+    start: Reached,
+    instrs: u32,
+    graph: &Graph,
+    program: &[Routine],
     at: RoutinePlace,
-    routine: &'g Routine,
+    routine: &Routine,
+) -> Result<Reached, CheckFault>
+    requires code { length routine.now.code ≤ 65536 }
+    requires instrs { instrs ≤ length routine.now.code }
+    ensures ok { IfOk result (λ end. (work rest : List ℕ) → work_behind graph.now program.now routine.now.code instrs work ≡ Some rest
+        → followed graph.now program.now at 0 routine.now.code (state_of work start)
+        ≡ followed graph.now program.now at instrs (drop instrs routine.now.code) (state_of rest end)) }
+    ensures refused { IfErr result (λ fault. (work rest : List ℕ) → work_behind graph.now program.now routine.now.code instrs work ≡ Some rest
+        → followed graph.now program.now at 0 routine.now.code (state_of work start) ≡ Err fault) }
+{
+    let code = routine.code.as_slice();
+    let mut reached = start;
+    for n in 0..instrs {
+        reached = match reached.step(graph, program, at, n, &code[n as usize]) {
+            Ok(next) => next,
+            Err(fault) => return Err(fault),
+        };
+    }
+    Ok(reached)
+}
+
+/// A routine from one of its entries.
+fn check_entry(
+    taken: Taken,
+    graph: &Graph,
+    program: &[Routine],
+    at: RoutinePlace,
+    routine: &Routine,
     entry: u32,
 ) -> Result<(), CheckFault>
     requires code { length routine.now.code ≤ 65536 }
+    requires taken { IsTaken graph.now program.now routine.now taken }
     requires entry { entry < 8 }
-    ensures ok { OnOk result (ended graph.now at routine.now entry (Ok (state_of progress.old)) ≡ None) }
-    ensures refused { IfErr result (λ fault. OnlyIf fault (ended graph.now at routine.now entry (Ok (state_of progress.old)) ≡ Some fault)) }
+    ensures ok { OnOk result (entry_fault graph.now program.now at routine.now entry ≡ None) }
+    ensures refused { IfErr result (λ fault. entry_fault graph.now program.now at routine.now entry ≡ Some fault) }
 {
-    let instr = routine.code.as_slice().len() as u32;
-    if !progress.work.is_done(graph.nodes())? {
+    let start = Reached {
+        places: only(entry),
+        gap: Width::One,
+    };
+    let end = match follow(start, taken.instrs, graph, program, at, routine) {
+        Ok(end) => end,
+        Err(fault) => return Err(fault),
+    };
+    let instr = taken.instrs;
+    if !taken.is_all {
         return Err(CheckFault::WrongWork { at, instr });
     }
-    if !gaps_agree(progress.places, progress.gap, Width::One) {
+    if !gaps_agree(end.places, end.gap, Width::One) {
         return Err(CheckFault::WrongPadding { at, instr });
     }
-    if !is_within(progress.places, routine.exits[entry as usize]) {
+    if !is_within(end.places, routine.exits[entry as usize]) {
         return Err(CheckFault::ExitsTooSmall { at, entry });
     }
     Ok(())
 }
 
-/// A routine from one of its entries.
-fn check_entry<'g>(
-    alloc: Global,
-    graph: &'g Graph,
-    counts: &RunCounts,
-    program: &'g [Routine],
-    at: RoutinePlace,
-    routine: &'g Routine,
-    entry: u32,
-) -> Result<(), CheckFault>
-    requires code { length routine.now.code ≤ 65536 }
-    requires counts { AreRunCounts graph.now counts.now }
-    requires entry { entry < 8 }
-    ensures ok { OnOk result (entry_fault graph.now program.now at routine.now entry ≡ None) }
-    ensures refused { IfErr result (λ fault. OnlyIf fault (entry_fault graph.now program.now at routine.now entry ≡ Some fault)) }
-{
-    let mut progress = Progress::new(alloc, routine.node, only(entry))?;
-    match follow(&mut progress, graph, counts, program, at, routine) {
-        Ok(()) => end(&mut progress, graph, at, routine, entry),
-        Err(fault) => Err(fault),
-    }
-}
-
 /// A routine from each of its entries; the graph has so many nodes.
-fn check_routine<'g>(
+fn check_routine(
     alloc: Global,
-    graph: &'g Graph,
-    counts: &RunCounts,
+    graph: &Graph,
+    counts: &Counts,
     nodes: usize,
-    program: &'g [Routine],
+    program: &[Routine],
     at: RoutinePlace,
-    routine: &'g Routine,
+    routine: &Routine,
 ) -> Result<(), CheckFault>
     requires nodes { nodes ≡ length graph.now }
-    requires counts { AreRunCounts graph.now counts.now }
+    requires counts { AreCounts graph.now counts.now }
     requires code { length routine.now.code ≤ 65536 }
     ensures ok { OnOk result (routine_fault graph.now program.now at routine.now ≡ None) }
     ensures refused { IfErr result (λ fault. OnlyIf fault (routine_fault graph.now program.now at routine.now ≡ Some fault)) }
@@ -107,9 +144,10 @@ fn check_routine<'g>(
     if routine.node as usize >= nodes {
         return Err(CheckFault::WrongWork { at, instr: 0 });
     }
+    let taken = take_work(alloc, graph, counts, program, routine)?;
     for entry in 0..8u32 {
         if has(routine.entry, entry) {
-            match check_entry(alloc, graph, counts, program, at, routine, entry) {
+            match check_entry(taken, graph, program, at, routine, entry) {
                 Ok(()) => (),
                 Err(fault) => return Err(fault),
             }
@@ -140,7 +178,7 @@ pub fn check_routines(
 {
     let nodes = graph.nodes().len();
     let routines = program.routines();
-    let counts = RunCounts::new(alloc, graph.nodes())?;
+    let counts = Counts::new(alloc, graph)?;
     for number in 0..routines.len() {
         let at = RoutinePlace {
             program: which,

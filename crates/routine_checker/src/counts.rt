@@ -1,177 +1,331 @@
-//! How many octets, words or booleans each node of a graph is made of, so that many can be taken at
-//! once.
+//! How many pieces of a kind each node of a graph is made of, so that many can be taken at once.
 
-ghost use Rattle.std.specs.Prelude.{◌≡◌, ◌<◌, ◌*◌, List, Some, IfOk, IfSome};
+ghost use Rattle.std.specs.Prelude.{◌≡◌, ◌<◌, ◌≤◌, ◌-◌, ◌++◌, drop, length, ◌*◌, ◌&&◌, List, ℕ, Some, None, IfOk, IfSome, IsTrue, true};
 ghost use Rattle.type_graph.specs.declared.node.Node.{Node};
 ghost use Rattle.type_graph.specs.Value.{node_at};
-ghost use Rattle.marshal_program.specs.declared.instr.Routine.{Routine};
-ghost use Rattle.routine_checker.specs.inner.Kinds.{is_of};
-ghost use Rattle.routine_checker.specs.Taking.{is_piece};
-ghost use Rattle.routine_checker.specs.inner.Counts.{parts_in, pieces_by, count_in, AreNumbersOf, IsCounted, AreRunCounts, Yields};
+ghost use Rattle.routine_checker.specs.Taking.{parts_of, taken, is_piece};
+ghost use Rattle.routine_checker.specs.inner.Kinds.{is_of, is_piece_of};
+ghost use Rattle.routine_checker.specs.inner.Counts.{parts_in, pieces_in, IsMade, AreCounts, Yields};
 
-use crate::pieces::{RunKind, is_of};
-use marshal_program::Instr;
+use crate::pieces::{RunKind, is_of_at};
+use marshal_program::{Instr, Routine};
 use std::alloc::{AllocError, Global};
-use type_graph::{Node, Width};
+use type_graph::{Graph, Node};
 
-/// For each node how many of a kind it is made of, opened at most so many levels deep. It is 0
-/// where it isn't made of these alone, or of more than an instruction can take.
-#[derive(Drop)]
-pub struct Counts {
-    pub levels: u32,
-    pub numbers: Vec<u32>,
+/// What a node may be made of: nodes of a kind, or one node.
+#[derive(Clone, Copy, Debug, PartialEq, Eq)]
+pub enum Piece {
+    Kind { kind: RunKind },
+    Node { number: u32 },
 }
 
-fn count_at(counts: &[u32], number: u32) -> u32
-    ensures { result ≡ count_in counts.now number }
+/// The node of the number is made of so many of the pieces.
+#[derive(Clone, Copy)]
+pub struct Made {
+    pub number: u32,
+    pub piece: Piece,
+    pub n: u32,
+}
+
+fn is_same(piece: Piece, other: Piece) -> bool
+    ensures { IsTrue result → piece ≡ other }
 {
-    match counts.get(number as usize) {
-        Some(count) => *count,
-        None => 0,
+    piece == other
+}
+
+fn is_piece_of(nodes: &[Node], piece: Piece, number: u32) -> bool
+    ensures { result ≡ is_piece_of piece nodes.now number }
+{
+    match piece {
+        Piece::Kind { kind } => is_of_at(nodes, kind, number),
+        Piece::Node { number: wanted } => wanted == number,
     }
 }
 
-/// Of an array.
-fn copies_count(counts: &[u32], elem: u32, n: u32) -> u32
-    ensures known { 0 < result → 0 < count_in counts.now elem }
-    ensures product { 0 < result → n * count_in counts.now elem ≡ result }
+/// The kind of a node that has one.
+fn kind_at(nodes: &[Node], number: u32) -> Option<RunKind>
+    ensures { IfSome result (λ kind. is_of kind (node_at nodes.now number) ≡ true) }
 {
-    let count = count_at(counts, elem);
+    match nodes.get(number as usize) {
+        Some(Node::Octet) | Some(Node::Char) => Some(RunKind::Octet),
+        Some(Node::Boolean) => Some(RunKind::Boolean),
+        Some(Node::Whole { width, .. }) => Some(RunKind::Word(*width)),
+        _ => None,
+    }
+}
+
+/// The first part of a node that is opened.
+fn first_part(node: &Node) -> Option<u32> {
+    match node {
+        Node::Array { elem, .. } => Some(*elem),
+        Node::Struct { members } | Node::Frame { members } => members.as_slice().first().copied(),
+        _ => None,
+    }
+}
+
+/// So many times so many, 0 where an instruction can't take them all.
+fn product(n: u32, count: u32) -> u32
+    ensures known { 0 < result → 0 < count }
+    ensures product { 0 < result → n * count ≡ result }
+{
     if count == 0 || n > u32::MAX / count {
         return 0;
     }
     n * count
 }
 
-/// Of a structure or a frame.
-fn members_count(counts: &[u32], members: &[u32]) -> u32
-    ensures { 0 < result → parts_in (count_in counts.now) (Some members.now) ≡ result }
-{
-    let mut sum = 0u32;
-    for member in members {
-        let count = count_at(counts, *member);
-        if count == 0 || count > u32::MAX - sum {
-            return 0;
-        }
-        sum += count;
-    }
-    sum
-}
-
-/// By the counts of its parts.
-fn node_count(counts: &[u32], kind: RunKind, node: &Node) -> u32
-    ensures { 0 < result → pieces_by (count_in counts.now) (is_of kind) node.now ≡ result }
-{
-    if is_of(kind, node) {
-        return 1;
-    }
-    match node {
-        Node::Array { elem, n } => copies_count(counts, *elem, *n),
-        Node::Struct { members } | Node::Frame { members } => {
-            members_count(counts, members.as_slice())
-        }
-        _ => 0,
-    }
-}
-
-/// With one level more.
-fn deeper(
-    alloc: Global,
-    nodes: &[Node],
-    kind: RunKind,
-    counts: &[u32],
-) -> Result<Vec<u32>, AllocError>
-    ensures { IfOk result (λ numbers. AreNumbersOf (pieces_by (count_in counts.now) (is_of kind)) nodes.now numbers.items) }
-{
-    let mut numbers = Vec::with_capacity(alloc, nodes.len())?;
-    for at in 0..nodes.len() {
-        numbers.push(node_count(counts, kind, &nodes[at]))?;
-    }
-    Ok(numbers)
+/// What the nodes of a graph are made of. The entries of a node follow one another, from a place
+/// that stands at its number.
+#[derive(Drop)]
+pub struct Counts {
+    pub starts: Vec<usize>,
+    pub entries: Vec<Made>,
 }
 
 impl Counts {
-    /// Of one kind. A graph has no more levels than 64.
-    pub fn new(alloc: Global, nodes: &[Node], kind: RunKind) -> Result<Counts, AllocError>
-        ensures { IfOk result (λ counts. IsCounted kind nodes.now counts) }
-    {
-        let mut numbers = Vec::new(alloc);
-        for level in 0..64u32 {
-            let next = deeper(alloc, nodes, kind, numbers.as_slice())?;
-            if next.as_slice() == numbers.as_slice() {
-                return Ok(Counts {
-                    levels: level,
-                    numbers,
-                });
-            }
-            numbers = next;
+    fn start(&self, number: u32) -> usize {
+        match self.starts.get(number as usize) {
+            Some(start) => *start,
+            None => usize::MAX,
         }
-        Ok(Counts {
-            levels: 64,
-            numbers,
-        })
+    }
+
+    /// How many of the pieces the node is made of, 0 where that isn't known.
+    fn of(&self, piece: Piece, number: u32) -> u32
+        ensures { (graph : List Node) → AreCounts graph self.now → 0 < result → pieces_in 64 (is_piece_of piece graph) graph number ≡ result }
+    {
+        let entries = self.entries.as_slice();
+        for at in self.start(number)..entries.len() {
+            let made = entries[at];
+            if made.number != number {
+                return 0;
+            }
+            if is_same(made.piece, piece) {
+                return made.n;
+            }
+        }
+        0
+    }
+
+    /// The members together, 0 where one of them isn't known.
+    fn of_members(&self, piece: Piece, members: &[u32]) -> u32
+        ensures { (graph : List Node) → AreCounts graph self.now → 0 < result → parts_in (pieces_in 64 (is_piece_of piece graph) graph) (Some members.now) ≡ result }
+    {
+        let mut sum = 0u32;
+        for member in members {
+            let count = self.of(piece, *member);
+            if count == 0 || count > u32::MAX - sum {
+                return 0;
+            }
+            sum += count;
+        }
+        sum
+    }
+
+    /// How many of the nodes in front are made of the pieces, as long as more of these are wanted,
+    /// and how many these are.
+    fn front(&self, piece: Piece, numbers: &[u32], wanted: u32) -> (usize, u32)
+        ensures passed { result.0 ≤ length numbers.now }
+        ensures within { result.1 ≤ wanted }
+        ensures taken { (graph : List Node) → AreCounts graph self.now → (more : List ℕ)
+            → taken wanted (is_piece_of piece graph) graph (numbers.now ++ more)
+            ≡ taken (wanted - result.1) (is_piece_of piece graph) graph (drop result.0 numbers.now ++ more) }
+    {
+        let mut taken = 0;
+        for at in 0..numbers.len() {
+            let count = self.of(piece, numbers[at]);
+            if count == 0 || count > wanted - taken {
+                return (at, taken);
+            }
+            taken += count;
+        }
+        (numbers.len(), taken)
+    }
+
+    /// The parts of a node together.
+    fn of_parts(&self, piece: Piece, node: &Node) -> u32
+        ensures { (graph : List Node) → AreCounts graph self.now → 0 < result → parts_in (pieces_in 64 (is_piece_of piece graph) graph) (parts_of node.now) ≡ result }
+    {
+        match node {
+            Node::Array { elem, n } => product(*n, self.of(piece, *elem)),
+            Node::Struct { members } | Node::Frame { members } => {
+                self.of_members(piece, members.as_slice())
+            }
+            _ => 0,
+        }
+    }
+
+    fn add(&mut self, made: Made) -> Result<(), AllocError>
+        ensures { (graph : List Node) → AreCounts graph self.old → IsMade graph made → AreCounts graph self.new }
+    {
+        self.entries.push(made)?;
+        Ok(())
+    }
+
+    /// The node itself, and its kind.
+    fn add_own(&mut self, nodes: &[Node], number: u32) -> Result<(), AllocError>
+        requires { AreCounts nodes.now self.old }
+        ensures { AreCounts nodes.now self.new }
+    {
+        self.add(Made {
+            number,
+            piece: Piece::Node { number },
+            n: 1,
+        })?;
+        if let Some(kind) = kind_at(nodes, number) {
+            self.add(Made {
+                number,
+                piece: Piece::Kind { kind },
+                n: 1,
+            })?;
+        }
+        Ok(())
+    }
+
+    /// The pieces that the parts of the node are made of.
+    fn add_parts(
+        &mut self,
+        graph: &Graph,
+        piece: Piece,
+        number: u32,
+        node: &Node,
+    ) -> Result<(), AllocError>
+        requires node { node_at graph.now number ≡ node.now }
+        requires counts { AreCounts graph.now self.old }
+        ensures { AreCounts graph.now self.new }
+    {
+        if is_piece_of(graph.nodes(), piece, number) {
+            return Ok(());
+        }
+        let n = self.of_parts(piece, node);
+        if n > 0 {
+            self.add(Made { number, piece, n })?;
+        }
+        Ok(())
+    }
+
+    /// The piece of the entry at a place, if it is one of the node.
+    fn piece_at(&self, number: u32, at: usize) -> Option<Piece> {
+        match self.entries.get(at) {
+            Some(made) if made.number == number => Some(made.piece),
+            _ => None,
+        }
+    }
+
+    /// A node whose parts were added before: what its first part is made of, if all of them are.
+    fn add_node(&mut self, graph: &Graph, number: u32, node: &Node) -> Result<(), AllocError>
+        requires node { node_at graph.now number ≡ node.now }
+        requires counts { AreCounts graph.now self.old }
+        ensures { AreCounts graph.now self.new }
+    {
+        self.add_own(graph.nodes(), number)?;
+        let first = match first_part(node) {
+            Some(first) => first,
+            None => return Ok(()),
+        };
+        for at in self.start(first)..self.entries.len() {
+            let piece = match self.piece_at(first, at) {
+                Some(piece) => piece,
+                None => return Ok(()),
+            };
+            self.add_parts(graph, piece, number, node)?;
+        }
+        Ok(())
+    }
+
+    /// What is added next is of the node.
+    fn begin(&mut self, number: usize)
+        ensures { self.new.entries ≡ self.old.entries }
+    {
+        if number < self.starts.len() {
+            self.starts[number] = self.entries.len();
+        }
+    }
+
+    /// The nodes of a height.
+    fn add_height(&mut self, graph: &Graph, heights: &[u32], height: u32) -> Result<(), AllocError>
+        requires { AreCounts graph.now self.old }
+        ensures { AreCounts graph.now self.new }
+    {
+        let nodes = graph.nodes();
+        for number in 0..nodes.len() {
+            if heights.get(number) == Some(&height) {
+                self.begin(number);
+                self.add_node(graph, number as u32, &nodes[number])?;
+            }
+        }
+        Ok(())
+    }
+
+    /// Each node behind its parts, so that it is looked at once.
+    pub fn new(alloc: Global, graph: &Graph) -> Result<Counts, AllocError>
+        ensures { IfOk result (λ counts. AreCounts graph.now counts) }
+    {
+        let heights = graph.heights(alloc)?;
+        let highest = heights.iter().copied().max().unwrap_or(0);
+        let mut counts = Counts {
+            starts: vec![in alloc; usize::MAX; heights.len()]?,
+            entries: Vec::new(alloc),
+        };
+        for height in 0..=highest {
+            counts.add_height(graph, heights.as_slice(), height)?;
+        }
+        Ok(counts)
     }
 }
 
-/// Of the kinds that runs have.
-#[derive(Drop)]
-pub struct RunCounts {
-    pub octets: Counts,
-    pub booleans: Counts,
-    pub twos: Counts,
-    pub fours: Counts,
-    pub eights: Counts,
-}
-
-/// The kind of an instruction that takes a run.
-fn kind_of(instr: &Instr) -> Option<RunKind>
-    ensures { IfSome result (λ kind. (graph : List Node) (program : List Routine) → is_piece graph program instr.now ≡ (λ number. is_of kind (node_at graph number))) }
+/// What an instruction takes many of.
+fn piece_of(program: &[Routine], instr: &Instr) -> Option<Piece>
+    ensures { IfSome result (λ piece. (graph : List Node) → is_piece graph program.now instr.now ≡ is_piece_of piece graph) }
 {
     match instr {
-        Instr::Octets { .. } => Some(RunKind::Octet),
-        Instr::Bools { .. } => Some(RunKind::Boolean),
-        Instr::Words { width, .. } => Some(RunKind::Word(*width)),
+        Instr::Octets { .. } => Some(Piece::Kind {
+            kind: RunKind::Octet,
+        }),
+        Instr::Bools { .. } => Some(Piece::Kind {
+            kind: RunKind::Boolean,
+        }),
+        Instr::Words { width, .. } => Some(Piece::Kind {
+            kind: RunKind::Word(*width),
+        }),
+        Instr::Times { routine, .. } => match program.get(*routine as usize) {
+            Some(routine) => Some(Piece::Node {
+                number: routine.node,
+            }),
+            None => None,
+        },
         _ => None,
     }
 }
 
-impl RunCounts {
-    pub fn new(alloc: Global, nodes: &[Node]) -> Result<RunCounts, AllocError>
-        ensures { IfOk result (λ counts. AreRunCounts nodes.now counts) }
+impl Counts {
+    /// How many pieces of the instruction the node is made of, 0 where that isn't known.
+    pub fn pieces(&self, program: &[Routine], instr: &Instr, number: u32) -> u32
+        ensures { (graph : List Node) → AreCounts graph self.now → 0 < result → Yields result (is_piece graph program.now instr.now) graph number }
     {
-        Ok(RunCounts {
-            octets: Counts::new(alloc, nodes, RunKind::Octet)?,
-            booleans: Counts::new(alloc, nodes, RunKind::Boolean)?,
-            twos: Counts::new(alloc, nodes, RunKind::Word(Width::Two))?,
-            fours: Counts::new(alloc, nodes, RunKind::Word(Width::Four))?,
-            eights: Counts::new(alloc, nodes, RunKind::Word(Width::Eight))?,
-        })
-    }
-
-    fn of(&self, kind: RunKind) -> Option<&Counts>
-        ensures { (graph : List Node) → AreRunCounts graph self.now → IfSome result (λ counts. IsCounted kind graph counts.now) }
-    {
-        match kind {
-            RunKind::Octet => Some(&self.octets),
-            RunKind::Boolean => Some(&self.booleans),
-            RunKind::Word(Width::Two) => Some(&self.twos),
-            RunKind::Word(Width::Four) => Some(&self.fours),
-            RunKind::Word(Width::Eight) => Some(&self.eights),
-            RunKind::Word(Width::One) => None,
+        match piece_of(program, instr) {
+            Some(piece) => self.of(piece, number),
+            None => 0,
         }
     }
 
-    /// How many pieces of the instruction the node is made of, 0 where that isn't known.
-    pub fn pieces(&self, instr: &Instr, number: u32) -> u32
-        ensures { (graph : List Node) (program : List Routine) → AreRunCounts graph self.now → 0 < result → Yields result (is_piece graph program instr.now) graph number }
+    /// The same of the nodes in front, as long as more pieces are wanted.
+    pub fn pieces_in_front(
+        &self,
+        program: &[Routine],
+        instr: &Instr,
+        numbers: &[u32],
+        wanted: u32,
+    ) -> (usize, u32)
+        ensures passed { result.0 ≤ length numbers.now }
+        ensures within { result.1 ≤ wanted }
+        ensures taken { (graph : List Node) → AreCounts graph self.now → (more : List ℕ)
+            → taken wanted (is_piece graph program.now instr.now) graph (numbers.now ++ more)
+            ≡ taken (wanted - result.1) (is_piece graph program.now instr.now) graph (drop result.0 numbers.now ++ more) }
     {
-        let kind = match kind_of(instr) {
-            Some(kind) => kind,
-            None => return 0,
-        };
-        match self.of(kind) {
-            Some(counts) => count_at(counts.numbers.as_slice(), number),
-            None => 0,
+        match piece_of(program, instr) {
+            Some(piece) => self.front(piece, numbers, wanted),
+            None => (0, 0),
         }
     }
 }

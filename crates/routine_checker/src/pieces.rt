@@ -80,7 +80,7 @@ pub fn is_of(kind: RunKind, node: &Node) -> bool
 }
 
 /// The same of the node of a number. What stands past the end of a graph counts as an octet.
-fn is_of_at(nodes: &[Node], kind: RunKind, number: u32) -> bool
+pub fn is_of_at(nodes: &[Node], kind: RunKind, number: u32) -> bool
     ensures { result ≡ is_of kind (node_at nodes.now number) }
 {
     match nodes.get(number as usize) {

@@ -1,21 +1,13 @@
-//! A routine is followed instruction by instruction.
+//! The places of a routine are followed instruction by instruction.
 
-ghost use Rattle.std.specs.Prelude.{◌≡◌, ◌<◌, [], ◌∷◌, Ok, Err, IfOk, OnOk, IfErr};
-ghost use Rattle.type_graph.specs.declared.width.Width.TheVariants.{One};
+ghost use Rattle.std.specs.Prelude.{◌≡◌, ℕ, List, Some, Ok, Err, IfOk, IfErr};
 ghost use Rattle.type_graph.specs.Words.{wider};
-ghost use Rattle.routine_checker.specs.Steps.{Judged, step};
-ghost use Rattle.routine_checker.specs.inner.Work.{work_of};
-ghost use Rattle.routine_checker.specs.inner.Counts.{AreRunCounts};
-ghost use Rattle.routine_checker.specs.inner.Progress.{state_of};
-ghost use Rattle.routine_checker.specs.Refusal.{OnlyIf};
+ghost use Rattle.routine_checker.specs.Steps.{step};
+ghost use Rattle.routine_checker.specs.inner.Progress.{takes, state_of};
 
-use crate::counts::RunCounts;
 use crate::fault::{CheckFault, RoutinePlace};
 use crate::judge::{ends, enters, pads};
-use crate::pieces::pieces;
-use crate::work::{NodesTaken, Work};
 use marshal_program::{Instr, Routine};
-use std::alloc::{AllocError, Global};
 use type_graph::{Graph, Width};
 
 /// The wider of two gaps, which both together are.
@@ -30,52 +22,34 @@ fn wider(gap: Width, more: Width) -> Width
     }
 }
 
-/// How far a routine was followed: the work that is left, the positions that are possible in front
-/// of the gap that is made, and that gap.
-#[derive(Drop)]
-pub struct Progress<'g> {
-    pub work: Work<'g>,
+/// The positions that are possible in front of the gap that is made, and that gap.
+#[derive(Clone, Copy)]
+pub struct Reached {
     pub places: u8,
     pub gap: Width,
 }
 
-impl<'g> Progress<'g> {
-    /// At the start of a routine of the node, at one of the places.
-    pub fn new(alloc: Global, node: u32, places: u8) -> Result<Progress<'g>, AllocError>
-        ensures { IfOk result (λ progress. state_of progress ≡ record { work = node ∷ []; places = places; gap = One }) }
-    {
-        Ok(Progress {
-            work: Work::new(alloc, node)?,
-            places,
-            gap: Width::One,
-        })
-    }
-
-    /// Judges the work of the instruction with a number, then the entries of what it names, then the gaps.
+impl Reached {
+    /// Judges the entries of what the instruction with a number names, then the gaps. Its work is
+    /// there.
     pub fn step(
-        &mut self,
-        graph: &'g Graph,
-        counts: &RunCounts,
-        program: &'g [Routine],
+        self,
+        graph: &Graph,
+        program: &[Routine],
         at: RoutinePlace,
         n: u32,
-        instr: &'g Instr,
-    ) -> Result<(), CheckFault>
-        requires { AreRunCounts graph.now counts.now }
-        ensures ok { OnOk result (step graph.now program.now at n instr.now (state_of self.old) ≡ Ok (state_of self.new)) }
-        ensures refused { IfErr result (λ fault. OnlyIf fault (step graph.now program.now at n instr.now (state_of self.old) ≡ Err fault)) }
+        instr: &Instr,
+    ) -> Result<Reached, CheckFault>
+        ensures ok { IfOk result (λ next. (work rest : List ℕ) → takes graph.now program.now (Some instr.now) work ≡ Some rest
+            → step graph.now program.now at n instr.now (state_of work self) ≡ Ok (state_of rest next)) }
+        ensures refused { IfErr result (λ fault. (work rest : List ℕ) → takes graph.now program.now (Some instr.now) work ≡ Some rest
+            → step graph.now program.now at n instr.now (state_of work self) ≡ Err fault) }
     {
         if let Instr::Align { to } = instr {
-            self.gap = wider(self.gap, *to);
-            return Ok(());
-        }
-        let wanted = NodesTaken {
-            nodes: graph.nodes(),
-            program,
-            instr,
-        };
-        if !self.work.take(wanted, counts, pieces(instr))? {
-            return Err(CheckFault::WrongWork { at, instr: n });
+            return Ok(Reached {
+                places: self.places,
+                gap: wider(self.gap, *to),
+            });
         }
         if !enters(program, instr, self.places, self.gap) {
             return Err(CheckFault::EntryOutside { at, instr: n });
@@ -83,8 +57,9 @@ impl<'g> Progress<'g> {
         if !pads(graph, program, instr, self.places, self.gap) {
             return Err(CheckFault::WrongPadding { at, instr: n });
         }
-        self.places = ends(program, instr, self.places, self.gap);
-        self.gap = Width::One;
-        Ok(())
+        Ok(Reached {
+            places: ends(program, instr, self.places, self.gap),
+            gap: Width::One,
+        })
     }
 }

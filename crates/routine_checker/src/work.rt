@@ -3,10 +3,10 @@
 ghost use Rattle.std.specs.Prelude.{ℕ, List, ◌≡◌, ◌<◌, ◌≤◌, ◌-◌, [], ◌∷◌, ◌++◌, IfOk, IfSome, IfNone, IsTrue, IsFalse, Some, None, replicate};
 ghost use Rattle.type_graph.specs.Value.{node_at};
 ghost use Rattle.routine_checker.specs.Taking.{parts_of, taken_within, taken, is_done_within};
-ghost use Rattle.routine_checker.specs.inner.Counts.{AreRunCounts, Yields};
+ghost use Rattle.routine_checker.specs.inner.Counts.{AreCounts, Yields};
 ghost use Rattle.routine_checker.specs.inner.Work.{wants, held, held_of, work_of};
 
-use crate::counts::RunCounts;
+use crate::counts::Counts;
 use crate::pieces::is_piece;
 use marshal_program::{Instr, Routine};
 use std::alloc::{AllocError, Global};
@@ -29,14 +29,14 @@ impl<'g> NodesTaken<'g> {
 
     /// How many of them the node is made of, 0 where that isn't known.
     #[tactic(auto, using(crate::proofs::CountLaws::took_wanted))]
-    fn count(self, counts: &RunCounts, number: u32) -> u32
-        requires { AreRunCounts self.nodes.now counts.now }
+    fn count(self, counts: &Counts, number: u32) -> u32
+        requires { AreCounts self.nodes.now counts.now }
         ensures { 0 < result → Yields result (wants self.entry) self.entry.nodes.now number }
     {
         if self.is(number) {
             return 1;
         }
-        counts.pieces(self.instr, number)
+        counts.pieces(self.program, self.instr, number)
     }
 }
 
@@ -48,6 +48,15 @@ pub enum Item<'g> {
 }
 
 impl<'g> Item<'g> {
+    fn is_empty(self) -> bool
+        ensures { IsTrue result → held self.entry ≡ [] }
+    {
+        match self {
+            Item::Copies { n, .. } => n == 0,
+            Item::Numbers { numbers } => numbers.is_empty(),
+        }
+    }
+
     /// The first of them, how many of it follow one another here, and the rest.
     fn split(self) -> Option<(u32, u32, Item<'g>)>
         ensures some { IfSome result (λ split. held self.entry ≡ replicate split.1 split.0 ++ held split.2) }
@@ -92,15 +101,35 @@ fn parts_at(nodes: &[Node], number: u32) -> Option<Item<'_>>
 
 impl<'g> NodesTaken<'g> {
     /// What a node is opened into that is made of more than so many pieces.
-    fn parts_of_more(self, counts: &RunCounts, pieces: u32, number: u32) -> Option<Item<'g>>
+    fn parts_of_more(self, counts: &Counts, pieces: u32, number: u32) -> Option<Item<'g>>
         requires some { 0 < pieces }
-        requires counts { AreRunCounts self.nodes.now counts.now }
+        requires counts { AreCounts self.nodes.now counts.now }
         ensures { IfSome result (λ parts. (more : List ℕ) → taken pieces (wants self.entry) self.entry.nodes.now (number ∷ more) ≡ taken pieces (wants self.entry) self.entry.nodes.now (held parts ++ more)) }
     {
-        if self.is(number) || counts.pieces(self.instr, number) <= pieces {
+        if self.is(number) || counts.pieces(self.program, self.instr, number) <= pieces {
             return None;
         }
         parts_at(self.nodes, number)
+    }
+}
+
+impl<'g> NodesTaken<'g> {
+    /// How many pieces the nodes in front are made of, as long as more are wanted, and the nodes
+    /// behind these.
+    fn front(self, counts: &Counts, pieces: u32, item: Item<'g>) -> (u32, Item<'g>)
+        requires { AreCounts self.nodes.now counts.now }
+        ensures within { result.0 ≤ pieces }
+        ensures taken { (more : List ℕ) → taken pieces (wants self.entry) self.entry.nodes.now (held item.entry ++ more)
+            ≡ taken (pieces - result.0) (wants self.entry) self.entry.nodes.now (held result.1 ++ more) }
+    {
+        match item {
+            Item::Numbers { numbers } => {
+                let (passed, n) = counts.pieces_in_front(self.program, self.instr, numbers, pieces);
+                let (_, rest) = numbers.split_at(passed);
+                (n, Item::Numbers { numbers: rest })
+            }
+            Item::Copies { number, n } => (0, Item::Copies { number, n }),
+        }
     }
 }
 
@@ -120,11 +149,14 @@ impl<'g> Work<'g> {
         Ok(Work { items })
     }
 
-    /// Puts nodes in front.
-    #[tactic(auto, using(crate::proofs::WorkLaws::work_pushed))]
+    /// Puts nodes in front, if there are some.
+    #[tactic(auto, using(crate::proofs::WorkLaws::work_pushed, crate::proofs::WorkLaws::nothing_put))]
     fn put(&mut self, item: Item<'g>) -> Result<(), AllocError>
         ensures { IfOk result (λ done. work_of self.new.items.items ≡ held item.entry ++ work_of self.old.items.items) }
     {
+        if item.is_empty() {
+            return Ok(());
+        }
         self.items.push(item)?;
         Ok(())
     }
@@ -186,11 +218,11 @@ impl<'g> Work<'g> {
     fn open(
         &mut self,
         wanted: NodesTaken<'g>,
-        counts: &RunCounts,
+        counts: &Counts,
         pieces: u32,
     ) -> Result<(), AllocError>
         requires some { 0 < pieces }
-        requires counts { AreRunCounts wanted.nodes.now counts.now }
+        requires counts { AreCounts wanted.nodes.now counts.now }
         ensures { IfOk result (λ done. taken pieces (wants wanted.entry) wanted.entry.nodes.now (work_of self.old.items.items) ≡ taken pieces (wants wanted.entry) wanted.entry.nodes.now (work_of self.new.items.items)) }
     {
         for level in 0..64u32 {
@@ -219,11 +251,11 @@ impl<'g> Work<'g> {
     fn take_some(
         &mut self,
         wanted: NodesTaken<'g>,
-        counts: &RunCounts,
+        counts: &Counts,
         pieces: u32,
     ) -> Result<u32, AllocError>
         requires some { 0 < pieces }
-        requires counts { AreRunCounts wanted.nodes.now counts.now }
+        requires counts { AreCounts wanted.nodes.now counts.now }
         ensures within { IfOk result (λ n. n ≤ pieces) }
         ensures taken { IfOk result (λ n. 0 < n → taken pieces (wants wanted.entry) wanted.entry.nodes.now (work_of self.old.items.items) ≡ taken (pieces - n) (wants wanted.entry) wanted.entry.nodes.now (work_of self.new.items.items)) }
         ensures refused { IfOk result (λ n. n ≡ 0 → taken pieces (wants wanted.entry) wanted.entry.nodes.now (work_of self.old.items.items) ≡ None) }
@@ -245,21 +277,62 @@ impl<'g> Work<'g> {
         Ok(if self.take_one(wanted)? { 1 } else { 0 })
     }
 
+    /// Takes the nodes in front that are made of the wanted pieces, as long as more are wanted, and
+    /// tells how many pieces these are.
+    fn take_front(
+        &mut self,
+        wanted: NodesTaken<'g>,
+        counts: &Counts,
+        pieces: u32,
+    ) -> Result<u32, AllocError>
+        requires { AreCounts wanted.nodes.now counts.now }
+        ensures within { IfOk result (λ n. n ≤ pieces) }
+        ensures taken { IfOk result (λ n. taken pieces (wants wanted.entry) wanted.entry.nodes.now (work_of self.old.items.items) ≡ taken (pieces - n) (wants wanted.entry) wanted.entry.nodes.now (work_of self.new.items.items)) }
+    {
+        let item = match self.items.pop() {
+            Some(item) => item,
+            None => return Ok(0),
+        };
+        let (n, rest) = wanted.front(counts, pieces, item);
+        self.put(rest)?;
+        Ok(n)
+    }
+
+    /// Takes some of the wanted pieces, and tells how many; none where the first can't be taken.
+    fn take_more(
+        &mut self,
+        wanted: NodesTaken<'g>,
+        counts: &Counts,
+        pieces: u32,
+    ) -> Result<u32, AllocError>
+        requires some { 0 < pieces }
+        requires counts { AreCounts wanted.nodes.now counts.now }
+        ensures within { IfOk result (λ n. n ≤ pieces) }
+        ensures taken { IfOk result (λ n. 0 < n → taken pieces (wants wanted.entry) wanted.entry.nodes.now (work_of self.old.items.items) ≡ taken (pieces - n) (wants wanted.entry) wanted.entry.nodes.now (work_of self.new.items.items)) }
+        ensures refused { IfOk result (λ n. n ≡ 0 → taken pieces (wants wanted.entry) wanted.entry.nodes.now (work_of self.old.items.items) ≡ None) }
+    {
+        let n = self.take_front(wanted, counts, pieces)?;
+        if n > 0 {
+            return Ok(n);
+        }
+        self.open(wanted, counts, pieces)?;
+        self.take_some(wanted, counts, pieces)
+    }
+
     /// Takes so many pieces of an instruction, and tells whether they were there.
     pub fn take(
         &mut self,
         wanted: NodesTaken<'g>,
-        counts: &RunCounts,
+        counts: &Counts,
         pieces: u32,
     ) -> Result<bool, AllocError>
-        requires { AreRunCounts wanted.nodes.now counts.now }
+        requires { AreCounts wanted.nodes.now counts.now }
         ensures taken { IfOk result (λ took. IsTrue took → taken pieces (wants wanted.entry) wanted.entry.nodes.now (work_of self.old.items.items) ≡ Some (work_of self.new.items.items)) }
         ensures refused { IfOk result (λ took. IsFalse took → taken pieces (wants wanted.entry) wanted.entry.nodes.now (work_of self.old.items.items) ≡ None) }
     {
         let mut left = pieces;
         while left > 0 {
-            self.open(wanted, counts, left)?;
-            let n = self.take_some(wanted, counts, left)?;
+            let n = self.take_more(wanted, counts, left)?;
             if n == 0 {
                 return Ok(false);
             }

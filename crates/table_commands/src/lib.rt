@@ -4,6 +4,7 @@
 #![tactic(auto)]
 
 mod builtin;
+mod escaped;
 mod named;
 mod object;
 mod reference;

@@ -4,6 +4,7 @@ ghost use Rattle.std.specs.Prelude.{◌≡◌};
 ghost use Rattle.table_commands.specs.declared.refusal.Refusal.TheVariants.{NoMemory};
 ghost use Rattle.table_commands.specs.Refusal.{refusal_of_check, refusal_of_file, refusal_of_reference, refusal_of_run};
 
+use crate::escaped::Escaped;
 use marshal_program::TableFault;
 use object_references::ReferenceFault;
 use position_checker::CheckFault;
@@ -28,7 +29,7 @@ pub enum Refusal<'a> {
     #[error("too long")]
     TooLong,
     /// The table has no type of that name.
-    #[error("no type {name}")]
+    #[error("no type {}", Escaped(.name))]
     NoType { name: &'a str },
     /// An odd number of digits, or a character that is none.
     #[error("bad hex")]
@@ -40,7 +41,7 @@ pub enum Refusal<'a> {
     #[error("bad object")]
     BadObject,
     /// The table has no interface of that name.
-    #[error("no interface {name}")]
+    #[error("no interface {}", Escaped(.name))]
     NoInterface { name: &'a str },
     /// There is no reference with these parts.
     #[error(transparent)]

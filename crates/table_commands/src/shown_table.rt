@@ -1,5 +1,6 @@
 //! Tables as text.
 
+use crate::escaped::Escaped;
 use crate::shown_program::ShownProgram;
 use position_checker::Accepted;
 use std::alloc::{AllocError, Global};
@@ -21,7 +22,7 @@ struct ShownName<'t> {
 
 impl fmt::Display for ShownName<'_> {
     fn fmt<W: fmt::Write>(&self, f: &mut fmt::Formatter<W>) -> fmt::Result {
-        write!(f, "name {} node {}", self.name, self.node)?;
+        write!(f, "name {} node {}", Escaped(self.name), self.node)?;
         if let Some(program) = self.table.program_of(self.name) {
             write!(f, " program {}", program.number())?;
         }

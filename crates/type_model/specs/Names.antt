@@ -3,10 +3,11 @@ use Rattle.std.specs.Prelude.{◌≡◌, ◌≢◌, ◌↔◌, ℕ, ◌<◌, Boo
 use Rattle.std.specs.declared.string.String.{String}
 use Rattle.std.specs.declared.alloc.Global.{Global}
 use Rattle.std.specs.String.{string_bytes}
-
--- what a map's entries say: each name with its node
-abbrev pub pairs_of : List (String Global × ℕ) → List (List ℕ × ℕ)
-pairs_of entries = map (λ entry. (string_bytes entry.0, entry.1)) entries
+use Rattle.std.specs.Str.{bytes_eq}
+use Rattle.std.specs.BTreeMap.{is_at}
+use Rattle.std.specs.Map.{lookup}
+use Rattle.std.specs.Cmp.Lexicographic.{slice_cmp}
+use Rattle.std.specs.Ordering.{nat_cmp}
 
 -- no name stands twice
 abbrev pub AreDistinct : List (List ℕ × ℕ) → Type 0
@@ -25,7 +26,13 @@ IsNamed names node = Contains (map (λ name. name.1) names) node
 abbrev pub AreMarks : List ℕ → List Bool → Type 0
 AreMarks numbers marks = (number : ℕ) → (slice_index_or marks number false ≡ true) ↔ Contains numbers number
 
+-- the map finds just the names of the list
+abbrev pub IsMapOf : List (List ℕ × ℕ) → List (String Global × ℕ) → Type 0
+IsMapOf names entries =
+    (name : List ℕ) → lookup (is_at (λ key. slice_cmp nat_cmp name (string_bytes key))) entries ≡ lookup (bytes_eq name) names
+
 -- what a table of names keeps
-pub record IsTable (names : List (List ℕ × ℕ)) (marks : List Bool) : Type 0 where
+pub record IsTable (names : List (List ℕ × ℕ)) (entries : List (String Global × ℕ)) (marks : List Bool) : Type 0 where
   pub distinct : AreDistinct names
+  pub mapped : IsMapOf names entries
   pub marked : AreMarks (map (λ name. name.1) names) marks

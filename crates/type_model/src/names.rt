@@ -2,12 +2,11 @@
 
 ghost use Rattle.std.specs.Prelude.{◌≡◌, ◌≢◌, ◌<◌, ◌≤◌, ◌↔◌, ℕ, List, All, Contains, length, slice_get, slice_index_or, map, IfSome, IfNone, IfOk, IfErr, OnOk, IsTrue, Some, true, false};
 ghost use Rattle.std.specs.String.{string_bytes};
-ghost use Rattle.indexmap.specs.IndexMap.{values};
-ghost use Rattle.type_model.specs.Names.{AreDistinct, AreNames, AreMarks, IsNamed, pairs_of};
+ghost use Rattle.type_model.specs.Names.{AreDistinct, AreNames, AreMarks, IsMapOf, IsNamed};
 ghost use Rattle.type_graph.specs.Refusal.{OnlyIf};
 
-use indexmap::IndexMap;
 use std::alloc::Global;
+use std::collections::BTreeMap;
 use std::marker::Model;
 use type_graph::{GraphFault, Items};
 
@@ -48,35 +47,39 @@ impl Name {
     }
 }
 
-/// Names that differ, looked up by their text and told from their nodes. A contract sees the names
-/// in order of declaration.
+/// Names that differ, looked up by their text and told from their nodes. They are sought by the
+/// order of their octets, so that no choice of names makes that slow. A contract sees the names in
+/// order of declaration.
 #[derive(Drop)]
 pub struct NameTable {
-    nodes: IndexMap<String, u32>,
+    names: Vec<(Name, u32)>,
+    nodes: BTreeMap<String, u32>,
     /// True at the number of each node that has a name.
     marks: Vec<bool>,
 }
 
 impl Model for NameTable {
     ghost use Rattle.std.specs.Prelude.{ℕ, List};
-    ghost use Rattle.type_model.specs.Names.{IsTable, pairs_of};
+    ghost use Rattle.type_model.specs.Names.{IsTable};
 
     ghost Value = { List (List ℕ × ℕ) };
 
-    ghost view = { λ t. pairs_of t.nodes.entries };
+    ghost view = { λ t. t.names.items };
 
-    ghost invariant = { λ t. IsTable (pairs_of t.nodes.entries) t.marks.items };
+    ghost invariant = { λ t. IsTable t.names.items t.nodes.entries t.marks.items };
 }
 
-/// The map from names to nodes, in the order of the list.
-fn map_of(alloc: Global, names: Items<(Name, u32)>) -> Result<IndexMap<String, u32>, GraphFault>
-    ensures kept { IfOk result (λ nodes. pairs_of nodes.entries ≡ names) }
-    ensures distinct { OnOk result (AreDistinct names) }
-    ensures refused { IfErr result (λ fault. OnlyIf fault (AreDistinct names → ⊥)) }
+/// The map from names to nodes.
+fn map_of(alloc: Global, names: &[(Name, u32)]) -> Result<BTreeMap<String, u32>, GraphFault>
+    ensures map { IfOk result (λ nodes. IsMapOf names.now nodes.entries) }
+    ensures distinct { OnOk result (AreDistinct names.now) }
+    ensures refused { IfErr result (λ fault. OnlyIf fault (AreDistinct names.now → ⊥)) }
 {
-    let mut nodes = IndexMap::new(alloc);
-    for (name, node) in names.into_vec() {
-        if nodes.insert(name.into_string(), node)?.is_some() {
+    let mut nodes = BTreeMap::new(alloc);
+    for place in 0..names.len() {
+        let (name, node) = &names[place];
+        let key = String::from_str(alloc, name.as_str())?;
+        if nodes.insert(key, *node)?.is_some() {
             return Err(GraphFault::BadNode);
         }
     }
@@ -84,18 +87,14 @@ fn map_of(alloc: Global, names: Items<(Name, u32)>) -> Result<IndexMap<String, u
 }
 
 /// True at each number below the count that a name has.
-fn marks_of(
-    alloc: Global,
-    nodes: &IndexMap<String, u32>,
-    count: usize,
-) -> Result<Vec<bool>, GraphFault>
-    ensures marks { IfOk result (λ marks. AreMarks (values nodes.now) marks.items) }
-    ensures within { OnOk result (All (λ number. number < count) (values nodes.now)) }
-    ensures refused { IfErr result (λ fault. OnlyIf fault (All (λ number. number < count) (values nodes.now) → ⊥)) }
+fn marks_of(alloc: Global, names: &[(Name, u32)], count: usize) -> Result<Vec<bool>, GraphFault>
+    ensures marks { IfOk result (λ marks. AreMarks (map (λ name. name.1) names.now) marks.items) }
+    ensures within { OnOk result (All (λ number. number < count) (map (λ name. name.1) names.now)) }
+    ensures refused { IfErr result (λ fault. OnlyIf fault (All (λ number. number < count) (map (λ name. name.1) names.now) → ⊥)) }
 {
     let mut marks = vec![in alloc; false; count]?;
-    for place in 0..nodes.len() {
-        let node = nodes[place] as usize;
+    for place in 0..names.len() {
+        let node = names[place].1 as usize;
         if node >= count {
             return Err(GraphFault::BadNode);
         }
@@ -118,9 +117,14 @@ impl NameTable {
         ensures rules { OnOk result (AreNames count names) }
         ensures refused { IfErr result (λ fault. OnlyIf fault (AreNames count names → ⊥)) }
     {
-        let nodes = map_of(alloc, names)?;
-        let marks = marks_of(alloc, &nodes, count)?;
-        Ok(NameTable { nodes, marks })
+        let names = names.into_vec();
+        let nodes = map_of(alloc, names.as_slice())?;
+        let marks = marks_of(alloc, names.as_slice(), count)?;
+        Ok(NameTable {
+            names,
+            nodes,
+            marks,
+        })
     }
 
     /// How many names there are.
@@ -128,13 +132,13 @@ impl NameTable {
         ensures value { result ≡ length self.now }
         ensures distinct { AreDistinct self.now }
     {
-        self.nodes.len()
+        self.names.len()
     }
 
     pub fn is_empty(&self) -> bool
         ensures { IsTrue result ↔ (length self.now ≡ 0) }
     {
-        self.nodes.is_empty()
+        self.names.is_empty()
     }
 
     /// The name at a place in the order of declaration, and its node.
@@ -143,7 +147,7 @@ impl NameTable {
         ensures value { slice_get self.now place ≡ Some (result.0.now, result.1) }
         ensures distinct { AreDistinct self.now }
     {
-        let (name, node) = self.nodes.get_index(place).unwrap();
+        let (name, node) = &self.names[place];
         (name.as_str(), *node)
     }
 

@@ -7,4 +7,4 @@ pub returns : goal.returns
 returns c =
     let over : c.args.pieces < c.pieces.result = omega (arith, c.if-pieces.false) in
     more_opened c.pieces.result c.args.pieces (wants c.args.self) c.args.self.nodes.now c.args.number c.parts_at.result c.requires.some over
-    (c.pieces.ensures c.args.self.nodes.now c.args.self.program.now c.requires.counts) (sym c.is.ensures ∙ c.if-is.false) c.parts_at.ensures
+    (c.pieces.ensures c.args.self.nodes.now c.requires.counts) (sym c.is.ensures ∙ c.if-is.false) c.parts_at.ensures
