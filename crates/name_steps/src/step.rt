@@ -43,6 +43,9 @@ pub enum Step<'a, 't> {
     Says(Leaf<'a>),
 }
 
+// `'a` stands before `'t`, so that it is the second lifetime in each method, as in functions over a
+// part of the tree: a call whose sides count it differently takes the check up to twenty seconds.
+
 /// Steps in order. A contract sees them as steps of the tree.
 #[derive(Drop)]
 pub struct Steps<'a, 't> {
