@@ -37,7 +37,7 @@ fn members_of<'t, 'a>(e: &'t Except<'a>) -> &'t [Member<'a>]
     e.members.as_slice()
 }
 
-impl<'t, 'a> Steps<'t, 'a> {
+impl<'a, 't> Steps<'a, 't> {
     fn add_typedef(
         &mut self,
         original: &'t TypeSpec<'a>,

@@ -13,7 +13,7 @@ use std::alloc::{AllocError, Global};
 
 /// One thing that is asked, in the scope that was entered last and not left yet. `'t` is the tree's.
 #[derive(Clone, Copy)]
-pub enum Step<'t, 'a> {
+pub enum Step<'a, 't> {
     Declares(EntryKind, Leaf<'a>),
     DeclaresEnum(Leaf<'a>),
     /// An enumerator of the last enumeration.
@@ -43,13 +43,16 @@ pub enum Step<'t, 'a> {
     Says(Leaf<'a>),
 }
 
+// `'a` stands before `'t`, so that it is the second lifetime in each method, as in functions over a
+// part of the tree: a call whose sides count it differently takes the check up to twenty seconds.
+
 /// Steps in order. A contract sees them as steps of the tree.
 #[derive(Drop)]
-pub struct Steps<'t, 'a> {
-    pub list: Vec<Step<'t, 'a>>,
+pub struct Steps<'a, 't> {
+    pub list: Vec<Step<'a, 't>>,
 }
 
-impl<'t, 'a> Steps<'t, 'a> {
+impl<'a, 't> Steps<'a, 't> {
     /// No steps. Takes no memory.
     pub fn new(alloc: Global) -> Self
         ensures { steps_in result ≡ [] }
@@ -60,14 +63,14 @@ impl<'t, 'a> Steps<'t, 'a> {
     }
 
     /// The steps in order.
-    pub fn as_slice(&self) -> &[Step<'t, 'a>]
+    pub fn as_slice(&self) -> &[Step<'a, 't>]
         ensures { result.now ≡ self.now.list.items }
     {
         self.list.as_slice()
     }
 
     /// One step more.
-    pub(crate) fn push(&mut self, step: Step<'t, 'a>) -> Result<(), AllocError>
+    pub(crate) fn push(&mut self, step: Step<'a, 't>) -> Result<(), AllocError>
         ensures { OnOk result (steps_in self.new ≡ steps_in self.old ++ step_of step.entry ∷ []) }
     {
         self.list.push(step)?;

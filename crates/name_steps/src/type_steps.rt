@@ -55,7 +55,7 @@ fn first_case<'t, 'a>(u: &'t UnionType<'a>) -> &'t Case<'a>
     &u.first
 }
 
-impl<'t, 'a> Steps<'t, 'a> {
+impl<'a, 't> Steps<'a, 't> {
     fn add_bound(&mut self, bound: &'t Option<Bound<'a>>) -> Result<(), AllocError>
         ensures { OnOk result (steps_in self.new ≡ steps_in self.old ++ bound_steps bound.now) }
     {

@@ -1,5 +1,5 @@
 -- What constant expressions are worth where names are found by their scope (ISO/IEC 19500-1, constant declaration).
-use Rattle.std.specs.Prelude.{◌≡◌, ◌⊎◌, ℕ, nat_lt, cond, length, List, Option, Some, None, slice_get}
+use Rattle.std.specs.Prelude.{ℕ, nat_lt, cond, length, List, Option, Some, None, slice_get}
 use Rattle.idl_tree.specs.declared.names.ScopedName.{ScopedName}
 use Rattle.idl_tree.specs.declared.expression.Expr.{Expr}
 use Rattle.idl_tree.specs.declared.types.Declarator.{Declarator}
@@ -8,10 +8,6 @@ use Rattle.const_values.specs.declared.kind.ConstKind.{ConstKind}
 use Rattle.const_values.specs.Kinds.{of_kind}
 use Rattle.const_values.specs.Worth.{worth, whole_number, positive}
 use Rattle.name_table.specs.Entry.{Entry, worth_in, meant_in}
-use Rattle.idl_tree.specs.declared.names.At.{At}
-use Rattle.scoped_names.specs.declared.fault.Flaw.TheVariants.{NoWorth}
-use Rattle.scoped_names.specs.declared.fault.NameFault.{NameFault}
-use Rattle.scoped_names.specs.declared.fault.NameFault.TheVariants.{NoMemory, BadConstant}
 use Rattle.name_table.specs.declared.search.Found.{Found}
 use Rattle.name_table.specs.declared.search.Found.TheVariants.{Nothing, One, Several}
 use Rattle.name_table.specs.Search.{finds}
@@ -32,10 +28,6 @@ worth_in_scope es scope e = worth (named_worth es scope) e
 -- a bound or a size
 abbrev pub size_in_scope : List Entry → ℕ → Expr → Option ℕ
 size_in_scope es scope e = positive (whole_number (worth_in_scope es scope e))
-
--- why there is none: memory was refused, or there is none, which is told of the place
-abbrev pub Explains : {T : Type 0} → At → Option T → NameFault → Type 0
-Explains here w fault = (fault ≡ NoMemory) ⊎ ((w ≡ None) × (fault ≡ BadConstant here NoWorth))
 
 -- ---- types of constants
 

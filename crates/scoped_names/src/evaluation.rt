@@ -1,8 +1,8 @@
 //! What constant expressions are worth where names are found by their scope.
 
-ghost use Rattle.std.specs.Prelude.{◌≡◌, ◌≤◌, ◌<◌, length, slice_get, Some, IfOk, IfErr};
-ghost use Rattle.const_values.specs.Worth.{worth, whole_number, operator_applied};
-ghost use Rattle.scoped_names.specs.Constants.{Explains, named_worth};
+ghost use Rattle.std.specs.Prelude.{◌≡◌, ◌≤◌, ◌<◌, length, slice_get, IfOk};
+ghost use Rattle.const_values.specs.Worth.{operator_applied, sign_applied, whole_constant, whole_number, worth};
+ghost use Rattle.scoped_names.specs.Constants.{named_worth};
 ghost use Rattle.scoped_names.specs.Reading.{Checks, Gives};
 ghost use Rattle.scoped_names.specs.Tests.{at_entry, constant_test, found_at as found_at_place, names_test, resolved, size_read, value_of_type, value_read};
 
@@ -11,61 +11,38 @@ use const_values::{ConstKind, Constant, applied, literal_constant, signed, text_
 use idl_tree::expression::{Expr, Operator, Sign};
 use idl_tree::names::{At, ScopedName};
 use name_table::{Sight, Table};
-use std::alloc::Global;
+use std::alloc::{AllocError, Global};
 
-/// The number, if the constant is a whole one.
-fn whole(constant: Constant, at: At) -> Result<i128, NameFault>
-    ensures ok { IfOk result (λ z. whole_number (Some constant) ≡ Some z) }
-    ensures err { IfErr result (Explains at (whole_number (Some constant))) }
+/// The number, if it is a whole one.
+fn whole(constant: Option<Constant>) -> Option<i128>
+    ensures { result ≡ whole_number constant }
 {
     match constant {
-        Constant::Whole(value) => Ok(value),
-        _ => Err(NameFault::BadConstant {
-            at,
-            why: Flaw::NoWorth,
-        }),
+        Some(Constant::Whole(value)) => Some(value),
+        _ => None,
     }
 }
 
-fn some_or_bad(value: Option<i128>, at: At) -> Result<i128, NameFault>
-    ensures ok { IfOk result (λ z. value ≡ Some z) }
-    ensures err { IfErr result (Explains at value) }
+fn whole_constant(value: Option<i128>) -> Option<Constant>
+    ensures { result ≡ whole_constant value }
 {
     match value {
-        Some(value) => Ok(value),
-        None => Err(NameFault::BadConstant {
-            at,
-            why: Flaw::NoWorth,
-        }),
+        Some(value) => Some(Constant::Whole(value)),
+        None => None,
     }
 }
 
-fn constant_or_bad(value: Option<Constant>, at: At) -> Result<Constant, NameFault>
-    ensures ok { IfOk result (λ c. value ≡ Some c) }
-    ensures err { IfErr result (Explains at value) }
+fn with_sign(sign: Sign, value: Option<i128>) -> Option<i128>
+    ensures { result ≡ sign_applied sign value }
 {
-    match value {
-        Some(value) => Ok(value),
-        None => Err(NameFault::BadConstant {
-            at,
-            why: Flaw::NoWorth,
-        }),
-    }
+    signed(sign, value?)
 }
 
-/// An operator between a number and the constant behind it.
-fn joined(operator: Operator, left: i128, right: Constant, at: At) -> Result<i128, NameFault>
-    ensures ok { IfOk result (λ z. operator_applied operator (Some left) (whole_number (Some right)) ≡ Some z) }
-    ensures err { IfErr result (Explains at
-        (operator_applied operator (Some left) (whole_number (Some right)))) }
+/// An operator between two numbers.
+fn joined(operator: Operator, left: Option<i128>, right: Option<i128>) -> Option<i128>
+    ensures { result ≡ operator_applied operator left right }
 {
-    match right {
-        Constant::Whole(right) => some_or_bad(applied(operator, left, right), at),
-        _ => Err(NameFault::BadConstant {
-            at,
-            why: Flaw::NoWorth,
-        }),
-    }
+    applied(operator, left?, right?)
 }
 
 /// Where an entry is declared first.
@@ -156,62 +133,51 @@ fn test_names<'a>(table: &Table<'a>, scope: usize, expr: &Expr<'a>) -> Result<()
     }
 }
 
-/// What a name is worth.
+/// What a name is worth, if it stands for a constant.
 fn name_worth<'a>(
     table: &Table<'a>,
     scope: usize,
     name: &ScopedName<'a>,
-    at: At,
-) -> Result<Constant, NameFault>
+) -> Result<Option<Constant>, AllocError>
     requires { scope ≤ length table.now }
-    ensures ok { IfOk result (λ c. named_worth table.now scope name.now ≡ Some c) }
-    ensures err { IfErr result (Explains at (named_worth table.now scope name.now)) }
+    ensures { IfOk result (λ c. c ≡ named_worth table.now scope name.now) }
 {
     match resolve(table, scope, name) {
         Ok(entry) => match table.constant(entry) {
-            Some(constant) => Ok(constant.shared()?),
-            None => Err(NameFault::BadConstant {
-                at,
-                why: Flaw::NoWorth,
-            }),
+            Some(constant) => Ok(Some(constant.shared()?)),
+            None => Ok(None),
         },
-        Err(_) => Err(NameFault::BadConstant {
-            at,
-            why: Flaw::NoWorth,
-        }),
+        Err(_) => Ok(None),
     }
 }
 
-fn worth_at<'a>(
+/// What an expression is worth, if it has a worth.
+fn worth<'a>(
     table: &Table<'a>,
     alloc: Global,
     scope: usize,
     expr: &Expr<'a>,
-    at: At,
-) -> Result<Constant, NameFault>
+) -> Result<Option<Constant>, AllocError>
     requires { scope ≤ length table.now }
-    ensures ok { IfOk result (λ c. worth (named_worth table.now scope) expr.now ≡ Some c) }
-    ensures err { IfErr result (Explains at (worth (named_worth table.now scope) expr.now)) }
+    ensures { IfOk result (λ c. c ≡ worth (named_worth table.now scope) expr.now) }
 {
     match expr {
-        Expr::Name(name) => name_worth(table, scope, name, at),
-        Expr::Number(leaf) | Expr::Character(leaf) => {
-            constant_or_bad(literal_constant(leaf), at)
-        }
-        Expr::Text(literals) => constant_or_bad(text_constant(alloc, literals)?, at),
-        Expr::Boolean { value, .. } => Ok(Constant::Boolean(*value)),
-        Expr::Parenthesized { inner, .. } => worth_at(table, alloc, scope, inner, at),
+        Expr::Name(name) => name_worth(table, scope, name),
+        Expr::Number(leaf) | Expr::Character(leaf) => Ok(literal_constant(leaf)),
+        Expr::Text(literals) => text_constant(alloc, literals),
+        Expr::Boolean { value, .. } => Ok(Some(Constant::Boolean(*value))),
+        Expr::Parenthesized { inner, .. } => worth(table, alloc, scope, inner),
         Expr::Signed { sign, operand, .. } => {
-            let value = whole(worth_at(table, alloc, scope, operand, at)?, at)?;
-            Ok(Constant::Whole(some_or_bad(signed(*sign, value), at)?))
+            let value = whole(worth(table, alloc, scope, operand)?);
+            Ok(whole_constant(with_sign(*sign, value)))
         }
         Expr::Chain { first, rest } => {
-            let mut value = whole(worth_at(table, alloc, scope, first, at)?, at)?;
+            let mut value = whole(worth(table, alloc, scope, first)?);
             for part in rest {
-                let operand = worth_at(table, alloc, scope, &part.operand, at)?;
-                value = joined(part.operator, value, operand, at)?;
+                let operand = whole(worth(table, alloc, scope, &part.operand)?);
+                value = joined(part.operator, value, operand);
             }
-            Ok(Constant::Whole(value))
+            Ok(whole_constant(value))
         }
     }
 }
@@ -231,7 +197,13 @@ pub(crate) fn value<'a>(
     ensures { Gives result (value_read table.now scope expr.now) }
 {
     test_names(table, scope, expr)?;
-    worth_at(table, alloc, scope, expr, expr.start().at())
+    match worth(table, alloc, scope, expr)? {
+        Some(constant) => Ok(constant),
+        None => Err(NameFault::BadConstant {
+            at: expr.start().at(),
+            why: Flaw::NoWorth,
+        }),
+    }
 }
 
 /// What it is worth as a bound or a size, which is a whole number of at least 1.

@@ -245,7 +245,7 @@ impl<'a> Reader<'a> {
     }
 
     /// A step that asks something of what is known.
-    fn read_test(&self, alloc: Global, step: &Step<'_, 'a>) -> Result<(), NameFault>
+    fn read_test(&self, alloc: Global, step: &Step<'a, '_>) -> Result<(), NameFault>
         ensures { Checks result (test_of self.now (step_of step.now)) }
     {
         let (table, scope) = (self.table(), self.scope());
@@ -269,7 +269,7 @@ impl<'a> Reader<'a> {
     }
 
     /// One step.
-    fn read_step(&mut self, alloc: Global, step: &Step<'_, 'a>) -> Result<(), NameFault>
+    fn read_step(&mut self, alloc: Global, step: &Step<'a, '_>) -> Result<(), NameFault>
         requires { Follows (latest self.old.entries) (step_of step.now) }
         ensures { Tells result self.new (step_read self.old (step_of step.now)) }
     {
@@ -300,7 +300,7 @@ impl<'a> Reader<'a> {
     }
 
     /// Steps one behind another.
-    pub fn read_steps(&mut self, alloc: Global, steps: &[Step<'_, 'a>]) -> Result<(), NameFault>
+    pub fn read_steps(&mut self, alloc: Global, steps: &[Step<'a, '_>]) -> Result<(), NameFault>
         requires { Rises (latest self.old.entries) (map step_of steps.now) }
         ensures { Tells result self.new (steps_read self.old (map step_of steps.now)) }
     {
@@ -314,7 +314,7 @@ impl<'a> Reader<'a> {
     fn read_listed<'t>(
         &mut self,
         alloc: Global,
-        steps: &mut Steps<'t, 'a>,
+        steps: &mut Steps<'a, 't>,
         d: &'t Definition<'a>,
     ) -> Result<(), NameFault>
         requires none { steps_in steps.old ≡ [] }

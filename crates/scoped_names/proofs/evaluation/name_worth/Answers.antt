@@ -1,10 +1,10 @@
-use Rattle.std.proofs.Common.{◌∙◌, inr, refl, sym}
+use Rattle.std.proofs.Common.{◌∙◌, sym}
 use Rattle.idl_tree.specs.Starts.{name_start, leaf_at as at}
 use Rattle.name_table.specs.Search.{sees}
 use Rattle.scoped_names.proofs.ChainWorth.{not_found}
 use Rattle.scoped_names.proofs.evaluation.name_worth.Goals as goal
 
-pub returns-in-Err-clause-err : goal.returns-in-Err-clause-err
-returns-in-Err-clause-err c =
+pub returns-in-Err : goal.returns-in-Err
+returns-in-Err c =
     let name = c.args.name.now in
-    inr (not_found c.args.table.now (at (name_start name)) (sees c.args.table.now c.args.scope name) _ (sym c.resolve.ensures.told ∙ c.in-Err.is), refl)
+    sym (not_found c.args.table.now (at (name_start name)) (sees c.args.table.now c.args.scope name) _ (sym c.resolve.ensures.told ∙ c.in-Err.is))
