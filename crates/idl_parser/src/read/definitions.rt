@@ -80,12 +80,10 @@ fn read_interface<'a>(
         got!(add_interface(definitions, Interface::Ahead(identifier)));
         return cursor.mark(";");
     }
-    let bases = got!(read_bases(cursor));
-    let exports = got!(read_exports(cursor, room));
     let interface = Interface::Defined {
         identifier,
-        bases,
-        exports,
+        bases: got!(read_bases(cursor)),
+        exports: got!(read_exports(cursor, room)),
     };
     got!(add_interface(definitions, interface));
     cursor.mark(";")
@@ -100,8 +98,7 @@ fn read_declared<'a>(
     ensures { IfOk result (λ _. Added definition_yield definition_levels room
         definitions.old.items definitions.new.items cursor.old cursor.new) }
 {
-    let declaration = got!(read_declaration(cursor, room));
-    got!(add_declaration(definitions, declaration));
+    got!(add_declaration(definitions, got!(read_declaration(cursor, room))));
     cursor.mark(";")
 }
 
@@ -135,11 +132,13 @@ fn add_module<'a>(
     ensures { IfOk result (λ _. HasModule name.entry inside.entry.items
         definitions.old.items definitions.new.items) }
 {
-    let module = Module {
-        identifier: name,
-        definitions: inside,
-    };
-    add_definition(definitions, Definition::Module(module))
+    add_definition(
+        definitions,
+        Definition::Module(Module {
+            identifier: name,
+            definitions: inside,
+        }),
+    )
 }
 
 /// Reads a definition and adds it.
@@ -157,8 +156,8 @@ fn read_definition<'a>(
     }
     let (name, left) = got!(read_opened(cursor, "module", room));
     let inside = got!(read_definitions(cursor, left));
-    got!(cursor.mark("}"));
     got!(add_module(definitions, name, inside));
+    got!(cursor.mark("}"));
     cursor.mark(";")
 }
 
