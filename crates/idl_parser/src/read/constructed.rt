@@ -97,13 +97,6 @@ pub(crate) fn read_type<'a>(cursor: &mut Cursor<'a>, room: usize) -> Result<Type
     }
 }
 
-/// Adds a member. What holds one goes through this function, so that few functions do.
-fn add_member<'a>(members: &mut Vec<Member<'a>>, member: Member<'a>) -> Result<(), Stop>
-    ensures { IfOk result (λ _. members.new.items ≡ members.old.items ++ member.entry ∷ []) }
-{
-    add(members, member)
-}
-
 /// Reads a member and adds it.
 #[cycle(constructed)]
 fn read_member<'a>(
@@ -118,7 +111,7 @@ fn read_member<'a>(
         member_type: got!(read_type(cursor, room)),
         declarators: got!(read_listed(cursor, room)),
     };
-    got!(add_member(members, member));
+    got!(add(members, member));
     cursor.mark(";")
 }
 
@@ -173,13 +166,6 @@ pub(crate) fn read_struct<'a>(cursor: &mut Cursor<'a>, room: usize) -> Result<St
     structure(cursor.alloc(), name, members)
 }
 
-/// Adds a case. What holds one goes through this function, so that few functions do.
-fn add_case<'a>(cases: &mut Vec<Case<'a>>, case: Case<'a>) -> Result<(), Stop>
-    ensures { IfOk result (λ _. cases.new.items ≡ cases.old.items ++ case.entry ∷ []) }
-{
-    add(cases, case)
-}
-
 /// Reads a case and adds it.
 #[cycle(constructed)]
 fn read_case<'a>(
@@ -195,7 +181,7 @@ fn read_case<'a>(
         member_type: got!(read_type(cursor, room)),
         declarator: got!(read_declarator(cursor, room)),
     };
-    got!(add_case(cases, case));
+    got!(add(cases, case));
     cursor.mark(";")
 }
 

@@ -67,13 +67,6 @@ fn read_union_dcl<'a>(cursor: &mut Cursor<'a>, room: usize) -> Result<TypeDcl<'a
     Ok(TypeDcl::Union(got!(read_union(cursor, room))))
 }
 
-fn read_enum_dcl<'a>(cursor: &mut Cursor<'a>, room: usize) -> Result<TypeDcl<'a>, Stop>
-    ensures spells { IfOk result (λ t. Parsed cursor.old (type_dcl_yield t) cursor.new) }
-    ensures levels { IfOk result (λ t. type_dcl_levels t ≤ room) }
-{
-    Ok(TypeDcl::Enum(got!(read_enum(cursor, room))))
-}
-
 fn read_type_dcl<'a>(cursor: &mut Cursor<'a>, room: usize) -> Result<TypeDcl<'a>, Stop>
     ensures spells { IfOk result (λ t. Parsed cursor.old (type_dcl_yield t) cursor.new) }
     ensures levels { IfOk result (λ t. type_dcl_levels t ≤ room) }
@@ -85,7 +78,7 @@ fn read_type_dcl<'a>(cursor: &mut Cursor<'a>, room: usize) -> Result<TypeDcl<'a>
         return read_union_dcl(cursor, room);
     }
     if cursor.is_keyword("enum") {
-        return read_enum_dcl(cursor, room);
+        return Ok(TypeDcl::Enum(got!(read_enum(cursor, room))));
     }
     read_typedef(cursor, room)
 }

@@ -55,7 +55,7 @@ read_member-returns t c =
     let names = c.in-Ok-read_listed in
     added_ended member_yield member_levels c.args.room _ _ _ (type_yield type.part ++ listed declarator_yield names.part) (mark (codes ";")) _ _
     (record { member_type = type.part; declarators = names.part }) c.mark.result (part_then type.ensures.spells names.ensures.spells) refl
-    (omega (arith, type.ensures.levels, names.ensures.levels)) c.in-Ok-add_member.ensures c.mark.ensures
+    (omega (arith, type.ensures.levels, names.ensures.levels)) c.in-Ok-add.ensures c.mark.ensures
 
 pub read_case-returns : goal.read_case-returns
 read_case-returns t c =
@@ -65,7 +65,7 @@ read_case-returns t c =
     added_ended case_yield case_levels c.args.room _ _ _ (in_order label_yield labels.part ++ type_yield type.part ++ declarator_yield name.part) (mark (codes ";")) _ _
     (record { labels = labels.part; member_type = type.part; declarator = name.part }) c.mark.result
     (part_then (part_then labels.ensures.spells type.ensures.spells) name.ensures.spells) refl
-    (omega (arith, labels.ensures.levels, type.ensures.levels, name.ensures.levels)) c.in-Ok-add_case.ensures c.mark.ensures
+    (omega (arith, labels.ensures.levels, type.ensures.levels, name.ensures.levels)) c.in-Ok-add.ensures c.mark.ensures
 
 pub read_struct-returns-clause-spells : goal.read_struct-returns-clause-spells
 read_struct-returns-clause-spells t c =
