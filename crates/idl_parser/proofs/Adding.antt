@@ -1,5 +1,5 @@
 -- Parts that are added to a list.
-use Rattle.std.proofs.Common.{◌≡◌, ◌∙◌, ◌++◌, ◌∷◌, [], ◌≤◌, ◌<◌, ℕ, List, length, length-append, Some, ap, sym, subst, arith}
+use Rattle.std.proofs.Common.{◌≡◌, ◌∙◌, ◌++◌, ◌∷◌, [], ◌≤◌, ◌<◌, ℕ, List, length, length-append, ap, sym, arith}
 use Rattle.std.specs.Prelude.{Result, Ok, Err, IfOk}
 use Rattle.std.specs.List.{flat_map}
 use Rattle.idl_tree.specs.Pieces.{Seen, Piece}
@@ -7,7 +7,7 @@ use Rattle.idl_tree.specs.Levels.{highest}
 use Rattle.idl_parser.specs.Reading.{Parsed, Continued, Added}
 use Rattle.idl_parser.proofs.Parts.{part_then}
 use Rattle.idl_parser.proofs.Pairs.{spelled_as}
-use Rattle.idl_parser.proofs.Reading.{one_more, one_more_level, past_none}
+use Rattle.idl_parser.proofs.Reading.{one_more, one_more_level}
 
 -- a list with one more part
 pub longer : {T : Type 0} (yield : T → List Piece) (levels : T → ℕ) (room : ℕ) (a b c : List Seen) (xs ys : List T)
@@ -18,17 +18,7 @@ pub longer_level : {T : Type 0} (yield : T → List Piece) (levels : T → ℕ) 
     → highest levels xs ≤ room → Added yield levels room xs ys b c → highest levels ys ≤ room
 longer_level yield levels room b c xs ys most one = one_more_level levels room xs ys one.part most one.few one.is
 
--- the first part of a list
-pub alone : {T : Type 0} (yield : T → List Piece) (levels : T → ℕ) (room : ℕ) (a b : List Seen) (xs ys : List T)
-    → xs ≡ [] → Added yield levels room xs ys a b → Continued a (flat_map yield ys) b
-alone yield levels room a b xs ys none one =
-    longer yield levels room a a b xs ys (subst (λ l. Continued a (flat_map yield l) a) (sym none) (record { spells = past_none (Some a); on = omega arith })) one
-
-pub alone_level : {T : Type 0} (yield : T → List Piece) (levels : T → ℕ) (room : ℕ) (a b : List Seen) (xs ys : List T)
-    → xs ≡ [] → Added yield levels room xs ys a b → highest levels ys ≤ room
-alone_level yield levels room a b xs ys none one =
-    longer_level yield levels room a b xs ys (subst (λ l. highest levels l ≤ room) (sym none) (omega arith)) one
-
+-- a list is not empty then
 pub some_more : {T : Type 0} (yield : T → List Piece) (levels : T → ℕ) (room : ℕ) (b c : List Seen) (xs ys : List T) → Added yield levels room xs ys b c → 0 < length ys
 some_more yield levels room b c xs ys one = omega (arith, ap length one.is ∙ length-append xs (one.part ∷ []))
 

@@ -20,11 +20,6 @@ pub handed : {T E F : Type 0} (P : T → Type 0) (read : Result T E) (r : Result
 handed P read (Ok p) all same = subst (λ r. IfOk r P) same all
 handed P read (Err e) all same = tt
 
--- what holds of a part holds of what is read as that part
-pub stated : {T E : Type 0} (P : T → Type 0) (x : T) (r : Result T E) → P x → IfOk r (λ d. d ≡ x) → IfOk r P
-stated P x (Ok d) holds is = subst P (sym is) holds
-stated P x (Err e) holds is = tt
-
 -- ---- a node that was made
 
 pub spelled_by : {T E : Type 0} (a c : List Seen) (yield : T → List Piece) (y : List Piece) (r : Result T E)

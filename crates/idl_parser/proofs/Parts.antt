@@ -10,6 +10,10 @@ part_then {a = a} {x = x} {y = y} p q = record {
   on = omega (arith, p.on, q.on);
 }
 
+-- a part is one where there may be none
+pub maybe_none : {a b : List Seen} {x : List Piece} → Parsed a x b → Continued a x b
+maybe_none p = record { spells = p.spells; on = omega (arith, p.on) }
+
 pub part_then_more : {a b c : List Seen} {x y : List Piece} → Parsed a x b → Continued b y c → Parsed a (x ++ y) c
 part_then_more {a = a} {x = x} {y = y} p q = record {
   spells = past_append x y (Some a) ∙ ap (past y) p.spells ∙ q.spells;

@@ -97,13 +97,6 @@ pub(crate) fn read_type<'a>(cursor: &mut Cursor<'a>, room: usize) -> Result<Type
     }
 }
 
-/// Adds a member. What holds one goes through this function, so that few functions do.
-fn add_member<'a>(members: &mut Vec<Member<'a>>, member: Member<'a>) -> Result<(), Stop>
-    ensures { IfOk result (λ _. members.new.items ≡ members.old.items ++ member.entry ∷ []) }
-{
-    add(members, member)
-}
-
 /// Reads a member and adds it.
 #[cycle(constructed)]
 fn read_member<'a>(
@@ -114,14 +107,12 @@ fn read_member<'a>(
     ensures { IfOk result (λ _. Added member_yield member_levels room
         members.old.items members.new.items cursor.old cursor.new) }
 {
-    let member_type = got!(read_type(cursor, room));
-    let declarators = got!(read_listed(cursor, room));
-    got!(cursor.mark(";"));
     let member = Member {
-        member_type,
-        declarators,
+        member_type: got!(read_type(cursor, room)),
+        declarators: got!(read_listed(cursor, room)),
     };
-    add_member(members, member)
+    got!(add(members, member));
+    cursor.mark(";")
 }
 
 /// Reads members, one or more, and the closing brace behind them.
@@ -136,13 +127,13 @@ pub(crate) fn read_members<'a>(
     ensures some { IfOk result (λ m. 0 < length m.items) }
 {
     let mut members = Vec::new(cursor.alloc());
-    got!(read_member(cursor, room, &mut members));
-    'parts: while !cursor.is_mark("}") {
+    'parts: loop {
         got!(read_member(cursor, room, &mut members));
+        if cursor.take_mark("}") {
+            members.shrink_to_fit();
+            return Ok(members);
+        }
     }
-    got!(cursor.mark("}"));
-    members.shrink_to_fit();
-    Ok(members)
 }
 
 /// The structure of a name and members.
@@ -175,13 +166,6 @@ pub(crate) fn read_struct<'a>(cursor: &mut Cursor<'a>, room: usize) -> Result<St
     structure(cursor.alloc(), name, members)
 }
 
-/// Adds a case. What holds one goes through this function, so that few functions do.
-fn add_case<'a>(cases: &mut Vec<Case<'a>>, case: Case<'a>) -> Result<(), Stop>
-    ensures { IfOk result (λ _. cases.new.items ≡ cases.old.items ++ case.entry ∷ []) }
-{
-    add(cases, case)
-}
-
 /// Reads a case and adds it.
 #[cycle(constructed)]
 fn read_case<'a>(
@@ -192,16 +176,13 @@ fn read_case<'a>(
     ensures { IfOk result (λ _. Added case_yield case_levels room
         cases.old.items cases.new.items cursor.old cursor.new) }
 {
-    let labels = got!(read_labels(cursor, room));
-    let member_type = got!(read_type(cursor, room));
-    let declarator = got!(read_declarator(cursor, room));
-    got!(cursor.mark(";"));
     let case = Case {
-        labels,
-        member_type,
-        declarator,
+        labels: got!(read_labels(cursor, room)),
+        member_type: got!(read_type(cursor, room)),
+        declarator: got!(read_declarator(cursor, room)),
     };
-    add_case(cases, case)
+    got!(add(cases, case));
+    cursor.mark(";")
 }
 
 /// Reads cases, one or more, and the closing brace behind them.
@@ -213,13 +194,13 @@ fn read_cases<'a>(cursor: &mut Cursor<'a>, room: usize) -> Result<Vec<Case<'a>>,
     ensures some { IfOk result (λ c. 0 < length c.items) }
 {
     let mut cases = Vec::new(cursor.alloc());
-    got!(read_case(cursor, room, &mut cases));
-    'parts: while !cursor.is_mark("}") {
+    'parts: loop {
         got!(read_case(cursor, room, &mut cases));
+        if cursor.take_mark("}") {
+            cases.shrink_to_fit();
+            return Ok(cases);
+        }
     }
-    got!(cursor.mark("}"));
-    cases.shrink_to_fit();
-    Ok(cases)
 }
 
 /// Reads what stands behind the type of a union's discriminator.

@@ -9,8 +9,8 @@ ghost use Rattle.std.specs.List.{flat_map};
 ghost use Rattle.idl_tree.specs.Levels.{highest, const_expr_levels};
 ghost use Rattle.idl_tree.specs.TypeYields.{member_yield};
 ghost use Rattle.idl_tree.specs.TypeLevels.{member_levels};
-ghost use Rattle.idl_tree.specs.DefinitionYields.{declaration_yield};
-ghost use Rattle.idl_tree.specs.DefinitionLevels.{declaration_levels};
+ghost use Rattle.idl_tree.specs.DefinitionYields.{type_dcl_yield, declaration_yield};
+ghost use Rattle.idl_tree.specs.DefinitionLevels.{type_dcl_levels, declaration_levels};
 
 use crate::cursor::Cursor;
 use crate::read::constructed::{read_members, read_struct, read_type, read_union};
@@ -34,63 +34,42 @@ pub(crate) fn is_declaration(cursor: &Cursor<'_>) -> bool {
     }
 }
 
-/// A declaration that was read. What makes one ends with this function, so that few functions hold one.
-fn declared<'a>(declaration: Declaration<'a>) -> Result<Declaration<'a>, Stop>
-    ensures { IfOk result (λ d. d ≡ declaration.entry) }
-{
-    Ok(declaration)
-}
-
-fn read_typedef<'a>(cursor: &mut Cursor<'a>, room: usize) -> Result<Declaration<'a>, Stop>
-    ensures spells { IfOk result (λ d. Parsed cursor.old (declaration_yield d) cursor.new) }
-    ensures levels { IfOk result (λ d. declaration_levels d ≤ room) }
+fn read_typedef<'a>(cursor: &mut Cursor<'a>, room: usize) -> Result<TypeDcl<'a>, Stop>
+    ensures spells { IfOk result (λ t. Parsed cursor.old (type_dcl_yield t) cursor.new) }
+    ensures levels { IfOk result (λ t. type_dcl_levels t ≤ room) }
 {
     got!(cursor.keyword("typedef"));
-    let original = got!(read_type(cursor, room));
-    let declarators = got!(read_listed(cursor, room));
-    declared(Declaration::TypeDcl(TypeDcl::Typedef {
-        original,
-        declarators,
-    }))
+    Ok(TypeDcl::Typedef {
+        original: got!(read_type(cursor, room)),
+        declarators: got!(read_listed(cursor, room)),
+    })
 }
 
 /// Reads a structure, or one that is declared ahead, which a semicolon tells.
-fn read_struct_dcl<'a>(cursor: &mut Cursor<'a>, room: usize) -> Result<Declaration<'a>, Stop>
-    ensures spells { IfOk result (λ d. Parsed cursor.old (declaration_yield d) cursor.new) }
-    ensures levels { IfOk result (λ d. declaration_levels d ≤ room) }
+fn read_struct_dcl<'a>(cursor: &mut Cursor<'a>, room: usize) -> Result<TypeDcl<'a>, Stop>
+    ensures spells { IfOk result (λ t. Parsed cursor.old (type_dcl_yield t) cursor.new) }
+    ensures levels { IfOk result (λ t. type_dcl_levels t ≤ room) }
 {
     if cursor.is_ahead() {
-        let name = got!(read_named(cursor, "struct"));
-        return declared(Declaration::TypeDcl(TypeDcl::StructAhead(name)));
+        return Ok(TypeDcl::StructAhead(got!(read_named(cursor, "struct"))));
     }
-    let structure = got!(read_struct(cursor, room));
-    declared(Declaration::TypeDcl(TypeDcl::Struct(structure)))
+    Ok(TypeDcl::Struct(got!(read_struct(cursor, room))))
 }
 
 /// Reads a union, or one that is declared ahead, which a semicolon tells.
-fn read_union_dcl<'a>(cursor: &mut Cursor<'a>, room: usize) -> Result<Declaration<'a>, Stop>
-    ensures spells { IfOk result (λ d. Parsed cursor.old (declaration_yield d) cursor.new) }
-    ensures levels { IfOk result (λ d. declaration_levels d ≤ room) }
+fn read_union_dcl<'a>(cursor: &mut Cursor<'a>, room: usize) -> Result<TypeDcl<'a>, Stop>
+    ensures spells { IfOk result (λ t. Parsed cursor.old (type_dcl_yield t) cursor.new) }
+    ensures levels { IfOk result (λ t. type_dcl_levels t ≤ room) }
 {
     if cursor.is_ahead() {
-        let name = got!(read_named(cursor, "union"));
-        return declared(Declaration::TypeDcl(TypeDcl::UnionAhead(name)));
+        return Ok(TypeDcl::UnionAhead(got!(read_named(cursor, "union"))));
     }
-    let union = got!(read_union(cursor, room));
-    declared(Declaration::TypeDcl(TypeDcl::Union(union)))
+    Ok(TypeDcl::Union(got!(read_union(cursor, room))))
 }
 
-fn read_enum_dcl<'a>(cursor: &mut Cursor<'a>, room: usize) -> Result<Declaration<'a>, Stop>
-    ensures spells { IfOk result (λ d. Parsed cursor.old (declaration_yield d) cursor.new) }
-    ensures levels { IfOk result (λ d. declaration_levels d ≤ room) }
-{
-    let enumeration = got!(read_enum(cursor, room));
-    declared(Declaration::TypeDcl(TypeDcl::Enum(enumeration)))
-}
-
-fn read_type_dcl<'a>(cursor: &mut Cursor<'a>, room: usize) -> Result<Declaration<'a>, Stop>
-    ensures spells { IfOk result (λ d. Parsed cursor.old (declaration_yield d) cursor.new) }
-    ensures levels { IfOk result (λ d. declaration_levels d ≤ room) }
+fn read_type_dcl<'a>(cursor: &mut Cursor<'a>, room: usize) -> Result<TypeDcl<'a>, Stop>
+    ensures spells { IfOk result (λ t. Parsed cursor.old (type_dcl_yield t) cursor.new) }
+    ensures levels { IfOk result (λ t. type_dcl_levels t ≤ room) }
 {
     if cursor.is_keyword("struct") {
         return read_struct_dcl(cursor, room);
@@ -99,7 +78,7 @@ fn read_type_dcl<'a>(cursor: &mut Cursor<'a>, room: usize) -> Result<Declaration
         return read_union_dcl(cursor, room);
     }
     if cursor.is_keyword("enum") {
-        return read_enum_dcl(cursor, room);
+        return Ok(TypeDcl::Enum(got!(read_enum(cursor, room))));
     }
     read_typedef(cursor, room)
 }
@@ -112,11 +91,10 @@ fn read_const<'a>(cursor: &mut Cursor<'a>, room: usize) -> Result<Declaration<'a
     let const_type = got!(read_const_type(cursor, room));
     let identifier = got!(cursor.identifier());
     got!(cursor.mark("="));
-    let value = got!(read_expr(cursor, room));
-    declared(Declaration::Const(Const {
+    Ok(Declaration::Const(Const {
         const_type,
         identifier,
-        value,
+        value: got!(read_expr(cursor, room)),
     }))
 }
 
@@ -147,10 +125,9 @@ fn read_except<'a>(cursor: &mut Cursor<'a>, room: usize) -> Result<Declaration<'
     ensures levels { IfOk result (λ d. declaration_levels d ≤ room) }
 {
     let identifier = got!(read_except_name(cursor));
-    let members = got!(read_except_members(cursor, room));
-    declared(Declaration::Except(Except {
+    Ok(Declaration::Except(Except {
         identifier,
-        members,
+        members: got!(read_except_members(cursor, room)),
     }))
 }
 
@@ -168,5 +145,5 @@ pub(crate) fn read_declaration<'a>(
     if cursor.is_keyword("exception") {
         return read_except(cursor, room);
     }
-    read_type_dcl(cursor, room)
+    Ok(Declaration::TypeDcl(got!(read_type_dcl(cursor, room))))
 }

@@ -5,7 +5,7 @@ ghost use Rattle.std.specs.Prelude.{◌≡◌, ◌++◌, ◌≤◌, ◌∷◌, [
 ghost use Rattle.std.specs.List.{flat_map};
 ghost use Rattle.idl_parser.specs.Reading.{Parsed, Continued, Added};
 ghost use Rattle.idl_parser.specs.Makings.{HasModule};
-ghost use Rattle.idl_tree.specs.declared.definitions.Definition.{Declaration as Declarations, Interface as Interfaces};
+ghost use Rattle.idl_tree.specs.declared.definitions.Definition.{Interface as Interfaces};
 ghost use Rattle.idl_tree.specs.Pieces.{keyword, mark};
 ghost use Rattle.idl_tree.specs.Yields.{identifier};
 ghost use Rattle.idl_tree.specs.DefinitionYields.{definition_yield};
@@ -18,7 +18,7 @@ use crate::read::interfaces::{read_bases, read_exports};
 use crate::read::lists::{add, read_named, read_opened};
 use crate::stop::Stop;
 use idl_lexer::Kind;
-use idl_tree::definitions::{Declaration, Definition, Interface, Module};
+use idl_tree::definitions::{Definition, Interface, Module};
 use idl_tree::names::Leaf;
 
 /// Adds a definition. What holds one goes through this function, so that few functions do.
@@ -40,17 +40,6 @@ fn add_interface<'a>(
         ≡ definitions.old.items ++ Interfaces interface.entry ∷ []) }
 {
     add_definition(definitions, Definition::Interface(interface))
-}
-
-/// Adds a declaration.
-fn add_declaration<'a>(
-    definitions: &mut Vec<Definition<'a>>,
-    declaration: Declaration<'a>,
-) -> Result<(), Stop>
-    ensures { IfOk result (λ _. definitions.new.items
-        ≡ definitions.old.items ++ Declarations declaration.entry ∷ []) }
-{
-    add_definition(definitions, Definition::Declaration(declaration))
 }
 
 /// Reads a pragma and adds it.
@@ -80,12 +69,10 @@ fn read_interface<'a>(
         got!(add_interface(definitions, Interface::Ahead(identifier)));
         return cursor.mark(";");
     }
-    let bases = got!(read_bases(cursor));
-    let exports = got!(read_exports(cursor, room));
     let interface = Interface::Defined {
         identifier,
-        bases,
-        exports,
+        bases: got!(read_bases(cursor)),
+        exports: got!(read_exports(cursor, room)),
     };
     got!(add_interface(definitions, interface));
     cursor.mark(";")
@@ -100,8 +87,10 @@ fn read_declared<'a>(
     ensures { IfOk result (λ _. Added definition_yield definition_levels room
         definitions.old.items definitions.new.items cursor.old cursor.new) }
 {
-    let declaration = got!(read_declaration(cursor, room));
-    got!(add_declaration(definitions, declaration));
+    got!(add_definition(
+        definitions,
+        Definition::Declaration(got!(read_declaration(cursor, room)))
+    ));
     cursor.mark(";")
 }
 
@@ -135,11 +124,13 @@ fn add_module<'a>(
     ensures { IfOk result (λ _. HasModule name.entry inside.entry.items
         definitions.old.items definitions.new.items) }
 {
-    let module = Module {
-        identifier: name,
-        definitions: inside,
-    };
-    add_definition(definitions, Definition::Module(module))
+    add_definition(
+        definitions,
+        Definition::Module(Module {
+            identifier: name,
+            definitions: inside,
+        }),
+    )
 }
 
 /// Reads a definition and adds it.
@@ -157,8 +148,8 @@ fn read_definition<'a>(
     }
     let (name, left) = got!(read_opened(cursor, "module", room));
     let inside = got!(read_definitions(cursor, left));
-    got!(cursor.mark("}"));
     got!(add_module(definitions, name, inside));
+    got!(cursor.mark("}"));
     cursor.mark(";")
 }
 

@@ -108,11 +108,9 @@ fn read_attribute<'a>(cursor: &mut Cursor<'a>, room: usize) -> Result<Attribute<
 {
     let is_readonly = take_readonly(cursor);
     got!(cursor.keyword("attribute"));
-    let attribute_type = got!(read_param_type(cursor, room));
-    let declared = got!(read_attributes(cursor, is_readonly));
     Ok(Attribute {
-        attribute_type,
-        declared,
+        attribute_type: got!(read_param_type(cursor, room)),
+        declared: got!(read_attributes(cursor, is_readonly)),
     })
 }
 
@@ -138,13 +136,10 @@ impl<'a> Part<'a> for Param<'a> {
     ghost levels_of = { param_levels };
 
     fn read(cursor: &mut Cursor<'a>, room: usize) -> Result<Self, Stop> {
-        let direction = got!(read_direction(cursor));
-        let param_type = got!(read_param_type(cursor, room));
-        let identifier = got!(cursor.identifier());
         Ok(Param {
-            direction,
-            param_type,
-            identifier,
+            direction: got!(read_direction(cursor)),
+            param_type: got!(read_param_type(cursor, room)),
+            identifier: got!(cursor.identifier()),
         })
     }
 }
@@ -188,13 +183,12 @@ fn read_operation<'a>(cursor: &mut Cursor<'a>, room: usize) -> Result<Operation<
     got!(cursor.mark("("));
     let params = got!(read_params(cursor, room));
     got!(cursor.mark(")"));
-    let raises = got!(read_raises(cursor, "raises"));
     Ok(Operation {
         is_oneway,
         result_type,
         identifier,
         params,
-        raises,
+        raises: got!(read_raises(cursor, "raises")),
     })
 }
 
@@ -214,8 +208,10 @@ fn read_declared<'a>(
     ensures { IfOk result (λ _. Added export_yield export_levels room
         exports.old.items exports.new.items cursor.old cursor.new) }
 {
-    let declaration = got!(read_declaration(cursor, room));
-    got!(add_export(exports, Export::Declaration(declaration)));
+    got!(add_export(
+        exports,
+        Export::Declaration(got!(read_declaration(cursor, room)))
+    ));
     cursor.mark(";")
 }
 
@@ -228,8 +224,10 @@ fn read_attribute_dcl<'a>(
     ensures { IfOk result (λ _. Added export_yield export_levels room
         exports.old.items exports.new.items cursor.old cursor.new) }
 {
-    let attribute = got!(read_attribute(cursor, room));
-    got!(add_export(exports, Export::Attribute(attribute)));
+    got!(add_export(
+        exports,
+        Export::Attribute(got!(read_attribute(cursor, room)))
+    ));
     cursor.mark(";")
 }
 
@@ -242,8 +240,10 @@ fn read_operation_dcl<'a>(
     ensures { IfOk result (λ _. Added export_yield export_levels room
         exports.old.items exports.new.items cursor.old cursor.new) }
 {
-    let operation = got!(read_operation(cursor, room));
-    got!(add_export(exports, Export::Operation(operation)));
+    got!(add_export(
+        exports,
+        Export::Operation(got!(read_operation(cursor, room)))
+    ));
     cursor.mark(";")
 }
 

@@ -131,18 +131,28 @@ pub(crate) fn read_param_type<'a>(
     Ok(ParamType::Plain(got!(read_const_type(cursor, room))))
 }
 
-/// Reads the bound of a sequence, if it has one.
-pub(crate) fn read_sequence_bound<'a>(
-    cursor: &mut Cursor<'a>,
-    room: usize,
-) -> Result<Option<Bound<'a>>, Stop>
-    ensures spells { IfOk result (λ b. Continued cursor.old (optional sequence_bound_yield b) cursor.new) }
+/// Reads the word `sequence` and the mark behind it, and how many levels are left inside.
+fn open_sequence(cursor: &mut Cursor<'_>, room: usize) -> Result<usize, Stop>
+    ensures spells { IfOk result (λ _. Parsed cursor.old (keyword (codes "sequence") ++ mark (codes "<")) cursor.new) }
+    ensures levels { IfOk result (λ left. suc left ≡ room) }
+{
+    got!(cursor.keyword("sequence"));
+    cursor.open("<", room)
+}
+
+/// Reads the bound of a sequence, if it has one, and the mark that ends the sequence.
+fn end_sequence<'a>(cursor: &mut Cursor<'a>, room: usize) -> Result<Option<Bound<'a>>, Stop>
+    ensures spells { IfOk result (λ b. Parsed cursor.old
+        (optional sequence_bound_yield b ++ mark (codes ">")) cursor.new) }
     ensures levels { IfOk result (λ b. optional_levels bound_levels b ≤ room) }
 {
-    if !cursor.take_mark(",") {
+    if cursor.take_mark(">") {
         return Ok(None);
     }
-    Ok(Some(got!(read_bound(cursor, room))))
+    got!(cursor.mark(","));
+    let bound = got!(read_bound(cursor, room));
+    got!(cursor.mark(">"));
+    Ok(Some(bound))
 }
 
 #[cycle(simple)]
@@ -164,12 +174,12 @@ fn read_sequence<'a>(cursor: &mut Cursor<'a>, room: usize) -> Result<SimpleType<
     ensures spells { IfOk result (λ t. Parsed cursor.old (simple_type_yield t) cursor.new) }
     ensures levels { IfOk result (λ t. simple_type_levels t ≤ room) }
 {
-    got!(cursor.keyword("sequence"));
-    let left = got!(cursor.open("<", room));
-    let element = got!(read_simple_type(cursor, left));
-    let bound = got!(read_sequence_bound(cursor, left));
-    got!(cursor.mark(">"));
-    made(SimpleType::new_sequence(cursor.alloc(), element, bound))
+    let left = got!(open_sequence(cursor, room));
+    made(SimpleType::new_sequence(
+        cursor.alloc(),
+        got!(read_simple_type(cursor, left)),
+        got!(end_sequence(cursor, left)),
+    ))
 }
 
 fn read_size<'a>(cursor: &mut Cursor<'a>, room: usize) -> Result<ConstExpr<'a>, Stop>
@@ -216,9 +226,10 @@ pub(crate) fn read_declarator<'a>(
     ensures spells { IfOk result (λ d. Parsed cursor.old (declarator_yield d) cursor.new) }
     ensures levels { IfOk result (λ d. declarator_levels d ≤ room) }
 {
-    let identifier = got!(cursor.identifier());
-    let sizes = got!(read_sizes(cursor, room));
-    Ok(Declarator { identifier, sizes })
+    Ok(Declarator {
+        identifier: got!(cursor.identifier()),
+        sizes: got!(read_sizes(cursor, room)),
+    })
 }
 
 /// Reads an enumeration, which is a level.

@@ -1,76 +1,71 @@
-use Rattle.std.proofs.Common.{◌++◌, arith}
+use Rattle.std.proofs.Common.{◌++◌, refl, arith}
 use Rattle.std.specs.Prelude.{codes}
 use Rattle.std.specs.List.{flat_map}
 use Rattle.idl_tree.specs.Pieces.{keyword, mark}
-use Rattle.idl_tree.specs.Yields.{identifier}
-use Rattle.idl_tree.specs.TypeYields.{switch_yield, member_yield, case_yield, struct_yield, union_yield}
+use Rattle.idl_tree.specs.Yields.{identifier, in_order, listed}
+use Rattle.idl_tree.specs.TypeYields.{label_yield, declarator_yield, switch_yield, type_yield, member_yield, case_yield, struct_yield, union_yield}
 use Rattle.idl_tree.specs.Levels.{highest}
 use Rattle.idl_tree.specs.TypeLevels.{member_levels, case_levels, struct_levels, union_levels}
 use Rattle.idl_parser.proofs.Parts.{part_then, more_then_part}
 use Rattle.idl_parser.proofs.Pairs.{spelled_as, group_three, spelled_by, levels_by, behind_part, under_suc}
-use Rattle.idl_parser.proofs.Adding.{longer, longer_level, alone, alone_level, some_more, added}
+use Rattle.idl_parser.proofs.Adding.{longer, longer_level, some_more, added_ended}
 use Rattle.idl_parser.proofs.read.constructed.+constructed.Goals as goal
-
-pub read_members-parts-init : goal.read_members-parts-init
-read_members-parts-init t c = record {
-  spells = alone member_yield member_levels _ _ _ _ _ c.new-members.ensures.items c.in-Ok.ensures;
-  levels = alone_level member_yield member_levels _ _ _ _ _ c.new-members.ensures.items c.in-Ok.ensures;
-  some = some_more member_yield member_levels _ _ _ _ _ c.in-Ok.ensures;
-}
 
 pub read_members-parts-preserved : goal.read_members-parts-preserved
 read_members-parts-preserved t c = record {
-  spells = longer member_yield member_levels _ _ _ _ _ _ c.parts.invariant.spells c.in-Ok-read_member.ensures;
-  levels = longer_level member_yield member_levels _ _ _ _ _ c.parts.invariant.levels c.in-Ok-read_member.ensures;
-  some = some_more member_yield member_levels _ _ _ _ _ c.in-Ok-read_member.ensures;
+  spells = rw c.if-take_mark.ensures.missing (longer member_yield member_levels _ _ _ _ _ _ c.parts.invariant.spells c.in-Ok.ensures);
+  levels = longer_level member_yield member_levels _ _ _ _ _ c.parts.invariant.levels c.in-Ok.ensures;
 }
 
-pub read_members-returns-clause-spells : goal.read_members-returns-clause-spells
-read_members-returns-clause-spells t c =
-    rw c.shrink_to_fit.ensures.items (more_then_part c.parts.invariant.spells c.in-Ok-mark.ensures)
+pub read_members-returns-then-take_mark-clause-spells : goal.read_members-returns-then-take_mark-clause-spells
+read_members-returns-then-take_mark-clause-spells t c =
+    rw c.shrink_to_fit.ensures.items
+    (more_then_part (longer member_yield member_levels _ _ _ _ _ _ c.parts.invariant.spells c.in-Ok.ensures) c.if-take_mark.ensures.read)
 
-pub read_members-returns-clause-levels : goal.read_members-returns-clause-levels
-read_members-returns-clause-levels t c = rw c.shrink_to_fit.ensures.items c.parts.invariant.levels
+pub read_members-returns-then-take_mark-clause-levels : goal.read_members-returns-then-take_mark-clause-levels
+read_members-returns-then-take_mark-clause-levels t c =
+    rw c.shrink_to_fit.ensures.items (longer_level member_yield member_levels _ _ _ _ _ c.parts.invariant.levels c.in-Ok.ensures)
 
-pub read_members-returns-clause-some : goal.read_members-returns-clause-some
-read_members-returns-clause-some t c = rw c.shrink_to_fit.ensures.items c.parts.invariant.some
-
-pub read_cases-parts-init : goal.read_cases-parts-init
-read_cases-parts-init t c = record {
-  spells = alone case_yield case_levels _ _ _ _ _ c.new-cases.ensures.items c.in-Ok.ensures;
-  levels = alone_level case_yield case_levels _ _ _ _ _ c.new-cases.ensures.items c.in-Ok.ensures;
-  some = some_more case_yield case_levels _ _ _ _ _ c.in-Ok.ensures;
-}
+pub read_members-returns-then-take_mark-clause-some : goal.read_members-returns-then-take_mark-clause-some
+read_members-returns-then-take_mark-clause-some t c =
+    rw c.shrink_to_fit.ensures.items (some_more member_yield member_levels _ _ _ _ _ c.in-Ok.ensures)
 
 pub read_cases-parts-preserved : goal.read_cases-parts-preserved
 read_cases-parts-preserved t c = record {
-  spells = longer case_yield case_levels _ _ _ _ _ _ c.parts.invariant.spells c.in-Ok-read_case.ensures;
-  levels = longer_level case_yield case_levels _ _ _ _ _ c.parts.invariant.levels c.in-Ok-read_case.ensures;
-  some = some_more case_yield case_levels _ _ _ _ _ c.in-Ok-read_case.ensures;
+  spells = rw c.if-take_mark.ensures.missing (longer case_yield case_levels _ _ _ _ _ _ c.parts.invariant.spells c.in-Ok.ensures);
+  levels = longer_level case_yield case_levels _ _ _ _ _ c.parts.invariant.levels c.in-Ok.ensures;
 }
 
-pub read_cases-returns-clause-spells : goal.read_cases-returns-clause-spells
-read_cases-returns-clause-spells t c =
-    rw c.shrink_to_fit.ensures.items (more_then_part c.parts.invariant.spells c.in-Ok-mark.ensures)
+pub read_cases-returns-then-take_mark-clause-spells : goal.read_cases-returns-then-take_mark-clause-spells
+read_cases-returns-then-take_mark-clause-spells t c =
+    rw c.shrink_to_fit.ensures.items
+    (more_then_part (longer case_yield case_levels _ _ _ _ _ _ c.parts.invariant.spells c.in-Ok.ensures) c.if-take_mark.ensures.read)
 
-pub read_cases-returns-clause-levels : goal.read_cases-returns-clause-levels
-read_cases-returns-clause-levels t c = rw c.shrink_to_fit.ensures.items c.parts.invariant.levels
+pub read_cases-returns-then-take_mark-clause-levels : goal.read_cases-returns-then-take_mark-clause-levels
+read_cases-returns-then-take_mark-clause-levels t c =
+    rw c.shrink_to_fit.ensures.items (longer_level case_yield case_levels _ _ _ _ _ c.parts.invariant.levels c.in-Ok.ensures)
 
-pub read_cases-returns-clause-some : goal.read_cases-returns-clause-some
-read_cases-returns-clause-some t c = rw c.shrink_to_fit.ensures.items c.parts.invariant.some
+pub read_cases-returns-then-take_mark-clause-some : goal.read_cases-returns-then-take_mark-clause-some
+read_cases-returns-then-take_mark-clause-some t c =
+    rw c.shrink_to_fit.ensures.items (some_more case_yield case_levels _ _ _ _ _ c.in-Ok.ensures)
 
 pub read_member-returns : goal.read_member-returns
 read_member-returns t c =
-    added member_yield member_levels c.args.room _ _ _ _ (record { member_type = c.in-Ok.part; declarators = c.in-Ok-read_listed.part }) c.add_member.result
-    (part_then (part_then c.in-Ok.ensures.spells c.in-Ok-read_listed.ensures.spells) c.in-Ok-mark.ensures)
-    (omega (arith, c.in-Ok.ensures.levels, c.in-Ok-read_listed.ensures.levels)) c.add_member.ensures
+    let type = c.in-Ok in
+    let names = c.in-Ok-read_listed in
+    added_ended member_yield member_levels c.args.room _ _ _ (type_yield type.part ++ listed declarator_yield names.part) (mark (codes ";")) _ _
+    (record { member_type = type.part; declarators = names.part }) c.mark.result (part_then type.ensures.spells names.ensures.spells) refl
+    (omega (arith, type.ensures.levels, names.ensures.levels)) c.in-Ok-add.ensures c.mark.ensures
 
 pub read_case-returns : goal.read_case-returns
 read_case-returns t c =
     let labels = c.in-Ok in
-    added case_yield case_levels c.args.room _ _ _ _ (record { labels = labels.part; member_type = c.in-Ok-read_type.part; declarator = c.in-Ok-read_declarator.part }) c.add_case.result
-    (part_then (part_then (part_then labels.ensures.spells c.in-Ok-read_type.ensures.spells) c.in-Ok-read_declarator.ensures.spells) c.in-Ok-mark.ensures)
-    (omega (arith, labels.ensures.levels, c.in-Ok-read_type.ensures.levels, c.in-Ok-read_declarator.ensures.levels)) c.add_case.ensures
+    let type = c.in-Ok-read_type in
+    let name = c.in-Ok-read_declarator in
+    added_ended case_yield case_levels c.args.room _ _ _ (in_order label_yield labels.part ++ type_yield type.part ++ declarator_yield name.part) (mark (codes ";")) _ _
+    (record { labels = labels.part; member_type = type.part; declarator = name.part }) c.mark.result
+    (part_then (part_then labels.ensures.spells type.ensures.spells) name.ensures.spells) refl
+    (omega (arith, labels.ensures.levels, type.ensures.levels, name.ensures.levels)) c.in-Ok-add.ensures c.mark.ensures
 
 pub read_struct-returns-clause-spells : goal.read_struct-returns-clause-spells
 read_struct-returns-clause-spells t c =

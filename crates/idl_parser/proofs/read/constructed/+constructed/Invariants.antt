@@ -1,4 +1,4 @@
-use Rattle.std.proofs.Common.{◌+◌, ◌*◌, ◌≤◌, ◌<◌, length}
+use Rattle.std.proofs.Common.{◌+◌, ◌*◌, ◌≤◌, length}
 use Rattle.std.specs.List.{flat_map}
 use Rattle.idl_parser.specs.Reading.{Continued}
 use Rattle.idl_tree.specs.Levels.{highest}
@@ -34,7 +34,6 @@ abbrev pub invariant-read_members-parts : goal.invariant-read_members-parts
 invariant-read_members-parts l = record {
   spells : Continued l.fn.cursor (flat_map member_yield l.members.items) l.cursor;
   levels : highest member_levels l.members.items ≤ l.room;
-  some : 0 < length l.members.items;
 }
 
 abbrev pub decreases-read_members-parts : goal.decreases-read_members-parts
@@ -44,7 +43,6 @@ abbrev pub invariant-read_cases-parts : goal.invariant-read_cases-parts
 invariant-read_cases-parts l = record {
   spells : Continued l.fn.cursor (flat_map case_yield l.cases.items) l.cursor;
   levels : highest case_levels l.cases.items ≤ l.room;
-  some : 0 < length l.cases.items;
 }
 
 abbrev pub decreases-read_cases-parts : goal.decreases-read_cases-parts

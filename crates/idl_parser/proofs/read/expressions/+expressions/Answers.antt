@@ -1,12 +1,13 @@
-use Rattle.std.proofs.Common.{rules, ◌≤◌, ℕ, suc, arith, add-one}
+use Rattle.std.proofs.Common.{rules, ◌≤◌, ℕ, suc, true, arith, add-one}
 use Rattle.std.specs.Prelude.{Bool}
 use Rattle.std.specs.List.{AllByRecursion}
 use Rattle.std.proofs.lemmas.Result.{IfOk-weaker}
 use Rattle.idl_tree.specs.Grouping.{IsOperandOf, IsOfLevel}
-use Rattle.idl_tree.specs.Yields.{operand_yield}
-use Rattle.idl_tree.specs.Levels.{operand_levels}
+use Rattle.idl_tree.specs.Yields.{expr_yield, operand_yield}
+use Rattle.idl_tree.specs.Levels.{expr_levels, operand_levels}
 use Rattle.idl_parser.proofs.Operands.{all_more, unsigned, tightest}
-use Rattle.idl_parser.proofs.Pairs.{handed}
+use Rattle.idl_parser.proofs.Parts.{part_then, part_then_more}
+use Rattle.idl_parser.proofs.Pairs.{handed, spelled_by, levels_by}
 use Rattle.idl_parser.proofs.Reading.{one_more, one_more_level, then_read}
 use Rattle.idl_parser.proofs.read.expressions.+expressions.Goals as goal
 
@@ -43,3 +44,39 @@ read_unary-returns-in_default-clause-groups t c = unsigned _ c.read_primary.ensu
 pub read_level-returns-then-level-ge-LEVELS-clause-groups : goal.read_level-returns-then-level-ge-LEVELS-clause-groups
 read_level-returns-then-level-ge-LEVELS-clause-groups t c =
     tightest _ c.args.level c.args.shifts c.if-level-ge-LEVELS.true c.read_unary.ensures.groups
+
+pub read_primary-returns-clause-spells : goal.read_primary-returns-clause-spells
+read_primary-returns-clause-spells t c =
+    spelled_by _ _ expr_yield _ c.made.result (handed _ c.new_parenthesized.result c.made.result c.new_parenthesized.ensures.spells c.made.ensures)
+    (part_then (part_then c.in-Some.ensures.kept c.in-Ok-read_level.ensures.spells) c.in-Ok-mark.ensures)
+
+pub read_primary-returns-clause-groups : goal.read_primary-returns-clause-groups
+read_primary-returns-clause-groups t c =
+    IfOk-weaker c.made.result (λ e. IsOfLevel true 0 c.in-Ok-read_level.part → (shifts : Bool) → IsOfLevel shifts 7 e) (λ e. (shifts : Bool) → IsOfLevel shifts 7 e)
+    (λ e closed. closed (c.in-Ok-read_level.ensures.groups (omega arith)))
+    (handed _ c.new_parenthesized.result c.made.result c.new_parenthesized.ensures.groups c.made.ensures)
+
+pub read_primary-returns-clause-levels : goal.read_primary-returns-clause-levels
+read_primary-returns-clause-levels t c =
+    levels_by expr_levels _ c.args.room c.made.result (handed _ c.new_parenthesized.result c.made.result c.new_parenthesized.ensures.levels c.made.ensures)
+    (omega (arith, c.in-Ok.ensures, c.in-Ok-read_level.ensures.levels))
+
+pub read_unary-returns-clause-spells : goal.read_unary-returns-clause-spells
+read_unary-returns-clause-spells t c =
+    spelled_by _ _ expr_yield _ c.made.result (handed _ c.new_signed.result c.made.result c.new_signed.ensures.spells c.made.ensures)
+    (part_then c.in-Some.ensures.read c.in-Ok.ensures.spells)
+
+pub read_unary-returns-clause-levels : goal.read_unary-returns-clause-levels
+read_unary-returns-clause-levels t c =
+    levels_by expr_levels _ c.args.room c.made.result (handed _ c.new_signed.result c.made.result c.new_signed.ensures.levels c.made.ensures)
+    (omega (arith, c.in-Ok.ensures.levels))
+
+pub read_level-returns-clause-spells : goal.read_level-returns-clause-spells
+read_level-returns-clause-spells t c =
+    spelled_by _ _ expr_yield _ c.made.result (handed _ c.new_chain.result c.made.result c.new_chain.ensures.spells c.made.ensures)
+    (part_then_more c.in-Ok.ensures.spells c.in-Ok-read_operands.ensures.spells)
+
+pub read_level-returns-clause-levels : goal.read_level-returns-clause-levels
+read_level-returns-clause-levels t c =
+    levels_by expr_levels _ c.args.room c.made.result (handed _ c.new_chain.result c.made.result c.new_chain.ensures.levels c.made.ensures)
+    (omega (arith, c.in-Ok.ensures.levels, c.in-Ok-read_operands.ensures.levels))
