@@ -4,7 +4,7 @@ use Rattle.std.specs.Prelude.{Result, Ok, Err, IfOk}
 use Rattle.std.specs.List.{flat_map}
 use Rattle.idl_tree.specs.Pieces.{Seen, Piece}
 use Rattle.idl_tree.specs.Levels.{highest}
-use Rattle.idl_parser.specs.Reading.{Parsed, Continued, Added}
+use Rattle.idl_parser.specs.inner.Reading.{Parsed, Continued, Added}
 use Rattle.idl_parser.proofs.Parts.{part_then}
 use Rattle.idl_parser.proofs.Pairs.{spelled_as}
 use Rattle.idl_parser.proofs.Reading.{one_more, one_more_level}

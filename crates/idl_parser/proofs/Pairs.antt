@@ -2,7 +2,7 @@
 use Rattle.std.proofs.Common.{◌≡◌, ◌++◌, ◌∙◌, ◌≤◌, ◌<◌, ℕ, suc, List, sym, ap, subst, append_assoc, arith}
 use Rattle.std.specs.Prelude.{Result, Ok, Err, IfOk}
 use Rattle.idl_tree.specs.Pieces.{Seen, Piece}
-use Rattle.idl_parser.specs.Reading.{Parsed}
+use Rattle.idl_parser.specs.inner.Reading.{Parsed}
 use Rattle.idl_parser.proofs.Parts.{part_then}
 
 -- pieces that are grouped otherwise

@@ -1,7 +1,7 @@
 -- How parts that are read one behind another are one part.
 use Rattle.std.proofs.Common.{List, ◌++◌, Some, ap, ◌∙◌, arith}
 use Rattle.idl_tree.specs.Pieces.{Seen, Piece, past}
-use Rattle.idl_parser.specs.Reading.{Parsed, Continued}
+use Rattle.idl_parser.specs.inner.Reading.{Parsed, Continued}
 use Rattle.idl_parser.proofs.Reading.{past_append}
 
 pub part_then : {a b c : List Seen} {x y : List Piece} → Parsed a x b → Parsed b y c → Parsed a (x ++ y) c

@@ -14,7 +14,7 @@ use Rattle.idl_lexer.specs.declared.token.Token.{Token}
 use Rattle.idl_tree.specs.declared.names.Leaf.{Leaf}
 use Rattle.idl_tree.specs.Levels.{highest}
 use Rattle.idl_tree.specs.Pieces.{Seen, Piece, past, behind, is_piece, kind_code, seen_from, touches_next, piece, kept, touching, mark}
-use Rattle.idl_parser.specs.Reading.{Parsed, Continued}
+use Rattle.idl_parser.specs.inner.Reading.{Parsed, Continued}
 
 both : {a b : Bool} → a ≡ true → b ≡ true → (a && b) ≡ true
 both {a = true} e f = f

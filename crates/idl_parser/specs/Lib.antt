@@ -1,3 +1,2 @@
 -- From where to where a part of a tree is read, and what is made of parts.
-pub mod Reading
-pub mod Makings
+pub mod inner

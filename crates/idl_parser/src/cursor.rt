@@ -5,7 +5,7 @@
 
 ghost use Rattle.std.specs.Prelude.{◌≡◌, ◌++◌, suc, [], Ok, IfOk, IfSome, IfNone, codes};
 ghost use Rattle.std.specs.Bool.{OnTrue, OnFalse};
-ghost use Rattle.idl_parser.specs.Reading.{Parsed};
+ghost use Rattle.idl_parser.specs.inner.Reading.{Parsed};
 ghost use Rattle.idl_tree.specs.Pieces.{piece, keyword, kept, mark, touching, leaf as leaf_yield, seen_from};
 ghost use Rattle.idl_tree.specs.Yields.{identifier as identifier_yield};
 

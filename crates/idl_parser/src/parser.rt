@@ -3,7 +3,7 @@
 
 ghost use Rattle.std.specs.Prelude.{◌≡◌, ◌++◌, ◌≤◌, IfOk};
 ghost use Rattle.idl_tree.specs.Pieces.{Spell, seen_from};
-ghost use Rattle.idl_parser.specs.Reading.{Whole};
+ghost use Rattle.idl_parser.specs.inner.Reading.{Whole};
 ghost use Rattle.idl_tree.specs.DefinitionYields.{definitions_spelled};
 ghost use Rattle.idl_tree.specs.DefinitionLevels.{levels_of};
 

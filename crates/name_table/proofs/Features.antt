@@ -14,9 +14,9 @@ use Rattle.name_table.specs.declared.search.Found.{Found}
 use Rattle.name_table.specs.declared.search.Found.TheVariants.{Nothing, One, Several}
 use Rattle.name_table.specs.Entry.{Entry, bases_of, is_named, named}
 use Rattle.name_table.specs.Features.{differ, differ_in, is_one_other}
-use Rattle.name_table.specs.Records.{HasWord}
+use Rattle.name_table.specs.inner.Records.{HasWord}
 use Rattle.name_table.specs.Search.{base_at, before, both, declared_before, from_base, inherited, or_else, own, within}
-use Rattle.name_table.specs.SeveralBases.{SaysNothingNew}
+use Rattle.name_table.specs.inner.SeveralBases.{SaysNothingNew}
 use Rattle.name_table.proofs.MergedBases.{inherited_case, like_of, lower, within_case}
 
 -- ---- tests of elements

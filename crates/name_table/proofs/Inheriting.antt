@@ -13,7 +13,7 @@ use Rattle.name_table.specs.declared.search.Found.{Found}
 use Rattle.name_table.specs.declared.search.Found.TheVariants.{Nothing, One, Several}
 use Rattle.name_table.specs.Entry.{Entry, bases_in, bases_of, around, scope_in}
 use Rattle.name_table.specs.Search.{base_at, or_else, own, inherited, within, within_first, outwards}
-use Rattle.name_table.specs.Records.{AreNestedRecords, ArePlaced, AreSearched, entries_in, entry_of, by_first, by_given, by_heir, given_before, heir_bases, heir_in, heir_of, is_word, unboxed}
+use Rattle.name_table.specs.inner.Records.{AreNestedRecords, ArePlaced, AreSearched, entries_in, entry_of, by_first, by_given, by_heir, given_before, heir_bases, heir_in, heir_of, is_word, unboxed}
 
 -- ---- bases
 

@@ -5,7 +5,7 @@ use Rattle.name_table.specs.declared.record.Record.{Record}
 use Rattle.name_table.specs.Entry.{Entry, bases_of}
 use Rattle.name_table.specs.Entries.{entry_with_base, last_of, latest, with_base}
 use Rattle.name_table.specs.Features.{features_of}
-use Rattle.name_table.specs.Records.{entries_in, heir_bases}
+use Rattle.name_table.specs.inner.Records.{entries_in, heir_bases}
 use Rattle.name_table.specs.Search.{base_at}
 
 base_low : (bs : List Base) (t b : ℕ) → base_at bs t ≡ Some b → t ≤ last_of bs

@@ -11,7 +11,7 @@ use Rattle.name_table.specs.declared.record.Record.{Record}
 use Rattle.name_table.specs.declared.search.Found.TheVariants.{Nothing, One}
 use Rattle.name_table.specs.Entry.{AreDistinct, Entry, is_named, named}
 use Rattle.name_table.specs.Search.{before, declared_before, own}
-use Rattle.name_table.specs.Records.{entries_in, entry_of, key_of}
+use Rattle.name_table.specs.inner.Records.{entries_in, entry_of, key_of}
 
 -- ---- places in lists
 

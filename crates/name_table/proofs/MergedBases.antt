@@ -21,11 +21,11 @@ use Rattle.name_table.specs.declared.record.Heir.{Heir}
 use Rattle.name_table.specs.declared.record.Record.{Record}
 use Rattle.name_table.specs.declared.search.Found.{Found}
 use Rattle.name_table.specs.declared.search.Found.TheVariants.{Nothing, One, Several}
-use Rattle.name_table.specs.Keys.{folded, word_cmp}
+use Rattle.name_table.specs.inner.Keys.{folded, word_cmp}
 use Rattle.name_table.specs.Entry.{Entry, bases_of, is_named, named}
 use Rattle.name_table.specs.Search.{base_at, both, declared_before, from_base, inherited, or_else, own, within}
-use Rattle.name_table.specs.Records.{AreListed, HasWord, entries_in, words_at, by_given, by_heir, alone_or_not, given_before, is_word}
-use Rattle.name_table.specs.SeveralBases.{HasNoneFrom, IsDone, IsKept, IsRight, Merges, SaysNothingNew, given_then, with_more}
+use Rattle.name_table.specs.inner.Records.{AreListed, HasWord, entries_in, words_at, by_given, by_heir, alone_or_not, given_before, is_word}
+use Rattle.name_table.specs.inner.SeveralBases.{HasNoneFrom, IsDone, IsKept, IsRight, Merges, SaysNothingNew, given_then, with_more}
 use Rattle.name_table.proofs.Lookups.{position_same}
 use Rattle.name_table.proofs.Orders.{equal_words, same_folded}
 use Rattle.name_table.proofs.Tied.{HasWord_last, HasWord_push}

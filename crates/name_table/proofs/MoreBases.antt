@@ -17,13 +17,13 @@ use Rattle.name_table.specs.declared.search.Found.TheVariants.{Nothing}
 use Rattle.name_table.specs.Entry.{Entry, bases_of, is_named, named}
 use Rattle.name_table.specs.Search.{base_at, before, both, declared_before, from_base, inherited, or_else, own, within}
 use Rattle.name_table.specs.Entries.{entry_with_base, latest, with_base}
-use Rattle.name_table.specs.Records.{AreNestedRecords, ArePlaced, AreSearched, AreTied, by_given, by_heir, entries_in, entry_of, heir_bases, heir_in, heir_of, is_word, key_of, unboxed}
-use Rattle.name_table.specs.SeveralBases.{HasNoneFrom, IsKept, Merges, with_more}
+use Rattle.name_table.specs.inner.Records.{AreNestedRecords, ArePlaced, AreSearched, AreTied, by_given, by_heir, entries_in, entry_of, heir_bases, heir_in, heir_of, is_word, key_of, unboxed}
+use Rattle.name_table.specs.inner.SeveralBases.{HasNoneFrom, IsKept, Merges, with_more}
 use Rattle.name_table.proofs.Inheriting.{bases_kept, first_base, heir_list}
 use Rattle.name_table.proofs.Latest.{bases_low, latest_based}
 use Rattle.name_table.proofs.Lookups.{named_keys}
 use Rattle.name_table.specs.declared.shortcuts.Shortcut.{Shortcut}
-use Rattle.name_table.specs.Shortcuts.{AreShort, way_at}
+use Rattle.name_table.specs.inner.Shortcuts.{AreShort, way_at}
 use Rattle.name_table.proofs.WaysKept.{ways_like}
 use Rattle.name_table.proofs.Stability.{agree, constant}
 

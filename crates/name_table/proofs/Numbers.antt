@@ -9,7 +9,7 @@ use Rattle.std.specs.declared.cmp.Ordering.{Ordering}
 use Rattle.std.specs.Ordering.{eq_by_cmp, is_eq}
 use Rattle.std.proofs.lemmas.Cmp.{eq_by_cmp_equiv}
 use Rattle.std.proofs.lemmas.Map.Keys.{IsDistinct-push}
-use Rattle.name_table.specs.Keys.{AreNumbered}
+use Rattle.name_table.specs.inner.Keys.{AreNumbered}
 use Rattle.name_table.proofs.Lookups.{position_same}
 use Rattle.name_table.proofs.Stability.{or_place, position_any, position_low, position_push}
 

@@ -12,8 +12,8 @@ use Rattle.std.proofs.Math.Seq.{drop-cons}
 use Rattle.std.proofs.lemmas.Cmp.{ranked}
 use Rattle.std.proofs.lemmas.Slice.Eq.{bytes_eq-Decides}
 use Rattle.name_table.specs.declared.key.Word.{Word}
-use Rattle.name_table.specs.Keys.{folded, word_cmp, word_ties}
-use Rattle.name_table.specs.Records.{is_word}
+use Rattle.name_table.specs.inner.Keys.{folded, word_cmp, word_ties}
+use Rattle.name_table.specs.inner.Records.{is_word}
 use Rattle.name_table.proofs.GivenBehind.{drop_none}
 
 -- ---- two texts, octet by octet

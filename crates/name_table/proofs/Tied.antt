@@ -15,9 +15,9 @@ use Rattle.name_table.specs.declared.record.Record.{Record}
 use Rattle.name_table.specs.Entry.{AreNested, Entry, bases_of, is_named, named}
 use Rattle.name_table.specs.Search.{base_at, inherited}
 use Rattle.name_table.specs.declared.search.Found.TheVariants.{Nothing}
-use Rattle.name_table.specs.Records.{AreListed, ArePlaced, AreSearched, AreNestedRecords, AreTied, HasWord, by_given, by_heir, entries_in, entry_of, heir_bases, heir_in, heir_of, is_word, key_of, unboxed, words_at, words_in}
+use Rattle.name_table.specs.inner.Records.{AreListed, ArePlaced, AreSearched, AreNestedRecords, AreTied, HasWord, by_given, by_heir, entries_in, entry_of, heir_bases, heir_in, heir_of, is_word, key_of, unboxed, words_at, words_in}
 use Rattle.name_table.specs.declared.shortcuts.Shortcut.{Shortcut}
-use Rattle.name_table.specs.Shortcuts.{AreShort}
+use Rattle.name_table.specs.inner.Shortcuts.{AreShort}
 use Rattle.name_table.proofs.WaysKept.{ways_like}
 use Rattle.name_table.proofs.Inheriting.{first_base}
 use Rattle.name_table.proofs.Latest.{bases_low, latest_push}

@@ -16,11 +16,11 @@ use Rattle.name_table.specs.declared.shortcuts.Place.{Place}
 use Rattle.name_table.specs.declared.shortcuts.Shortcut.{Shortcut}
 use Rattle.name_table.specs.Entry.{Entry}
 use Rattle.name_table.specs.Entries.{latest}
-use Rattle.name_table.specs.Keys.{word_cmp}
-use Rattle.name_table.specs.Records.{HasWord, by_given, is_word}
+use Rattle.name_table.specs.inner.Keys.{word_cmp}
+use Rattle.name_table.specs.inner.Records.{HasWord, by_given, is_word}
 use Rattle.name_table.specs.Search.{both, inherited, or_else, own, within}
-use Rattle.name_table.specs.SeveralBases.{IsKept, SaysNothingNew}
-use Rattle.name_table.specs.Shortcuts.{AreShort, IsShort, LeadsTo, Passes, given_at, way_at}
+use Rattle.name_table.specs.inner.SeveralBases.{IsKept, SaysNothingNew}
+use Rattle.name_table.specs.inner.Shortcuts.{AreShort, IsShort, LeadsTo, Passes, given_at, way_at}
 use Rattle.name_table.proofs.Tied.{HasWord_last, HasWord_push}
 use Rattle.name_table.proofs.MergedBases.{first_or, none_left, same_word}
 

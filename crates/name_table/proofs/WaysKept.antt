@@ -5,9 +5,9 @@ use Rattle.std.proofs.lemmas.Bool.{eq-eqb, eqb-true}
 use Rattle.name_table.specs.declared.shortcuts.Shortcut.{Shortcut}
 use Rattle.name_table.specs.Entry.{Entry}
 use Rattle.name_table.specs.Entries.{latest}
-use Rattle.name_table.specs.Records.{HasWord}
+use Rattle.name_table.specs.inner.Records.{HasWord}
 use Rattle.name_table.specs.Search.{inherited}
-use Rattle.name_table.specs.Shortcuts.{AreShort, way_at}
+use Rattle.name_table.specs.inner.Shortcuts.{AreShort, way_at}
 
 pub ways_like : (es fs : List Entry) (ways : List (Option Shortcut)) → latest es ≤ latest fs → AreShort es ways
     → ((q : ℕ) (way : Shortcut) → way_at ways q ≡ Some way → (t : ℕ) (name : List ℕ) → inherited fs t q name ≡ inherited es t q name)

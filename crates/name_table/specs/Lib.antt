@@ -4,8 +4,4 @@ pub mod Search
 pub mod Entries
 pub mod OwnNames
 pub mod Features
-pub mod Codes
-pub mod Keys
-pub mod Records
-pub mod SeveralBases
-pub mod Shortcuts
+pub mod inner

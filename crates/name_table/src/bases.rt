@@ -8,8 +8,8 @@ ghost use Rattle.name_table.specs.declared.search.Found.{Found};
 ghost use Rattle.name_table.specs.Entry.{bases_of};
 ghost use Rattle.name_table.specs.Entries.{latest};
 ghost use Rattle.name_table.specs.Search.{both as what_both_give, other_than, own as own_of, inherited as inherited_by, within as within_of};
-ghost use Rattle.name_table.specs.Records.{given_before, heir_of as heir_in_records, is_word, HasWord};
-ghost use Rattle.name_table.specs.SeveralBases.{given_then, HasNoneFrom, IsKept, Merges, SaysNothingNew, with_more, IsDone};
+ghost use Rattle.name_table.specs.inner.Records.{given_before, heir_of as heir_in_records, is_word, HasWord};
+ghost use Rattle.name_table.specs.inner.SeveralBases.{given_then, HasNoneFrom, IsKept, Merges, SaysNothingNew, with_more, IsDone};
 
 use crate::entry::Base;
 use crate::key::Word;

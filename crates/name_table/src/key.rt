@@ -2,7 +2,7 @@
 
 ghost use Rattle.std.specs.Prelude.{◌≡◌, map};
 ghost use Rattle.std.specs.Char.{to_ascii_lowercase};
-ghost use Rattle.name_table.specs.Codes.{code_of};
+ghost use Rattle.name_table.specs.inner.Codes.{code_of};
 
 /// A word. Words that differ only in the case of their letters are equal.
 #[derive(Clone, Copy)]
@@ -21,7 +21,7 @@ pub struct Key<'a> {
 }
 
 /// The code of a text, whatever the case of its letters.
-#[tactic(auto, unfolding(crate::specs::Codes::code_of))]
+#[tactic(auto, unfolding(crate::specs::inner::Codes::code_of))]
 fn code_of(text: &str) -> u64
     ensures { result ≡ code_of (map to_ascii_lowercase text.now) }
 {

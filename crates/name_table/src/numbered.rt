@@ -17,7 +17,7 @@ pub struct Numbered<K: Ord + Copy> {
 
 impl<K: Ord + Copy> Model for Numbered<K> {
     ghost use Rattle.std.specs.Prelude.{List};
-    ghost use Rattle.name_table.specs.Keys.{AreNumbered};
+    ghost use Rattle.name_table.specs.inner.Keys.{AreNumbered};
 
     ghost Value = { List K };
 

@@ -4,7 +4,7 @@ ghost use Rattle.std.specs.Prelude.{◌≡◌, None, Some};
 ghost use Rattle.std.specs.Map.{lookup};
 ghost use Rattle.name_table.specs.OwnNames.{is_named_so};
 ghost use Rattle.name_table.specs.Entries.{entry_declared};
-ghost use Rattle.name_table.specs.Records.{entry_of, given_before, is_word};
+ghost use Rattle.name_table.specs.inner.Records.{entry_of, given_before, is_word};
 
 use crate::entry::{Base, Meaning, keeps_its_name};
 use crate::key::{Key, Word};

@@ -4,9 +4,9 @@ ghost use Rattle.std.specs.Prelude.{◌≡◌, ◌<◌, ◌≤◌, ◌⊎◌, �
 ghost use Rattle.name_table.specs.Entry.{Entry};
 ghost use Rattle.name_table.specs.Entries.{latest};
 ghost use Rattle.std.specs.List.{list_any};
-ghost use Rattle.name_table.specs.Records.{HasWord, is_word};
+ghost use Rattle.name_table.specs.inner.Records.{HasWord, is_word};
 ghost use Rattle.name_table.specs.Search.{within as within_of};
-ghost use Rattle.name_table.specs.Shortcuts.{given_at, way_at as way_of_scope, IsShort, IsSearchStep, LeadsTo, Passes};
+ghost use Rattle.name_table.specs.inner.Shortcuts.{given_at, way_at as way_of_scope, IsShort, IsSearchStep, LeadsTo, Passes};
 
 use crate::bases::list_given;
 use crate::entry::Base;

@@ -7,7 +7,7 @@ ghost use Rattle.name_table.specs.Entry.{AreDistinct, AreNested, bases_in, worth
 ghost use Rattle.name_table.specs.OwnNames.{is_own_name as own_name_of};
 ghost use Rattle.idl_lexer.specs.Identifiers.{words};
 ghost use Rattle.name_table.specs.Entries.{latest, scope_of, with_base};
-ghost use Rattle.name_table.specs.Records.{heir_of as heir_in_records, entry_of, words_at, HasWord, is_word};
+ghost use Rattle.name_table.specs.inner.Records.{heir_of as heir_in_records, entry_of, words_at, HasWord, is_word};
 
 use crate::entry::Base;
 use crate::key::{Key, Word};
@@ -38,8 +38,8 @@ pub struct Table<'a> {
 impl<'a> Model for Table<'a> {
     ghost use Rattle.std.specs.Prelude.{List};
     ghost use Rattle.name_table.specs.Entry.{Entry};
-    ghost use Rattle.name_table.specs.Records.{entries_in, AreTied};
-    ghost use Rattle.name_table.specs.Shortcuts.{AreShort};
+    ghost use Rattle.name_table.specs.inner.Records.{entries_in, AreTied};
+    ghost use Rattle.name_table.specs.inner.Shortcuts.{AreShort};
 
     ghost Value = { List Entry };
 

@@ -8,7 +8,7 @@ ghost use Rattle.std.specs.Cmp.{partial_order_from_agreeing_total};
 ghost use Rattle.std.specs.Cmp.Lexicographic.{pointwise, slice_cmp};
 ghost use Rattle.std.specs.Cmp.Rules.{comparing};
 ghost use Rattle.std.specs.Ordering.{nat_cmp, on};
-ghost use Rattle.name_table.specs.Keys.{folded, word_cmp, word_cmp_total, word_ties};
+ghost use Rattle.name_table.specs.inner.Keys.{folded, word_cmp, word_cmp_total, word_ties};
 
 use crate::key::Word;
 use std::cmp::Ordering;

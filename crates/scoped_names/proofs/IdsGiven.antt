@@ -4,7 +4,7 @@ use Rattle.std.specs.Option.{option_map}
 use Rattle.std.proofs.lemmas.Bool.{eqb-true}
 use Rattle.scoped_names.specs.declared.repository_ids.PlacedId.{PlacedId}
 use Rattle.scoped_names.specs.RepositoryIds.{IdPragma, pragma_for}
-use Rattle.scoped_names.specs.IdsKept.{pragma_of, pragmas_of}
+use Rattle.scoped_names.specs.inner.IdsKept.{pragma_of, pragmas_of}
 use Rattle.name_table.proofs.Stability.{position_cons}
 
 abbrev pub id_at : List PlacedId → Option ℕ → Option PlacedId

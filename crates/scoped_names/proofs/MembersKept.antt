@@ -7,7 +7,7 @@ use Rattle.name_table.specs.declared.key.Key.{Key}
 use Rattle.name_table.proofs.Stability.{position_cons}
 use Rattle.idl_tree.specs.declared.names.At.{At}
 use Rattle.scoped_names.specs.Faults.{member_named}
-use Rattle.scoped_names.specs.StateKept.{member_of, members_of}
+use Rattle.scoped_names.specs.inner.StateKept.{member_of, members_of}
 
 abbrev pub place_at : List At → Option ℕ → Option At
 place_at places None = None

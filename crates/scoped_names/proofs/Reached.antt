@@ -7,7 +7,7 @@ use Rattle.name_table.specs.Entries.{latest}
 use Rattle.scoped_names.specs.declared.fault.NameFault.{NameFault}
 use Rattle.scoped_names.specs.Faults.{step_read, steps_read}
 use Rattle.scoped_names.specs.Reading.{State, StateOrFault, ◌>>◌}
-use Rattle.scoped_names.specs.Rising.{Rises, reached}
+use Rattle.scoped_names.specs.inner.Rising.{Rises, reached}
 use Rattle.name_steps.specs.Steps.{Step, Leaves, definition_steps, steps_of}
 use Rattle.scoped_names.proofs.Introducing.{then_ok}
 use Rattle.name_steps.proofs.ListedSteps.{module_listed}

@@ -16,7 +16,7 @@ use Rattle.idl_tree.proofs.SpelledForms.{AreNumbered-append, Spec-length, Spec-n
 use Rattle.idl_tree.specs.declared.kinds.EntryKind.{EntryKind}
 use Rattle.name_steps.specs.Asked.{pieces_of}
 use Rattle.scoped_names.specs.Meanings.{const_end}
-use Rattle.scoped_names.specs.Rising.{Follows, Rises, reached}
+use Rattle.scoped_names.specs.inner.Rising.{Follows, Rises, reached}
 use Rattle.name_steps.specs.Steps.{Step, Declares, DeclaresEnum, DeclaresEnumerator, DeclaresTypedef, IsNew, DeclaresConst, DeclaresFeature, HasMember, IsUndefined, HasBase, Enters, Defines, Leaves, NamesType, NamesException, HasWorth, IsSize, Says, steps_of}
 use Rattle.name_steps.proofs.Asks.{Asks, IsPlain, all_ask, none, silent as unasked, joined as both_asked, plain, base, valued, declared, featured, undefined, inside, defines}
 

@@ -17,7 +17,7 @@ use Rattle.scoped_names.specs.IdPragmas.{Said, SetsPrefix, Gives, said_by}
 use Rattle.scoped_names.specs.Meanings.{const_meant, enum_meant, enumerator_meant, typedef_meant}
 use Rattle.scoped_names.specs.Reading.{State, StateOrFault, Test, passed, ◌>>◌}
 use Rattle.scoped_names.specs.RepositoryIds.{pragma_for}
-use Rattle.scoped_names.specs.Rising.{Follows, reached}
+use Rattle.scoped_names.specs.inner.Rising.{Follows, reached}
 use Rattle.name_steps.specs.Steps.{Step, Declares, DeclaresEnum, DeclaresEnumerator, DeclaresTypedef, IsNew, DeclaresConst, DeclaresFeature, HasMember, IsUndefined, HasBase, Enters, Defines, Leaves, NamesType, NamesException, HasWorth, IsSize, Says}
 use Rattle.scoped_names.specs.Tests.{found_at, resolved, value_of_type}
 use Rattle.scoped_names.specs.TypeKinds.{const_type_kind}

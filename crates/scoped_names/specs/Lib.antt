@@ -9,8 +9,6 @@ pub mod IdPragmas
 pub mod Faults
 pub mod FileNames
 pub mod Introductions
-pub mod Rising
-pub mod IdsKept
-pub mod StateKept
 pub mod Holding
 pub mod Following
+pub mod inner

@@ -2,7 +2,7 @@
 
 ghost use Rattle.std.specs.Prelude.{◌≡◌, ◌++◌, ◌∷◌, [], None, OnErr, OnOk};
 ghost use Rattle.scoped_names.specs.Faults.{member_named};
-ghost use Rattle.scoped_names.specs.StateKept.{member_of};
+ghost use Rattle.scoped_names.specs.inner.StateKept.{member_of};
 
 use idl_tree::names::At;
 use name_table::{Key, Numbered};
@@ -19,7 +19,7 @@ pub(crate) struct Members<'a> {
 impl<'a> Model for Members<'a> {
     ghost use Rattle.std.specs.Prelude.{List, ◌≡◌, length};
     ghost use Rattle.scoped_names.specs.Reading.{Member};
-    ghost use Rattle.scoped_names.specs.StateKept.{members_of};
+    ghost use Rattle.scoped_names.specs.inner.StateKept.{members_of};
 
     ghost Value = { List Member };
 

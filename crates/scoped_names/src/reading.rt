@@ -4,10 +4,10 @@ ghost use Rattle.std.specs.Prelude.{◌≡◌, ◌<◌, ◌≤◌, ◌^◌, [], 
 ghost use Rattle.name_table.specs.Entries.{latest};
 ghost use Rattle.scoped_names.specs.Faults.{base_added, const_declared, enum_declared, enumerator_declared, feature_declared, nothing_yet, said_read, specification_read, step_read, steps_read, test_of, type_kind, typedef_declared};
 ghost use Rattle.scoped_names.specs.IdPragmas.{Gives as GivesTo, said_by};
-ghost use Rattle.scoped_names.specs.IdsKept.{given_of};
+ghost use Rattle.scoped_names.specs.inner.IdsKept.{given_of};
 ghost use Rattle.scoped_names.specs.Meanings.{const_end};
 ghost use Rattle.scoped_names.specs.Reading.{Checks, Tells};
-ghost use Rattle.scoped_names.specs.Rising.{Follows, Rises};
+ghost use Rattle.scoped_names.specs.inner.Rising.{Follows, Rises};
 ghost use Rattle.name_steps.specs.Steps.{definition_steps, module_body, steps_of};
 ghost use Rattle.name_steps.specs.StepsKept.{flat_steps, step_of, steps_in};
 ghost use Rattle.scoped_names.specs.Tests.{is_exception, is_type, raised_test, type_name_test};

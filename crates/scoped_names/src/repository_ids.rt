@@ -4,7 +4,7 @@ ghost use Rattle.std.specs.Prelude.{◌≡◌, ◌++◌, ◌<◌, ◌≤◌, ◌
 ghost use Rattle.std.specs.Option.{option_map};
 ghost use Rattle.std.specs.String.{string_bytes};
 ghost use Rattle.scoped_names.specs.RepositoryIds.{given_to, pragma_for, path, with_slashes, idl_format, repository_id};
-ghost use Rattle.scoped_names.specs.IdsKept.{given_of};
+ghost use Rattle.scoped_names.specs.inner.IdsKept.{given_of};
 ghost use Rattle.scoped_names.specs.Faults.{again_test, given_once};
 ghost use Rattle.scoped_names.specs.Reading.{Checks, Tells};
 ghost use Rattle.scoped_names.specs.IdPragmas.{is_same_given};
@@ -44,7 +44,7 @@ pub(crate) struct IdPragmas<'a> {
 impl<'a> Model for IdPragmas<'a> {
     ghost use Rattle.std.specs.Prelude.{◌≡◌, List, length};
     ghost use Rattle.scoped_names.specs.RepositoryIds.{IdPragma};
-    ghost use Rattle.scoped_names.specs.IdsKept.{pragmas_of};
+    ghost use Rattle.scoped_names.specs.inner.IdsKept.{pragmas_of};
 
     ghost Value = { List IdPragma };
 

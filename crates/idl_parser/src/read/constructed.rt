@@ -3,7 +3,7 @@
 
 ghost use Rattle.std.specs.Prelude.{◌≡◌, ◌++◌, ◌∷◌, [], ◌≤◌, ◌<◌, max, suc, length, IfOk, List, codes};
 ghost use Rattle.std.specs.List.{flat_map};
-ghost use Rattle.idl_parser.specs.Reading.{Parsed, Continued, Added};
+ghost use Rattle.idl_parser.specs.inner.Reading.{Parsed, Continued, Added};
 ghost use Rattle.idl_tree.specs.Pieces.{keyword, mark};
 ghost use Rattle.idl_tree.specs.Yields.{identifier, in_order};
 ghost use Rattle.idl_tree.specs.TypeYields.{label_yield, member_yield, case_yield, switch_yield, type_yield, struct_yield, union_yield};

@@ -2,7 +2,7 @@
 #![tactic(auto, using(crate::proofs::Reading::past_append, crate::proofs::Reading::past_none))]
 
 ghost use Rattle.std.specs.Prelude.{◌≡◌, ◌++◌, ◌≤◌, max, IfOk, List, codes};
-ghost use Rattle.idl_parser.specs.Reading.{Parsed};
+ghost use Rattle.idl_parser.specs.inner.Reading.{Parsed};
 ghost use Rattle.idl_tree.specs.Pieces.{keyword, mark};
 ghost use Rattle.idl_tree.specs.Yields.{identifier as identifier_yield, const_expr_yield};
 ghost use Rattle.std.specs.List.{flat_map};

@@ -3,8 +3,8 @@
 
 ghost use Rattle.std.specs.Prelude.{◌≡◌, ◌++◌, ◌≤◌, ◌∷◌, [], suc, max, Ok, IfOk, List, codes};
 ghost use Rattle.std.specs.List.{flat_map};
-ghost use Rattle.idl_parser.specs.Reading.{Parsed, Continued, Added};
-ghost use Rattle.idl_parser.specs.Makings.{HasModule};
+ghost use Rattle.idl_parser.specs.inner.Reading.{Parsed, Continued, Added};
+ghost use Rattle.idl_parser.specs.inner.Makings.{HasModule};
 ghost use Rattle.idl_tree.specs.declared.definitions.Definition.{Interface as Interfaces};
 ghost use Rattle.idl_tree.specs.Pieces.{keyword, mark};
 ghost use Rattle.idl_tree.specs.Yields.{identifier};

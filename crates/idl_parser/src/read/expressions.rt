@@ -4,7 +4,7 @@
 ghost use Rattle.std.specs.Prelude.{◌≡◌, ◌++◌, ◌≤◌, ◌<◌, Bool, true, IfOk, IfSome, IfNone, List, codes};
 ghost use Rattle.std.specs.Bool.{OnTrue};
 ghost use Rattle.std.specs.List.{AllByRecursion, flat_map};
-ghost use Rattle.idl_parser.specs.Reading.{Parsed, Continued};
+ghost use Rattle.idl_parser.specs.inner.Reading.{Parsed, Continued};
 ghost use Rattle.idl_tree.specs.Pieces.{kept_mark};
 ghost use Rattle.idl_tree.specs.Grouping.{level_of, is_operator_of, IsOfLevel, IsOperandOf};
 ghost use Rattle.idl_tree.specs.Levels.{highest, expr_levels, operand_levels, const_expr_levels, bound_levels};

@@ -3,7 +3,7 @@
 
 ghost use Rattle.std.specs.Prelude.{◌≡◌, ◌++◌, ◌≤◌, ◌∷◌, [], ℕ, Bool, true, false, max, IfOk, List, codes};
 ghost use Rattle.std.specs.List.{flat_map};
-ghost use Rattle.idl_parser.specs.Reading.{Parsed, Continued, Added};
+ghost use Rattle.idl_parser.specs.inner.Reading.{Parsed, Continued, Added};
 ghost use Rattle.idl_tree.specs.Pieces.{Seen, mark};
 ghost use Rattle.idl_tree.specs.Yields.{identifier as identifier_yield, optional, listed};
 ghost use Rattle.idl_tree.specs.Levels.{highest, highest_listed, optional_levels};

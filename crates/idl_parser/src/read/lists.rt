@@ -3,7 +3,7 @@
 
 ghost use Rattle.std.specs.Prelude.{◌≡◌, ◌++◌, ◌≤◌, ◌<◌, ◌∷◌, [], ℕ, suc, length, List, Ok, IfOk, IsOkAnd, codes};
 ghost use Rattle.std.specs.List.{flat_map};
-ghost use Rattle.idl_parser.specs.Reading.{Parsed, Continued};
+ghost use Rattle.idl_parser.specs.inner.Reading.{Parsed, Continued};
 ghost use Rattle.idl_tree.specs.Pieces.{Piece, keyword, mark};
 ghost use Rattle.idl_tree.specs.Yields.{identifier, listed};
 ghost use Rattle.idl_tree.specs.Levels.{highest, highest_listed};

@@ -2,7 +2,7 @@
 #![tactic(auto, using(crate::proofs::Reading::past_append, crate::proofs::Reading::past_none))]
 
 ghost use Rattle.std.specs.Prelude.{◌≡◌, ◌++◌, ℕ, IfOk, List, codes};
-ghost use Rattle.idl_parser.specs.Reading.{Parsed, Continued};
+ghost use Rattle.idl_parser.specs.inner.Reading.{Parsed, Continued};
 ghost use Rattle.std.specs.List.{flat_map};
 ghost use Rattle.idl_tree.specs.Pieces.{mark};
 ghost use Rattle.idl_tree.specs.Yields.{identifier, optional, root_yield, name_yield};

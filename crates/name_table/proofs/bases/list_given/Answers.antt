@@ -2,7 +2,7 @@ use Rattle.std.proofs.Common.{inl, sym, ap, subst}
 use Rattle.std.specs.Map.Iter.{deref_pair}
 use Rattle.std.proofs.lemmas.Map.Iter.{rest_all, rest_more}
 use Rattle.std.specs.Map.{lookup}
-use Rattle.name_table.specs.Records.{HasWord, is_word}
+use Rattle.name_table.specs.inner.Records.{HasWord, is_word}
 use Rattle.name_table.proofs.Tied.{HasWord_push}
 use Rattle.name_table.proofs.MergedBases.{entry_listed, is_listed}
 use Rattle.name_table.proofs.bases.list_given.Goals as goal

@@ -1,5 +1,5 @@
 use Rattle.std.proofs.Common.{ℕ, List}
-use Rattle.name_table.specs.Records.{HasWord}
+use Rattle.name_table.specs.inner.Records.{HasWord}
 use Rattle.name_table.proofs.MergedBases.{is_listed}
 use Rattle.name_table.proofs.bases.list_given.Given as goal
 

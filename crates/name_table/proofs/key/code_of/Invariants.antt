@@ -1,6 +1,6 @@
 use Rattle.std.proofs.Common.{◌≡◌, fold, map, take}
 use Rattle.std.specs.Char.{to_ascii_lowercase}
-use Rattle.name_table.specs.Codes.{more_code}
+use Rattle.name_table.specs.inner.Codes.{more_code}
 use Rattle.name_table.proofs.key.code_of.Given as goal
 
 abbrev pub invariant-loop-octet : goal.invariant-loop-octet

@@ -1,6 +1,6 @@
 use Rattle.std.proofs.Common.{◌∙◌, None, Some, nat_eq, refl, ap, arith}
 use Rattle.std.specs.Prelude.{if◌then◌else◌}
-use Rattle.name_table.specs.Shortcuts.{way_at, way_in}
+use Rattle.name_table.specs.inner.Shortcuts.{way_at, way_in}
 use Rattle.name_table.proofs.Stability.{get_push}
 use Rattle.name_table.proofs.WaysKept.{on_err, ways_set}
 use Rattle.name_table.proofs.shortcuts.keep_way.Goals as goal

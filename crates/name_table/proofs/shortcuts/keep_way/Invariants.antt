@@ -1,5 +1,5 @@
 use Rattle.std.proofs.Common.{◌≡◌, ◌+◌, ◌-◌, ℕ, length}
-use Rattle.name_table.specs.Shortcuts.{way_at}
+use Rattle.name_table.specs.inner.Shortcuts.{way_at}
 use Rattle.name_table.proofs.shortcuts.keep_way.Given as goal
 
 abbrev pub invariant-loop-ways : goal.invariant-loop-ways

@@ -1,7 +1,7 @@
 use Rattle.std.proofs.Common.{inr, sym, subst}
 use Rattle.std.specs.Map.Iter.{deref}
 use Rattle.std.proofs.lemmas.Map.Iter.{rest_all, rest_more}
-use Rattle.name_table.specs.Records.{HasWord}
+use Rattle.name_table.specs.inner.Records.{HasWord}
 use Rattle.name_table.proofs.Tied.{HasWord_push}
 use Rattle.name_table.proofs.Ways.{has_all, word_listed}
 use Rattle.name_table.proofs.shortcuts.list_set.Goals as goal

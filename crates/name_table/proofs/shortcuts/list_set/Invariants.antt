@@ -1,5 +1,5 @@
 use Rattle.std.proofs.Common.{◌⊎◌, ℕ, List}
-use Rattle.name_table.specs.Records.{HasWord}
+use Rattle.name_table.specs.inner.Records.{HasWord}
 use Rattle.name_table.proofs.shortcuts.list_set.Given as goal
 
 abbrev pub invariant-loop-word : goal.invariant-loop-word

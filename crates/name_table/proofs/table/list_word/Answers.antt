@@ -1,7 +1,7 @@
 use Rattle.std.proofs.Common.{◌≡◌, ◌∙◌, ◌++◌, ◌∷◌, [], List, ℕ, sym, subst, Vec, Global}
 use Rattle.std.specs.Prelude.{slice_set}
 use Rattle.name_table.specs.declared.key.Word.{Word}
-use Rattle.name_table.specs.Records.{HasWord, words_at}
+use Rattle.name_table.specs.inner.Records.{HasWord, words_at}
 use Rattle.name_table.proofs.Tied.{HasWord_last, HasWord_push, kept_set, listed_set, words_of_item}
 use Rattle.name_table.proofs.table.list_word.Goals as goal
 

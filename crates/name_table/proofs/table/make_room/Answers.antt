@@ -1,5 +1,5 @@
 use Rattle.std.proofs.Common.{◌∙◌, ap}
-use Rattle.name_table.specs.Records.{words_at}
+use Rattle.name_table.specs.inner.Records.{words_at}
 use Rattle.name_table.proofs.Tied.{kept_room}
 use Rattle.name_table.proofs.table.make_room.Goals as goal
 

@@ -1,5 +1,5 @@
 use Rattle.std.proofs.Common.{◌≡◌, ◌+◌, ◌-◌, ℕ, length}
-use Rattle.name_table.specs.Records.{words_at}
+use Rattle.name_table.specs.inner.Records.{words_at}
 use Rattle.name_table.proofs.table.make_room.Given as goal
 
 abbrev pub invariant-loop-alloc : goal.invariant-loop-alloc

@@ -1,6 +1,6 @@
 use Rattle.std.proofs.Common.{◌+◌, ◌*◌, ◌≤◌, length}
 use Rattle.std.specs.List.{flat_map}
-use Rattle.idl_parser.specs.Reading.{Continued}
+use Rattle.idl_parser.specs.inner.Reading.{Continued}
 use Rattle.idl_tree.specs.Levels.{highest}
 use Rattle.idl_tree.specs.TypeYields.{member_yield, case_yield}
 use Rattle.idl_tree.specs.TypeLevels.{member_levels, case_levels}

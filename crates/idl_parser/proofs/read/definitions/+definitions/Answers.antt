@@ -3,7 +3,7 @@ use Rattle.std.specs.Prelude.{codes}
 use Rattle.idl_tree.specs.Pieces.{mark}
 use Rattle.idl_tree.specs.DefinitionYields.{definition_yield}
 use Rattle.idl_tree.specs.DefinitionLevels.{definition_levels}
-use Rattle.idl_parser.specs.Makings.{module_front}
+use Rattle.idl_parser.specs.inner.Makings.{module_front}
 use Rattle.idl_parser.proofs.Parts.{part_then, part_then_more}
 use Rattle.idl_parser.proofs.Adding.{longer, longer_level, added_ended}
 use Rattle.idl_parser.proofs.read.definitions.+definitions.Goals as goal

@@ -7,7 +7,7 @@ use Rattle.idl_tree.specs.Levels.{highest}
 use Rattle.idl_tree.specs.DefinitionYields.{definition_yield}
 use Rattle.idl_tree.specs.DefinitionLevels.{definition_levels}
 use Rattle.idl_tree.proofs.Modules.{module_yields, module_nests}
-use Rattle.idl_parser.specs.Makings.{module_front, HasModule}
+use Rattle.idl_parser.specs.inner.Makings.{module_front, HasModule}
 use Rattle.idl_parser.proofs.read.definitions.add_module.Goals as goal
 
 module_added : {V E : Type 0} (name : Leaf) (inside before after : List Definition) (d : Definition) (r : Result V E)

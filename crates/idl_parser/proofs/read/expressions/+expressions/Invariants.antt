@@ -1,6 +1,6 @@
 use Rattle.std.proofs.Common.{◌+◌, ◌-◌, ◌*◌, ◌≤◌, length}
 use Rattle.std.specs.List.{AllByRecursion, flat_map}
-use Rattle.idl_parser.specs.Reading.{Continued}
+use Rattle.idl_parser.specs.inner.Reading.{Continued}
 use Rattle.idl_tree.specs.Levels.{highest}
 use Rattle.idl_tree.specs.Levels.{operand_levels}
 use Rattle.idl_tree.specs.Grouping.{IsOperandOf}

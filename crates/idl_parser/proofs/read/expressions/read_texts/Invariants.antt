@@ -1,6 +1,6 @@
 use Rattle.std.proofs.Common.{length}
 use Rattle.std.specs.List.{flat_map}
-use Rattle.idl_parser.specs.Reading.{Continued}
+use Rattle.idl_parser.specs.inner.Reading.{Continued}
 use Rattle.idl_tree.specs.Yields.{text_yield}
 use Rattle.idl_parser.proofs.read.expressions.read_texts.Given as goal
 

@@ -3,7 +3,7 @@ use Rattle.std.specs.Prelude.{codes}
 use Rattle.idl_tree.specs.Pieces.{keyword}
 use Rattle.idl_tree.specs.TypeYields.{param_type_yield}
 use Rattle.idl_tree.specs.DefinitionYields.{readonly_yield, attributes_yield}
-use Rattle.idl_parser.specs.Reading.{Parsed}
+use Rattle.idl_parser.specs.inner.Reading.{Parsed}
 use Rattle.idl_parser.proofs.Parts.{part_then, more_then_part}
 use Rattle.idl_parser.proofs.read.interfaces.read_attribute.Goals as goal
 

@@ -1,7 +1,7 @@
 use Rattle.std.proofs.Common.{◌++◌, length}
 use Rattle.std.specs.List.{flat_map}
 use Rattle.std.specs.Prelude.{codes}
-use Rattle.idl_parser.specs.Reading.{Continued}
+use Rattle.idl_parser.specs.inner.Reading.{Continued}
 use Rattle.idl_tree.specs.Pieces.{mark}
 use Rattle.idl_tree.specs.Yields.{identifier}
 use Rattle.idl_parser.proofs.read.names.read_parts.Given as goal

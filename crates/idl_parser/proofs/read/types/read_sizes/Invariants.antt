@@ -1,6 +1,6 @@
 use Rattle.std.proofs.Common.{◌≤◌, length}
 use Rattle.std.specs.List.{flat_map}
-use Rattle.idl_parser.specs.Reading.{Continued}
+use Rattle.idl_parser.specs.inner.Reading.{Continued}
 use Rattle.idl_tree.specs.Levels.{highest, const_expr_levels}
 use Rattle.idl_tree.specs.TypeYields.{size_yield}
 use Rattle.idl_parser.proofs.read.types.read_sizes.Given as goal

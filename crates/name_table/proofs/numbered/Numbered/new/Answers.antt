@@ -1,5 +1,5 @@
 use Rattle.std.proofs.Common.{[], sym, subst}
-use Rattle.name_table.specs.Keys.{AreNumbered}
+use Rattle.name_table.specs.inner.Keys.{AreNumbered}
 use Rattle.name_table.proofs.Numbers.{none_numbered}
 use Rattle.name_table.proofs.numbered.Numbered.new.Goals as goal
 

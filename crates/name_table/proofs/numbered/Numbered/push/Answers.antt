@@ -2,7 +2,7 @@ use Rattle.std.proofs.Common.{◌≡◌, ◌∙◌, ◌+◌, ◌++◌, ◌∷◌
 use Rattle.std.specs.Prelude.{if◌then◌else◌, is_some}
 use Rattle.std.specs.BTreeMap.{is_at}
 use Rattle.std.specs.Map.{lookup}
-use Rattle.name_table.specs.Keys.{AreNumbered}
+use Rattle.name_table.specs.inner.Keys.{AreNumbered}
 use Rattle.name_table.proofs.Lookups.{position_same}
 use Rattle.name_table.proofs.Numbers.{numbered_push}
 use Rattle.name_table.proofs.numbered.Numbered.push.Goals as goal

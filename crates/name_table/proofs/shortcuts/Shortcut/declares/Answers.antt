@@ -1,7 +1,7 @@
 use Rattle.std.proofs.Common.{◌∙◌}
 use Rattle.std.specs.BTreeMap.{is_at}
-use Rattle.name_table.specs.Keys.{word_cmp}
-use Rattle.name_table.specs.Records.{is_word}
+use Rattle.name_table.specs.inner.Keys.{word_cmp}
+use Rattle.name_table.specs.inner.Records.{is_word}
 use Rattle.name_table.proofs.Orders.{any_same, word_found}
 use Rattle.name_table.proofs.shortcuts.Shortcut.declares.Goals as goal
 

@@ -1,8 +1,8 @@
 use Rattle.std.proofs.Common.{◌≡◌, ◌∙◌, ◌++◌, ◌∷◌, [], refl, ap, sym, subst, length, arith}
 use Rattle.std.proofs.lemmas.List.{length-map}
 use Rattle.name_table.specs.Entries.{latest}
-use Rattle.name_table.specs.Records.{AreTied, entries_in, entry_of}
-use Rattle.name_table.specs.Shortcuts.{AreShort}
+use Rattle.name_table.specs.inner.Records.{AreTied, entries_in, entry_of}
+use Rattle.name_table.specs.inner.Shortcuts.{AreShort}
 use Rattle.name_table.proofs.Lookups.{position_is}
 use Rattle.name_table.proofs.Tied.{relisted, tied_push, ways_push}
 use Rattle.name_table.proofs.table.Table.add.Goals as goal

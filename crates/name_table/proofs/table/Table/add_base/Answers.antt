@@ -3,9 +3,9 @@ use Rattle.std.proofs.lemmas.List.{length-map}
 use Rattle.std.proofs.lemmas.Option.{slice_get_read}
 use Rattle.name_table.specs.Entry.{bases_of}
 use Rattle.name_table.specs.Entries.{latest, with_base}
-use Rattle.name_table.specs.Records.{entries_in, entry_of}
-use Rattle.name_table.specs.SeveralBases.{HasNoneFrom, Merges}
-use Rattle.name_table.specs.Shortcuts.{way_at}
+use Rattle.name_table.specs.inner.Records.{entries_in, entry_of}
+use Rattle.name_table.specs.inner.SeveralBases.{HasNoneFrom, Merges}
+use Rattle.name_table.specs.inner.Shortcuts.{way_at}
 use Rattle.name_table.proofs.Inheriting.{bases_kept}
 use Rattle.name_table.proofs.MoreBases.{none_from, tied_more, told_more, ways_more}
 use Rattle.name_table.proofs.table.Table.add_base.Goals as goal

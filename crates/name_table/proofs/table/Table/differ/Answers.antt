@@ -3,8 +3,8 @@ use Rattle.std.specs.List.{list_any}
 use Rattle.std.proofs.lemmas.List.{length-map}
 use Rattle.name_table.specs.Features.{differ_in}
 use Rattle.name_table.specs.Entries.{latest}
-use Rattle.name_table.specs.Records.{entries_in, entry_of, heir_of}
-use Rattle.name_table.specs.SeveralBases.{HasNoneFrom}
+use Rattle.name_table.specs.inner.Records.{entries_in, entry_of, heir_of}
+use Rattle.name_table.specs.inner.SeveralBases.{HasNoneFrom}
 use Rattle.name_table.proofs.Features.{differ_none, differ_words}
 use Rattle.name_table.proofs.Inheriting.{first_placed, without_bases}
 use Rattle.name_table.proofs.MoreBases.{first_before, none_from}

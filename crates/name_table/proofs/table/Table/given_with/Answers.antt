@@ -1,8 +1,8 @@
 use Rattle.std.proofs.Common.{◌≡◌, ◌∙◌, ◌+◌, ℕ, suc, refl, ap, subst, arith}
 use Rattle.std.specs.Map.{lookup}
-use Rattle.name_table.specs.Records.{given_before, is_word}
+use Rattle.name_table.specs.inner.Records.{given_before, is_word}
 use Rattle.name_table.specs.Search.{within}
-use Rattle.name_table.specs.SeveralBases.{given_then}
+use Rattle.name_table.specs.inner.SeveralBases.{given_then}
 use Rattle.name_table.proofs.MergedBases.{first_of, given_is, some_both}
 use Rattle.name_table.proofs.table.Table.given_with.Goals as goal
 use Rattle.name_table.proofs.table.Table.given_with.Goals.{in-Some, in-None}

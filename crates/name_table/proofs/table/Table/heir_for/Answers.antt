@@ -1,8 +1,8 @@
 use Rattle.std.proofs.Common.{◌≡◌, ◌∙◌, ◌++◌, ◌∷◌, ◌≤◌, ◌<◌, [], length, ap, sym, subst, arith}
 use Rattle.std.proofs.lemmas.List.{length-map}
 use Rattle.name_table.specs.Entry.{bases_of}
-use Rattle.name_table.specs.Records.{entries_in, entry_of, heir_of}
-use Rattle.name_table.specs.SeveralBases.{HasNoneFrom}
+use Rattle.name_table.specs.inner.Records.{entries_in, entry_of, heir_of}
+use Rattle.name_table.specs.inner.SeveralBases.{HasNoneFrom}
 use Rattle.name_table.proofs.Inheriting.{bases_kept, first_placed, heir_list}
 use Rattle.name_table.proofs.MergedBases.{ok_then}
 use Rattle.name_table.proofs.MoreBases.{first_before}

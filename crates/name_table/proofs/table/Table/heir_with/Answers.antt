@@ -1,6 +1,6 @@
 use Rattle.std.proofs.Common.{[], refl, ap, sym, subst}
 use Rattle.name_table.specs.declared.record.Heir.{Heir}
-use Rattle.name_table.specs.SeveralBases.{IsDone}
+use Rattle.name_table.specs.inner.SeveralBases.{IsDone}
 use Rattle.name_table.proofs.MergedBases.{done_all}
 use Rattle.name_table.proofs.table.Table.heir_with.Goals as goal
 

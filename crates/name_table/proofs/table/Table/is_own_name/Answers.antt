@@ -2,7 +2,7 @@ use Rattle.std.proofs.Common.{◌≡◌, ◌∙◌, suc, length, slice_get, Some
 use Rattle.std.specs.Option.{option_map}
 use Rattle.std.proofs.lemmas.Option.{slice_get-map, slice_get_past, slice_get_read}
 use Rattle.name_table.specs.OwnNames.{is_named_so, is_own_name}
-use Rattle.name_table.specs.Records.{entry_of}
+use Rattle.name_table.specs.inner.Records.{entry_of}
 use Rattle.name_table.proofs.table.Table.is_own_name.Goals as goal
 
 pub returns-in-Some-get : goal.returns-in-Some-get

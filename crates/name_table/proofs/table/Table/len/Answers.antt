@@ -2,7 +2,7 @@ use Rattle.std.proofs.Common.{◌∙◌, refl, length, ap, sym, subst}
 use Rattle.std.specs.List.{IsDistinct}
 use Rattle.std.proofs.lemmas.List.{length-map}
 use Rattle.name_table.specs.Entry.{AreDistinct, AreNested}
-use Rattle.name_table.specs.Records.{entry_of, key_of}
+use Rattle.name_table.specs.inner.Records.{entry_of, key_of}
 use Rattle.name_table.proofs.Lookups.{distinct}
 use Rattle.name_table.proofs.Tied.{nested_entries}
 use Rattle.name_table.proofs.table.Table.len.Goals as goal

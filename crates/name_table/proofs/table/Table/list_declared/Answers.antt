@@ -1,5 +1,5 @@
 use Rattle.std.proofs.Common.{◌≡◌, ◌∙◌, ◌++◌, ◌⊎◌, ap, sym, subst, arith}
-use Rattle.name_table.specs.Records.{HasWord, words_at}
+use Rattle.name_table.specs.inner.Records.{HasWord, words_at}
 use Rattle.name_table.specs.Search.{own}
 use Rattle.name_table.specs.declared.search.Found.TheVariants.{Nothing}
 use Rattle.name_table.proofs.MergedBases.{HasWord_front, behind_or, nothing_or, own_or_listed, words_past}

@@ -1,6 +1,6 @@
 use Rattle.std.proofs.Common.{[], sym, subst}
-use Rattle.name_table.specs.Records.{AreTied, entries_in}
-use Rattle.name_table.specs.Shortcuts.{AreShort}
+use Rattle.name_table.specs.inner.Records.{AreTied, entries_in}
+use Rattle.name_table.specs.inner.Shortcuts.{AreShort}
 use Rattle.name_table.proofs.WaysKept.{no_ways}
 use Rattle.name_table.proofs.Tied.{tied_none}
 use Rattle.name_table.proofs.table.Table.new.Goals as goal

@@ -1,6 +1,6 @@
 use Rattle.std.proofs.Common.{subst, sym, List, ℕ, ◌⊎◌}
-use Rattle.name_table.specs.Records.{HasWord}
-use Rattle.name_table.specs.SeveralBases.{SaysNothingNew}
+use Rattle.name_table.specs.inner.Records.{HasWord}
+use Rattle.name_table.specs.inner.SeveralBases.{SaysNothingNew}
 use Rattle.name_table.proofs.table.Table.next_heir.Goals as goal
 
 pub heir_with-requires-clause-covers : goal.heir_with-requires-clause-covers

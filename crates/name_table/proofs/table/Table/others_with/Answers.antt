@@ -1,6 +1,6 @@
 use Rattle.std.proofs.Common.{◌≡◌, ◌∙◌, ◌+◌, ◌<◌, ◌∷◌, suc, drop, length, get_or, refl, ap, sym, subst, arith}
 use Rattle.std.proofs.Math.Seq.{drop-cons}
-use Rattle.name_table.specs.SeveralBases.{IsDone}
+use Rattle.name_table.specs.inner.SeveralBases.{IsDone}
 use Rattle.name_table.proofs.GivenBehind.{drop_none}
 use Rattle.name_table.proofs.MergedBases.{cloned, done_given, done_nothing, done_start}
 use Rattle.name_table.proofs.table.Table.others_with.Goals as goal

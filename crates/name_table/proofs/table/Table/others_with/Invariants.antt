@@ -1,5 +1,5 @@
 use Rattle.std.proofs.Common.{drop}
-use Rattle.name_table.specs.SeveralBases.{IsDone}
+use Rattle.name_table.specs.inner.SeveralBases.{IsDone}
 use Rattle.name_table.proofs.table.Table.others_with.Given as goal
 
 abbrev pub invariant-loop-word : goal.invariant-loop-word

@@ -1,7 +1,7 @@
 use Rattle.std.proofs.Common.{refl, sym, ap, ◌∙◌, ◌≡◌, ◌≤◌, ◌-◌, suc, length, slice_get, Some, arith}
 use Rattle.std.proofs.lemmas.Option.{slice_get_read}
 use Rattle.std.proofs.lemmas.List.{length-map}
-use Rattle.name_table.specs.Records.{entry_of}
+use Rattle.name_table.specs.inner.Records.{entry_of}
 use Rattle.name_table.specs.Search.{or_else, outwards, within, within_first}
 use Rattle.name_table.proofs.Inheriting.{next_scope, scope_behind}
 use Rattle.name_table.proofs.table.Table.outwards.Goals as goal

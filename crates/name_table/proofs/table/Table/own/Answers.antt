@@ -1,6 +1,6 @@
 use Rattle.std.proofs.Common.{refl, sym, ap, ◌∙◌, ◌≡◌, length, arith}
 use Rattle.std.proofs.lemmas.List.{length-map}
-use Rattle.name_table.specs.Records.{key_of}
+use Rattle.name_table.specs.inner.Records.{key_of}
 use Rattle.name_table.proofs.Lookups.{own_found, own_none, own_behind}
 use Rattle.name_table.proofs.table.Table.own.Goals as goal
 

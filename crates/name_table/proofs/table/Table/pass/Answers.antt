@@ -1,7 +1,7 @@
 use Rattle.std.proofs.Common.{◌≡◌, ◌∙◌, ◌<◌, ap, sym, subst, length, arith}
 use Rattle.std.proofs.lemmas.List.{length-map}
-use Rattle.name_table.specs.Records.{entry_of, heir_of}
-use Rattle.name_table.specs.SeveralBases.{IsKept}
+use Rattle.name_table.specs.inner.Records.{entry_of, heir_of}
+use Rattle.name_table.specs.inner.SeveralBases.{IsKept}
 use Rattle.name_table.proofs.Inheriting.{first_placed}
 use Rattle.name_table.proofs.MoreBases.{kept_of}
 use Rattle.name_table.proofs.Ways.{ok_both, passed}

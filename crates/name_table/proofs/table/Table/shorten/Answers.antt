@@ -1,7 +1,7 @@
 use Rattle.std.proofs.Common.{◌≤◌, IfSome, sym, subst}
 use Rattle.name_table.specs.Entries.{latest}
-use Rattle.name_table.specs.Records.{entries_in}
-use Rattle.name_table.specs.Shortcuts.{IsShort}
+use Rattle.name_table.specs.inner.Records.{entries_in}
+use Rattle.name_table.specs.inner.Shortcuts.{IsShort}
 use Rattle.name_table.proofs.Ways.{ways_insert}
 use Rattle.name_table.proofs.WaysKept.{ways_same}
 use Rattle.name_table.proofs.table.Table.shorten.Goals as goal

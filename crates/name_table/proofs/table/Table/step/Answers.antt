@@ -1,6 +1,6 @@
 use Rattle.std.proofs.Common.{sym, ap, ◌∙◌, ◌≡◌, ◌<◌, ◌+◌, suc, length, arith}
 use Rattle.name_table.specs.Search.{inherited, or_else, own}
-use Rattle.name_table.specs.Records.{heir_of}
+use Rattle.name_table.specs.inner.Records.{heir_of}
 use Rattle.name_table.proofs.Inheriting.{first_placed, from_first_base}
 use Rattle.name_table.proofs.table.Table.step.Goals as goal
 

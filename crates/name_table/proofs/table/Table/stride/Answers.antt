@@ -1,5 +1,5 @@
 use Rattle.std.proofs.Common.{◌≡◌, Some, ◌∙◌, ap, sym, subst, arith}
-use Rattle.name_table.specs.Shortcuts.{IsShort, way_at}
+use Rattle.name_table.specs.inner.Shortcuts.{IsShort, way_at}
 use Rattle.name_table.proofs.Ways.{or_more}
 use Rattle.name_table.proofs.table.Table.stride.Goals as goal
 

@@ -1,5 +1,5 @@
 use Rattle.std.proofs.Common.{◌≡◌, false, Some, ◌∙◌, ap, sym, subst, arith}
-use Rattle.name_table.specs.Shortcuts.{IsShort, way_at}
+use Rattle.name_table.specs.inner.Shortcuts.{IsShort, way_at}
 use Rattle.name_table.proofs.Ways.{not_any, way_is}
 use Rattle.name_table.proofs.table.Table.way_from.Goals as goal
 

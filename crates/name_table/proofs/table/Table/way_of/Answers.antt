@@ -1,8 +1,8 @@
 use Rattle.std.proofs.Common.{◌≡◌, ◌∙◌, ◌<◌, ◌≤◌, refl, ap, sym, subst, length, arith}
 use Rattle.std.proofs.lemmas.List.{length-map}
 use Rattle.name_table.specs.Entries.{latest}
-use Rattle.name_table.specs.Records.{entries_in, entry_of, heir_of, HasWord}
-use Rattle.name_table.specs.SeveralBases.{IsKept}
+use Rattle.name_table.specs.inner.Records.{entries_in, entry_of, heir_of, HasWord}
+use Rattle.name_table.specs.inner.SeveralBases.{IsKept}
 use Rattle.name_table.proofs.Inheriting.{first_base, first_placed}
 use Rattle.name_table.proofs.Latest.{bases_low}
 use Rattle.name_table.proofs.MoreBases.{kept_of}

@@ -1,5 +1,5 @@
 use Rattle.std.proofs.Common.{◌+◌}
-use Rattle.name_table.specs.Shortcuts.{LeadsTo}
+use Rattle.name_table.specs.inner.Shortcuts.{LeadsTo}
 use Rattle.name_table.proofs.table.Table.words_apart.Given as goal
 
 abbrev pub invariant-loop-near : goal.invariant-loop-near

@@ -1,6 +1,6 @@
 use Rattle.std.proofs.Common.{◌∙◌, ◌++◌, ◌∷◌, [], refl, ap}
 use Rattle.scoped_names.specs.Faults.{member_named}
-use Rattle.scoped_names.specs.StateKept.{member_of, members_of}
+use Rattle.scoped_names.specs.inner.StateKept.{member_of, members_of}
 use Rattle.scoped_names.proofs.MembersKept.{members_none, members_push}
 use Rattle.scoped_names.proofs.members.Members.push.Goals as goal
 

@@ -5,7 +5,7 @@ use Rattle.idl_tree.specs.declared.kinds.EntryKind.TheVariants as Kinds
 use Rattle.name_table.specs.Entries.{latest}
 use Rattle.scoped_names.specs.Faults.{steps_read}
 use Rattle.scoped_names.specs.Reading.{Tells, ◌>>◌}
-use Rattle.scoped_names.specs.Rising.{Rises}
+use Rattle.scoped_names.specs.inner.Rising.{Rises}
 use Rattle.name_steps.specs.Steps.{Declares, Enters, Leaves, definition_steps, steps_of}
 use Rattle.name_steps.proofs.ListedSteps.{module_listed}
 use Rattle.scoped_names.proofs.Readings.{or_told}

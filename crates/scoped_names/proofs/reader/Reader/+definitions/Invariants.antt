@@ -1,7 +1,7 @@
 use Rattle.std.proofs.Common.{◌≡◌, ◌+◌, ◌*◌, drop, length}
 use Rattle.name_table.specs.Entries.{latest}
 use Rattle.scoped_names.specs.Faults.{steps_read}
-use Rattle.scoped_names.specs.Rising.{Rises}
+use Rattle.scoped_names.specs.inner.Rising.{Rises}
 use Rattle.name_steps.specs.Steps.{definition_steps, steps_of}
 use Rattle.scoped_names.proofs.reader.Reader.+definitions.Given as goal
 

@@ -3,7 +3,7 @@ use Rattle.name_table.specs.Entries.{latest}
 use Rattle.name_steps.specs.StepsKept.{flat_steps, step_of}
 use Rattle.scoped_names.specs.Faults.{steps_read}
 use Rattle.scoped_names.specs.Reading.{Tells}
-use Rattle.scoped_names.specs.Rising.{Rises}
+use Rattle.scoped_names.specs.inner.Rising.{Rises}
 use Rattle.scoped_names.proofs.reader.Reader.read_listed.Goals as goal
 
 pub read_steps-requires : goal.read_steps-requires

@@ -1,7 +1,7 @@
 use Rattle.std.proofs.Common.{◌∙◌, ◌<◌, ◌+◌, drop, length, map, subst, sym, arith}
 use Rattle.std.proofs.lemmas.Result.{err_from_is_err_and}
 use Rattle.name_table.specs.Entries.{latest}
-use Rattle.scoped_names.specs.Rising.{Rises, reached}
+use Rattle.scoped_names.specs.inner.Rising.{Rises, reached}
 use Rattle.name_steps.specs.StepsKept.{step_of}
 use Rattle.scoped_names.proofs.Readings.{or_told, steps_at, steps_off, steps_on}
 use Rattle.scoped_names.proofs.Rising.{Rises-mono}

@@ -1,7 +1,7 @@
 use Rattle.std.proofs.Common.{◌≡◌, drop, map}
 use Rattle.name_table.specs.Entries.{latest}
 use Rattle.scoped_names.specs.Faults.{steps_read}
-use Rattle.scoped_names.specs.Rising.{Rises}
+use Rattle.scoped_names.specs.inner.Rising.{Rises}
 use Rattle.name_steps.specs.StepsKept.{step_of}
 use Rattle.scoped_names.proofs.reader.Reader.read_steps.Given as goal
 

@@ -4,7 +4,7 @@ use Rattle.name_table.specs.Entries.{latest}
 use Rattle.name_steps.specs.Steps.{steps_of}
 use Rattle.scoped_names.specs.Faults.{left_open, never_defined, nothing_yet, steps_read}
 use Rattle.scoped_names.specs.Reading.{StateOrFault, Tells, passed, ◌>>◌}
-use Rattle.scoped_names.specs.Rising.{Rises}
+use Rattle.scoped_names.specs.inner.Rising.{Rises}
 use Rattle.scoped_names.proofs.Readings.{checked_then, or_told}
 use Rattle.scoped_names.proofs.Rising.{rising}
 use Rattle.scoped_names.proofs.reader.Reader.read_whole.Goals as goal

@@ -3,7 +3,7 @@ use Rattle.std.proofs.lemmas.Option.{slice_get_read}
 use Rattle.scoped_names.specs.declared.fault.NameFault.{NameFault}
 use Rattle.scoped_names.specs.declared.repository_ids.PlacedId.{PlacedId}
 use Rattle.scoped_names.specs.RepositoryIds.{IdPragma}
-use Rattle.scoped_names.specs.IdsKept.{given_of, pragma_of, pragmas_of}
+use Rattle.scoped_names.specs.inner.IdsKept.{given_of, pragma_of, pragmas_of}
 use Rattle.scoped_names.specs.Faults.{again_test, given_once}
 use Rattle.scoped_names.specs.Reading.{Tells}
 use Rattle.scoped_names.proofs.IdsGiven.{given_none, given_there, pragmas_push}

@@ -2,7 +2,7 @@ use Rattle.std.proofs.Common.{◌≡◌, ◌∙◌, Some, None, map, sym, ap}
 use Rattle.std.specs.String.{string_bytes}
 use Rattle.std.proofs.lemmas.Result.{IfOk-weaker}
 use Rattle.scoped_names.specs.RepositoryIds.{VersionOf, WholeId, given_to, idl_format, path, repository_id}
-use Rattle.scoped_names.specs.IdsKept.{given_of}
+use Rattle.scoped_names.specs.inner.IdsKept.{given_of}
 use Rattle.scoped_names.proofs.IdFormats.{id_by_default, id_by_version, id_given_whole}
 use Rattle.scoped_names.proofs.repository_ids.IdPragmas.repository_id.Goals as goal
 use Rattle.scoped_names.proofs.repository_ids.IdPragmas.repository_id.Goals.{in-Some-Version, in-None}

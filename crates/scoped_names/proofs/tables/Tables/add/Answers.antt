@@ -2,7 +2,7 @@ use Rattle.std.proofs.Common.{◌≡◌, ◌∙◌, ◌++◌, ◌∷◌, [], len
 use Rattle.name_table.specs.Entry.{named}
 use Rattle.name_table.specs.Entries.{entry_declared, latest}
 use Rattle.name_table.specs.Features.{as_feature, features_of, is_feature, no_token}
-use Rattle.name_table.specs.Records.{entry_of}
+use Rattle.name_table.specs.inner.Records.{entry_of}
 use Rattle.name_table.specs.Search.{word}
 use Rattle.name_table.proofs.Latest.{latest_features}
 use Rattle.scoped_names.proofs.FeatureTables.{as_many, features_more, late_either, named_features}

@@ -8,7 +8,7 @@ use Rattle.name_table.specs.declared.record.Heir.{Heir}
 use Rattle.name_table.specs.declared.search.Found.{Found}
 use Rattle.name_table.specs.declared.search.Found.TheVariants.{Nothing}
 use Rattle.name_table.specs.Entry.{Entry, bases_of}
-use Rattle.name_table.specs.Records.{HasWord, by_heir, given_before, is_word}
+use Rattle.name_table.specs.inner.Records.{HasWord, by_heir, given_before, is_word}
 use Rattle.name_table.specs.Search.{base_at, both, inherited, within}
 
 -- of a name that the bases before give from the token `first` on: behind the token of the new one what both give

@@ -9,7 +9,7 @@ use Rattle.name_table.specs.declared.shortcuts.SearchStep.{SearchStep}
 use Rattle.name_table.specs.declared.shortcuts.SearchStep.TheVariants.{Done, On}
 use Rattle.name_table.specs.Entry.{Entry}
 use Rattle.name_table.specs.Entries.{latest}
-use Rattle.name_table.specs.Records.{HasWord}
+use Rattle.name_table.specs.inner.Records.{HasWord}
 use Rattle.name_table.specs.Search.{inherited, within}
 
 -- what the bases of a scope give that are named before a token

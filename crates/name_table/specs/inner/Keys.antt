@@ -11,7 +11,7 @@ use Rattle.std.specs.declared.cmp.Ordering.{Ordering}
 use Rattle.std.specs.declared.cmp.Ordering.TheVariants.{Less, Equal, Greater}
 use Rattle.std.specs.Ordering.{eq_by_cmp, is_eq, nat_cmp, on, ordering_then}
 use Rattle.name_table.specs.declared.key.Word.{Word}
-use Rattle.name_table.specs.Codes.{code_of}
+use Rattle.name_table.specs.inner.Codes.{code_of}
 
 -- a word in lower case
 abbrev pub folded : Word → List ℕ

@@ -1,0 +1,4 @@
+-- What the crate's own code and proofs name, and no public contract does.
+pub mod IdsKept
+pub mod Rising
+pub mod StateKept
