@@ -138,7 +138,7 @@ pub(crate) fn read_members<'a>(
 
 /// The structure of a name and members.
 fn structure<'a>(
-    alloc: Global,
+    cursor: &Cursor<'a>,
     name: Leaf<'a>,
     members: Vec<Member<'a>>,
 ) -> Result<StructType<'a>, Stop>
@@ -148,7 +148,7 @@ fn structure<'a>(
     ensures levels { IfOk result (λ s. struct_levels s ≡ suc (highest member_levels members.entry.items)) }
 {
     let mut rest = members;
-    let first = got!(first_boxed(alloc, &mut rest));
+    let first = got!(first_boxed(cursor.alloc(), &mut rest));
     Ok(StructType {
         identifier: name,
         first,
@@ -163,7 +163,7 @@ pub(crate) fn read_struct<'a>(cursor: &mut Cursor<'a>, room: usize) -> Result<St
 {
     let (name, left) = got!(read_opened(cursor, "struct", room));
     let members = got!(read_members(cursor, left));
-    structure(cursor.alloc(), name, members)
+    structure(cursor, name, members)
 }
 
 /// Reads a case and adds it.
@@ -229,7 +229,7 @@ fn read_union_name<'a>(cursor: &mut Cursor<'a>) -> Result<Leaf<'a>, Stop>
 
 /// The union of a name, the type of its discriminator and cases.
 fn union_of<'a>(
-    alloc: Global,
+    cursor: &Cursor<'a>,
     name: Leaf<'a>,
     switch: SwitchType<'a>,
     cases: Vec<Case<'a>>,
@@ -242,7 +242,7 @@ fn union_of<'a>(
         suc (max (switch_levels switch.entry) (highest case_levels cases.entry.items))) }
 {
     let mut rest = cases;
-    let first = got!(first_boxed(alloc, &mut rest));
+    let first = got!(first_boxed(cursor.alloc(), &mut rest));
     Ok(UnionType {
         identifier: name,
         switch,
@@ -260,5 +260,5 @@ pub(crate) fn read_union<'a>(cursor: &mut Cursor<'a>, room: usize) -> Result<Uni
     // an enumeration here is declared inside the union
     let switch = got!(read_switch(cursor, room.saturating_sub(1)));
     let cases = got!(read_union_body(cursor, room));
-    union_of(cursor.alloc(), name, switch, cases)
+    union_of(cursor, name, switch, cases)
 }
