@@ -11,8 +11,7 @@ ghost use Rattle.broker_answers.specs.Serving.{MovesRequest};
 
 use crate::exception::SystemException;
 use crate::finding::{AskedCall, Finding};
-use crate::outcome::reply_to;
-use crate::reply::{send_acceptance, send_exception, send_truth};
+use crate::reply::Replier;
 use crate::scope::{SyncScope, sync_scope};
 use crate::servant::{Outcome, Servant};
 use crate::service::Service;
@@ -20,6 +19,17 @@ use giop::Request;
 use std::alloc::{AllocError, Global};
 
 impl Service {
+    /// What makes the replies to a request.
+    fn replier<'r, 'b>(&'r self, alloc: Global, request: &'r Request<'b>) -> Replier<'r, 'b>
+        ensures { result.request.now ≡ request.now }
+    {
+        Replier {
+            giop: &self.giop,
+            alloc,
+            request,
+        }
+    }
+
     /// The answer that nothing can be done.
     fn refuse_request(
         &self,
@@ -31,7 +41,7 @@ impl Service {
     {
         match sync_scope(request.flags) {
             SyncScope::WithTarget | SyncScope::WithServer => {
-                send_exception(&self.giop, alloc, request, exception)
+                self.replier(alloc, request).exception(exception)
             }
             SyncScope::NoResponse => Ok(Vec::new(alloc)),
         }
@@ -42,8 +52,8 @@ impl Service {
         ensures { IfOk result (λ octets. (says : Call → Said) → IsAnswered self.now (asked_of request.now) (Tells truth) says octets.items) }
     {
         match sync_scope(request.flags) {
-            SyncScope::WithTarget => send_truth(&self.giop, alloc, request, truth),
-            SyncScope::WithServer => send_acceptance(&self.giop, alloc, request),
+            SyncScope::WithTarget => self.replier(alloc, request).truth(truth),
+            SyncScope::WithServer => self.replier(alloc, request).acceptance(),
             SyncScope::NoResponse => Ok(Vec::new(alloc)),
         }
     }
@@ -61,16 +71,11 @@ impl Service {
             → IsAnswered self.now (asked_of request.now) (Calls (call_asked call.now)) says octets.items) }
     {
         match sync_scope(request.flags) {
-            SyncScope::WithTarget => reply_to(
-                &self.giop,
-                alloc,
-                request,
-                &self.accepted,
-                call.number,
-                call.operation,
-                outcome,
-            ),
-            SyncScope::WithServer => send_acceptance(&self.giop, alloc, request),
+            SyncScope::WithTarget => {
+                self.replier(alloc, request)
+                    .reply_to(&self.accepted, call, outcome)
+            }
+            SyncScope::WithServer => self.replier(alloc, request).acceptance(),
             SyncScope::NoResponse => Ok(Vec::new(alloc)),
         }
     }
