@@ -8,8 +8,8 @@ use Rattle.giop_types.specs.TapeParts.{IsCounted}
 use Rattle.giop_types.proofs.GraphFacts.{giop_is_graph}
 use Rattle.object_references.proofs.ProfileKeys.{profile_key_once}
 use Rattle.giop_messages.specs.Headers.{here_tree, here_number, reply_tree, number_of}
-use Rattle.giop_messages.specs.Messages.{Asked, Content, Asks, Answers, Cancels, Seeks, Closes, Fails, Sought}
-use Rattle.giop_messages.specs.Written.{Given, IsWritten}
+use Rattle.giop_messages.specs.Messages.{Asked, Asks, Answers, Cancels, Seeks, Closes, Fails, Sought}
+use Rattle.giop_messages.specs.Written.{Given}
 use Rattle.giop_messages.proofs.OneMessage.{says_once}
 use Rattle.type_graph.specs.Value.{NoTree}
 use Rattle.broker_answers.specs.Streams.{Raw}
@@ -19,7 +19,7 @@ use Rattle.broker_answers.specs.Servants.{Acting, Call, Said, Done, Raised, NoIm
 use Rattle.broker_answers.specs.Objects.{Served, object_with}
 use Rattle.broker_answers.specs.Findings.{Finding, Refuses, Tells, Calls}
 use Rattle.broker_answers.specs.Replies.{Reply, acceptance, exception_reply, truth_reply, success, throw, IsSent, IsUnsendable, IsThrown, IsUnthrown, Replies, Succeeds, FailsToSucceed, Throws, FailsToThrow, ThrowsUnknown, IsntImplemented, SyncScope, WithTarget, WithServer, NoResponse, sync_scope, IsAnswer, IsWhole, AnswersRequest}
-use Rattle.broker_answers.specs.Serving.{Item, IsItem, AnswersItem, IsLocated, MovesItem, MovesRequest, ServesRaw, Serves, closes, state_after}
+use Rattle.broker_answers.specs.Serving.{Item, IsItem, AnswersItem, IsLocated, MovesItem, ServesRaw, Serves, closes, state_after}
 use Rattle.broker_answers.specs.OneAnswer.{IsSame}
 use Rattle.broker_answers.proofs.Sent.{written_once}
 use Rattle.broker_answers.proofs.OneFinding.{finds_once}

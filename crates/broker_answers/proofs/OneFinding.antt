@@ -1,5 +1,5 @@
 -- A request asks for one thing.
-use Rattle.std.proofs.Common.{◌≡◌, ◌≢◌, ◌⊎◌, inl, inr, ℕ, false, List, ◌++◌, length, drop, Option, Some, None, slice_get, refl, sym, ap, ap₂, subst, ◌∙◌, pos, arith}
+use Rattle.std.proofs.Common.{◌≡◌, ◌⊎◌, inl, inr, ℕ, false, List, length, drop, Option, Some, None, slice_get, sym, ap, subst, ◌∙◌, pos, arith}
 use Rattle.std.proofs.lemmas.List.{drop_at}
 use Rattle.type_graph.specs.declared.node.Node.{Node}
 use Rattle.type_graph.specs.declared.width.Width.TheVariants.{Four}
@@ -17,9 +17,9 @@ use Rattle.giop_types.proofs.GraphFacts.{giop_is_graph}
 use Rattle.giop_messages.specs.Messages.{Asked}
 use Rattle.broker_answers.specs.declared.exception.SystemException.TheVariants.{ObjectNotExist}
 use Rattle.broker_answers.specs.Servants.{call_of}
-use Rattle.broker_answers.specs.Objects.{Served, IsNamedOperation, object_with, interface_of, is_a}
+use Rattle.broker_answers.specs.Objects.{Served, object_with, interface_of, is_a}
 use Rattle.broker_answers.specs.Findings.{Finding, Refuses, Tells, Calls, Finds, NoObject, AsksType, AsksNoType, AsksWhetherGone, NoOperation, NoArguments, ForServant, IsFor, IsOwn, IsRead, is_a_name, non_existent_name}
-use Rattle.broker_answers.specs.inner.FindingSteps.{IsTypeAsked, IsOwnAsked, IsCallAsked, HasId, HasOperation}
+use Rattle.broker_answers.specs.inner.FindingSteps.{IsTypeAsked, IsOwnAsked, IsCallAsked, HasOperation}
 
 one_some : {A : Type 0} (x : Option A) (a b : A) → x ≡ Some a → x ≡ Some b → a ≡ b
 one_some x a b e f = let same : Some a ≡ Some b = sym e ∙ f in cc

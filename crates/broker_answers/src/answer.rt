@@ -1,26 +1,35 @@
 //! Answers to requests.
 
-ghost use Rattle.std.specs.Prelude.{◌≡◌, ◌⊎◌, ℕ, List, IfOk, OnOk, OnErr, Some, slice_get};
+ghost use Rattle.std.specs.Prelude.{◌≡◌, ◌⊎◌, IfOk, OnOk, OnErr, Some, slice_get};
 ghost use Rattle.giop_messages.specs.Messages.{asked_of};
-ghost use Rattle.broker_answers.specs.Answering.{IsAnswered, IsAsked, MayMove};
+ghost use Rattle.broker_answers.specs.Answering.{IsAnswered, MayMove};
 ghost use Rattle.broker_answers.specs.Findings.{Calls, Refuses, Tells};
+ghost use Rattle.broker_answers.specs.inner.FindingSteps.{call_asked};
 ghost use Rattle.broker_answers.specs.Replies.{AnswersRequest};
-ghost use Rattle.broker_answers.specs.Servants.{Call, Said, acts, call_of, said_of};
+ghost use Rattle.broker_answers.specs.Servants.{Call, Said, acts, said_of};
 ghost use Rattle.broker_answers.specs.Serving.{MovesRequest};
 
 use crate::exception::SystemException;
-use crate::finding::Finding;
-use crate::objects::operation_at;
-use crate::outcome::reply_to;
-use crate::reply::{send_acceptance, send_exception, send_truth};
+use crate::finding::{AskedCall, Finding};
+use crate::reply::Replier;
 use crate::scope::{SyncScope, sync_scope};
 use crate::servant::{Outcome, Servant};
 use crate::service::Service;
 use giop::Request;
 use std::alloc::{AllocError, Global};
-use type_model::Operation;
 
 impl Service {
+    /// What makes the replies to a request.
+    fn replier<'r, 'b>(&'r self, alloc: Global, request: &'r Request<'b>) -> Replier<'r, 'b>
+        ensures { result.request.now ≡ request.now }
+    {
+        Replier {
+            giop: &self.giop,
+            alloc,
+            request,
+        }
+    }
+
     /// The answer that nothing can be done.
     fn refuse_request(
         &self,
@@ -32,7 +41,7 @@ impl Service {
     {
         match sync_scope(request.flags) {
             SyncScope::WithTarget | SyncScope::WithServer => {
-                send_exception(&self.giop, alloc, request, exception)
+                self.replier(alloc, request).exception(exception)
             }
             SyncScope::NoResponse => Ok(Vec::new(alloc)),
         }
@@ -43,8 +52,8 @@ impl Service {
         ensures { IfOk result (λ octets. (says : Call → Said) → IsAnswered self.now (asked_of request.now) (Tells truth) says octets.items) }
     {
         match sync_scope(request.flags) {
-            SyncScope::WithTarget => send_truth(&self.giop, alloc, request, truth),
-            SyncScope::WithServer => send_acceptance(&self.giop, alloc, request),
+            SyncScope::WithTarget => self.replier(alloc, request).truth(truth),
+            SyncScope::WithServer => self.replier(alloc, request).acceptance(),
             SyncScope::NoResponse => Ok(Vec::new(alloc)),
         }
     }
@@ -54,25 +63,19 @@ impl Service {
         &self,
         alloc: Global,
         request: &Request<'_>,
-        number: u32,
-        operation: &Operation,
+        call: &AskedCall<'_>,
         outcome: &Outcome,
     ) -> Result<Vec<u8>, AllocError>
-        requires { slice_get self.now.model.operations number ≡ Some operation.now }
-        ensures { IfOk result (λ octets. (says : Call → Said) (object : ℕ) (arguments : List ℕ) → says (call_of object number arguments) ≡ said_of outcome.now
-            → IsAnswered self.now (asked_of request.now) (Calls (call_of object number arguments)) says octets.items) }
+        requires { slice_get self.now.model.operations call.now.number ≡ Some call.now.operation.now }
+        ensures { IfOk result (λ octets. (says : Call → Said) → says (call_asked call.now) ≡ said_of outcome.now
+            → IsAnswered self.now (asked_of request.now) (Calls (call_asked call.now)) says octets.items) }
     {
         match sync_scope(request.flags) {
-            SyncScope::WithTarget => reply_to(
-                &self.giop,
-                alloc,
-                request,
-                &self.accepted,
-                number,
-                operation,
-                outcome,
-            ),
-            SyncScope::WithServer => send_acceptance(&self.giop, alloc, request),
+            SyncScope::WithTarget => {
+                self.replier(alloc, request)
+                    .reply_to(&self.accepted, call, outcome)
+            }
+            SyncScope::WithServer => self.replier(alloc, request).acceptance(),
             SyncScope::NoResponse => Ok(Vec::new(alloc)),
         }
     }
@@ -83,20 +86,16 @@ impl Service {
         alloc: Global,
         servant: &mut S,
         request: &Request<'_>,
-        object: usize,
-        number: u32,
-        arguments: &[u8],
+        call: &AskedCall<'_>,
     ) -> Result<Vec<u8>, AllocError>
-        requires { IsAsked self.now (asked_of request.now) (call_of object number arguments.now) }
-        ensures answered { IfOk result (λ octets. IsAnswered self.now (asked_of request.now) (Calls (call_of object number arguments.now)) (S.says servant.old) octets.items) }
-        ensures moved { OnOk result (servant.new ≡ S.after servant.old (call_of object number arguments.now)) }
-        ensures given_up { OnErr result ((servant.new ≡ servant.old) ⊎ (servant.new ≡ S.after servant.old (call_of object number arguments.now))) }
+        requires { slice_get self.now.model.operations call.now.number ≡ Some call.now.operation.now }
+        ensures answered { IfOk result (λ octets. IsAnswered self.now (asked_of request.now) (Calls (call_asked call.now)) (S.says servant.old) octets.items) }
+        ensures moved { OnOk result (servant.new ≡ S.after servant.old (call_asked call.now)) }
+        ensures given_up { OnErr result ((servant.new ≡ servant.old) ⊎ (servant.new ≡ S.after servant.old (call_asked call.now))) }
     {
-        let outcome = servant.call(alloc, object, number, arguments)?;
-        match operation_at(self.accepted.table().model(), number) {
-            Some(operation) => self.report(alloc, request, number, operation, &outcome),
-            None => unreachable!(),
-        }
+        let arguments = call.arguments.as_slice();
+        let outcome = servant.call(alloc, call.object, call.number, arguments)?;
+        self.report(alloc, request, call, &outcome)
     }
 
     /// The answer to a request.
@@ -117,18 +116,7 @@ impl Service {
         match self.find(alloc, request)? {
             Finding::Refuses(exception) => self.refuse_request(alloc, request, exception),
             Finding::Tells(truth) => self.tell(alloc, request, truth),
-            Finding::Calls {
-                object,
-                operation,
-                arguments,
-            } => self.call(
-                alloc,
-                servant,
-                request,
-                object,
-                operation,
-                arguments.as_slice(),
-            ),
+            Finding::Calls(call) => self.call(alloc, servant, request, &call),
         }
     }
 }

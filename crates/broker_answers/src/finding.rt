@@ -1,11 +1,12 @@
 //! What a request asks for.
 
-ghost use Rattle.std.specs.Prelude.{◌≡◌, ◌↔◌, IfOk, IsTrue, option_map};
+ghost use Rattle.std.specs.Prelude.{◌≡◌, ◌↔◌, IfOk, IsTrue, Some, option_map, slice_get};
+ghost use Rattle.type_model.specs.ModelRules.{Parts};
 ghost use Rattle.type_model.specs.Names.{IsNamed};
 ghost use Rattle.giop_messages.specs.Messages.{asked_of};
 ghost use Rattle.giop_types.specs.GiopNodes.{giop_nodes};
 ghost use Rattle.broker_answers.specs.Findings.{IsRead, IsReading, Tells};
-ghost use Rattle.broker_answers.specs.inner.FindingSteps.{HasId, IsCallAsked, IsTypeAsked, finding_of};
+ghost use Rattle.broker_answers.specs.inner.FindingSteps.{HasId, IsCallAsked, IsKnown, IsTypeAsked, finding_of};
 
 use crate::exception::SystemException;
 use crate::objects::is_a;
@@ -16,19 +17,26 @@ use program_runner::RunFault;
 use std::alloc::{AllocError, Global};
 use type_model::{Interface, Operation};
 
+/// A call that a request asks of the servant.
+#[derive(Drop)]
+pub(crate) struct AskedCall<'s> {
+    /// The place of the object among those that are served.
+    pub(crate) object: usize,
+    /// The place of the operation in the model.
+    pub(crate) number: u32,
+    pub(crate) operation: &'s Operation,
+    /// The tape of the request frame.
+    pub(crate) arguments: Vec<u8>,
+}
+
 /// What a request asks for.
 #[derive(Drop)]
-pub(crate) enum Finding {
+pub(crate) enum Finding<'s> {
     /// Nothing that can be done.
     Refuses(SystemException),
     /// A question that is answered without the servant.
     Tells(bool),
-    /// A call of the servant.
-    Calls {
-        object: usize,
-        operation: u32,
-        arguments: Vec<u8>,
-    },
+    Calls(AskedCall<'s>),
 }
 
 /// Whether a request names this operation.
@@ -78,13 +86,14 @@ fn has_type(interface: &Interface, request: &Request<'_>, tape: &[u8]) -> bool
 
 /// What `_is_a` asks of an object with this interface.
 #[tactic(auto, using(crate::proofs::Readings::id_named))]
-pub(crate) fn type_asked(
-    giop: &Giop,
+pub(crate) fn type_asked<'s>(
+    giop: &'s Giop,
     alloc: Global,
     interface: &Interface,
     request: &Request<'_>,
-) -> Result<Finding, AllocError>
-    ensures { IfOk result (λ f. IsTypeAsked interface.now (asked_of request.now) (finding_of f)) }
+) -> Result<Finding<'s>, AllocError>
+    ensures known { IfOk result (λ f. (model : Parts) → IsKnown model f) }
+    ensures asked { IfOk result (λ f. IsTypeAsked interface.now (asked_of request.now) (finding_of f)) }
 {
     match read_body(alloc, giop.table(), ID_ARGUMENT, request)? {
         Some(tape) => Ok(Finding::Tells(has_type(interface, request, tape.as_slice()))),
@@ -93,23 +102,26 @@ pub(crate) fn type_asked(
 }
 
 /// What a call of an operation asks of the object at a place.
-pub(crate) fn call_asked(
+pub(crate) fn call_asked<'s>(
+    accepted: &'s Accepted,
     alloc: Global,
-    accepted: &Accepted,
     object: usize,
     number: u32,
-    operation: &Operation,
+    operation: &'s Operation,
     request: &Request<'_>,
-) -> Result<Finding, AllocError>
-    requires { IsNamed accepted.now.model.names operation.now.request }
-    ensures { IfOk result (λ f. IsCallAsked accepted.now.model.graph object number operation.now (asked_of request.now) (finding_of f)) }
+) -> Result<Finding<'s>, AllocError>
+    requires named { IsNamed accepted.now.model.names operation.now.request }
+    requires there { slice_get accepted.now.model.operations number ≡ Some operation.now }
+    ensures known { IfOk result (λ f. IsKnown accepted.now.model f) }
+    ensures asked { IfOk result (λ f. IsCallAsked accepted.now.model.graph object number operation.now (asked_of request.now) (finding_of f)) }
 {
     match read_body(alloc, accepted, operation.request, request)? {
-        Some(arguments) => Ok(Finding::Calls {
+        Some(arguments) => Ok(Finding::Calls(AskedCall {
             object,
-            operation: number,
+            number,
+            operation,
             arguments,
-        }),
+        })),
         None => Ok(Finding::Refuses(SystemException::Marshal)),
     }
 }

@@ -10,32 +10,14 @@ ghost use Rattle.broker_answers.specs.inner.Sending.{IsRaising, IsThrowing, IsTr
 ghost use Rattle.broker_answers.specs.Servants.{said_of};
 
 use crate::exception::SystemException;
-use crate::reply::{send, send_exception};
+use crate::finding::AskedCall;
+use crate::reply::Replier;
 use crate::servant::Outcome;
-use giop::{Giop, ReplyStatus, Request};
+use giop::ReplyStatus;
 use giop_types::{TapeFault, push_octets};
 use position_checker::Accepted;
 use std::alloc::{AllocError, Global};
 use type_model::{Exception, Model, Operation};
-
-/// A reply with this body, or else the exception that tells that there is none.
-fn try_send(
-    giop: &Giop,
-    alloc: Global,
-    request: &Request<'_>,
-    status: ReplyStatus,
-    accepted: &Accepted,
-    node: u32,
-    tape: &[u8],
-) -> Result<Vec<u8>, AllocError>
-    requires { IsNamed accepted.now.model.names node }
-    ensures { IfOk result (λ octets. IsTried (asked_of request.now) (reply_of status accepted.now.model.graph node tape.now) octets.items) }
-{
-    match send(giop, alloc, request, status, accepted, node, tape)? {
-        Some(octets) => Ok(octets),
-        None => send_exception(giop, alloc, request, SystemException::Internal),
-    }
-}
 
 fn exception_number(operation: &Operation, place: usize) -> Option<u32>
     ensures { result ≡ slice_get operation.now.exceptions place }
@@ -90,119 +72,103 @@ fn exception_tape(
     Ok(tape)
 }
 
-/// The reply that an exception was raised.
-fn throw(
-    giop: &Giop,
-    alloc: Global,
-    request: &Request<'_>,
-    accepted: &Accepted,
-    exception: &Exception,
-    members: &[u8],
-) -> Result<Vec<u8>, AllocError>
-    requires { IsNamed accepted.now.model.names exception.now.frame }
-    ensures { IfOk result (λ octets. IsThrowing accepted.now.model (asked_of request.now) exception.now members.now octets.items) }
-{
-    match exception_tape(alloc, exception, members) {
-        Ok(tape) => try_send(
-            giop,
-            alloc,
-            request,
-            ReplyStatus::UserException,
-            accepted,
-            exception.frame,
-            tape.as_slice(),
-        ),
-        Err(fault) => match fault {
-            TapeFault::NoMemory => Err(AllocError),
-            _ => send_exception(giop, alloc, request, SystemException::Internal),
-        },
+impl<'r, 'b> Replier<'r, 'b> {
+    /// A reply with this body, or else the exception that tells that there is none.
+    fn try_send(
+        &self,
+        status: ReplyStatus,
+        accepted: &Accepted,
+        node: u32,
+        tape: &[u8],
+    ) -> Result<Vec<u8>, AllocError>
+        requires { IsNamed accepted.now.model.names node }
+        ensures { IfOk result (λ octets. IsTried (asked_of self.now.request.now) (reply_of status accepted.now.model.graph node tape.now) octets.items) }
+    {
+        match self.send(status, accepted, node, tape)? {
+            Some(octets) => Ok(octets),
+            None => self.exception(SystemException::Internal),
+        }
     }
-}
 
-/// The reply that a call was done, with what it gave.
-fn succeed(
-    giop: &Giop,
-    alloc: Global,
-    request: &Request<'_>,
-    accepted: &Accepted,
-    number: u32,
-    operation: &Operation,
-    tape: &[u8],
-) -> Result<Vec<u8>, AllocError>
-    requires { slice_get accepted.now.model.operations number ≡ Some operation.now }
-    ensures { IfOk result (λ octets. IsTried (asked_of request.now) (success accepted.now.model operation.now tape.now) octets.items) }
-{
-    // the rules of the model, which a proof needs
-    let _model = accepted.table().model();
-    let status = ReplyStatus::NoException;
-    try_send(
-        giop,
-        alloc,
-        request,
-        status,
-        accepted,
-        operation.reply,
-        tape,
-    )
-}
-
-/// The reply that the exception at a place of the operation's list was raised.
-#[tactic(auto, using(crate::proofs::Lookups::thrown_named))]
-fn raise(
-    giop: &Giop,
-    alloc: Global,
-    request: &Request<'_>,
-    accepted: &Accepted,
-    number: u32,
-    operation: &Operation,
-    place: usize,
-    members: &[u8],
-) -> Result<Vec<u8>, AllocError>
-    requires { slice_get accepted.now.model.operations number ≡ Some operation.now }
-    ensures { IfOk result (λ octets. IsRaising accepted.now.model (asked_of request.now) operation.now place members.now octets.items) }
-{
-    let model = accepted.table().model();
-    match exception_at(model, number, operation, place) {
-        Some(exception) => throw(giop, alloc, request, accepted, exception, members),
-        None => send_exception(giop, alloc, request, SystemException::Unknown),
+    /// The reply that an exception was raised.
+    fn throw(
+        &self,
+        accepted: &Accepted,
+        exception: &Exception,
+        members: &[u8],
+    ) -> Result<Vec<u8>, AllocError>
+        requires { IsNamed accepted.now.model.names exception.now.frame }
+        ensures { IfOk result (λ octets. IsThrowing accepted.now.model (asked_of self.now.request.now) exception.now members.now octets.items) }
+    {
+        match exception_tape(self.alloc, exception, members) {
+            Ok(tape) => self.try_send(
+                ReplyStatus::UserException,
+                accepted,
+                exception.frame,
+                tape.as_slice(),
+            ),
+            Err(fault) => match fault {
+                TapeFault::NoMemory => Err(AllocError),
+                _ => self.exception(SystemException::Internal),
+            },
+        }
     }
-}
 
-/// The reply to what the servant says to a call of an operation.
-pub(crate) fn reply_to(
-    giop: &Giop,
-    alloc: Global,
-    request: &Request<'_>,
-    accepted: &Accepted,
-    number: u32,
-    operation: &Operation,
-    outcome: &Outcome,
-) -> Result<Vec<u8>, AllocError>
-    requires { slice_get accepted.now.model.operations number ≡ Some operation.now }
-    ensures { IfOk result (λ octets. Replies accepted.now.model (asked_of request.now) operation.now (said_of outcome.now) octets.items) }
-{
-    match outcome {
-        Outcome::Done(tape) => succeed(
-            giop,
-            alloc,
-            request,
+    /// The reply that a call was done, with what it gave.
+    fn succeed(
+        &self,
+        accepted: &Accepted,
+        call: &AskedCall<'_>,
+        tape: &[u8],
+    ) -> Result<Vec<u8>, AllocError>
+        requires { slice_get accepted.now.model.operations call.now.number ≡ Some call.now.operation.now }
+        ensures { IfOk result (λ octets. IsTried (asked_of self.now.request.now) (success accepted.now.model call.now.operation.now tape.now) octets.items) }
+    {
+        // the rules of the model, which a proof needs
+        let _model = accepted.table().model();
+        self.try_send(
+            ReplyStatus::NoException,
             accepted,
-            number,
-            operation,
-            tape.as_slice(),
-        ),
-        Outcome::Raised(place, members) => raise(
-            giop,
-            alloc,
-            request,
-            accepted,
-            number,
-            operation,
-            *place,
-            members.as_slice(),
-        ),
-        Outcome::NoImplement => {
-            send_exception(giop, alloc, request, SystemException::NoImplement)
+            call.operation.reply,
+            tape,
+        )
+    }
+
+    /// The reply that the exception at a place of the operation's list was raised.
+    #[tactic(auto, using(crate::proofs::Lookups::thrown_named))]
+    fn raise(
+        &self,
+        accepted: &Accepted,
+        call: &AskedCall<'_>,
+        place: usize,
+        members: &[u8],
+    ) -> Result<Vec<u8>, AllocError>
+        requires { slice_get accepted.now.model.operations call.now.number ≡ Some call.now.operation.now }
+        ensures { IfOk result (λ octets. IsRaising accepted.now.model (asked_of self.now.request.now) call.now.operation.now place members.now octets.items) }
+    {
+        let model = accepted.table().model();
+        match exception_at(model, call.number, call.operation, place) {
+            Some(exception) => self.throw(accepted, exception, members),
+            None => self.exception(SystemException::Unknown),
+        }
+    }
+
+    /// The reply to what the servant says to a call.
+    pub(crate) fn reply_to(
+        &self,
+        accepted: &Accepted,
+        call: &AskedCall<'_>,
+        outcome: &Outcome,
+    ) -> Result<Vec<u8>, AllocError>
+        requires { slice_get accepted.now.model.operations call.now.number ≡ Some call.now.operation.now }
+        ensures { IfOk result (λ octets. Replies accepted.now.model (asked_of self.now.request.now) call.now.operation.now (said_of outcome.now) octets.items) }
+    {
+        match outcome {
+            Outcome::Done(tape) => self.succeed(accepted, call, tape.as_slice()),
+            Outcome::Raised(place, members) => {
+                self.raise(accepted, call, *place, members.as_slice())
+            }
+            Outcome::NoImplement => self.exception(SystemException::NoImplement),
         }
     }
 }

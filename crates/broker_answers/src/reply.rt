@@ -17,78 +17,12 @@ use giop_types::{BOOLEAN_RESULT, SYSTEM_EXCEPTION};
 use position_checker::Accepted;
 use std::alloc::{AllocError, Global};
 
-/// The octets of a reply to a request, if the tape is one of the node and they aren't too many.
-pub(crate) fn send(
-    giop: &Giop,
-    alloc: Global,
-    request: &Request<'_>,
-    status: ReplyStatus,
-    accepted: &Accepted,
-    node: u32,
-    tape: &[u8],
-) -> Result<Option<Vec<u8>>, AllocError>
-    requires { IsNamed accepted.now.model.names node }
-    ensures { IfOk result (λ sent. IsSending (asked_of request.now) (reply_of status accepted.now.model.graph node tape.now) (option_map (λ o. o.items) sent)) }
-{
-    // the rules of the giop, which a proof needs
-    let _model = accepted.table().model();
-    let body = Some((accepted, node, tape));
-    match giop.write_reply(alloc, request.order, request.id, status, body) {
-        Ok(octets) => Ok(Some(octets)),
-        Err(fault) => match fault {
-            GiopFault::NoMemory => Err(AllocError),
-            _ => Ok(None),
-        },
-    }
-}
-
-/// The number of a request, which a reply repeats.
-fn number(request: &Request<'_>) -> u32
-    ensures is { result ≡ request.now.id }
-    ensures fits { request.now.id < 2 ^ 32 }
-{
-    request.id
-}
-
-/// A reply whose body is of the types of GIOP, and which can be sent.
-fn send_own(
-    giop: &Giop,
-    alloc: Global,
-    request: &Request<'_>,
-    status: ReplyStatus,
-    node: u32,
-    tape: &[u8],
-) -> Result<Vec<u8>, AllocError>
-    requires named { IsTrue (has_name node) }
-    requires sendable { IsUnsendable (asked_of request.now) (reply_of status giop_nodes node tape.now) → ⊥ }
-    ensures { IfOk result (λ octets. IsSent (asked_of request.now) (reply_of status giop_nodes node tape.now) octets.items) }
-{
-    match send(giop, alloc, request, status, giop.table(), node, tape)? {
-        Some(octets) => Ok(octets),
-        None => unreachable!(),
-    }
-}
-
-/// The reply that a system exception was raised.
-pub(crate) fn send_exception(
-    giop: &Giop,
-    alloc: Global,
-    request: &Request<'_>,
-    exception: SystemException,
-) -> Result<Vec<u8>, AllocError>
-    ensures { IfOk result (λ octets. IsSent (asked_of request.now) (exception_reply exception) octets.items) }
-{
-    // its size, which a proof needs
-    let _id = number(request);
-    let tape = exception.tape(alloc)?;
-    send_own(
-        giop,
-        alloc,
-        request,
-        ReplyStatus::SystemException,
-        SYSTEM_EXCEPTION,
-        tape.as_slice(),
-    )
+/// A request that is replied to, and what replies are made with.
+#[derive(Clone, Copy)]
+pub(crate) struct Replier<'r, 'b> {
+    pub(crate) giop: &'r Giop,
+    pub(crate) alloc: Global,
+    pub(crate) request: &'r Request<'b>,
 }
 
 /// The tape of a boolean.
@@ -98,49 +32,93 @@ fn truth_tape(truth: bool) -> [u8; 1]
     if truth { [1] } else { [0] }
 }
 
-/// The reply to `_is_a` or `_non_existent`.
-pub(crate) fn send_truth(
-    giop: &Giop,
-    alloc: Global,
-    request: &Request<'_>,
-    truth: bool,
-) -> Result<Vec<u8>, AllocError>
-    ensures { IfOk result (λ octets. IsSent (asked_of request.now) (truth_reply truth) octets.items) }
-{
-    // its size, which a proof needs
-    let _id = number(request);
-    let tape = truth_tape(truth);
-    send_own(
-        giop,
-        alloc,
-        request,
-        ReplyStatus::NoException,
-        BOOLEAN_RESULT,
-        tape.as_slice(),
-    )
-}
+impl<'r, 'b> Replier<'r, 'b> {
+    /// The number of the request, which a reply repeats.
+    fn number(&self) -> u32
+        ensures is { result ≡ self.now.request.now.id }
+        ensures fits { self.now.request.now.id < 2 ^ 32 }
+    {
+        self.request.id
+    }
 
-/// The reply that a call was made, and nothing more.
-pub(crate) fn send_acceptance(
-    giop: &Giop,
-    alloc: Global,
-    request: &Request<'_>,
-) -> Result<Vec<u8>, AllocError>
-    ensures { IfOk result (λ octets. IsSent (asked_of request.now) acceptance octets.items) }
-{
-    // its size, which a proof needs
-    let _id = number(request);
-    match giop.write_reply(
-        alloc,
-        request.order,
-        request.id,
-        ReplyStatus::NoException,
-        None,
-    ) {
-        Ok(octets) => Ok(octets),
-        Err(fault) => match fault {
-            GiopFault::NoMemory => Err(AllocError),
-            _ => unreachable!(),
-        },
+    /// The octets of a reply, if the tape is one of the node and they aren't too many.
+    pub(crate) fn send(
+        &self,
+        status: ReplyStatus,
+        accepted: &Accepted,
+        node: u32,
+        tape: &[u8],
+    ) -> Result<Option<Vec<u8>>, AllocError>
+        requires { IsNamed accepted.now.model.names node }
+        ensures { IfOk result (λ sent. IsSending (asked_of self.now.request.now) (reply_of status accepted.now.model.graph node tape.now) (option_map (λ o. o.items) sent)) }
+    {
+        // the rules of the giop, which a proof needs
+        let _model = accepted.table().model();
+        let body = Some((accepted, node, tape));
+        let order = self.request.order;
+        let id = self.request.id;
+        match self.giop.write_reply(self.alloc, order, id, status, body) {
+            Ok(octets) => Ok(Some(octets)),
+            Err(fault) => match fault {
+                GiopFault::NoMemory => Err(AllocError),
+                _ => Ok(None),
+            },
+        }
+    }
+
+    /// A reply whose body is of the types of GIOP, and which can be sent.
+    fn send_own(&self, status: ReplyStatus, node: u32, tape: &[u8]) -> Result<Vec<u8>, AllocError>
+        requires named { IsTrue (has_name node) }
+        requires sendable { IsUnsendable (asked_of self.now.request.now) (reply_of status giop_nodes node tape.now) → ⊥ }
+        ensures { IfOk result (λ octets. IsSent (asked_of self.now.request.now) (reply_of status giop_nodes node tape.now) octets.items) }
+    {
+        match self.send(status, self.giop.table(), node, tape)? {
+            Some(octets) => Ok(octets),
+            None => unreachable!(),
+        }
+    }
+
+    /// The reply that a system exception was raised.
+    pub(crate) fn exception(&self, exception: SystemException) -> Result<Vec<u8>, AllocError>
+        ensures { IfOk result (λ octets. IsSent (asked_of self.now.request.now) (exception_reply exception) octets.items) }
+    {
+        // its size, which a proof needs
+        let _id = self.number();
+        let tape = exception.tape(self.alloc)?;
+        self.send_own(
+            ReplyStatus::SystemException,
+            SYSTEM_EXCEPTION,
+            tape.as_slice(),
+        )
+    }
+
+    /// The reply to `_is_a` or `_non_existent`.
+    pub(crate) fn truth(&self, truth: bool) -> Result<Vec<u8>, AllocError>
+        ensures { IfOk result (λ octets. IsSent (asked_of self.now.request.now) (truth_reply truth) octets.items) }
+    {
+        // its size, which a proof needs
+        let _id = self.number();
+        let tape = truth_tape(truth);
+        self.send_own(ReplyStatus::NoException, BOOLEAN_RESULT, tape.as_slice())
+    }
+
+    /// The reply that a call was made, and nothing more.
+    pub(crate) fn acceptance(&self) -> Result<Vec<u8>, AllocError>
+        ensures { IfOk result (λ octets. IsSent (asked_of self.now.request.now) acceptance octets.items) }
+    {
+        // its size, which a proof needs
+        let _id = self.number();
+        let order = self.request.order;
+        let id = self.request.id;
+        match self
+            .giop
+            .write_reply(self.alloc, order, id, ReplyStatus::NoException, None)
+        {
+            Ok(octets) => Ok(octets),
+            Err(fault) => match fault {
+                GiopFault::NoMemory => Err(AllocError),
+                _ => unreachable!(),
+            },
+        }
     }
 }

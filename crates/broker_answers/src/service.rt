@@ -3,7 +3,7 @@
 ghost use Rattle.std.specs.Prelude.{◌≡◌, option_map, IfOk};
 ghost use Rattle.giop_messages.specs.Messages.{asked_of};
 ghost use Rattle.broker_answers.specs.Findings.{Finds, IsFor};
-ghost use Rattle.broker_answers.specs.inner.FindingSteps.{IsOwnAsked, finding_of};
+ghost use Rattle.broker_answers.specs.inner.FindingSteps.{IsKnown, IsOwnAsked, finding_of};
 ghost use Rattle.broker_answers.specs.Objects.{AreServed, interface_of, object_with as object_of, objects_of, served};
 
 use crate::exception::SystemException;
@@ -81,13 +81,14 @@ impl Service {
         object: usize,
         interface: &Interface,
         request: &Request<'_>,
-    ) -> Result<Finding, AllocError>
-        ensures { IfOk result (λ f. IsOwnAsked self.now object interface.now (asked_of request.now) (finding_of f)) }
+    ) -> Result<Finding<'_>, AllocError>
+        ensures known { IfOk result (λ f. IsKnown self.now.model f) }
+        ensures asked { IfOk result (λ f. IsOwnAsked self.now object interface.now (asked_of request.now) (finding_of f)) }
     {
         let model = self.accepted.table().model();
         match operation_named(model, interface, request.operation.as_slice()) {
             Some((number, operation)) => {
-                call_asked(alloc, &self.accepted, object, number, operation, request)
+                call_asked(&self.accepted, alloc, object, number, operation, request)
             }
             None => Ok(Finding::Refuses(SystemException::BadOperation)),
         }
@@ -100,9 +101,10 @@ impl Service {
         object: usize,
         interface: &Interface,
         request: &Request<'_>,
-    ) -> Result<Finding, AllocError>
+    ) -> Result<Finding<'_>, AllocError>
         requires { IsFor self.now (asked_of request.now) object interface.now }
-        ensures { IfOk result (λ f. Finds self.now (asked_of request.now) (finding_of f)) }
+        ensures known { IfOk result (λ f. IsKnown self.now.model f) }
+        ensures finds { IfOk result (λ f. Finds self.now (asked_of request.now) (finding_of f)) }
     {
         if is_called(request, "_is_a") {
             return type_asked(&self.giop, alloc, interface, request);
@@ -118,8 +120,13 @@ impl Service {
     /// # Errors
     /// Want of memory.
     #[tactic(auto, using(crate::proofs::Lookups::interface_there))]
-    pub(crate) fn find(&self, alloc: Global, request: &Request<'_>) -> Result<Finding, AllocError>
-        ensures { IfOk result (λ f. Finds self.now (asked_of request.now) (finding_of f)) }
+    pub(crate) fn find(
+        &self,
+        alloc: Global,
+        request: &Request<'_>,
+    ) -> Result<Finding<'_>, AllocError>
+        ensures known { IfOk result (λ f. IsKnown self.now.model f) }
+        ensures finds { IfOk result (λ f. Finds self.now (asked_of request.now) (finding_of f)) }
     {
         let Some(object) = self.object_with(&request.key) else {
             return Ok(Finding::Refuses(SystemException::ObjectNotExist));

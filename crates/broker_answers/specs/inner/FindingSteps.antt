@@ -1,23 +1,35 @@
 -- What the parts of a search for what a request asks find.
-use Rattle.std.specs.Prelude.{◌≡◌, ◌⊎◌, ℕ, List, None}
+use Rattle.std.specs.Prelude.{◌≡◌, ◌⊎◌, ℕ, List, Some, None, slice_get}
 use Rattle.type_graph.specs.declared.node.Node.{Node}
 use Rattle.type_model.specs.declared.signatures.Interface.{Interface}
 use Rattle.type_model.specs.declared.signatures.Operation.{Operation}
+use Rattle.type_model.specs.ModelRules.{Parts}
 use Rattle.giop_types.specs.TapeParts.{counted}
 use Rattle.giop_types.specs.GiopNodes.{giop_nodes}
 use Rattle.giop_messages.specs.Messages.{Asked}
 use Rattle.broker_answers.specs.declared.exception.SystemException.TheVariants.{BadOperation, Marshal}
+use Rattle.broker_answers.specs.declared.finding.AskedCall.{AskedCall}
 use Rattle.broker_answers.specs.declared.finding.Finding.{Finding as Found}
 use Rattle.broker_answers.specs.declared.finding.Finding.TheVariants as found
-use Rattle.broker_answers.specs.Servants.{call_of}
+use Rattle.broker_answers.specs.Servants.{Call, call_of}
 use Rattle.broker_answers.specs.Objects.{Served, IsNamedOperation, is_a, operation_named}
 use Rattle.broker_answers.specs.Findings.{Finding, Refuses, Tells, Calls, IsRead, IsUnread}
+
+-- the call that is asked for
+abbrev pub call_asked : AskedCall → Call
+call_asked asked = call_of asked.object asked.number asked.arguments.items
 
 -- what was found says
 abbrev pub finding_of : Found → Finding
 finding_of (found.Refuses exception) = Refuses exception
 finding_of (found.Tells truth) = Tells truth
-finding_of (found.Calls object operation arguments) = Calls (call_of object operation arguments.items)
+finding_of (found.Calls asked) = Calls (call_asked asked)
+
+-- the operation of a call is that of its number
+abbrev pub IsKnown : Parts → Found → Type 0
+IsKnown model (found.Refuses exception) = Unit {0}
+IsKnown model (found.Tells truth) = Unit {0}
+IsKnown model (found.Calls asked) = slice_get model.operations asked.number ≡ Some asked.operation.now
 
 -- `_is_a` with an id
 pub record HasId (interface : Interface) (asked : Asked) (finding : Finding) : Type 0 where

@@ -3,8 +3,8 @@ use Rattle.giop_messages.specs.Messages.{asked_of}
 use Rattle.broker_answers.proofs.Readings.{none_is_unread}
 use Rattle.broker_answers.proofs.finding.type_asked.Goals as goal
 
-pub returns-in-None : goal.returns-in-None
-returns-in-None c =
+pub returns-in-None-clause-asked : goal.returns-in-None-clause-asked
+returns-in-None-clause-asked c =
     inr
     (record {
       unread = none_is_unread c.table.result.now c.table.ensures (asked_of c.args.request.now)

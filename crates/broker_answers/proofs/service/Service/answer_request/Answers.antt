@@ -1,8 +1,8 @@
-use Rattle.std.proofs.Common.{◌≡◌, ◌⊎◌, List, ℕ, refl, sym, subst}
+use Rattle.std.proofs.Common.{◌≡◌, ◌⊎◌, refl, subst}
 use Rattle.giop_messages.specs.Messages.{asked_of}
-use Rattle.broker_answers.specs.Servants.{Call, Said, acts, call_of}
+use Rattle.broker_answers.specs.Servants.{Call, Said, acts}
 use Rattle.broker_answers.specs.Findings.{Calls, Refuses, Tells, Finds}
-use Rattle.broker_answers.specs.inner.FindingSteps.{finding_of}
+use Rattle.broker_answers.specs.inner.FindingSteps.{call_asked, finding_of}
 use Rattle.broker_answers.specs.Replies.{AnswersRequest}
 use Rattle.broker_answers.specs.Answering.{IsAnswered, MayMove}
 use Rattle.broker_answers.specs.Serving.{MovesRequest}
@@ -16,7 +16,7 @@ returns-in-Refuses-clause-answered g c =
     let asked = asked_of c.args.request.now in
     let finding = Refuses c.in-Refuses.exception in
     let says = g.S.Servant.says c.args.servant.now in
-    let finds = subst (λ f. Finds self asked (finding_of f)) c.in-Refuses.is c.in_ok-exception.ensures in
+    let finds = subst (λ f. Finds self asked (finding_of f)) c.in-Refuses.is c.in_ok-exception.ensures.finds in
     if_ok c.refuse_request.result (λ octets. (says : Call → Said) → IsAnswered self asked finding says octets.items)
     (λ octets. AnswersRequest self asked says octets.items)
     (λ octets h. is_answered self asked finding says octets.items finds (h says)) c.refuse_request.ensures
@@ -27,7 +27,7 @@ returns-in-Refuses-clause-moved g c =
     let asked = asked_of c.args.request.now in
     let servant = c.args.servant.now in
     let acting = acts g.S.Servant.says g.S.Servant.after in
-    let finds = subst (λ f. Finds self asked (finding_of f)) c.in-Refuses.is c.in_ok-exception.ensures in
+    let finds = subst (λ f. Finds self asked (finding_of f)) c.in-Refuses.is c.in_ok-exception.ensures.finds in
     on_ok c.refuse_request.result (MovesRequest acting self asked servant servant)
     (is_moved acting self asked (Refuses c.in-Refuses.exception) servant servant finds refl)
 
@@ -37,7 +37,7 @@ returns-in-Tells-clause-answered g c =
     let asked = asked_of c.args.request.now in
     let finding = Tells c.in-Tells.truth in
     let says = g.S.Servant.says c.args.servant.now in
-    let finds = subst (λ f. Finds self asked (finding_of f)) c.in-Tells.is c.in_ok-exception.ensures in
+    let finds = subst (λ f. Finds self asked (finding_of f)) c.in-Tells.is c.in_ok-exception.ensures.finds in
     if_ok c.tell.result (λ octets. (says : Call → Said) → IsAnswered self asked finding says octets.items)
     (λ octets. AnswersRequest self asked says octets.items)
     (λ octets h. is_answered self asked finding says octets.items finds (h says)) c.tell.ensures
@@ -48,7 +48,7 @@ returns-in-Tells-clause-moved g c =
     let asked = asked_of c.args.request.now in
     let servant = c.args.servant.now in
     let acting = acts g.S.Servant.says g.S.Servant.after in
-    let finds = subst (λ f. Finds self asked (finding_of f)) c.in-Tells.is c.in_ok-exception.ensures in
+    let finds = subst (λ f. Finds self asked (finding_of f)) c.in-Tells.is c.in_ok-exception.ensures.finds in
     on_ok c.tell.result (MovesRequest acting self asked servant servant)
     (is_moved acting self asked (Tells c.in-Tells.truth) servant servant finds refl)
 
@@ -56,39 +56,34 @@ pub returns-in-Calls-clause-answered : goal.returns-in-Calls-clause-answered
 returns-in-Calls-clause-answered g c =
     let self = c.args.self.now in
     let asked = asked_of c.args.request.now in
-    let call : List ℕ → Call = call_of c.in-Calls.object c.in-Calls.operation in
+    let one : Call = call_asked c.in-Calls.call in
     let says = g.S.Servant.says c.args.servant.now in
-    let finds = subst (λ f. Finds self asked (finding_of f)) c.in-Calls.is c.in_ok-exception.ensures in
-    let given = subst (λ (tape : List ℕ). Finds self asked (Calls (call tape))) (sym c.as_slice.ensures.value) finds in
-    let finding = Calls (call c.as_slice.result.now) in
+    let finds = subst (λ f. Finds self asked (finding_of f)) c.in-Calls.is c.in_ok-exception.ensures.finds in
+    let finding = Calls one in
     if_ok c.call.result (λ octets. IsAnswered self asked finding says octets.items)
     (λ octets. AnswersRequest self asked says octets.items)
-    (λ octets h. is_answered self asked finding says octets.items given h) c.call.ensures.answered
+    (λ octets h. is_answered self asked finding says octets.items finds h) c.call.ensures.answered
 
 pub returns-in-Calls-clause-moved : goal.returns-in-Calls-clause-moved
 returns-in-Calls-clause-moved g c =
     let self = c.args.self.now in
     let asked = asked_of c.args.request.now in
-    let call : List ℕ → Call = call_of c.in-Calls.object c.in-Calls.operation in
+    let one : Call = call_asked c.in-Calls.call in
     let acting = acts g.S.Servant.says g.S.Servant.after in
-    let finds = subst (λ f. Finds self asked (finding_of f)) c.in-Calls.is c.in_ok-exception.ensures in
-    let given = subst (λ (tape : List ℕ). Finds self asked (Calls (call tape))) (sym c.as_slice.ensures.value) finds in
-    let one = call c.as_slice.result.now in
+    let finds = subst (λ f. Finds self asked (finding_of f)) c.in-Calls.is c.in_ok-exception.ensures.finds in
     on_ok_map c.call.result (c.call.new.servant ≡ g.S.Servant.after c.args.servant.now one)
     (MovesRequest acting self asked c.args.servant.now c.call.new.servant)
-    (λ now. is_moved acting self asked (Calls one) c.args.servant.now c.call.new.servant given now) c.call.ensures.moved
+    (λ now. is_moved acting self asked (Calls one) c.args.servant.now c.call.new.servant finds now) c.call.ensures.moved
 
 pub returns-in-Calls-clause-given_up : goal.returns-in-Calls-clause-given_up
 returns-in-Calls-clause-given_up g c =
     let self = c.args.self.now in
     let asked = asked_of c.args.request.now in
-    let call : List ℕ → Call = call_of c.in-Calls.object c.in-Calls.operation in
+    let one : Call = call_asked c.in-Calls.call in
     let acting = acts g.S.Servant.says g.S.Servant.after in
-    let finds = subst (λ f. Finds self asked (finding_of f)) c.in-Calls.is c.in_ok-exception.ensures in
-    let given = subst (λ (tape : List ℕ). Finds self asked (Calls (call tape))) (sym c.as_slice.ensures.value) finds in
-    let one = call c.as_slice.result.now in
+    let finds = subst (λ f. Finds self asked (finding_of f)) c.in-Calls.is c.in_ok-exception.ensures.finds in
     on_err_map c.call.result
     ((c.call.new.servant ≡ c.args.servant.now) ⊎ (c.call.new.servant ≡ g.S.Servant.after c.args.servant.now one))
     (MayMove acting self asked c.args.servant.now c.call.new.servant)
-    (λ moved. may_move acting self asked (Calls one) c.args.servant.now c.call.new.servant given moved)
+    (λ moved. may_move acting self asked (Calls one) c.args.servant.now c.call.new.servant finds moved)
     c.call.ensures.given_up

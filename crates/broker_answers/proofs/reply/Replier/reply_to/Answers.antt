@@ -5,13 +5,13 @@ use Rattle.broker_answers.specs.inner.Sending.{IsRaising, IsTried}
 use Rattle.broker_answers.specs.Servants.{Said, Done, Raised, said_of}
 use Rattle.broker_answers.proofs.Cases.{if_ok}
 use Rattle.broker_answers.proofs.Outcomes.{done_replied, raising_replied}
-use Rattle.broker_answers.proofs.outcome.reply_to.Goals as goal
+use Rattle.broker_answers.proofs.reply.Replier.reply_to.Goals as goal
 
 pub returns-in-Done : goal.returns-in-Done
 returns-in-Done c =
     let model = c.args.accepted.now.model in
-    let asked = asked_of c.args.request.now in
-    let operation = c.args.operation.now in
+    let asked = asked_of c.args.self.now.request.now in
+    let operation = c.args.call.now.operation.now in
     let tape = c.as_slice.result.now in
     subst (λ (said : Said). IfOk c.succeed.result (λ octets. Replies model asked operation said octets.items))
     (ap Done c.as_slice.ensures.value ∙ sym (ap said_of c.in-Done.is))
@@ -22,8 +22,8 @@ returns-in-Done c =
 pub returns-in-Raised : goal.returns-in-Raised
 returns-in-Raised c =
     let model = c.args.accepted.now.model in
-    let asked = asked_of c.args.request.now in
-    let operation = c.args.operation.now in
+    let asked = asked_of c.args.self.now.request.now in
+    let operation = c.args.call.now.operation.now in
     let place = c.in-Raised.place in
     let tape = c.as_slice-in-Raised.result.now in
     subst (λ (said : Said). IfOk c.raise.result (λ octets. Replies model asked operation said octets.items))
