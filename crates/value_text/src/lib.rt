@@ -17,6 +17,8 @@ mod place;
 mod printing;
 mod reading;
 mod scalars;
+#[cfg(test)]
+mod tests;
 mod words;
 
 use crate::cursor::{Cursor, Stop};
@@ -57,7 +59,12 @@ pub fn print(
     }
 }
 
-fn read_whole(cursor: &mut Cursor<'_>, alloc: Global, types: Sought<'_>, node: u32) -> Result<Value, Stop> {
+fn read_whole(
+    cursor: &mut Cursor<'_>,
+    alloc: Global,
+    types: Sought<'_>,
+    node: u32,
+) -> Result<Value, Stop> {
     let token = cursor.next();
     let value = read_value(cursor, token, alloc, types, node, MAX_DEPTH)?;
     cursor.end()?;

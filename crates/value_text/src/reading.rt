@@ -74,7 +74,15 @@ pub fn read_value(
             read_elements(cursor, token, alloc, types, *elem, counts, depth)
         }
         Node::Struct { members } | Node::Frame { members } => {
-            read_members(cursor, token, alloc, types, number, members.as_slice(), depth)
+            read_members(
+                cursor,
+                token,
+                alloc,
+                types,
+                number,
+                members.as_slice(),
+                depth,
+            )
         }
         Node::Union {
             switch,
