@@ -38,9 +38,9 @@ elements_text Octet octets texts = string (encode_lower octets) ∷ []
 elements_text Char octets texts = string (characters octets) ∷ []
 elements_text node octets texts = listed texts
 
--- members with these texts: an object where they have names, else a list
-abbrev pub members_text : List (List ℕ) → List (List Token) → List Token
-members_text labels texts = if are_named labels (length texts) then object_of (zip labels texts) else listed texts
+-- so many members with these texts: an object where they have names, else a list
+abbrev pub members_text : List (List ℕ) → ℕ → List (List Token) → List Token
+members_text labels n texts = if are_named labels n then object_of (zip labels texts) else listed texts
 
 abbrev mutual
   pub text_of : List (List (List ℕ)) → List Node → List (List ℕ) → Node → Tree → List Token
@@ -49,9 +49,11 @@ abbrev mutual
   text_of names graph labels (Seq elem bound) (Items values) =
       elements_text (node_at graph elem) (octets_of values) (texts_of names graph (replicate (count values) elem) values)
   text_of names graph labels (Array elem n) (Items values) =
-      elements_text (node_at graph elem) (octets_of values) (texts_of names graph (replicate n elem) values)
-  text_of names graph labels (Struct members) (Items values) = members_text labels (texts_of names graph members values)
-  text_of names graph labels (Frame members) (Items values) = members_text labels (texts_of names graph members values)
+      elements_text (node_at graph elem) (octets_of values) (texts_of names graph (replicate (count values) elem) values)
+  text_of names graph labels (Struct members) (Items values) =
+      members_text labels (length members) (texts_of names graph members values)
+  text_of names graph labels (Frame members) (Items values) =
+      members_text labels (length members) (texts_of names graph members values)
   text_of names graph labels (Union switch arms default) (Choice label values) =
       listed ((number_text (names_at names switch) (node_at graph switch) label ∷ [])
       ∷ texts_of names graph (arm_of arms default label) values)

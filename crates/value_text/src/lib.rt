@@ -24,7 +24,7 @@ mod words;
 use crate::cursor::{Cursor, Stop};
 use crate::lookup::Lookup;
 use crate::place::refused_at;
-use crate::printing::{Named, write_value};
+use crate::printing::write_value;
 use crate::reading::{Sought, read_value};
 pub use fault::{PrintFault, ReadFault, Refusal, TextPlace, Wanted};
 use idl_value::{Value, conforms};
@@ -47,12 +47,18 @@ pub fn print(
     names: &PartNames,
     node: u32,
     value: &Value,
-) -> Result<String, PrintFault> {
+) -> Result<String, PrintFault>
+    requires { node < length graph.now }
+    ensures fits { OnOk result (Fits graph.now (node_at graph.now node) (tree_of value.now) 64) }
+    ensures text { IfOk result (λ text. string_bytes text ≡ json_text.print (text_at names.now graph.now node (tree_of value.now))) }
+    ensures says { IfOk result (λ text. StandsFor names.now graph.now node (tree_of value.now) (tokens (string_bytes text))) }
+    ensures not_of_type { IsErrOf result PrintFault.NotOfType ↔ ¬ Fits graph.now (node_at graph.now node) (tree_of value.now) 64 }
+{
     if !conforms(graph, node, value) {
         return Err(PrintFault::NotOfType);
     }
     let mut out = Writer::new(Vec::new(alloc));
-    write_value(&mut out, alloc, Named { graph, names }, node, value)?;
+    write_value(&mut out, alloc, graph, names, node, value)?;
     match String::from_utf8(out.into_inner()) {
         Ok(text) => Ok(text),
         Err(_) => Err(PrintFault::NotOfType),

@@ -1,5 +1,13 @@
 //! The texts of values.
 
+ghost use Rattle.std.specs.Prelude.{◌≡◌, [], ◌∷◌, length, option_to_list, option_map, replicate, zip, OnOk};
+ghost use Rattle.type_graph.specs.Value.{node_at, count, Items, Choice};
+ghost use Rattle.idl_value.specs.View.{tree_of, trees_of, member_of};
+ghost use Rattle.value_text.specs.Pieces.{listed, octets_of, object_of, paired, joined};
+ghost use Rattle.value_text.specs.Texts.{text_at, text_of, texts_of, members_text, elements_text, number_text};
+ghost use Rattle.part_names.specs.Names.{names_at};
+ghost use Rattle.value_text.specs.inner.Writing.{Adds, member_at, part_at};
+
 use crate::scalars::{write_chars, write_number, write_octets, write_text};
 use idl_value::Value;
 use json::Writer;
@@ -7,31 +15,45 @@ use part_names::{NodeNames, PartNames};
 use std::alloc::{AllocError, Global};
 use type_graph::{Graph, Node};
 
-/// The types of values, and the names of their parts.
-#[derive(Clone, Copy)]
-pub struct Named<'t> {
-    pub graph: &'t Graph,
-    pub names: &'t PartNames,
-}
-
-/// Writes the text of a value of a node.
+/// Writes the text of a value of a node. A number that is no node's counts as an octet's.
 #[cycle(printing)]
 pub fn write_value(
     out: &mut Writer,
     alloc: Global,
-    types: Named<'_>,
+    graph: &Graph,
+    names: &PartNames,
     number: u32,
     value: &Value,
-) -> Result<(), AllocError> {
-    let Some(node) = types.graph.nodes().get(number as usize) else {
-        return Ok(());
-    };
-    let labels = types.names.of(number);
+) -> Result<(), AllocError>
+    ensures { OnOk result (Adds out.old out.new (text_at names.now graph.now number (tree_of value.now))) }
+{
+    let labels = names.of(number);
+    match graph.nodes().get(number as usize) {
+        Some(node) => write_of(out, alloc, graph, names, labels, node, value),
+        None => write_of(out, alloc, graph, names, labels, &Node::Octet, value),
+    }
+}
+
+/// The same, where the node is at hand.
+#[cycle(printing)]
+fn write_of(
+    out: &mut Writer,
+    alloc: Global,
+    graph: &Graph,
+    names: &PartNames,
+    labels: &NodeNames,
+    node: &Node,
+    value: &Value,
+) -> Result<(), AllocError>
+    ensures { OnOk result (Adds out.old out.new (text_of names.now graph.now labels.now node.now (tree_of value.now))) }
+{
     match value {
         Value::Whole(n) => write_number(out, alloc, labels, node, *n),
         Value::Text(text) => write_text(out, alloc, text),
-        Value::Items(values) => write_items(out, alloc, types, labels, node, values),
-        Value::Choice { disc, member } => write_choice(out, alloc, types, node, *disc, member),
+        Value::Items(values) => write_items(out, alloc, graph, names, labels, node, values),
+        Value::Choice { disc, member } => {
+            write_choice(out, alloc, graph, names, node, *disc, member)
+        }
     }
 }
 
@@ -40,17 +62,20 @@ pub fn write_value(
 fn write_items(
     out: &mut Writer,
     alloc: Global,
-    types: Named<'_>,
+    graph: &Graph,
+    names: &PartNames,
     labels: &NodeNames,
     node: &Node,
     values: &[Value],
-) -> Result<(), AllocError> {
+) -> Result<(), AllocError>
+    ensures { OnOk result (Adds out.old out.new (text_of names.now graph.now labels.now node.now (Items (trees_of values.now)))) }
+{
     match node {
         Node::Seq { elem, .. } | Node::Array { elem, .. } => {
-            write_elements(out, alloc, types, *elem, values)
+            write_elements(out, alloc, graph, names, *elem, values)
         }
         Node::Struct { members } | Node::Frame { members } => {
-            write_members(out, alloc, types, labels, members.as_slice(), values)
+            write_members(out, alloc, graph, names, labels, members.as_slice(), values)
         }
         _ => Ok(()),
     }
@@ -61,14 +86,18 @@ fn write_items(
 fn write_elements(
     out: &mut Writer,
     alloc: Global,
-    types: Named<'_>,
+    graph: &Graph,
+    names: &PartNames,
     elem: u32,
     values: &[Value],
-) -> Result<(), AllocError> {
-    match types.graph.nodes().get(elem as usize) {
-        Some(Node::Octet) => write_octets(out, alloc, values),
+) -> Result<(), AllocError>
+    ensures { OnOk result (Adds out.old out.new (elements_text (node_at graph.now elem) (octets_of (trees_of values.now))
+        (texts_of names.now graph.now (replicate (count (trees_of values.now)) elem) (trees_of values.now)))) }
+{
+    match graph.nodes().get(elem as usize) {
+        None | Some(Node::Octet) => write_octets(out, alloc, values),
         Some(Node::Char) => write_chars(out, alloc, values),
-        _ => write_list(out, alloc, types, elem, values),
+        Some(_) => write_list(out, alloc, graph, names, elem, values),
     }
 }
 
@@ -76,13 +105,17 @@ fn write_elements(
 fn write_list(
     out: &mut Writer,
     alloc: Global,
-    types: Named<'_>,
+    graph: &Graph,
+    names: &PartNames,
     elem: u32,
     values: &[Value],
-) -> Result<(), AllocError> {
+) -> Result<(), AllocError>
+    ensures { OnOk result (Adds out.old out.new
+        (listed (texts_of names.now graph.now (replicate (count (trees_of values.now)) elem) (trees_of values.now)))) }
+{
     out.begin_array()?;
     for value in values {
-        write_value(out, alloc, types, elem, value)?;
+        write_value(out, alloc, graph, names, elem, value)?;
     }
     out.end_array()
 }
@@ -92,39 +125,105 @@ fn write_list(
 fn write_members(
     out: &mut Writer,
     alloc: Global,
-    types: Named<'_>,
+    graph: &Graph,
+    names: &PartNames,
     labels: &NodeNames,
     members: &[u32],
     values: &[Value],
-) -> Result<(), AllocError> {
+) -> Result<(), AllocError>
+    ensures { OnOk result (Adds out.old out.new
+        (members_text labels.now (length members.now) (texts_of names.now graph.now members.now (trees_of values.now)))) }
+{
     if labels.is_empty() || labels.len() != members.len() {
-        return write_row(out, alloc, types, members, values);
+        return write_row(out, alloc, graph, names, members, values);
     }
+    write_object(out, alloc, graph, names, labels, members, values)
+}
+
+#[cycle(printing)]
+fn write_object(
+    out: &mut Writer,
+    alloc: Global,
+    graph: &Graph,
+    names: &PartNames,
+    labels: &NodeNames,
+    members: &[u32],
+    values: &[Value],
+) -> Result<(), AllocError>
+    ensures { OnOk result (Adds out.old out.new
+        (object_of (zip labels.now (texts_of names.now graph.now members.now (trees_of values.now))))) }
+{
     out.begin_object()?;
-    for (place, value) in values.iter().enumerate() {
-        if let (Some(label), Some(member)) = (labels.get(place), members.get(place)) {
-            out.key(label)?;
-            write_value(out, alloc, types, *member, value)?;
-        }
+    for place in 0..values.len() {
+        let member = members.get(place).copied();
+        write_member(
+            out,
+            alloc,
+            graph,
+            names,
+            labels.get(place),
+            member,
+            &values[place],
+        )?;
     }
     out.end_object()
+}
+
+/// Writes a member and its name, if both are there.
+#[cycle(printing)]
+fn write_member(
+    out: &mut Writer,
+    alloc: Global,
+    graph: &Graph,
+    names: &PartNames,
+    label: Option<&str>,
+    member: Option<u32>,
+    value: &Value,
+) -> Result<(), AllocError>
+    ensures { OnOk result (Adds out.old out.new (paired (member_at names.now graph.now (option_map (λ label. label.now) label) member (tree_of value.now)))) }
+{
+    let (Some(label), Some(member)) = (label, member) else {
+        return Ok(());
+    };
+    out.key(label)?;
+    write_value(out, alloc, graph, names, member, value)
 }
 
 #[cycle(printing)]
 fn write_row(
     out: &mut Writer,
     alloc: Global,
-    types: Named<'_>,
+    graph: &Graph,
+    names: &PartNames,
     members: &[u32],
     values: &[Value],
-) -> Result<(), AllocError> {
+) -> Result<(), AllocError>
+    ensures { OnOk result (Adds out.old out.new (listed (texts_of names.now graph.now members.now (trees_of values.now)))) }
+{
     out.begin_array()?;
-    for (place, value) in values.iter().enumerate() {
-        if let Some(member) = members.get(place) {
-            write_value(out, alloc, types, *member, value)?;
-        }
+    for place in 0..values.len() {
+        let member = members.get(place).copied();
+        write_part(out, alloc, graph, names, member, &values[place])?;
     }
     out.end_array()
+}
+
+/// Writes a part, if it is there.
+#[cycle(printing)]
+fn write_part(
+    out: &mut Writer,
+    alloc: Global,
+    graph: &Graph,
+    names: &PartNames,
+    member: Option<u32>,
+    value: &Value,
+) -> Result<(), AllocError>
+    ensures { OnOk result (Adds out.old out.new (joined (part_at names.now graph.now member (tree_of value.now)))) }
+{
+    match member {
+        Some(member) => write_value(out, alloc, graph, names, member, value),
+        None => Ok(()),
+    }
 }
 
 /// A union is the list of its label and its member, if it has one.
@@ -132,11 +231,14 @@ fn write_row(
 fn write_choice(
     out: &mut Writer,
     alloc: Global,
-    types: Named<'_>,
+    graph: &Graph,
+    names: &PartNames,
     node: &Node,
     disc: i128,
     member: &Option<Box<Value>>,
-) -> Result<(), AllocError> {
+) -> Result<(), AllocError>
+    ensures { OnOk result (Adds out.old out.new (text_of names.now graph.now [] node.now (Choice disc (member_of member.now)))) }
+{
     let Node::Union {
         switch,
         arms,
@@ -146,22 +248,50 @@ fn write_choice(
         return Ok(());
     };
     out.begin_array()?;
-    write_label(out, alloc, types, *switch, disc)?;
-    if let (Some(number), Some(value)) = (arms.chosen(*default, disc), member) {
-        write_value(out, alloc, types, number, value)?;
-    }
+    write_label(out, alloc, graph, names, *switch, disc)?;
+    write_chosen(
+        out,
+        alloc,
+        graph,
+        names,
+        arms.chosen(*default, disc),
+        member,
+    )?;
     out.end_array()
 }
 
+/// Writes the label of a union.
 fn write_label(
     out: &mut Writer,
     alloc: Global,
-    types: Named<'_>,
+    graph: &Graph,
+    names: &PartNames,
     switch: u32,
     disc: i128,
-) -> Result<(), AllocError> {
-    match types.graph.nodes().get(switch as usize) {
-        Some(node) => write_number(out, alloc, types.names.of(switch), node, disc),
+) -> Result<(), AllocError>
+    ensures { OnOk result (Adds out.old out.new (number_text (names_at names.now switch) (node_at graph.now switch) disc ∷ [])) }
+{
+    let labels = names.of(switch);
+    match graph.nodes().get(switch as usize) {
+        Some(node) => write_number(out, alloc, labels, node, disc),
+        None => write_number(out, alloc, labels, &Node::Octet, disc),
+    }
+}
+
+/// Writes the member of a union, if it has one.
+#[cycle(printing)]
+fn write_chosen(
+    out: &mut Writer,
+    alloc: Global,
+    graph: &Graph,
+    names: &PartNames,
+    number: Option<u32>,
+    member: &Option<Box<Value>>,
+) -> Result<(), AllocError>
+    ensures { OnOk result (Adds out.old out.new (joined (texts_of names.now graph.now (option_to_list number) (member_of member.now)))) }
+{
+    match member {
+        Some(value) => write_part(out, alloc, graph, names, number, value),
         None => Ok(()),
     }
 }
