@@ -34,11 +34,7 @@ fn octet_of_value(value: &Value) -> u8
 fn octets_of(alloc: Global, values: &[Value]) -> Result<Vec<u8>, AllocError>
     ensures { IfOk result (λ octets. octets.items ≡ octets_of (trees_of values.now)) }
 {
-    let mut octets = Vec::with_capacity(alloc, values.len())?;
-    for value in values {
-        octets.push(octet_of_value(value))?;
-    }
-    Ok(octets)
+    values.iter().map(octet_of_value).collect(alloc)
 }
 
 /// Each octet as a character.
@@ -88,10 +84,10 @@ fn label_of(labels: &NodeNames, n: i128) -> Option<&str>
     ensures some { IfSome result (λ label. label_of labels.now n ≡ Some label.now) }
     ensures none { IfNone result (label_of labels.now n ≡ None) }
 {
-    match usize::try_from(n) {
-        Ok(place) => labels.get(place),
-        Err(_) => None,
+    if n < 0 || n >= labels.len() as i128 {
+        return None;
     }
+    labels.get(n as usize)
 }
 
 /// Writes an integer, octet, character, boolean or enumerator.
