@@ -1,2 +1,4 @@
 pub mod Numerals
 pub mod Pieces
+pub mod Writing
+pub mod Printed

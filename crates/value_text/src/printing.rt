@@ -1,6 +1,6 @@
 //! The texts of values.
 
-ghost use Rattle.std.specs.Prelude.{◌≡◌, [], ◌∷◌, length, option_to_list, option_map, replicate, zip, OnOk};
+ghost use Rattle.std.specs.Prelude.{◌≡◌, [], ◌∷◌, length, slice_get, option_to_list, option_map, replicate, zip, OnOk};
 ghost use Rattle.type_graph.specs.Value.{node_at, count, Items, Choice};
 ghost use Rattle.idl_value.specs.View.{tree_of, trees_of, member_of};
 ghost use Rattle.value_text.specs.Pieces.{listed, octets_of, object_of, paired, joined};
@@ -14,6 +14,12 @@ use json::Writer;
 use part_names::{NodeNames, PartNames};
 use std::alloc::{AllocError, Global};
 use type_graph::{Graph, Node};
+
+fn number_at(members: &[u32], place: usize) -> Option<u32>
+    ensures { result ≡ slice_get members.now place }
+{
+    members.get(place).copied()
+}
 
 /// Writes the text of a value of a node. A number that is no node's counts as an octet's.
 #[cycle(printing)]
@@ -155,7 +161,7 @@ fn write_object(
 {
     out.begin_object()?;
     for place in 0..values.len() {
-        let member = members.get(place).copied();
+        let member = number_at(members, place);
         write_member(
             out,
             alloc,
@@ -180,7 +186,7 @@ fn write_member(
     member: Option<u32>,
     value: &Value,
 ) -> Result<(), AllocError>
-    ensures { OnOk result (Adds out.old out.new (paired (member_at names.now graph.now (option_map (λ label. label.now) label) member (tree_of value.now)))) }
+    ensures { OnOk result (Adds out.old out.new (paired (member_at names.now graph.now (option_map (λ label. label.now) label.entry) member (tree_of value.now)))) }
 {
     let (Some(label), Some(member)) = (label, member) else {
         return Ok(());
@@ -202,7 +208,7 @@ fn write_row(
 {
     out.begin_array()?;
     for place in 0..values.len() {
-        let member = members.get(place).copied();
+        let member = number_at(members, place);
         write_part(out, alloc, graph, names, member, &values[place])?;
     }
     out.end_array()

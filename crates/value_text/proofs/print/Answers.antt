@@ -1,0 +1,3 @@
+use Rattle.std.proofs.Common.{◌≡◌, rules}
+use Rattle.value_text.proofs.Printed.{says}
+use Rattle.value_text.proofs.print.Goals as goal
