@@ -76,7 +76,7 @@ module _ (names : List (List (List ℕ))) (graph : List Node) where
   as_many_texts (number ∷ numbers) (AndTree value values) depth h = ap suc (as_many_texts numbers values depth h.1)
 
   -- elements, which are so many
-  Elements : Node → ℕ → ℕ → Trees → List Token → Type 0
+  abbrev Elements : Node → ℕ → ℕ → Trees → List Token → Type 0
   Elements node n elem values tokens =
       SaysTogether node (octets_of values) tokens ⊎ ((texts : List (List Token)) × SayAll names graph (replicate n elem) values texts × IsList texts tokens)
 
