@@ -37,6 +37,7 @@ are_octets (AndTree value more) zero = an_octet value
         below n true e = ltb-true n 256 e
         below n false e = omega arith
     octet (negsuc n) = omega arith
+
     an_octet : (value : Tree) → octet_of_tree value < 256
     an_octet (Number n) = octet n
     an_octet value = omega arith

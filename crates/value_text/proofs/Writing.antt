@@ -70,16 +70,16 @@ module _ (names : List (List (List ℕ))) (graph : List Node) where
       → row members values i ≡ joined (part_at names graph (slice_get members i) (tree_of value)) ++ row members values (i + 1)
   row_next members values i value lt e = elim (dropped members i) [
     | inl h ↦
-      let more = texts_of names graph (drop (i + 1) members) (trees_of (drop (i + 1) values)) in
-      let text = text_at names graph h.0 (tree_of value) in
-      ap₂ (λ numbers trees. joined (texts_of names graph numbers trees)) h.2 (trees_of-drop values i value lt e)
-      ∙ ap (λ l. l ++ joined more) (sym (append-nil text))
-      ∙ ap (λ number. joined (part_at names graph number (tree_of value)) ++ joined more) (sym h.1)
+        let more = texts_of names graph (drop (i + 1) members) (trees_of (drop (i + 1) values)) in
+        let text = text_at names graph h.0 (tree_of value) in
+        ap₂ (λ numbers trees. joined (texts_of names graph numbers trees)) h.2 (trees_of-drop values i value lt e)
+        ∙ ap (λ l. l ++ joined more) (sym (append-nil text))
+        ∙ ap (λ number. joined (part_at names graph number (tree_of value)) ++ joined more) (sym h.1)
     | inr h ↦
-      let more = trees_of (drop (i + 1) values) in
-      ap₂ (λ numbers trees. joined (texts_of names graph numbers trees)) h.1 (trees_of-drop values i value lt e)
-      ∙ ap joined (sym (no_texts more) ∙ ap (λ numbers. texts_of names graph numbers more) (sym h.2))
-      ∙ ap (λ number. joined (part_at names graph number (tree_of value)) ++ row members values (i + 1)) (sym h.0)
+        let more = trees_of (drop (i + 1) values) in
+        ap₂ (λ numbers trees. joined (texts_of names graph numbers trees)) h.1 (trees_of-drop values i value lt e)
+        ∙ ap joined (sym (no_texts more) ∙ ap (λ numbers. texts_of names graph numbers more) (sym h.2))
+        ∙ ap (λ number. joined (part_at names graph number (tree_of value)) ++ row members values (i + 1)) (sym h.0)
   ]
 
   pub row_end : (members : List ℕ) (values : List Value) (i : ℕ) → length values ≤ i → row members values i ≡ []
@@ -104,22 +104,22 @@ module _ (names : List (List (List ℕ))) (graph : List Node) where
   pairs_next labels members values i value lt e = elim (dropped labels i) [
     | inl l ↦ elim (dropped members i) [
       | inl h ↦
-        let more = zip (drop (i + 1) labels) (texts_of names graph (drop (i + 1) members) (trees_of (drop (i + 1) values))) in
-        let text = text_at names graph h.0 (tree_of value) in
-        ap paired (ap₂ zip l.2 (ap₂ (λ numbers trees. texts_of names graph numbers trees) h.2 (trees_of-drop values i value lt e)))
-        ∙ ap (λ t. key l.0 ∷ (t ++ paired more)) (sym (append-nil text))
-        ∙ ap₂ (λ label number. paired (member_at names graph label number (tree_of value)) ++ paired more) (sym l.1) (sym h.1)
+          let more = zip (drop (i + 1) labels) (texts_of names graph (drop (i + 1) members) (trees_of (drop (i + 1) values))) in
+          let text = text_at names graph h.0 (tree_of value) in
+          ap paired (ap₂ zip l.2 (ap₂ (λ numbers trees. texts_of names graph numbers trees) h.2 (trees_of-drop values i value lt e)))
+          ∙ ap (λ t. key l.0 ∷ (t ++ paired more)) (sym (append-nil text))
+          ∙ ap₂ (λ label number. paired (member_at names graph label number (tree_of value)) ++ paired more) (sym l.1) (sym h.1)
       | inr h ↦
-        none_left (member_at names graph (slice_get labels i) (slice_get members i) (tree_of value))
-        (ap₂ (λ label number. member_at names graph label number (tree_of value)) l.1 h.0)
-        (no_members (drop i labels) (drop i members) (trees_of (drop i values)) h.1)
-        (no_members (drop (i + 1) labels) (drop (i + 1) members) (trees_of (drop (i + 1) values)) h.2)
+          none_left (member_at names graph (slice_get labels i) (slice_get members i) (tree_of value))
+          (ap₂ (λ label number. member_at names graph label number (tree_of value)) l.1 h.0)
+          (no_members (drop i labels) (drop i members) (trees_of (drop i values)) h.1)
+          (no_members (drop (i + 1) labels) (drop (i + 1) members) (trees_of (drop (i + 1) values)) h.2)
     ]
     | inr l ↦
-      none_left (member_at names graph (slice_get labels i) (slice_get members i) (tree_of value))
-      (ap (λ label. member_at names graph label (slice_get members i) (tree_of value)) l.0)
-      (ap (λ labels. zip labels (texts_of names graph (drop i members) (trees_of (drop i values)))) l.1)
-      (ap (λ labels. zip labels (texts_of names graph (drop (i + 1) members) (trees_of (drop (i + 1) values)))) l.2)
+        none_left (member_at names graph (slice_get labels i) (slice_get members i) (tree_of value))
+        (ap (λ label. member_at names graph label (slice_get members i) (tree_of value)) l.0)
+        (ap (λ labels. zip labels (texts_of names graph (drop i members) (trees_of (drop i values)))) l.1)
+        (ap (λ labels. zip labels (texts_of names graph (drop (i + 1) members) (trees_of (drop (i + 1) values)))) l.2)
   ]
 
   pub pairs_end : (labels : List (List ℕ)) (members : List ℕ) (values : List Value) (i : ℕ) → length values ≤ i → pairs labels members values i ≡ []

@@ -1,8 +1,13 @@
 //! A text that is being read.
 
+ghost use Rattle.std.specs.Prelude.{◌≡◌, ◌≢◌, [], ◌∷◌, IfSome, IfNone, IfOk, OnOk, MatchOption};
+ghost use Rattle.json.specs.Token.{end_array, end_object, key, bad};
+ghost use Rattle.json.specs.Reads.{token_of};
+
 use crate::fault::Wanted;
 use json::{Reader, Token};
 use std::alloc::{AllocError, AllocFailed};
+use std::marker::Model;
 
 /// Why reading stops.
 #[derive(Clone, Copy, Debug, Drop)]
@@ -41,13 +46,28 @@ pub struct Cursor<'a> {
     at: usize,
 }
 
+impl<'a> Model for Cursor<'a> {
+    ghost use Rattle.std.specs.Prelude.{List};
+    ghost use Rattle.json.specs.Token.{Token as SpecToken, tokens_code};
+
+    ghost Value = { List SpecToken };
+
+    ghost coded = { tokens_code };
+
+    ghost view = { λ c. c.reader };
+}
+
 impl<'a> Cursor<'a> {
-    pub fn new(reader: Reader<'a>) -> Cursor<'a> {
+    pub fn new(reader: Reader<'a>) -> Cursor<'a>
+        ensures { result ≡ reader }
+    {
         Cursor { reader, at: 0 }
     }
 
     /// The next token; behind the last there is a bad one.
-    pub fn next(&mut self) -> Token<'a> {
+    pub fn next(&mut self) -> Token<'a>
+        ensures { token_of result ≢ bad → self.old ≡ token_of result ∷ self.new }
+    {
         self.at = self.reader.offset();
         self.reader.next().unwrap_or(Token::Bad)
     }
@@ -65,7 +85,10 @@ impl<'a> Cursor<'a> {
     }
 
     /// The first token of the next element of a list, None at the list's end.
-    pub fn next_element(&mut self) -> Option<Token<'a>> {
+    pub fn next_element(&mut self) -> Option<Token<'a>>
+        ensures some { IfSome result (λ token. token_of token ≢ bad → self.old ≡ token_of token ∷ self.new) }
+        ensures none { IfNone result (self.old ≡ end_array ∷ self.new) }
+    {
         match self.next() {
             Token::EndArray => None,
             token => Some(token),
@@ -73,7 +96,9 @@ impl<'a> Cursor<'a> {
     }
 
     /// The first token of a part that a list has to have.
-    pub fn next_part(&mut self) -> Result<Token<'a>, Stop> {
+    pub fn next_part(&mut self) -> Result<Token<'a>, Stop>
+        ensures { IfOk result (λ token. token_of token ≢ bad → self.old ≡ token_of token ∷ self.new) }
+    {
         match self.next() {
             Token::EndArray => Err(self.refuse(Token::EndArray, Wanted::Count)),
             token => Ok(token),
@@ -81,7 +106,9 @@ impl<'a> Cursor<'a> {
     }
 
     /// The name of the next member of an object, None at the object's end.
-    pub fn next_key(&mut self) -> Result<Option<&'a str>, Stop> {
+    pub fn next_key(&mut self) -> Result<Option<&'a str>, Stop>
+        ensures { IfOk result (λ label. MatchOption label (self.old ≡ end_object ∷ self.new) (λ name. self.old ≡ key name.now ∷ self.new)) }
+    {
         match self.next() {
             Token::Key(key) => Ok(Some(key)),
             Token::EndObject => Ok(None),
@@ -90,7 +117,9 @@ impl<'a> Cursor<'a> {
     }
 
     /// Passes the end of a list.
-    pub fn end_list(&mut self) -> Result<(), Stop> {
+    pub fn end_list(&mut self) -> Result<(), Stop>
+        ensures { OnOk result (self.old ≡ end_array ∷ self.new) }
+    {
         match self.next() {
             Token::EndArray => Ok(()),
             token => Err(self.refuse(token, Wanted::Count)),
@@ -98,7 +127,9 @@ impl<'a> Cursor<'a> {
     }
 
     /// The text has to end here.
-    pub fn end(&mut self) -> Result<(), Stop> {
+    pub fn end(&mut self) -> Result<(), Stop>
+        ensures { OnOk result (self.old ≡ []) }
+    {
         self.at = self.reader.offset();
         match self.reader.next() {
             None => Ok(()),

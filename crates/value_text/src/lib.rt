@@ -68,7 +68,7 @@ pub fn print(
 fn read_whole(
     cursor: &mut Cursor<'_>,
     alloc: Global,
-    types: Sought<'_>,
+    types: &Sought<'_>,
     node: u32,
 ) -> Result<Value, Stop> {
     let token = cursor.next();
@@ -97,7 +97,7 @@ pub fn read(
         names,
         lookup: &lookup,
     };
-    match read_whole(&mut cursor, alloc, types, node) {
+    match read_whole(&mut cursor, alloc, &types, node) {
         Ok(value) => Ok(value),
         Err(Stop::NoMemory) => Err(ReadFault::NoMemory),
         Err(Stop::Refused { wanted, at }) => Err(ReadFault::Refused(refused_at(text, wanted, at))),

@@ -1,6 +1,8 @@
 //! The places of parts by their names. They are sought by the order of their octets, so that no
 //! choice of names makes that slow.
 
+ghost use Rattle.std.specs.Prelude.{◌≡◌, Some, IfSome, slice_get};
+
 use part_names::{NodeNames, PartNames};
 use std::alloc::{AllocError, Global};
 use type_graph::Items;
@@ -43,11 +45,14 @@ impl Lookup {
         Ok(Lookup { tables })
     }
 
-    /// The place of the node's part of this name.
-    pub fn place_of(&self, number: u32, label: &str) -> Option<u32> {
-        match self.tables.get(number as usize) {
-            Some(table) => table.node_of(label),
-            None => None,
+    /// The place of the node's part of this name, where these are the node's names.
+    pub fn place_of(&self, labels: &NodeNames, number: u32, label: &str) -> Option<u32>
+        ensures { IfSome result (λ place. slice_get labels.now place ≡ Some label.now) }
+    {
+        let place = self.tables.get(number as usize)?.node_of(label)?;
+        match labels.get(place as usize) {
+            Some(name) if name == label => Some(place),
+            _ => None,
         }
     }
 }

@@ -1,5 +1,13 @@
 //! The values of texts.
 
+ghost use Rattle.std.specs.Prelude.{◌≡◌, ◌≤◌, ◌↔◌, length, replicate, map, IfOk, OnOk, IsTrue};
+ghost use Rattle.type_graph.specs.declared.node.Node.TheVariants.{Union};
+ghost use Rattle.type_graph.specs.Value.{node_at, count, IsCount, IsNumber, Items};
+ghost use Rattle.idl_value.specs.View.{tree_of, trees_of};
+ghost use Rattle.json.specs.Reads.{token_of};
+ghost use Rattle.part_names.specs.Names.{names_at};
+ghost use Rattle.value_text.specs.inner.Reading.{Reads, ReadsAs, ReadsList, ReadsObject};
+
 use crate::cursor::{Cursor, Stop};
 use crate::fault::Wanted;
 use crate::lookup::Lookup;
@@ -53,7 +61,7 @@ pub fn read_value(
     cursor: &mut Cursor<'_>,
     token: Token<'_>,
     alloc: Global,
-    types: Sought<'_>,
+    types: &Sought<'_>,
     number: u32,
     depth: u32,
 ) -> Result<Value, Stop> {
@@ -89,8 +97,22 @@ pub fn read_value(
             arms,
             default,
         } => read_choice(cursor, token, alloc, types, *switch, arms, *default, depth),
-        _ => Ok(Value::Whole(read_number(cursor, token, types.lookup, number, node)?)),
+        _ => read_whole(cursor, token, alloc, types, number, node),
     }
+}
+
+/// An integer, octet, character, boolean or enumerator.
+fn read_whole(
+    cursor: &Cursor<'_>,
+    token: Token<'_>,
+    alloc: Global,
+    types: &Sought<'_>,
+    number: u32,
+    node: &Node,
+) -> Result<Value, Stop> {
+    let labels = types.names.of(number);
+    let n = read_number(cursor, token, alloc, types.lookup, labels, number, node)?;
+    Ok(Value::Whole(n))
 }
 
 /// The elements of a sequence or an array: together, or as a list.
@@ -99,7 +121,7 @@ fn read_elements(
     cursor: &mut Cursor<'_>,
     token: Token<'_>,
     alloc: Global,
-    types: Sought<'_>,
+    types: &Sought<'_>,
     elem: u32,
     counts: Counts,
     depth: u32,
@@ -121,7 +143,7 @@ fn read_elements(
 fn read_list(
     cursor: &mut Cursor<'_>,
     alloc: Global,
-    types: Sought<'_>,
+    types: &Sought<'_>,
     elem: u32,
     most: usize,
     depth: u32,
@@ -142,7 +164,7 @@ fn read_members(
     cursor: &mut Cursor<'_>,
     token: Token<'_>,
     alloc: Global,
-    types: Sought<'_>,
+    types: &Sought<'_>,
     number: u32,
     members: &[u32],
     depth: u32,
@@ -163,7 +185,7 @@ fn read_members(
 fn read_row(
     cursor: &mut Cursor<'_>,
     alloc: Global,
-    types: Sought<'_>,
+    types: &Sought<'_>,
     members: &[u32],
     depth: u32,
 ) -> Result<Vec<Value>, Stop> {
@@ -189,14 +211,14 @@ fn empty_slots(alloc: Global, count: usize) -> Result<Vec<Option<Value>>, AllocE
 fn read_object(
     cursor: &mut Cursor<'_>,
     alloc: Global,
-    types: Sought<'_>,
+    types: &Sought<'_>,
     number: u32,
     members: &[u32],
     depth: u32,
 ) -> Result<Vec<Value>, Stop> {
     let mut slots = empty_slots(alloc, members.len())?;
     while let Some(label) = cursor.next_key()? {
-        let place = types.lookup.place_of(number, label);
+        let place = types.lookup.place_of(types.names.of(number), number, label);
         read_slot(cursor, alloc, types, members, &mut slots, place, depth)?;
     }
     values_of_slots(cursor, alloc, slots)
@@ -207,7 +229,7 @@ fn read_object(
 fn read_slot(
     cursor: &mut Cursor<'_>,
     alloc: Global,
-    types: Sought<'_>,
+    types: &Sought<'_>,
     members: &[u32],
     slots: &mut [Option<Value>],
     place: Option<u32>,
@@ -250,7 +272,7 @@ fn read_choice(
     cursor: &mut Cursor<'_>,
     token: Token<'_>,
     alloc: Global,
-    types: Sought<'_>,
+    types: &Sought<'_>,
     switch: u32,
     arms: &Arms,
     default: Option<u32>,
@@ -259,7 +281,7 @@ fn read_choice(
     let Token::BeginArray = token else {
         return Err(cursor.refuse(token, Wanted::List));
     };
-    let disc = read_label(cursor, types, switch)?;
+    let disc = read_label(cursor, alloc, types, switch)?;
     let member = match arms.chosen(default, disc) {
         Some(number) => {
             let token = cursor.next_part()?;
@@ -273,10 +295,16 @@ fn read_choice(
 }
 
 /// The label of a union, with which its list begins.
-fn read_label(cursor: &mut Cursor<'_>, types: Sought<'_>, switch: u32) -> Result<i128, Stop> {
+fn read_label(
+    cursor: &mut Cursor<'_>,
+    alloc: Global,
+    types: &Sought<'_>,
+    switch: u32,
+) -> Result<i128, Stop> {
     let token = cursor.next_part()?;
-    match types.graph.nodes().get(switch as usize) {
-        Some(node) => read_number(cursor, token, types.lookup, switch, node),
-        None => Err(cursor.refuse(token, Wanted::Whole)),
-    }
+    let Some(node) = types.graph.nodes().get(switch as usize) else {
+        return Err(cursor.refuse(token, Wanted::Whole));
+    };
+    let labels = types.names.of(switch);
+    read_number(cursor, token, alloc, types.lookup, labels, switch, node)
 }

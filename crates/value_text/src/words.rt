@@ -1,40 +1,46 @@
 //! What single tokens say.
 
+ghost use Rattle.std.specs.Prelude.{◌≡◌, ◌↔◌, ℕ, pos, List, [], map, Some, Ok, IfSome, IfOk, IsTrue};
+ghost use Rattle.std.specs.Fmt.{signed_decimal};
+ghost use Rattle.hex.specs.Hex.{decode_of};
+ghost use Rattle.json.specs.Token.{string};
+ghost use Rattle.json.specs.Reads.{token_of};
+ghost use Rattle.type_graph.specs.declared.node.Node.TheVariants.{Char};
+ghost use Rattle.type_graph.specs.Value.{IsNumber, IsText, Number};
+ghost use Rattle.idl_value.specs.View.{tree_of};
+ghost use Rattle.value_text.specs.Pieces.{characters};
+ghost use Rattle.value_text.specs.Texts.{label_of};
+ghost use Rattle.value_text.specs.Says.{SaysNumber};
+ghost use Rattle.value_text.specs.inner.Reading.{IsOctets, IsString};
+
 use crate::cursor::{Cursor, Stop};
 use crate::fault::Wanted;
 use crate::lookup::Lookup;
 use idl_value::Value;
 use json::Token;
+use part_names::NodeNames;
 use std::alloc::{AllocError, Global};
 use type_graph::Node;
 
-/// The number of these digits: no fraction, no exponent, no sign before 0.
-fn whole_of(digits: &str) -> Option<i128> {
-    if digits == "-0" {
+/// The number of which these are the digits: no fraction, no exponent, no needless sign.
+fn whole_of(digits: &str) -> Option<i128>
+    ensures { IfSome result (λ n. digits.now ≡ signed_decimal n) }
+{
+    let n = digits.parse::<i128>().ok()?;
+    let mut buffer = itoa::Buffer::new();
+    if buffer.format(n) != digits {
         return None;
     }
-    digits.parse::<i128>().ok()
-}
-
-fn octet_of(character: char) -> Option<u8> {
-    u8::try_from(u32::from(character)).ok()
-}
-
-/// The octet of a text of one character.
-fn char_of(text: &str) -> Option<u8> {
-    let mut characters = text.chars();
-    let first = characters.next()?;
-    if characters.next().is_some() {
-        return None;
-    }
-    octet_of(first)
+    Some(n)
 }
 
 /// The octets of characters, None where one has none.
-fn octets_of_text(alloc: Global, text: &str) -> Result<Option<Vec<u8>>, AllocError> {
+fn octets_of_text(alloc: Global, text: &str) -> Result<Option<Vec<u8>>, AllocError>
+    ensures { IfOk result (λ found. IfSome found (λ octets. text.now ≡ characters octets.items)) }
+{
     let mut octets = Vec::new(alloc);
     for character in text.chars() {
-        let Some(octet) = octet_of(character) else {
+        let Ok(octet) = u8::try_from(u32::from(character)) else {
             return Ok(None);
         };
         octets.push(octet)?;
@@ -43,7 +49,9 @@ fn octets_of_text(alloc: Global, text: &str) -> Result<Option<Vec<u8>>, AllocErr
 }
 
 /// The octets of hexadecimal digits, None where they are none.
-fn octets_of_digits(alloc: Global, digits: &str) -> Result<Option<Vec<u8>>, AllocError> {
+fn octets_of_digits(alloc: Global, digits: &str) -> Result<Option<Vec<u8>>, AllocError>
+    ensures { IfOk result (λ found. IfSome found (λ octets. decode_of digits.now ≡ Ok octets.items)) }
+{
     match hex::decode(alloc, digits) {
         Ok(octets) => Ok(Some(octets)),
         Err(hex::FromHexError::OutOfMemory) => Err(AllocError),
@@ -51,18 +59,46 @@ fn octets_of_digits(alloc: Global, digits: &str) -> Result<Option<Vec<u8>>, Allo
     }
 }
 
-fn number_of(lookup: &Lookup, number: u32, node: &Node, token: Token<'_>) -> Option<i128> {
-    match (node, token) {
+/// The octet of a text of one character.
+fn char_of(alloc: Global, text: &str) -> Result<Option<i128>, AllocError>
+    ensures { IfOk result (λ found. IfSome found (λ n. SaysNumber [] Char n (string text.now))) }
+{
+    match octets_of_text(alloc, text)? {
+        Some(octets) if octets.len() == 1 => Ok(Some(i128::from(octets[0]))),
+        _ => Ok(None),
+    }
+}
+
+/// The place of an enumerator's name.
+fn enumerator_of(lookup: &Lookup, labels: &NodeNames, number: u32, label: &str) -> Option<i128>
+    ensures { IfSome result (λ n. label_of labels.now n ≡ Some label.now) }
+{
+    let place = lookup.place_of(labels, number, label)?;
+    Some(i128::from(place))
+}
+
+/// What a token says as a number of the node, in range or not.
+fn number_of(
+    alloc: Global,
+    lookup: &Lookup,
+    labels: &NodeNames,
+    number: u32,
+    node: &Node,
+    token: Token<'_>,
+) -> Result<Option<i128>, AllocError>
+    ensures { IfOk result (λ found. IfSome found (λ n. SaysNumber labels.now node.now n (token_of token.entry))) }
+{
+    Ok(match (node, token) {
         (Node::Boolean, Token::Bool(truth)) => Some(i128::from(truth)),
         (Node::Boolean, _) => None,
-        (Node::Char, Token::String(text)) => char_of(text).map(i128::from),
+        (Node::Char, Token::String(text)) => char_of(alloc, text)?,
         (Node::Char, _) => None,
         (Node::Enum { .. }, Token::String(label)) => {
-            lookup.place_of(number, label).map(i128::from)
+            enumerator_of(lookup, labels, number, label)
         }
         (_, Token::Number(digits)) => whole_of(digits),
         _ => None,
-    }
+    })
 }
 
 fn wanted_of(node: &Node) -> Wanted {
@@ -78,18 +114,25 @@ fn wanted_of(node: &Node) -> Wanted {
 pub fn read_number(
     cursor: &Cursor<'_>,
     token: Token<'_>,
+    alloc: Global,
     lookup: &Lookup,
+    labels: &NodeNames,
     number: u32,
     node: &Node,
-) -> Result<i128, Stop> {
-    match number_of(lookup, number, node, token) {
+) -> Result<i128, Stop>
+    ensures value { IfOk result (λ n. IsNumber node.now n) }
+    ensures says { IfOk result (λ n. SaysNumber labels.now node.now n (token_of token.entry)) }
+{
+    match number_of(alloc, lookup, labels, number, node, token)? {
         Some(n) if node.has_number(n) => Ok(n),
         _ => Err(cursor.refuse(token, wanted_of(node))),
     }
 }
 
 /// Whether octets are a string of a bound, 0 for none.
-fn is_text(bound: u32, text: &[u8]) -> bool {
+fn is_text(bound: u32, text: &[u8]) -> bool
+    ensures { IsTrue result ↔ IsText bound text.now }
+{
     text.len() < 0xFFFF_FFFF
         && (bound == 0 || text.len() <= bound as usize)
         && text.iter().all(|octet| *octet != 0)
@@ -101,7 +144,9 @@ pub fn read_text(
     token: Token<'_>,
     alloc: Global,
     bound: u32,
-) -> Result<Value, Stop> {
+) -> Result<Value, Stop>
+    ensures { IfOk result (λ value. IsString bound (tree_of value) (token_of token.entry)) }
+{
     let Token::String(text) = token else {
         return Err(cursor.refuse(token, Wanted::Text));
     };
@@ -111,12 +156,16 @@ pub fn read_text(
     }
 }
 
-fn values_of(alloc: Global, octets: &[u8]) -> Result<Vec<Value>, AllocError> {
-    let mut values = Vec::with_capacity(alloc, octets.len())?;
-    for octet in octets {
-        values.push(Value::Whole(i128::from(*octet)))?;
-    }
-    Ok(values)
+fn value_of(octet: &u8) -> Value
+    ensures { tree_of result ≡ Number (pos octet.now) }
+{
+    Value::Whole(i128::from(*octet))
+}
+
+fn values_of(alloc: Global, octets: &[u8]) -> Result<Vec<Value>, AllocError>
+    ensures { IfOk result (λ values. map tree_of values.items ≡ map (λ octet. Number (pos octet)) octets.now) }
+{
+    octets.iter().map(value_of).collect(alloc)
 }
 
 /// Octets by their digits.
@@ -125,7 +174,9 @@ pub fn read_octets(
     token: Token<'_>,
     alloc: Global,
     digits: &str,
-) -> Result<Vec<Value>, Stop> {
+) -> Result<Vec<Value>, Stop>
+    ensures { IfOk result (λ values. (octets : List ℕ) × (decode_of digits.now ≡ Ok octets) × IsOctets octets values.items) }
+{
     match octets_of_digits(alloc, digits)? {
         Some(octets) => Ok(values_of(alloc, octets.as_slice())?),
         None => Err(cursor.refuse(token, Wanted::Digits)),
@@ -138,7 +189,9 @@ pub fn read_chars(
     token: Token<'_>,
     alloc: Global,
     text: &str,
-) -> Result<Vec<Value>, Stop> {
+) -> Result<Vec<Value>, Stop>
+    ensures { IfOk result (λ values. (octets : List ℕ) × (text.now ≡ characters octets) × IsOctets octets values.items) }
+{
     match octets_of_text(alloc, text)? {
         Some(octets) => Ok(values_of(alloc, octets.as_slice())?),
         None => Err(cursor.refuse(token, Wanted::Text)),

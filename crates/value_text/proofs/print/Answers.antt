@@ -24,5 +24,5 @@ returns-in-Ok-clause-says c =
     record {
       fits = fit;
       says = subst (Says names graph (names_at names number) (node_at graph number) value) (sym (ap tokens text ∙ back))
-      (says names graph (names_at names number) (node_at graph number) value 64 fit);
+          (says names graph (names_at names number) (node_at graph number) value 64 fit);
     }
