@@ -59,7 +59,7 @@ impl<'a> Model for Cursor<'a> {
 
 impl<'a> Cursor<'a> {
     pub fn new(reader: Reader<'a>) -> Cursor<'a>
-        ensures { result ≡ reader }
+        ensures { result ≡ reader.entry }
     {
         Cursor { reader, at: 0 }
     }

@@ -5,10 +5,10 @@ ghost use Rattle.std.specs.Fmt.{signed_decimal};
 ghost use Rattle.hex.specs.Hex.{decode_of};
 ghost use Rattle.json.specs.Token.{string};
 ghost use Rattle.json.specs.Reads.{token_of};
-ghost use Rattle.type_graph.specs.declared.node.Node.TheVariants.{Char};
+ghost use Rattle.type_graph.specs.declared.node.Node.TheVariants.{Boolean, Char, Enum};
 ghost use Rattle.type_graph.specs.Value.{IsNumber, IsText, Number};
 ghost use Rattle.idl_value.specs.View.{tree_of};
-ghost use Rattle.value_text.specs.Pieces.{characters};
+ghost use Rattle.value_text.specs.Pieces.{characters, digits};
 ghost use Rattle.value_text.specs.Texts.{label_of};
 ghost use Rattle.value_text.specs.Says.{SaysNumber};
 ghost use Rattle.value_text.specs.inner.Reading.{IsOctets, IsString};
@@ -70,11 +70,57 @@ fn char_of(alloc: Global, text: &str) -> Result<Option<i128>, AllocError>
 }
 
 /// The place of an enumerator's name.
-fn enumerator_of(lookup: &Lookup, labels: &NodeNames, number: u32, label: &str) -> Option<i128>
+fn place_of(lookup: &Lookup, labels: &NodeNames, number: u32, label: &str) -> Option<i128>
     ensures { IfSome result (λ n. label_of labels.now n ≡ Some label.now) }
 {
     let place = lookup.place_of(labels, number, label)?;
     Some(i128::from(place))
+}
+
+/// What a token says as a boolean.
+fn boolean_said(token: Token<'_>) -> Option<i128>
+    ensures { IfSome result (λ n. SaysNumber [] Boolean n (token_of token.entry)) }
+{
+    match token {
+        Token::Bool(truth) => Some(i128::from(truth)),
+        _ => None,
+    }
+}
+
+/// What a token says as a character.
+fn char_said(alloc: Global, token: Token<'_>) -> Result<Option<i128>, AllocError>
+    ensures { IfOk result (λ found. IfSome found (λ n. SaysNumber [] Char n (token_of token.entry))) }
+{
+    match token {
+        Token::String(text) => char_of(alloc, text),
+        _ => Ok(None),
+    }
+}
+
+/// What a token says as an enumerator, declared or not.
+fn enumerator_said(
+    lookup: &Lookup,
+    labels: &NodeNames,
+    number: u32,
+    token: Token<'_>,
+) -> Option<i128>
+    ensures { (limit : ℕ) → IfSome result (λ n. SaysNumber labels.now (Enum limit) n (token_of token.entry)) }
+{
+    match token {
+        Token::String(label) => place_of(lookup, labels, number, label),
+        Token::Number(digits) => whole_of(digits),
+        _ => None,
+    }
+}
+
+/// What a token says by digits.
+fn whole_said(token: Token<'_>) -> Option<i128>
+    ensures { IfSome result (λ n. token_of token.entry ≡ digits n) }
+{
+    match token {
+        Token::Number(digits) => whole_of(digits),
+        _ => None,
+    }
 }
 
 /// What a token says as a number of the node, in range or not.
@@ -88,17 +134,12 @@ fn number_of(
 ) -> Result<Option<i128>, AllocError>
     ensures { IfOk result (λ found. IfSome found (λ n. SaysNumber labels.now node.now n (token_of token.entry))) }
 {
-    Ok(match (node, token) {
-        (Node::Boolean, Token::Bool(truth)) => Some(i128::from(truth)),
-        (Node::Boolean, _) => None,
-        (Node::Char, Token::String(text)) => char_of(alloc, text)?,
-        (Node::Char, _) => None,
-        (Node::Enum { .. }, Token::String(label)) => {
-            enumerator_of(lookup, labels, number, label)
-        }
-        (_, Token::Number(digits)) => whole_of(digits),
-        _ => None,
-    })
+    match node {
+        Node::Boolean => Ok(boolean_said(token)),
+        Node::Char => char_said(alloc, token),
+        Node::Enum { .. } => Ok(enumerator_said(lookup, labels, number, token)),
+        _ => Ok(whole_said(token)),
+    }
 }
 
 fn wanted_of(node: &Node) -> Wanted {
@@ -156,16 +197,20 @@ pub fn read_text(
     }
 }
 
-fn value_of(octet: &u8) -> Value
-    ensures { tree_of result ≡ Number (pos octet.now) }
+fn value_of(octet: u8) -> Value
+    ensures { tree_of result ≡ Number (pos octet) }
 {
-    Value::Whole(i128::from(*octet))
+    Value::Whole(i128::from(octet))
 }
 
 fn values_of(alloc: Global, octets: &[u8]) -> Result<Vec<Value>, AllocError>
     ensures { IfOk result (λ values. map tree_of values.items ≡ map (λ octet. Number (pos octet)) octets.now) }
 {
-    octets.iter().map(value_of).collect(alloc)
+    let mut values = Vec::with_capacity(alloc, octets.len())?;
+    for octet in octets {
+        values.push(value_of(*octet))?;
+    }
+    Ok(values)
 }
 
 /// Octets by their digits.
