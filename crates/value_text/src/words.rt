@@ -1,17 +1,17 @@
 //! What single tokens say.
 
-ghost use Rattle.std.specs.Prelude.{◌≡◌, ◌↔◌, ℕ, pos, List, [], map, Some, Ok, IfSome, IfOk, IsTrue};
+ghost use Rattle.std.specs.Prelude.{◌≡◌, ◌↔◌, ℕ, List, [], Some, Ok, IfSome, IfOk, IsTrue};
 ghost use Rattle.std.specs.Fmt.{signed_decimal};
 ghost use Rattle.hex.specs.Hex.{decode_of};
 ghost use Rattle.json.specs.Token.{string};
 ghost use Rattle.json.specs.Reads.{token_of};
 ghost use Rattle.type_graph.specs.declared.node.Node.TheVariants.{Boolean, Char, Enum};
-ghost use Rattle.type_graph.specs.Value.{IsNumber, IsText, Number};
+ghost use Rattle.type_graph.specs.Value.{IsNumber, IsText};
 ghost use Rattle.idl_value.specs.View.{tree_of};
-ghost use Rattle.value_text.specs.Pieces.{characters, digits};
+ghost use Rattle.value_text.specs.Pieces.{characters, digits, octet_of_tree};
 ghost use Rattle.value_text.specs.Texts.{label_of};
 ghost use Rattle.value_text.specs.Says.{SaysNumber};
-ghost use Rattle.value_text.specs.inner.Reading.{IsOctets, IsString};
+ghost use Rattle.value_text.specs.inner.Reading.{IsOctet, IsOctets, IsString};
 
 use crate::cursor::{Cursor, Stop};
 use crate::fault::Wanted;
@@ -198,13 +198,14 @@ pub fn read_text(
 }
 
 fn value_of(octet: u8) -> Value
-    ensures { tree_of result ≡ Number (pos octet) }
+    ensures same { octet_of_tree (tree_of result) ≡ octet }
+    ensures is_octet { IsOctet (tree_of result) }
 {
     Value::Whole(i128::from(octet))
 }
 
 fn values_of(alloc: Global, octets: &[u8]) -> Result<Vec<Value>, AllocError>
-    ensures { IfOk result (λ values. map tree_of values.items ≡ map (λ octet. Number (pos octet)) octets.now) }
+    ensures { IfOk result (λ values. IsOctets octets.now values.items) }
 {
     let mut values = Vec::with_capacity(alloc, octets.len())?;
     for octet in octets {

@@ -1,19 +1,22 @@
 -- What is read off tokens.
-use Rattle.std.specs.Prelude.{◌≡◌, ◌≢◌, ℕ, ◌<◌, pos, List, ◌∷◌, ◌++◌, map, zip, IsPermutation}
-use Rattle.std.specs.List.{AllByRecursion}
+use Rattle.std.specs.Prelude.{◌≡◌, ◌≢◌, ℕ, List, ◌∷◌, ◌++◌, map, zip, IsPermutation, All}
 use Rattle.json.specs.Token.{Token, string, end_array, end_object, bad}
 use Rattle.part_names.specs.Names.{names_at}
 use Rattle.type_graph.specs.declared.node.Node.{Node}
-use Rattle.type_graph.specs.Value.{Tree, Trees, Number, Bytes, IsText, node_at, Fits, FitAll}
+use Rattle.type_graph.specs.Value.{Tree, Trees, Number, Bytes, IsText, IsBelow, node_at, Fits, FitAll}
 use Rattle.idl_value.specs.declared.value.Value.{Value}
 use Rattle.idl_value.specs.View.{tree_of}
-use Rattle.value_text.specs.Pieces.{characters, joined, paired}
+use Rattle.value_text.specs.Pieces.{characters, octet_of_tree, joined, paired}
 use Rattle.value_text.specs.Says.{Says, SayAll}
+
+abbrev pub IsOctet : Tree → Type 0
+IsOctet (Number n) = IsBelow 256 n
+IsOctet value = ⊥
 
 -- the values are these octets
 pub record IsOctets (octets : List ℕ) (values : List Value) : Type 0 where
-  pub same : map tree_of values ≡ map (λ octet. Number (pos octet)) octets
-  pub below : AllByRecursion (λ octet. octet < 256) octets
+  pub same : map (λ value. octet_of_tree (tree_of value)) values ≡ octets
+  pub each : All (λ value. IsOctet (tree_of value)) values
 
 -- the value is a string, and the token its text
 pub record IsString (bound : ℕ) (value : Tree) (token : Token) : Type 0 where
