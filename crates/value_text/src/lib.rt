@@ -1,13 +1,14 @@
 //! Values of IDL types as readable text.
 #![tactic(auto)]
 
-ghost use Rattle.std.specs.Prelude.{◌≡◌, ◌<◌, ◌↔◌, length, IfOk, OnOk, IsErrOf};
+ghost use Rattle.std.specs.Prelude.{◌≡◌, ◌<◌, ◌↔◌, length, IfOk, IfErr, OnOk, IsErrOf};
 ghost use Rattle.std.specs.String.{string_bytes};
 ghost use Rattle.json.specs.Lex.{tokens};
 ghost use Rattle.json.specs.Print as json_text;
-ghost use Rattle.type_graph.specs.Value.{node_at, Fits};
+ghost use Rattle.type_graph.specs.Value.{Tree, node_at, Fits};
 ghost use Rattle.idl_value.specs.View.{tree_of};
 ghost use Rattle.value_text.specs.Texts.{text_at};
+ghost use Rattle.value_text.specs.Refusal.{RefusesText};
 ghost use Rattle.value_text.specs.Says.{StandsFor};
 
 mod cursor;
@@ -88,7 +89,11 @@ pub fn read(
     names: &PartNames,
     node: u32,
     text: &str,
-) -> Result<Value, ReadFault> {
+) -> Result<Value, ReadFault>
+    requires { node < length graph.now }
+    ensures says { IfOk result (λ value. StandsFor names.now graph.now node (tree_of value) (tokens text.now)) }
+    ensures refused { IfErr result (λ fault. RefusesText fault ((value : Tree) → StandsFor names.now graph.now node value (tokens text.now) → ⊥)) }
+{
     let lookup = Lookup::new(alloc, names, graph.nodes().len())?;
     let mut scratch = Scratch::new(alloc);
     let mut cursor = Cursor::new(Reader::new(text, &mut scratch)?);

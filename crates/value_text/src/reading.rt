@@ -1,12 +1,14 @@
 //! The values of texts.
 
-ghost use Rattle.std.specs.Prelude.{◌≡◌, ◌≤◌, ◌↔◌, length, replicate, map, IfOk, OnOk, IsTrue};
+ghost use Rattle.std.specs.Prelude.{◌≡◌, ◌≤◌, ◌↔◌, ◌∷◌, ℕ, ℤ, List, length, replicate, IfOk, IsTrue};
 ghost use Rattle.type_graph.specs.declared.node.Node.TheVariants.{Union};
-ghost use Rattle.type_graph.specs.Value.{node_at, count, IsCount, IsNumber, Items};
+ghost use Rattle.type_graph.specs.Value.{Trees, Number, Items, node_at, IsCount, IsNumber};
 ghost use Rattle.idl_value.specs.View.{tree_of, trees_of};
+ghost use Rattle.json.specs.Token.{Token as SpecToken};
 ghost use Rattle.json.specs.Reads.{token_of};
 ghost use Rattle.part_names.specs.Names.{names_at};
-ghost use Rattle.value_text.specs.inner.Reading.{Reads, ReadsAs, ReadsList, ReadsObject};
+ghost use Rattle.value_text.specs.Says.{SaysNumber};
+ghost use Rattle.value_text.specs.inner.Reading.{Reads, ReadsAs, ReadsElements, ReadsList, ReadsMembers, ReadsObject};
 
 use crate::cursor::{Cursor, Stop};
 use crate::fault::Wanted;
@@ -34,7 +36,9 @@ struct Counts {
 }
 
 impl Counts {
-    fn of_sequence(bound: u32) -> Counts {
+    fn of_sequence(bound: u32) -> Counts
+        ensures { (n : ℕ) → ((result.least ≤ n) × (n ≤ result.most)) ↔ IsCount bound n }
+    {
         let most = if bound == 0 { 0xFFFF_FFFF } else { bound };
         Counts {
             least: 0,
@@ -42,14 +46,18 @@ impl Counts {
         }
     }
 
-    fn of_array(n: u32) -> Counts {
+    fn of_array(n: u32) -> Counts
+        ensures { (result.least ≡ n) × (result.most ≡ n) }
+    {
         Counts {
             least: n as usize,
             most: n as usize,
         }
     }
 
-    fn allow(self, count: usize) -> bool {
+    fn allow(self, count: usize) -> bool
+        ensures { IsTrue result ↔ ((self.least ≤ count) × (count ≤ self.most)) }
+    {
         self.least <= count && count <= self.most
     }
 }
@@ -64,7 +72,9 @@ pub fn read_value(
     types: &Sought<'_>,
     number: u32,
     depth: u32,
-) -> Result<Value, Stop> {
+) -> Result<Value, Stop>
+    ensures { IfOk result (λ value. Reads types.now.names.now types.now.graph.now number depth (token_of token.entry) cursor.old (tree_of value) cursor.new) }
+{
     let Some(node) = types.graph.nodes().get(number as usize) else {
         return Err(cursor.refuse(token, Wanted::Whole));
     };
@@ -109,7 +119,9 @@ fn read_whole(
     types: &Sought<'_>,
     number: u32,
     node: &Node,
-) -> Result<Value, Stop> {
+) -> Result<Value, Stop>
+    ensures { IfOk result (λ value. (n : ℤ) × (tree_of value ≡ Number n) × IsNumber node.now n × SaysNumber (names_at types.now.names.now number) node.now n (token_of token.entry)) }
+{
     let labels = types.names.of(number);
     let n = read_number(cursor, token, alloc, types.lookup, labels, number, node)?;
     Ok(Value::Whole(n))
@@ -125,7 +137,9 @@ fn read_elements(
     elem: u32,
     counts: Counts,
     depth: u32,
-) -> Result<Value, Stop> {
+) -> Result<Value, Stop>
+    ensures { IfOk result (λ value. (values : Trees) × (tree_of value ≡ Items values) × ReadsElements types.now.names.now types.now.graph.now elem counts.least counts.most depth (token_of token.entry) cursor.old values cursor.new) }
+{
     let values = match (types.graph.nodes().get(elem as usize), token) {
         (Some(Node::Octet), Token::String(digits)) => read_octets(cursor, token, alloc, digits)?,
         (Some(Node::Char), Token::String(text)) => read_chars(cursor, token, alloc, text)?,
@@ -147,7 +161,10 @@ fn read_list(
     elem: u32,
     most: usize,
     depth: u32,
-) -> Result<Vec<Value>, Stop> {
+) -> Result<Vec<Value>, Stop>
+    ensures listed { IfOk result (λ values. ReadsList types.now.names.now types.now.graph.now (replicate (length values.items) elem) depth cursor.old (trees_of values.items) cursor.new) }
+    ensures counted { IfOk result (λ values. length values.items ≤ most) }
+{
     let mut values = Vec::new(alloc);
     while let Some(token) = cursor.next_element() {
         if values.len() >= most {
@@ -168,7 +185,9 @@ fn read_members(
     number: u32,
     members: &[u32],
     depth: u32,
-) -> Result<Value, Stop> {
+) -> Result<Value, Stop>
+    ensures { IfOk result (λ value. (values : Trees) × (tree_of value ≡ Items values) × ReadsMembers types.now.names.now types.now.graph.now (names_at types.now.names.now number) members.now depth (token_of token.entry) cursor.old values cursor.new) }
+{
     let are_named = types.names.of(number).len() == members.len();
     let values = match token {
         Token::BeginObject if are_named => {
@@ -188,7 +207,9 @@ fn read_row(
     types: &Sought<'_>,
     members: &[u32],
     depth: u32,
-) -> Result<Vec<Value>, Stop> {
+) -> Result<Vec<Value>, Stop>
+    ensures { IfOk result (λ values. ReadsList types.now.names.now types.now.graph.now members.now depth cursor.old (trees_of values.items) cursor.new) }
+{
     let mut values = Vec::new(alloc);
     for member in members {
         let token = cursor.next_part()?;
@@ -215,7 +236,9 @@ fn read_object(
     number: u32,
     members: &[u32],
     depth: u32,
-) -> Result<Vec<Value>, Stop> {
+) -> Result<Vec<Value>, Stop>
+    ensures { IfOk result (λ values. ReadsObject types.now.names.now types.now.graph.now (names_at types.now.names.now number) members.now depth cursor.old (trees_of values.items) cursor.new) }
+{
     let mut slots = empty_slots(alloc, members.len())?;
     while let Some(label) = cursor.next_key()? {
         let place = types.lookup.place_of(types.names.of(number), number, label);
@@ -277,7 +300,9 @@ fn read_choice(
     arms: &Arms,
     default: Option<u32>,
     depth: u32,
-) -> Result<Value, Stop> {
+) -> Result<Value, Stop>
+    ensures { IfOk result (λ value. (labels : List (List ℕ)) → ReadsAs types.now.names.now types.now.graph.now labels (Union switch arms.now default) depth (token_of token.entry) cursor.old (tree_of value) cursor.new) }
+{
     let Token::BeginArray = token else {
         return Err(cursor.refuse(token, Wanted::List));
     };
@@ -300,7 +325,10 @@ fn read_label(
     alloc: Global,
     types: &Sought<'_>,
     switch: u32,
-) -> Result<i128, Stop> {
+) -> Result<i128, Stop>
+    ensures number { IfOk result (λ n. IsNumber (node_at types.now.graph.now switch) n) }
+    ensures says { IfOk result (λ n. (said : SpecToken) × SaysNumber (names_at types.now.names.now switch) (node_at types.now.graph.now switch) n said × (cursor.old ≡ said ∷ cursor.new)) }
+{
     let token = cursor.next_part()?;
     let Some(node) = types.graph.nodes().get(switch as usize) else {
         return Err(cursor.refuse(token, Wanted::Whole));

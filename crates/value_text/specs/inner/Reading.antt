@@ -1,13 +1,13 @@
 -- What is read off tokens.
-use Rattle.std.specs.Prelude.{◌≡◌, ◌≢◌, ℕ, List, ◌∷◌, ◌++◌, map, zip, IsPermutation, All}
+use Rattle.std.specs.Prelude.{◌≡◌, ◌≢◌, ◌⊎◌, ◌≤◌, ℕ, List, ◌∷◌, ◌++◌, map, zip, replicate, IsPermutation, All}
 use Rattle.json.specs.Token.{Token, string, end_array, end_object, bad}
 use Rattle.part_names.specs.Names.{names_at}
 use Rattle.type_graph.specs.declared.node.Node.{Node}
-use Rattle.type_graph.specs.Value.{Tree, Trees, Number, Bytes, IsText, IsBelow, node_at, Fits, FitAll}
+use Rattle.type_graph.specs.Value.{Tree, Trees, Number, Bytes, IsText, IsBelow, count, node_at, Fits, FitAll}
 use Rattle.idl_value.specs.declared.value.Value.{Value}
 use Rattle.idl_value.specs.View.{tree_of}
-use Rattle.value_text.specs.Pieces.{characters, octet_of_tree, joined, paired}
-use Rattle.value_text.specs.Says.{Says, SayAll}
+use Rattle.value_text.specs.Pieces.{characters, octet_of_tree, octets_of, joined, paired}
+use Rattle.value_text.specs.Says.{Says, SayAll, SaysTogether, IsObject, IsList}
 
 abbrev pub IsOctet : Tree → Type 0
 IsOctet (Number n) = IsBelow 256 n
@@ -55,3 +55,25 @@ pub record ReadsObject (names : List (List (List ℕ))) (graph : List Node) (lab
   pub cut : old ≡ paired pairs ++ end_object ∷ new
   pub fit : FitAll graph numbers values depth
   pub say : SayAll names graph numbers values texts
+
+-- members as an object or as a list, which begins with the token
+pub record ReadsMembers (names : List (List (List ℕ))) (graph : List Node) (labels : List (List ℕ)) (numbers : List ℕ) (depth : ℕ)
+    (token : Token) (old : List Token) (values : Trees) (new : List Token) : Type 0 where
+  pub good : token ≢ bad
+  pub more : List Token
+  pub cut : old ≡ more ++ new
+  pub fit : FitAll graph numbers values depth
+  pub texts : List (List Token)
+  pub say : SayAll names graph numbers values texts
+  pub whole : IsObject labels texts (token ∷ more) ⊎ IsList texts (token ∷ more)
+
+-- elements of this node, at least and at most so many, together or as a list
+pub record ReadsElements (names : List (List (List ℕ))) (graph : List Node) (elem least most depth : ℕ)
+    (token : Token) (old : List Token) (values : Trees) (new : List Token) : Type 0 where
+  pub good : token ≢ bad
+  pub more : List Token
+  pub cut : old ≡ more ++ new
+  pub counted : (least ≤ count values) × (count values ≤ most)
+  pub fit : FitAll graph (replicate (count values) elem) values depth
+  pub whole : SaysTogether (node_at graph elem) (octets_of values) (token ∷ more)
+      ⊎ ((texts : List (List Token)) × SayAll names graph (replicate (count values) elem) values texts × IsList texts (token ∷ more))
