@@ -227,7 +227,7 @@ fn refused(rt: HostRuntime) {
         (true, 14, "[true]]", "124 TextBehind 1:7"),
         (true, 14, "[true] 1", "110 NotJson 1:8"),
         (true, 14, "[true}", "112 NotBoolean 1:6"),
-        (true, 15, "[1]", "122 WrongCount 1:1"),
+        (true, 15, "[1]", "122 WrongCount 1:3"),
     ];
     for (known, node, text, want) in rows {
         expect(&rt, known, node, text, want);
