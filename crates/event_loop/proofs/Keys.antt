@@ -45,7 +45,7 @@ keys_without {C} c (one ∷ more) (n ∷ front) back e differs =
     let not_c : one.0 ≢ c = λ same. All-head (λ m. m ≢ c) n front differs (sym is ∙ same) in
     ap (λ (b : Bool). keys (cond b more (one ∷ without c more))) (unequal c one.0 (nat_eq c one.0) refl not_c)
     ∙ ap (λ (ns : List ℕ). one.0 ∷ ns)
-      (keys_without c more front back (cons_tail one.0 n (keys more) (front ++ c ∷ back) e) (All-tail (λ m. m ≢ c) n front differs))
+    (keys_without c more front back (cons_tail one.0 n (keys more) (front ++ c ∷ back) e) (All-tail (λ m. m ≢ c) n front differs))
     ∙ ap (λ (m : ℕ). m ∷ front ++ back) is
 
 pub at_absent : {C : Type 0} (c : ℕ) (there : List (ℕ × C)) → All (λ n. n ≢ c) (keys there) → at c there ≡ None

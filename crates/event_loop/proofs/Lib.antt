@@ -3,5 +3,5 @@ pub mod Items
 pub mod Logs
 pub mod Keys
 pub mod Going
-pub mod Visits
 pub mod Turns
+pub mod Visits

@@ -1,5 +1,5 @@
 -- A connection's turn.
-use Rattle.std.proofs.Common.{◌≡◌, inl, inr, ◌⊎◌, ℕ, zero, suc, ◌+◌, ◌≤◌, true, length, take, drop, arith, List, [], ◌∷◌, ◌++◌, Some, slice_get, append-nil, append_assoc, refl, sym, ap, subst, ◌∙◌}
+use Rattle.std.proofs.Common.{◌≡◌, inl, inr, ℕ, zero, suc, ◌+◌, ◌≤◌, true, length, take, drop, arith, List, [], ◌∷◌, ◌++◌, Some, slice_get, append-nil, append_assoc, refl, sym, ap, subst, ◌∙◌}
 use Rattle.broker_answers.specs.Streams.{Stream, Closed}
 use Rattle.broker_answers.specs.Connections.{at}
 use Rattle.broker_answers.specs.Talk.{Event, Brings, GivesUp, World, rests, kept_or_shut}
@@ -12,7 +12,9 @@ use Rattle.iiop_broker.proofs.Written.{written_then}
 use Rattle.event_loop.specs.declared.slot.Course.{Course}
 use Rattle.event_loop.specs.declared.slot.Course.TheVariants.{Moved, Still, Over}
 use Rattle.event_loop.specs.Carried.{Log, answered, brought}
-use Rattle.event_loop.specs.Visits.{HasEnded, WriteFailed, AllRead, ReadFailed, Shut, GivenUp}
+use Rattle.event_loop.specs.Visits.{Gone, HasEnded}
+use Rattle.event_loop.specs.declared.listener.End.{End}
+use Rattle.event_loop.specs.declared.listener.End.TheVariants.{Finished, Failed, GivenUp}
 use Rattle.event_loop.specs.inner.Going.{Slotted, keys, IsOpen, IsGoing, IsOn}
 use Rattle.event_loop.specs.inner.Turns.{HasSent, HasGot, IsAnswered, IsForgotten, IsAtEnd, HasHeard}
 use Rattle.event_loop.proofs.Parts.{all_parts}
@@ -20,39 +22,51 @@ use Rattle.event_loop.proofs.Logs.{brought_own, answered_own}
 use Rattle.event_loop.proofs.Keys.{keys_put}
 use Rattle.event_loop.proofs.Going.{goes_on, moves_on}
 
+pub same_end : (end other : End) → Over end ≡ Over other → end ≡ other
+same_end end other e = cc
+
 module _ {S : Type 0} (acting : Acting S) (served : Served) (before : S) where
-  pub sent_on : (came : List Ends) (ended : List (ℕ × Ends)) (w : World S Stream) (front : List Slotted) (s t : Slotted)
+  write_failed : (said : Log) (t : Slotted) (end : End) → (end ≡ Failed) × (t.told.unwritten ≡ true)
+      → HasEnded acting served before said t.number t.waiting t.told end
+  write_failed said t end h =
+      subst (λ (k : End). HasEnded acting served before said t.number t.waiting t.told k) (sym h.0) (inl h.1)
+
+  pub sent_on : (came : List Ends) (ended : List (ℕ × Gone)) (w : World S Stream) (front : List Slotted) (s t : Slotted)
       (back : List Slotted) (course : Course) → IsGoing acting served before came ended w (front ++ s ∷ back)
       → HasSent s course t → IsOn acting served before came ended w front t back course
   sent_on came ended w front s t back course g h =
       let o = (all_parts (IsOpen g.said came) front s back g.opened).1 in
+      let after = moves_on acting served before came ended w front s t back g h.number record {
+        from = o.from;
+        came_is = ap (λ (n : ℕ). slice_get came n) h.number ∙ o.came_is;
+        sent = o.sent ++ h.taken;
+        answer_is = ap (λ (n : ℕ). answered n g.said) h.number ∙ o.answer_is ∙ ap (λ (xs : List ℕ). o.sent ++ xs) h.waiting
+            ∙ sym (append_assoc o.sent h.taken t.waiting);
+        read = subst (λ (n : ℕ). Gives o.from.left (brought n g.said) t.told.left) (sym h.number)
+            (subst (λ l. Gives o.from.left (brought s.number g.said) l) (sym h.left) o.read);
+        wrote = h.written ∙ ap (λ x. written_with x h.taken) o.wrote ∙ written_then o.from.written o.sent h.taken;
+      } in
       record {
-        going = (moves_on acting served before came ended w front s t back g h.number record {
-          from = o.from;
-          came_is = ap (λ (n : ℕ). slice_get came n) h.number ∙ o.came_is;
-          sent = o.sent ++ h.taken;
-          answer_is = ap (λ (n : ℕ). answered n g.said) h.number ∙ o.answer_is ∙ ap (λ (xs : List ℕ). o.sent ++ xs) h.waiting
-              ∙ sym (append_assoc o.sent h.taken t.waiting);
-          read = subst (λ (n : ℕ). Gives o.from.left (brought n g.said) t.told.left) (sym h.number)
-              (subst (λ l. Gives o.from.left (brought s.number g.said) l) (sym h.left) o.read);
-          wrote = h.written ∙ ap (λ x. written_with x h.taken) o.wrote ∙ written_then o.from.written o.sent h.taken;
-        }).0;
-        over = λ is. WriteFailed (h.failed is);
+        going = after.0;
+        over = λ end is. write_failed after.0.said t end (h.failed end is);
       }
 
-  pub closed_on : (came : List Ends) (ended : List (ℕ × Ends)) (w : World S Stream) (front : List Slotted) (s : Slotted)
+  pub closed_on : (came : List Ends) (ended : List (ℕ × Gone)) (w : World S Stream) (front : List Slotted) (s : Slotted)
       (back : List Slotted) → IsGoing acting served before came ended w (front ++ s ∷ back) → s.waiting ≡ []
-      → at s.number w.there ≡ Some Closed → IsOn acting served before came ended w front s back Over
+      → at s.number w.there ≡ Some Closed → IsOn acting served before came ended w front s back (Over Finished)
   closed_on came ended w front s back g sent closed = record {
     going = g;
-    over = λ is. Shut sent record {
-      front = g.said;
-      later = [];
-      split = sym (append-nil g.said);
-      then = w;
-      follows = g.follows;
-      closed = closed;
-    };
+    over = λ end is. subst (λ (k : End). HasEnded acting served before g.said s.number s.waiting s.told k) (same_end Finished end is) (record {
+      sent = sent;
+      done = inr record {
+        front = g.said;
+        later = [];
+        split = sym (append-nil g.said);
+        then = w;
+        follows = g.follows;
+        closed = closed;
+      };
+    });
   }
 
   -- what is known of a connection to which octets came that wait for nothing
@@ -72,7 +86,7 @@ module _ {S : Type 0} (acting : Acting S) (served : Served) (before : S) where
     wrote = h.written ∙ o.wrote;
   }
 
-  answered_on : (came : List Ends) (ended : List (ℕ × Ends)) (w w' : World S Stream) (front : List Slotted) (s t : Slotted)
+  answered_on : (came : List Ends) (ended : List (ℕ × Gone)) (w w' : World S Stream) (front : List Slotted) (s t : Slotted)
       (back : List Slotted) → IsGoing acting served before came ended w (front ++ s ∷ back) → s.waiting ≡ []
       → IsAnswered acting served w s w' t → IsOn acting served before came ended w' front t back Moved
   answered_on came ended w w' front s t back g sent h =
@@ -84,59 +98,62 @@ module _ {S : Type 0} (acting : Acting S) (served : Served) (before : S) where
             ∙ keys_put s.number (kept_or_shut rests h.answers.closes (rests.heard h.answers.kept h.octets).kept) w.there)
             (got_open g.said (g.said ++ (e, h.answer) ∷ []) came s t h.octets h.answer o h.got sent
             (brought_own s.number g.said e h.answer refl) (answered_own s.number g.said e h.answer refl))).0;
-        over = λ is. absurd (cc);
+        over = λ end is. absurd (cc);
       }
 
-  forgotten_on : (came : List Ends) (ended : List (ℕ × Ends)) (w w' : World S Stream) (front : List Slotted) (s t : Slotted)
+  forgotten_on : (came : List Ends) (ended : List (ℕ × Gone)) (w w' : World S Stream) (front : List Slotted) (s t : Slotted)
       (back : List Slotted) → IsGoing acting served before came ended w (front ++ s ∷ back) → s.waiting ≡ []
-      → IsForgotten acting served w s w' t → IsOn acting served before came ended w' front t back Over
+      → IsForgotten acting served w s w' t → IsOn acting served before came ended w' front t back (Over GivenUp)
   forgotten_on came ended w w' front s t back g sent h =
       let e : Event = GivesUp s.number h.octets h.j in
       let o = (all_parts (IsOpen g.said came) front s back g.opened).1 in
       let got : HasGot s h.octets [] t = record { number = h.got.number; waiting_is = h.got.waiting_is ∙ sent; read = h.got.read; written = h.got.written } in
       let after = goes_on acting served before came ended w w' front s t back e [] g h.abandons refl h.got.number
-          (ap (λ (x : World S Stream). keys x.there) h.abandons.now ∙ keys_put s.number rests.shut w.there)
-          (got_open g.said (g.said ++ (e, []) ∷ []) came s t h.octets [] o got sent
-          (brought_own s.number g.said e [] refl) (answered_own s.number g.said e [] refl)) in
+      (ap (λ (x : World S Stream). keys x.there) h.abandons.now ∙ keys_put s.number rests.shut w.there)
+      (got_open g.said (g.said ++ (e, []) ∷ []) came s t h.octets [] o got sent
+      (brought_own s.number g.said e [] refl) (answered_own s.number g.said e [] refl)) in
       record {
         going = after.0;
-        over = λ is. GivenUp got.waiting_is record {
-          front = g.said;
-          later = [];
-          octets = h.octets;
-          j = h.j;
-          split = after.1 ∙ ap (λ (c : ℕ). g.said ++ (GivesUp c h.octets h.j, []) ∷ []) (sym h.got.number);
-        };
+        over = λ end is. subst (λ (k : End). HasEnded acting served before after.0.said t.number t.waiting t.told k) (same_end GivenUp end is) (record {
+          sent = got.waiting_is;
+          wanted = inl record {
+            front = g.said;
+            later = [];
+            octets = h.octets;
+            j = h.j;
+            split = after.1 ∙ ap (λ (c : ℕ). g.said ++ (GivesUp c h.octets h.j, []) ∷ []) (sym h.got.number);
+          };
+        });
       }
 
-  at_end_on : (came : List Ends) (ended : List (ℕ × Ends)) (w w' : World S Stream) (front : List Slotted) (s t : Slotted)
-      (back : List Slotted) → IsGoing acting served before came ended w (front ++ s ∷ back) → s.waiting ≡ []
-      → IsAtEnd w s w' t → IsOn acting served before came ended w' front t back Over
-  at_end_on came ended w w' front s t back g sent h =
+  at_end_on : (came : List Ends) (ended : List (ℕ × Gone)) (w w' : World S Stream) (front : List Slotted) (s t : Slotted)
+      (back : List Slotted) (end : End) (P : Type 0) → IsGoing acting served before came ended w (front ++ s ∷ back) → s.waiting ≡ []
+      → IsAtEnd w s w' t P → ((said : Log) → t.waiting ≡ [] → P → HasEnded acting served before said t.number t.waiting t.told end)
+      → IsOn acting served before came ended w' front t back (Over end)
+  at_end_on came ended w w' front s t back end P g sent h cause =
       let o = (all_parts (IsOpen g.said came) front s back g.opened).1 in
       let got : HasGot s [] [] t = record { number = h.got.number; waiting_is = h.got.waiting_is ∙ sent; read = h.got.read; written = h.got.written } in
       let after = moves_on acting served before came ended w front s t back g h.got.number
-          (got_open g.said g.said came s t [] [] o got sent (sym (append-nil (brought s.number g.said))) (sym (append-nil (answered s.number g.said)))) in
-      subst (λ (x : World S Stream). IsOn acting served before came ended x front t back Over) (sym h.same) record {
+      (got_open g.said g.said came s t [] [] o got sent (sym (append-nil (brought s.number g.said))) (sym (append-nil (answered s.number g.said)))) in
+      subst (λ (x : World S Stream). IsOn acting served before came ended x front t back (Over end)) (sym h.same) record {
         going = after.0;
-        over = λ is. subst (λ (said : Log). HasEnded acting served before said t.number t.waiting t.told) (sym after.1) (cause h.ended got.waiting_is);
+        over = λ other is. subst (λ (k : End). HasEnded acting served before after.0.said t.number t.waiting t.told k) (same_end end other is)
+            (cause after.0.said got.waiting_is h.is);
       }
-    where
-      cause : (IsEmpty t.told.left ⊎ (t.told.unread ≡ true)) → t.waiting ≡ []
-          → HasEnded acting served before g.said t.number t.waiting t.told
-      cause (inl empty) none = AllRead none empty
-      cause (inr failed) none = ReadFailed none failed
 
-  pub heard_on : (came : List Ends) (ended : List (ℕ × Ends)) (w w' : World S Stream) (front : List Slotted) (s t : Slotted)
+  pub heard_on : (came : List Ends) (ended : List (ℕ × Gone)) (w w' : World S Stream) (front : List Slotted) (s t : Slotted)
       (back : List Slotted) (course : Course) → IsGoing acting served before came ended w (front ++ s ∷ back) → s.waiting ≡ []
       → HasHeard acting served w s course w' t → IsOn acting served before came ended w' front t back course
   heard_on came ended w w' front s t back Moved g sent h = answered_on came ended w w' front s t back g sent h
   heard_on came ended w w' front s t back Still g sent h =
       subst (λ (x : World S Stream). IsOn acting served before came ended x front t back Still) (sym h.0)
       (subst (λ (x : Slotted). IsOn acting served before came ended w front x back Still) (sym h.1)
-      (record { going = g; over = λ is. absurd (cc) }))
-  heard_on came ended w w' front s t back Over g sent (inl h) = at_end_on came ended w w' front s t back g sent h
-  heard_on came ended w w' front s t back Over g sent (inr h) = forgotten_on came ended w w' front s t back g sent h
+      (record { going = g; over = λ end is. absurd (cc) }))
+  heard_on came ended w w' front s t back (Over Finished) g sent h =
+      at_end_on came ended w w' front s t back Finished (IsEmpty t.told.left) g sent h (λ said none empty. record { sent = none; done = inl empty })
+  heard_on came ended w w' front s t back (Over Failed) g sent h =
+      at_end_on came ended w w' front s t back Failed (t.told.unread ≡ true) g sent h (λ said none failed. inr (none, failed))
+  heard_on came ended w w' front s t back (Over GivenUp) g sent h = forgotten_on came ended w w' front s t back g sent h
 
 -- all is sent where nothing waits
 pub all_sent : (items : List ℕ) (n : ℕ) → n ≤ length items → (n ≡ length items → drop n items ≡ []) × (drop n items ≡ [] → n ≡ length items)

@@ -20,8 +20,10 @@ pub trait Connection {
     fn read(&mut self, buffer: &mut [u8]) -> Result<Option<usize>, Failed>
         ensures room { length buffer.new ≡ length buffer.old }
         ensures within { IfOk result (λ got. IfSome got (λ n. n ≤ length buffer.old)) }
-        ensures given { IfOk result (λ got. IfSome got (λ n. HasRead (told self.old) (take n buffer.new) (told self.new))) }
-        ensures end { IfOk result (λ got. IfSome got (λ n. n ≡ 0 → 0 < length buffer.old → IsEmpty (told self.old).left)) }
+        ensures given { IfOk result
+            (λ got. IfSome got (λ n. HasRead (told self.old) (take n buffer.new) (told self.new))) }
+        ensures end { IfOk result (λ got. IfSome got (λ n. n ≡ 0 → 0 < length buffer.old
+            → IsEmpty (told self.old).left)) }
         ensures not_now { IfOk result (λ got. IfNone got (told self.new ≡ told self.old)) }
         ensures failed { OnErr result (told self.new ≡ with_failed_read (told self.old)) };
 
@@ -32,7 +34,8 @@ pub trait Connection {
     /// The call failed, and nothing was written.
     fn write(&mut self, octets: &[u8]) -> Result<Option<usize>, Failed>
         ensures within { IfOk result (λ got. IfSome got (λ n. n ≤ length octets.now)) }
-        ensures written { IfOk result (λ got. IfSome got (λ n. HasWritten (told self.old) octets.now n (told self.new))) }
+        ensures written { IfOk result
+            (λ got. IfSome got (λ n. HasWritten (told self.old) octets.now n (told self.new))) }
         ensures not_now { IfOk result (λ got. IfNone got (told self.new ≡ told self.old)) }
         ensures failed { OnErr result (told self.new ≡ with_failed_write (told self.old)) };
 }

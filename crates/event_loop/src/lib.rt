@@ -8,5 +8,5 @@ mod slot;
 mod sweep;
 
 pub use connection::Connection;
-pub use listener::Listener;
+pub use listener::{End, Listener};
 pub use serving::{Interruption, MAX_SWEEPS, serve_at_once};

@@ -8,7 +8,7 @@ ghost use Rattle.event_loop.specs.Visits.{AreServedBy};
 ghost use Rattle.event_loop.specs.declared.serving.Interruption.TheVariants.{Unaccepted};
 ghost use Rattle.event_loop.specs.inner.Going.{GoesOn, IsUnderWay};
 
-use crate::listener::Listener;
+use crate::listener::{End, Listener};
 use crate::slot::Slot;
 use crate::sweep::{let_go, sweep};
 use iiop_broker::laws::steps_are_the_talk;
@@ -55,13 +55,13 @@ fn admit<S: Servant, L: Listener>(
     match broker.step(Event::Begin(number)) {
         Ok(_) => {}
         Err(BrokerFault::NoMemory) => {
-            listener.hand_back(number, connection);
+            listener.hand_back(number, connection, End::GivenUp);
             return Ok(true);
         }
         Err(_) => unreachable!(),
     }
     if let Err(error) = slots.push(Slot::new(alloc, number, connection)) {
-        let_go(broker, listener, error.value);
+        let_go(broker, listener, error.value, End::GivenUp);
     }
     Ok(true)
 }
@@ -87,7 +87,8 @@ fn admit_next<S: Servant, L: Listener>(
     requires upto { progress.old.begun ≤ progress.old.count }
     requires few { length slots.old.items ≤ progress.old.at_once }
     requires most { progress.old.at_once ≤ 64 }
-    requires under_way { IsUnderWay (L.ended listener.old) (acts S.says S.after) broker.old.served (L.came listener.old) broker.old.world slots.old.items }
+    requires under_way { IsUnderWay (L.ended listener.old) (acts S.says S.after) broker.old.served
+        (L.came listener.old) broker.old.world slots.old.items }
     ensures going { (before : S)
         → GoesOn (L.ended listener.old) (acts S.says S.after) broker.old.served before (L.came listener.old) broker.old.world slots.old.items
         → GoesOn (L.ended listener.new) (acts S.says S.after) broker.old.served before (L.came listener.new) broker.new.world slots.new.items }
@@ -128,7 +129,8 @@ pub fn serve_at_once<S: Servant, L: Listener>(
     requires fresh { L.came listener.old ≡ [] }
     requires none { L.ended listener.old [] }
     requires few { at_once ≤ 64 }
-    ensures served { OnOk result (AreServedBy (L.ended listener.new) (acts S.says S.after) broker.old.served broker.old.world.servant
+    ensures served { OnOk result
+        (AreServedBy (L.ended listener.new) (acts S.says S.after) broker.old.served broker.old.world.servant
         (L.came listener.new) broker.new.world.servant) }
     ensures count { OnOk result (length (L.came listener.new) ≡ count) }
     ensures alone { OnOk result (broker.new.world.there ≡ []) }

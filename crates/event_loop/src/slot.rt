@@ -4,10 +4,12 @@ ghost use Rattle.std.specs.Prelude.{◌≡◌, ◌≢◌, ◌↔◌, ◌<◌, �
 ghost use Rattle.broker_answers.specs.Servants.{acts};
 ghost use Rattle.iiop_broker.specs.Listed.{IsThere};
 ghost use Rattle.iiop_broker.specs.Outcomes.{Ends};
+ghost use Rattle.event_loop.specs.Visits.{Gone};
 ghost use Rattle.event_loop.specs.inner.Going.{IsGoing, IsOn, Slotted, slotted};
 ghost use Rattle.event_loop.specs.inner.Turns.{HasHeard, HasSent};
 
 use crate::connection::Connection;
+use crate::listener::End;
 use iiop_broker::{Broker, BrokerFault, Event, Servant};
 use std::alloc::Global;
 use std::marker::Model;
@@ -19,7 +21,7 @@ pub(crate) enum Course {
     Moved,
     /// None can move now.
     Still,
-    Over,
+    Over(End),
 }
 
 /// A connection with its number and its last answer, of which so much is sent.
@@ -81,7 +83,7 @@ impl<C: Connection> Slot<C> {
     {
         let waiting = self.answer.as_slice().split_at(self.sent).1;
         match self.connection.write(waiting) {
-            Ok(Some(0)) | Err(_) => Course::Over,
+            Ok(Some(0)) | Err(_) => Course::Over(End::Failed),
             Ok(Some(n)) => {
                 self.sent += n;
                 Course::Moved
@@ -100,8 +102,9 @@ impl<C: Connection> Slot<C> {
     {
         let n = match self.connection.read(buffer) {
             Ok(None) => return Course::Still,
-            Ok(Some(0)) | Err(_) => return Course::Over,
+            Ok(Some(0)) => return Course::Over(End::Finished),
             Ok(Some(n)) => n,
+            Err(_) => return Course::Over(End::Failed),
         };
         match broker.step(Event::Piece(self.number, &buffer[..n])) {
             Ok(answer) => {
@@ -109,7 +112,7 @@ impl<C: Connection> Slot<C> {
                 self.sent = 0;
                 Course::Moved
             }
-            Err(BrokerFault::NoMemory) => Course::Over,
+            Err(BrokerFault::NoMemory) => Course::Over(End::GivenUp),
             Err(_) => unreachable!(),
         }
     }
@@ -118,7 +121,7 @@ impl<C: Connection> Slot<C> {
     pub(crate) fn serve<S: Servant>(&mut self, broker: &mut Broker<S>, buffer: &mut [u8]) -> Course
         requires there { IsThere self.old.number broker.old.world.there }
         requires room { 0 < length buffer.old }
-        ensures on { (before : S) (came : List Ends) (ended : List (ℕ × Ends)) (front back : List Slotted)
+        ensures on { (before : S) (came : List Ends) (ended : List (ℕ × Gone)) (front back : List Slotted)
             → IsGoing (acts S.says S.after) broker.old.served before came ended broker.old.world (front ++ self.old ∷ back)
             → IsOn (acts S.says S.after) broker.old.served before came ended broker.new.world front self.new back result }
         ensures same { broker.new.served ≡ broker.old.served }
@@ -128,7 +131,7 @@ impl<C: Connection> Slot<C> {
             return self.send();
         }
         if broker.is_closed(self.number) {
-            return Course::Over;
+            return Course::Over(End::Finished);
         }
         self.hear(broker, buffer)
     }

@@ -8,10 +8,11 @@ use Rattle.broker_answers.specs.Objects.{Served}
 use Rattle.broker_answers.specs.Serving.{Moves, Serves}
 use Rattle.iiop_broker.specs.Ends.{Gives, written_with}
 use Rattle.iiop_broker.specs.Outcomes.{Ends}
+use Rattle.event_loop.specs.declared.listener.End.{End}
 use Rattle.event_loop.specs.declared.slot.Course.{Course}
 use Rattle.event_loop.specs.declared.slot.Course.TheVariants.{Over}
 use Rattle.event_loop.specs.Carried.{Log, answered, brought, connection_of}
-use Rattle.event_loop.specs.Visits.{HasEnded, IsCarried}
+use Rattle.event_loop.specs.Visits.{Gone, HasEnded, IsCarried}
 
 -- a connection: its number, what it tells, the octets that wait to be sent
 pub record Slotted : Type 0 where
@@ -44,7 +45,7 @@ pub record IsOpen (said : Log) (came : List Ends) (one : Slotted) : Type 0 where
 
 -- one that went
 pub record IsGone {S : Type 0} (acting : Acting S) (served : Served) (before : S) (said : Log) (came : List Ends)
-    (slots : List Slotted) (one : ℕ × Ends) : Type 0 where
+    (slots : List Slotted) (one : ℕ × Gone) : Type 0 where
   pub from : Ends
   pub came_is : slice_get came one.0 ≡ Some from
   pub carried : IsCarried acting served before said one.0 from one.1
@@ -53,7 +54,7 @@ pub record IsGone {S : Type 0} (acting : Acting S) (served : Served) (before : S
 -- So far: the log leads to the broker's world, whose connections are those that are served; each that came is served or
 -- went.
 pub record IsGoing {S : Type 0} (acting : Acting S) (served : Served) (before : S) (came : List Ends)
-    (ended : List (ℕ × Ends)) (now : World S Stream) (slots : List Slotted) : Type 0 where
+    (ended : List (ℕ × Gone)) (now : World S Stream) (slots : List Slotted) : Type 0 where
   pub said : Log
   pub follows : Follows rests (Serves acting served) (Moves acting served) (world before []) said now
   pub there : keys now.there ≡ numbers slots
@@ -65,19 +66,20 @@ pub record IsGoing {S : Type 0} (acting : Acting S) (served : Served) (before : 
 
 -- one of them was served on: where it is over, it may be let go of
 pub record IsOn {S : Type 0} (acting : Acting S) (served : Served) (before : S) (came : List Ends)
-    (ended : List (ℕ × Ends)) (now : World S Stream) (front : List Slotted) (slot : Slotted) (back : List Slotted)
+    (ended : List (ℕ × Gone)) (now : World S Stream) (front : List Slotted) (slot : Slotted) (back : List Slotted)
     (course : Course) : Type 0 where
   pub going : IsGoing acting served before came ended now (front ++ slot ∷ back)
-  pub over : course ≡ Over → HasEnded acting served before going.said slot.number slot.waiting slot.told
+  pub over : (end : End) → course ≡ Over end
+      → HasEnded acting served before going.said slot.number slot.waiting slot.told end
 
 -- the same, for some list of those that went that may be told
-pub record GoesOn {S : Type 0} (Told : List (ℕ × Ends) → Type 0) (acting : Acting S) (served : Served) (before : S)
+pub record GoesOn {S : Type 0} (Told : List (ℕ × Gone) → Type 0) (acting : Acting S) (served : Served) (before : S)
     (came : List Ends) (now : World S Stream) (slots : List Slotted) : Type 0 where
-  pub ended : List (ℕ × Ends)
+  pub ended : List (ℕ × Gone)
   pub told : Told ended
   pub going : IsGoing acting served before came ended now slots
 
-pub record IsUnderWay {S : Type 0} (Told : List (ℕ × Ends) → Type 0) (acting : Acting S) (served : Served)
+pub record IsUnderWay {S : Type 0} (Told : List (ℕ × Gone) → Type 0) (acting : Acting S) (served : Served)
     (came : List Ends) (now : World S Stream) (slots : List Slotted) : Type 0 where
   pub before : S
   pub goes : GoesOn Told acting served before came now slots

@@ -4,6 +4,8 @@ use Rattle.broker_answers.specs.Streams.{Stream}
 use Rattle.broker_answers.specs.Servants.{acts}
 use Rattle.iiop_broker.specs.Listed.{IsThere}
 use Rattle.iiop_broker.specs.Outcomes.{Ends}
+use Rattle.event_loop.specs.Visits.{gone}
+use Rattle.event_loop.specs.declared.listener.End.TheVariants.{GivenUp}
 use Rattle.event_loop.specs.inner.Going.{Slotted, slotted, GoesOn}
 use Rattle.event_loop.proofs.Visits.{admits, refuses, passes, begun_there}
 use Rattle.event_loop.proofs.serving.admit.Goals as goal
@@ -41,7 +43,7 @@ returns-in-Err-push-clause-going g c = λ before going.
     c.in-Ok.field-0.items c.requires.number c.in-Ok.ensures.answered
     (subst (λ (s : Slotted). Leaves c.step.new.self.world s.number [] c.let_go.new.broker.world) is c.let_go.ensures.left)
     c.accept.ensures.ended
-    (λ all held. subst (λ (s : Slotted). g.L.Listener.ended c.let_go.new.listener (all ++ (s.number, s.told) ∷ [])) is (c.let_go.ensures.ended all held))
+    (λ all held. subst (λ (s : Slotted). g.L.Listener.ended c.let_go.new.listener (all ++ (s.number, gone s.told GivenUp) ∷ [])) is (c.let_go.ensures.ended all held))
     going))
 
 pub returns-in_default-clause-going : goal.returns-in_default-clause-going

@@ -38,13 +38,16 @@ returns-then-is_empty-clause-served g c =
     let w = c.admit_next.new.broker.world in
     let start = subst (λ (s : Served). GoesOn (g.L.Listener.ended c.loop.listener) acting s before (g.L.Listener.came c.loop.listener) c.loop.broker.world c.loop.slots.items) (sym same) c.loop.invariant.going in
     let now = subst (λ (s : Served). GoesOn (g.L.Listener.ended l) acting s before (g.L.Listener.came l) w c.admit_next.new.slots.items) same
-        (c.admit_next.ensures.going before start) in
+    (c.admit_next.ensures.going before start) in
     let empty = no_items c.admit_next.new.slots.items in
     let none : c.admit_next.new.slots.items ≡ [] = search rules in
-    let all = subst (λ (ss : List Slotted). IsGoing acting c.args.broker.now.served before (g.L.Listener.came l) now.ended w ss) none now.going in
-    (now.ended, now.told, all_served acting c.args.broker.now.served before (g.L.Listener.came l) now.ended w all
-      ((c.steps_are_the_talk.ensures c.args.broker.now.served before w.servant all.said).0
-      (said_of acting c.args.broker.now.served before (g.L.Listener.came l) now.ended w [] all)))
+    let all = subst (λ (ss : List Slotted). IsGoing acting c.args.broker.now.served before (g.L.Listener.came l) now.ended w ss) none now.going in (
+      now.ended,
+      now.told,
+      all_served acting c.args.broker.now.served before (g.L.Listener.came l) now.ended w all
+          ((c.steps_are_the_talk.ensures c.args.broker.now.served before w.servant all.said).0
+          (said_of acting c.args.broker.now.served before (g.L.Listener.came l) now.ended w [] all)),
+    )
 
 pub returns-then-is_empty-clause-alone : goal.returns-then-is_empty-clause-alone
 returns-then-is_empty-clause-alone g c =
@@ -75,11 +78,11 @@ loop-preserved g c =
     let served = c.sweep-moved.ensures.same ∙ c.admit_next.ensures.same ∙ c.loop.invariant.served in
     let start = subst (λ (s : Served). GoesOn (g.L.Listener.ended c.loop.listener) acting s before (g.L.Listener.came c.loop.listener) c.loop.broker.world c.loop.slots.items) (sym c.loop.invariant.served) c.loop.invariant.going in
     let next = subst (λ (s : Served). GoesOn (g.L.Listener.ended c.admit_next.new.listener) acting s before (g.L.Listener.came c.admit_next.new.listener) c.admit_next.new.broker.world c.admit_next.new.slots.items)
-        (sym c.admit_next.ensures.same) (c.admit_next.ensures.going before start) in
+    (sym c.admit_next.ensures.same) (c.admit_next.ensures.going before start) in
     let swept = c.sweep-moved.ensures.going before next in
     let came : g.L.Listener.came c.look.new.self ≡ g.L.Listener.came c.admit_next.new.listener = search rules in
     let goes : GoesOn (g.L.Listener.ended c.look.new.self) acting c.admit_next.new.broker.served before (g.L.Listener.came c.admit_next.new.listener) c.sweep-moved.new.broker.world c.sweep-moved.new.slots.items =
-      record { ended = swept.ended; told = c.look.ensures.ended swept.ended swept.told; going = swept.going } in
+    record { ended = swept.ended; told = c.look.ensures.ended swept.ended swept.told; going = swept.going } in
     record {
       served = served;
       room = search rules;
