@@ -96,7 +96,8 @@ impl<C: Connection> Slot<C> {
     fn hear<S: Servant>(&mut self, broker: &mut Broker<S>, buffer: &mut [u8]) -> Course
         requires there { IsThere self.old.number broker.old.world.there }
         requires room { 0 < length buffer.old }
-        ensures heard { HasHeard (acts S.says S.after) broker.old.served broker.old.world self.old result broker.new.world self.new }
+        ensures heard { HasHeard (acts S.says S.after) broker.old.served broker.old.world self.old result
+            broker.new.world self.new }
         ensures same { broker.new.served ≡ broker.old.served }
         ensures as_long { length buffer.new ≡ length buffer.old }
     {
