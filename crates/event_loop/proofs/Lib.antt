@@ -1,0 +1,7 @@
+pub mod Parts
+pub mod Items
+pub mod Logs
+pub mod Keys
+pub mod Going
+pub mod Turns
+pub mod Visits

@@ -1,0 +1,97 @@
+use Rattle.std.proofs.Common.{rules, ◌≡◌, ◌∙◌, [], List, refl, sym, ap, subst, arith}
+use Rattle.broker_answers.specs.Talk.{world}
+use Rattle.broker_answers.specs.Servants.{acts}
+use Rattle.broker_answers.specs.Objects.{Served}
+use Rattle.iiop_broker.specs.Outcomes.{Ends}
+use Rattle.event_loop.specs.inner.Going.{Slotted, numbers, IsGoing, GoesOn}
+use Rattle.event_loop.proofs.Keys.{no_items, no_keys}
+use Rattle.event_loop.proofs.Visits.{starts, said_of, all_served}
+use Rattle.event_loop.proofs.serving.serve_at_once.Goals as goal
+
+pub loop-init : goal.loop-init
+loop-init g c =
+    let acting = acts g.S.Servant.says g.S.Servant.after in
+    let w = c.args.broker.now.world in
+    record {
+      served = refl;
+      room = omega arith;
+      begun = search rules;
+      upto = omega arith;
+      few = search rules;
+      count = refl;
+      at_once = refl;
+      going = record {
+        ended = [];
+        told = c.requires.none;
+        going = subst (λ (xs : List Ends). IsGoing acting c.args.broker.now.served w.servant xs [] w c.new-slots.result.items) (sym c.requires.fresh)
+            (subst (λ (ss : List Slotted). IsGoing acting c.args.broker.now.served w.servant [] [] w ss) (sym c.new-slots.ensures.items)
+            (starts acting c.args.broker.now.served w.servant w (ap (λ x. world w.servant x) c.requires.alone)));
+      };
+    }
+
+pub returns-then-is_empty-clause-served : goal.returns-then-is_empty-clause-served
+returns-then-is_empty-clause-served g c =
+    let acting = acts g.S.Servant.says g.S.Servant.after in
+    let before = c.args.broker.now.world.servant in
+    let same = c.loop.invariant.served in
+    let l = c.admit_next.new.listener in
+    let w = c.admit_next.new.broker.world in
+    let start = subst (λ (s : Served). GoesOn (g.L.Listener.ended c.loop.listener) acting s before (g.L.Listener.came c.loop.listener) c.loop.broker.world c.loop.slots.items) (sym same) c.loop.invariant.going in
+    let now = subst (λ (s : Served). GoesOn (g.L.Listener.ended l) acting s before (g.L.Listener.came l) w c.admit_next.new.slots.items) same
+    (c.admit_next.ensures.going before start) in
+    let empty = no_items c.admit_next.new.slots.items in
+    let none : c.admit_next.new.slots.items ≡ [] = search rules in
+    let all = subst (λ (ss : List Slotted). IsGoing acting c.args.broker.now.served before (g.L.Listener.came l) now.ended w ss) none now.going in (
+      now.ended,
+      now.told,
+      all_served acting c.args.broker.now.served before (g.L.Listener.came l) now.ended w all
+          ((c.steps_are_the_talk.ensures c.args.broker.now.served before w.servant all.said).0
+          (said_of acting c.args.broker.now.served before (g.L.Listener.came l) now.ended w [] all)),
+    )
+
+pub returns-then-is_empty-clause-alone : goal.returns-then-is_empty-clause-alone
+returns-then-is_empty-clause-alone g c =
+    let acting = acts g.S.Servant.says g.S.Servant.after in
+    let before = c.args.broker.now.world.servant in
+    let same = c.loop.invariant.served in
+    let start = subst (λ (s : Served). GoesOn (g.L.Listener.ended c.loop.listener) acting s before (g.L.Listener.came c.loop.listener) c.loop.broker.world c.loop.slots.items) (sym same) c.loop.invariant.going in
+    let now = c.admit_next.ensures.going before start in
+    let empty = no_items c.admit_next.new.slots.items in
+    let none : c.admit_next.new.slots.items ≡ [] = search rules in
+    no_keys c.admit_next.new.broker.world.there (now.going.there ∙ ap (λ (ss : List Slotted). numbers ss) none)
+
+pub sweep-moved-requires-clause-under_way : goal.sweep-moved-requires-clause-under_way
+sweep-moved-requires-clause-under_way g c =
+    let acting = acts g.S.Servant.says g.S.Servant.after in
+    let before = c.args.broker.now.world.servant in
+    let start = subst (λ (s : Served). GoesOn (g.L.Listener.ended c.loop.listener) acting s before (g.L.Listener.came c.loop.listener) c.loop.broker.world c.loop.slots.items) (sym c.loop.invariant.served) c.loop.invariant.going in
+    record {
+      before = before;
+      goes = subst (λ (s : Served). GoesOn (g.L.Listener.ended c.admit_next.new.listener) acting s before (g.L.Listener.came c.admit_next.new.listener) c.admit_next.new.broker.world c.admit_next.new.slots.items)
+          (sym c.admit_next.ensures.same) (c.admit_next.ensures.going before start);
+    }
+
+pub loop-preserved : goal.loop-preserved
+loop-preserved g c =
+    let acting = acts g.S.Servant.says g.S.Servant.after in
+    let before = c.args.broker.now.world.servant in
+    let served = c.sweep-moved.ensures.same ∙ c.admit_next.ensures.same ∙ c.loop.invariant.served in
+    let start = subst (λ (s : Served). GoesOn (g.L.Listener.ended c.loop.listener) acting s before (g.L.Listener.came c.loop.listener) c.loop.broker.world c.loop.slots.items) (sym c.loop.invariant.served) c.loop.invariant.going in
+    let next = subst (λ (s : Served). GoesOn (g.L.Listener.ended c.admit_next.new.listener) acting s before (g.L.Listener.came c.admit_next.new.listener) c.admit_next.new.broker.world c.admit_next.new.slots.items)
+    (sym c.admit_next.ensures.same) (c.admit_next.ensures.going before start) in
+    let swept = c.sweep-moved.ensures.going before next in
+    let came : g.L.Listener.came c.look.new.self ≡ g.L.Listener.came c.admit_next.new.listener = search rules in
+    let goes : GoesOn (g.L.Listener.ended c.look.new.self) acting c.admit_next.new.broker.served before (g.L.Listener.came c.admit_next.new.listener) c.sweep-moved.new.broker.world c.sweep-moved.new.slots.items =
+    record { ended = swept.ended; told = c.look.ensures.ended swept.ended swept.told; going = swept.going } in
+    record {
+      served = served;
+      room = search rules;
+      begun = search rules;
+      upto = search rules;
+      few = search rules;
+      count = search rules;
+      at_once = search rules;
+      going = subst (λ (xs : List Ends). GoesOn (g.L.Listener.ended c.look.new.self) acting c.args.broker.now.served before xs c.sweep-moved.new.broker.world c.sweep-moved.new.slots.items) (sym came)
+          (subst (λ (s : Served). GoesOn (g.L.Listener.ended c.look.new.self) acting s before (g.L.Listener.came c.admit_next.new.listener) c.sweep-moved.new.broker.world c.sweep-moved.new.slots.items)
+          (c.admit_next.ensures.same ∙ c.loop.invariant.served) goes);
+    }

@@ -1,0 +1,17 @@
+use Rattle.std.proofs.Common.{◌≡◌, ◌≤◌, ◌<◌, length}
+use Rattle.broker_answers.specs.Servants.{acts}
+use Rattle.event_loop.specs.inner.Going.{GoesOn}
+use Rattle.event_loop.proofs.serving.serve_at_once.Given as goal
+
+abbrev pub invariant-loop : goal.invariant-loop
+invariant-loop g l = record {
+  served : l.broker.served ≡ l.fn.broker.served;
+  room : 0 < length l.buffer;
+  begun : l.progress.begun ≡ length (g.L.Listener.came l.listener);
+  upto : l.progress.begun ≤ l.progress.count;
+  few : length l.slots.items ≤ l.progress.at_once;
+  count : l.progress.count ≡ l.count;
+  at_once : l.progress.at_once ≡ l.at_once;
+  going : GoesOn (g.L.Listener.ended l.listener) (acts g.S.Servant.says g.S.Servant.after) l.fn.broker.served l.fn.broker.world.servant
+      (g.L.Listener.came l.listener) l.broker.world l.slots.items;
+}

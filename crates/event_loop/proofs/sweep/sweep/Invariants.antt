@@ -1,0 +1,19 @@
+use Rattle.std.proofs.Common.{◌≡◌, ◌≤◌, ◌<◌, ◌-◌, length}
+use Rattle.broker_answers.specs.Servants.{acts}
+use Rattle.event_loop.specs.inner.Going.{GoesOn}
+use Rattle.event_loop.proofs.sweep.sweep.Given as goal
+
+abbrev pub invariant-loop-at : goal.invariant-loop-at
+invariant-loop-at g l = record {
+  room : 0 < length l.buffer;
+  as_long : length l.buffer ≡ length l.fn.buffer;
+  came : g.L.Listener.came l.listener ≡ g.L.Listener.came l.fn.listener;
+  served : l.broker.served ≡ l.fn.broker.served;
+  fewer : length l.slots.items ≤ length l.fn.slots.items;
+  going : (before : g.row.S.Denot)
+      → GoesOn (g.L.Listener.ended l.fn.listener) (acts g.S.Servant.says g.S.Servant.after) l.fn.broker.served before (g.L.Listener.came l.fn.listener) l.fn.broker.world l.fn.slots.items
+      → GoesOn (g.L.Listener.ended l.listener) (acts g.S.Servant.says g.S.Servant.after) l.fn.broker.served before (g.L.Listener.came l.fn.listener) l.broker.world l.slots.items;
+}
+
+abbrev pub decreases-loop-at : goal.decreases-loop-at
+decreases-loop-at g l = length l.slots.items - l.at

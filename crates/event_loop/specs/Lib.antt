@@ -1,0 +1,4 @@
+pub mod Carried
+pub mod Telling
+pub mod Visits
+pub mod inner

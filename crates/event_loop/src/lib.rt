@@ -1,0 +1,12 @@
+//! Many connections served at the same time, by one thread: calls on them don't wait.
+#![tactic(auto)]
+
+mod connection;
+mod listener;
+mod serving;
+mod slot;
+mod sweep;
+
+pub use connection::Connection;
+pub use listener::{End, Listener};
+pub use serving::{Interruption, MAX_SWEEPS, serve_at_once};

@@ -1,0 +1,99 @@
+//! All connections in turn.
+
+ghost use Rattle.std.specs.Prelude.{◌≡◌, ◌≢◌, ◌<◌, ◌≤◌, ◌+◌, ◌++◌, ◌∷◌, [], List, ℕ, length};
+ghost use Rattle.broker_answers.specs.Servants.{acts};
+ghost use Rattle.broker_answers.specs.Talk.{Leaves};
+ghost use Rattle.iiop_broker.specs.Listed.{IsThere};
+ghost use Rattle.event_loop.specs.Visits.{Gone, gone};
+ghost use Rattle.event_loop.specs.declared.listener.End.{End};
+ghost use Rattle.event_loop.specs.declared.slot.Course.TheVariants.{Over};
+ghost use Rattle.event_loop.specs.inner.Going.{GoesOn, IsUnderWay};
+
+use crate::listener::{End, Listener};
+use crate::slot::{Course, Slot};
+use iiop_broker::{Broker, Event, Servant};
+
+/// Lets go of a connection.
+pub(crate) fn let_go<S: Servant, L: Listener>(
+    broker: &mut Broker<S>,
+    listener: &mut L,
+    slot: Slot<L::Connection>,
+    end: End,
+)
+    requires { IsThere slot.number broker.old.world.there }
+    ensures left { Leaves broker.old.world slot.number [] broker.new.world }
+    ensures ended { (all : List (ℕ × Gone)) → L.ended listener.old all
+        → L.ended listener.new (all ++ (slot.number, gone slot.told end) ∷ []) }
+    ensures came { L.came listener.new ≡ L.came listener.old }
+    ensures same { broker.new.served ≡ broker.old.served }
+{
+    let number = slot.number();
+    match broker.step(Event::End(number)) {
+        Ok(_) => {}
+        Err(_) => unreachable!(),
+    }
+    listener.hand_back(number, slot.into_connection(), end);
+}
+
+/// Serves the connection at a place as far as it goes at once, and lets go of it where it is over.
+fn serve_at<S: Servant, L: Listener>(
+    broker: &mut Broker<S>,
+    listener: &mut L,
+    slots: &mut Vec<Slot<L::Connection>>,
+    at: usize,
+    buffer: &mut [u8],
+) -> Course
+    requires there { at < length slots.old.items }
+    requires room { 0 < length buffer.old }
+    requires under_way { IsUnderWay (L.ended listener.old) (acts S.says S.after) broker.old.served
+        (L.came listener.old) broker.old.world slots.old.items }
+    ensures going { (before : S)
+        → GoesOn (L.ended listener.old) (acts S.says S.after) broker.old.served before (L.came listener.old) broker.old.world slots.old.items
+        → GoesOn (L.ended listener.new) (acts S.says S.after) broker.old.served before (L.came listener.old) broker.new.world slots.new.items }
+    ensures shorter { (end : End) → result ≡ Over end → length slots.new.items + 1 ≡ length slots.old.items }
+    ensures as_many { ((end : End) → result ≢ Over end) → length slots.new.items ≡ length slots.old.items }
+    ensures came { L.came listener.new ≡ L.came listener.old }
+    ensures same { broker.new.served ≡ broker.old.served }
+    ensures as_long { length buffer.new ≡ length buffer.old }
+{
+    let course = slots[at].serve(broker, buffer);
+    if let Course::Over(end) = course {
+        let slot = slots.remove(at);
+        let_go(broker, listener, slot, end);
+    }
+    course
+}
+
+/// Serves each connection as far as it goes at once, and lets go of those that are over: whether
+/// anything moved.
+pub(crate) fn sweep<S: Servant, L: Listener>(
+    broker: &mut Broker<S>,
+    listener: &mut L,
+    slots: &mut Vec<Slot<L::Connection>>,
+    buffer: &mut [u8],
+) -> bool
+    requires room { 0 < length buffer.old }
+    requires under_way { IsUnderWay (L.ended listener.old) (acts S.says S.after) broker.old.served
+        (L.came listener.old) broker.old.world slots.old.items }
+    ensures going { (before : S)
+        → GoesOn (L.ended listener.old) (acts S.says S.after) broker.old.served before (L.came listener.old) broker.old.world slots.old.items
+        → GoesOn (L.ended listener.new) (acts S.says S.after) broker.old.served before (L.came listener.old) broker.new.world slots.new.items }
+    ensures fewer { length slots.new.items ≤ length slots.old.items }
+    ensures came { L.came listener.new ≡ L.came listener.old }
+    ensures same { broker.new.served ≡ broker.old.served }
+    ensures as_long { length buffer.new ≡ length buffer.old }
+{
+    let mut moved = false;
+    let mut at = 0;
+    while at < slots.len() {
+        match serve_at(broker, listener, slots, at, buffer) {
+            Course::Moved => {
+                moved = true;
+                at += 1;
+            }
+            Course::Still => at += 1,
+            Course::Over(_) => moved = true,
+        }
+    }
+    moved
+}
