@@ -39,7 +39,8 @@ operations_at model interface = option_map_or (λ i. i.operations) (slice_get mo
 
 -- whether the operation of a number gets an attribute, and whether that of a name
 abbrev pub is_getter : Parts → ℕ → Bool
-is_getter model number = option_map_or (λ operation. is_some (got_by operation)) (slice_get model.operations number) false
+is_getter model number =
+    option_map_or (λ operation. is_some (got_by operation)) (slice_get model.operations number) false
 
 abbrev pub is_getter_of : Parts → List ℕ → ℕ → Bool
 is_getter_of model name number = option_map_or (gets name) (slice_get model.operations number) false
@@ -51,7 +52,8 @@ getters_of model numbers = filter (is_getter model) numbers
 -- the place of the first attribute of a name, where the first of all has this place
 abbrev pub place_from : Parts → ℕ → List ℕ → List ℕ → Option ℕ
 place_from model n name [] = None
-place_from model n name (getter ∷ more) = cond (is_getter_of model name getter) (Some n) (place_from model (suc n) name more)
+place_from model n name (getter ∷ more) =
+    cond (is_getter_of model name getter) (Some n) (place_from model (suc n) name more)
 
 -- the place of the attribute of a name
 abbrev pub attribute_named : Parts → List ℕ → List ℕ → Option ℕ
@@ -76,7 +78,8 @@ action_by request [] = Empty
 action_by request (member ∷ more) = cond (pointwise nat_eq request (member ∷ more)) Echo Nothing
 
 abbrev pub frame_action : List Node → Operation → Action
-frame_action graph operation = action_by (members_of (node_at graph operation.request)) (members_of (node_at graph operation.reply))
+frame_action graph operation =
+    action_by (members_of (node_at graph operation.request)) (members_of (node_at graph operation.reply))
 
 -- it gets an attribute, or sets one, or else
 abbrev pub action_or : Option ℕ → Option ℕ → Action → Action
@@ -87,15 +90,18 @@ action_or None None other = other
 -- what an operation does, where the attributes of an object are at these places by their names
 abbrev pub action_where : (List ℕ → Option ℕ) → List Node → Operation → Action
 action_where place graph operation =
-    action_or (option_and_then place (got_by operation)) (option_and_then place (set_by operation)) (frame_action graph operation)
+    action_or (option_and_then place (got_by operation)) (option_and_then place (set_by operation))
+    (frame_action graph operation)
 
 -- what that of a number does
 abbrev pub action_at : (List ℕ → Option ℕ) → Parts → ℕ → Action
-action_at place model number = option_map_or (action_where place model.graph) (slice_get model.operations number) Nothing
+action_at place model number =
+    option_map_or (action_where place model.graph) (slice_get model.operations number) Nothing
 
 -- operations by their numbers, and what each does
 abbrev pub with_actions : Parts → List ℕ → List ℕ → List (ℕ × Action)
-with_actions model getters numbers = map (λ number. (number, action_at (attribute_named model getters) model number)) numbers
+with_actions model getters numbers =
+    map (λ number. (number, action_at (attribute_named model getters) model number)) numbers
 
 -- ---- tapes
 
@@ -105,7 +111,8 @@ zero_tape graph number = tape_of graph (node_at graph number) (zero_of graph num
 
 -- that of the reply of an operation
 abbrev pub first_tape : Parts → ℕ → List ℕ
-first_tape model number = option_map_or (λ operation. zero_tape model.graph operation.reply) (slice_get model.operations number) []
+first_tape model number =
+    option_map_or (λ operation. zero_tape model.graph operation.reply) (slice_get model.operations number) []
 
 -- the tape of each attribute at first
 abbrev pub first_tapes : Parts → List ℕ → List (List ℕ)

@@ -80,7 +80,8 @@ fn find_places<'m>(
     model: &'m Model,
     getters: &[u32],
 ) -> Result<Places<'m>, AllocError>
-    ensures { IfOk result (λ places. (name : List ℕ) → place_in places.entries name ≡ attribute_named model.now getters.now name) }
+    ensures { IfOk result (λ places. (name : List ℕ)
+        → place_in places.entries name ≡ attribute_named model.now getters.now name) }
 {
     let mut places = IndexMap::new(alloc);
     for place in (0..getters.len()).rev() {

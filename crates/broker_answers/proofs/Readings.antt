@@ -15,8 +15,6 @@ use Rattle.giop_types.specs.Named.{has_name}
 use Rattle.giop_types.proofs.Named.{named}
 use Rattle.giop_types.proofs.PartTrees.{text_shape, text_counted}
 use Rattle.giop_messages.specs.Messages.{Asked}
-use Rattle.broker_answers.specs.Replies.{Reply, IsUnsendable}
-use Rattle.broker_answers.specs.inner.Sending.{IsSending}
 use Rattle.broker_answers.specs.Findings.{IsRead, IsUnread, IsReading}
 
 pub read_is : (graph : List Node) (asked : Asked) (node n : ℕ) (tape : List ℕ)
@@ -86,7 +84,3 @@ pub none_is_unread : (table : TableParts) → table ≡ giop_table → (asked : 
 none_is_unread table e asked read r none =
     subst (λ (o : Option (List ℕ)). IsReading giop_nodes asked 26 o) none
     (subst (λ (t : TableParts). IsReading t.model.graph asked 26 read) e r)
-
-pub none_is_unsendable : (asked : Asked) (reply : Reply) (o : Option (List ℕ)) → o ≡ None → IsSending asked reply o
-    → IsUnsendable asked reply
-none_is_unsendable asked reply o e h = subst (λ (sent : Option (List ℕ)). IsSending asked reply sent) e h

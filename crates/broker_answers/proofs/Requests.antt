@@ -1,27 +1,13 @@
 -- From what a request asks to its answer.
-use Rattle.std.proofs.Common.{◌≡◌, ◌⊎◌, inl, inr, ℕ, List, sym, subst}
+use Rattle.std.proofs.Common.{◌≡◌, ◌⊎◌, inl, inr, ℕ, List, [], Some, slice_get, sym, subst}
 use Rattle.giop_messages.specs.Messages.{Asked}
-use Rattle.broker_answers.specs.Servants.{Acting, Call, Said, call_of}
+use Rattle.type_model.specs.declared.signatures.Operation.{Operation}
+use Rattle.broker_answers.specs.Servants.{Acting, Call, Said}
 use Rattle.broker_answers.specs.Objects.{Served}
-use Rattle.broker_answers.specs.Findings.{Finding, Calls, Finds, NoObject, AsksType, AsksNoType, AsksWhetherGone, NoOperation, NoArguments, ForServant}
-use Rattle.broker_answers.specs.Replies.{AnswersRequest}
-use Rattle.broker_answers.specs.Answering.{IsAnswered, IsAsked, MayMove}
+use Rattle.broker_answers.specs.Findings.{Finding, Calls, Finds}
+use Rattle.broker_answers.specs.Replies.{AnswersRequest, IsAnswer, IsSent, Replies, SyncScope, WithTarget, WithServer, NoResponse, acceptance, sync_scope}
+use Rattle.broker_answers.specs.Answering.{IsAnswered, MayMove}
 use Rattle.broker_answers.specs.Serving.{MovesRequest, state_after}
-
-same_call : (a b : Call) → Calls a ≡ Calls b → a ≡ b
-same_call a b e = cc
-
-pub asked_there : (served : Served) (asked : Asked) (call : Call) → Finds served asked (Calls call)
-    → IsAsked served asked call
-asked_there served asked call (NoObject none is) = absurd (cc)
-asked_there served asked call (AsksType object interface id is_for name read is) = absurd (cc)
-asked_there served asked call (AsksNoType object interface is_for name unread is) = absurd (cc)
-asked_there served asked call (AsksWhetherGone object interface is_for name is) = absurd (cc)
-asked_there served asked call (NoOperation object interface is_for own named is) = absurd (cc)
-asked_there served asked call (NoArguments object number operation is_of unread is) = absurd (cc)
-asked_there served asked call (ForServant object number operation tape is_of read is) =
-    subst (λ (c : Call). IsAsked served asked c) (sym (same_call call (call_of object number tape) is))
-    (record { operation = operation; there = is_of.is.there })
 
 pub is_answered : (served : Served) (asked : Asked) (finding : Finding) (says : Call → Said) (octets : List ℕ)
     → Finds served asked finding → IsAnswered served asked finding says octets → AnswersRequest served asked says octets
@@ -37,3 +23,34 @@ pub may_move : {S : Type 0} (acting : Acting S) (served : Served) (asked : Asked
 may_move acting served asked finding before after finds (inl same) = inl same
 may_move acting served asked finding before after finds (inr moved) =
     inr (is_moved acting served asked finding before after finds moved)
+
+-- ---- the answer to a call, by the scope that the request asks for
+
+pub replied : (served : Served) (asked : Asked) (call : Call) (says : Call → Said) (operation : Operation) (said : Said)
+    (octets : List ℕ) → Finds served asked (Calls call) → WithTarget ≡ sync_scope asked.flags
+    → slice_get served.model.operations call.operation ≡ Some operation → said ≡ says call
+    → Replies served.model asked operation said octets → AnswersRequest served asked says octets
+replied served asked call says operation said octets finds scope there is replies = record {
+  finding = Calls call;
+  finds = finds;
+  answer = subst (λ (s : SyncScope). IsAnswer s served asked (Calls call) says octets) scope
+      (operation, there, subst (λ (s : Said). Replies served.model asked operation s octets) is replies);
+}
+
+pub accepted : (served : Served) (asked : Asked) (call : Call) (says : Call → Said) (octets : List ℕ)
+    → Finds served asked (Calls call) → WithServer ≡ sync_scope asked.flags → IsSent asked acceptance octets
+    → AnswersRequest served asked says octets
+accepted served asked call says octets finds scope sent = record {
+  finding = Calls call;
+  finds = finds;
+  answer = subst (λ (s : SyncScope). IsAnswer s served asked (Calls call) says octets) scope sent;
+}
+
+pub silent : (served : Served) (asked : Asked) (call : Call) (says : Call → Said) (octets : List ℕ)
+    → Finds served asked (Calls call) → NoResponse ≡ sync_scope asked.flags → octets ≡ []
+    → AnswersRequest served asked says octets
+silent served asked call says octets finds scope none = record {
+  finding = Calls call;
+  finds = finds;
+  answer = subst (λ (s : SyncScope). IsAnswer s served asked (Calls call) says octets) scope none;
+}

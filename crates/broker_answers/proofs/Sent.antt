@@ -13,7 +13,10 @@ use Rattle.type_graph.specs.Value.{Tree, Number, Bytes, Items, NoTree, AndTree, 
 use Rattle.type_graph.specs.GraphRules.{IsGraph}
 use Rattle.giop_types.specs.TapeParts.{counted}
 use Rattle.giop_messages.specs.Heads.{max_size}
+use Rattle.table_file.specs.Table.{TableParts}
+use Rattle.giop_types.specs.GiopModel.{giop_table}
 use Rattle.giop_types.specs.GiopNodes.{giop_nodes}
+use Rattle.giop_types.proofs.GraphFacts.{giop_is_graph}
 use Rattle.giop_types.specs.Fields.{Holds}
 use Rattle.giop_types.proofs.Writings.{encodes_once}
 use Rattle.giop_messages.specs.declared.fault.GiopFault.{GiopFault}
@@ -24,6 +27,7 @@ use Rattle.giop_messages.specs.Headers.{here_number, here_tree, reply_tree, numb
 use Rattle.giop_messages.specs.Messages.{Asked, body_after}
 use Rattle.giop_messages.specs.Written.{Given, IsBody, IsWritten, body_gap, head_octets}
 use Rattle.giop_messages.proofs.OneWritten.{tape_written_once}
+use Rattle.giop.specs.Made.{given}
 use Rattle.giop.specs.Refusal.{IsNotWritten}
 use Rattle.giop.proofs.MadeFacts.{length-head_octets}
 use Rattle.broker_answers.specs.declared.exception.SystemException.{SystemException}
@@ -241,6 +245,15 @@ pub body_unsendable : (fault : GiopFault) (asked : Asked) (status : ReplyStatus)
 body_unsendable fault asked status body other rules h =
     unsendable fault asked (record { status = status; body = Some body }) other
     (λ there e. subst (λ (g : Given). IsGraph g.graph) (some_given body there e) rules) h
+
+pub own_unsendable : (fault : GiopFault) (asked : Asked) (status : ReplyStatus) (table : TableParts) (node : ℕ) (tape : List ℕ)
+    → (fault ≡ faults.NoMemory → ⊥) → table ≡ giop_table
+    → IsNotWritten fault asked.order 1 19 (reply_tree asked.id (number_of status) NoTree) (Some (given table.model.graph node tape))
+    → IsUnsendable asked (reply_of status giop_nodes node tape)
+own_unsendable fault asked status table node tape other e h =
+    body_unsendable fault asked status (given giop_nodes node tape) other giop_is_graph
+    (subst (λ (t : TableParts). IsNotWritten fault asked.order 1 19 (reply_tree asked.id (number_of status) NoTree)
+    (Some (given t.model.graph node tape))) e h)
 
 pub acceptance_isnt_refused : (fault : GiopFault) (asked : Asked) → (fault ≡ faults.NoMemory → ⊥) → asked.id < 2 ^ 32
     → IsNotWritten fault asked.order 1 19 (reply_tree asked.id 0 NoTree) None → ⊥

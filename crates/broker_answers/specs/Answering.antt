@@ -1,6 +1,5 @@
 -- What is answered to a request, and what becomes of the servant meanwhile.
-use Rattle.std.specs.Prelude.{◌≡◌, ◌⊎◌, ℕ, List, Some, slice_get}
-use Rattle.type_model.specs.declared.signatures.Operation.{Operation}
+use Rattle.std.specs.Prelude.{◌≡◌, ◌⊎◌, ℕ, List}
 use Rattle.giop_messages.specs.Messages.{Asked}
 use Rattle.broker_answers.specs.declared.scope.SyncScope.{SyncScope as Scope}
 use Rattle.broker_answers.specs.declared.scope.SyncScope.TheVariants as scopes
@@ -17,18 +16,15 @@ scope_by scopes.WithServer = WithServer
 scope_by scopes.NoResponse = NoResponse
 
 -- the answer to what a request asks
-pub record IsAnswered (served : Served) (asked : Asked) (finding : Finding) (says : Call → Said) (octets : List ℕ) : Type 0 where
+pub record IsAnswered (served : Served) (asked : Asked) (finding : Finding) (says : Call → Said) (octets : List ℕ)
+    : Type 0 where
   pub answer : IsAnswer (sync_scope asked.flags) served asked finding says octets
 
 -- it wasn't seen to, or it was
 abbrev pub MayMove : {S : Type 0} → Acting S → Served → Asked → S → S → Type 0
 MayMove acting served asked before after = (after ≡ before) ⊎ MovesRequest acting served asked before after
 
--- the operation of a call is there
-pub record IsAsked (served : Served) (asked : Asked) (call : Call) : Type 0 where
-  pub operation : Operation
-  pub there : slice_get served.model.operations call.operation ≡ Some operation
-
 -- a message that wasn't seen to, or was
 abbrev pub MayMoveRaw : {S : Type 0} → Acting S → Served → Raw → S → S → Type 0
-MayMoveRaw acting served raw before after = (after ≡ before) ⊎ ((item : Item) × MovesRaw acting served raw item before after)
+MayMoveRaw acting served raw before after =
+    (after ≡ before) ⊎ ((item : Item) × MovesRaw acting served raw item before after)

@@ -21,7 +21,8 @@ pub data Finding : Type 0 where
   -- a call of the servant
   Calls : Call → Finding
 
--- A front of the request's body is the value of the node that has the tape. What stands behind it isn't looked at (own).
+-- A front of the request's body is the value of the node that has the tape. What stands behind it isn't looked at
+-- (own).
 pub record IsRead (graph : List Node) (asked : Asked) (node : ℕ) (tape : List ℕ) : Type 0 where
   pub front : List ℕ
   pub rest : List ℕ
@@ -69,7 +70,8 @@ pub data Finds (served : Served) (asked : Asked) (finding : Finding) : Type 0 wh
       → asked.operation ≡ is_a_name → IsRead giop_nodes asked 26 (counted id) → finding ≡ Tells (is_a interface id)
       → Finds served asked finding
   AsksNoType : (object : ℕ) (interface : Interface) → IsFor served asked object interface
-      → asked.operation ≡ is_a_name → IsUnread giop_nodes asked 26 → finding ≡ Refuses Marshal → Finds served asked finding
+      → asked.operation ≡ is_a_name → IsUnread giop_nodes asked 26 → finding ≡ Refuses Marshal
+      → Finds served asked finding
   -- _non_existent
   AsksWhetherGone : (object : ℕ) (interface : Interface) → IsFor served asked object interface
       → asked.operation ≡ non_existent_name → finding ≡ Tells false → Finds served asked finding

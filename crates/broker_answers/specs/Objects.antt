@@ -55,7 +55,8 @@ abbrev pub operation_named : Parts → Interface → List ℕ → Option ℕ
 operation_named model interface name = first_named model name interface.operations
 
 -- the operation and its number
-pub record IsNamedOperation (model : Parts) (interface : Interface) (name : List ℕ) (number : ℕ) (operation : Operation) : Type 0 where
+pub record IsNamedOperation (model : Parts) (interface : Interface) (name : List ℕ) (number : ℕ) (operation : Operation)
+    : Type 0 where
   pub named : operation_named model interface name ≡ Some number
   pub there : slice_get model.operations number ≡ Some operation
 

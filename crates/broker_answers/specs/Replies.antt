@@ -29,7 +29,10 @@ pub record Reply : Type 0 where
   pub body : Option Given
 
 abbrev pub reply_of : ReplyStatus → List Node → ℕ → List ℕ → Reply
-reply_of status graph node tape = record { status = status; body = Some (record { graph = graph; node = node; tape = tape }) }
+reply_of status graph node tape = record {
+  status = status;
+  body = Some (record { graph = graph; node = node; tape = tape });
+}
 
 -- that it was done, and nothing more
 abbrev pub acceptance : Reply
@@ -90,8 +93,8 @@ pub data Replies (model : Parts) (asked : Asked) (operation : Operation) (said :
   IsntImplemented : said ≡ NoImplement → IsSent asked (exception_reply raised.NoImplement) octets
       → Replies model asked operation said octets
 
--- Which answers the response flags ask for (GIOP: request header): all; that it was done, or that it can't be; none. Bits 0
--- and 1 alone are looked at, and 2 is read as 0 (own).
+-- Which answers the response flags ask for (GIOP: request header): all; that it was done, or that it can't be; none.
+-- Bits 0 and 1 alone are looked at, and 2 is read as 0 (own).
 pub data SyncScope : Type 0 where
   WithTarget : SyncScope
   WithServer : SyncScope

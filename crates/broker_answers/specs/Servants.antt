@@ -3,7 +3,8 @@ use Rattle.std.specs.Prelude.{ℕ, List}
 use Rattle.broker_answers.specs.declared.servant.Outcome.{Outcome}
 use Rattle.broker_answers.specs.declared.servant.Outcome.TheVariants as outcomes
 
--- the call of an operation of an object: their places, among the objects and in the model, and the tape of the arguments
+-- the call of an operation of an object: their places, among the objects and in the model, and the tape of the
+-- arguments
 pub record Call : Type 0 where
   pub object : ℕ
   pub operation : ℕ

@@ -56,7 +56,8 @@ state_after acting state (Refuses exception) = state
 state_after acting state (Tells truth) = state
 state_after acting state (Calls call) = acting.after state call
 
-pub record MovesRequest {S : Type 0} (acting : Acting S) (served : Served) (asked : Asked) (before after : S) : Type 0 where
+pub record MovesRequest {S : Type 0} (acting : Acting S) (served : Served) (asked : Asked) (before after : S)
+    : Type 0 where
   pub finding : Finding
   pub finds : Finds served asked finding
   pub now : after ≡ state_after acting before finding
@@ -66,7 +67,8 @@ MovesItem acting served (Some (Asks asked)) before after = MovesRequest acting s
 MovesItem acting served item before after = after ≡ before
 
 -- one message: what it says, the state after it
-pub record MovesRaw {S : Type 0} (acting : Acting S) (served : Served) (raw : Raw) (item : Item) (before after : S) : Type 0 where
+pub record MovesRaw {S : Type 0} (acting : Acting S) (served : Served) (raw : Raw) (item : Item) (before after : S)
+    : Type 0 where
   pub is : IsItem raw item
   pub moves : MovesItem acting served item before after
 

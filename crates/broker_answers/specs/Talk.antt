@@ -61,7 +61,8 @@ pub record World (S C : Type 0) : Type 0 where
 abbrev pub world : {S C : Type 0} → S → List (ℕ × C) → World S C
 world servant there = record { servant = servant; there = there }
 
-pub record Opens {S C : Type 0} (keeping : Keeping C) (before : World S C) (c : ℕ) (answer : List ℕ) (after : World S C) : Type 0 where
+pub record Opens {S C : Type 0} (keeping : Keeping C) (before : World S C) (c : ℕ) (answer : List ℕ) (after : World S C)
+    : Type 0 where
   pub absent : at c before.there ≡ None
   pub room : length before.there < max_connections
   pub silent : answer ≡ []
@@ -101,11 +102,13 @@ pub record Leaves {S C : Type 0} (before : World S C) (c : ℕ) (answer : List �
 abbrev pub Happens : {S C : Type 0} → Keeping C → Serving S → Moving S → World S C → Event → List ℕ → World S C → Type 0
 Happens keeping Serves Moves before (Begins c) answer after = Opens keeping before c answer after
 Happens keeping Serves Moves before (Brings c octets) answer after = Answers keeping Serves before c octets answer after
-Happens keeping Serves Moves before (GivesUp c octets j) answer after = Abandons keeping Moves before c octets j answer after
+Happens keeping Serves Moves before (GivesUp c octets j) answer after =
+    Abandons keeping Moves before c octets j answer after
 Happens keeping Serves Moves before (Ends c) answer after = Leaves before c answer after
 
 -- events one after another, each with its answer
-abbrev pub Follows : {S C : Type 0} → Keeping C → Serving S → Moving S → World S C → List (Event × List ℕ) → World S C → Type 0
+abbrev pub Follows : {S C : Type 0} → Keeping C → Serving S → Moving S → World S C → List (Event × List ℕ) → World S C
+    → Type 0
 Follows keeping Serves Moves before [] after = after ≡ before
 Follows {S} {C} keeping Serves Moves before (one ∷ more) after =
     (between : World S C) × Happens keeping Serves Moves before one.0 one.1 between

@@ -1,12 +1,12 @@
 //! What a request asks for.
 
-ghost use Rattle.std.specs.Prelude.{◌≡◌, ◌↔◌, IfOk, IsTrue, Some, option_map, slice_get};
+ghost use Rattle.std.specs.Prelude.{◌≡◌, ◌↔◌, IfOk, IsTrue, option_map};
 ghost use Rattle.type_model.specs.ModelRules.{Parts};
 ghost use Rattle.type_model.specs.Names.{IsNamed};
 ghost use Rattle.giop_messages.specs.Messages.{asked_of};
 ghost use Rattle.giop_types.specs.GiopNodes.{giop_nodes};
 ghost use Rattle.broker_answers.specs.Findings.{IsRead, IsReading, Tells};
-ghost use Rattle.broker_answers.specs.inner.FindingSteps.{HasId, IsCallAsked, IsKnown, IsTypeAsked, finding_of};
+ghost use Rattle.broker_answers.specs.inner.FindingSteps.{HasId, IsKnown, IsTypeAsked, finding_of};
 
 use crate::exception::SystemException;
 use crate::objects::is_a;
@@ -55,7 +55,8 @@ pub(crate) fn read_body(
     request: &Request<'_>,
 ) -> Result<Option<Vec<u8>>, AllocError>
     requires { IsNamed accepted.now.model.names node }
-    ensures { IfOk result (λ tape. IsReading accepted.now.model.graph (asked_of request.now) node (option_map (λ t. t.items) tape)) }
+    ensures { IfOk result (λ tape.
+        IsReading accepted.now.model.graph (asked_of request.now) node (option_map (λ t. t.items) tape)) }
 {
     match accepted.read(
         alloc,
@@ -97,31 +98,6 @@ pub(crate) fn type_asked<'s>(
 {
     match read_body(alloc, giop.table(), ID_ARGUMENT, request)? {
         Some(tape) => Ok(Finding::Tells(has_type(interface, request, tape.as_slice()))),
-        None => Ok(Finding::Refuses(SystemException::Marshal)),
-    }
-}
-
-/// What a call of an operation asks of the object at a place.
-pub(crate) fn call_asked<'s>(
-    accepted: &'s Accepted,
-    alloc: Global,
-    object: usize,
-    number: u32,
-    operation: &'s Operation,
-    request: &Request<'_>,
-) -> Result<Finding<'s>, AllocError>
-    requires named { IsNamed accepted.now.model.names operation.now.request }
-    requires there { slice_get accepted.now.model.operations number ≡ Some operation.now }
-    ensures known { IfOk result (λ f. IsKnown accepted.now.model f) }
-    ensures asked { IfOk result (λ f. IsCallAsked accepted.now.model.graph object number operation.now (asked_of request.now) (finding_of f)) }
-{
-    match read_body(alloc, accepted, operation.request, request)? {
-        Some(arguments) => Ok(Finding::Calls(AskedCall {
-            object,
-            number,
-            operation,
-            arguments,
-        })),
         None => Ok(Finding::Refuses(SystemException::Marshal)),
     }
 }

@@ -13,12 +13,14 @@ use crate::servant::Servant;
 /// The messages of a stream are those of its beginning, and those that the other octets bring to
 /// what is left of that.
 pub fn stream_in_pieces()
-    ensures { (run : Option (List ℕ)) (octets more : List ℕ) → cut run (octets ++ more) ≡ joined (cut run octets) (λ left. cut_behind left more) }
+    ensures { (run : Option (List ℕ)) (octets more : List ℕ)
+        → cut run (octets ++ more) ≡ joined (cut run octets) (λ left. cut_behind left more) }
 {}
 
 /// Messages have one answer, and leave a servant in one state.
 pub fn messages_have_one_answer<S: Servant>()
-    ensures { (served : Served) → IsModel served.model → (raws : List Raw) (before one other : S) (octets more : List ℕ) (closed shut : Bool)
+    ensures { (served : Served) → IsModel served.model
+        → (raws : List Raw) (before one other : S) (octets more : List ℕ) (closed shut : Bool)
         → Serves (acts S.says S.after) served raws before octets closed one
         → Serves (acts S.says S.after) served raws before more shut other → IsSame octets more closed shut one other }
 {}

@@ -6,7 +6,7 @@ mod answer;
 mod exception;
 mod finding;
 pub mod laws;
-mod message;
+mod locating;
 mod objects;
 mod outcome;
 mod reply;

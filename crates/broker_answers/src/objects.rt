@@ -3,14 +3,15 @@
 ghost use Rattle.std.specs.Prelude.{◌≡◌, option_map, slice_get, IfSome, IfNone, None};
 ghost use Rattle.std.specs.List.{list_any};
 ghost use Rattle.std.specs.Str.{bytes_eq};
-ghost use Rattle.broker_answers.specs.Objects.{IsNamedOperation, first_named, has_name, is_a as is_of_type, object_with as object_of, objects_of, operation_named as operation_of, place_from};
+ghost use Rattle.broker_answers.specs.Objects.{IsNamedOperation, first_named, has_name, is_a as is_of_type, objects_of, operation_named as operation_of, place_from};
 
 use type_model::{Interface, Model, Name, Operation};
 
 /// An object's key, and the place of its interface in the model.
 pub(crate) type Object = (Vec<u8>, u32);
 
-fn place_of(objects: &[Object], key: &[u8]) -> Option<usize>
+/// The place of the object with a key.
+pub(crate) fn place_of(objects: &[Object], key: &[u8]) -> Option<usize>
     ensures { result ≡ place_from 0 key.now (objects_of objects.now) }
 {
     for place in 0..objects.len() {
@@ -19,13 +20,6 @@ fn place_of(objects: &[Object], key: &[u8]) -> Option<usize>
         }
     }
     None
-}
-
-/// The place of the object with a key.
-pub(crate) fn object_with(objects: &[Object], key: Option<&[u8]>) -> Option<usize>
-    ensures { result ≡ object_of (objects_of objects.now) (option_map (λ k. k.now) key.entry) }
-{
-    place_of(objects, key?)
 }
 
 /// Whether the operation of the number has a name.
@@ -38,6 +32,7 @@ fn is_named(model: &Model, number: u32, name: &[u8]) -> bool
     }
 }
 
+/// The first of these operations that has a name.
 fn first_with(model: &Model, name: &[u8], numbers: &[u32]) -> Option<u32>
     ensures { result ≡ first_named model.now name.now numbers.now }
 {
@@ -49,14 +44,7 @@ fn first_with(model: &Model, name: &[u8], numbers: &[u32]) -> Option<u32>
     None
 }
 
-/// The number of the first operation of an interface that has a name.
-fn number_named(model: &Model, interface: &Interface, name: &[u8]) -> Option<u32>
-    ensures { result ≡ operation_of model.now interface.now name.now }
-{
-    first_with(model, name, interface.operations.as_slice())
-}
-
-pub(crate) fn operation_at(model: &Model, number: u32) -> Option<&Operation>
+fn operation_at(model: &Model, number: u32) -> Option<&Operation>
     ensures { option_map (λ o. o.now) result ≡ slice_get model.now.operations number }
 {
     model.operations().get(number as usize)
@@ -71,7 +59,7 @@ pub(crate) fn operation_named<'m>(
     ensures found { IfSome result (λ r. IsNamedOperation model.now interface.now name.now r.0 r.1.now) }
     ensures missing { IfNone result (operation_of model.now interface.now name.now ≡ None) }
 {
-    let Some(number) = number_named(model, interface, name) else {
+    let Some(number) = first_with(model, name, interface.operations.as_slice()) else {
         return None;
     };
     match operation_at(model, number) {

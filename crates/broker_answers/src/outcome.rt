@@ -5,7 +5,7 @@ ghost use Rattle.type_model.specs.Names.{IsNamed};
 ghost use Rattle.giop_types.specs.TapeParts.{counted, IsCounted};
 ghost use Rattle.giop_types.specs.TapeRefusal.{RefusesWriting};
 ghost use Rattle.giop_messages.specs.Messages.{asked_of};
-ghost use Rattle.broker_answers.specs.Replies.{IsThrown, Replies, reply_of, success};
+ghost use Rattle.broker_answers.specs.Replies.{IsThrown, Replies, reply_of};
 ghost use Rattle.broker_answers.specs.inner.Sending.{IsRaising, IsThrowing, IsTried};
 ghost use Rattle.broker_answers.specs.Servants.{said_of};
 
@@ -13,9 +13,8 @@ use crate::exception::SystemException;
 use crate::finding::AskedCall;
 use crate::reply::Replier;
 use crate::servant::Outcome;
-use giop::ReplyStatus;
+use giop::{GiopFault, ReplyStatus};
 use giop_types::{TapeFault, push_octets};
-use position_checker::Accepted;
 use std::alloc::{AllocError, Global};
 use type_model::{Exception, Model, Operation};
 
@@ -74,39 +73,33 @@ fn exception_tape(
 
 impl<'r, 'b> Replier<'r, 'b> {
     /// A reply with this body, or else the exception that tells that there is none.
-    fn try_send(
-        &self,
-        status: ReplyStatus,
-        accepted: &Accepted,
-        node: u32,
-        tape: &[u8],
-    ) -> Result<Vec<u8>, AllocError>
-        requires { IsNamed accepted.now.model.names node }
-        ensures { IfOk result (λ octets. IsTried (asked_of self.now.request.now) (reply_of status accepted.now.model.graph node tape.now) octets.items) }
+    fn try_send(&self, status: ReplyStatus, node: u32, tape: &[u8]) -> Result<Vec<u8>, AllocError>
+        requires { IsNamed self.now.accepted.now.model.names node }
+        ensures { IfOk result (λ octets. IsTried (asked_of self.now.request.now)
+            (reply_of status self.now.accepted.now.model.graph node tape.now) octets.items) }
     {
-        match self.send(status, accepted, node, tape)? {
-            Some(octets) => Ok(octets),
-            None => self.exception(SystemException::Internal),
+        // the rules of the model, which a proof needs
+        let _model = self.accepted.table().model();
+        let body = Some((self.accepted, node, tape));
+        let order = self.request.order;
+        let id = self.request.id;
+        match self.giop.write_reply(self.alloc, order, id, status, body) {
+            Ok(octets) => Ok(octets),
+            Err(fault) => match fault {
+                GiopFault::NoMemory => Err(AllocError),
+                _ => self.exception(SystemException::Internal),
+            },
         }
     }
 
     /// The reply that an exception was raised.
-    fn throw(
-        &self,
-        accepted: &Accepted,
-        exception: &Exception,
-        members: &[u8],
-    ) -> Result<Vec<u8>, AllocError>
-        requires { IsNamed accepted.now.model.names exception.now.frame }
-        ensures { IfOk result (λ octets. IsThrowing accepted.now.model (asked_of self.now.request.now) exception.now members.now octets.items) }
+    fn throw(&self, exception: &Exception, members: &[u8]) -> Result<Vec<u8>, AllocError>
+        requires { IsNamed self.now.accepted.now.model.names exception.now.frame }
+        ensures { IfOk result (λ octets. IsThrowing self.now.accepted.now.model (asked_of self.now.request.now)
+            exception.now members.now octets.items) }
     {
         match exception_tape(self.alloc, exception, members) {
-            Ok(tape) => self.try_send(
-                ReplyStatus::UserException,
-                accepted,
-                exception.frame,
-                tape.as_slice(),
-            ),
+            Ok(tape) => self.try_send(ReplyStatus::UserException, exception.frame, tape.as_slice()),
             Err(fault) => match fault {
                 TapeFault::NoMemory => Err(AllocError),
                 _ => self.exception(SystemException::Internal),
@@ -114,41 +107,21 @@ impl<'r, 'b> Replier<'r, 'b> {
         }
     }
 
-    /// The reply that a call was done, with what it gave.
-    fn succeed(
-        &self,
-        accepted: &Accepted,
-        call: &AskedCall<'_>,
-        tape: &[u8],
-    ) -> Result<Vec<u8>, AllocError>
-        requires { slice_get accepted.now.model.operations call.now.number ≡ Some call.now.operation.now }
-        ensures { IfOk result (λ octets. IsTried (asked_of self.now.request.now) (success accepted.now.model call.now.operation.now tape.now) octets.items) }
-    {
-        // the rules of the model, which a proof needs
-        let _model = accepted.table().model();
-        self.try_send(
-            ReplyStatus::NoException,
-            accepted,
-            call.operation.reply,
-            tape,
-        )
-    }
-
     /// The reply that the exception at a place of the operation's list was raised.
     #[tactic(auto, using(crate::proofs::Lookups::thrown_named))]
     fn raise(
         &self,
-        accepted: &Accepted,
         call: &AskedCall<'_>,
         place: usize,
         members: &[u8],
     ) -> Result<Vec<u8>, AllocError>
-        requires { slice_get accepted.now.model.operations call.now.number ≡ Some call.now.operation.now }
-        ensures { IfOk result (λ octets. IsRaising accepted.now.model (asked_of self.now.request.now) call.now.operation.now place members.now octets.items) }
+        requires { slice_get self.now.accepted.now.model.operations call.now.number ≡ Some call.now.operation.now }
+        ensures { IfOk result (λ octets. IsRaising self.now.accepted.now.model (asked_of self.now.request.now)
+            call.now.operation.now place members.now octets.items) }
     {
-        let model = accepted.table().model();
+        let model = self.accepted.table().model();
         match exception_at(model, call.number, call.operation, place) {
-            Some(exception) => self.throw(accepted, exception, members),
+            Some(exception) => self.throw(exception, members),
             None => self.exception(SystemException::Unknown),
         }
     }
@@ -156,18 +129,22 @@ impl<'r, 'b> Replier<'r, 'b> {
     /// The reply to what the servant says to a call.
     pub(crate) fn reply_to(
         &self,
-        accepted: &Accepted,
         call: &AskedCall<'_>,
         outcome: &Outcome,
     ) -> Result<Vec<u8>, AllocError>
-        requires { slice_get accepted.now.model.operations call.now.number ≡ Some call.now.operation.now }
-        ensures { IfOk result (λ octets. Replies accepted.now.model (asked_of self.now.request.now) call.now.operation.now (said_of outcome.now) octets.items) }
+        requires { slice_get self.now.accepted.now.model.operations call.now.number ≡ Some call.now.operation.now }
+        ensures { IfOk result (λ octets. Replies self.now.accepted.now.model (asked_of self.now.request.now)
+            call.now.operation.now (said_of outcome.now) octets.items) }
     {
+        // the rules of the model, which a proof needs
+        let _model = self.accepted.table().model();
         match outcome {
-            Outcome::Done(tape) => self.succeed(accepted, call, tape.as_slice()),
-            Outcome::Raised(place, members) => {
-                self.raise(accepted, call, *place, members.as_slice())
-            }
+            Outcome::Done(tape) => self.try_send(
+                ReplyStatus::NoException,
+                call.operation.reply,
+                tape.as_slice(),
+            ),
+            Outcome::Raised(place, members) => { self.raise(call, *place, members.as_slice()) }
             Outcome::NoImplement => self.exception(SystemException::NoImplement),
         }
     }

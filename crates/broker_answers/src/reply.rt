@@ -1,15 +1,13 @@
 //! Replies to requests.
 
-ghost use Rattle.std.specs.Prelude.{◌≡◌, ◌<◌, ◌^◌, pos, IfOk, IsTrue, option_map};
+ghost use Rattle.std.specs.Prelude.{◌≡◌, ◌<◌, ◌^◌, pos, IfOk, IsTrue};
 ghost use Rattle.type_graph.specs.declared.width.Order.TheVariants.{Big};
 ghost use Rattle.type_graph.specs.declared.width.Width.TheVariants.{One};
 ghost use Rattle.type_graph.specs.Words.{word};
-ghost use Rattle.type_model.specs.Names.{IsNamed};
 ghost use Rattle.giop_types.specs.GiopNodes.{giop_nodes};
 ghost use Rattle.giop_types.specs.Named.{has_name};
 ghost use Rattle.giop_messages.specs.Messages.{asked_of};
 ghost use Rattle.broker_answers.specs.Replies.{IsSent, IsUnsendable, acceptance, exception_reply, reply_of, truth_number, truth_reply};
-ghost use Rattle.broker_answers.specs.inner.Sending.{IsSending};
 
 use crate::exception::SystemException;
 use giop::{Giop, GiopFault, ReplyStatus, Request};
@@ -21,6 +19,8 @@ use std::alloc::{AllocError, Global};
 #[derive(Clone, Copy)]
 pub(crate) struct Replier<'r, 'b> {
     pub(crate) giop: &'r Giop,
+    /// The types by which arguments and results are read and written.
+    pub(crate) accepted: &'r Accepted,
     pub(crate) alloc: Global,
     pub(crate) request: &'r Request<'b>,
 }
@@ -41,46 +41,31 @@ impl<'r, 'b> Replier<'r, 'b> {
         self.request.id
     }
 
-    /// The octets of a reply, if the tape is one of the node and they aren't too many.
-    pub(crate) fn send(
-        &self,
-        status: ReplyStatus,
-        accepted: &Accepted,
-        node: u32,
-        tape: &[u8],
-    ) -> Result<Option<Vec<u8>>, AllocError>
-        requires { IsNamed accepted.now.model.names node }
-        ensures { IfOk result (λ sent. IsSending (asked_of self.now.request.now) (reply_of status accepted.now.model.graph node tape.now) (option_map (λ o. o.items) sent)) }
+    /// A reply whose body is of the types of GIOP, and which can be sent.
+    #[tactic(auto, using(crate::proofs::Readings::giop_named))]
+    fn send_own(&self, status: ReplyStatus, node: u32, tape: &[u8]) -> Result<Vec<u8>, AllocError>
+        requires named { IsTrue (has_name node) }
+        requires sendable { IsUnsendable (asked_of self.now.request.now)
+            (reply_of status giop_nodes node tape.now) → ⊥ }
+        ensures { IfOk result (λ octets.
+            IsSent (asked_of self.now.request.now) (reply_of status giop_nodes node tape.now) octets.items) }
     {
-        // the rules of the giop, which a proof needs
-        let _model = accepted.table().model();
-        let body = Some((accepted, node, tape));
+        let body = Some((self.giop.table(), node, tape));
         let order = self.request.order;
         let id = self.request.id;
         match self.giop.write_reply(self.alloc, order, id, status, body) {
-            Ok(octets) => Ok(Some(octets)),
+            Ok(octets) => Ok(octets),
             Err(fault) => match fault {
                 GiopFault::NoMemory => Err(AllocError),
-                _ => Ok(None),
+                _ => unreachable!(),
             },
-        }
-    }
-
-    /// A reply whose body is of the types of GIOP, and which can be sent.
-    fn send_own(&self, status: ReplyStatus, node: u32, tape: &[u8]) -> Result<Vec<u8>, AllocError>
-        requires named { IsTrue (has_name node) }
-        requires sendable { IsUnsendable (asked_of self.now.request.now) (reply_of status giop_nodes node tape.now) → ⊥ }
-        ensures { IfOk result (λ octets. IsSent (asked_of self.now.request.now) (reply_of status giop_nodes node tape.now) octets.items) }
-    {
-        match self.send(status, self.giop.table(), node, tape)? {
-            Some(octets) => Ok(octets),
-            None => unreachable!(),
         }
     }
 
     /// The reply that a system exception was raised.
     pub(crate) fn exception(&self, exception: SystemException) -> Result<Vec<u8>, AllocError>
-        ensures { IfOk result (λ octets. IsSent (asked_of self.now.request.now) (exception_reply exception) octets.items) }
+        ensures { IfOk result (λ octets.
+            IsSent (asked_of self.now.request.now) (exception_reply exception) octets.items) }
     {
         // its size, which a proof needs
         let _id = self.number();

@@ -35,7 +35,8 @@ pub trait Servant {
         operation: u32,
         arguments: &[u8],
     ) -> Result<Outcome, AllocError>
-        ensures says { IfOk result (λ outcome. said_of outcome ≡ says self.old (call_of object operation arguments.now)) }
+        ensures says { IfOk result (λ outcome.
+            said_of outcome ≡ says self.old (call_of object operation arguments.now)) }
         ensures after { OnOk result (self.new ≡ after self.old (call_of object operation arguments.now)) }
         ensures kept { OnErr result (self.new ≡ self.old) };
 }

@@ -2,13 +2,13 @@
 
 ghost use Rattle.std.specs.Prelude.{◌≡◌, option_map, IfOk};
 ghost use Rattle.giop_messages.specs.Messages.{asked_of};
-ghost use Rattle.broker_answers.specs.Findings.{Finds, IsFor};
-ghost use Rattle.broker_answers.specs.inner.FindingSteps.{IsKnown, IsOwnAsked, finding_of};
+ghost use Rattle.broker_answers.specs.Findings.{Finds};
+ghost use Rattle.broker_answers.specs.inner.FindingSteps.{IsKnown, finding_of};
 ghost use Rattle.broker_answers.specs.Objects.{AreServed, interface_of, object_with as object_of, objects_of, served};
 
 use crate::exception::SystemException;
-use crate::finding::{Finding, call_asked, is_called, type_asked};
-use crate::objects::{Object, object_with, operation_named};
+use crate::finding::{AskedCall, Finding, is_called, read_body, type_asked};
+use crate::objects::{Object, operation_named, place_of};
 use giop::{Giop, Request};
 use position_checker::Accepted;
 use std::alloc::{AllocError, Global};
@@ -34,7 +34,8 @@ impl Model for Service {
 
     ghost view = { λ s. served s.accepted.model (objects_of s.objects.items) };
 
-    ghost invariant = { λ s. (s.giop ≡ giop_table) × IsModel s.accepted.model × AreServed s.accepted.model (objects_of s.objects.items) };
+    ghost invariant = { λ s. (s.giop ≡ giop_table) × IsModel s.accepted.model
+        × AreServed s.accepted.model (objects_of s.objects.items) };
 }
 
 impl Service {
@@ -55,7 +56,7 @@ impl Service {
         ensures { result ≡ object_of self.now.objects (option_map (λ k. k.items) key.now) }
     {
         match key {
-            Some(key) => object_with(self.objects.as_slice(), Some(key.as_slice())),
+            Some(key) => place_of(self.objects.as_slice(), key.as_slice()),
             None => None,
         }
     }
@@ -73,53 +74,11 @@ impl Service {
             .get(*interface as usize)
     }
 
-    /// What a request asks of the object at a place by an operation of its interface.
-    #[tactic(auto, using(crate::proofs::Lookups::request_named, crate::proofs::Cases::call_is))]
-    fn own_asked(
-        &self,
-        alloc: Global,
-        object: usize,
-        interface: &Interface,
-        request: &Request<'_>,
-    ) -> Result<Finding<'_>, AllocError>
-        ensures known { IfOk result (λ f. IsKnown self.now.model f) }
-        ensures asked { IfOk result (λ f. IsOwnAsked self.now object interface.now (asked_of request.now) (finding_of f)) }
-    {
-        let model = self.accepted.table().model();
-        match operation_named(model, interface, request.operation.as_slice()) {
-            Some((number, operation)) => {
-                call_asked(&self.accepted, alloc, object, number, operation, request)
-            }
-            None => Ok(Finding::Refuses(SystemException::BadOperation)),
-        }
-    }
-
-    /// What a request asks of the object at a place, which has this interface.
-    fn object_asked(
-        &self,
-        alloc: Global,
-        object: usize,
-        interface: &Interface,
-        request: &Request<'_>,
-    ) -> Result<Finding<'_>, AllocError>
-        requires { IsFor self.now (asked_of request.now) object interface.now }
-        ensures known { IfOk result (λ f. IsKnown self.now.model f) }
-        ensures finds { IfOk result (λ f. Finds self.now (asked_of request.now) (finding_of f)) }
-    {
-        if is_called(request, "_is_a") {
-            return type_asked(&self.giop, alloc, interface, request);
-        }
-        if is_called(request, "_non_existent") {
-            return Ok(Finding::Tells(false));
-        }
-        self.own_asked(alloc, object, interface, request)
-    }
-
-    /// What a request asks for.
+    /// What a request asks for: its object, the operation of that object's interface, the arguments.
     ///
     /// # Errors
     /// Want of memory.
-    #[tactic(auto, using(crate::proofs::Lookups::interface_there))]
+    #[tactic(auto, using(crate::proofs::Lookups::request_named))]
     pub(crate) fn find(
         &self,
         alloc: Global,
@@ -131,9 +90,28 @@ impl Service {
         let Some(object) = self.object_with(&request.key) else {
             return Ok(Finding::Refuses(SystemException::ObjectNotExist));
         };
-        match self.interface_of(object) {
-            Some(interface) => self.object_asked(alloc, object, interface, request),
-            None => unreachable!(),
+        let Some(interface) = self.interface_of(object) else {
+            unreachable!();
+        };
+        if is_called(request, "_is_a") {
+            return type_asked(&self.giop, alloc, interface, request);
+        }
+        if is_called(request, "_non_existent") {
+            return Ok(Finding::Tells(false));
+        }
+        let model = self.accepted.table().model();
+        let name = request.operation.as_slice();
+        let Some((number, operation)) = operation_named(model, interface, name) else {
+            return Ok(Finding::Refuses(SystemException::BadOperation));
+        };
+        match read_body(alloc, &self.accepted, operation.request, request)? {
+            Some(arguments) => Ok(Finding::Calls(AskedCall {
+                object,
+                number,
+                operation,
+                arguments,
+            })),
+            None => Ok(Finding::Refuses(SystemException::Marshal)),
         }
     }
 }

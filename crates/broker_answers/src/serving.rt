@@ -62,8 +62,10 @@ impl Service {
     ) -> Result<Answer, AllocError>
         requires message { IsMessage head.now octets.now }
         requires alone { head.now.goes_on ≡ false }
-        ensures served { IfOk result (λ answer. ServesRaw (acts S.says S.after) self.now (Some octets.now) servant.old answer.octets.items answer.closes servant.new) }
-        ensures given_up { OnErr result (MayMoveRaw (acts S.says S.after) self.now (Some octets.now) servant.old servant.new) }
+        ensures served { IfOk result (λ answer. ServesRaw (acts S.says S.after) self.now (Some octets.now)
+            servant.old answer.octets.items answer.closes servant.new) }
+        ensures given_up { OnErr result
+            (MayMoveRaw (acts S.says S.after) self.now (Some octets.now) servant.old servant.new) }
     {
         let message = match self.giop.read_whole(alloc, head, octets) {
             Ok(Some(message)) => message,
@@ -71,9 +73,20 @@ impl Service {
             Err(error) => return Err(error),
         };
         let closes = closes(&message);
-        match self.answer(alloc, servant, &message) {
-            Ok(octets) => Ok(Answer { octets, closes }),
-            Err(error) => Err(error),
+        match &message {
+            Message::Request(request) => Ok(Answer {
+                octets: self.answer_request(alloc, servant, request)?,
+                closes,
+            }),
+            Message::Locate(locate) => Ok(Answer {
+                octets: self.locate(alloc, locate)?,
+                closes,
+            }),
+            Message::Reply(_) => self.refuse(alloc),
+            Message::Cancel(_) | Message::CloseConnection | Message::MessageError => Ok(Answer {
+                octets: Vec::new(alloc),
+                closes,
+            }),
         }
     }
 }

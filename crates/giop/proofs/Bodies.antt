@@ -1,5 +1,5 @@
 -- Bodies, and the gap before them.
-use Rattle.std.proofs.Common.{◌≡◌, ℕ, zero, suc, ◌+◌, ◌<◌, List, [], ◌∷◌, ◌++◌, take, replicate, Option, Some, refl, ap, ◌∙◌, append_assoc, subst, arith}
+use Rattle.std.proofs.Common.{◌≡◌, ℕ, zero, suc, ◌+◌, ◌<◌, List, [], ◌∷◌, ◌++◌, take, replicate, Option, Some, Result, Ok, Err, IfOk, refl, ap, ◌∙◌, append_assoc, subst, arith}
 use Rattle.std.specs.Borrow.{Bor}
 use Rattle.type_graph.specs.declared.width.Order.{Order}
 use Rattle.type_graph.specs.declared.node.Node.{Node}
@@ -52,3 +52,12 @@ parts_joined none one two three head header gap short e f g h =
     let zeros : three ≡ two ++ replicate gap 0 = h ∙ ap (λ l. two ++ l) (zeros_taken gap short) in
     let first : one ≡ head = f ∙ ap (λ l. l ++ head) e in
     zeros ∙ ap (λ l. l ++ replicate gap 0) (g ∙ ap (λ l. l ++ header) first) ∙ simp append_assoc
+
+-- a body behind them
+pub all_joined : (front head header body all : List ℕ) (gap : ℕ) → front ≡ head ++ (header ++ replicate gap 0)
+    → all ≡ front ++ body → all ≡ head ++ (header ++ (replicate gap 0 ++ body))
+all_joined front head header body all gap e f = f ∙ ap (λ (l : List ℕ). l ++ body) e ∙ simp append_assoc
+
+pub if_ok : {A E : Type 0} (r : Result A E) (P Q : A → Type 0) → ((a : A) → P a → Q a) → IfOk r P → IfOk r Q
+if_ok (Ok a) P Q h p = h a p
+if_ok (Err e) P Q h p = tt

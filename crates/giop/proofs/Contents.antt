@@ -5,13 +5,12 @@ use Rattle.type_graph.specs.Value.{Tree}
 use Rattle.giop_messages.specs.declared.head.MessageKind.TheVariants as kinds
 use Rattle.giop_messages.specs.declared.head.Head.{Head}
 use Rattle.giop_messages.specs.Runs.{IsMessage}
-use Rattle.giop_messages.specs.declared.message.Request.{Request}
 use Rattle.giop_messages.specs.Headers.{IsKeyOf, request_tree, locate_tree}
-use Rattle.giop_messages.specs.Messages.{Asked, Answered, Sought, IsWhole, HasHeader, HasBody, IsRequest, IsReply, IsCancel, IsLocate, asked_of}
+use Rattle.giop_messages.specs.Messages.{Asked, Answered, Sought, IsWhole, HasHeader, HasBody, IsRequest, IsReply, IsCancel, IsLocate}
 use Rattle.giop.specs.declared.reading.header.RequestHeader.{RequestHeader}
 use Rattle.giop.specs.declared.reading.header.LocateHeader.{LocateHeader}
 use Rattle.giop.specs.inner.Tapes.{Begins, IsTapeAt}
-use Rattle.giop.specs.inner.Targets.{TellsTarget, HasFields, IsRequestHeader, IsLocateHeader}
+use Rattle.giop.specs.inner.Targets.{TellsTarget, IsRequestHeader, IsLocateHeader}
 
 pub none_then : {X : Type 0} (o : Option X) (P : Type 0) → o ≡ None → IfNone o P → P
 none_then None P e h = h
@@ -53,22 +52,22 @@ no_locate octets head is none sought s =
 
 -- ---- what is said
 
-pub request_said : (octets : List ℕ) (head : Head) (tape : List ℕ) (stop : ℕ) (header : RequestHeader) (request : Request)
+pub request_said : (octets : List ℕ) (head : Head) (tape : List ℕ) (stop : ℕ) (header : RequestHeader) (asked : Asked)
     → IsWhole kinds.Request octets head → IsTapeAt octets head.order 17 tape stop
     → ((value : Tree) (rest : List ℕ) → Begins 17 value tape rest → IsRequestHeader value header)
-    → HasFields request header head
-    → ((target : Tree) → TellsTarget target header.target → IsKeyOf target (asked_of request).key)
-    → HasBody octets stop request.body_at request.octets.now → IsRequest octets (asked_of request)
-request_said octets head tape stop header request is at told fields key body =
+    → asked.id ≡ header.id → asked.flags ≡ header.flags → asked.operation ≡ header.operation.now → asked.order ≡ head.order
+    → ((target : Tree) → TellsTarget target header.target → IsKeyOf target asked.key)
+    → HasBody octets stop asked.body_at asked.body → IsRequest octets asked
+request_said octets head tape stop header asked is at told id flags operation order key body =
     let h = told at.value _ at.begins in
     let value = h.is
-    ∙ ap (λ n. request_tree n header.flags h.reserved h.target header.operation.now h.contexts) (sym fields.id)
-    ∙ ap (λ n. request_tree request.id n h.reserved h.target header.operation.now h.contexts) (sym fields.flags)
-    ∙ ap (λ l. request_tree request.id request.flags h.reserved h.target l h.contexts) (sym fields.operation) in
+    ∙ ap (λ n. request_tree n header.flags h.reserved h.target header.operation.now h.contexts) (sym id)
+    ∙ ap (λ n. request_tree asked.id n h.reserved h.target header.operation.now h.contexts) (sym flags)
+    ∙ ap (λ l. request_tree asked.id asked.flags h.reserved h.target l h.contexts) (sym operation) in
     record {
       head = head;
       is = is;
-      order_is = fields.order;
+      order_is = order;
       reserved = h.reserved;
       target = h.target;
       contexts = h.contexts;

@@ -21,7 +21,7 @@ joined_is (Some there) head piece rest true e next =
 joined_is (Some there) head piece rest false e next =
     ap (λ (b : Bool). if b then Piece (added there piece) rest else Whole (added there piece) None rest) e
 
-fragment_placed : (run : Option (List ℕ)) (head : Head) (piece rest : List ℕ) → is_fragment head.kind ≡ true
+pub fragment_placed : (run : Option (List ℕ)) (head : Head) (piece rest : List ℕ) → is_fragment head.kind ≡ true
     → placed run head piece rest ≡ joined run head piece rest
 fragment_placed run head piece rest e =
     ap
@@ -29,7 +29,7 @@ fragment_placed run head piece rest e =
     else if head.goes_on then Piece (begun piece) rest else Whole piece (run_behind run head piece) rest)
     e
 
-message_placed : (run : Option (List ℕ)) (head : Head) (piece rest : List ℕ) (goes_on : Bool)
+pub message_placed : (run : Option (List ℕ)) (head : Head) (piece rest : List ℕ) (goes_on : Bool)
     → is_fragment head.kind ≡ false → head.goes_on ≡ goes_on
     → placed run head piece rest
     ≡ (if goes_on then Piece (begun piece) rest else Whole piece (run_behind run head piece) rest)
@@ -89,7 +89,7 @@ part_found run octets lent frame id fragment f e b l n =
 
 -- ---- whole messages
 
-whole_is : (run : Option (List ℕ)) (octets : List ℕ) (frame : Frame) → IsFrame run octets frame
+pub whole_is : (run : Option (List ℕ)) (octets : List ℕ) (frame : Frame) → IsFrame run octets frame
     → is_fragment frame.head.kind ≡ false → frame.head.goes_on ≡ false
     → front run octets
     ≡ Whole (take frame.len octets) (run_behind run frame.head (take frame.len octets)) (drop frame.len octets)

@@ -38,7 +38,8 @@ pub record SaysRequest (order : Order) (id flags : ℕ) (key operation : List �
   pub stops : IsEmpty body → length octets ≡ says.stop
 
 -- they say the reply with these fields
-pub record SaysReply (order : Order) (id : ℕ) (status : ReplyStatus) (body : Option Given) (octets : List ℕ) : Type 0 where
+pub record SaysReply (order : Order) (id : ℕ) (status : ReplyStatus) (body : Option Given) (octets : List ℕ)
+    : Type 0 where
   pub answered : Answered
   pub says : Says octets (Answers answered)
   pub id_is : answered.id ≡ id

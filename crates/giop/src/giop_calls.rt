@@ -67,7 +67,8 @@ impl Giop {
         key: &[u8],
     ) -> Result<Vec<u8>, ReferenceFault>
         ensures written { IfOk result (λ octets. IsProfile host.now port key.now octets.items) }
-        ensures refused { IfErr result (λ fault. OnlyIf fault ((octets : List ℕ) → IsProfile host.now port key.now octets → ⊥)) }
+        ensures refused { IfErr result (λ fault.
+            OnlyIf fault ((octets : List ℕ) → IsProfile host.now port key.now octets → ⊥)) }
     {
         object_references::profile(&self.types, alloc, host, port, key)
     }
@@ -79,7 +80,8 @@ impl Giop {
     /// `BadIor` where the id holds a zero, or a part is too long for its count. Want of memory.
     pub fn ior_to_text(&self, alloc: Global, ior: &Ior) -> Result<String, ReferenceFault>
         ensures text { IfOk result (λ text. IsTextOf (reference_of ior.now) (string_bytes text)) }
-        ensures refused { IfErr result (λ fault. OnlyIf fault ((text : List ℕ) → IsTextOf (reference_of ior.now) text → ⊥)) }
+        ensures refused { IfErr result (λ fault.
+            OnlyIf fault ((text : List ℕ) → IsTextOf (reference_of ior.now) text → ⊥)) }
     {
         object_references::ior_to_text(&self.types, alloc, ior)
     }
@@ -91,7 +93,8 @@ impl Giop {
     /// `BadIor` where the text spells no reference. Want of memory.
     pub fn ior_from_text(&self, alloc: Global, text: &str) -> Result<Ior, ReferenceFault>
         ensures found { IfOk result (λ ior. Spells text.now (reference_of ior)) }
-        ensures refused { IfErr result (λ fault. OnlyIf fault ((reference : Reference) → Spells text.now reference → ⊥)) }
+        ensures refused { IfErr result (λ fault.
+            OnlyIf fault ((reference : Reference) → Spells text.now reference → ⊥)) }
     {
         object_references::ior_from_text(&self.types, alloc, text)
     }

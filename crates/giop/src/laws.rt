@@ -14,7 +14,8 @@ ghost use Rattle.giop.specs.RoundTrips.{SaysReply, SaysRequest};
 pub fn written_request_is_said()
     ensures { (order : Order) (id flags : ℕ) (key operation : List ℕ) (body : Option Given) (octets : List ℕ)
         → length octets ≤ 12 + max_size
-        → IsWritten order 0 17 (request_tree id flags (octet_trees (0 ∷ 0 ∷ 0 ∷ [])) (key_target key) operation NoTree) body octets
+        → IsWritten order 0 17 (request_tree id flags (octet_trees (0 ∷ 0 ∷ 0 ∷ [])) (key_target key) operation NoTree)
+        body octets
         → SaysRequest order id flags key operation body octets }
 {}
 

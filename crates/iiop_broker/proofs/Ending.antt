@@ -1,8 +1,8 @@
 -- The end of a stream that was begun.
-use Rattle.std.proofs.Common.{◌≡◌, inr, ℕ, false, List, [], Some, None, Result, Ok, Err, sym, subst, ◌∙◌}
+use Rattle.std.proofs.Common.{◌≡◌, inr, ℕ, false, List, [], Some, None, Result, Ok, Err, refl, sym, subst, ◌∙◌}
 use Rattle.broker_answers.specs.Streams.{Stream, Closed}
 use Rattle.broker_answers.specs.Connections.{at}
-use Rattle.broker_answers.specs.Talk.{World, rests, Opens, Leaves, Ends as Leaving}
+use Rattle.broker_answers.specs.Talk.{World, rests, Opens, Leaves, Brings, Ends as Leaving}
 use Rattle.broker_answers.specs.Servants.{Acting}
 use Rattle.broker_answers.specs.Objects.{Served}
 use Rattle.iiop_broker.specs.declared.fault.BrokerFault.{BrokerFault}
@@ -52,6 +52,16 @@ end_is_taken acting served c broken.NoSuchConnection before after there r =
 end_is_taken acting served c broken.AlreadyThere before after there r = r.0
 end_is_taken acting served c broken.NoMemory before after there r = r
 end_is_taken acting served c broken.TooMany before after there r = r.0
+
+-- a piece is refused for memory alone where the connection is there
+pub piece_is_heard : {S : Type 0} (acting : Acting S) (served : Served) (c : ℕ) (octets : List ℕ) (fault : BrokerFault)
+    (before after : World S Stream) → (fault ≡ broken.NoMemory → ⊥) → IsThere c before.there
+    → IsRefused acting served before (Brings c octets) fault after → ⊥
+piece_is_heard acting served c octets broken.NoSuchConnection before after other there r =
+    let both : Some there.kept ≡ None = sym there.found ∙ r.0 in absurd (cc)
+piece_is_heard acting served c octets broken.AlreadyThere before after other there r = r.0
+piece_is_heard acting served c octets broken.NoMemory before after other there r = other refl
+piece_is_heard acting served c octets broken.TooMany before after other there r = r.0
 
 pub served_of : {S : Type 0} (acting : Acting S) (served : Served) (c reads : ℕ) (before begun now after : World S Stream)
     (silence silent : List ℕ) (from to : Ends) (result : Result (Unit {0}) StreamFault)

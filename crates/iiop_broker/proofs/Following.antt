@@ -1,11 +1,14 @@
 -- Messages served one after another.
-use Rattle.std.proofs.Common.{◌≡◌, ℕ, zero, suc, ◌+◌, drop, true, false, List, [], ◌∷◌, ◌++◌, refl, sym, ap, subst, ◌∙◌, append_assoc, append-nil, Result, Ok, Err, OnErr, arith}
-use Rattle.broker_answers.specs.Streams.{Raw, Cut, cut_of}
+use Rattle.std.proofs.Common.{◌≡◌, ℕ, zero, suc, ◌+◌, drop, true, false, List, [], ◌∷◌, ◌++◌, Option, refl, sym, ap, subst, ◌∙◌, append_assoc, append-nil, Result, Ok, Err, OnErr, arith}
+use Rattle.broker_answers.specs.Streams.{Raw, Cut, Open, cut_of}
 use Rattle.broker_answers.specs.Servants.{Acting}
 use Rattle.broker_answers.specs.Objects.{Served}
 use Rattle.broker_answers.specs.Serving.{Serves}
 use Rattle.broker_answers.proofs.ServedLists.{serves_then, serves_closed, moves_then, moved_of}
-use Rattle.iiop_broker.specs.inner.Progress.{Progress, Ended, Stopped, behind}
+use Rattle.iiop_broker.specs.declared.kept.Kept.{Kept}
+use Rattle.iiop_broker.specs.declared.kept.Kept.TheVariants as kepts
+use Rattle.iiop_broker.specs.Kept.{stream_of}
+use Rattle.iiop_broker.specs.inner.Progress.{Progress, Ended, IsHeard, Stopped, behind}
 
 pub progress_start : {S : Type 0} (acting : Acting S) (served : Served) (all : Cut) (before : S) (answer : List ℕ)
     → answer ≡ [] → Progress acting served all all before answer before
@@ -77,6 +80,25 @@ pub all_ended : {S : Type 0} (acting : Acting S) (served : Served) (all : List R
 all_ended acting served all before after answer p =
     subst (λ (raws : List Raw). Serves acting served raws before answer true after) (sym p.raws_are)
     (serves_closed acting served p.done p.left before after answer p.serves)
+
+-- what is behind them is kept
+pub heard_open : {S : Type 0} (acting : Acting S) (served : Served) (all : Cut) (run : Option (List ℕ)) (rest : List ℕ)
+    (before after : S) (answer : List ℕ) (kept : Kept)
+    → Progress acting served all (cut_of [] (Open run rest)) before answer after → stream_of kept ≡ Open run rest
+    → IsHeard acting served all before answer kept after
+heard_open acting served all run rest before after answer kept p is = record {
+  closed = false;
+  serves = all_served acting served all (cut_of [] (Open run rest)) before after answer refl p;
+  kept_is = is ∙ sym (ap (λ (c : Cut). c.left) p.cut_is);
+}
+
+pub heard_closed : {S : Type 0} (acting : Acting S) (served : Served) (all : Cut) (before after : S) (answer : List ℕ)
+    → Ended acting served all.raws before answer after → IsHeard acting served all before answer kepts.Closed after
+heard_closed acting served all before after answer p = record {
+  closed = true;
+  serves = all_ended acting served all.raws before after answer p;
+  kept_is = refl;
+}
 
 pub on_err : {A E : Type 0} (r : Result A E) (P : Type 0) → P → OnErr r P
 on_err (Ok a) P p = tt

@@ -6,7 +6,6 @@ use Rattle.broker_answers.specs.Talk.{World, rests, kept_or_shut}
 use Rattle.broker_answers.specs.Servants.{Acting}
 use Rattle.broker_answers.specs.Objects.{Served}
 use Rattle.iiop_broker.specs.Listed.{IsThere}
-use Rattle.iiop_broker.specs.declared.stream_piece.Sent.{Sent}
 use Rattle.iiop_broker.specs.Ends.{Gives, IsEmpty, written_with}
 use Rattle.iiop_broker.specs.AnsweredStreams.{AnsweredStream, GivenUp}
 use Rattle.iiop_broker.specs.Outcomes.{Ends, Finished, Unread, Unended, Unwritten, Unserved}
@@ -90,19 +89,19 @@ open_still acting served c others before octets answer true closed w stream tell
 open_still acting served c others before octets answer false closed w stream tells e = stream
 
 pub going_on : {S : Type 0} (acting : Acting S) (served : Served) (c : ℕ) (others : List (ℕ × Stream)) (before : S)
-    (start now after : Ends) (sent count : ℕ) (w w' : World S Stream) (piece : List ℕ) (s : Sent)
+    (start now after : Ends) (sent count : ℕ) (w w' : World S Stream) (piece : List ℕ) (n : ℕ) (shut : Bool)
     → Going acting served c others before start now sent count w → Gives now.left piece after.left → 0 < length piece
-    → IsSent acting served c w piece now.written s w' after.written → s.closed ≡ false
-    → Going acting served c others before start after (sent + s.octets) (count + 1) w'
-going_on acting served c others before start now after sent count w w' piece s going gives some is unshut = record {
+    → IsSent acting served c w piece now.written n shut w' after.written → shut ≡ false
+    → Going acting served c others before start after (sent + n) (count + 1) w'
+going_on acting served c others before start now after sent count w w' piece n shut going gives some is unshut = record {
   octets = going.octets ++ piece;
   answer = going.answer ++ is.answer;
-  stream = open_still acting served c others before (going.octets ++ piece) (going.answer ++ is.answer) is.answers.closes s.closed w'
+  stream = open_still acting served c others before (going.octets ++ piece) (going.answer ++ is.answer) is.answers.closes shut w'
       (stream_on acting served c others before going.octets going.answer piece is.answer w w' going.stream is.answers)
       is.closed.1 unshut;
   read = gives_then start.left now.left after.left going.octets piece going.read gives;
   wrote = wrote_then start.written now.written after.written going.answer is.answer going.wrote is.wrote;
-  sent_is = let so_far = going.sent_is in let n = is.count in omega (arith, so_far, n, length-append going.answer is.answer);
+  sent_is = let so_far = going.sent_is in let more = is.count in omega (arith, so_far, more, length-append going.answer is.answer);
   many = let m = going.many in omega (arith, m, some, length-append going.octets piece);
 }
 
@@ -125,11 +124,11 @@ all_read acting served c others before start now after sent count w got going gi
     }
 
 pub all_said : {S : Type 0} (acting : Acting S) (served : Served) (c : ℕ) (others : List (ℕ × Stream)) (before : S)
-    (start now after : Ends) (sent count : ℕ) (w w' : World S Stream) (piece : List ℕ) (s : Sent)
+    (start now after : Ends) (sent count : ℕ) (w w' : World S Stream) (piece : List ℕ) (n : ℕ) (closed : Bool)
     → Going acting served c others before start now sent count w → Gives now.left piece after.left
-    → IsSent acting served c w piece now.written s w' after.written → s.closed ≡ true
+    → IsSent acting served c w piece now.written n closed w' after.written → closed ≡ true
     → Finished (λ o a k. AnsweredStream acting served c others before o a k w') start after
-all_said acting served c others before start now after sent count w w' piece s going gives is shut =
+all_said acting served c others before start now after sent count w w' piece n closed going gives is shut =
     let stream =
     stream_on acting served c others before going.octets going.answer piece is.answer w w' going.stream is.answers in
     record {

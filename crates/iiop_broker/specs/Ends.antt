@@ -20,7 +20,8 @@ abbrev pub is_stuck : List ℕ → ℕ → Bool
 is_stuck octets n = nat_lt 0 (length octets) && nat_eq n 0
 
 -- so many of some octets were written, and then a write failed
-pub record IsUnsent (before : Option (List ℕ)) (octets : List ℕ) (n : ℕ) (after : Option (List ℕ)) (failure : Bool) : Type 0 where
+pub record IsUnsent (before : Option (List ℕ)) (octets : List ℕ) (n : ℕ) (after : Option (List ℕ)) (failure : Bool)
+    : Type 0 where
   pub within : n ≤ length octets
   pub written : after ≡ written_with before (take n octets)
   pub failed : failure ≡ true

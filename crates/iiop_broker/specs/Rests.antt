@@ -7,7 +7,8 @@ abbrev pub rest_of : History → Stream
 rest_of (Since octets) = (cut None octets).left
 rest_of Shut = Closed
 
--- what was said leads, where whole histories are kept, to the servant's state and the histories of just these connections
+-- what was said leads, where whole histories are kept, to the servant's state and the histories of just these
+-- connections
 pub record IsTalked {S : Type 0} (Serves : Serving S) (Moves : Moving S) (servant : S)
     (said : List (Event × List ℕ)) (after : World S Stream) : Type 0 where
   pub talked : World S History

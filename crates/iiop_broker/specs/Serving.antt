@@ -32,8 +32,8 @@ pub record IsOneMore {S : Type 0} (c : ℕ) (before after : World S Stream) (fro
   pub full : max_connections ≤ length before.there
   pub unchanged : Unchanged before after from to
 
--- It could, and this became of it: what was read was answered as one stream, however it came in pieces, and it isn't there
--- any more.
+-- It could, and this became of it: what was read was answered as one stream, however it came in pieces, and it isn't
+-- there any more.
 pub record IsRun {S : Type 0} (acting : Acting S) (served : Served) (c reads : ℕ) (before : World S Stream)
     (from : Ends) (result : Result (Unit {0}) StreamFault) (after : World S Stream) (to : Ends) : Type 0 where
   pub absent : at c before.there ≡ None
@@ -43,7 +43,8 @@ pub record IsRun {S : Type 0} (acting : Acting S) (served : Served) (c reads : �
 
 abbrev pub IsServed : {S : Type 0} → Acting S → Served → ℕ → ℕ → World S Stream
     → Ends → Result (Unit {0}) StreamFault → World S Stream → Ends → Type 0
-IsServed acting served c reads before from (Ok done) after to = IsRun acting served c reads before from (Ok done) after to
+IsServed acting served c reads before from (Ok done) after to =
+    IsRun acting served c reads before from (Ok done) after to
 IsServed acting served c reads before from (Err faults.AlreadyThere) after to = IsTwice c before after from to
 IsServed acting served c reads before from (Err faults.TooMany) after to = IsOneMore c before after from to
 IsServed acting served c reads before from (Err faults.ReadFailed) after to =

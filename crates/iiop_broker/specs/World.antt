@@ -34,7 +34,8 @@ IsStep acting served before event answer after =
 abbrev pub IsGivenUp : {S : Type 0} → Acting S → Served → World S Stream → Event → World S Stream → Type 0
 IsGivenUp acting served before (Begins c) after =
     (at c before.there ≡ None) × (length before.there < max_connections) × (after ≡ before)
-IsGivenUp acting served before (Brings c octets) after = (j : ℕ) × IsStep acting served before (GivesUp c octets j) [] after
+IsGivenUp acting served before (Brings c octets) after =
+    (j : ℕ) × IsStep acting served before (GivesUp c octets j) [] after
 IsGivenUp acting served before (GivesUp c octets j) after = ⊥
 IsGivenUp acting served before (Ends c) after = ⊥
 

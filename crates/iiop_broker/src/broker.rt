@@ -11,7 +11,7 @@ ghost use Rattle.iiop_broker.specs.World.{IsRefused, IsStep, broking, event_of};
 use crate::connections::{Connection, begin, end, is_closed, is_there};
 use crate::event::Event;
 use crate::fault::BrokerFault;
-use crate::piece::hear_piece;
+use crate::server::Server;
 use broker_answers::{Servant, Service};
 use giop::Giop;
 use position_checker::Accepted;
@@ -22,10 +22,8 @@ use std::marker::Model;
 /// what is served, the servant's state and the rest of each connection's stream.
 #[derive(Drop)]
 pub struct Broker<S> {
-    alloc: Global,
-    service: Service,
-    servant: S,
-    connections: Vec<Connection>,
+    pub(crate) server: Server<S>,
+    pub(crate) connections: Vec<Connection>,
 }
 
 impl<S> Model for Broker<S> {
@@ -35,7 +33,7 @@ impl<S> Model for Broker<S> {
 
     ghost Value = { Broking S };
 
-    ghost view = { λ b. broking b.service (world b.servant (streams_of b.connections.items)) };
+    ghost view = { λ b. broking b.server.service (world b.server.servant (streams_of b.connections.items)) };
 }
 
 impl<S: Servant> Broker<S> {
@@ -52,9 +50,11 @@ impl<S: Servant> Broker<S> {
         ensures { result ≡ broking (served accepted.model (objects_of objects.items)) (world servant []) }
     {
         Broker {
-            alloc,
-            service: Service::new(giop, accepted, objects),
-            servant,
+            server: Server {
+                alloc,
+                service: Service::new(giop, accepted, objects),
+                servant,
+            },
             connections: Vec::new(alloc),
         }
     }
@@ -82,25 +82,20 @@ impl<S: Servant> Broker<S> {
     /// changes nothing; at a piece its octets are given up, the servant was given the calls of some
     /// of its messages, and the connection is closed. An end wants no memory.
     pub fn step(&mut self, event: Event<'_>) -> Result<Vec<u8>, BrokerFault>
-        ensures answered { IfOk result (λ octets. IsStep (acts S.says S.after) self.old.served self.old.world (event_of event.entry) octets.items self.new.world) }
-        ensures refused { IfErr result (λ fault. IsRefused (acts S.says S.after) self.old.served self.old.world (event_of event.entry) fault self.new.world) }
+        ensures answered { IfOk result (λ octets. IsStep (acts S.says S.after) self.old.served self.old.world
+            (event_of event.entry) octets.items self.new.world) }
+        ensures refused { IfErr result (λ fault. IsRefused (acts S.says S.after) self.old.served self.old.world
+            (event_of event.entry) fault self.new.world) }
         ensures served { self.new.served ≡ self.old.served }
     {
         match event {
-            Event::Begin(c) => match begin(self.alloc, &mut self.connections, c) {
-                Ok(()) => Ok(Vec::new(self.alloc)),
+            Event::Begin(c) => match begin(self.server.alloc, &mut self.connections, c) {
+                Ok(()) => Ok(Vec::new(self.server.alloc)),
                 Err(fault) => Err(fault),
             },
-            Event::Piece(c, octets) => hear_piece(
-                &self.service,
-                self.alloc,
-                &mut self.servant,
-                &mut self.connections,
-                c,
-                octets,
-            ),
+            Event::Piece(c, octets) => self.hear_piece(c, octets),
             Event::End(c) => match end(&mut self.connections, c) {
-                Ok(()) => Ok(Vec::new(self.alloc)),
+                Ok(()) => Ok(Vec::new(self.server.alloc)),
                 Err(fault) => Err(fault),
             },
         }

@@ -83,7 +83,8 @@ pub(crate) fn exchange(connections: &mut Vec<Connection>, place: usize, c: u32, 
 #[tactic(auto, using(crate::proofs::Places::streams_removed))]
 fn remove_at(connections: &mut Vec<Connection>, place: usize)
     requires { place < length connections.old.items }
-    ensures { (c : ℕ) → IsPlace 0 c place (streams_of connections.old.items) → streams_of connections.new.items ≡ without c (streams_of connections.old.items) }
+    ensures { (c : ℕ) → IsPlace 0 c place (streams_of connections.old.items)
+        → streams_of connections.new.items ≡ without c (streams_of connections.old.items) }
 {
     connections.remove(place);
 }
@@ -96,7 +97,8 @@ pub(crate) fn begin(
     c: u32,
 ) -> Result<(), BrokerFault>
     ensures begun { OnOk result (IsBegun c (streams_of connections.old.items) (streams_of connections.new.items)) }
-    ensures refused { IfErr result (λ fault. IsNotBegun fault c (streams_of connections.old.items) (streams_of connections.new.items)) }
+    ensures refused { IfErr result (λ fault.
+        IsNotBegun fault c (streams_of connections.old.items) (streams_of connections.new.items)) }
 {
     match place_of(connections.as_slice(), c) {
         Some(_) => return Err(BrokerFault::AlreadyThere),
@@ -119,7 +121,8 @@ pub(crate) fn begin(
 #[tactic(auto, using(crate::proofs::Places::streams_below, crate::proofs::Places::at_place))]
 pub(crate) fn end(connections: &mut Vec<Connection>, c: u32) -> Result<(), BrokerFault>
     ensures left { OnOk result (IsLeft c (streams_of connections.old.items) (streams_of connections.new.items)) }
-    ensures refused { IfErr result (λ fault. IsNotLeft fault c (streams_of connections.old.items) (streams_of connections.new.items)) }
+    ensures refused { IfErr result (λ fault.
+        IsNotLeft fault c (streams_of connections.old.items) (streams_of connections.new.items)) }
 {
     match place_of(connections.as_slice(), c) {
         Some(place) => {

@@ -1,17 +1,18 @@
 //! One piece or message served.
 
-ghost use Rattle.std.specs.Prelude.{◌≡◌, false, IfOk, OnErr, None, Some};
-ghost use Rattle.giop_messages.specs.Runs.{IsMessage};
+ghost use Rattle.std.specs.Prelude.{◌≡◌, true, IfOk, OnErr};
+ghost use Rattle.giop_messages.specs.Framing.{is_fragment};
+ghost use Rattle.giop_messages.specs.Runs.{IsFrame};
 ghost use Rattle.broker_answers.specs.Streams.{cut};
-ghost use Rattle.broker_answers.specs.Answering.{MayMoveRaw};
 ghost use Rattle.broker_answers.specs.Servants.{acts};
 ghost use Rattle.iiop_broker.specs.inner.Progress.{Stopped};
-ghost use Rattle.iiop_broker.specs.inner.Turns.{IsServedTurn, IsTurnOf, IsTurned};
+ghost use Rattle.iiop_broker.specs.inner.Turns.{IsTurnOf, IsTurned};
 
-use crate::taking::{Taken, take_front};
-use broker_answers::{Answer, Servant, Service};
-use giop_messages::{Head, Run};
-use std::alloc::{AllocError, Global};
+use crate::runs::run_left;
+use crate::server::Server;
+use broker_answers::{Answer, Servant};
+use giop_messages::{Frame, Run, frame_in};
+use std::alloc::AllocError;
 
 /// What becomes of a stream by what stands at its front.
 #[derive(Drop)]
@@ -43,83 +44,82 @@ fn turned(answer: Answer, run: Option<Run>, len: usize) -> Turn
     }
 }
 
-/// Serves a whole message, behind which a run may be open.
-fn answer_whole<S: Servant>(
-    service: &Service,
-    alloc: Global,
-    servant: &mut S,
-    head: &Head,
-    message: &[u8],
-    run: Option<Run>,
-    len: usize,
-) -> Result<Turn, AllocError>
-    requires message { IsMessage head.now message.now }
-    requires alone { head.now.goes_on ≡ false }
-    ensures turned { IfOk result (λ turn. IsServedTurn (acts S.says S.after) service.now message.now run len servant.old turn servant.new) }
-    ensures given_up { OnErr result (MayMoveRaw (acts S.says S.after) service.now (Some message.now) servant.old servant.new) }
-{
-    match service.serve(alloc, servant, head, message) {
-        Ok(answer) => Ok(turned(answer, run, len)),
-        Err(error) => Err(error),
-    }
-}
-
-/// Serves the request that a run is.
-fn answer_run<S: Servant>(
-    service: &Service,
-    alloc: Global,
-    servant: &mut S,
-    run: &Run,
-    len: usize,
-) -> Result<Turn, AllocError>
-    ensures turned { IfOk result (λ turn. IsServedTurn (acts S.says S.after) service.now run.now None len servant.old turn servant.new) }
-    ensures given_up { OnErr result (MayMoveRaw (acts S.says S.after) service.now (Some run.now) servant.old servant.new) }
-{
-    let head = run.head();
-    answer_whole(service, alloc, servant, &head, run.octets(), None, len)
-}
-
-/// Serves what stands at the front of a stream while a run may be open.
-///
-/// # Errors
-/// Want of memory: the servant was given the message's call before, or it wasn't.
-pub(crate) fn take_turn<S: Servant>(
-    service: &Service,
-    alloc: Global,
-    servant: &mut S,
-    run: Option<Run>,
-    octets: &[u8],
-) -> Result<Turn, AllocError>
-    ensures turned { IfOk result (λ turn. IsTurned (acts S.says S.after) service.now run octets.now servant.old turn servant.new) }
-    ensures given_up { OnErr result (Stopped (acts S.says S.after) service.now (cut run octets.now).raws servant.old servant.new) }
-{
-    let taken = match take_front(alloc, run, octets) {
-        Ok(taken) => taken,
-        Err(error) => return Err(error),
-    };
-    match taken {
-        Taken::Nothing(run) => Ok(Turn::Waits(run)),
-        Taken::Broken(_) => match service.refuse(alloc) {
-            Ok(answer) => Ok(Turn::Ends(answer.octets)),
-            Err(error) => Err(error),
-        },
-        Taken::Piece { run, len } => Ok(Turn::Goes {
-            run: Some(run),
-            len,
-            answer: Vec::new(alloc),
-        }),
-        Taken::Message { frame, run } => {
-            let message = octets.split_at(frame.len).0;
-            answer_whole(
-                service,
-                alloc,
-                servant,
-                &frame.head,
-                message,
-                run,
-                frame.len,
-            )
+impl<S: Servant> Server<S> {
+    /// Takes the next piece of a run. With the last one the request that they are is served.
+    fn take_fragment(
+        &mut self,
+        run: Option<Run>,
+        frame: &Frame,
+        octets: &[u8],
+    ) -> Result<Turn, AllocError>
+        requires placed { IsFrame run octets.now frame.now }
+        requires fragment { is_fragment frame.now.head.kind ≡ true }
+        ensures turned { IfOk result (λ turn.
+            IsTurned (acts S.says S.after) self.old.service run octets.now self.old.servant turn self.new.servant) }
+        ensures given_up { OnErr result (Stopped (acts S.says S.after) self.old.service (cut run octets.now).raws
+            self.old.servant self.new.servant) }
+        ensures same { self.new.service ≡ self.old.service }
+    {
+        let Some(mut whole) = run else {
+            unreachable!();
+        };
+        whole.add(octets.split_at(frame.len).0)?;
+        if frame.head.goes_on {
+            return Ok(Turn::Goes {
+                run: Some(whole),
+                len: frame.len,
+                answer: Vec::new(self.alloc),
+            });
         }
-        Taken::Joined { run, len } => answer_run(service, alloc, servant, &run, len),
+        let head = whole.head();
+        match self
+            .service
+            .serve(self.alloc, &mut self.servant, &head, whole.octets())
+        {
+            Ok(answer) => Ok(turned(answer, None, frame.len)),
+            Err(error) => Err(error),
+        }
+    }
+
+    /// Serves what stands at the front of a stream while a run may be open.
+    ///
+    /// # Errors
+    /// Want of memory: the servant was given the message's call before, or it wasn't.
+    pub(crate) fn take_turn(&mut self, run: Option<Run>, octets: &[u8]) -> Result<Turn, AllocError>
+        ensures turned { IfOk result (λ turn.
+            IsTurned (acts S.says S.after) self.old.service run octets.now self.old.servant turn self.new.servant) }
+        ensures given_up { OnErr result (Stopped (acts S.says S.after) self.old.service (cut run octets.now).raws
+            self.old.servant self.new.servant) }
+        ensures same { self.new.service ≡ self.old.service }
+    {
+        let frame = match frame_in(run.as_ref(), octets) {
+            Ok(Some(frame)) => frame,
+            Ok(None) => return Ok(Turn::Waits(run)),
+            Err(_) => {
+                let answer = self.service.refuse(self.alloc)?;
+                return Ok(Turn::Ends(answer.octets));
+            }
+        };
+        if frame.head.is_fragment() {
+            return self.take_fragment(run, &frame, octets);
+        }
+        let piece = octets.split_at(frame.len).0;
+        if frame.head.goes_on {
+            let begun = Run::begin(self.alloc, piece)?;
+            let answer = Vec::new(self.alloc);
+            return Ok(Turn::Goes {
+                run: Some(begun),
+                len: frame.len,
+                answer,
+            });
+        }
+        let left = run_left(run, &frame.head, piece);
+        match self
+            .service
+            .serve(self.alloc, &mut self.servant, &frame.head, piece)
+        {
+            Ok(answer) => Ok(turned(answer, left, frame.len)),
+            Err(error) => Err(error),
+        }
     }
 }

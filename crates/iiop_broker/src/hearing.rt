@@ -1,86 +1,23 @@
 //! All messages of a stream that have come served.
 
 ghost use Rattle.std.specs.Prelude.{◌≡◌, ◌≤◌, length, drop, IfOk, OnErr};
-ghost use Rattle.broker_answers.specs.Streams.{cut};
+ghost use Rattle.broker_answers.specs.Streams.{Open, cut};
 ghost use Rattle.broker_answers.specs.Servants.{acts};
+ghost use Rattle.iiop_broker.specs.Kept.{stream_of};
 ghost use Rattle.iiop_broker.specs.inner.Progress.{IsHeard, Stopped};
-ghost use Rattle.iiop_broker.specs.inner.Turns.{IsFollowed};
 
-use crate::front::{Turn, take_turn};
+use crate::front::Turn;
 use crate::kept::Kept;
-use broker_answers::{Servant, Service};
+use crate::server::Server;
+use broker_answers::Servant;
 use giop_messages::Run;
-use std::alloc::{AllocError, Global};
+use std::alloc::AllocError;
 
 /// The answers, joined, and what is kept of the connection.
 #[derive(Drop)]
 pub(crate) struct Heard {
     pub(crate) answer: Vec<u8>,
     pub(crate) kept: Kept,
-}
-
-/// What is left of a stream.
-#[derive(Drop)]
-pub(crate) enum Left {
-    /// So many octets are seen to.
-    Open { run: Option<Run>, taken: usize },
-    Closed,
-}
-
-/// The answers, joined, and what is left of the stream.
-#[derive(Drop)]
-struct Followed {
-    answer: Vec<u8>,
-    left: Left,
-}
-
-/// Serves all messages at the front of a stream.
-fn follow<S: Servant>(
-    service: &Service,
-    alloc: Global,
-    servant: &mut S,
-    run: Option<Run>,
-    octets: &[u8],
-) -> Result<Followed, AllocError>
-    ensures followed { IfOk result (λ f. IsFollowed (acts S.says S.after) service.now (cut run octets.now) octets.now servant.old f.answer.items f.left servant.new) }
-    ensures given_up { OnErr result (Stopped (acts S.says S.after) service.now (cut run octets.now).raws servant.old servant.new) }
-{
-    let mut answer = Vec::new(alloc);
-    let mut open = run;
-    let mut at = 0;
-    while at < octets.len() {
-        match take_turn(service, alloc, servant, open, octets.split_at(at).1)? {
-            Turn::Waits(run) => {
-                return Ok(Followed {
-                    answer,
-                    left: Left::Open { run, taken: at },
-                });
-            }
-            Turn::Goes {
-                run,
-                len,
-                answer: more,
-            } => {
-                answer.extend_from_slice(more.as_slice())?;
-                open = run;
-                at += len;
-            }
-            Turn::Ends(more) => {
-                answer.extend_from_slice(more.as_slice())?;
-                return Ok(Followed {
-                    answer,
-                    left: Left::Closed,
-                });
-            }
-        }
-    }
-    Ok(Followed {
-        answer,
-        left: Left::Open {
-            run: open,
-            taken: at,
-        },
-    })
 }
 
 /// Takes octets away at the front.
@@ -93,38 +30,58 @@ fn remove_front(octets: &mut Vec<u8>, n: usize)
     octets.truncate(len - n);
 }
 
-/// Serves all messages at the front of a stream, and keeps what is behind them.
-///
-/// # Errors
-/// Want of memory: the servant was given the calls of some messages.
-pub(crate) fn hear<S: Servant>(
-    service: &Service,
-    alloc: Global,
-    servant: &mut S,
-    run: Option<Run>,
-    octets: Vec<u8>,
-) -> Result<Heard, AllocError>
-    ensures heard { IfOk result (λ heard. IsHeard (acts S.says S.after) service.now (cut run octets.items) servant.old heard.answer.items heard.kept servant.new) }
-    ensures given_up { OnErr result (Stopped (acts S.says S.after) service.now (cut run octets.items).raws servant.old servant.new) }
+/// What is kept of an open stream, so many octets of which are seen to.
+fn kept_behind(run: Option<Run>, mut octets: Vec<u8>, seen: usize) -> Kept
+    requires { seen ≤ length octets.items }
+    ensures { stream_of result ≡ Open run (drop seen octets.items) }
 {
-    let mut rest = octets;
-    let Followed { answer, left } = match follow(service, alloc, servant, run, rest.as_slice()) {
-        Ok(followed) => followed,
-        Err(error) => return Err(error),
-    };
-    match left {
-        Left::Open { run, taken } => {
-            if taken > 0 {
-                remove_front(&mut rest, taken);
+    if seen == 0 {
+        return Kept::Open { run, rest: octets };
+    }
+    remove_front(&mut octets, seen);
+    Kept::Open { run, rest: octets }
+}
+
+impl<S: Servant> Server<S> {
+    /// Serves all messages at the front of a stream, and keeps what is behind them.
+    ///
+    /// # Errors
+    /// Want of memory: the servant was given the calls of some messages.
+    pub(crate) fn hear(&mut self, run: Option<Run>, octets: Vec<u8>) -> Result<Heard, AllocError>
+        ensures heard { IfOk result (λ heard. IsHeard (acts S.says S.after) self.old.service (cut run octets.items)
+            self.old.servant heard.answer.items heard.kept self.new.servant) }
+        ensures given_up { OnErr result (Stopped (acts S.says S.after) self.old.service (cut run octets.items).raws
+            self.old.servant self.new.servant) }
+        ensures same { self.new.service ≡ self.old.service }
+    {
+        let mut answer = Vec::new(self.alloc);
+        let mut open = run;
+        let mut at = 0;
+        while at < octets.len() {
+            match self.take_turn(open, octets.as_slice().split_at(at).1)? {
+                Turn::Waits(run) => {
+                    let kept = kept_behind(run, octets, at);
+                    return Ok(Heard { answer, kept });
+                }
+                Turn::Goes {
+                    run,
+                    len,
+                    answer: more,
+                } => {
+                    answer.extend_from_slice(more.as_slice())?;
+                    open = run;
+                    at += len;
+                }
+                Turn::Ends(more) => {
+                    answer.extend_from_slice(more.as_slice())?;
+                    return Ok(Heard {
+                        answer,
+                        kept: Kept::Closed,
+                    });
+                }
             }
-            Ok(Heard {
-                answer,
-                kept: Kept::Open { run, rest },
-            })
         }
-        Left::Closed => Ok(Heard {
-            answer,
-            kept: Kept::Closed,
-        }),
+        let kept = kept_behind(open, octets, at);
+        Ok(Heard { answer, kept })
     }
 }

@@ -25,13 +25,15 @@ pub fn steps_are_the_talk<S: Servant>()
 /// of its whole stream, and the servant's state is that of the talk.
 pub fn steps_keep_the_rests<S: Servant>()
     ensures { (served : Served) (servant : S) (said : List (Event × List ℕ)) (after : World S Stream)
-        → Follows rests (Serves (acts S.says S.after) served) (Moves (acts S.says S.after) served) (world servant []) said after
+        → Follows rests (Serves (acts S.says S.after) served) (Moves (acts S.says S.after) served)
+        (world servant []) said after
         → IsTalked (Serves (acts S.says S.after) served) (Moves (acts S.says S.after) served) servant said after }
 {}
 
 /// No more connections than 64 are ever there.
 pub fn connections_are_few<S: Servant>()
     ensures { (served : Served) (servant after : S) (there : List (ℕ × Stream)) (said : List (Event × List ℕ))
-        → Follows rests (Serves (acts S.says S.after) served) (Moves (acts S.says S.after) served) (world servant []) said (world after there)
+        → Follows rests (Serves (acts S.says S.after) served) (Moves (acts S.says S.after) served)
+        (world servant []) said (world after there)
         → length there ≤ max_connections }
 {}

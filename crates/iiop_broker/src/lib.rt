@@ -15,11 +15,11 @@ pub mod laws;
 mod memory;
 mod piece;
 mod pieces;
+mod runs;
 mod sending;
+mod server;
 mod serving;
 mod stream_fault;
-mod stream_piece;
-mod taking;
 mod wire;
 
 pub use broker::Broker;

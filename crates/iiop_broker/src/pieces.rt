@@ -9,8 +9,9 @@ ghost use Rattle.iiop_broker.specs.inner.Running.{IsFresh, running, running_in_p
 
 use crate::broker::Broker;
 use crate::ends::{Input, Output};
+use crate::fault::BrokerFault;
+use crate::sending::send;
 use crate::stream_fault::StreamFault;
-use crate::stream_piece::{Trouble, serve_piece};
 use broker_answers::Servant;
 
 /// Serves what is read until all is read or the broker closes the connection.
@@ -22,8 +23,10 @@ pub(crate) fn serve_pieces<S: Servant, I: Input, O: Output>(
     reads: u64,
 ) -> Result<(), StreamFault>
     requires { IsFresh (acts S.says S.after) broker.old.served c broker.old.world }
-    ensures outcome { (others : List (ℕ × Stream)) (before : S) → AnsweredStream (acts S.says S.after) broker.old.served c others before [] [] false broker.old.world
-        → IsOutcome (running (acts S.says S.after) broker.old.served c others before broker.new.world) (running_in_part (acts S.says S.after) broker.old.served c others before broker.new.world) reads
+    ensures outcome { (others : List (ℕ × Stream)) (before : S)
+        → AnsweredStream (acts S.says S.after) broker.old.served c others before [] [] false broker.old.world
+        → IsOutcome (running (acts S.says S.after) broker.old.served c others before broker.new.world)
+        (running_in_part (acts S.says S.after) broker.old.served c others before broker.new.world) reads
         (ends (I.left reader.old) (O.written writer.old) (I.failure reader.old) (O.failure writer.old)) result
         (ends (I.left reader.new) (O.written writer.new) (I.failure reader.new) (O.failure writer.new)) }
     ensures served { broker.new.served ≡ broker.old.served }
@@ -37,20 +40,25 @@ pub(crate) fn serve_pieces<S: Servant, I: Input, O: Output>(
             Ok(n) => n,
             Err(_) => return Err(StreamFault::ReadFailed),
         };
-        match serve_piece(broker, c, buffer.as_slice().split_at(n).0, writer) {
-            Ok(piece) => {
-                if piece.closed {
-                    return Ok(());
-                }
-                sent += piece.octets as u128;
-            }
-            Err(Trouble::NoMemory) => return Err(StreamFault::NoMemory),
-            Err(Trouble::Stuck(n)) => {
+        let answer = match broker.hear_piece(c, buffer.as_slice().split_at(n).0) {
+            Ok(answer) => answer,
+            Err(fault) => match fault {
+                BrokerFault::NoMemory => return Err(StreamFault::NoMemory),
+                _ => unreachable!(),
+            },
+        };
+        match send(writer, answer.as_slice()) {
+            Ok(()) => {}
+            Err(n) => {
                 return Err(StreamFault::WriteFailed {
                     sent: sent + n as u128,
                 });
             }
         }
+        if broker.is_closed(c) {
+            return Ok(());
+        }
+        sent += answer.len() as u128;
         count += 1;
     }
     Err(StreamFault::ReadLimit)

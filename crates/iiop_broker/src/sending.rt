@@ -12,7 +12,8 @@ use crate::ends::Output;
 pub(crate) fn send<O: Output>(writer: &mut O, octets: &[u8]) -> Result<(), usize>
     ensures sent { OnOk result (O.written writer.new ≡ written_with (O.written writer.old) octets.now) }
     ensures sound { OnOk result (O.failure writer.new ≡ O.failure writer.old) }
-    ensures unsent { IfErr result (λ n. IsUnsent (O.written writer.old) octets.now n (O.written writer.new) (O.failure writer.new)) }
+    ensures unsent { IfErr result (λ n.
+        IsUnsent (O.written writer.old) octets.now n (O.written writer.new) (O.failure writer.new)) }
 {
     let mut sent = 0;
     while sent < octets.len() {

@@ -31,7 +31,8 @@ pub fn serve_stream_within<S: Servant, I: Input, O: Output>(
     requires reading { I.failure reader.old ≡ false }
     requires writing { O.failure writer.old ≡ false }
     ensures served { IsServed (acts S.says S.after) broker.old.served c reads broker.old.world
-        (ends (I.left reader.old) (O.written writer.old) (I.failure reader.old) (O.failure writer.old)) result broker.new.world
+        (ends (I.left reader.old) (O.written writer.old) (I.failure reader.old) (O.failure writer.old))
+        result broker.new.world
         (ends (I.left reader.new) (O.written writer.new) (I.failure reader.new) (O.failure writer.new)) }
     ensures same { broker.new.served ≡ broker.old.served }
 {
@@ -69,7 +70,8 @@ pub fn serve_stream<S: Servant, I: Input, O: Output>(
     requires reading { I.failure reader.old ≡ false }
     requires writing { O.failure writer.old ≡ false }
     ensures served { IsServed (acts S.says S.after) broker.old.served c 4294967296 broker.old.world
-        (ends (I.left reader.old) (O.written writer.old) (I.failure reader.old) (O.failure writer.old)) result broker.new.world
+        (ends (I.left reader.old) (O.written writer.old) (I.failure reader.old) (O.failure writer.old))
+        result broker.new.world
         (ends (I.left reader.new) (O.written writer.new) (I.failure reader.new) (O.failure writer.new)) }
     ensures same { broker.new.served ≡ broker.old.served }
 {

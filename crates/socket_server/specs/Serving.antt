@@ -12,13 +12,14 @@ use Rattle.socket_server.specs.Lines.{serving}
 use Rattle.socket_server.specs.Objects.{IsObjectFault, IsObjectOf}
 use Rattle.socket_server.specs.Visits.{AreServed}
 
--- Just so many connections came, and the object that the word names was served to each of them, by a keeper that had its
--- attributes as they are at first, and kept them from one to the next.
+-- Just so many connections came, and the object that the word names was served to each of them, by a keeper that had
+-- its attributes as they are at first, and kept them from one to the next.
 pub record IsDone (model : Parts) (word : List ℕ) (count : ℕ) (came came' : List Ends) : Type 0 where
   pub object : List ℕ × ℕ
   pub is : IsObjectOf model word object
   pub last : Keeping
-  pub served_all : AreServed (acts says after) (served model (object ∷ [])) count came (first_keeping model (object ∷ [])) came' last
+  pub served_all : AreServed (acts says after) (served model (object ∷ [])) count came
+      (first_keeping model (object ∷ [])) came' last
 
 -- the word names an object of an interface that is there
 pub record HasObject (model : Parts) (word : List ℕ) : Type 0 where

@@ -47,10 +47,12 @@ pub record IsOneMore {S : Type 0} (acting : Acting S) (served : Served) (came : 
   pub seen : IsSeen acting served from before end after
 
 -- what became of the next one
-abbrev pub IsVisit : {S : Type 0} → Acting S → Served → List Ends → S → Result (Unit {0}) Interruption → List Ends → S → Type 0
+abbrev pub IsVisit : {S : Type 0} → Acting S → Served → List Ends → S → Result (Unit {0}) Interruption → List Ends → S
+    → Type 0
 IsVisit acting served came before (Ok done) came' after = IsOneMore acting served came before (Ok tt) came' after
 IsVisit acting served came before (Err Unaccepted) came' after = (came' ≡ came) × (after ≡ before)
-IsVisit acting served came before (Err NoMemory) came' after = IsOneMore acting served came before (Err NoMemory) came' after
+IsVisit acting served came before (Err NoMemory) came' after =
+    IsOneMore acting served came before (Err NoMemory) came' after
 
 -- just so many came, and were served
 pub record AreServed {S : Type 0} (acting : Acting S) (served : Served) (count : ℕ)
@@ -70,7 +72,8 @@ pub record AreCut {S : Type 0} (acting : Acting S) (served : Served) (count : �
   pub served_before : AreServed acting served fewer came before came_before between
   pub last : IsVisit acting served came_before between (Err interruption) came' after
 
-abbrev pub IsSession : {S : Type 0} → Acting S → Served → ℕ → List Ends → S → Result (Unit {0}) Interruption → List Ends → S → Type 0
+abbrev pub IsSession : {S : Type 0} → Acting S → Served → ℕ → List Ends → S → Result (Unit {0}) Interruption
+    → List Ends → S → Type 0
 IsSession acting served count came before (Ok done) came' after = AreServed acting served count came before came' after
 IsSession acting served count came before (Err interruption) came' after =
     AreCut acting served count came before interruption came' after

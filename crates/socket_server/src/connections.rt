@@ -35,8 +35,8 @@ fn serve_next<S: Servant, L: Listener>(
     listener: &mut L,
 ) -> Result<(), Interruption>
     requires { broker.old.world.there ≡ [] }
-    ensures visit { IsVisit (acts S.says S.after) broker.old.served (L.came listener.old) broker.old.world.servant result
-        (L.came listener.new) broker.new.world.servant }
+    ensures visit { IsVisit (acts S.says S.after) broker.old.served (L.came listener.old) broker.old.world.servant
+        result (L.came listener.new) broker.new.world.servant }
     ensures alone { broker.new.world.there ≡ [] }
     ensures same { broker.new.served ≡ broker.old.served }
     ensures port { L.port listener.new ≡ L.port listener.old }
@@ -59,7 +59,8 @@ pub fn serve_connections<S: Servant, L: Listener>(
     count: u32,
 ) -> Result<(), Interruption>
     requires { broker.old.world.there ≡ [] }
-    ensures session { IsSession (acts S.says S.after) broker.old.served count (L.came listener.old) broker.old.world.servant result
+    ensures session { IsSession (acts S.says S.after) broker.old.served count (L.came listener.old)
+        broker.old.world.servant result
         (L.came listener.new) broker.new.world.servant }
     ensures alone { broker.new.world.there ≡ [] }
     ensures same { broker.new.served ≡ broker.old.served }

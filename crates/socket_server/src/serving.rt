@@ -52,7 +52,8 @@ fn serve_by<'a, S: Servant, L: Listener, W: Write>(
     options: &ServeOptions<'_>,
 ) -> Result<(), ServeFault<'a>>
     requires alone { broker.old.world.there ≡ [] }
-    ensures done { OnOk result (AreServed (acts S.says S.after) broker.old.served options.now.connections (L.came listener.old) broker.old.world.servant (L.came listener.new) broker.new.world.servant) }
+    ensures done { OnOk result (AreServed (acts S.says S.after) broker.old.served options.now.connections
+        (L.came listener.old) broker.old.world.servant (L.came listener.new) broker.new.world.servant) }
     ensures listens { OnOk result (L.port listener.new ≡ Some options.now.port) }
     ensures printed { OnOk result (Appends (W.contents out.old) (W.contents out.new) (serving options.now.port)) }
     ensures printing { IfErr result (IsLineOrNothing options.now.port (W.contents out.old) (W.contents out.new)) }
@@ -83,7 +84,8 @@ pub fn serve_at<'a, L: Listener, W: Write>(
     table: Accepted,
     options: &ServeOptions<'a>,
 ) -> Result<(), ServeFault<'a>>
-    ensures done { OnOk result (IsDone table.model options.now.object.now options.now.connections (L.came listener.old) (L.came listener.new)) }
+    ensures done { OnOk result (IsDone table.model options.now.object.now options.now.connections
+        (L.came listener.old) (L.came listener.new)) }
     ensures listens { OnOk result (L.port listener.new ≡ Some options.now.port) }
     ensures printed { OnOk result (Appends (W.contents out.old) (W.contents out.new) (serving options.now.port)) }
     ensures refused { IfErr result (IsFaultOf table.model options.now.object.now) }
@@ -108,7 +110,8 @@ pub fn serve<'a, R: Net + AllocGlobal, W: Write>(
     table: Accepted,
     options: &ServeOptions<'a>,
 ) -> Result<(), ServeFault<'a>>
-    ensures done { OnOk result (IsDone table.model options.now.object.now options.now.connections [] (replicate options.now.connections untold)) }
+    ensures done { OnOk result (IsDone table.model options.now.object.now options.now.connections []
+        (replicate options.now.connections untold)) }
     ensures printed { OnOk result (Appends (W.contents out.old) (W.contents out.new) (serving options.now.port)) }
     ensures refused { IfErr result (IsFaultOf table.model options.now.object.now) }
     ensures printing { IfErr result (IsLineOrNothing options.now.port (W.contents out.old) (W.contents out.new)) }

@@ -62,7 +62,8 @@ pub record HasNoOperation (served : Served) (interface : Interface) (asked : Ask
   pub finding_is : finding ≡ Refuses BadOperation
 
 -- it has
-pub record HasOperation (served : Served) (object : ℕ) (interface : Interface) (asked : Asked) (finding : Finding) : Type 0 where
+pub record HasOperation (served : Served) (object : ℕ) (interface : Interface) (asked : Asked) (finding : Finding)
+    : Type 0 where
   pub number : ℕ
   pub operation : Operation
   pub is : IsNamedOperation served.model interface asked.operation number operation

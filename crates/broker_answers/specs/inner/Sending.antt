@@ -1,5 +1,5 @@
 -- What is told of a reply that was to be sent.
-use Rattle.std.specs.Prelude.{◌≡◌, ℕ, ◌⊎◌, List, Option, Some, None, slice_get}
+use Rattle.std.specs.Prelude.{◌≡◌, ℕ, ◌⊎◌, List, None, slice_get}
 use Rattle.type_model.specs.declared.signatures.Exception.{Exception}
 use Rattle.type_model.specs.declared.signatures.Operation.{Operation}
 use Rattle.type_model.specs.ModelRules.{Parts}
@@ -7,11 +7,6 @@ use Rattle.giop_types.specs.TapeParts.{IsCounted}
 use Rattle.broker_answers.specs.declared.exception.SystemException.TheVariants.{Internal, Unknown}
 use Rattle.giop_messages.specs.Messages.{Asked}
 use Rattle.broker_answers.specs.Replies.{Reply, IsSent, IsThrown, IsUnsendable, exception_reply, throw}
-
--- its octets, or that there are none
-abbrev pub IsSending : Asked → Reply → Option (List ℕ) → Type 0
-IsSending asked reply (Some octets) = IsSent asked reply octets
-IsSending asked reply None = IsUnsendable asked reply
 
 -- none could be sent, and so the exception that tells it is
 pub record IsFailure (asked : Asked) (reply : Reply) (octets : List ℕ) : Type 0 where
@@ -35,7 +30,8 @@ IsThrowing model asked exception tape octets =
     IsCountedThrow model asked exception tape octets ⊎ IsUncounted asked exception octets
 
 -- one of the list was thrown
-pub record IsListed (model : Parts) (asked : Asked) (operation : Operation) (place : ℕ) (tape octets : List ℕ) : Type 0 where
+pub record IsListed (model : Parts) (asked : Asked) (operation : Operation) (place : ℕ) (tape octets : List ℕ)
+    : Type 0 where
   pub exception : Exception
   pub thrown : IsThrown model operation place exception
   pub throwing : IsThrowing model asked exception tape octets

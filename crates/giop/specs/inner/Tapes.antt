@@ -32,8 +32,8 @@ pub record TaggedFront (tape : List ℕ) (profile : ℕ × List ℕ) (rest : Lis
   pub front : tape ≡ tagged profile ++ rest
 
 -- a place among the profiles of an object reference, the reference, and then the rest
-pub record SelectedFront (tape : List ℕ) (selected : ℕ) (type_id : List ℕ) (profiles : List (ℕ × List ℕ)) (rest : List ℕ)
-    : Type 0 where
+pub record SelectedFront (tape : List ℕ) (selected : ℕ) (type_id : List ℕ) (profiles : List (ℕ × List ℕ))
+    (rest : List ℕ) : Type 0 where
   pub small : selected < 2 ^ 32
   pub short : IsCounted type_id
   pub are : AreTagged profiles

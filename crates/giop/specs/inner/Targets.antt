@@ -3,8 +3,6 @@ use Rattle.std.specs.Prelude.{◌≡◌, ℕ, List, Option, Some, None}
 use Rattle.type_graph.specs.Value.{Tree, Trees}
 use Rattle.giop_types.specs.TapeParts.{pair_of}
 use Rattle.giop_messages.specs.Headers.{IsKeyOf, request_tree, reply_tree, locate_tree, number_of}
-use Rattle.giop_messages.specs.declared.head.Head.{Head}
-use Rattle.giop_messages.specs.declared.message.Request.{Request}
 use Rattle.giop.specs.inner.Tapes.{IsIn}
 use Rattle.giop.specs.declared.reading.target.Target.{Target}
 use Rattle.giop.specs.declared.reading.target.Target.TheVariants.{Key, Profile, Nothing}
@@ -36,10 +34,3 @@ pub record IsLocateHeader (value : Tree) (header : LocateHeader) : Type 0 where
   pub target : Tree
   pub is : value ≡ locate_tree header.id target
   pub tells : TellsTarget target header.target
-
--- a request with the fields of a header
-pub record HasFields (request : Request) (header : RequestHeader) (head : Head) : Type 0 where
-  pub id : request.id ≡ header.id
-  pub flags : request.flags ≡ header.flags
-  pub operation : request.operation.items ≡ header.operation.now
-  pub order : request.order ≡ head.order

@@ -38,8 +38,10 @@ pub(crate) struct LocateHeader<'t> {
 
 /// The octets behind the reserved ones.
 fn skip_reserved(tape: &[u8]) -> Option<&[u8]>
-    ensures found { IfSome result (λ rest. (reserved address : List ℕ) → length reserved ≡ 3 → tape.now ≡ reserved ++ address → rest.now ≡ address) }
-    ensures refused { IfNone result ((reserved address : List ℕ) → length reserved ≡ 3 → tape.now ≡ reserved ++ address → ⊥) }
+    ensures found { IfSome result (λ rest. (reserved address : List ℕ)
+        → length reserved ≡ 3 → tape.now ≡ reserved ++ address → rest.now ≡ address) }
+    ensures refused { IfNone result ((reserved address : List ℕ)
+        → length reserved ≡ 3 → tape.now ≡ reserved ++ address → ⊥) }
 {
     if tape.len() < 3 {
         return None;
@@ -49,8 +51,10 @@ fn skip_reserved(tape: &[u8]) -> Option<&[u8]>
 
 /// The header of a request at the front of a tape.
 pub(crate) fn request_header(alloc: Global, tape: &[u8]) -> Result<RequestHeader<'_>, TapeFault>
-    ensures found { IfOk result (λ header. (value : Tree) (rest : List ℕ) → Begins 17 value tape.now rest → IsRequestHeader value header) }
-    ensures refused { IfErr result (λ fault. RefusesReading fault ((value : Tree) (rest : List ℕ) → Begins 17 value tape.now rest → ⊥)) }
+    ensures found { IfOk result (λ header. (value : Tree) (rest : List ℕ)
+        → Begins 17 value tape.now rest → IsRequestHeader value header) }
+    ensures refused { IfErr result (λ fault. RefusesReading fault
+        ((value : Tree) (rest : List ℕ) → Begins 17 value tape.now rest → ⊥)) }
 {
     let Some((id, behind)) = split_u32(tape) else {
         return Err(TapeFault::NotATape);
@@ -94,7 +98,8 @@ fn status_of(number: u32) -> Option<Status>
 
 /// The header of a reply at the front of a tape.
 pub(crate) fn reply_header(tape: &[u8]) -> Option<ReplyHeader>
-    ensures found { IfSome result (λ header. (value : Tree) (rest : List ℕ) → Begins 19 value tape.now rest → IsReplyHeader value header) }
+    ensures found { IfSome result (λ header. (value : Tree) (rest : List ℕ)
+        → Begins 19 value tape.now rest → IsReplyHeader value header) }
     ensures refused { IfNone result ((value : Tree) (rest : List ℕ) → Begins 19 value tape.now rest → ⊥) }
 {
     let Some((id, behind)) = split_u32(tape) else {
@@ -111,7 +116,8 @@ pub(crate) fn reply_header(tape: &[u8]) -> Option<ReplyHeader>
 
 /// The number in the header of a cancel request at the front of a tape.
 pub(crate) fn cancel_header(tape: &[u8]) -> Option<u32>
-    ensures found { IfSome result (λ id. (value : Tree) (rest : List ℕ) → Begins 22 value tape.now rest → value ≡ cancel_tree id) }
+    ensures found { IfSome result (λ id. (value : Tree) (rest : List ℕ)
+        → Begins 22 value tape.now rest → value ≡ cancel_tree id) }
     ensures refused { IfNone result ((value : Tree) (rest : List ℕ) → Begins 22 value tape.now rest → ⊥) }
 {
     match split_u32(tape) {
@@ -122,8 +128,10 @@ pub(crate) fn cancel_header(tape: &[u8]) -> Option<u32>
 
 /// The header of a locate request at the front of a tape.
 pub(crate) fn locate_header(alloc: Global, tape: &[u8]) -> Result<LocateHeader<'_>, TapeFault>
-    ensures found { IfOk result (λ header. (value : Tree) (rest : List ℕ) → Begins 20 value tape.now rest → IsLocateHeader value header) }
-    ensures refused { IfErr result (λ fault. RefusesReading fault ((value : Tree) (rest : List ℕ) → Begins 20 value tape.now rest → ⊥)) }
+    ensures found { IfOk result (λ header. (value : Tree) (rest : List ℕ)
+        → Begins 20 value tape.now rest → IsLocateHeader value header) }
+    ensures refused { IfErr result (λ fault. RefusesReading fault
+        ((value : Tree) (rest : List ℕ) → Begins 20 value tape.now rest → ⊥)) }
 {
     let Some((id, behind)) = split_u32(tape) else {
         return Err(TapeFault::NotATape);

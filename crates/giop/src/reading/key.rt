@@ -25,7 +25,8 @@ pub(crate) fn key_of(
     alloc: Global,
     target: Target<'_>,
 ) -> Result<Option<Vec<u8>>, AllocError>
-    ensures { IfOk result (λ key. (tree : Tree) → TellsTarget tree target.entry → IsKeyOf tree (option_map (λ k. k.items) key)) }
+    ensures { IfOk result (λ key. (tree : Tree)
+        → TellsTarget tree target.entry → IsKeyOf tree (option_map (λ k. k.items) key)) }
 {
     match target {
         Target::Key(key) => Ok(Some(copy(alloc, key)?)),

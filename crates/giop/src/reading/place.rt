@@ -7,34 +7,35 @@ ghost use Rattle.giop_messages.specs.Messages.{HasBody, HasHeader};
 ghost use Rattle.giop.specs.inner.Tapes.{IsTapeAt};
 
 use crate::gap::gap_at;
+use crate::reading::message::Reading;
 use giop_messages::HEAD_LEN;
-use giop_types::GiopTypes;
 use program_runner::RunFault;
-use std::alloc::{AllocError, Global};
-use type_graph::Order;
+use std::alloc::AllocError;
 
-/// The tape of the header behind the head, and the place where it ends; none where no header of
-/// the node stands there.
-pub(crate) fn header_tape(
-    types: &GiopTypes,
-    alloc: Global,
-    node: u32,
-    order: Order,
-    octets: &[u8],
-) -> Result<Option<(Vec<u8>, usize)>, AllocError>
-    requires named { IsTrue (has_name node) }
-    requires long { 12 ≤ length octets.now }
-    ensures found { IfOk result (λ o. IfSome o (λ r. IsTapeAt octets.now order node r.0.items r.1)) }
-    ensures within { IfOk result (λ o. IfSome o (λ r. r.1 ≤ length octets.now)) }
-    ensures refused { IfOk result (λ o. IfNone o ((value : Tree) (stop : ℕ) → HasHeader octets.now order node value stop → ⊥)) }
-{
-    let behind = octets.split_at(HEAD_LEN).1;
-    match types.read(alloc, node, order, HEAD_LEN as u64, behind) {
-        Ok((tape, taken)) => Ok(Some((tape, HEAD_LEN + taken))),
-        Err(fault) => match fault {
-            RunFault::NoMemory => Err(AllocError),
-            _ => Ok(None),
-        },
+impl<'r, 'b> Reading<'r, 'b> {
+    /// The tape of the header behind the head, and the place where it ends; none where no header of
+    /// the node stands there.
+    pub(crate) fn header_tape(&self, node: u32) -> Result<Option<(Vec<u8>, usize)>, AllocError>
+        requires named { IsTrue (has_name node) }
+        requires long { 12 ≤ length self.now.octets.now }
+        ensures found { IfOk result (λ o. IfSome o (λ r.
+            IsTapeAt self.now.octets.now self.now.head.now.order node r.0.items r.1)) }
+        ensures within { IfOk result (λ o. IfSome o (λ r. r.1 ≤ length self.now.octets.now)) }
+        ensures refused { IfOk result (λ o. IfNone o ((value : Tree) (stop : ℕ)
+            → HasHeader self.now.octets.now self.now.head.now.order node value stop → ⊥)) }
+    {
+        let behind = self.octets.split_at(HEAD_LEN).1;
+        let order = self.head.order;
+        match self
+            .types
+            .read(self.alloc, node, order, HEAD_LEN as u64, behind)
+        {
+            Ok((tape, taken)) => Ok(Some((tape, HEAD_LEN + taken))),
+            Err(fault) => match fault {
+                RunFault::NoMemory => Err(AllocError),
+                _ => Ok(None),
+            },
+        }
     }
 }
 

@@ -34,8 +34,10 @@ pub(crate) struct BodyStart<'t> {
 
 /// The version, and what stands behind it.
 fn split_version(tape: &[u8]) -> Option<(u8, u8, &[u8])>
-    ensures found { IfSome result (λ r. (r.0 < 2 ^ 8) × (r.1 < 2 ^ 8) × (tape.now ≡ word Big One (pos r.0) ++ (word Big One (pos r.1) ++ r.2.now))) }
-    ensures refused { IfNone result ((m n : ℕ) (rest : List ℕ) → tape.now ≡ word Big One (pos m) ++ (word Big One (pos n) ++ rest) → ⊥) }
+    ensures found { IfSome result (λ r. (r.0 < 2 ^ 8) × (r.1 < 2 ^ 8)
+        × (tape.now ≡ word Big One (pos r.0) ++ (word Big One (pos r.1) ++ r.2.now))) }
+    ensures refused { IfNone result ((m n : ℕ) (rest : List ℕ)
+        → tape.now ≡ word Big One (pos m) ++ (word Big One (pos n) ++ rest) → ⊥) }
 {
     let Some((major, behind)) = split_u8(tape) else {
         return None;
@@ -65,8 +67,10 @@ fn split_key_behind(tape: &[u8]) -> Option<&[u8]>
 
 /// How the body of a profile begins, whose tape this is.
 fn body_start(tape: &[u8]) -> Option<BodyStart<'_>>
-    ensures found { IfSome result (λ start. (later : Bool) (value : Tree) (rest : List ℕ) → Begins (body_node (minor_of later)) value tape.now rest → IsBodyStart later value start) }
-    ensures refused { IfNone result ((later : Bool) (value : Tree) (rest : List ℕ) → Begins (body_node (minor_of later)) value tape.now rest → ⊥) }
+    ensures found { IfSome result (λ start. (later : Bool) (value : Tree) (rest : List ℕ)
+        → Begins (body_node (minor_of later)) value tape.now rest → IsBodyStart later value start) }
+    ensures refused { IfNone result ((later : Bool) (value : Tree) (rest : List ℕ)
+        → Begins (body_node (minor_of later)) value tape.now rest → ⊥) }
 {
     let Some((major, minor, behind)) = split_version(tape) else {
         return None;
@@ -87,7 +91,8 @@ fn tape_in(
 ) -> Result<Option<Vec<u8>>, AllocError>
     requires { IsTrue (has_name node) }
     ensures found { IfOk result (λ o. IfSome o (λ tape. IsTapeIn octets.now order node tape.items)) }
-    ensures refused { IfOk result (λ o. IfNone o ((value : Tree) (front rest : List ℕ) → octets.now ≡ front ++ rest → Holds (reading order) node 1 value front → ⊥)) }
+    ensures refused { IfOk result (λ o. IfNone o ((value : Tree) (front rest : List ℕ)
+        → octets.now ≡ front ++ rest → Holds (reading order) node 1 value front → ⊥)) }
 {
     match types.read(alloc, node, order, 1, octets) {
         Ok((tape, _)) => Ok(Some(tape)),

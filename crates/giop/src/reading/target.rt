@@ -24,8 +24,10 @@ pub(crate) enum Target<'t> {
 
 /// What stands behind the discriminator of a target by its key.
 fn split_key(tape: &[u8]) -> Result<(Target<'_>, &[u8]), TapeFault>
-    ensures found { IfOk result (λ r. (target : Tree) (rest : List ℕ) → BeginsBehind 0 target tape.now rest → TellsTarget target r.0 × (rest ≡ r.1.now)) }
-    ensures refused { IfErr result (λ fault. RefusesReading fault ((target : Tree) (rest : List ℕ) → BeginsBehind 0 target tape.now rest → ⊥)) }
+    ensures found { IfOk result (λ r. (target : Tree) (rest : List ℕ)
+        → BeginsBehind 0 target tape.now rest → TellsTarget target r.0 × (rest ≡ r.1.now)) }
+    ensures refused { IfErr result (λ fault. RefusesReading fault
+        ((target : Tree) (rest : List ℕ) → BeginsBehind 0 target tape.now rest → ⊥)) }
 {
     match split_octets(tape) {
         Some((key, rest)) => Ok((Target::Key(key), rest)),
@@ -35,8 +37,10 @@ fn split_key(tape: &[u8]) -> Result<(Target<'_>, &[u8]), TapeFault>
 
 /// What stands behind the discriminator of a target by a profile.
 fn split_profile(tape: &[u8]) -> Result<(Target<'_>, &[u8]), TapeFault>
-    ensures found { IfOk result (λ r. (target : Tree) (rest : List ℕ) → BeginsBehind 1 target tape.now rest → TellsTarget target r.0 × (rest ≡ r.1.now)) }
-    ensures refused { IfErr result (λ fault. RefusesReading fault ((target : Tree) (rest : List ℕ) → BeginsBehind 1 target tape.now rest → ⊥)) }
+    ensures found { IfOk result (λ r. (target : Tree) (rest : List ℕ)
+        → BeginsBehind 1 target tape.now rest → TellsTarget target r.0 × (rest ≡ r.1.now)) }
+    ensures refused { IfErr result (λ fault. RefusesReading fault
+        ((target : Tree) (rest : List ℕ) → BeginsBehind 1 target tape.now rest → ⊥)) }
 {
     match split_tagged(tape) {
         Some((profile, rest)) => Ok((Target::Profile(profile), rest)),
@@ -46,8 +50,10 @@ fn split_profile(tape: &[u8]) -> Result<(Target<'_>, &[u8]), TapeFault>
 
 /// What stands behind the discriminator of a target by a profile of an object reference.
 fn split_reference(alloc: Global, tape: &[u8]) -> Result<(Target<'_>, &[u8]), TapeFault>
-    ensures found { IfOk result (λ r. (target : Tree) (rest : List ℕ) → BeginsBehind 2 target tape.now rest → TellsTarget target r.0 × (rest ≡ r.1.now)) }
-    ensures refused { IfErr result (λ fault. RefusesReading fault ((target : Tree) (rest : List ℕ) → BeginsBehind 2 target tape.now rest → ⊥)) }
+    ensures found { IfOk result (λ r. (target : Tree) (rest : List ℕ)
+        → BeginsBehind 2 target tape.now rest → TellsTarget target r.0 × (rest ≡ r.1.now)) }
+    ensures refused { IfErr result (λ fault. RefusesReading fault
+        ((target : Tree) (rest : List ℕ) → BeginsBehind 2 target tape.now rest → ⊥)) }
 {
     let Some((selected, behind)) = split_u32(tape) else {
         return Err(TapeFault::NotATape);
@@ -70,8 +76,10 @@ fn split_reference(alloc: Global, tape: &[u8]) -> Result<(Target<'_>, &[u8]), Ta
 /// # Errors
 /// `NotATape` where none stands there. Want of memory.
 pub(crate) fn split_target(alloc: Global, tape: &[u8]) -> Result<(Target<'_>, &[u8]), TapeFault>
-    ensures found { IfOk result (λ r. (target : Tree) (rest : List ℕ) → Begins 16 target tape.now rest → TellsTarget target r.0 × (rest ≡ r.1.now)) }
-    ensures refused { IfErr result (λ fault. RefusesReading fault ((target : Tree) (rest : List ℕ) → Begins 16 target tape.now rest → ⊥)) }
+    ensures found { IfOk result (λ r. (target : Tree) (rest : List ℕ)
+        → Begins 16 target tape.now rest → TellsTarget target r.0 × (rest ≡ r.1.now)) }
+    ensures refused { IfErr result (λ fault. RefusesReading fault
+        ((target : Tree) (rest : List ℕ) → Begins 16 target tape.now rest → ⊥)) }
 {
     let Some((label, behind)) = split_u16(tape) else {
         return Err(TapeFault::NotATape);

@@ -9,7 +9,7 @@ ghost use Rattle.giop_messages.specs.Written.{IsWritten};
 ghost use Rattle.giop.specs.Refusal.{IsNotWritten};
 
 use crate::giop_calls::Giop;
-use crate::writing::message::write_message;
+use crate::writing::message::Writing;
 use giop_messages::GiopFault;
 use giop_types::{LOCATE_REPLY_HEADER, push_u32};
 use std::alloc::{AllocError, Global};
@@ -20,7 +20,8 @@ const LOCATE_REPLY: u8 = 4;
 
 /// A number and a status.
 fn header_tape(alloc: Global, id: u32, here: bool) -> Result<Vec<u8>, AllocError>
-    ensures { IfOk result (λ tape. tape.items ≡ tape_of giop_nodes (node_at giop_nodes 21) (here_tree id (here_number here))) }
+    ensures { IfOk result (λ tape.
+        tape.items ≡ tape_of giop_nodes (node_at giop_nodes 21) (here_tree id (here_number here))) }
 {
     let mut tape = Vec::new(alloc);
     push_u32(&mut tape, id)?;
@@ -41,7 +42,8 @@ impl Giop {
         here: bool,
     ) -> Result<Vec<u8>, GiopFault>
         // the messages of type 4, whose header is of node 21
-        ensures written { IfOk result (λ octets. IsWritten order 4 21 (here_tree id (here_number here)) None octets.items) }
+        ensures written { IfOk result (λ octets.
+            IsWritten order 4 21 (here_tree id (here_number here)) None octets.items) }
         ensures limited { IfOk result (λ octets. length octets.items ≤ 12 + max_size) }
         ensures refused { IfErr result (λ fault. IsNotWritten fault order 4 21 (here_tree id (here_number here)) None) }
     {
@@ -49,14 +51,13 @@ impl Giop {
             Ok(tape) => tape,
             Err(_) => return Err(GiopFault::NoMemory),
         };
-        write_message(
-            &self.types,
+        let writing = Writing {
+            types: &self.types,
             alloc,
             order,
-            LOCATE_REPLY,
-            LOCATE_REPLY_HEADER,
-            tape.as_slice(),
-            None,
-        )
+            kind: LOCATE_REPLY,
+            node: LOCATE_REPLY_HEADER,
+        };
+        writing.write(tape.as_slice(), None)
     }
 }

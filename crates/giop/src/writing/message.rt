@@ -7,17 +7,29 @@ ghost use Rattle.type_graph.specs.Words.{plain_word};
 ghost use Rattle.type_model.specs.Names.{IsNamed};
 ghost use Rattle.giop_messages.specs.Heads.{max_size};
 ghost use Rattle.giop_types.specs.Named.{has_name};
-ghost use Rattle.giop_messages.specs.declared.fault.GiopFault.TheVariants.{BadHead, TooLong};
-ghost use Rattle.giop_messages.specs.Faults.{IsMemoryOr};
+ghost use Rattle.giop_messages.specs.declared.fault.GiopFault.TheVariants.{TooLong};
 ghost use Rattle.giop_messages.specs.Written.{flags_of, head_octets};
-ghost use Rattle.giop.specs.Made.{given_by, IsHeader, IsMade, IsNotMade};
+ghost use Rattle.giop.specs.Made.{given_by, IsMade, IsNotMade};
 
-use crate::writing::body::{Body, behind};
+use crate::writing::body::Body;
 use giop_messages::{GiopFault, HEAD_LEN, MAX_SIZE};
 use giop_types::GiopTypes;
 use program_runner::RunFault;
 use std::alloc::{AllocError, Global};
 use type_graph::Order;
+
+/// A message that is written: its byte order and its type, and the types by which its header is
+/// written.
+#[derive(Clone, Copy)]
+pub(crate) struct Writing<'w> {
+    pub(crate) types: &'w GiopTypes,
+    pub(crate) alloc: Global,
+    pub(crate) order: Order,
+    /// The number of its type.
+    pub(crate) kind: u8,
+    /// The node of its header.
+    pub(crate) node: u32,
+}
 
 /// From how many octets on a body stays in the list into which it was written, and what stands
 /// before it is put there: a copy into a list of its own would cost more.
@@ -56,27 +68,6 @@ pub(crate) fn push_head(
     octets.extend_from_slice(&word(order, size))
 }
 
-/// A header, at its place in a message.
-fn header(
-    types: &GiopTypes,
-    alloc: Global,
-    order: Order,
-    node: u32,
-    tape: &[u8],
-) -> Result<Vec<u8>, GiopFault>
-    requires { IsTrue (has_name node) }
-    ensures found { IfOk result (λ header. IsHeader order node tape.now header.items) }
-    ensures refused { IfErr result (λ fault. IsMemoryOr BadHead fault ((header : List ℕ) → IsHeader order node tape.now header → ⊥)) }
-{
-    match types.write(alloc, node, order, HEAD_LEN as u64, tape) {
-        Ok(header) => Ok(header),
-        Err(fault) => match fault {
-            RunFault::NoMemory => Err(GiopFault::NoMemory),
-            _ => Err(GiopFault::BadHead),
-        },
-    }
-}
-
 /// How many octets a header and what stands behind it are.
 fn size_of(header: &[u8], gap: usize, body: &[u8]) -> Option<u32>
     requires { gap < 8 }
@@ -103,28 +94,6 @@ fn room_of(size: u32, body: &[u8]) -> usize
     }
 }
 
-/// What stands before a body: head, header and a gap, in a list with room for so many octets behind
-/// the head.
-fn front(
-    alloc: Global,
-    order: Order,
-    kind: u8,
-    size: u32,
-    header: &[u8],
-    gap: usize,
-    room: usize,
-) -> Result<Vec<u8>, AllocError>
-    requires gap { gap < 8 }
-    requires room { room ≤ max_size }
-    ensures { IfOk result (λ octets. octets.items ≡ head_octets order kind size ++ (header.now ++ replicate gap 0)) }
-{
-    let mut octets = Vec::with_capacity(alloc, HEAD_LEN + room)?;
-    push_head(&mut octets, order, kind, size)?;
-    octets.extend_from_slice(header)?;
-    octets.extend_from_slice(&[0; 8][..gap])?;
-    Ok(octets)
-}
-
 /// Puts octets before others, in the list of these.
 fn put_before(mut octets: Vec<u8>, front: Vec<u8>) -> Result<Vec<u8>, AllocError>
     ensures { IfOk result (λ all. all.items ≡ front.items ++ octets.items) }
@@ -134,58 +103,63 @@ fn put_before(mut octets: Vec<u8>, front: Vec<u8>) -> Result<Vec<u8>, AllocError
     Ok(octets)
 }
 
-/// Head, header, a gap and a body.
-fn joined(
-    alloc: Global,
-    order: Order,
-    kind: u8,
-    size: u32,
-    header: &[u8],
-    gap: usize,
-    body: Vec<u8>,
-) -> Result<Vec<u8>, AllocError>
-    requires gap { gap < 8 }
-    requires size { size ≤ max_size }
-    ensures { IfOk result (λ octets. octets.items ≡ head_octets order kind size ++ (header.now ++ (replicate gap 0 ++ body.items))) }
-{
-    let room = room_of(size, body.as_slice());
-    let mut octets = front(alloc, order, kind, size, header, gap, room)?;
-    if body.len() >= LARGE {
-        return put_before(body, octets);
+impl<'w> Writing<'w> {
+    /// Head, header, a gap and a body.
+    fn joined(
+        &self,
+        size: u32,
+        header: &[u8],
+        gap: usize,
+        body: Vec<u8>,
+    ) -> Result<Vec<u8>, AllocError>
+        requires gap { gap < 8 }
+        requires size { size ≤ max_size }
+        ensures { IfOk result (λ octets. octets.items
+            ≡ head_octets self.now.order self.now.kind size ++ (header.now ++ (replicate gap 0 ++ body.items))) }
+    {
+        let room = room_of(size, body.as_slice());
+        let mut octets = Vec::with_capacity(self.alloc, HEAD_LEN + room)?;
+        push_head(&mut octets, self.order, self.kind, size)?;
+        octets.extend_from_slice(header)?;
+        octets.extend_from_slice(&[0; 8][..gap])?;
+        if body.len() >= LARGE {
+            return put_before(body, octets);
+        }
+        octets.extend_from_slice(body.as_slice())?;
+        Ok(octets)
     }
-    octets.extend_from_slice(body.as_slice())?;
-    Ok(octets)
-}
 
-/// A message whose header has this tape.
-pub(crate) fn write_message(
-    types: &GiopTypes,
-    alloc: Global,
-    order: Order,
-    kind: u8,
-    node: u32,
-    tape: &[u8],
-    body: Option<Body<'_>>,
-) -> Result<Vec<u8>, GiopFault>
-    requires header { IsTrue (has_name node) }
-    requires named { ForSome body (λ b. IsNamed b.0.now.model.names b.1) }
-    ensures made { IfOk result (λ octets. IsMade order kind node tape.now (given_by body.entry) octets.items) }
-    ensures limited { IfOk result (λ octets. length octets.items ≤ 12 + max_size) }
-    ensures refused { IfErr result (λ fault. IsNotMade fault order kind node tape.now (given_by body.entry)) }
-{
-    let header = match header(types, alloc, order, node, tape) {
-        Ok(header) => header,
-        Err(fault) => return Err(fault),
-    };
-    let (gap, body) = match behind(alloc, order, HEAD_LEN + header.as_slice().len(), body) {
-        Ok(behind) => behind,
-        Err(fault) => return Err(fault),
-    };
-    let Some(size) = size_of(header.as_slice(), gap, body.as_slice()) else {
-        return Err(GiopFault::TooLong);
-    };
-    match joined(alloc, order, kind, size, header.as_slice(), gap, body) {
-        Ok(octets) => Ok(octets),
-        Err(_) => Err(GiopFault::NoMemory),
+    /// The message whose header has this tape.
+    pub(crate) fn write(&self, tape: &[u8], body: Option<Body<'_>>) -> Result<Vec<u8>, GiopFault>
+        requires header { IsTrue (has_name self.now.node) }
+        requires named { ForSome body (λ b. IsNamed b.0.now.model.names b.1) }
+        ensures made { IfOk result (λ octets.
+            IsMade self.now.order self.now.kind self.now.node tape.now (given_by body.entry) octets.items) }
+        ensures limited { IfOk result (λ octets. length octets.items ≤ 12 + max_size) }
+        ensures refused { IfErr result (λ fault.
+            IsNotMade fault self.now.order self.now.kind self.now.node tape.now (given_by body.entry)) }
+    {
+        let order = self.order;
+        let header = match self
+            .types
+            .write(self.alloc, self.node, order, HEAD_LEN as u64, tape)
+        {
+            Ok(header) => header,
+            Err(fault) => match fault {
+                RunFault::NoMemory => return Err(GiopFault::NoMemory),
+                _ => return Err(GiopFault::BadHead),
+            },
+        };
+        let (gap, body) = match self.behind(HEAD_LEN + header.as_slice().len(), body) {
+            Ok(behind) => behind,
+            Err(fault) => return Err(fault),
+        };
+        let Some(size) = size_of(header.as_slice(), gap, body.as_slice()) else {
+            return Err(GiopFault::TooLong);
+        };
+        match self.joined(size, header.as_slice(), gap, body) {
+            Ok(octets) => Ok(octets),
+            Err(_) => Err(GiopFault::NoMemory),
+        }
     }
 }

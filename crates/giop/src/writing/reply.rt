@@ -13,7 +13,7 @@ ghost use Rattle.giop.specs.Refusal.{IsNotWritten};
 
 use crate::giop_calls::Giop;
 use crate::writing::body::Body;
-use crate::writing::message::write_message;
+use crate::writing::message::Writing;
 use giop_messages::{GiopFault, ReplyStatus};
 use giop_types::{REPLY_HEADER, push_u32};
 use std::alloc::{AllocError, Global};
@@ -24,7 +24,8 @@ const REPLY: u8 = 1;
 
 /// A number, a status, no service contexts.
 fn header_tape(alloc: Global, id: u32, status: ReplyStatus) -> Result<Vec<u8>, AllocError>
-    ensures { IfOk result (λ tape. tape.items ≡ tape_of giop_nodes (node_at giop_nodes 19) (reply_tree id (number_of status) NoTree)) }
+    ensures { IfOk result (λ tape.
+        tape.items ≡ tape_of giop_nodes (node_at giop_nodes 19) (reply_tree id (number_of status) NoTree)) }
 {
     let mut tape = Vec::new(alloc);
     push_u32(&mut tape, id)?;
@@ -51,22 +52,23 @@ impl Giop {
     ) -> Result<Vec<u8>, GiopFault>
         requires { ForSome body (λ b. IsNamed b.0.now.model.names b.1) }
         // the messages of type 1, whose header is of node 19
-        ensures written { IfOk result (λ octets. IsWritten order 1 19 (reply_tree id (number_of status) NoTree) (given_by body.entry) octets.items) }
+        ensures written { IfOk result (λ octets.
+            IsWritten order 1 19 (reply_tree id (number_of status) NoTree) (given_by body.entry) octets.items) }
         ensures limited { IfOk result (λ octets. length octets.items ≤ 12 + max_size) }
-        ensures refused { IfErr result (λ fault. IsNotWritten fault order 1 19 (reply_tree id (number_of status) NoTree) (given_by body.entry)) }
+        ensures refused { IfErr result (λ fault.
+            IsNotWritten fault order 1 19 (reply_tree id (number_of status) NoTree) (given_by body.entry)) }
     {
         let tape = match header_tape(alloc, id, status) {
             Ok(tape) => tape,
             Err(_) => return Err(GiopFault::NoMemory),
         };
-        write_message(
-            &self.types,
+        let writing = Writing {
+            types: &self.types,
             alloc,
             order,
-            REPLY,
-            REPLY_HEADER,
-            tape.as_slice(),
-            body,
-        )
+            kind: REPLY,
+            node: REPLY_HEADER,
+        };
+        writing.write(tape.as_slice(), body)
     }
 }

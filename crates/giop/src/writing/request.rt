@@ -21,7 +21,7 @@ ghost use Rattle.giop.specs.Refusal.{IsNotWritten};
 
 use crate::giop_calls::Giop;
 use crate::writing::body::Body;
-use crate::writing::message::write_message;
+use crate::writing::message::Writing;
 use giop_messages::GiopFault;
 use giop_types::{REQUEST_HEADER, TapeFault, push_octets, push_u8, push_u16, push_u32};
 use std::alloc::{AllocError, Global};
@@ -39,7 +39,8 @@ fn is_text(octets: &[u8]) -> bool
 
 /// Puts a number, flags and three reserved zeros behind a tape.
 fn push_start(tape: &mut Vec<u8>, id: u32, flags: u8) -> Result<(), AllocError>
-    ensures { OnOk result (tape.new.items ≡ tape.old.items ++ (word Big Four (pos id) ++ (word Big One (pos flags) ++ (0 ∷ 0 ∷ 0 ∷ [])))) }
+    ensures { OnOk result (tape.new.items
+        ≡ tape.old.items ++ (word Big Four (pos id) ++ (word Big One (pos flags) ++ (0 ∷ 0 ∷ 0 ∷ [])))) }
 {
     push_u32(tape, id)?;
     push_u8(tape, flags)?;
@@ -74,10 +75,12 @@ fn header_tape(
     key: &[u8],
     operation: &[u8],
 ) -> Result<Vec<u8>, GiopFault>
-    ensures tape { IfOk result (λ tape. tape.items ≡ tape_of giop_nodes (node_at giop_nodes 17) (request_tree id flags (octet_trees (0 ∷ 0 ∷ 0 ∷ [])) (key_target key.now) operation.now NoTree)) }
+    ensures tape { IfOk result (λ tape. tape.items ≡ tape_of giop_nodes (node_at giop_nodes 17)
+        (request_tree id flags (octet_trees (0 ∷ 0 ∷ 0 ∷ [])) (key_target key.now) operation.now NoTree)) }
     ensures key { OnOk result (IsCounted key.now) }
     ensures operation { OnOk result (IsText 0 operation.now) }
-    ensures refused { IfErr result (λ fault. IsMemoryOr BadHead fault (IsCounted key.now → IsText 0 operation.now → ⊥)) }
+    ensures refused { IfErr result (λ fault.
+        IsMemoryOr BadHead fault (IsCounted key.now → IsText 0 operation.now → ⊥)) }
 {
     if !is_text(operation) {
         return Err(GiopFault::BadHead);
@@ -116,22 +119,25 @@ impl Giop {
     ) -> Result<Vec<u8>, GiopFault>
         requires { ForSome body (λ b. IsNamed b.0.now.model.names b.1) }
         // the messages of type 0, whose header is of node 17
-        ensures written { IfOk result (λ octets. IsWritten order 0 17 (request_tree id flags (octet_trees (0 ∷ 0 ∷ 0 ∷ [])) (key_target key.now) operation.now NoTree) (given_by body.entry) octets.items) }
+        ensures written { IfOk result (λ octets. IsWritten order 0 17
+            (request_tree id flags (octet_trees (0 ∷ 0 ∷ 0 ∷ [])) (key_target key.now) operation.now NoTree)
+            (given_by body.entry) octets.items) }
         ensures limited { IfOk result (λ octets. length octets.items ≤ 12 + max_size) }
-        ensures refused { IfErr result (λ fault. IsNotWritten fault order 0 17 (request_tree id flags (octet_trees (0 ∷ 0 ∷ 0 ∷ [])) (key_target key.now) operation.now NoTree) (given_by body.entry)) }
+        ensures refused { IfErr result (λ fault. IsNotWritten fault order 0 17
+            (request_tree id flags (octet_trees (0 ∷ 0 ∷ 0 ∷ [])) (key_target key.now) operation.now NoTree)
+            (given_by body.entry)) }
     {
         let tape = match header_tape(alloc, id, flags, key, operation) {
             Ok(tape) => tape,
             Err(fault) => return Err(fault),
         };
-        write_message(
-            &self.types,
+        let writing = Writing {
+            types: &self.types,
             alloc,
             order,
-            REQUEST,
-            REQUEST_HEADER,
-            tape.as_slice(),
-            body,
-        )
+            kind: REQUEST,
+            node: REQUEST_HEADER,
+        };
+        writing.write(tape.as_slice(), body)
     }
 }

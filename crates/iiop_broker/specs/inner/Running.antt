@@ -14,7 +14,10 @@ pub record IsFresh {S : Type 0} (acting : Acting S) (served : Served) (c : ℕ) 
   pub stream : AnsweredStream acting served c others before [] [] false now
 
 abbrev pub running : {S : Type 0} → Acting S → Served → ℕ → List (ℕ × Stream) → S → World S Stream → Telling
-running acting served c others before now octets answer closes = AnsweredStream acting served c others before octets answer closes now
+running acting served c others before now octets answer closes =
+    AnsweredStream acting served c others before octets answer closes now
 
-abbrev pub running_in_part : {S : Type 0} → Acting S → Served → ℕ → List (ℕ × Stream) → S → World S Stream → TellingInPart
-running_in_part acting served c others before now octets answer more = GivenUp acting served c others before octets answer more now
+abbrev pub running_in_part : {S : Type 0} → Acting S → Served → ℕ → List (ℕ × Stream) → S → World S Stream
+    → TellingInPart
+running_in_part acting served c others before now octets answer more =
+    GivenUp acting served c others before octets answer more now

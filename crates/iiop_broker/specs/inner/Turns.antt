@@ -1,36 +1,18 @@
 -- One piece or message at the front of a stream.
-use Rattle.std.specs.Prelude.{◌≡◌, ℕ, ◌<◌, ◌≤◌, true, false, List, [], length, take, drop, Option, Some, None}
-use Rattle.giop_messages.specs.Framing.{More, Broken, Piece, Whole, front}
-use Rattle.giop_messages.specs.Runs.{IsMessage}
-use Rattle.broker_answers.specs.Streams.{Cut, cut, cut_of, Open}
+use Rattle.std.specs.Prelude.{◌≡◌, ℕ, ◌<◌, ◌≤◌, true, false, List, [], length, drop, Option, Some}
+use Rattle.broker_answers.specs.Streams.{cut, cut_of, Open}
 use Rattle.broker_answers.specs.declared.serving.Answer.{Answer}
 use Rattle.broker_answers.specs.Servants.{Acting}
 use Rattle.broker_answers.specs.Objects.{Served}
 use Rattle.broker_answers.specs.Serving.{ServesRaw}
-use Rattle.iiop_broker.specs.declared.taking.Taken.{Taken}
-use Rattle.iiop_broker.specs.declared.taking.Taken.TheVariants as taken
 use Rattle.iiop_broker.specs.declared.front.Turn.{Turn}
 use Rattle.iiop_broker.specs.declared.front.Turn.TheVariants as turns
-use Rattle.iiop_broker.specs.declared.hearing.Left.{Left}
-use Rattle.iiop_broker.specs.declared.hearing.Left.TheVariants as lefts
 use Rattle.iiop_broker.specs.inner.Progress.{Progress, Ended}
 
 -- a part of the stream
 pub record IsPart (octets : List ℕ) (len : ℕ) : Type 0 where
   pub some : 0 < len
   pub within : len ≤ length octets
-
--- what is taken from the front of a stream
-abbrev pub IsTaken : Option (List ℕ) → List ℕ → Taken → Type 0
-IsTaken run octets (taken.Nothing kept) = (front run octets ≡ More) × (kept ≡ run)
-IsTaken run octets (taken.Broken fault) = front run octets ≡ Broken fault
-IsTaken run octets (taken.Piece begun len) =
-    IsPart octets len × (front run octets ≡ Piece begun (drop len octets))
-IsTaken run octets (taken.Message frame kept) =
-    IsPart octets frame.len × IsMessage frame.head (take frame.len octets) × (frame.head.goes_on ≡ false)
-    × (front run octets ≡ Whole (take frame.len octets) kept (drop frame.len octets))
-IsTaken run octets (taken.Joined whole len) =
-    IsPart octets len × (front run octets ≡ Whole whole None (drop len octets))
 
 -- what an answer leads to
 abbrev pub IsTurnOf : Answer → Option (List ℕ) → ℕ → Turn → Type 0
@@ -55,9 +37,3 @@ IsTurned acting served run octets before (turns.Goes kept len answer) after =
     IsPart octets len × Progress acting served (cut run octets) (cut kept (drop len octets)) before answer.items after
 IsTurned acting served run octets before (turns.Ends answer) after =
     Ended acting served (cut run octets).raws before answer.items after
-
--- what is left of it when all messages at its front are served
-abbrev pub IsFollowed : {S : Type 0} → Acting S → Served → Cut → List ℕ → S → List ℕ → Left → S → Type 0
-IsFollowed acting served all octets before answer (lefts.Open kept taken) after =
-    (taken ≤ length octets) × Progress acting served all (cut_of [] (Open kept (drop taken octets))) before answer after
-IsFollowed acting served all octets before answer lefts.Closed after = Ended acting served all.raws before answer after

@@ -9,19 +9,19 @@ use Rattle.broker_answers.proofs.reply.Replier.reply_to.Goals as goal
 
 pub returns-in-Done : goal.returns-in-Done
 returns-in-Done c =
-    let model = c.args.accepted.now.model in
+    let model = c.args.self.now.accepted.now.model in
     let asked = asked_of c.args.self.now.request.now in
     let operation = c.args.call.now.operation.now in
     let tape = c.as_slice.result.now in
-    subst (λ (said : Said). IfOk c.succeed.result (λ octets. Replies model asked operation said octets.items))
+    subst (λ (said : Said). IfOk c.try_send.result (λ octets. Replies model asked operation said octets.items))
     (ap Done c.as_slice.ensures.value ∙ sym (ap said_of c.in-Done.is))
-    (if_ok c.succeed.result (λ octets. IsTried asked (success model operation tape) octets.items)
+    (if_ok c.try_send.result (λ octets. IsTried asked (success model operation tape) octets.items)
     (λ octets. Replies model asked operation (Done tape) octets.items)
-    (λ octets h. done_replied model asked operation tape octets.items h) c.succeed.ensures)
+    (λ octets h. done_replied model asked operation tape octets.items h) c.try_send.ensures)
 
 pub returns-in-Raised : goal.returns-in-Raised
 returns-in-Raised c =
-    let model = c.args.accepted.now.model in
+    let model = c.args.self.now.accepted.now.model in
     let asked = asked_of c.args.self.now.request.now in
     let operation = c.args.call.now.operation.now in
     let place = c.in-Raised.place in

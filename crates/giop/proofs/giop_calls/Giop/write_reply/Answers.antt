@@ -9,13 +9,13 @@ use Rattle.giop.proofs.giop_calls.Giop.write_reply.Goals as goal
 pub returns-clause-written : goal.returns-clause-written
 returns-clause-written c =
     written (λ octets. octets.items) c.args.order 1 19 (reply_tree c.args.id (number_of c.args.status) NoTree)
-    c.as_slice.result.now (given_by c.args.body) c.write_message.result
+    c.as_slice.result.now (given_by c.args.body) c.write.result
     (reply_fits c.args.id c.args.status c.ranges.id.fits)
-    (c.as_slice.ensures.value ∙ c.in-Ok.ensures) c.write_message.ensures.made
+    (c.as_slice.ensures.value ∙ c.in-Ok.ensures) c.write.ensures.made
 
 pub returns-clause-refused : goal.returns-clause-refused
 returns-clause-refused c =
     refused c.args.order 1 19 (reply_tree c.args.id (number_of c.args.status) NoTree)
-    c.as_slice.result.now (given_by c.args.body) c.write_message.result
+    c.as_slice.result.now (given_by c.args.body) c.write.result
     (reply_fits c.args.id c.args.status c.ranges.id.fits)
-    (c.as_slice.ensures.value ∙ c.in-Ok.ensures) c.write_message.ensures.refused
+    (c.as_slice.ensures.value ∙ c.in-Ok.ensures) c.write.ensures.refused

@@ -1,0 +1,9 @@
+use Rattle.giop.proofs.Contents.{NoHeader, no_reply, none_then}
+use Rattle.giop.proofs.reading.message.Reading.reply.Goals as goal
+
+pub returns-in-None-clause-refused : goal.returns-in-None-clause-refused
+returns-in-None-clause-refused c =
+    let octets = c.args.self.now.octets.now in
+    let head = c.args.self.now.head.now in
+    no_reply octets head c.requires
+    (none_then c.in_ok-found.field-0 (NoHeader octets head 19) c.in-None.is c.in_ok-found.ensures.refused)
