@@ -1,7 +1,7 @@
 use Rattle.std.proofs.Common.{◌<◌, ◌≤◌, ◌-◌, get_or, refl, ◌∙◌, arith}
 use Rattle.routine_checker.specs.inner.Kinds.{is_piece_of}
 use Rattle.routine_checker.proofs.CountLaws.{counted_yields, front_more}
-use Rattle.routine_checker.proofs.counts.Counts.front.Goals as goal
+use Rattle.routine_checker.proofs.counts.Entries.front.Goals as goal
 
 pub loop-at-preserved : goal.loop-at-preserved
 loop-at-preserved c =

@@ -1,5 +1,5 @@
 use Rattle.routine_checker.proofs.CountLaws.{own_node, own_kind}
-use Rattle.routine_checker.proofs.counts.Counts.add_own.Goals as goal
+use Rattle.routine_checker.proofs.counts.Entries.add_own.Goals as goal
 
 pub returns-in_err-add : goal.returns-in_err-add
 returns-in_err-add c = c.add.ensures c.args.nodes.now c.requires (own_node c.args.nodes.now c.args.number)

@@ -1,6 +1,6 @@
 use Rattle.std.proofs.Common.{◌≡◌, ◌-◌, ◌++◌, ℕ, Bool, drop, sym, subst}
 use Rattle.routine_checker.specs.Taking.{taken}
-use Rattle.routine_checker.proofs.counts.Counts.pieces_in_front.Goals as goal
+use Rattle.routine_checker.proofs.noted.Counts.pieces_in_front.Goals as goal
 
 pub returns-in-Some-clause-taken : goal.returns-in-Some-clause-taken
 returns-in-Some-clause-taken c = λ graph right more.

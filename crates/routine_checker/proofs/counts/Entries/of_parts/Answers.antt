@@ -1,7 +1,7 @@
 use Rattle.routine_checker.specs.inner.Kinds.{is_piece_of}
 use Rattle.routine_checker.specs.inner.Counts.{pieces_in}
 use Rattle.routine_checker.proofs.CountLaws.{array_sum}
-use Rattle.routine_checker.proofs.counts.Counts.of_parts.Goals as goal
+use Rattle.routine_checker.proofs.counts.Entries.of_parts.Goals as goal
 
 pub returns-in-Array : goal.returns-in-Array
 returns-in-Array c = λ graph right some.

@@ -1,6 +1,6 @@
 use Rattle.std.proofs.Common.{sym, ◌∙◌}
 use Rattle.routine_checker.proofs.CountLaws.{made_of_parts}
-use Rattle.routine_checker.proofs.counts.Counts.add_parts.Goals as goal
+use Rattle.routine_checker.proofs.counts.Entries.add_parts.Goals as goal
 
 pub returns-in_err-add : goal.returns-in_err-add
 returns-in_err-add c =
