@@ -3,6 +3,7 @@ pub mod RunLaws
 pub mod PlainRight
 pub mod WorkLaws
 pub mod Chosen
+pub mod Works
 pub mod PlainPlaces
 pub mod PlainRules
 pub mod JoinedPlaces

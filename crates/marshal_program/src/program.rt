@@ -1,12 +1,13 @@
 //! A marshalling program: a list of routines that keeps the rules of a program.
 
-ghost use Rattle.std.specs.Prelude.{◌≡◌, ◌<◌, [], length, slice_get, IfOk, IfSome, OnErr, Some};
+ghost use Rattle.std.specs.Prelude.{◌≡◌, ◌≢◌, ◌<◌, [], length, slice_get, IfOk, IfErr, IfSome, OnErr, Some};
+ghost use Rattle.marshal_program.specs.declared.fault.TableFault.TheVariants.{NoMemory};
 ghost use Rattle.marshal_program.specs.ProgramRules.{IsRoutine, IsProgram};
 ghost use Rattle.marshal_program.specs.Served.{served_by};
 
 use crate::fault::TableFault;
 use crate::instr::Routine;
-use crate::rules::{MAX_ROUTINES, calls_lower, has_all_numbers, has_few_instrs, names_work};
+use crate::rules::{MAX_ROUTINES, all_name_work, calls_lower, has_all_numbers, has_few_instrs};
 use std::alloc::Global;
 use std::marker::Model;
 
@@ -48,6 +49,7 @@ impl Program {
         ensures kept { IfOk result (λ program. program ≡ routines.items) }
         ensures rules { IfOk result IsProgram }
         ensures refused { OnErr result (IsProgram routines.items → ⊥) }
+        ensures no_memory { IfErr result (λ fault. fault ≢ NoMemory) }
     {
         let count = routines.len();
         if count > MAX_ROUTINES || !has_few_instrs(&routines) {
@@ -59,10 +61,7 @@ impl Program {
         {
             return Err(TableFault::BadNumber);
         }
-        if !routines
-            .iter()
-            .all(|routine| names_work(&routines, routine))
-        {
+        if !all_name_work(&routines) {
             return Err(TableFault::EmptyRoutine);
         }
         if !routines

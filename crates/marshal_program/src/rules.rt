@@ -1,11 +1,11 @@
 //! The tests of the rules that make a list of routines a program.
 
-ghost use Rattle.std.specs.Prelude.{◌≡◌, ◌<◌, ◌≤◌, ◌↔◌, All, IsTrue, option_to_list};
+ghost use Rattle.std.specs.Prelude.{◌≡◌, ◌<◌, ◌≤◌, ◌↔◌, ℕ, All, IsTrue, false, length, option_to_list, slice_index_or};
 ghost use Rattle.std.specs.List.{list_any};
 ghost use Rattle.type_graph.specs.GraphRules.{IsWide};
 ghost use Rattle.type_graph.specs.Value.{IsSignedIn};
-ghost use Rattle.marshal_program.specs.ProgramRules.{IsDisc, IsInstr, AreLabels, AreSets, arms_of, named_by, called_by, is_work, TakesOctet, IsLower, all_instrs};
-ghost use Rattle.marshal_program.specs.inner.RuleTests.{HasNumbers, HasAllNumbers, NamesWork, CallsLower};
+ghost use Rattle.marshal_program.specs.ProgramRules.{IsDisc, IsInstr, AreLabels, AreSets, arms_of, named_by, called_by, is_work, IsLower, all_instrs};
+ghost use Rattle.marshal_program.specs.inner.RuleTests.{AreWorks, HasNumbers, HasAllNumbers, IsMarked, NamesMarked, NamesWork, CallsLower};
 
 use crate::instr::{Disc, Instr, Named, Routine};
 use type_graph::{Arms, Width};
@@ -144,48 +144,72 @@ fn has_work(code: &[Instr]) -> bool
     code.iter().any(is_instr_work)
 }
 
-fn takes_octet(routines: &[Routine], number: u32) -> bool
-    ensures { IsTrue result ↔ TakesOctet routines.now number }
+/// Marks the numbers of the routines that take an octet.
+fn note_works(routines: &[Routine], works: &mut [bool])
+    requires room { length routines.now ≤ length works.old }
+    requires none { (number : ℕ) → IsMarked works.old number → ⊥ }
+    ensures { AreWorks routines.now works.new }
 {
-    match routines.get(number as usize) {
-        None => false,
-        Some(routine) => has_work(routine.code.as_slice()),
+    for number in 0..routines.len() {
+        works[number] = has_work(routines[number].code.as_slice());
     }
 }
 
-fn labels_take_octet(routines: &[Routine], arms: &[(i128, u32)]) -> bool
-    ensures { IsTrue result ↔ All (λ arm. TakesOctet routines.now arm.1) arms.now }
+fn is_marked(works: &[bool], number: u32) -> bool
+    ensures { result ≡ slice_index_or works.now number false }
 {
-    arms.iter().all(|arm| takes_octet(routines, arm.1))
+    works.get(number as usize).copied().unwrap_or(false)
 }
 
-fn other_takes_octet(routines: &[Routine], otherwise: Option<u32>) -> bool
-    ensures { IsTrue result ↔ All (TakesOctet routines.now) (option_to_list otherwise) }
+fn labels_marked(works: &[bool], arms: &[(i128, u32)]) -> bool
+    ensures { IsTrue result ↔ All (λ arm. IsMarked works.now arm.1) arms.now }
+{
+    arms.iter().all(|arm| is_marked(works, arm.1))
+}
+
+fn other_marked(works: &[bool], otherwise: Option<u32>) -> bool
+    ensures { IsTrue result ↔ All (IsMarked works.now) (option_to_list otherwise) }
 {
     match otherwise {
         None => true,
-        Some(number) => takes_octet(routines, number),
+        Some(number) => is_marked(works, number),
     }
 }
 
-fn all_take_octet(routines: &[Routine], names: Named<'_>) -> bool
-    ensures { IsTrue result ↔ All (TakesOctet routines.now) (arms_of names.entry.arms.now names.entry.other) }
+fn all_marked(works: &[bool], names: Named<'_>) -> bool
+    ensures { IsTrue result ↔ All (IsMarked works.now) (arms_of names.entry.arms.now names.entry.other) }
 {
-    labels_take_octet(routines, names.arms) && other_takes_octet(routines, names.other)
+    labels_marked(works, names.arms) && other_marked(works, names.other)
 }
 
-fn instr_names_work(routines: &[Routine], instr: &Instr) -> bool
-    ensures { IsTrue result ↔ All (TakesOctet routines.now) (named_by instr.now) }
+fn instr_names_marked(works: &[bool], instr: &Instr) -> bool
+    ensures { IsTrue result ↔ All (IsMarked works.now) (named_by instr.now) }
 {
-    all_take_octet(routines, instr.named())
+    all_marked(works, instr.named())
 }
 
-/// Each routine that this one names takes an octet.
-pub fn names_work(routines: &[Routine], routine: &Routine) -> bool
-    ensures { IsTrue result ↔ NamesWork routines.now routine.now }
+fn names_marked(works: &[bool], routine: &Routine) -> bool
+    ensures { IsTrue result ↔ NamesMarked works.now routine.now }
 {
     let code = routine.code.as_slice();
-    code.iter().all(|instr| instr_names_work(routines, instr))
+    code.iter().all(|instr| instr_names_marked(works, instr))
+}
+
+fn all_name_marked(works: &[bool], routines: &[Routine]) -> bool
+    ensures { IsTrue result ↔ All (NamesMarked works.now) routines.now }
+{
+    routines.iter().all(|routine| names_marked(works, routine))
+}
+
+/// Each routine that one of these names takes an octet. Each is looked at once, however often it
+/// is named.
+pub fn all_name_work(routines: &[Routine]) -> bool
+    requires { length routines.now ≤ 8192 }
+    ensures { IsTrue result ↔ All (NamesWork routines.now) routines.now }
+{
+    let mut works = [false; MAX_ROUTINES];
+    note_works(routines, &mut works);
+    all_name_marked(&works, routines)
 }
 
 fn is_lower(routines: &[Routine], rank: u32, number: u32) -> bool

@@ -17,6 +17,7 @@ pub mod WorkLaws
 pub mod TimesLaws
 pub mod TakeLaws
 pub mod CountLaws
+pub mod NotedLaws
 pub mod FullSets
 pub mod Through
 pub mod OwnRoutines

@@ -1,5 +1,6 @@
 pub mod Kinds
 pub mod Counts
+pub mod Noted
 pub mod Places
 pub mod Work
 pub mod Progress

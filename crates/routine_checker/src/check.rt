@@ -4,13 +4,13 @@ ghost use Rattle.std.specs.Prelude.{◌≡◌, ◌≢◌, ◌≤◌, ◌<◌, �
 ghost use Rattle.marshal_program.specs.Plain.{plain_program};
 ghost use Rattle.marshal_program.specs.Joined.{joined_program};
 ghost use Rattle.routine_checker.specs.Steps.{followed, entry_fault, routine_fault, program_fault};
-ghost use Rattle.routine_checker.specs.inner.Counts.{AreCounts};
+ghost use Rattle.routine_checker.specs.inner.Noted.{AreCounts};
 ghost use Rattle.routine_checker.specs.inner.Progress.{work_behind, state_of, IsTaken};
 ghost use Rattle.routine_checker.specs.Refusal.{OnlyIf};
 ghost use Rattle.routine_checker.specs.Right.{AreRight};
 
-use crate::counts::Counts;
 use crate::fault::{CheckFault, RoutinePlace};
+use crate::noted::Counts;
 use crate::pieces::pieces;
 use crate::sets::{gaps_agree, has, is_within, only};
 use crate::step::Reached;
@@ -178,7 +178,7 @@ pub fn check_routines(
 {
     let nodes = graph.nodes().len();
     let routines = program.routines();
-    let counts = Counts::new(alloc, graph)?;
+    let counts = Counts::new(alloc, graph, routines)?;
     for number in 0..routines.len() {
         let at = RoutinePlace {
             program: which,

@@ -5,7 +5,7 @@ ghost use Rattle.type_graph.specs.declared.node.Node.{Node};
 ghost use Rattle.type_graph.specs.Value.{node_at};
 ghost use Rattle.routine_checker.specs.Taking.{parts_of, taken, is_piece};
 ghost use Rattle.routine_checker.specs.inner.Kinds.{is_of, is_piece_of};
-ghost use Rattle.routine_checker.specs.inner.Counts.{parts_in, pieces_in, IsMade, AreCounts, Yields};
+ghost use Rattle.routine_checker.specs.inner.Counts.{parts_in, pieces_in, IsMade, AreEntries};
 
 use crate::pieces::{RunKind, is_of_at};
 use marshal_program::{Instr, Routine};
@@ -27,7 +27,7 @@ pub struct Made {
     pub n: u32,
 }
 
-fn is_same(piece: Piece, other: Piece) -> bool
+pub fn is_same(piece: Piece, other: Piece) -> bool
     ensures { IsTrue result → piece ≡ other }
 {
     piece == other
@@ -77,12 +77,12 @@ fn product(n: u32, count: u32) -> u32
 /// What the nodes of a graph are made of. The entries of a node follow one another, from a place
 /// that stands at its number.
 #[derive(Drop)]
-pub struct Counts {
+pub struct Entries {
     pub starts: Vec<usize>,
     pub entries: Vec<Made>,
 }
 
-impl Counts {
+impl Entries {
     fn start(&self, number: u32) -> usize {
         match self.starts.get(number as usize) {
             Some(start) => *start,
@@ -91,8 +91,8 @@ impl Counts {
     }
 
     /// How many of the pieces the node is made of, 0 where that isn't known.
-    fn of(&self, piece: Piece, number: u32) -> u32
-        ensures { (graph : List Node) → AreCounts graph self.now → 0 < result → pieces_in 64 (is_piece_of piece graph) graph number ≡ result }
+    pub fn of(&self, piece: Piece, number: u32) -> u32
+        ensures { (graph : List Node) → AreEntries graph self.now → 0 < result → pieces_in 64 (is_piece_of piece graph) graph number ≡ result }
     {
         let entries = self.entries.as_slice();
         for at in self.start(number)..entries.len() {
@@ -109,7 +109,7 @@ impl Counts {
 
     /// The members together, 0 where one of them isn't known.
     fn of_members(&self, piece: Piece, members: &[u32]) -> u32
-        ensures { (graph : List Node) → AreCounts graph self.now → 0 < result → parts_in (pieces_in 64 (is_piece_of piece graph) graph) (Some members.now) ≡ result }
+        ensures { (graph : List Node) → AreEntries graph self.now → 0 < result → parts_in (pieces_in 64 (is_piece_of piece graph) graph) (Some members.now) ≡ result }
     {
         let mut sum = 0u32;
         for member in members {
@@ -124,10 +124,10 @@ impl Counts {
 
     /// How many of the nodes in front are made of the pieces, as long as more of these are wanted,
     /// and how many these are.
-    fn front(&self, piece: Piece, numbers: &[u32], wanted: u32) -> (usize, u32)
+    pub fn front(&self, piece: Piece, numbers: &[u32], wanted: u32) -> (usize, u32)
         ensures passed { result.0 ≤ length numbers.now }
         ensures within { result.1 ≤ wanted }
-        ensures taken { (graph : List Node) → AreCounts graph self.now → (more : List ℕ)
+        ensures taken { (graph : List Node) → AreEntries graph self.now → (more : List ℕ)
             → taken wanted (is_piece_of piece graph) graph (numbers.now ++ more)
             ≡ taken (wanted - result.1) (is_piece_of piece graph) graph (drop result.0 numbers.now ++ more) }
     {
@@ -144,7 +144,7 @@ impl Counts {
 
     /// The parts of a node together.
     fn of_parts(&self, piece: Piece, node: &Node) -> u32
-        ensures { (graph : List Node) → AreCounts graph self.now → 0 < result → parts_in (pieces_in 64 (is_piece_of piece graph) graph) (parts_of node.now) ≡ result }
+        ensures { (graph : List Node) → AreEntries graph self.now → 0 < result → parts_in (pieces_in 64 (is_piece_of piece graph) graph) (parts_of node.now) ≡ result }
     {
         match node {
             Node::Array { elem, n } => product(*n, self.of(piece, *elem)),
@@ -156,7 +156,7 @@ impl Counts {
     }
 
     fn add(&mut self, made: Made) -> Result<(), AllocError>
-        ensures { (graph : List Node) → AreCounts graph self.old → IsMade graph made → AreCounts graph self.new }
+        ensures { (graph : List Node) → AreEntries graph self.old → IsMade graph made → AreEntries graph self.new }
     {
         self.entries.push(made)?;
         Ok(())
@@ -164,8 +164,8 @@ impl Counts {
 
     /// The node itself, and its kind.
     fn add_own(&mut self, nodes: &[Node], number: u32) -> Result<(), AllocError>
-        requires { AreCounts nodes.now self.old }
-        ensures { AreCounts nodes.now self.new }
+        requires { AreEntries nodes.now self.old }
+        ensures { AreEntries nodes.now self.new }
     {
         self.add(Made {
             number,
@@ -191,8 +191,8 @@ impl Counts {
         node: &Node,
     ) -> Result<(), AllocError>
         requires node { node_at graph.now number ≡ node.now }
-        requires counts { AreCounts graph.now self.old }
-        ensures { AreCounts graph.now self.new }
+        requires counts { AreEntries graph.now self.old }
+        ensures { AreEntries graph.now self.new }
     {
         if is_piece_of(graph.nodes(), piece, number) {
             return Ok(());
@@ -215,8 +215,8 @@ impl Counts {
     /// A node whose parts were added before: what its first part is made of, if all of them are.
     fn add_node(&mut self, graph: &Graph, number: u32, node: &Node) -> Result<(), AllocError>
         requires node { node_at graph.now number ≡ node.now }
-        requires counts { AreCounts graph.now self.old }
-        ensures { AreCounts graph.now self.new }
+        requires counts { AreEntries graph.now self.old }
+        ensures { AreEntries graph.now self.new }
     {
         self.add_own(graph.nodes(), number)?;
         let first = match first_part(node) {
@@ -244,8 +244,8 @@ impl Counts {
 
     /// The nodes of a height.
     fn add_height(&mut self, graph: &Graph, heights: &[u32], height: u32) -> Result<(), AllocError>
-        requires { AreCounts graph.now self.old }
-        ensures { AreCounts graph.now self.new }
+        requires { AreEntries graph.now self.old }
+        ensures { AreEntries graph.now self.new }
     {
         let nodes = graph.nodes();
         for number in 0..nodes.len() {
@@ -258,12 +258,12 @@ impl Counts {
     }
 
     /// Each node behind its parts, so that it is looked at once.
-    pub fn new(alloc: Global, graph: &Graph) -> Result<Counts, AllocError>
-        ensures { IfOk result (λ counts. AreCounts graph.now counts) }
+    pub fn new(alloc: Global, graph: &Graph) -> Result<Entries, AllocError>
+        ensures { IfOk result (λ counts. AreEntries graph.now counts) }
     {
         let heights = graph.heights(alloc)?;
         let highest = heights.iter().copied().max().unwrap_or(0);
-        let mut counts = Counts {
+        let mut counts = Entries {
             starts: vec![in alloc; usize::MAX; heights.len()]?,
             entries: Vec::new(alloc),
         };
@@ -275,7 +275,7 @@ impl Counts {
 }
 
 /// What an instruction takes many of.
-fn piece_of(program: &[Routine], instr: &Instr) -> Option<Piece>
+pub fn piece_of(program: &[Routine], instr: &Instr) -> Option<Piece>
     ensures { IfSome result (λ piece. (graph : List Node) → is_piece graph program.now instr.now ≡ is_piece_of piece graph) }
 {
     match instr {
@@ -295,37 +295,5 @@ fn piece_of(program: &[Routine], instr: &Instr) -> Option<Piece>
             None => None,
         },
         _ => None,
-    }
-}
-
-impl Counts {
-    /// How many pieces of the instruction the node is made of, 0 where that isn't known.
-    pub fn pieces(&self, program: &[Routine], instr: &Instr, number: u32) -> u32
-        ensures { (graph : List Node) → AreCounts graph self.now → 0 < result → Yields result (is_piece graph program.now instr.now) graph number }
-    {
-        match piece_of(program, instr) {
-            Some(piece) => self.of(piece, number),
-            None => 0,
-        }
-    }
-
-    /// The same of the nodes in front, as long as more pieces are wanted.
-    pub fn pieces_in_front(
-        &self,
-        program: &[Routine],
-        instr: &Instr,
-        numbers: &[u32],
-        wanted: u32,
-    ) -> (usize, u32)
-        ensures passed { result.0 ≤ length numbers.now }
-        ensures within { result.1 ≤ wanted }
-        ensures taken { (graph : List Node) → AreCounts graph self.now → (more : List ℕ)
-            → taken wanted (is_piece graph program.now instr.now) graph (numbers.now ++ more)
-            ≡ taken (wanted - result.1) (is_piece graph program.now instr.now) graph (drop result.0 numbers.now ++ more) }
-    {
-        match piece_of(program, instr) {
-            Some(piece) => self.front(piece, numbers, wanted),
-            None => (0, 0),
-        }
     }
 }

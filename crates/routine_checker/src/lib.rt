@@ -7,6 +7,7 @@ mod fault;
 mod judge;
 pub mod laws;
 mod names;
+mod noted;
 mod pieces;
 mod sets;
 mod step;

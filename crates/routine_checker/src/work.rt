@@ -3,10 +3,11 @@
 ghost use Rattle.std.specs.Prelude.{ℕ, List, ◌≡◌, ◌<◌, ◌≤◌, ◌-◌, [], ◌∷◌, ◌++◌, IfOk, IfSome, IfNone, IsTrue, IsFalse, Some, None, replicate};
 ghost use Rattle.type_graph.specs.Value.{node_at};
 ghost use Rattle.routine_checker.specs.Taking.{parts_of, taken_within, taken, is_done_within};
-ghost use Rattle.routine_checker.specs.inner.Counts.{AreCounts, Yields};
+ghost use Rattle.routine_checker.specs.inner.Counts.{Yields};
+ghost use Rattle.routine_checker.specs.inner.Noted.{AreCounts};
 ghost use Rattle.routine_checker.specs.inner.Work.{wants, held, held_of, work_of};
 
-use crate::counts::Counts;
+use crate::noted::Counts;
 use crate::pieces::is_piece;
 use marshal_program::{Instr, Routine};
 use std::alloc::{AllocError, Global};

@@ -28,11 +28,11 @@ abbrev pub IsOne : {A : Type 0} → (A → Option (List ℕ)) → Type 0
 IsOne {A} f = (a b : A) (x y octets : List ℕ) → f a ++? Some x ≡ Some octets → f b ++? Some y ≡ Some octets → (a ≡ b) × (x ≡ y)
 
 -- a whole is read where nothing is left
-nothing_left : (p : Option (List ℕ)) (octets : List ℕ) → p ++? Some [] ≡ Some octets → p ≡ Some octets
+pub nothing_left : (p : Option (List ℕ)) (octets : List ℕ) → p ++? Some [] ≡ Some octets → p ≡ Some octets
 nothing_left None octets e = absurd (cc)
 nothing_left (Some s) octets e = ap Some (sym (append-nil s)) ∙ e
 
-left_over : {A : Type 0} (f : A → Option (List ℕ)) → IsOne f → (y : A) (new : Option (List ℕ)) (octets : List ℕ) → Reads f (Ok y) (Some octets) new → new ≢ Some []
+pub left_over : {A : Type 0} (f : A → Option (List ℕ)) → IsOne f → (y : A) (new : Option (List ℕ)) (octets : List ℕ) → Reads f (Ok y) (Some octets) new → new ≢ Some []
     → (x : A) → f x ≡ Some octets → ⊥
 left_over f one y (Some rest) octets r more x e =
     let same = one y x rest [] octets r.reads (whole (f x) octets e) in
@@ -57,7 +57,7 @@ whole_read {A} f one octets r (Err fault) old new start reads kept refused =
 
 -- ---- all but the uses, and then those
 
-no_most : (octets : List ℕ) → BeginsWithNone spelled_most octets → BeginsWithNone spelled_fields octets
+pub no_most : (octets : List ℕ) → BeginsWithNone spelled_most octets → BeginsWithNone spelled_fields octets
 no_most octets none = λ x rest e.
     let p = parted (spelled_most x.0) (spelled_run (length x.0.0.1.0) spelled_which x.1) (Some rest) octets e in
     none x.0 p.0 p.2

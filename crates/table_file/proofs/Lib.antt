@@ -7,4 +7,5 @@ pub mod Sets
 pub mod SeenUses
 pub mod NamesWritten
 pub mod Decoded
+pub mod SkimLaws
 pub mod WorkedFiles

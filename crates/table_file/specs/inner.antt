@@ -11,4 +11,5 @@ pub mod PartCodes
 pub mod TableCodes
 pub mod Reading
 pub mod Decoding
+pub mod Skimming
 pub mod Seen

@@ -1,9 +1,9 @@
 //! The table of a file's octets.
 
-ghost use Rattle.std.specs.Prelude.{◌≡◌, ◌≢◌, ◌⊎◌, ℕ, List, [], ◌∷◌, Some, IfOk, IfErr, OnErr};
+ghost use Rattle.std.specs.Prelude.{◌≡◌, ◌⊎◌, ℕ, List, ◌∷◌, Some, IfOk, IfErr, OnErr};
 ghost use Rattle.table_file.specs.Table.{IsTable, TableParts};
 ghost use Rattle.table_file.specs.TableSpelling.{Spells, SpellsOld};
-ghost use Rattle.table_file.specs.inner.Reading.{Reads, Whole, beside};
+ghost use Rattle.table_file.specs.inner.Reading.{Reads, Whole};
 ghost use Rattle.table_file.specs.Refusal.{OnlyIf};
 ghost use Rattle.table_file.specs.inner.TableCodes.{spelled_body, spelled_fields, spelled_old_fields};
 ghost use Rattle.table_file.specs.inner.Decoding.{IsOldBody};
@@ -12,32 +12,11 @@ use crate::cursor::Cursor;
 use crate::draft::{OldDraft, ProgramsDraft, TableDraft, draft_of, finish};
 use crate::lists::read_run;
 use crate::part::Part;
+use crate::skim::{skim_old, skim_whole};
 use crate::table::Table;
+use crate::whole::{both, finished};
 use marshal_program::TableFault;
 use std::alloc::Global;
-
-/// What was read, if nothing is left and no number was read that no table has.
-fn finished<T: Drop>(read: Result<T, TableFault>, cursor: &Cursor<'_>) -> Result<T, TableFault>
-    ensures kept { IfOk result (λ x. (read ≡ Ok x) × (cursor.now ≡ Some [])) }
-    ensures refused { IfErr result (λ fault. (read ≡ Err fault) ⊎ ((x : T) × (read ≡ Ok x) × (cursor.now ≢ Some []))) }
-{
-    match read {
-        Err(fault) => Err(fault),
-        Ok(_) if cursor.len() > 0 => Err(TableFault::Trailing),
-        Ok(_) if !cursor.is_sound() => Err(TableFault::BadNumber),
-        Ok(x) => Ok(x),
-    }
-}
-
-/// What was read, and what was read behind it.
-fn both<A: Drop, B: Drop>(first: A, second: Result<B, TableFault>) -> Result<(A, B), TableFault>
-    ensures { result ≡ beside first second }
-{
-    match second {
-        Ok(second) => Ok((first, second)),
-        Err(fault) => Err(fault),
-    }
-}
 
 fn read_parts(cursor: &mut Cursor<'_>) -> Result<TableDraft, TableFault>
     ensures { Reads spelled_fields result cursor.old cursor.new }
@@ -68,6 +47,7 @@ fn decode_body(alloc: Global, octets: &[u8]) -> Result<Table, TableFault>
     ensures spelled { IfOk result (λ table. spelled_body table ≡ Some octets.now) }
     ensures refused { IfErr result (λ fault. OnlyIf fault ((table : TableParts) → IsTable table → spelled_body table ≡ Some octets.now → ⊥)) }
 {
+    skim_whole(alloc, octets)?;
     let draft = read_whole(alloc, octets)?;
     finish(alloc, draft)
 }
@@ -77,6 +57,7 @@ fn decode_old(alloc: Global, octets: &[u8]) -> Result<Table, TableFault>
     ensures spelled { IfOk result (λ table. IsOldBody table octets.now) }
     ensures refused { IfErr result (λ fault. OnlyIf fault ((table : TableParts) → IsTable table → IsOldBody table octets.now → ⊥)) }
 {
+    skim_old(alloc, octets)?;
     let old = read_old(alloc, octets)?;
     let draft = draft_of(alloc, old)?;
     finish(alloc, draft)

@@ -44,7 +44,7 @@ fn fault_of(fault: GraphFault) -> TableFault
     }
 }
 
-fn graph_of(alloc: Global, nodes: Items<Node>) -> Result<Graph, TableFault>
+pub(crate) fn graph_of(alloc: Global, nodes: Items<Node>) -> Result<Graph, TableFault>
     ensures kept { IfOk result (λ graph. graph ≡ nodes) }
     ensures refused { IfErr result (λ fault. OnlyIf fault (IsGraph nodes → ⊥)) }
 {

@@ -1,9 +1,10 @@
 //! Instructions of a routine.
 
+ghost use Rattle.std.specs.Prelude.{◌≤◌, ℕ, List, [], ◌∷◌, Option};
 ghost use Rattle.std.specs.Fmt.{◌++?◌};
 ghost use Rattle.table_file.specs.Octets.{spelled_list, spelled_maybe};
-ghost use Rattle.table_file.specs.Spelling.{spelled_arm, spelled_disc};
-ghost use Rattle.table_file.specs.inner.Reading.{Writes};
+ghost use Rattle.table_file.specs.Spelling.{spelled_arm, spelled_disc, spelled_instr};
+ghost use Rattle.table_file.specs.inner.Reading.{Reads, Takes, Writes};
 
 use crate::cursor::Cursor;
 use crate::part::Part;
@@ -56,6 +57,39 @@ fn write_switch(
     otherwise.write(out)
 }
 
+/// Reads what stands behind the tag of an instruction that names routines.
+fn read_naming(tag: u8, cursor: &mut Cursor<'_>) -> Result<Instr, TableFault>
+    requires { 9 ≤ tag }
+    ensures { (start : Option (List ℕ)) → Takes 1 (tag ∷ []) start cursor.old → Reads spelled_instr result start cursor.new }
+{
+    match tag {
+        9 => {
+            let (bound, (first, routine)) = <(u32, (Width, u32))>::read(cursor)?;
+            Ok(Instr::SeqOf {
+                bound,
+                first,
+                routine,
+            })
+        }
+        10 => {
+            let (n, routine) = <(u32, u32)>::read(cursor)?;
+            Ok(Instr::Times { n, routine })
+        }
+        11 => Ok(Instr::Call {
+            routine: u32::read(cursor)?,
+        }),
+        12 => {
+            let (disc, (arms, otherwise)) = <(Disc, (Arms, Option<u32>))>::read(cursor)?;
+            Ok(Instr::Switch {
+                disc,
+                arms,
+                otherwise,
+            })
+        }
+        _ => Err(TableFault::NotATable),
+    }
+}
+
 impl Part for Instr {
     ghost use Rattle.table_file.specs.Spelling.{spelled_instr};
     ghost use Rattle.table_file.specs.inner.InstrCode.{instr_code};
@@ -97,30 +131,7 @@ impl Part for Instr {
                     bound,
                 })
             }
-            9 => {
-                let (bound, (first, routine)) = <(u32, (Width, u32))>::read(cursor)?;
-                Ok(Instr::SeqOf {
-                    bound,
-                    first,
-                    routine,
-                })
-            }
-            10 => {
-                let (n, routine) = <(u32, u32)>::read(cursor)?;
-                Ok(Instr::Times { n, routine })
-            }
-            11 => Ok(Instr::Call {
-                routine: u32::read(cursor)?,
-            }),
-            12 => {
-                let (disc, (arms, otherwise)) = <(Disc, (Arms, Option<u32>))>::read(cursor)?;
-                Ok(Instr::Switch {
-                    disc,
-                    arms,
-                    otherwise,
-                })
-            }
-            _ => Err(TableFault::NotATable),
+            tag => read_naming(tag, cursor),
         }
     }
 

@@ -14,9 +14,11 @@ mod numbers;
 mod part;
 mod routines;
 mod signatures;
+mod skim;
 mod table;
 mod texts;
 mod uses;
+mod whole;
 
 pub use decode::decode_table;
 pub use encode::encode_table;

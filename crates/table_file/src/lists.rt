@@ -1,13 +1,17 @@
 //! Lists of parts.
 
-ghost use Rattle.std.specs.Prelude.{◌≡◌, ℕ, List};
+ghost use Rattle.std.specs.Prelude.{◌≡◌, ℕ, List, IfOk, IfErr};
 ghost use Rattle.table_file.specs.Octets.{spelled_each, spelled_list, spelled_run, spelled_word};
 ghost use Rattle.table_file.specs.inner.Reading.{Reads, Writes};
+ghost use Rattle.table_file.specs.inner.Skimming.{IsRunSize, IsSize, Skims};
 
 use crate::cursor::Cursor;
 use crate::part::Part;
 use marshal_program::TableFault;
 use type_graph::Items;
+
+/// For so many parts there is room at once, however many there are said to be.
+const FEW: usize = 16;
 
 /// Reads so many parts.
 pub(crate) fn read_run<T: Part>(
@@ -16,12 +20,55 @@ pub(crate) fn read_run<T: Part>(
 ) -> Result<Items<T>, TableFault>
     ensures { Reads (spelled_run count T.spelled) result cursor.old cursor.new }
 {
-    let mut items = Vec::new(cursor.alloc());
+    let mut items = Vec::with_capacity(cursor.alloc(), count.min(FEW))?;
     'items: for place in 0..count {
         let item = T::read(cursor)?;
         items.push(item)?;
     }
     Ok(Items::new(items))
+}
+
+/// How many parts a list has, and no more than they weigh.
+#[derive(Clone, Copy)]
+pub(crate) struct Size {
+    pub count: usize,
+    pub weight: usize,
+}
+
+/// Reads past so many parts and keeps nothing of them. Tells no more than they weigh.
+pub(crate) fn skim_run<T: Part>(cursor: &mut Cursor<'_>, count: usize) -> Result<usize, TableFault>
+    ensures { Skims (spelled_run count T.spelled) (IsRunSize count T.weight) result cursor.old cursor.new }
+{
+    let mut sum = 0usize;
+    'items: for place in 0..count {
+        let weight = T::skim(cursor)?;
+        sum = sum.saturating_add(weight);
+    }
+    Ok(sum)
+}
+
+/// Reads how many parts a list has.
+fn read_count<T: Part>(cursor: &mut Cursor<'_>) -> Result<usize, TableFault>
+    ensures counted { IfOk result (λ count. Reads spelled_word (Ok count) cursor.old cursor.new) }
+    ensures refused { IfErr result (λ fault. Reads (spelled_list T.spelled) (Err fault) cursor.old cursor.new) }
+{
+    let count = u32::read(cursor)? as usize;
+    // Each takes an octet at least.
+    if count > cursor.len() {
+        return Err(TableFault::NotATable);
+    }
+    Ok(count)
+}
+
+/// Reads past a list and keeps nothing of it.
+pub(crate) fn skim_list<T: Part>(cursor: &mut Cursor<'_>) -> Result<Size, TableFault>
+    ensures { Skims (spelled_list T.spelled) (IsSize T.weight) result cursor.old cursor.new }
+{
+    let count = read_count::<T>(cursor)?;
+    match skim_run::<T>(cursor, count) {
+        Ok(weight) => Ok(Size { count, weight }),
+        Err(fault) => Err(fault),
+    }
 }
 
 /// Puts parts behind what was written before.
@@ -53,18 +100,24 @@ pub(crate) fn write_count(count: usize, out: &mut Vec<u8>) -> Result<(), TableFa
 }
 
 impl<T: Part> Part for Items<T> {
+    ghost use Rattle.std.specs.Prelude.{length};
     ghost use Rattle.table_file.specs.Octets.{spelled_list};
     ghost use Rattle.table_file.specs.inner.ListCodes.{list_code};
 
     ghost spelled = { spelled_list T.spelled };
 
+    ghost weight = { λ items. length items };
+
     fn read(cursor: &mut Cursor<'_>) -> Result<Self, TableFault> {
-        let count = u32::read(cursor)? as usize;
-        // Each takes an octet at least.
-        if count > cursor.len() {
-            return Err(TableFault::NotATable);
-        }
+        let count = read_count::<T>(cursor)?;
         read_run(cursor, count)
+    }
+
+    fn skim(cursor: &mut Cursor<'_>) -> Result<usize, TableFault> {
+        match skim_list::<T>(cursor) {
+            Ok(size) => Ok(size.count),
+            Err(fault) => Err(fault),
+        }
     }
 
     fn write(&self, out: &mut Vec<u8>) -> Result<(), TableFault> {

@@ -1,15 +1,32 @@
 //! Nodes of a graph.
 
+ghost use Rattle.std.specs.Prelude.{◌≡◌};
+ghost use Rattle.type_graph.specs.GraphRules.{members_in};
+
 use crate::cursor::Cursor;
 use crate::part::Part;
 use marshal_program::TableFault;
 use type_graph::{Arms, Members, Node, Width};
 
+/// How many members a structure, a frame or a union has.
+fn member_count(node: &Node) -> usize
+    ensures { result ≡ members_in node.now }
+{
+    match node {
+        Node::Struct { members } | Node::Frame { members } => members.as_slice().len(),
+        Node::Union { arms, .. } => arms.as_slice().len(),
+        _ => 0,
+    }
+}
+
 impl Part for Node {
+    ghost use Rattle.type_graph.specs.GraphRules.{members_in};
     ghost use Rattle.table_file.specs.Spelling.{spelled_node};
     ghost use Rattle.table_file.specs.inner.NodeCode.{node_code};
 
     ghost spelled = { spelled_node };
+
+    ghost weight = { members_in };
 
     fn read(cursor: &mut Cursor<'_>) -> Result<Self, TableFault> {
         match cursor.octet()? {
@@ -49,6 +66,13 @@ impl Part for Node {
                 members: Members::read(cursor)?,
             }),
             _ => Err(TableFault::NotATable),
+        }
+    }
+
+    fn skim(cursor: &mut Cursor<'_>) -> Result<usize, TableFault> {
+        match Self::read(cursor) {
+            Ok(node) => Ok(member_count(&node)),
+            Err(fault) => Err(fault),
         }
     }
 

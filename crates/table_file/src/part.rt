@@ -3,6 +3,7 @@
 ghost use Rattle.std.specs.Prelude.{List, ℕ, Option};
 ghost use Rattle.table_file.specs.Octets.{spelled_pair};
 ghost use Rattle.table_file.specs.inner.Reading.{Reads, Writes};
+ghost use Rattle.table_file.specs.inner.Skimming.{IsAtMost, Skims, no_weight, weight_both};
 ghost use Rattle.table_file.specs.inner.Codes.{IsCode};
 
 use crate::cursor::Cursor;
@@ -12,8 +13,21 @@ use marshal_program::TableFault;
 pub(crate) trait Part: Sized + Drop {
     ghost spelled: { Self → Option (List ℕ) };
 
+    /// How many members a node has, how many instructions a routine, how many parts a list.
+    ghost weight: { Self → ℕ } = { no_weight };
+
     fn read(cursor: &mut Cursor<'_>) -> Result<Self, TableFault>
         ensures { Reads spelled result cursor.old cursor.new };
+
+    /// Reads past the part and keeps nothing of it. Tells no more than it weighs.
+    fn skim(cursor: &mut Cursor<'_>) -> Result<usize, TableFault>
+        ensures { Skims spelled (IsAtMost weight) result cursor.old cursor.new }
+    {
+        match Self::read(cursor) {
+            Ok(_) => Ok(0),
+            Err(fault) => Err(fault),
+        }
+    }
 
     /// Puts the part behind what was written before.
     fn write(&self, out: &mut Vec<u8>) -> Result<(), TableFault>
@@ -27,10 +41,18 @@ impl<A: Part, B: Part> Part for (A, B) {
 
     ghost spelled = { spelled_pair A.spelled B.spelled };
 
+    ghost weight = { weight_both A.weight B.weight };
+
     fn read(cursor: &mut Cursor<'_>) -> Result<Self, TableFault> {
         let first = A::read(cursor)?;
         let second = B::read(cursor)?;
         Ok((first, second))
+    }
+
+    fn skim(cursor: &mut Cursor<'_>) -> Result<usize, TableFault> {
+        let first = A::skim(cursor)?;
+        let second = B::skim(cursor)?;
+        Ok(first.saturating_add(second))
     }
 
     fn write(&self, out: &mut Vec<u8>) -> Result<(), TableFault> {

@@ -59,8 +59,11 @@ fn write_body(exits: &[u8; 8], rank: u32, code: &Code, out: &mut Vec<u8>) -> Res
 impl Part for Routine {
     ghost use Rattle.table_file.specs.Spelling.{spelled_routine};
     ghost use Rattle.table_file.specs.inner.PartCodes.{routine_code};
+    ghost use Rattle.table_file.specs.inner.Skimming.{instrs_in};
 
     ghost spelled = { spelled_routine };
+
+    ghost weight = { instrs_in };
 
     fn read(cursor: &mut Cursor<'_>) -> Result<Self, TableFault> {
         let (node, (entry, (exits, (rank, code)))) = <(u32, (u8, ([u8; 8], (u32, Code))))>::read(
@@ -73,6 +76,10 @@ impl Part for Routine {
             rank,
             code,
         })
+    }
+
+    fn skim(cursor: &mut Cursor<'_>) -> Result<usize, TableFault> {
+        <(u32, (u8, ([u8; 8], (u32, Code))))>::skim(cursor)
     }
 
     fn write(&self, out: &mut Vec<u8>) -> Result<(), TableFault> {

@@ -28,6 +28,13 @@ impl Part for Interface {
         })
     }
 
+    fn skim(cursor: &mut Cursor<'_>) -> Result<usize, TableFault> {
+        match <(Name, (Name, (Items<Name>, Items<u32>)))>::skim(cursor) {
+            Ok(_) => Ok(0),
+            Err(fault) => Err(fault),
+        }
+    }
+
     fn write(&self, out: &mut Vec<u8>) -> Result<(), TableFault> {
         self.name.write(out)?;
         self.id.write(out)?;

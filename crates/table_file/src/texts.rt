@@ -4,6 +4,7 @@ ghost use Rattle.std.specs.Prelude.{◌≡◌, length, true, false, nat_lt, IfOk
 ghost use Rattle.std.specs.List.{list_all};
 ghost use Rattle.table_file.specs.Octets.{spelled_ascii, spelled_each, spelled_run, spelled_text};
 ghost use Rattle.table_file.specs.inner.Reading.{Reads, Writes};
+ghost use Rattle.table_file.specs.inner.Skimming.{IsAtMost, Skims, no_weight};
 ghost use Rattle.table_file.specs.Refusal.{OnlyIf};
 
 use crate::cursor::Cursor;
@@ -43,6 +44,17 @@ fn read_name(cursor: &mut Cursor<'_>, count: usize) -> Result<Name, TableFault>
     name_of(cursor.alloc(), octets)
 }
 
+/// Reads past a name of so many octets.
+fn skim_name(cursor: &mut Cursor<'_>, count: usize) -> Result<usize, TableFault>
+    ensures { Skims (spelled_run count spelled_ascii) (IsAtMost no_weight) result cursor.old cursor.new }
+{
+    let octets = cursor.take(count)?;
+    if !is_ascii(octets) {
+        return Err(TableFault::NotATable);
+    }
+    Ok(0)
+}
+
 /// Puts octets, which have to be ASCII, behind what was written before.
 fn write_ascii(octets: &[u8], out: &mut Vec<u8>) -> Result<(), TableFault>
     ensures { Writes (spelled_each spelled_ascii octets.now) result out.old.items out.new.items }
@@ -70,6 +82,11 @@ impl Part for Name {
     fn read(cursor: &mut Cursor<'_>) -> Result<Self, TableFault> {
         let count = u32::read(cursor)? as usize;
         read_name(cursor, count)
+    }
+
+    fn skim(cursor: &mut Cursor<'_>) -> Result<usize, TableFault> {
+        let count = u32::read(cursor)? as usize;
+        skim_name(cursor, count)
     }
 
     fn write(&self, out: &mut Vec<u8>) -> Result<(), TableFault> {

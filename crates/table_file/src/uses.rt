@@ -32,8 +32,8 @@ impl Part for Which {
     ghost is_code = { which_code };
 }
 
-/// More than the numbers of nodes of any graph.
-const MAX_NODES: usize = 4096;
+/// How many nodes a graph may have.
+pub(crate) const MAX_NODES: usize = 4096;
 
 /// Whether names of one node have one use; the uses seen are kept by node.
 fn are_alike(names: &NameTable, uses: &[Which], seen: &mut [Option<Which>]) -> bool

@@ -1,5 +1,5 @@
 -- The rules of a routine apart, as they are tested one after the other.
-use Rattle.std.specs.Prelude.{ℕ, ◌<◌, ◌≤◌, Bool, true, false, List, All}
+use Rattle.std.specs.Prelude.{◌≡◌, ◌↔◌, ℕ, ◌<◌, ◌≤◌, Bool, true, false, List, All, slice_index_or}
 use Rattle.marshal_program.specs.declared.instr.Instr.{Instr}
 use Rattle.marshal_program.specs.declared.instr.Instr.TheVariants.{SeqWords, SeqOf, Switch}
 use Rattle.marshal_program.specs.declared.instr.Routine.{Routine}
@@ -19,6 +19,17 @@ pub record HasAllNumbers (count : ℕ) (routine : Routine) : Type 0 where
 
 abbrev pub NamesWork : List Routine → Routine → Type 0
 NamesWork program routine = All (λ instr. All (TakesOctet program) (named_by instr)) routine.code
+
+-- a number at which it is true
+abbrev pub IsMarked : List Bool → ℕ → Type 0
+IsMarked marks number = slice_index_or marks number false ≡ true
+
+-- true at just the numbers of the routines that take an octet
+abbrev pub AreWorks : List Routine → List Bool → Type 0
+AreWorks program works = (number : ℕ) → IsMarked works number ↔ TakesOctet program number
+
+abbrev pub NamesMarked : List Bool → Routine → Type 0
+NamesMarked works routine = All (λ instr. All (IsMarked works) (named_by instr)) routine.code
 
 abbrev pub CallsLower : List Routine → Routine → Type 0
 CallsLower program routine = All (λ instr. All (IsLower program routine.rank) (called_by instr)) routine.code

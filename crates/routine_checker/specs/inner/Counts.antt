@@ -4,7 +4,7 @@ use Rattle.std.specs.List.{list_any}
 use Rattle.type_graph.specs.declared.node.Node.{Node}
 use Rattle.type_graph.specs.Value.{node_at}
 use Rattle.routine_checker.specs.declared.counts.Made.{Made}
-use Rattle.routine_checker.specs.declared.counts.Counts.{Counts}
+use Rattle.routine_checker.specs.declared.counts.Entries.{Entries}
 use Rattle.routine_checker.specs.Taking.{parts_of, taken}
 use Rattle.routine_checker.specs.inner.Kinds.{is_piece_of}
 
@@ -27,8 +27,8 @@ pieces_in (suc levels) wanted graph number =
 abbrev pub IsMade : List Node → Made → Type 0
 IsMade graph made = 0 < made.n → pieces_in 64 (is_piece_of made.piece graph) graph made.number ≡ made.n
 
-abbrev pub AreCounts : List Node → Counts → Type 0
-AreCounts graph counts = All (IsMade graph) counts.entries.items
+abbrev pub AreEntries : List Node → Entries → Type 0
+AreEntries graph counts = All (IsMade graph) counts.entries.items
 
 -- so many wanted nodes the node is made of, whatever stands behind
 abbrev pub Yields : ℕ → (ℕ → Bool) → List Node → ℕ → Type 0

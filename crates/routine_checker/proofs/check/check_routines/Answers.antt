@@ -10,7 +10,7 @@ use Rattle.routine_checker.proofs.CheckCode.{only_if, routines_first, routines_a
 use Rattle.routine_checker.proofs.check.check_routines.Goals as goal
 
 -- the fault of the routine is that of the program
-refused : (c : goal.After-drop-counts-in-Err) → routine_fault c.args.graph.now c.routines-routines.result.now (place_of c.args.which c.loop-number.number) c.index-routines-number.result ≡ Some c.in-Err.fault → program_fault c.args.which c.args.graph.now c.args.program.now ≡ Some c.in-Err.fault
+refused : (c : goal.After-drop-counts-in-Err-3) → routine_fault c.args.graph.now c.routines-routines.result.now (place_of c.args.which c.loop-number.number) c.index-routines-number.result ≡ Some c.in-Err.fault → program_fault c.args.which c.args.graph.now c.args.program.now ≡ Some c.in-Err.fault
 refused c e =
     let routines = c.routines-routines.result.now in
     let number = c.loop-number.number in

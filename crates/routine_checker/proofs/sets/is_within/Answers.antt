@@ -1,6 +1,10 @@
-use Rattle.std.proofs.Common.{◌≡◌, ap, ◌∙◌, arith}
+use Rattle.std.proofs.Common.{◌≡◌, true, refl, sym, ap, subst, ◌∙◌, arith}
 use Rattle.routine_checker.specs.Sets.{has, at_places, each_place}
 use Rattle.routine_checker.proofs.sets.is_within.Goals as goal
+
+pub returns-then-other-eq-EVERYWHERE : goal.returns-then-other-eq-EVERYWHERE
+unfolding each_place
+returns-then-other-eq-EVERYWHERE c = subst (λ other. true ≡ at_places 8 c.args.set (has other)) (sym c.if-other-eq-EVERYWHERE.true) refl
 
 pub returns : goal.returns
 unfolding each_place

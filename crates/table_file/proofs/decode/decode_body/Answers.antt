@@ -8,7 +8,7 @@ use Rattle.table_file.proofs.decode.decode_body.Goals as goal
 
 pub returns-in_err-draft-clause-refused : goal.returns-in_err-draft-clause-refused
 returns-in_err-draft-clause-refused c =
-    let p = err_from_is_err_and c.from_residual.result c.from_residual.ensures.1 in
+    let p = err_from_is_err_and c.from_residual-in_err-draft.result c.from_residual-in_err-draft.ensures.1 in
     let octets = c.args.octets.now in
     rw (p.1, p.2) (only_if_then c.in_err-draft.field-0.0 ((x : TableFields) → spelled_fields x ≡ Some octets → ⊥) (NoBody octets) (no_body octets) c.in_err-draft.ensures)
 

@@ -8,7 +8,7 @@ use Rattle.table_file.proofs.decode.decode_old.Goals as goal
 
 pub returns-in_err-old-clause-refused : goal.returns-in_err-old-clause-refused
 returns-in_err-old-clause-refused c =
-    let p = err_from_is_err_and c.from_residual.result c.from_residual.ensures.1 in
+    let p = err_from_is_err_and c.from_residual-in_err-old.result c.from_residual-in_err-old.ensures.1 in
     let octets = c.args.octets.now in
     rw (p.1, p.2) (only_if_then c.in_err-old.field-0.0 ((x : OldFields) → spelled_old_fields x ≡ Some octets → ⊥) (NoOldBody octets) (no_old_body octets) c.in_err-old.ensures)
 

@@ -5,7 +5,7 @@ use Rattle.table_file.proofs.lists.read_run.Goals as goal
 
 pub returns-in_err-item : goal.returns-in_err-item
 returns-in_err-item g c =
-    let p = err_from_is_err_and c.from_residual.result c.from_residual.ensures.1 in
+    let p = err_from_is_err_and c.from_residual-in_err-item.result c.from_residual-in_err-item.ensures.1 in
     let long = c.items.invariant.long in
     let test = c.items-test.true in
     let room : length c.items.items.items < c.args.count = omega (arith, long, test) in

@@ -1,0 +1,11 @@
+use Rattle.std.proofs.Common.{◌≡◌, ◌≤◌, ◌-◌, ◌++◌, ℕ, List, drop}
+use Rattle.type_graph.specs.declared.node.Node.{Node}
+use Rattle.routine_checker.specs.Taking.{taken}
+use Rattle.routine_checker.specs.inner.Kinds.{is_piece_of}
+use Rattle.routine_checker.specs.inner.Counts.{AreEntries}
+use Rattle.routine_checker.proofs.counts.Entries.front.Given as goal
+
+abbrev pub invariant-loop-at : goal.invariant-loop-at
+invariant-loop-at l = (l.taken ≤ l.wanted)
+    × ((graph : List Node) → AreEntries graph l.self → (more : List ℕ)
+    → taken l.wanted (is_piece_of l.piece graph) graph (l.numbers ++ more) ≡ taken (l.wanted - l.taken) (is_piece_of l.piece graph) graph (drop l.at l.numbers ++ more))
