@@ -1,4 +1,5 @@
--- What modules and whole files are lowered to, part by part in the order of the text (ISO/IEC 19500-1, module declaration).
+-- What modules and whole files are lowered to, part by part in the order of the text (ISO/IEC 19500-1, module
+-- declaration).
 use Rattle.std.specs.Prelude.{ℕ, ◌+◌, List, length, Result, Ok}
 use Rattle.idl_tree.specs.declared.definitions.Definition.{Definition, Pragma, Declaration as Declared, Interface as InterfaceDcl, Module', Row_of-Definition, end_of-Definition, more_of-Definition}
 use Rattle.name_table.specs.Entry.{Entry}

@@ -93,8 +93,8 @@ impl OperationTable {
             (with_attribute names.now.entries scope number declared.now self identifier.entry) }
     {
         let at = identifier.at();
-        let get = find_get_raised(&self.types, alloc, names, scope, declared)?;
-        let set = find_set_raised(&self.types, alloc, names, scope, declared)?;
+        let get = find_get_raised(names, &self.types, alloc, scope, declared)?;
+        let set = find_set_raised(names, &self.types, alloc, scope, declared)?;
         let entry = declared_entry(names, scope, identifier)?;
         let (table, request) = self.with_get(alloc, number, get, entry, at)?;
         table.with_access(alloc, request, number, is_set(declared), set, entry, at)

@@ -56,69 +56,71 @@ impl OperationTable {
             _ => &[],
         }
     }
+}
 
-    /// The places of the operations that an interface inherits.
-    fn inherited<'a>(
-        &self,
-        alloc: Global,
-        names: &Names<'a>,
-        entry: usize,
-    ) -> Result<Vec<usize>, BuildFault>
-        requires { entry < length names.now.entries }
-        ensures { Tells result (λ places. places.items)
-            (Ok (inherited self.now (bases_in (slice_get names.now.entries entry)))) }
-    {
-        let mut places = IndexSet::new(alloc);
-        for k in 0..names.base_count(entry) {
-            if let Some(base) = names.base(entry, k) {
-                insert_each(&mut places, self.operations_of(base.entry))?;
-            }
+/// The places of the operations that an interface inherits.
+fn inherited<'a>(
+    names: &Names<'a>,
+    table: &OperationTable,
+    alloc: Global,
+    entry: usize,
+) -> Result<Vec<usize>, BuildFault>
+    requires { entry < length names.now.entries }
+    ensures { Tells result (λ places. places.items)
+        (Ok (inherited table.now (bases_in (slice_get names.now.entries entry)))) }
+{
+    let mut places = IndexSet::new(alloc);
+    for k in 0..names.base_count(entry) {
+        if let Some(base) = names.base(entry, k) {
+            insert_each(&mut places, table.operations_of(base.entry))?;
         }
-        list_of(alloc, &places)
     }
+    list_of(alloc, &places)
+}
 
-    /// The entries of all interfaces that an interface inherits from.
-    fn all_bases<'a>(
-        &self,
-        alloc: Global,
-        names: &Names<'a>,
-        entry: usize,
-    ) -> Result<Vec<usize>, BuildFault>
-        requires { entry < length names.now.entries }
-        ensures { Tells result (λ bases. bases.items)
-            (Ok (all_bases self.now (bases_in (slice_get names.now.entries entry)))) }
-    {
-        let mut all = IndexSet::new(alloc);
-        for place in 0..names.base_count(entry) {
-            if let Some(base) = names.base(entry, place) {
-                all.insert(base.entry)?;
-                insert_each(&mut all, self.all_bases_of(base.entry))?;
-            }
+/// The entries of all interfaces that an interface inherits from.
+fn all_bases<'a>(
+    names: &Names<'a>,
+    table: &OperationTable,
+    alloc: Global,
+    entry: usize,
+) -> Result<Vec<usize>, BuildFault>
+    requires { entry < length names.now.entries }
+    ensures { Tells result (λ bases. bases.items)
+        (Ok (all_bases table.now (bases_in (slice_get names.now.entries entry)))) }
+{
+    let mut all = IndexSet::new(alloc);
+    for place in 0..names.base_count(entry) {
+        if let Some(base) = names.base(entry, place) {
+            all.insert(base.entry)?;
+            insert_each(&mut all, table.all_bases_of(base.entry))?;
         }
-        list_of(alloc, &all)
     }
+    list_of(alloc, &all)
+}
 
-    /// What an interface has, whose first operation has the place.
-    fn offering<'a>(
-        &self,
-        alloc: Global,
-        names: &Names<'a>,
-        entry: usize,
-        first: usize,
-    ) -> Result<Offered, BuildFault>
-        requires { entry < length names.now.entries }
-        ensures { Tells result (λ offered. offered)
-            (Ok (offering self.now first (bases_in (slice_get names.now.entries entry)))) }
-    {
-        let mut places = self.inherited(alloc, names, entry)?;
-        push_from(&mut places, first, self.operations.len())?;
-        let bases = self.all_bases(alloc, names, entry)?;
-        Ok(Offered {
-            operations: Items::new(places),
-            bases: Items::new(bases),
-        })
-    }
+/// What an interface has, whose first operation has the place.
+fn offering<'a>(
+    names: &Names<'a>,
+    table: &OperationTable,
+    alloc: Global,
+    entry: usize,
+    first: usize,
+) -> Result<Offered, BuildFault>
+    requires { entry < length names.now.entries }
+    ensures { Tells result (λ offered. offered)
+        (Ok (offering table.now first (bases_in (slice_get names.now.entries entry)))) }
+{
+    let mut places = inherited(names, table, alloc, entry)?;
+    push_from(&mut places, first, table.operations.len())?;
+    let bases = all_bases(names, table, alloc, entry)?;
+    Ok(Offered {
+        operations: Items::new(places),
+        bases: Items::new(bases),
+    })
+}
 
+impl OperationTable {
     fn with_export<'a>(
         self,
         alloc: Global,
@@ -195,7 +197,7 @@ impl OperationTable {
         let first = self.operations.len();
         let table = self.with_reference(entry)?;
         let table = table.with_exports(alloc, names, entry + 1, exports)?;
-        let offered = table.offering(alloc, names, entry, first)?;
+        let offered = offering(names, &table, alloc, entry, first)?;
         table.with_offered(entry, offered)
     }
 

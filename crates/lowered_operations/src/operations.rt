@@ -28,7 +28,7 @@ impl OperationTable {
         ensures { Tells result (λ table. table) (with_operation names.now.entries scope self carried o.now) }
     {
         let at = o.identifier.at();
-        let raises = find_all_raised(&self.types, alloc, names, scope, &o.raises)?;
+        let raises = find_all_raised(names, &self.types, alloc, scope, &o.raises)?;
         let entry = declared_entry(names, scope, o.identifier)?;
         let (table, request) = self.with_call(
             carried,

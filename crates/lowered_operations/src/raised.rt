@@ -14,8 +14,8 @@ use std::alloc::Global;
 
 /// The place of the exception that a name finds. Takes no memory.
 fn find_exception<'a>(
-    types: &TypeTable,
     names: &Names<'a>,
+    types: &TypeTable,
     scope: usize,
     name: &ScopedName<'a>,
 ) -> Result<usize, BuildFault>
@@ -34,9 +34,9 @@ fn find_exception<'a>(
 /// # Errors
 /// Those of `resolved`, `OtherNames` where a name finds no exception, want of memory.
 fn find_raised<'a>(
+    names: &Names<'a>,
     types: &TypeTable,
     alloc: Global,
-    names: &Names<'a>,
     scope: usize,
     raises: &Listed<ScopedName<'a>>,
 ) -> Result<Vec<usize>, BuildFault>
@@ -45,7 +45,7 @@ fn find_raised<'a>(
 {
     let mut places = Vec::new(alloc);
     for name in raises.iter() {
-        let place = find_exception(types, names, scope, name)?;
+        let place = find_exception(names, types, scope, name)?;
         places.push(place)?;
     }
     Ok(places)
@@ -56,9 +56,9 @@ fn find_raised<'a>(
 /// # Errors
 /// As `find_raised`.
 pub(crate) fn find_all_raised<'a>(
+    names: &Names<'a>,
     types: &TypeTable,
     alloc: Global,
-    names: &Names<'a>,
     scope: usize,
     raises: &Option<Listed<ScopedName<'a>>>,
 ) -> Result<Vec<usize>, BuildFault>
@@ -66,7 +66,7 @@ pub(crate) fn find_all_raised<'a>(
     ensures { Tells result (λ found. found.items) (raised names.now.entries types.now scope (parts_of raises.now)) }
 {
     match raises {
-        Some(raises) => find_raised(types, alloc, names, scope, raises),
+        Some(raises) => find_raised(names, types, alloc, scope, raises),
         None => Ok(Vec::new(alloc)),
     }
 }
@@ -76,9 +76,9 @@ pub(crate) fn find_all_raised<'a>(
 /// # Errors
 /// As `find_raised`.
 pub(crate) fn find_get_raised<'a>(
+    names: &Names<'a>,
     types: &TypeTable,
     alloc: Global,
-    names: &Names<'a>,
     scope: usize,
     declared: &Attributes<'a>,
 ) -> Result<Vec<usize>, BuildFault>
@@ -86,8 +86,8 @@ pub(crate) fn find_get_raised<'a>(
     ensures { Tells result (λ found. found.items) (raised names.now.entries types.now scope (get_raises declared.now)) }
 {
     match declared {
-        Attributes::Readonly { raises, .. } => find_raised(types, alloc, names, scope, raises),
-        Attributes::Get { get, .. } => find_raised(types, alloc, names, scope, get),
+        Attributes::Readonly { raises, .. } => find_raised(names, types, alloc, scope, raises),
+        Attributes::Get { get, .. } => find_raised(names, types, alloc, scope, get),
         Attributes::Silent { .. } | Attributes::Set { .. } => Ok(Vec::new(alloc)),
     }
 }
@@ -97,9 +97,9 @@ pub(crate) fn find_get_raised<'a>(
 /// # Errors
 /// As `find_raised`.
 pub(crate) fn find_set_raised<'a>(
+    names: &Names<'a>,
     types: &TypeTable,
     alloc: Global,
-    names: &Names<'a>,
     scope: usize,
     declared: &Attributes<'a>,
 ) -> Result<Vec<usize>, BuildFault>
@@ -107,8 +107,8 @@ pub(crate) fn find_set_raised<'a>(
     ensures { Tells result (λ found. found.items) (raised names.now.entries types.now scope (set_raises declared.now)) }
 {
     match declared {
-        Attributes::Get { set, .. } => find_all_raised(types, alloc, names, scope, set),
-        Attributes::Set { set, .. } => find_raised(types, alloc, names, scope, set),
+        Attributes::Get { set, .. } => find_all_raised(names, types, alloc, scope, set),
+        Attributes::Set { set, .. } => find_raised(names, types, alloc, scope, set),
         Attributes::Silent { .. } | Attributes::Readonly { .. } => Ok(Vec::new(alloc)),
     }
 }

@@ -1,4 +1,5 @@
--- What the declarations of modules and interfaces are lowered to (ISO/IEC 19500-1, type, constant and exception declaration).
+-- What the declarations of modules and interfaces are lowered to (ISO/IEC 19500-1, type, constant and exception
+-- declaration).
 use Rattle.std.specs.Prelude.{ℕ, ◌+◌, List, [], ◌∷◌, length, Result, Ok}
 use Rattle.idl_tree.specs.declared.names.At.{At}
 use Rattle.idl_tree.specs.declared.names.Leaf.{Leaf}

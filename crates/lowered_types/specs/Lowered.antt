@@ -1,5 +1,5 @@
--- What the parts of a specification are lowered to in a graph of types, one behind another: the node of each type, in the order
--- of their numbers, and what each declared name has.
+-- What the parts of a specification are lowered to in a graph of types, one behind another: the node of each type, in
+-- the order of their numbers, and what each declared name has.
 use Rattle.std.specs.Prelude.{ℕ, Bool, true, false, ◌+◌, ◌-◌, nat_lt, if◌then◌else◌, List, [], ◌∷◌, ◌++◌, length, replicate, Option, Some, None, Result, Ok, Err, slice_get, slice_set}
 use Rattle.idl_tree.specs.declared.names.At.{At}
 use Rattle.type_graph.specs.declared.fault.GraphLimit.TheVariants.{Nodes, AllMembers}
@@ -54,7 +54,8 @@ next w = length w.nodes
 
 -- a node that gets the next number
 abbrev pub added : Lowered → Node → Sites → Result Numbered BuildFault
-added w node sites = at_most max_nodes Nodes sites.at (next w + 1) >> λ n. Ok (already (with_node w node sites) (next w))
+added w node sites =
+    at_most max_nodes Nodes sites.at (next w + 1) >> λ n. Ok (already (with_node w node sites) (next w))
 
 abbrev pub one_site : At → Sites
 one_site at = record { at = at; held = at ∷ [] }

@@ -55,7 +55,8 @@ abbrev pub with_declarators : List Entry → ℕ → Numbered → Members → Li
 with_declarators es scope t ms ds = each (with_declarator es scope t.number) (with_members_of t.lowered ms) (parts ds)
 
 -- members of one type more: first it is read, and then there are its declarators
-abbrev pub members_added : List Entry → ℕ → Members → Result Numbered BuildFault → Listed Declarator → Result WithMembers BuildFault
+abbrev pub members_added : List Entry → ℕ → Members → Result Numbered BuildFault → Listed Declarator
+    → Result WithMembers BuildFault
 members_added es scope ms type ds = type >> λ t. with_declarators es scope t ms ds
 
 -- a structure whose number is known has these members
@@ -75,7 +76,8 @@ abbrev pub cases_of : Lowered → Arms → Cases
 cases_of w arms = record { lowered = w; arms = arms }
 
 -- a case more: first its labels are judged, then its type is read, and then it has its arms
-abbrev pub case_added : List Entry → ℕ → Switch → Cases → Listed Label → (Lowered → Result Numbered BuildFault) → Declarator → Result Cases BuildFault
+abbrev pub case_added : List Entry → ℕ → Switch → Cases → Listed Label
+    → (Lowered → Result Numbered BuildFault) → Declarator → Result Cases BuildFault
 case_added es scope s c labels type d =
     each (label_added es scope s c.arms) no_labels (parts labels) >> λ ls.
     type c.lowered >> λ t.

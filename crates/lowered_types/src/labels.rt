@@ -12,7 +12,8 @@ use crate::fault::{BuildFault, LabelWorth, TypeFault, TypeKind, at_most};
 use crate::kinds::{const_kind, kind_of_type};
 use crate::members::MAX_MEMBERS;
 use crate::readings::{declared_entry, integer_number, read_value, resolved};
-use crate::table::TypeTable;
+use crate::simple::lower_enum;
+use crate::table::{TypeTable, find_type};
 use const_values::{ConstKind, Constant};
 use idl_tree::expression::Expr;
 use idl_tree::names::{At, Listed};
@@ -134,33 +135,33 @@ impl CaseLabels {
         self.default = Some(at);
         Ok(())
     }
+}
 
-    /// A label more.
-    ///
-    /// # Errors
-    /// Those of its expression; `LabelRange`, `LabelTwice`, `Limit`; want of memory.
-    fn add_label<'a>(
-        &mut self,
-        alloc: Global,
-        names: &Names<'a>,
-        scope: usize,
-        switch: Switch,
-        arms: &ArmList,
-        label: &Label<'a>,
-    ) -> Result<(), BuildFault>
-        requires { scope ≤ length names.now.entries }
-        ensures { Tells result (λ u. self.new) (label_added names.now.entries scope switch arms.now self.old label.now) }
-    {
-        match label {
-            Label::Case(value) => {
-                let at = value.expr.start().at();
-                let value = read_label(alloc, names, scope, switch, &value.expr)?;
-                self.add_value(arms, at, value)
-            }
-            Label::Default(word) => {
-                let at = word.at();
-                self.add_default(arms, at)
-            }
+/// A label more.
+///
+/// # Errors
+/// Those of its expression; `LabelRange`, `LabelTwice`, `Limit`; want of memory.
+fn add_label<'a>(
+    names: &Names<'a>,
+    read: &mut CaseLabels,
+    alloc: Global,
+    scope: usize,
+    switch: Switch,
+    arms: &ArmList,
+    label: &Label<'a>,
+) -> Result<(), BuildFault>
+    requires { scope ≤ length names.now.entries }
+    ensures { Tells result (λ u. read.new) (label_added names.now.entries scope switch arms.now read.old label.now) }
+{
+    match label {
+        Label::Case(value) => {
+            let at = value.expr.start().at();
+            let value = read_label(alloc, names, scope, switch, &value.expr)?;
+            read.add_value(arms, at, value)
+        }
+        Label::Default(word) => {
+            let at = word.at();
+            read.add_default(arms, at)
         }
     }
 }
@@ -178,11 +179,12 @@ pub(crate) fn read_labels<'a>(
     labels: &Listed<Label<'a>>,
 ) -> Result<CaseLabels, BuildFault>
     requires { scope ≤ length names.now.entries }
-    ensures { Tells result (λ ls. ls) (each (label_added names.now.entries scope switch arms.now) no_labels (parts labels.now)) }
+    ensures { Tells result (λ ls. ls)
+        (each (label_added names.now.entries scope switch arms.now) no_labels (parts labels.now)) }
 {
     let mut read = CaseLabels::new(alloc);
     for label in labels.iter() {
-        read.add_label(alloc, names, scope, switch, arms, label)?;
+        add_label(names, &mut read, alloc, scope, switch, arms, label)?;
     }
     Ok(read)
 }
@@ -368,46 +370,44 @@ fn switch_of(
     }
 }
 
-impl TypeTable {
-    /// The type of a discriminator; gives its number.
-    fn lower_switch_type<'a>(
-        &mut self,
-        alloc: Global,
-        names: &Names<'a>,
-        scope: usize,
-        switch: &SwitchType<'a>,
-    ) -> Result<u32, BuildFault>
-        requires { scope ≤ length names.now.entries }
-        ensures { Tells result (already self.new) (switch_type names.now.entries self.old scope switch.now) }
-    {
-        match switch {
-            SwitchType::Integer(integer) => Ok(integer_number(*integer)),
-            SwitchType::Char => Ok(basic_types::CHAR),
-            SwitchType::Boolean => Ok(basic_types::BOOLEAN),
-            SwitchType::Enum(e) => self.lower_enum(alloc, names, scope, e),
-            SwitchType::Name(name) => self.named(names, scope, name),
-        }
+/// The type of a discriminator; gives its number.
+fn lower_switch_type<'a>(
+    names: &Names<'a>,
+    table: &mut TypeTable,
+    alloc: Global,
+    scope: usize,
+    switch: &SwitchType<'a>,
+) -> Result<u32, BuildFault>
+    requires { scope ≤ length names.now.entries }
+    ensures { Tells result (already table.new) (switch_type names.now.entries table.old scope switch.now) }
+{
+    match switch {
+        SwitchType::Integer(integer) => Ok(integer_number(*integer)),
+        SwitchType::Char => Ok(basic_types::CHAR),
+        SwitchType::Boolean => Ok(basic_types::BOOLEAN),
+        SwitchType::Enum(e) => lower_enum(names, table, alloc, scope, e),
+        SwitchType::Name(name) => find_type(names, table, scope, name),
     }
+}
 
-    /// The discriminator of a union that stands there.
-    ///
-    /// # Errors
-    /// Those of its name or enumeration; `BadSwitch` where it has no labels; want of memory.
-    pub(crate) fn lower_switch<'a>(
-        &mut self,
-        alloc: Global,
-        names: &Names<'a>,
-        scope: usize,
-        at: At,
-        switch: &SwitchType<'a>,
-    ) -> Result<Switch, BuildFault>
-        requires { scope ≤ length names.now.entries }
-        ensures { Tells result (switched self.new) (switch_read names.now.entries self.old scope at switch.now) }
-    {
-        let number = self.lower_switch_type(alloc, names, scope, switch)?;
-        let kind = kind_of(names, scope, switch)?;
-        let node = self.nodes().get(number as usize);
-        let found = kind_of_type(number, node);
-        switch_of(switch_at(switch, at), found, number, kind, values_of(node))
-    }
+/// The discriminator of a union that stands there.
+///
+/// # Errors
+/// Those of its name or enumeration; `BadSwitch` where it has no labels; want of memory.
+pub(crate) fn lower_switch<'a>(
+    names: &Names<'a>,
+    table: &mut TypeTable,
+    alloc: Global,
+    scope: usize,
+    at: At,
+    switch: &SwitchType<'a>,
+) -> Result<Switch, BuildFault>
+    requires { scope ≤ length names.now.entries }
+    ensures { Tells result (switched table.new) (switch_read names.now.entries table.old scope at switch.now) }
+{
+    let number = lower_switch_type(names, table, alloc, scope, switch)?;
+    let kind = kind_of(names, scope, switch)?;
+    let node = table.nodes().get(number as usize);
+    let found = kind_of_type(number, node);
+    switch_of(switch_at(switch, at), found, number, kind, values_of(node))
 }

@@ -7,6 +7,7 @@ ghost use Rattle.lowered_types.specs.Lowered.{added, already, counted, placed};
 
 use crate::fault::BuildFault;
 use crate::place::Place;
+use crate::simple::lower_param_type;
 use crate::table::TypeTable;
 use idl_tree::names::At;
 use idl_tree::types::ParamType;
@@ -67,7 +68,7 @@ impl TypeTable {
         ensures { Tells result (λ r. already r.0 r.1) (param_type names.now.entries self scope t.now) }
     {
         let mut table = self;
-        let number = table.lower_param_type(alloc, names, scope, t)?;
+        let number = lower_param_type(names, &mut table, alloc, scope, t)?;
         Ok((table, number))
     }
 }

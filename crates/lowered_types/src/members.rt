@@ -14,7 +14,6 @@ pub(crate) const MAX_MEMBERS: u32 = 1024;
 
 /// The members of a structure or a frame. A contract sees the numbers of their types, and where
 /// their declarators stand.
-#[derive(Drop)]
 pub struct MemberList {
     numbers: Vec<u32>,
     sites: Vec<At>,
@@ -26,6 +25,15 @@ impl Model for MemberList {
     ghost Value = { Members };
 
     ghost view = { λ m. record { numbers = m.numbers.items; sites = m.sites.items } };
+}
+
+impl Drop for MemberList {
+    fn drop(self) {
+        let MemberList {
+            numbers: _,
+            sites: _,
+        } = self;
+    }
 }
 
 impl MemberList {
@@ -77,6 +85,7 @@ impl MemberList {
         ensures numbers { result.0 ≡ self.numbers }
         ensures sites { result.1.items ≡ self.sites }
     {
-        (Members::new(self.numbers), self.sites)
+        let MemberList { numbers, sites } = self;
+        (Members::new(numbers), sites)
     }
 }

@@ -7,7 +7,7 @@ ghost use Rattle.lowered_types.specs.Lowered.{already};
 
 use crate::fault::{BuildFault, at_most};
 use crate::readings::{declared_entry, integer_number, read_bound, read_bound_or_none, read_sizes};
-use crate::table::TypeTable;
+use crate::table::{TypeTable, find_type};
 use idl_tree::names::At;
 use idl_tree::types::{ConstType, Declarator, EnumType, ParamType, SimpleType};
 use scoped_names::Names;
@@ -17,77 +17,6 @@ use type_graph::{GraphLimit, Node};
 const MAX_ENUMERATORS: u32 = 65536;
 
 impl TypeTable {
-    /// The type of a constant, a parameter or a member; gives its number.
-    ///
-    /// # Errors
-    /// Those of its name or its bound, of `add`.
-    pub(crate) fn lower_const_type<'a>(
-        &mut self,
-        alloc: Global,
-        names: &Names<'a>,
-        scope: usize,
-        t: &ConstType<'a>,
-    ) -> Result<u32, BuildFault>
-        requires { scope ≤ length names.now.entries }
-        ensures { Tells result (already self.new) (const_type names.now.entries self.old scope t.now) }
-    {
-        match t {
-            ConstType::Integer(integer) => Ok(integer_number(*integer)),
-            ConstType::Octet => Ok(basic_types::OCTET),
-            ConstType::Char => Ok(basic_types::CHAR),
-            ConstType::Boolean => Ok(basic_types::BOOLEAN),
-            ConstType::String(None) => Ok(basic_types::STRING),
-            ConstType::String(Some(bound)) => {
-                let most = read_bound(alloc, names, scope, bound)?;
-                let at = bound.expr.start().at();
-                self.add_at(alloc, Node::Text { bound: most }, at)
-            }
-            ConstType::Name(name) => self.named(names, scope, name),
-        }
-    }
-
-    /// The type of a parameter, a result or an attribute; gives its number.
-    ///
-    /// # Errors
-    /// As `lower_const_type`.
-    pub(crate) fn lower_param_type<'a>(
-        &mut self,
-        alloc: Global,
-        names: &Names<'a>,
-        scope: usize,
-        t: &ParamType<'a>,
-    ) -> Result<u32, BuildFault>
-        requires { scope ≤ length names.now.entries }
-        ensures { Tells result (already self.new) (param_type names.now.entries self.old scope t.now) }
-    {
-        match t {
-            ParamType::Plain(plain) => self.lower_const_type(alloc, names, scope, plain),
-            ParamType::Object => Ok(basic_types::OBJECT),
-        }
-    }
-
-    /// A type that declares nothing, of a declarator that stands there; gives its number.
-    pub(crate) fn lower_simple<'a>(
-        &mut self,
-        alloc: Global,
-        names: &Names<'a>,
-        scope: usize,
-        at: At,
-        t: &SimpleType<'a>,
-    ) -> Result<u32, BuildFault>
-        requires { scope ≤ length names.now.entries }
-        ensures { Tells result (already self.new) (simple_type names.now.entries self.old scope at t.now) }
-    {
-        match t {
-            SimpleType::Plain(plain) => self.lower_param_type(alloc, names, scope, plain),
-            SimpleType::Sequence { element, bound } => {
-                let elem = self.lower_simple(alloc, names, scope, at, element)?;
-                let bound = read_bound_or_none(alloc, names, scope, bound)?;
-                self.add_at(alloc, Node::Seq { elem, bound }, at)
-            }
-        }
-    }
-
     /// Arrays of a type that is lowered, for a declarator that stands there; gives the number of the
     /// outermost, or that of the type where there is none.
     fn add_arrays(
@@ -111,41 +40,113 @@ impl TypeTable {
         }
         Ok(number)
     }
+}
 
-    /// The type of a declarator, where that before it has the number; gives its number.
-    pub(crate) fn lower_arrays<'a>(
-        &mut self,
-        alloc: Global,
-        names: &Names<'a>,
-        scope: usize,
-        elem: u32,
-        declarator: &Declarator<'a>,
-    ) -> Result<u32, BuildFault>
-        requires { scope ≤ length names.now.entries }
-        ensures { Tells result (already self.new) (array_type names.now.entries scope (already self.old elem) declarator.now) }
-    {
-        let counts = read_sizes(alloc, names, scope, declarator.sizes.as_slice())?;
-        let at = declarator.identifier.at();
-        self.add_arrays(alloc, elem, at, counts.as_slice())
+/// The type of a constant, a parameter or a member; gives its number.
+///
+/// # Errors
+/// Those of its name or its bound, of `add`.
+pub(crate) fn lower_const_type<'a>(
+    names: &Names<'a>,
+    table: &mut TypeTable,
+    alloc: Global,
+    scope: usize,
+    t: &ConstType<'a>,
+) -> Result<u32, BuildFault>
+    requires { scope ≤ length names.now.entries }
+    ensures { Tells result (already table.new) (const_type names.now.entries table.old scope t.now) }
+{
+    match t {
+        ConstType::Integer(integer) => Ok(integer_number(*integer)),
+        ConstType::Octet => Ok(basic_types::OCTET),
+        ConstType::Char => Ok(basic_types::CHAR),
+        ConstType::Boolean => Ok(basic_types::BOOLEAN),
+        ConstType::String(None) => Ok(basic_types::STRING),
+        ConstType::String(Some(bound)) => {
+            let most = read_bound(alloc, names, scope, bound)?;
+            let at = bound.expr.start().at();
+            table.add_at(alloc, Node::Text { bound: most }, at)
+        }
+        ConstType::Name(name) => find_type(names, table, scope, name),
     }
+}
 
-    /// An enumeration; gives its number.
-    ///
-    /// # Errors
-    /// `Limit` above 65,536 enumerators, as `add_named`.
-    pub(crate) fn lower_enum<'a>(
-        &mut self,
-        alloc: Global,
-        names: &Names<'a>,
-        scope: usize,
-        e: &EnumType<'a>,
-    ) -> Result<u32, BuildFault>
-        ensures { Tells result (already self.new) (enum_type names.now.entries self.old scope e.now) }
-    {
-        let at = e.identifier.at();
-        let entry = declared_entry(names, scope, e.identifier)?;
-        let count = e.enumerators.len() as u128;
-        let n = at_most(MAX_ENUMERATORS, GraphLimit::Enumerators, at, count)?;
-        self.add_named(alloc, entry, Node::Enum { n }, at)
+/// The type of a parameter, a result or an attribute; gives its number.
+///
+/// # Errors
+/// As `lower_const_type`.
+pub(crate) fn lower_param_type<'a>(
+    names: &Names<'a>,
+    table: &mut TypeTable,
+    alloc: Global,
+    scope: usize,
+    t: &ParamType<'a>,
+) -> Result<u32, BuildFault>
+    requires { scope ≤ length names.now.entries }
+    ensures { Tells result (already table.new) (param_type names.now.entries table.old scope t.now) }
+{
+    match t {
+        ParamType::Plain(plain) => lower_const_type(names, table, alloc, scope, plain),
+        ParamType::Object => Ok(basic_types::OBJECT),
     }
+}
+
+/// A type that declares nothing, of a declarator that stands there; gives its number.
+pub(crate) fn lower_simple<'a>(
+    names: &Names<'a>,
+    table: &mut TypeTable,
+    alloc: Global,
+    scope: usize,
+    at: At,
+    t: &SimpleType<'a>,
+) -> Result<u32, BuildFault>
+    requires { scope ≤ length names.now.entries }
+    ensures { Tells result (already table.new) (simple_type names.now.entries table.old scope at t.now) }
+{
+    match t {
+        SimpleType::Plain(plain) => lower_param_type(names, table, alloc, scope, plain),
+        SimpleType::Sequence { element, bound } => {
+            let elem = lower_simple(names, table, alloc, scope, at, element)?;
+            let bound = read_bound_or_none(alloc, names, scope, bound)?;
+            table.add_at(alloc, Node::Seq { elem, bound }, at)
+        }
+    }
+}
+
+/// The type of a declarator, where that before it has the number; gives its number.
+pub(crate) fn lower_arrays<'a>(
+    names: &Names<'a>,
+    table: &mut TypeTable,
+    alloc: Global,
+    scope: usize,
+    elem: u32,
+    declarator: &Declarator<'a>,
+) -> Result<u32, BuildFault>
+    requires { scope ≤ length names.now.entries }
+    ensures { Tells result (already table.new)
+        (array_type names.now.entries scope (already table.old elem) declarator.now) }
+{
+    let counts = read_sizes(alloc, names, scope, declarator.sizes.as_slice())?;
+    let at = declarator.identifier.at();
+    table.add_arrays(alloc, elem, at, counts.as_slice())
+}
+
+/// An enumeration; gives its number.
+///
+/// # Errors
+/// `Limit` above 65,536 enumerators, as `add_named`.
+pub(crate) fn lower_enum<'a>(
+    names: &Names<'a>,
+    table: &mut TypeTable,
+    alloc: Global,
+    scope: usize,
+    e: &EnumType<'a>,
+) -> Result<u32, BuildFault>
+    ensures { Tells result (already table.new) (enum_type names.now.entries table.old scope e.now) }
+{
+    let at = e.identifier.at();
+    let entry = declared_entry(names, scope, e.identifier)?;
+    let count = e.enumerators.len() as u128;
+    let n = at_most(MAX_ENUMERATORS, GraphLimit::Enumerators, at, count)?;
+    table.add_named(alloc, entry, Node::Enum { n }, at)
 }

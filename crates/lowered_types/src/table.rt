@@ -26,7 +26,6 @@ const BASIC_MEMBERS: usize = 4;
 /// The types that are lowered so far, and what the entries among the names have of them. A contract
 /// sees the nodes, what each entry has, the exceptions, where the nodes behind the basic types
 /// stand, and how many members all types have.
-#[derive(Drop)]
 pub struct TypeTable {
     nodes: Vec<Node>,
     places: Vec<Option<Place>>,
@@ -41,6 +40,20 @@ impl Model for TypeTable {
     ghost Value = { Lowered };
 
     ghost view = { λ t. record { nodes = t.nodes.items; places = t.places.items; exceptions = t.exceptions.items; sites = t.sites.items; members = t.members } };
+}
+
+// A derived drop would stand in each function that lets go of a table, field by field.
+
+impl Drop for TypeTable {
+    fn drop(self) {
+        let TypeTable {
+            nodes: _,
+            places: _,
+            exceptions: _,
+            sites: _,
+            members: _,
+        } = self;
+    }
 }
 
 /// A structure that has no members yet.
@@ -134,26 +147,6 @@ impl TypeTable {
         match self.places.get(entry) {
             Some(Some(Place::Typed(number))) => Some(*number),
             _ => None,
-        }
-    }
-
-    /// The node of the type that a name finds. Takes no memory.
-    ///
-    /// # Errors
-    /// `OtherNames` where it finds no type.
-    pub(crate) fn named<'a>(
-        &self,
-        names: &Names<'a>,
-        scope: usize,
-        name: &ScopedName<'a>,
-    ) -> Result<u32, BuildFault>
-        requires { scope ≤ length names.now.entries }
-        ensures { result ≡ type_found names.now.entries self.now scope name.now }
-    {
-        let entry = resolved(names, scope, name)?;
-        match self.type_at(entry) {
-            Some(number) => Ok(number),
-            None => Err(BuildFault::OtherNames),
         }
     }
 
@@ -290,6 +283,33 @@ impl TypeTable {
     pub fn into_nodes(self) -> Vec<Node>
         ensures { result.items ≡ self.nodes }
     {
-        self.nodes
+        let TypeTable {
+            nodes,
+            places: _,
+            exceptions: _,
+            sites: _,
+            members: _,
+        } = self;
+        nodes
+    }
+}
+
+/// The node of the type that a name finds. Takes no memory.
+///
+/// # Errors
+/// `OtherNames` where it finds no type.
+pub(crate) fn find_type<'a>(
+    names: &Names<'a>,
+    table: &TypeTable,
+    scope: usize,
+    name: &ScopedName<'a>,
+) -> Result<u32, BuildFault>
+    requires { scope ≤ length names.now.entries }
+    ensures { result ≡ type_found names.now.entries table.now scope name.now }
+{
+    let entry = resolved(names, scope, name)?;
+    match table.type_at(entry) {
+        Some(number) => Ok(number),
+        None => Err(BuildFault::OtherNames),
     }
 }

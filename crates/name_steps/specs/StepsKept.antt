@@ -1,9 +1,6 @@
 -- The steps that are kept, as contracts see them.
 use Rattle.std.specs.Prelude.{List, [], ◌∷◌, map}
 use Rattle.idl_tree.specs.declared.definitions.Definition.{Definition, Pragma, Declaration, Interface, Module'}
-use Rattle.idl_tree.specs.declared.definitions.Export.{Export}
-use Rattle.idl_tree.specs.declared.definitions.Interface.{Interface as InterfaceDcl}
-use Rattle.idl_tree.specs.declared.definitions.Interface.TheVariants.{Ahead, Defined}
 use Rattle.name_steps.specs.declared.step.Step.{Step}
 use Rattle.name_steps.specs.declared.step.Steps.{Steps}
 use Rattle.name_steps.specs.declared.step.Step.TheVariants as Kept
@@ -39,8 +36,3 @@ flat_steps (Pragma l) = Says l ∷ []
 flat_steps (Declaration d) = declaration_steps d
 flat_steps (Interface i) = interface_steps i
 flat_steps (Module' id shape definitions) = []
-
--- what stands in the body of an interface
-abbrev pub exports_in : InterfaceDcl → List Export
-exports_in (Ahead id) = []
-exports_in (Defined id bases exports) = exports.items

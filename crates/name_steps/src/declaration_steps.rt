@@ -3,39 +3,18 @@
 ghost use Rattle.std.specs.Prelude.{◌≡◌, ◌++◌, ◌∷◌, [], map, OnOk};
 ghost use Rattle.std.specs.List.{flat_map};
 ghost use Rattle.idl_tree.specs.Lists.{parts};
-ghost use Rattle.name_steps.specs.StepsKept.{exports_in, flat_steps, steps_in};
+ghost use Rattle.name_steps.specs.StepsKept.{flat_steps, steps_in};
 ghost use Rattle.name_steps.specs.Steps.{attribute_steps, attributes_steps, const_steps, declaration_steps, except_steps, export_steps, interface_steps, operation_steps, optional_parts, param_steps, raises_steps, result_steps, type_dcl_steps, typedef_steps, Declares as DeclaresStep, DeclaresFeature as FeatureStep, IsUndefined as UndefinedStep, HasBase as BaseStep, Enters as EntersStep, Defines as DefinesStep, Leaves as LeavesStep};
 
 use crate::step::{Step, Steps};
-use crate::type_steps::sizes_of;
 use idl_tree::definitions::{
     Attribute, Attributes, Const, Declaration, Definition, Except, Export, Interface, Operation,
     Param, TypeDcl,
 };
 use idl_tree::kinds::EntryKind;
 use idl_tree::names::{Leaf, Listed, ScopedName};
-use idl_tree::types::{Declarator, Member, ParamType, TypeSpec};
+use idl_tree::types::{Declarator, ParamType, TypeSpec};
 use std::alloc::AllocError;
-
-// A field that is a list of large parts, lent in the midst of a walk, takes the check up to half a
-// minute, and a second in a function that does nothing else.
-
-/// What stands in the body of an interface; nothing where it has none.
-fn exports_of<'t, 'a>(i: &'t Interface<'a>) -> &'t [Export<'a>]
-    ensures { result.now ≡ exports_in i.now }
-{
-    match i {
-        Interface::Ahead(_) => &[],
-        Interface::Defined { exports, .. } => exports.as_slice(),
-    }
-}
-
-/// The members of an exception.
-fn members_of<'t, 'a>(e: &'t Except<'a>) -> &'t [Member<'a>]
-    ensures { result.now ≡ e.now.members.items }
-{
-    e.members.as_slice()
-}
 
 impl<'a, 't> Steps<'a, 't> {
     fn add_typedef(
@@ -46,7 +25,7 @@ impl<'a, 't> Steps<'a, 't> {
         ensures { OnOk result (steps_in self.new ≡ steps_in self.old ++ typedef_steps original.now declarator.now) }
     {
         self.push(Step::DeclaresTypedef(original, declarator))?;
-        self.add_sizes(sizes_of(declarator))
+        self.add_sizes(declarator.sizes.as_slice())
     }
 
     fn add_typedefs(
@@ -54,7 +33,8 @@ impl<'a, 't> Steps<'a, 't> {
         original: &'t TypeSpec<'a>,
         declarators: &'t Listed<Declarator<'a>>,
     ) -> Result<(), AllocError>
-        ensures { OnOk result (steps_in self.new ≡ steps_in self.old ++ flat_map (typedef_steps original.now) (parts declarators.now)) }
+        ensures { OnOk result (steps_in self.new ≡
+            steps_in self.old ++ flat_map (typedef_steps original.now) (parts declarators.now)) }
     {
         for declarator in declarators.iter() {
             self.add_typedef(original, declarator)?;
@@ -94,7 +74,7 @@ impl<'a, 't> Steps<'a, 't> {
     {
         self.declares(EntryKind::Exception, e.identifier)?;
         self.enters(e.identifier)?;
-        self.add_members(members_of(e))?;
+        self.add_members(e.members.as_slice())?;
         self.leaves()
     }
 
@@ -131,7 +111,8 @@ impl<'a, 't> Steps<'a, 't> {
 
     /// Attributes that raise nothing.
     fn add_silent(&mut self, identifiers: &'t Listed<Leaf<'a>>) -> Result<(), AllocError>
-        ensures { OnOk result (steps_in self.new ≡ steps_in self.old ++ map (FeatureStep EntryKind.Attribute) (parts identifiers.now)) }
+        ensures { OnOk result (steps_in self.new ≡
+            steps_in self.old ++ map (FeatureStep EntryKind.Attribute) (parts identifiers.now)) }
     {
         for identifier in identifiers.iter() {
             self.declares_feature(EntryKind::Attribute, *identifier)?;
@@ -180,7 +161,7 @@ impl<'a, 't> Steps<'a, 't> {
     {
         self.add_param_type(&param.param_type)?;
         self.enters(identifier)?;
-        self.has_member(param.identifier)?;
+        self.push(Step::HasMember(param.identifier))?;
         self.leaves()
     }
 
@@ -189,7 +170,8 @@ impl<'a, 't> Steps<'a, 't> {
         identifier: Leaf<'a>,
         params: &'t Option<Listed<Param<'a>>>,
     ) -> Result<(), AllocError>
-        ensures { OnOk result (steps_in self.new ≡ steps_in self.old ++ flat_map (param_steps identifier.entry) (optional_parts params.now)) }
+        ensures { OnOk result (steps_in self.new ≡
+            steps_in self.old ++ flat_map (param_steps identifier.entry) (optional_parts params.now)) }
     {
         let Some(params) = params else {
             return Ok(());
@@ -235,7 +217,8 @@ impl<'a, 't> Steps<'a, 't> {
         identifier: Leaf<'a>,
         names: &'t Option<Listed<ScopedName<'a>>>,
     ) -> Result<(), AllocError>
-        ensures { OnOk result (steps_in self.new ≡ steps_in self.old ++ map (BaseStep identifier.entry) (optional_parts names.now)) }
+        ensures { OnOk result (steps_in self.new ≡
+            steps_in self.old ++ map (BaseStep identifier.entry) (optional_parts names.now)) }
     {
         let Some(names) = names else {
             return Ok(());
@@ -261,11 +244,12 @@ impl<'a, 't> Steps<'a, 't> {
         identifier: Leaf<'a>,
         bases: &'t Option<Listed<ScopedName<'a>>>,
     ) -> Result<(), AllocError>
-        ensures { OnOk result (steps_in self.new ≡ steps_in self.old ++ DeclaresStep EntryKind.Interface identifier.entry
+        ensures { OnOk result (steps_in self.new ≡
+            steps_in self.old ++ DeclaresStep EntryKind.Interface identifier.entry
             ∷ UndefinedStep identifier.entry ∷ map (BaseStep identifier.entry) (optional_parts bases.now)) }
     {
         self.declares(EntryKind::Interface, identifier)?;
-        self.is_undefined(identifier)?;
+        self.push(Step::IsUndefined(identifier))?;
         self.add_bases(identifier, bases)
     }
 
@@ -279,7 +263,7 @@ impl<'a, 't> Steps<'a, 't> {
             ∷ DefinesStep identifier.entry ∷ flat_map export_steps exports.now ++ LeavesStep ∷ []) }
     {
         self.enters(identifier)?;
-        self.defines(identifier)?;
+        self.push(Step::Defines(identifier))?;
         self.add_exports(exports)?;
         self.leaves()
     }
@@ -292,10 +276,10 @@ impl<'a, 't> Steps<'a, 't> {
             Interface::Defined {
                 identifier,
                 bases,
-                ..
+                exports,
             } => {
                 self.add_head(*identifier, bases)?;
-                self.add_body(*identifier, exports_of(i))
+                self.add_body(*identifier, exports.as_slice())
             }
         }
     }

@@ -9,5 +9,6 @@ ghost use Rattle.name_steps.specs.Steps.{steps_of};
 /// Each identifier, literal and pragma of a specification is asked for by one step, in the order of
 /// the source.
 pub fn all_is_asked()
-    ensures { (definitions : List Definition) → asked (definitions_spelled definitions) ≡ asked_by (steps_of definitions) }
+    ensures { (definitions : List Definition) →
+        asked (definitions_spelled definitions) ≡ asked_by (steps_of definitions) }
 {}

@@ -1,7 +1,7 @@
 //! What a specification asks of its names, step by step.
 
 ghost use Rattle.std.specs.Prelude.{◌≡◌, ◌++◌, ◌∷◌, [], OnOk};
-ghost use Rattle.name_steps.specs.Steps.{Declares as DeclaresStep, DeclaresFeature as FeatureStep, HasMember as MemberStep, IsUndefined as UndefinedStep, Enters as EntersStep, Defines as DefinesStep, Leaves as LeavesStep, NamesType as TypeStep, IsSize as SizeStep};
+ghost use Rattle.name_steps.specs.Steps.{Declares as DeclaresStep, DeclaresFeature as FeatureStep, Enters as EntersStep, Leaves as LeavesStep};
 ghost use Rattle.name_steps.specs.StepsKept.{step_of, steps_in};
 
 use idl_tree::definitions::Const;
@@ -47,9 +47,14 @@ pub enum Step<'a, 't> {
 // part of the tree: a call whose sides count it differently takes the check up to twenty seconds.
 
 /// Steps in order. A contract sees them as steps of the tree.
-#[derive(Drop)]
 pub struct Steps<'a, 't> {
     pub list: Vec<Step<'a, 't>>,
+}
+
+impl<'a, 't> Drop for Steps<'a, 't> {
+    fn drop(self) {
+        let Steps { list: _ } = self;
+    }
 }
 
 impl<'a, 't> Steps<'a, 't> {
@@ -73,8 +78,10 @@ impl<'a, 't> Steps<'a, 't> {
     pub(crate) fn push(&mut self, step: Step<'a, 't>) -> Result<(), AllocError>
         ensures { OnOk result (steps_in self.new ≡ steps_in self.old ++ step_of step.entry ∷ []) }
     {
-        self.list.push(step)?;
-        Ok(())
+        match self.list.push(step) {
+            Ok(()) => Ok(()),
+            Err(_) => Err(AllocError),
+        }
     }
 
     /// An identifier is declared as something of the kind.
@@ -99,20 +106,6 @@ impl<'a, 't> Steps<'a, 't> {
         self.push(Step::DeclaresFeature(kind, identifier))
     }
 
-    /// The scope gets a member or a parameter.
-    pub(crate) fn has_member(&mut self, identifier: Leaf<'a>) -> Result<(), AllocError>
-        ensures { OnOk result (steps_in self.new ≡ steps_in self.old ++ MemberStep identifier.entry ∷ []) }
-    {
-        self.push(Step::HasMember(identifier))
-    }
-
-    /// What has the identifier has no definition yet.
-    pub(crate) fn is_undefined(&mut self, identifier: Leaf<'a>) -> Result<(), AllocError>
-        ensures { OnOk result (steps_in self.new ≡ steps_in self.old ++ UndefinedStep identifier.entry ∷ []) }
-    {
-        self.push(Step::IsUndefined(identifier))
-    }
-
     /// The scope of an identifier is entered.
     pub(crate) fn enters(&mut self, identifier: Leaf<'a>) -> Result<(), AllocError>
         ensures { OnOk result (steps_in self.new ≡ steps_in self.old ++ EntersStep identifier.entry ∷ []) }
@@ -120,31 +113,10 @@ impl<'a, 't> Steps<'a, 't> {
         self.push(Step::Enters(identifier))
     }
 
-    /// The scope gets its definition.
-    pub(crate) fn defines(&mut self, identifier: Leaf<'a>) -> Result<(), AllocError>
-        ensures { OnOk result (steps_in self.new ≡ steps_in self.old ++ DefinesStep identifier.entry ∷ []) }
-    {
-        self.push(Step::Defines(identifier))
-    }
-
     /// The scope is left.
     pub(crate) fn leaves(&mut self) -> Result<(), AllocError>
         ensures { OnOk result (steps_in self.new ≡ steps_in self.old ++ LeavesStep ∷ []) }
     {
         self.push(Step::Leaves)
-    }
-
-    /// A name has to be that of a type.
-    pub(crate) fn names_type(&mut self, name: &'t ScopedName<'a>) -> Result<(), AllocError>
-        ensures { OnOk result (steps_in self.new ≡ steps_in self.old ++ TypeStep name.now ∷ []) }
-    {
-        self.push(Step::NamesType(name))
-    }
-
-    /// An expression has to be a size.
-    pub(crate) fn is_size(&mut self, expr: &'t Expr<'a>) -> Result<(), AllocError>
-        ensures { OnOk result (steps_in self.new ≡ steps_in self.old ++ SizeStep expr.now ∷ []) }
-    {
-        self.push(Step::IsSize(expr))
     }
 }

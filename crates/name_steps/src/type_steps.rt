@@ -5,8 +5,6 @@ ghost use Rattle.std.specs.List.{flat_map};
 ghost use Rattle.idl_tree.specs.Lists.{parts};
 ghost use Rattle.name_steps.specs.StepsKept.{steps_in};
 ghost use Rattle.name_steps.specs.Steps.{bound_steps, case_steps, const_type_steps, declarator_steps, enum_steps, label_steps, member_steps, opening, param_type_steps, simple_type_steps, size_step, struct_steps, switch_steps, type_steps, union_steps, DeclaresEnumerator as EnumeratorStep};
-ghost use Rattle.idl_tree.specs.declared.types.StructType.{out-StructType};
-ghost use Rattle.idl_tree.specs.declared.types.UnionType.{out-UnionType};
 
 use crate::step::{Step, Steps};
 use idl_tree::const_expr::{Bound, ConstExpr};
@@ -18,49 +16,12 @@ use idl_tree::types::{
 };
 use std::alloc::AllocError;
 
-// Each of these is a function of its own, since such a field is dear to check in the midst of a walk.
-
-/// The sizes of an array.
-pub(crate) fn sizes_of<'t, 'a>(d: &'t Declarator<'a>) -> &'t [ConstExpr<'a>]
-    ensures { result.now ≡ d.now.sizes.items }
-{
-    d.sizes.as_slice()
-}
-
-/// The members behind the first.
-fn members_behind<'t, 'a>(s: &'t StructType<'a>) -> &'t [Member<'a>]
-    ensures { result.now ≡ (out-StructType s.now).rest.items }
-{
-    s.rest.as_slice()
-}
-
-/// The cases behind the first.
-fn cases_behind<'t, 'a>(u: &'t UnionType<'a>) -> &'t [Case<'a>]
-    ensures { result.now ≡ (out-UnionType u.now).rest.items }
-{
-    u.rest.as_slice()
-}
-
-/// The first member.
-fn first_member<'t, 'a>(s: &'t StructType<'a>) -> &'t Member<'a>
-    ensures { result.now ≡ (out-StructType s.now).first.value }
-{
-    &s.first
-}
-
-/// The first case.
-fn first_case<'t, 'a>(u: &'t UnionType<'a>) -> &'t Case<'a>
-    ensures { result.now ≡ (out-UnionType u.now).first.value }
-{
-    &u.first
-}
-
 impl<'a, 't> Steps<'a, 't> {
     fn add_bound(&mut self, bound: &'t Option<Bound<'a>>) -> Result<(), AllocError>
         ensures { OnOk result (steps_in self.new ≡ steps_in self.old ++ bound_steps bound.now) }
     {
         match bound {
-            Some(bound) => self.is_size(&bound.expr),
+            Some(bound) => self.push(Step::IsSize(&bound.expr)),
             None => Ok(()),
         }
     }
@@ -74,7 +35,7 @@ impl<'a, 't> Steps<'a, 't> {
                 Ok(())
             }
             ConstType::String(bound) => self.add_bound(bound),
-            ConstType::Name(name) => self.names_type(name),
+            ConstType::Name(name) => self.push(Step::NamesType(name)),
         }
     }
 
@@ -105,7 +66,7 @@ impl<'a, 't> Steps<'a, 't> {
         ensures { OnOk result (steps_in self.new ≡ steps_in self.old ++ map size_step sizes.now) }
     {
         for size in sizes {
-            self.is_size(&size.expr)?;
+            self.push(Step::IsSize(&size.expr))?;
         }
         Ok(())
     }
@@ -114,8 +75,8 @@ impl<'a, 't> Steps<'a, 't> {
     fn add_declarator(&mut self, d: &'t Declarator<'a>) -> Result<(), AllocError>
         ensures { OnOk result (steps_in self.new ≡ steps_in self.old ++ declarator_steps d.now) }
     {
-        self.has_member(d.identifier)?;
-        self.add_sizes(sizes_of(d))
+        self.push(Step::HasMember(d.identifier))?;
+        self.add_sizes(d.sizes.as_slice())
     }
 
     fn add_declarators(&mut self, list: &'t Listed<Declarator<'a>>) -> Result<(), AllocError>
@@ -167,7 +128,7 @@ impl<'a, 't> Steps<'a, 't> {
         match switch {
             SwitchType::Enum(e) => self.add_enum(e),
             SwitchType::Integer(_) | SwitchType::Char | SwitchType::Boolean => Ok(()),
-            SwitchType::Name(name) => self.names_type(name),
+            SwitchType::Name(name) => self.push(Step::NamesType(name)),
         }
     }
 
@@ -177,7 +138,7 @@ impl<'a, 't> Steps<'a, 't> {
     {
         self.declares(kind, identifier)?;
         self.enters(identifier)?;
-        self.defines(identifier)
+        self.push(Step::Defines(identifier))
     }
 
     #[cycle(types)]
@@ -206,8 +167,8 @@ impl<'a, 't> Steps<'a, 't> {
         ensures { OnOk result (steps_in self.new ≡ steps_in self.old ++ struct_steps s.now) }
     {
         self.open(EntryKind::Struct, s.identifier)?;
-        self.add_member(first_member(s))?;
-        self.add_members(members_behind(s))?;
+        self.add_member(&s.first)?;
+        self.add_members(s.rest.as_slice())?;
         self.leaves()
     }
 
@@ -237,8 +198,8 @@ impl<'a, 't> Steps<'a, 't> {
     {
         self.open(EntryKind::Union, u.identifier)?;
         self.add_switch(&u.switch)?;
-        self.add_case(first_case(u))?;
-        self.add_cases(cases_behind(u))?;
+        self.add_case(&u.first)?;
+        self.add_cases(u.rest.as_slice())?;
         self.leaves()
     }
 

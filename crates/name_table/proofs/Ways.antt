@@ -1,11 +1,14 @@
 -- Ways over several bases at once stay what they are.
 use Rattle.std.proofs.Common.{◌≡◌, ◌∙◌, ℕ, zero, suc, ◌<◌, ◌≤◌, ◌⊎◌, inl, inr, Bool, true, false, ◌||◌, cond, nat_eq, List, [], ◌∷◌, ◌++◌, slice_get, Option, Some, None, Result, Ok, Err, IfOk, OnOk, refl, sym, ap, subst, arith}
-use Rattle.std.specs.BTreeSet.{insert_key}
+use Rattle.std.specs.BTreeMap.{is_at}
+use Rattle.std.specs.BTreeSet.{BTreeSet, IsFromIterResult}
+use Rattle.std.specs.Cmp.{tied_itself}
 use Rattle.std.specs.List.{list_any}
 use Rattle.std.specs.Map.{lookup}
 use Rattle.std.specs.declared.cmp.Ordering.{Ordering}
 use Rattle.std.specs.declared.cmp.Ordering.TheVariants.{Less, Equal, Greater}
-use Rattle.std.specs.Ordering.{match_ordering}
+use Rattle.std.specs.Ordering.{eq_by_cmp, is_eq}
+use Rattle.std.proofs.lemmas.Map.Keys.{any_passes_from_place}
 use Rattle.std.proofs.lemmas.Bool.{eqb-true, eq-eqb, lt-ltb}
 use Rattle.name_table.specs.declared.entry.Base.{Base}
 use Rattle.name_table.specs.declared.key.Word.{Word}
@@ -16,7 +19,7 @@ use Rattle.name_table.specs.declared.shortcuts.Place.{Place}
 use Rattle.name_table.specs.declared.shortcuts.Shortcut.{Shortcut}
 use Rattle.name_table.specs.Entry.{Entry}
 use Rattle.name_table.specs.Entries.{latest}
-use Rattle.name_table.specs.inner.Keys.{word_cmp}
+use Rattle.name_table.specs.inner.Keys.{word_cmp, word_cmp_total}
 use Rattle.name_table.specs.inner.Records.{HasWord, by_given, is_word}
 use Rattle.name_table.specs.Search.{both, inherited, or_else, own, within}
 use Rattle.name_table.specs.inner.SeveralBases.{IsKept, SaysNothingNew}
@@ -94,34 +97,21 @@ nothing_new es inner heir base words more is_kept lt apart kept listed name = by
 behind : (x : Word) (xs : List Word) (name : List ℕ) → HasWord xs name → HasWord (x ∷ xs) name
 behind x xs name (j, y, at, is) = (suc j, y, at, is)
 
-pub has_kept : (ks : List Word) (k : Word) (name : List ℕ) → HasWord ks name → HasWord (insert_key word_cmp ks k) name
-has_kept [] k name has = absurd (none_left [] name refl has)
-has_kept (x ∷ xs) k name has = by (word_cmp k x) (first_or x xs name has) (has_kept xs k name)
+has_equal : (ks : List Word) (w : Word) (name : List ℕ) → is_word name w ≡ true → list_any (is_at (word_cmp w)) ks ≡ true → HasWord ks name
+has_equal [] w name here any = cc
+has_equal (x ∷ xs) w name here any = by (word_cmp w x) refl any (has_equal xs w name here)
   where
-    by : (o : Ordering) → (is_word name x ≡ true) ⊎ HasWord xs name → (HasWord xs name → HasWord (insert_key word_cmp xs k) name)
-        → HasWord (match_ordering o (k ∷ x ∷ xs) (x ∷ xs) (x ∷ insert_key word_cmp xs k)) name
-    by Less split rest = behind k (x ∷ xs) name has
-    by Equal split rest = has
-    by Greater (inl here) rest = (0, x, refl, here)
-    by Greater (inr there) rest = behind x (insert_key word_cmp xs k) name (rest there)
+    by : (o : Ordering) → word_cmp w x ≡ o → (is_eq o || list_any (is_at (word_cmp w)) xs) ≡ true → (list_any (is_at (word_cmp w)) xs ≡ true → HasWord xs name)
+        → HasWord (x ∷ xs) name
+    by Less is any rest = behind x xs name (rest any)
+    by Equal is any rest = (0, x, refl, sym (same_word w x is name) ∙ here)
+    by Greater is any rest = behind x xs name (rest any)
 
-pub has_new : (ks : List Word) (k : Word) (name : List ℕ) → is_word name k ≡ true → HasWord (insert_key word_cmp ks k) name
-has_new [] k name here = (0, k, refl, here)
-has_new (x ∷ xs) k name here = by (word_cmp k x) refl (has_new xs k name here)
-  where
-    by : (o : Ordering) → word_cmp k x ≡ o → HasWord (insert_key word_cmp xs k) name → HasWord (match_ordering o (k ∷ x ∷ xs) (x ∷ xs) (x ∷ insert_key word_cmp xs k)) name
-    by Less is rest = (0, k, refl, here)
-    by Equal is rest = (0, x, refl, sym (same_word k x is name) ∙ here)
-    by Greater is rest = behind x (insert_key word_cmp xs k) name rest
-
--- one word more is in the set
-pub has_next : (left rest ks new : List Word) (k : Word) (name : List ℕ) → left ≡ k ∷ rest → new ≡ insert_key word_cmp ks k → HasWord ks name ⊎ HasWord left name → HasWord new name ⊎ HasWord rest name
-has_next left rest ks new k name split is (inl has) = inl (subst (λ xs. HasWord xs name) (sym is) (has_kept ks k name has))
-has_next left rest ks new k name split is (inr has) = by (first_or k rest name (subst (λ xs. HasWord xs name) split has))
-  where
-    by : (is_word name k ≡ true) ⊎ HasWord rest name → HasWord new name ⊎ HasWord rest name
-    by (inl here) = inl (subst (λ xs. HasWord xs name) (sym is) (has_new ks k name here))
-    by (inr there) = inr there
+-- the set of some words has each of them
+pub has_collected : (words : List Word) (set : BTreeSet Word) → IsFromIterResult word_cmp words set → (name : List ℕ) → HasWord words name → HasWord set.keys name
+has_collected words set made name (k, w, at, is) =
+    has_equal set.keys w name is
+    (made.0 w ∙ any_passes_from_place (eq_by_cmp word_cmp w) words k w at (ap is_eq (tied_itself word_cmp_total w)))
 
 -- one word more of a list is listed
 pub word_listed : (left rest ws vs : List Word) (k : Word) (name : List ℕ) → left ≡ k ∷ rest → vs ≡ ws ++ k ∷ [] → HasWord ws name ⊎ HasWord left name → HasWord vs name ⊎ HasWord rest name

@@ -155,7 +155,8 @@ impl<'a> Table<'a> {
         requires first { heir.now.first.entry < length self.now }
         requires earlier { heir.now.first.token < base.token }
         requires placed { base.entry < length self.now }
-        ensures { IfOk result (λ words. (name : List ℕ) → SaysNothingNew self.now inner base name ⊎ HasWord words.items name) }
+        ensures { IfOk result (λ words. (name : List ℕ) →
+            SaysNothingNew self.now inner base name ⊎ HasWord words.items name) }
     {
         let mut words = self.words_apart(alloc, heir.first, base)?;
         list_given(&mut words, heir)?;
@@ -167,7 +168,8 @@ impl<'a> Table<'a> {
     fn given_with(&self, inner: usize, heir: &Heir<'a>, base: Base, word: Word<'a>) -> Option<Given>
         requires kept { IsKept self.now inner heir.now }
         requires placed { base.entry < length self.now }
-        ensures given { IfSome result (λ g. (t : ℕ) → given_before t g ≡ with_more self.now inner base t word.entry.text.now) }
+        ensures given { IfSome result (λ g. (t : ℕ) →
+            given_before t g ≡ with_more self.now inner base t word.entry.text.now) }
         ensures same { result ≡ None → SaysNothingNew self.now inner base word.entry.text.now }
     {
         let count = self.len();
@@ -319,7 +321,8 @@ impl<'a> Table<'a> {
     ) -> Result<Box<Heir<'a>>, AllocError>
         requires last { HasNoneFrom self.now inner base.token }
         requires placed { base.entry < length self.now }
-        ensures with_it { IfOk result (λ h. h.value.first ∷ h.value.later.items ≡ bases_of self.now inner ++ base ∷ []) }
+        ensures with_it { IfOk result (λ h.
+            h.value.first ∷ h.value.later.items ≡ bases_of self.now inner ++ base ∷ []) }
         ensures low { IfOk result (λ h. h.value.first.token ≤ base.token) }
         ensures merges { IfOk result (λ h. Merges self.now inner base h.value) }
     {

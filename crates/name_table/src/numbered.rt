@@ -9,7 +9,6 @@ use std::marker::Model;
 
 /// Keys, each with its number in the order in which they came. They are sought by their own order,
 /// so that no choice of keys makes that slow. A contract sees them in the order in which they came.
-#[derive(Drop)]
 pub struct Numbered<K: Ord + Copy> {
     numbers: BTreeMap<K, usize>,
     keys: Vec<K>,
@@ -24,6 +23,15 @@ impl<K: Ord + Copy> Model for Numbered<K> {
     ghost view = { λ n. n.keys.items };
 
     ghost invariant = { λ n. AreNumbered K.cmp n.numbers.entries n.keys.items };
+}
+
+impl<K: Ord + Copy> Drop for Numbered<K> {
+    fn drop(self) {
+        let Numbered {
+            numbers: _,
+            keys: _,
+        } = self;
+    }
 }
 
 impl<K: Ord + Copy> Numbered<K> {

@@ -1,17 +1,15 @@
 //! What is kept of each entry.
 
-ghost use Rattle.std.specs.Prelude.{◌≡◌, None, Some};
+ghost use Rattle.std.specs.Prelude.{◌≡◌, Some};
 ghost use Rattle.std.specs.Map.{lookup};
 ghost use Rattle.name_table.specs.OwnNames.{is_named_so};
-ghost use Rattle.name_table.specs.Entries.{entry_declared};
 ghost use Rattle.name_table.specs.inner.Records.{entry_of, given_before, is_word};
 
-use crate::entry::{Base, Meaning, keeps_its_name};
+use crate::entry::{Base, keeps_its_name};
 use crate::key::{Key, Word};
 use crate::search::Found;
 use const_values::{ConstKind, Constant};
 use idl_tree::kinds::EntryKind;
-use idl_tree::names::Leaf;
 use std::collections::BTreeMap;
 
 /// What several bases give for a name.
@@ -35,7 +33,6 @@ pub(crate) struct Clash {
 
 /// What an interface has from its bases. A name is sought as in the first base, but for those in
 /// `others`, of which a later base says something else.
-#[derive(Drop)]
 pub(crate) struct Heir<'a> {
     pub first: Base,
     pub later: Vec<Base>,
@@ -44,7 +41,7 @@ pub(crate) struct Heir<'a> {
 
 /// An entry.
 #[derive(Drop)]
-pub struct Record<'a> {
+pub(crate) struct Record<'a> {
     pub key: Key<'a>,
     /// The token from which it is found.
     pub token: usize,
@@ -60,7 +57,17 @@ pub struct Record<'a> {
     /// The prefix of repository ids at the declaration.
     pub prefix: &'a str,
     /// Of an interface that has bases.
-    pub(crate) heir: Option<Box<Heir<'a>>>,
+    pub heir: Option<Box<Heir<'a>>>,
+}
+
+impl<'a> Drop for Heir<'a> {
+    fn drop(self) {
+        let Heir {
+            first: _,
+            later: _,
+            others: _,
+        } = self;
+    }
 }
 
 impl Given {
@@ -88,28 +95,6 @@ impl<'a> Heir<'a> {
 }
 
 impl<'a> Record<'a> {
-    /// Of an identifier that is declared in the scope as what is meant, where the prefix is set.
-    pub fn new(prefix: &'a str, scope: usize, identifier: Leaf<'a>, meaning: Meaning) -> Self
-        ensures entry { entry_of result ≡ entry_declared meaning prefix.entry.now scope identifier.entry }
-        ensures scope { result.key.scope ≡ scope }
-        ensures plain { result.heir ≡ None }
-    {
-        Record {
-            key: Key {
-                scope,
-                word: Word::new(identifier.name()),
-            },
-            token: meaning.token,
-            line: identifier.token.line,
-            identifier: identifier.number,
-            kind: meaning.kind,
-            worth: meaning.worth,
-            stands_for: meaning.stands_for,
-            prefix,
-            heir: None,
-        }
-    }
-
     /// Whether it has the name, which can't be declared in its scope.
     pub fn is_named_so(&self, word: &Word<'a>) -> bool
         ensures { result ≡ is_named_so word.now.text.now (Some (entry_of self.now)) }

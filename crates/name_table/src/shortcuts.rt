@@ -28,7 +28,6 @@ pub(crate) struct Place {
 }
 
 /// A way from a scope to a place further down.
-#[derive(Drop)]
 pub(crate) struct Shortcut<'a> {
     pub place: Place,
     /// It is for names behind this token.
@@ -59,10 +58,22 @@ impl Place {
 
     /// Whether two places are one.
     fn meets(self, other: Place) -> bool
-        ensures met { IsTrue result → (es : List Entry) (name : List ℕ) → given_at es name self ≡ given_at es name other }
+        ensures met { IsTrue result → (es : List Entry) (name : List ℕ) →
+            given_at es name self ≡ given_at es name other }
         ensures apart { IsFalse result → other.token ≤ self.token → 0 < self.token }
     {
         self.token == other.token && (self.scope == other.scope || self.token == 0)
+    }
+}
+
+impl<'a> Drop for Shortcut<'a> {
+    fn drop(self) {
+        let Shortcut {
+            place: _,
+            after: _,
+            span: _,
+            words: _,
+        } = self;
     }
 }
 
@@ -125,11 +136,7 @@ fn list_set<'a>(words: &mut Vec<Word<'a>>, set: &BTreeSet<Word<'a>>) -> Result<(
 fn set_of<'a>(alloc: Global, words: &[Word<'a>]) -> Result<BTreeSet<Word<'a>>, AllocError>
     ensures { IfOk result (λ set. (name : List ℕ) → HasWord words.now name → HasWord set.keys name) }
 {
-    let mut set = BTreeSet::new(alloc);
-    for word in words {
-        set.insert(*word)?;
-    }
-    Ok(set)
+    words.iter().copied().collect(alloc)
 }
 
 impl<'a> Table<'a> {

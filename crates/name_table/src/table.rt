@@ -6,10 +6,10 @@ ghost use Rattle.name_table.specs.Search.{own as own_of, inherited as inherited_
 ghost use Rattle.name_table.specs.Entry.{AreDistinct, AreNested, bases_in, worth_in, meant_in, named, name_in, prefix_in};
 ghost use Rattle.name_table.specs.OwnNames.{is_own_name as own_name_of};
 ghost use Rattle.idl_lexer.specs.Identifiers.{words};
-ghost use Rattle.name_table.specs.Entries.{latest, scope_of, with_base};
-ghost use Rattle.name_table.specs.inner.Records.{heir_of as heir_in_records, entry_of, words_at, HasWord, is_word};
+ghost use Rattle.name_table.specs.Entries.{entry_declared, latest, scope_of, with_base};
+ghost use Rattle.name_table.specs.inner.Records.{heir_of as heir_in_records, words_at, HasWord, is_word};
 
-use crate::entry::Base;
+use crate::entry::{Base, Meaning};
 use crate::key::{Key, Word};
 use crate::numbered::Numbered;
 use crate::record::{Heir, Record};
@@ -23,7 +23,6 @@ use std::alloc::{AllocError, Global};
 use std::marker::Model;
 
 /// The names of a specification. A contract sees the entries in order of declaration.
-#[derive(Drop)]
 pub struct Table<'a> {
     keys: Numbered<Key<'a>>,
     pub(crate) records: Vec<Record<'a>>,
@@ -74,12 +73,28 @@ fn list_word<'a>(
     scope: usize,
     word: Word<'a>,
 ) -> Result<(), AllocError>
-    ensures kept { (s : ℕ) (name : List ℕ) → HasWord (words_at words.old.items s) name → HasWord (words_at words.new.items s) name }
-    ensures listed { OnOk result ((name : List ℕ) → is_word name word.entry ≡ true → HasWord (words_at words.new.items scope) name) }
+    ensures kept { (s : ℕ) (name : List ℕ) →
+        HasWord (words_at words.old.items s) name → HasWord (words_at words.new.items s) name }
+    ensures listed { OnOk result ((name : List ℕ) →
+        is_word name word.entry ≡ true → HasWord (words_at words.new.items scope) name) }
 {
     make_room(alloc, words, scope)?;
     words[scope].push(word)?;
     Ok(())
+}
+
+// A derived drop would stand in each function that lets go of a table, field by field.
+
+impl<'a> Drop for Table<'a> {
+    fn drop(self) {
+        let Table {
+            keys: _,
+            records: _,
+            words: _,
+            shortcuts: _,
+            noted: _,
+        } = self;
+    }
 }
 
 impl<'a> Table<'a> {
@@ -167,7 +182,8 @@ impl<'a> Table<'a> {
     /// What the first identifier of a name finds that stands in the scope, whatever its case.
     fn find_first(&self, scope: usize, name: &ScopedName<'a>) -> Found
         requires { scope ≤ length self.now }
-        ensures { result ≡ within_first self.now (name_start name.now).number (sought_in self.now scope (is_rooted name.now)) (word (name_first name.now)) }
+        ensures { result ≡ within_first self.now (name_start name.now).number
+            (sought_in self.now scope (is_rooted name.now)) (word (name_first name.now)) }
     {
         let token = name.start().number;
         let first = Word::new(name.first().name());
@@ -307,25 +323,43 @@ impl<'a> Table<'a> {
         }
     }
 
-    /// Puts an entry behind the others. Its name is new in its scope, and it isn't found before the
-    /// last base.
+    /// Puts an entry behind the others: what an identifier is declared as in the scope, where the
+    /// prefix is set. Its name is new in the scope, and it isn't found before the last base.
     ///
     /// # Errors
     ///
     /// `AllocError`, and then nothing has changed.
-    pub fn add(&mut self, alloc: Global, declared: Record<'a>) -> Result<(), AllocError>
-        requires scope { declared.key.scope ≤ length self.old }
-        requires plain { declared.heir ≡ None }
-        requires fresh { named self.old declared.key.scope declared.key.word.text.now ≡ None }
-        requires late { latest self.old ≤ declared.token }
-        ensures added { OnOk result (self.new ≡ self.old ++ entry_of declared.entry ∷ []) }
+    pub fn add(
+        &mut self,
+        alloc: Global,
+        prefix: &'a str,
+        scope: usize,
+        identifier: Leaf<'a>,
+        meaning: Meaning,
+    ) -> Result<(), AllocError>
+        requires scope { scope ≤ length self.old }
+        requires new { named self.old scope (word identifier) ≡ None }
+        requires late { latest self.old ≤ meaning.token }
+        ensures added { OnOk result (self.new ≡
+            self.old ++ entry_declared meaning prefix.entry.now scope identifier.entry ∷ []) }
         ensures err { OnErr result (self.new ≡ self.old) }
     {
-        let key = declared.key;
-        list_word(alloc, &mut self.words, key.scope, key.word)?;
+        let word = Word::new(identifier.name());
+        let key = Key { scope, word };
+        list_word(alloc, &mut self.words, scope, word)?;
         self.records.reserve(1)?;
         self.keys.push(key)?;
-        self.records.push_reserved(declared);
+        self.records.push_reserved(Record {
+            key,
+            token: meaning.token,
+            line: identifier.token.line,
+            identifier: identifier.number,
+            kind: meaning.kind,
+            worth: meaning.worth,
+            stands_for: meaning.stands_for,
+            prefix,
+            heir: None,
+        });
         Ok(())
     }
 

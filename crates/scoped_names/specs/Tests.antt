@@ -1,6 +1,6 @@
 -- What is asked of names and constant expressions (ISO/IEC 19500-1, scoping rules and name resolution, constant
--- declaration): which fault they have, if any. In an expression the names are judged first, in the order of reading, and
--- then what it is worth.
+-- declaration): which fault they have, if any. In an expression the names are judged first, in the order of reading,
+-- and then what it is worth.
 use Rattle.std.specs.Prelude.{ℕ, Bool, true, false, if◌then◌else◌, List, Option, Some, None, Result, Ok, Err, slice_get}
 use Rattle.idl_tree.specs.declared.names.ScopedName.{ScopedName}
 use Rattle.idl_tree.specs.declared.expression.Expr.{Expr, Name, Number, Character, Text, Boolean, Parenthesized', Signed', Chain', Row_of-Operand, end_of-Operand, more_of-Operand}

@@ -17,8 +17,8 @@ use std::alloc::{AllocError, Global};
 fn whole(constant: Option<Constant>) -> Option<i128>
     ensures { result ≡ whole_number constant }
 {
-    match constant {
-        Some(Constant::Whole(value)) => Some(value),
+    match &constant {
+        Some(Constant::Whole(value)) => Some(*value),
         _ => None,
     }
 }
@@ -220,8 +220,8 @@ pub(crate) fn size<'a>(
     requires { scope ≤ length table.now }
     ensures { Gives result (size_read table.now scope expr.now) }
 {
-    match value(table, alloc, scope, expr)? {
-        Constant::Whole(value) if value > 0 => Ok(value.unsigned_abs()),
+    match &value(table, alloc, scope, expr)? {
+        Constant::Whole(value) if *value > 0 => Ok(value.unsigned_abs()),
         _ => Err(NameFault::BadConstant {
             at: expr.start().at(),
             why: Flaw::NotPositive,

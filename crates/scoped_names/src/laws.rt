@@ -12,34 +12,41 @@ ghost use Rattle.scoped_names.specs.FileNames.{FileNames, AreNames};
 
 /// A specification has one list of entries, and what pragmas say of each is one thing.
 pub fn names_are_one()
-    ensures { (definitions : List Definition) (one other : FileNames) → AreNames definitions one → AreNames definitions other → one ≡ other }
+    ensures { (definitions : List Definition) (one other : FileNames) →
+        AreNames definitions one → AreNames definitions other → one ≡ other }
 {}
 
 /// Where a specification has no fault of names, each identifier that it declares is the entry that
 /// stands at its scope and name, of its kind and spelling.
 pub fn identifiers_are_entries()
-    ensures { (definitions : List Definition) (names : FileNames) → AreNames definitions names → AllByRecursion (IsEntry names.entries) (introduced names.entries 0 (steps_of definitions)) }
+    ensures { (definitions : List Definition) (names : FileNames) → AreNames definitions names →
+        AllByRecursion (IsEntry names.entries) (introduced names.entries 0 (steps_of definitions)) }
 {}
 
 /// Nothing else is an entry: for each there is an identifier that the specification declares.
 pub fn entries_are_identifiers()
-    ensures { (definitions : List Definition) (names : FileNames) → AreNames definitions names → (n : ℕ) → n < length names.entries → Any (StandsFor names.entries n) (introduced names.entries 0 (steps_of definitions)) }
+    ensures { (definitions : List Definition) (names : FileNames) → AreNames definitions names →
+        (n : ℕ) → n < length names.entries →
+        Any (StandsFor names.entries n) (introduced names.entries 0 (steps_of definitions)) }
 {}
 
 /// Where a specification has no fault of names, nothing that it introduces clashes with what stands
 /// before it: each name, member, parameter and body stands once, but for what may appear again.
 pub fn nothing_clashes()
-    ensures { (definitions : List Definition) (names : FileNames) → AreNames definitions names → IsDistinct clashes (introduced names.entries 0 (steps_of definitions)) }
+    ensures { (definitions : List Definition) (names : FileNames) → AreNames definitions names →
+        IsDistinct clashes (introduced names.entries 0 (steps_of definitions)) }
 {}
 
 /// Where a specification has no fault of names, each name finds over the entries of the whole what
 /// it has to find, each expression has its worth, and each identifier is an entry.
 pub fn names_hold()
-    ensures { (spec : Spec) (names : FileNames) → AreNames spec.definitions.items names → AllHold names.entries 0 (steps_of spec.definitions.items) }
+    ensures { (spec : Spec) (names : FileNames) → AreNames spec.definitions.items names →
+        AllHold names.entries 0 (steps_of spec.definitions.items) }
 {}
 
 /// Each name of a type, an exception or a base finds what is declared before it, by a step that is
 /// read earlier.
 pub fn names_follow()
-    ensures { (spec : Spec) (names : FileNames) → AreNames spec.definitions.items names → AllFollow (λ e. ⊥) names.entries 0 (steps_of spec.definitions.items) }
+    ensures { (spec : Spec) (names : FileNames) → AreNames spec.definitions.items names →
+        AllFollow (λ e. ⊥) names.entries 0 (steps_of spec.definitions.items) }
 {}

@@ -10,7 +10,6 @@ use std::alloc::{AllocError, Global};
 use std::marker::Model;
 
 /// The members and parameters that scopes have, and where they are declared.
-#[derive(Drop)]
 pub(crate) struct Members<'a> {
     keys: Numbered<Key<'a>>,
     places: Vec<At>,
@@ -26,6 +25,12 @@ impl<'a> Model for Members<'a> {
     ghost view = { λ m. members_of m.keys m.places.items };
 
     ghost invariant = { λ m. length m.keys ≡ length m.places.items };
+}
+
+impl<'a> Drop for Members<'a> {
+    fn drop(self) {
+        let Members { keys: _, places: _ } = self;
+    }
 }
 
 impl<'a> Members<'a> {

@@ -23,7 +23,6 @@ use std::marker::Model;
 /// The names of a specification. A contract sees the entries in order of declaration, and what
 /// pragmas say of repository ids. A scope is 0 for the file, else one more than the number of the
 /// entry whose scope it is.
-#[derive(Drop)]
 pub struct Names<'a> {
     pub(crate) table: Table<'a>,
     pub(crate) ids: IdPragmas<'a>,
@@ -35,6 +34,12 @@ impl<'a> Model for Names<'a> {
     ghost Value = { FileNames };
 
     ghost view = { λ n. record { entries = n.table; rules = n.ids } };
+}
+
+impl<'a> Drop for Names<'a> {
+    fn drop(self) {
+        let Names { table: _, ids: _ } = self;
+    }
 }
 
 impl<'a> Names<'a> {

@@ -23,7 +23,6 @@ use std::alloc::Global;
 use std::marker::Model;
 
 /// What is known at a place of a specification, which is read from its first step to its last.
-#[derive(Drop)]
 pub(crate) struct Reader<'a> {
     tables: Tables<'a>,
     members: Members<'a>,
@@ -35,7 +34,7 @@ pub(crate) struct Reader<'a> {
     /// The scope that was entered last and not left yet.
     scope: usize,
     /// The entry of the last enumeration.
-    enumeration: usize,
+    pub(crate) enumeration: usize,
 }
 
 impl<'a> Model for Reader<'a> {
@@ -114,6 +113,20 @@ fn never_defined(at: Option<At>) -> Result<(), NameFault>
     }
 }
 
+impl<'a> Drop for Reader<'a> {
+    fn drop(self) {
+        let Reader {
+            tables: _,
+            members: _,
+            defined: _,
+            prefix: _,
+            ids: _,
+            scope: _,
+            enumeration: _,
+        } = self;
+    }
+}
+
 impl<'a> Reader<'a> {
     /// Nothing yet. Takes no memory.
     pub fn new(alloc: Global) -> Self
@@ -143,13 +156,6 @@ impl<'a> Reader<'a> {
         ensures there { result ≤ length self.now.entries }
     {
         self.scope
-    }
-
-    /// The entry of the last enumeration.
-    pub fn enumeration(&self) -> usize
-        ensures { result ≡ self.now.enumeration }
-    {
-        self.enumeration
     }
 
     /// What the scope itself has of the name: its own, or a member's. An operation's name may be that
@@ -185,7 +191,8 @@ impl<'a> Reader<'a> {
         kind: EntryKind,
     ) -> Result<(), NameFault>
         requires { number < length self.now.entries }
-        ensures { IfSome (slice_get self.now.entries number) (λ e. Tells result self.now (reappears kind self.now identifier.entry e)) }
+        ensures { IfSome (slice_get self.now.entries number)
+            (λ e. Tells result self.now (reappears kind self.now identifier.entry e)) }
     {
         let table = self.table();
         let (at, other) = (identifier.at(), declared_at(table, number));
@@ -246,13 +253,6 @@ impl<'a> Reader<'a> {
         ensures { Tells result self.new (declared_by kind self.old identifier.entry) }
     {
         self.declare_as(alloc, identifier, Meaning::plain(identifier.number, kind))
-    }
-
-    /// The entry of an enumeration whose enumerators follow.
-    pub fn begin_enumeration(&mut self, number: usize)
-        ensures { self.new ≡ record self.old { enumeration = number } }
-    {
-        self.enumeration = number;
     }
 
     /// That the scope has no such name yet.
@@ -473,7 +473,15 @@ impl<'a> Reader<'a> {
         ensures is { result ≡ file_names self.entry }
         ensures distinct { AreDistinct result.entries }
     {
-        let Reader { tables, ids, .. } = self;
+        let Reader {
+            tables,
+            members: _,
+            defined: _,
+            prefix: _,
+            ids,
+            scope: _,
+            enumeration: _,
+        } = self;
         let table = tables.into_all();
         let _count = table.len();
         Names { table, ids }

@@ -52,22 +52,6 @@ fn is_exception(kind: EntryKind) -> bool
     }
 }
 
-// Definitions are lent by functions of their own: in the midst of a walk they take the check long.
-
-/// The definitions of a module.
-fn definitions_of<'t, 'a>(m: &'t Module<'a>) -> &'t [Definition<'a>]
-    ensures { result.now ≡ m.now.definitions.items }
-{
-    m.definitions.as_slice()
-}
-
-/// The definitions of a specification.
-fn definitions_in<'t, 'a>(spec: &'t Spec<'a>) -> &'t [Definition<'a>]
-    ensures { result.now ≡ spec.now.definitions.items }
-{
-    spec.definitions.as_slice()
-}
-
 impl<'a> Reader<'a> {
     fn declare_enum(&mut self, alloc: Global, identifier: Leaf<'a>) -> Result<(), NameFault>
         requires { latest self.old.entries ≤ identifier.number }
@@ -81,7 +65,7 @@ impl<'a> Reader<'a> {
             stands_for: Some(ConstKind::Enum(number)),
         };
         self.declare_as(alloc, identifier, meaning)?;
-        self.begin_enumeration(number);
+        self.enumeration = number;
         Ok(())
     }
 
@@ -94,7 +78,7 @@ impl<'a> Reader<'a> {
             kind: EntryKind::Enumerator,
             worth: Some(Constant::Enumerator {
                 enumerator: self.table().len(),
-                owner: self.enumeration(),
+                owner: self.enumeration,
             }),
             stands_for: None,
         };
@@ -108,7 +92,7 @@ impl<'a> Reader<'a> {
         match t {
             TypeSpec::Simple(simple) => simple_type_kind(self.table(), alloc, self.scope(), simple),
             TypeSpec::Struct(_) | TypeSpec::Union(_) => Ok(None),
-            TypeSpec::Enum(_) => Ok(Some(ConstKind::Enum(self.enumeration()))),
+            TypeSpec::Enum(_) => Ok(Some(ConstKind::Enum(self.enumeration))),
         }
     }
 
@@ -220,7 +204,8 @@ impl<'a> Reader<'a> {
         name: &'a str,
         given: PragmaId<'a>,
     ) -> Result<(), NameFault>
-        ensures { Tells result self.new (said_read self.old leaf.now (Some (GivesTo name.entry.now (given_of given.entry)))) }
+        ensures { Tells result self.new
+            (said_read self.old leaf.now (Some (GivesTo name.entry.now (given_of given.entry)))) }
     {
         let at = leaf.at();
         let seen = self.table().look_for_words(leaf.number, self.scope(), name);
@@ -337,11 +322,12 @@ impl<'a> Reader<'a> {
     #[cycle(definitions)]
     fn read_module(&mut self, alloc: Global, m: &Module<'a>) -> Result<(), NameFault>
         requires { Rises (latest self.old.entries) (module_body m.now.identifier (steps_of m.now.definitions.items)) }
-        ensures { Tells result self.new (steps_read self.old (module_body m.now.identifier (steps_of m.now.definitions.items))) }
+        ensures { Tells result self.new
+            (steps_read self.old (module_body m.now.identifier (steps_of m.now.definitions.items))) }
     {
         self.declare(alloc, m.identifier, EntryKind::Module)?;
         self.enter(m.identifier);
-        self.read_definitions(alloc, definitions_of(m))?;
+        self.read_definitions(alloc, m.definitions.as_slice())?;
         self.leave();
         Ok(())
     }
@@ -366,7 +352,7 @@ impl<'a> Reader<'a> {
     {
         // which is a number, so no token's number passes the largest
         let _count = spec.tokens.len();
-        self.read_definitions(alloc, definitions_in(spec))?;
+        self.read_definitions(alloc, spec.definitions.as_slice())?;
         self.all_defined()
     }
 

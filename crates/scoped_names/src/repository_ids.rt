@@ -34,7 +34,6 @@ pub(crate) struct PlacedId<'a> {
 }
 
 /// What the pragmas of a specification say of repository ids.
-#[derive(Drop)]
 pub(crate) struct IdPragmas<'a> {
     entries: Numbered<usize>,
     /// What is given to each of them.
@@ -129,6 +128,12 @@ impl PlacedId<'_> {
     }
 }
 
+impl<'a> Drop for IdPragmas<'a> {
+    fn drop(self) {
+        let IdPragmas { entries: _, ids: _ } = self;
+    }
+}
+
 impl<'a> IdPragmas<'a> {
     /// No pragmas. Takes no memory.
     pub fn new(alloc: Global) -> Self
@@ -146,7 +151,8 @@ impl<'a> IdPragmas<'a> {
     ///
     /// `IdTwice` where the entry has another, `NoMemory`.
     pub fn give(&mut self, entry: usize, given: PragmaId<'a>, at: At) -> Result<(), NameFault>
-        ensures { Tells result self.new (given_once self.old entry (given_of given.entry) at (pragma_for self.old entry)) }
+        ensures { Tells result self.new
+            (given_once self.old entry (given_of given.entry) at (pragma_for self.old entry)) }
     {
         match self.entries.number_of(&entry) {
             Some(number) => self.ids[number].given_again(given, at),

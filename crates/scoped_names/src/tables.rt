@@ -7,7 +7,7 @@ ghost use Rattle.name_table.specs.Features.{differ as differ_by, features_of};
 ghost use Rattle.name_table.specs.Search.{inherited as inherited_by, word};
 
 use idl_tree::names::Leaf;
-use name_table::{Base, Found, Meaning, Record, Table, Word};
+use name_table::{Base, Found, Meaning, Table, Word};
 use std::alloc::{AllocError, Global};
 use std::marker::Model;
 
@@ -69,13 +69,13 @@ impl<'a> Tables<'a> {
         requires scope { scope ≤ length self.old }
         requires new { named self.old scope (word identifier) ≡ None }
         requires late { latest self.old ≤ meaning.token }
-        ensures added { OnOk result (self.new ≡ self.old ++ entry_declared meaning prefix.entry.now scope identifier.entry ∷ []) }
+        ensures added { OnOk result (self.new ≡
+            self.old ++ entry_declared meaning prefix.entry.now scope identifier.entry ∷ []) }
     {
         let feature = meaning.as_feature();
         self.features
-            .add(alloc, Record::new(prefix, scope, identifier, feature))?;
-        let entry = Record::new(prefix, scope, identifier, meaning);
-        match self.all.add(alloc, entry) {
+            .add(alloc, prefix, scope, identifier, feature)?;
+        match self.all.add(alloc, prefix, scope, identifier, meaning) {
             Ok(()) => Ok(()),
             Err(refused) => {
                 *self = Tables::new(alloc);

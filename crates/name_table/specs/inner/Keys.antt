@@ -45,7 +45,9 @@ word_ties a b = by (pointwise nat_eq (folded a) (folded b)) refl
         sym (ap (λ o. is_eq (ordering_then o (slice_cmp nat_cmp (folded a) (folded b))))
         (ap (nat_cmp a.code) (sym codes) ∙ tied_itself nat_cmp_total a.code)
         ∙ sym (texts_ties (folded a) (folded b)) ∙ is)
-    by false is = rest (nat_cmp a.code b.code) (slice_cmp nat_cmp (folded a) (folded b)) (sym (texts_ties (folded a) (folded b)) ∙ is)
+    by false is =
+        rest (nat_cmp a.code b.code) (slice_cmp nat_cmp (folded a) (folded b))
+        (sym (texts_ties (folded a) (folded b)) ∙ is)
 
 -- each key has its place among those that came as its number
 pub record AreNumbered {K : Type 0} (cmp : K → K → Ordering) (numbers : List (K × ℕ)) (keys : List K)

@@ -1,5 +1,5 @@
--- Along the steps of a specification the numbers of tokens rise: each step stands at a token, not before that of the one
--- before it, and a base behind it.
+-- Along the steps of a specification the numbers of tokens rise: each step stands at a token, not before that of the
+-- one before it, and a base behind it.
 use Rattle.std.specs.Prelude.{ℕ, ◌<◌, ◌≤◌, ◌^◌, List, [], ◌∷◌}
 use Rattle.idl_tree.specs.Starts.{expr_start, name_start}
 use Rattle.scoped_names.specs.Meanings.{const_end}

@@ -1,22 +1,37 @@
-use Rattle.std.proofs.Common.{◌≡◌, ◌∙◌, ◌++◌, ◌∷◌, [], refl, ap, sym, subst, length, arith}
+use Rattle.std.proofs.Common.{◌≡◌, ◌∙◌, ◌++◌, ◌∷◌, [], None, refl, ap, sym, subst, length, arith}
 use Rattle.std.proofs.lemmas.List.{length-map}
-use Rattle.name_table.specs.Entries.{latest}
+use Rattle.name_table.specs.declared.record.Record.{Record}
+use Rattle.name_table.specs.Entry.{Entry, named}
+use Rattle.name_table.specs.Entries.{entry_declared, latest}
 use Rattle.name_table.specs.inner.Records.{AreTied, entries_in, entry_of}
 use Rattle.name_table.specs.inner.Shortcuts.{AreShort}
 use Rattle.name_table.proofs.Lookups.{position_is}
-use Rattle.name_table.proofs.Tied.{relisted, tied_push, ways_push}
+use Rattle.name_table.proofs.Tied.{entries_push, relisted, tied_push, ways_push}
 use Rattle.name_table.proofs.table.Table.add.Goals as goal
 
 pub push-requires : goal.push-requires
 push-requires c =
     let inside = c.self.inside in
-    let key = c.args.declared.key in
-    position_is inside.keys inside.records.items c.args.self.now c.self.view_is c.self.invariant.0.keyed _ key.scope key.word.text.now (λ r. refl) ∙ c.requires.fresh
+    let es = c.args.self.now in
+    position_is inside.keys inside.records.items es c.self.view_is c.self.invariant.0.keyed _ c.args.scope c.new-word.result.text.now (λ r. refl)
+    ∙ ap (named es c.args.scope) (c.new-word.ensures ∙ c.name.ensures) ∙ c.requires.new
 
 pub invariant_of-self-2 : goal.invariant_of-self-2
 invariant_of-self-2 c =
     let inside = c.self.inside in
-    let r = c.args.declared in
+    let m = c.args.meaning in
+    let l = c.args.identifier in
+    let r : Record = record {
+      key = record { scope = c.args.scope; word = c.new-word.result };
+      token = m.token;
+      line = l.token.now.line;
+      identifier = l.number;
+      kind = m.kind;
+      worth = m.worth;
+      stands_for = m.stands_for;
+      prefix = c.args.prefix;
+      heir = None;
+    } in
     let records = inside.records.items in
     let count : length c.args.self.now ≡ length records = sym (ap length c.self.view_is) ∙ length-map records entry_of in
     let same : latest (entries_in records) ≡ latest c.args.self.now = ap latest c.self.view_is in
@@ -24,10 +39,31 @@ invariant_of-self-2 c =
     let low = c.requires.scope in
     subst (λ rs. AreTied c.push.new.self rs c.list_word.new.words.items × AreShort (entries_in rs) inside.shortcuts.items)
     (sym (c.push_reserved.ensures.items ∙ ap (λ rs. rs ++ r ∷ []) c.in_ok-reserve.ensures.items)) (
-      tied_push inside.keys records inside.words.items c.self.invariant.0 r (omega arith) c.requires.plain (omega arith) c.push.new.self c.in_ok-push.ensures.pushed
+      tied_push inside.keys records inside.words.items c.self.invariant.0 r (omega arith) refl (omega arith) c.push.new.self c.in_ok-push.ensures.pushed
           c.list_word.new.words.items c.in_ok-list_word.ensures.kept c.in_ok-list_word.ensures.listed,
-      ways_push inside.keys records inside.words.items c.self.invariant.0 r (omega arith) c.requires.plain (omega arith) inside.shortcuts.items c.self.invariant.1,
+      ways_push inside.keys records inside.words.items c.self.invariant.0 r (omega arith) refl (omega arith) inside.shortcuts.items c.self.invariant.1,
     )
+
+pub returns-clause-added : goal.returns-clause-added
+returns-clause-added c =
+    let inside = c.self.inside in
+    let m = c.args.meaning in
+    let l = c.args.identifier in
+    let r : Record = record {
+      key = record { scope = c.args.scope; word = c.new-word.result };
+      token = m.token;
+      line = l.token.now.line;
+      identifier = l.number;
+      kind = m.kind;
+      worth = m.worth;
+      stands_for = m.stands_for;
+      prefix = c.args.prefix;
+      heir = None;
+    } in
+    let one = entry_declared m c.args.prefix.now c.args.scope l in
+    ap entries_in (c.push_reserved.ensures.items ∙ ap (λ rs. rs ++ r ∷ []) c.in_ok-reserve.ensures.items)
+    ∙ entries_push inside.records.items r ∙ ap (λ es. es ++ entry_of r ∷ []) c.self.view_is
+    ∙ ap (λ n. let e : Entry = record one { name = n } in c.args.self.now ++ e ∷ []) (c.new-word.ensures ∙ c.name.ensures)
 
 pub invariant_of-self-in_err-push : goal.invariant_of-self-in_err-push
 invariant_of-self-in_err-push c =

@@ -17,18 +17,18 @@ pub read_definitions-requires : goal.read_definitions-requires
 read_definitions-requires c =
     let spec = c.args.spec.now in
     let begun = ap (λ st. latest st.entries) c.requires in
-    subst (λ m. Rises m (steps_of c.definitions_in.result.now)) (sym begun)
-    (subst (λ ds. Rises 0 (steps_of ds)) (sym c.definitions_in.ensures) (rising spec (omega arith)))
+    subst (λ m. Rises m (steps_of c.as_slice.result.now)) (sym begun)
+    (subst (λ ds. Rises 0 (steps_of ds)) (sym c.as_slice.ensures.value) (rising spec (omega arith)))
 
 pub returns-in_err-read_definitions : goal.returns-in_err-read_definitions
 returns-in_err-read_definitions c =
     let p = err_from_is_err_and c.from_residual.result c.from_residual.ensures.1 in
-    let begun = ap (λ st. steps_read st (steps_of c.definitions_in.result.now)) c.requires ∙ ap (λ ds. steps_read nothing_yet (steps_of ds)) c.definitions_in.ensures in
+    let begun = ap (λ st. steps_read st (steps_of c.as_slice.result.now)) c.requires ∙ ap (λ ds. steps_read nothing_yet (steps_of ds)) c.as_slice.ensures.value in
     rw (p.1, p.2) (or_told c.in_err-read_definitions.ensures (λ is. ap finished (sym begun ∙ is)))
 
 pub returns : goal.returns
 returns c =
     let st = c.read_definitions.new.self in
-    let begun = ap (λ st. steps_read st (steps_of c.definitions_in.result.now)) c.requires ∙ ap (λ ds. steps_read nothing_yet (steps_of ds)) c.definitions_in.ensures in
+    let begun = ap (λ st. steps_read st (steps_of c.as_slice.result.now)) c.requires ∙ ap (λ ds. steps_read nothing_yet (steps_of ds)) c.as_slice.ensures.value in
     subst (Tells c.all_defined.result st) (sym (ap finished (sym begun ∙ c.in_ok-read_definitions.ensures)))
     (checked_then c.all_defined.result (never_defined (left_open st 0 st.entries)) st c.all_defined.ensures)

@@ -1,8 +1,8 @@
 use Rattle.std.proofs.Common.{◌≡◌, ◌∙◌, ◌++◌, ◌∷◌, [], length, sym, ap, arith}
-use Rattle.name_table.specs.Entry.{named}
+use Rattle.name_table.specs.declared.entry.Meaning.{Meaning}
+use Rattle.name_table.specs.Entry.{Entry, named}
 use Rattle.name_table.specs.Entries.{entry_declared, latest}
 use Rattle.name_table.specs.Features.{as_feature, features_of, is_feature, no_token}
-use Rattle.name_table.specs.inner.Records.{entry_of}
 use Rattle.name_table.specs.Search.{word}
 use Rattle.name_table.proofs.Latest.{latest_features}
 use Rattle.scoped_names.proofs.FeatureTables.{as_many, features_more, late_either, named_features}
@@ -12,39 +12,33 @@ pub add-requires-clause-scope : goal.add-requires-clause-scope
 add-requires-clause-scope c =
     let kept = c.self.invariant in
     let many = ap length kept ∙ as_many c.self.inside.all ∙ ap length c.self.view_is in
-    let at = c.new.ensures.scope in
     let low = c.requires.scope in
-    omega (arith, many, at, low)
+    omega (arith, many, low)
 
-pub add-requires-clause-fresh : goal.add-requires-clause-fresh
-add-requires-clause-fresh c =
+pub add-requires-clause-new : goal.add-requires-clause-new
+add-requires-clause-new c =
     let scope = c.args.scope in
     let name = word c.args.identifier in
-    let kept = c.self.invariant in
-    ap (λ e. named c.self.inside.features e.scope e.name) c.new.ensures.entry ∙ ap (λ es. named es scope name) kept
+    ap (λ es. named es scope name) c.self.invariant
     ∙ named_features c.self.inside.all scope name ∙ ap (λ es. named es scope name) c.self.view_is ∙ c.requires.new
 
 pub add-requires-clause-late : goal.add-requires-clause-late
 add-requires-clause-late c =
     let table = c.self.inside.all in
     let m = c.args.meaning in
-    let kept = c.self.invariant in
-    let same : latest c.self.inside.features ≡ latest table = ap latest kept ∙ latest_features table in
+    let same : latest c.self.inside.features ≡ latest table = ap latest c.self.invariant ∙ latest_features table in
     let whole = ap latest c.self.view_is in
     let low = c.requires.late in
-    let token = ap (λ e. e.token) c.new.ensures.entry ∙ ap (λ m. m.token) c.as_feature-feature.ensures in
+    let token = ap (λ m. m.token) c.as_feature-feature.ensures in
     let late = late_either (is_feature m.kind) (latest table) m.token no_token (omega (arith, whole, low)) (omega (arith, whole, low)) in
     omega (arith, same, token, late)
 
 pub invariant_of-self-in-Ok : goal.invariant_of-self-in-Ok
 invariant_of-self-in-Ok c =
     let table = c.self.inside.all in
-    let feature = entry_of c.new.result in
-    let entry = entry_of c.new-entry.result in
-    let kept = c.self.invariant in
-    let is : feature ≡ as_feature entry =
-    c.new.ensures.entry
-    ∙ ap (λ m. entry_declared m c.args.prefix.now c.args.scope c.args.identifier) c.as_feature-feature.ensures
-    ∙ sym (ap as_feature c.new-entry.ensures.entry) in
-    c.in_ok-add.ensures.added ∙ ap (λ es. es ++ feature ∷ []) kept ∙ ap (λ f. features_of table ++ f ∷ []) is
+    let made : Meaning → Entry = λ m. entry_declared m c.args.prefix.now c.args.scope c.args.identifier in
+    let feature = made c.as_feature-feature.result in
+    let entry = made c.args.meaning in
+    let is : feature ≡ as_feature entry = ap made c.as_feature-feature.ensures in
+    c.in_ok-add.ensures.added ∙ ap (λ es. es ++ feature ∷ []) c.self.invariant ∙ ap (λ f. features_of table ++ f ∷ []) is
     ∙ sym (features_more table entry) ∙ sym (ap features_of c.in-Ok.ensures.added)

@@ -3,11 +3,11 @@ use Rattle.idl_tree.specs.PartsLeft.{parts_left}
 use Rattle.lowered_types.specs.Faults.{each}
 use Rattle.lowered_types.specs.Lowered.{already}
 use Rattle.lowered_types.specs.Types.{with_members_of, with_declarator, with_declarators}
-use Rattle.lowered_types.proofs.table.TypeTable.lower_declarators.Given as goal
+use Rattle.lowered_types.proofs.types.lower_declarators.Given as goal
 
 abbrev pub invariant-loop-declarator : goal.invariant-loop-declarator
 invariant-loop-declarator l = record {
   inside : l.scope ≤ length l.names.entries;
-  told : each (with_declarator l.names.entries l.scope l.number) (with_members_of l.self l.members) (parts_left l.declarator-iterator)
-      ≡ with_declarators l.names.entries l.scope (already l.fn.self l.number) l.fn.members l.declarators;
+  told : each (with_declarator l.names.entries l.scope l.number) (with_members_of l.table l.members) (parts_left l.declarator-iterator)
+      ≡ with_declarators l.names.entries l.scope (already l.fn.table l.number) l.fn.members l.declarators;
 }

@@ -9,13 +9,13 @@ use Rattle.lowered_types.specs.Labels.{no_arms, switch_read, switched}
 use Rattle.lowered_types.specs.Types.{cases_of, no_members, struct_defined, union_defined, with_case_of, with_member, with_members_of}
 use Rattle.lowered_types.proofs.Parts.{each_off, or_told}
 use Rattle.lowered_types.proofs.Walks.{first_case, first_cases, first_member, first_of, goes_on, id_of, more_cases, rest_of, stops, struct_begun, struct_close, struct_entered, struct_in, struct_more, struct_open, struct_opened, struct_told, struct_walked, switch_of, union_begun, union_chosen, union_close, union_entered, union_id, union_in, union_more, union_open, union_opened, union_switched, union_told, union_walked}
-use Rattle.lowered_types.proofs.table.TypeTable.+types.Goals as goal
+use Rattle.lowered_types.proofs.types.+types.Goals as goal
 
 pub lower_struct-returns-in_err-entry : goal.lower_struct-returns-in_err-entry
 lower_struct-returns-in_err-entry t c =
     let p = err_from_is_err_and c.from_residual.result c.from_residual.ensures.1 in
     let es = c.args.names.now.entries in
-    let w = c.args.self.now in
+    let w = c.args.table.now in
     let scope = c.args.scope in
     let s = c.args.s.now in
     rw (p.1, p.2) (inr (struct_told es w scope s ∙ stops (entry_of es scope (id_of s)) _ (struct_in es w (id_of s) (first_of s) (rest_of s)) (sym c.in_err-entry.ensures.told)))
@@ -24,7 +24,7 @@ pub lower_struct-returns-in_err-number : goal.lower_struct-returns-in_err-number
 lower_struct-returns-in_err-number t c =
     let p = err_from_is_err_and c.from_residual-in_err-number.result c.from_residual-in_err-number.ensures.1 in
     let es = c.args.names.now.entries in
-    let w = c.args.self.now in
+    let w = c.args.table.now in
     let scope = c.args.scope in
     let s = c.args.s.now in
     let e = c.in_ok-entry.entry in
@@ -36,7 +36,7 @@ pub lower_struct-returns-in_err-lower_member : goal.lower_struct-returns-in_err-
 lower_struct-returns-in_err-lower_member t c =
     let p = err_from_is_err_and c.from_residual-in_err-lower_member.result c.from_residual-in_err-lower_member.ensures.1 in
     let es = c.args.names.now.entries in
-    let w = c.args.self.now in
+    let w = c.args.table.now in
     let scope = c.args.scope in
     let s = c.args.s.now in
     let e = c.in_ok-entry.entry in
@@ -51,19 +51,19 @@ pub lower_struct-returns-in_err-lower_member-2 : goal.lower_struct-returns-in_er
 lower_struct-returns-in_err-lower_member-2 t c =
     let p = err_from_is_err_and c.from_residual-in_err-lower_member-2.result c.from_residual-in_err-lower_member-2.ensures.1 in
     let es = c.args.names.now.entries in
-    let w = c.args.self.now in
+    let w = c.args.table.now in
     let scope = c.args.scope in
     let s = c.args.s.now in
     let e = c.in_ok-entry.entry in
     let told = c.in_ok-entry.ensures.told in
     let o = already c.declare.new.self c.in_ok-number.number in
     let opens = ap (opened w e) (sym c.at-at.ensures) ∙ c.in_ok-number.ensures in
-    let m = with_members_of c.lower_member.new.self c.lower_member.new.members in
+    let m = with_members_of c.lower_member.new.table c.lower_member.new.members in
     let same = first_member es (e + 1) c.declare.new.self c.new-members.result c.deref.result.now (first_of s) c.new-members.ensures c.deref.ensures in
     let first : with_member es (e + 1) (with_members_of o.lowered no_members) (first_of s) ≡ Ok m = same ∙ c.in_ok-lower_member.ensures in
     let items = c.deref-member-items.result.now in
     let part = with_member es (e + 1) in
-    let st = with_members_of c.loop-member.self c.loop-member.members in
+    let st = with_members_of c.loop-member.table c.loop-member.members in
     let k = c.loop-member.member-index in
     let here = ap (each part m) (sym c.deref-member-items.ensures.value) ∙ sym c.loop-member.invariant.told in
     let lt : k < length items = omega arith in
@@ -74,19 +74,19 @@ pub lower_struct-returns-in_err-define_struct : goal.lower_struct-returns-in_err
 lower_struct-returns-in_err-define_struct t c =
     let p = err_from_is_err_and c.from_residual-in_err-define_struct.result c.from_residual-in_err-define_struct.ensures.1 in
     let es = c.args.names.now.entries in
-    let w = c.args.self.now in
+    let w = c.args.table.now in
     let scope = c.args.scope in
     let s = c.args.s.now in
     let e = c.in_ok-entry.entry in
     let told = c.in_ok-entry.ensures.told in
     let o = already c.declare.new.self c.in_ok-number.number in
     let opens = ap (opened w e) (sym c.at-at.ensures) ∙ c.in_ok-number.ensures in
-    let m = with_members_of c.lower_member.new.self c.lower_member.new.members in
+    let m = with_members_of c.lower_member.new.table c.lower_member.new.members in
     let same = first_member es (e + 1) c.declare.new.self c.new-members.result c.deref.result.now (first_of s) c.new-members.ensures c.deref.ensures in
     let first : with_member es (e + 1) (with_members_of o.lowered no_members) (first_of s) ≡ Ok m = same ∙ c.in_ok-lower_member.ensures in
     let items = c.deref-member-items.result.now in
     let part = with_member es (e + 1) in
-    let st = with_members_of c.loop-member.self c.loop-member.members in
+    let st = with_members_of c.loop-member.table c.loop-member.members in
     let k = c.loop-member.member-index in
     let here = ap (each part m) (sym c.deref-member-items.ensures.value) ∙ sym c.loop-member.invariant.told in
     let walked : each part m (rest_of s) ≡ Ok st = here ∙ at_drop_all (each part st) items k (omega arith) in
@@ -96,19 +96,19 @@ lower_struct-returns-in_err-define_struct t c =
 pub lower_struct-returns : goal.lower_struct-returns
 lower_struct-returns t c =
     let es = c.args.names.now.entries in
-    let w = c.args.self.now in
+    let w = c.args.table.now in
     let scope = c.args.scope in
     let s = c.args.s.now in
     let e = c.in_ok-entry.entry in
     let told = c.in_ok-entry.ensures.told in
     let o = already c.declare.new.self c.in_ok-number.number in
     let opens = ap (opened w e) (sym c.at-at.ensures) ∙ c.in_ok-number.ensures in
-    let m = with_members_of c.lower_member.new.self c.lower_member.new.members in
+    let m = with_members_of c.lower_member.new.table c.lower_member.new.members in
     let same = first_member es (e + 1) c.declare.new.self c.new-members.result c.deref.result.now (first_of s) c.new-members.ensures c.deref.ensures in
     let first : with_member es (e + 1) (with_members_of o.lowered no_members) (first_of s) ≡ Ok m = same ∙ c.in_ok-lower_member.ensures in
     let items = c.deref-member-items.result.now in
     let part = with_member es (e + 1) in
-    let st = with_members_of c.loop-member.self c.loop-member.members in
+    let st = with_members_of c.loop-member.table c.loop-member.members in
     let k = c.loop-member.member-index in
     let here = ap (each part m) (sym c.deref-member-items.ensures.value) ∙ sym c.loop-member.invariant.told in
     let walked : each part m (rest_of s) ≡ Ok st = here ∙ at_drop_all (each part st) items k (omega arith) in
@@ -120,7 +120,7 @@ pub lower_union-returns-in_err-entry : goal.lower_union-returns-in_err-entry
 lower_union-returns-in_err-entry t c =
     let p = err_from_is_err_and c.from_residual.result c.from_residual.ensures.1 in
     let es = c.args.names.now.entries in
-    let w = c.args.self.now in
+    let w = c.args.table.now in
     let scope = c.args.scope in
     let u = c.args.u.now in
     rw (p.1, p.2) (inr (union_told es w scope u
@@ -130,7 +130,7 @@ pub lower_union-returns-in_err-number : goal.lower_union-returns-in_err-number
 lower_union-returns-in_err-number t c =
     let p = err_from_is_err_and c.from_residual-in_err-number.result c.from_residual-in_err-number.ensures.1 in
     let es = c.args.names.now.entries in
-    let w = c.args.self.now in
+    let w = c.args.table.now in
     let scope = c.args.scope in
     let u = c.args.u.now in
     let e = c.in_ok-entry.entry in
@@ -143,7 +143,7 @@ pub lower_union-returns-in_err-switch : goal.lower_union-returns-in_err-switch
 lower_union-returns-in_err-switch t c =
     let p = err_from_is_err_and c.from_residual-in_err-switch.result c.from_residual-in_err-switch.ensures.1 in
     let es = c.args.names.now.entries in
-    let w = c.args.self.now in
+    let w = c.args.table.now in
     let scope = c.args.scope in
     let u = c.args.u.now in
     let e = c.in_ok-entry.entry in
@@ -158,16 +158,16 @@ pub lower_union-returns-in_err-lower_case : goal.lower_union-returns-in_err-lowe
 lower_union-returns-in_err-lower_case t c =
     let p = err_from_is_err_and c.from_residual-in_err-lower_case.result c.from_residual-in_err-lower_case.ensures.1 in
     let es = c.args.names.now.entries in
-    let w = c.args.self.now in
+    let w = c.args.table.now in
     let scope = c.args.scope in
     let u = c.args.u.now in
     let e = c.in_ok-entry.entry in
     let told = c.in_ok-entry.ensures.told in
     let o = already c.declare.new.self c.in_ok-number.number in
     let opens = ap (opened w e) (sym c.at-at.ensures) ∙ c.in_ok-number.ensures in
-    let sw = switched c.lower_switch.new.self c.in_ok-switch.switch in
+    let sw = switched c.lower_switch.new.table c.in_ok-switch.switch in
     let switches = ap (λ at. switch_read es o.lowered (e + 1) at (switch_of u)) (sym c.at-at.ensures) ∙ c.in_ok-switch.ensures in
-    let same = first_cases es (e + 1) sw.switch c.lower_switch.new.self c.new-arms.result c.deref.result.now (first_case u) c.new-arms.ensures c.deref.ensures in
+    let same = first_cases es (e + 1) sw.switch c.lower_switch.new.table c.new-arms.result c.deref.result.now (first_case u) c.new-arms.ensures c.deref.ensures in
     rw (p.1, p.2) (or_told c.in_err-lower_case.ensures (λ is. union_chosen es w scope u e o sw told opens switches
     ∙ stops (with_case_of es (e + 1) sw.switch (cases_of sw.lowered no_arms) (first_case u)) _ (union_more es (union_id u) (more_cases u) e o sw.switch) (same ∙ is)))
 
@@ -175,21 +175,21 @@ pub lower_union-returns-in_err-lower_case-2 : goal.lower_union-returns-in_err-lo
 lower_union-returns-in_err-lower_case-2 t c =
     let p = err_from_is_err_and c.from_residual-in_err-lower_case-2.result c.from_residual-in_err-lower_case-2.ensures.1 in
     let es = c.args.names.now.entries in
-    let w = c.args.self.now in
+    let w = c.args.table.now in
     let scope = c.args.scope in
     let u = c.args.u.now in
     let e = c.in_ok-entry.entry in
     let told = c.in_ok-entry.ensures.told in
     let o = already c.declare.new.self c.in_ok-number.number in
     let opens = ap (opened w e) (sym c.at-at.ensures) ∙ c.in_ok-number.ensures in
-    let sw = switched c.lower_switch.new.self c.in_ok-switch.switch in
+    let sw = switched c.lower_switch.new.table c.in_ok-switch.switch in
     let switches = ap (λ at. switch_read es o.lowered (e + 1) at (switch_of u)) (sym c.at-at.ensures) ∙ c.in_ok-switch.ensures in
-    let m = cases_of c.lower_case.new.self c.lower_case.new.arms in
-    let same = first_cases es (e + 1) sw.switch c.lower_switch.new.self c.new-arms.result c.deref.result.now (first_case u) c.new-arms.ensures c.deref.ensures in
+    let m = cases_of c.lower_case.new.table c.lower_case.new.arms in
+    let same = first_cases es (e + 1) sw.switch c.lower_switch.new.table c.new-arms.result c.deref.result.now (first_case u) c.new-arms.ensures c.deref.ensures in
     let first : with_case_of es (e + 1) sw.switch (cases_of sw.lowered no_arms) (first_case u) ≡ Ok m = same ∙ c.in_ok-lower_case.ensures in
     let items = c.deref-case-items.result.now in
     let part = with_case_of es (e + 1) sw.switch in
-    let st = cases_of c.loop-case.self c.loop-case.arms in
+    let st = cases_of c.loop-case.table c.loop-case.arms in
     let k = c.loop-case.case-index in
     let here = ap (each part m) (sym c.deref-case-items.ensures.value) ∙ sym c.loop-case.invariant.told in
     let lt : k < length items = omega arith in
@@ -200,21 +200,21 @@ pub lower_union-returns-in_err-define_union : goal.lower_union-returns-in_err-de
 lower_union-returns-in_err-define_union t c =
     let p = err_from_is_err_and c.from_residual-in_err-define_union.result c.from_residual-in_err-define_union.ensures.1 in
     let es = c.args.names.now.entries in
-    let w = c.args.self.now in
+    let w = c.args.table.now in
     let scope = c.args.scope in
     let u = c.args.u.now in
     let e = c.in_ok-entry.entry in
     let told = c.in_ok-entry.ensures.told in
     let o = already c.declare.new.self c.in_ok-number.number in
     let opens = ap (opened w e) (sym c.at-at.ensures) ∙ c.in_ok-number.ensures in
-    let sw = switched c.lower_switch.new.self c.in_ok-switch.switch in
+    let sw = switched c.lower_switch.new.table c.in_ok-switch.switch in
     let switches = ap (λ at. switch_read es o.lowered (e + 1) at (switch_of u)) (sym c.at-at.ensures) ∙ c.in_ok-switch.ensures in
-    let m = cases_of c.lower_case.new.self c.lower_case.new.arms in
-    let same = first_cases es (e + 1) sw.switch c.lower_switch.new.self c.new-arms.result c.deref.result.now (first_case u) c.new-arms.ensures c.deref.ensures in
+    let m = cases_of c.lower_case.new.table c.lower_case.new.arms in
+    let same = first_cases es (e + 1) sw.switch c.lower_switch.new.table c.new-arms.result c.deref.result.now (first_case u) c.new-arms.ensures c.deref.ensures in
     let first : with_case_of es (e + 1) sw.switch (cases_of sw.lowered no_arms) (first_case u) ≡ Ok m = same ∙ c.in_ok-lower_case.ensures in
     let items = c.deref-case-items.result.now in
     let part = with_case_of es (e + 1) sw.switch in
-    let st = cases_of c.loop-case.self c.loop-case.arms in
+    let st = cases_of c.loop-case.table c.loop-case.arms in
     let k = c.loop-case.case-index in
     let here = ap (each part m) (sym c.deref-case-items.ensures.value) ∙ sym c.loop-case.invariant.told in
     let walked : each part m (more_cases u) ≡ Ok st = here ∙ at_drop_all (each part st) items k (omega arith) in
@@ -224,21 +224,21 @@ lower_union-returns-in_err-define_union t c =
 pub lower_union-returns : goal.lower_union-returns
 lower_union-returns t c =
     let es = c.args.names.now.entries in
-    let w = c.args.self.now in
+    let w = c.args.table.now in
     let scope = c.args.scope in
     let u = c.args.u.now in
     let e = c.in_ok-entry.entry in
     let told = c.in_ok-entry.ensures.told in
     let o = already c.declare.new.self c.in_ok-number.number in
     let opens = ap (opened w e) (sym c.at-at.ensures) ∙ c.in_ok-number.ensures in
-    let sw = switched c.lower_switch.new.self c.in_ok-switch.switch in
+    let sw = switched c.lower_switch.new.table c.in_ok-switch.switch in
     let switches = ap (λ at. switch_read es o.lowered (e + 1) at (switch_of u)) (sym c.at-at.ensures) ∙ c.in_ok-switch.ensures in
-    let m = cases_of c.lower_case.new.self c.lower_case.new.arms in
-    let same = first_cases es (e + 1) sw.switch c.lower_switch.new.self c.new-arms.result c.deref.result.now (first_case u) c.new-arms.ensures c.deref.ensures in
+    let m = cases_of c.lower_case.new.table c.lower_case.new.arms in
+    let same = first_cases es (e + 1) sw.switch c.lower_switch.new.table c.new-arms.result c.deref.result.now (first_case u) c.new-arms.ensures c.deref.ensures in
     let first : with_case_of es (e + 1) sw.switch (cases_of sw.lowered no_arms) (first_case u) ≡ Ok m = same ∙ c.in_ok-lower_case.ensures in
     let items = c.deref-case-items.result.now in
     let part = with_case_of es (e + 1) sw.switch in
-    let st = cases_of c.loop-case.self c.loop-case.arms in
+    let st = cases_of c.loop-case.table c.loop-case.arms in
     let k = c.loop-case.case-index in
     let here = ap (each part m) (sym c.deref-case-items.ensures.value) ∙ sym c.loop-case.invariant.told in
     let walked : each part m (more_cases u) ≡ Ok st = here ∙ at_drop_all (each part st) items k (omega arith) in

@@ -3,11 +3,11 @@ use Rattle.idl_tree.specs.Lists.{parts}
 use Rattle.idl_tree.specs.PartsLeft.{parts_left}
 use Rattle.lowered_types.specs.Faults.{each}
 use Rattle.lowered_types.specs.Declarations.{with_typedef}
-use Rattle.lowered_types.proofs.table.TypeTable.lower_typedefs.Given as goal
+use Rattle.lowered_types.proofs.declarations.lower_typedefs.Given as goal
 
 abbrev pub invariant-loop-declarator : goal.invariant-loop-declarator
 invariant-loop-declarator l = record {
   inside : l.scope ≤ length l.names.entries;
-  told : each (with_typedef l.names.entries l.scope l.number) l.self (parts_left l.declarator-iterator)
-      ≡ each (with_typedef l.names.entries l.scope l.number) l.fn.self (parts l.declarators);
+  told : each (with_typedef l.names.entries l.scope l.number) l.table (parts_left l.declarator-iterator)
+      ≡ each (with_typedef l.names.entries l.scope l.number) l.fn.table (parts l.declarators);
 }
