@@ -65,12 +65,12 @@ fn heights(alloc: Global, graph: Result<Graph, GraphFault>) -> Vec<u32> {
 fn heights_and_numbers(rt: HostRuntime) {
     let sample = heights(rt.alloc(), graph(rt.alloc(), &sample::NODES));
     assert_eq!(rt; sample.as_slice(), [0, 0, 0, 1].as_slice());
-    let long = Node::Whole {
+    let long = Node::Integer {
         width: Width::Four,
         signed: false,
     };
     assert_eq!(rt; long.number_width(), Width::Four);
-    let short = Node::Whole {
+    let short = Node::Integer {
         width: Width::Two,
         signed: true,
     };

@@ -71,11 +71,11 @@ pub fn node(alloc: Global, sketch: Sketch<'_>) -> Result<Node, AllocError> {
         Sketch::Octet => Node::Octet,
         Sketch::Char => Node::Char,
         Sketch::Boolean => Node::Boolean,
-        Sketch::Signed(width) => Node::Whole {
+        Sketch::Signed(width) => Node::Integer {
             width,
             signed: true,
         },
-        Sketch::Unsigned(width) => Node::Whole {
+        Sketch::Unsigned(width) => Node::Integer {
             width,
             signed: false,
         },

@@ -104,7 +104,7 @@ enum Told<'a> {
 }
 
 fn whole(alloc: Global, member: i128) -> Result<Box<Value>, AllocError> {
-    Ok(Box::new(alloc, Value::Whole(member))?)
+    Ok(Box::new(alloc, Value::Integer(member))?)
 }
 
 fn text(alloc: Global, octets: &[u8]) -> Result<Value, AllocError> {
@@ -114,7 +114,7 @@ fn text(alloc: Global, octets: &[u8]) -> Result<Value, AllocError> {
 fn items(alloc: Global, numbers: &[i128], octets: &[u8]) -> Result<Value, AllocError> {
     let mut list = Vec::new(alloc);
     for number in numbers {
-        add(&mut list, Ok(Value::Whole(*number)))?;
+        add(&mut list, Ok(Value::Integer(*number)))?;
     }
     if !octets.is_empty() {
         add(&mut list, text(alloc, octets))?;
@@ -195,7 +195,7 @@ fn a_union_of_many_arms(rt: HostRuntime) -> Result<(), Fail> {
 
 /// A structure of 1 and a sequence of these.
 fn parent(alloc: Global, kids: Vec<Value>) -> Result<Value, AllocError> {
-    Ok(Value::Items(vec![in alloc; Value::Whole(1), Value::Items(kids)]?))
+    Ok(Value::Items(vec![in alloc; Value::Integer(1), Value::Items(kids)]?))
 }
 
 /// So many structures, one in the sequence of the other.

@@ -13,9 +13,9 @@ use Rattle.type_graph.specs.declared.node.Node.TheVariants as nodes
 abbrev pub basic_nodes : List Node
 basic_nodes =
     nodes.Octet ∷ nodes.Char ∷ nodes.Boolean
-    ∷ nodes.Whole Two true ∷ nodes.Whole Two false
-    ∷ nodes.Whole Four true ∷ nodes.Whole Four false
-    ∷ nodes.Whole Eight true ∷ nodes.Whole Eight false
+    ∷ nodes.Integer Two true ∷ nodes.Integer Two false
+    ∷ nodes.Integer Four true ∷ nodes.Integer Four false
+    ∷ nodes.Integer Eight true ∷ nodes.Integer Eight false
     ∷ nodes.Text 0 ∷ nodes.Seq 0 0
     ∷ nodes.Struct (6 ∷ 10 ∷ []) ∷ nodes.Seq 11 0
     ∷ nodes.Struct (9 ∷ 12 ∷ [])

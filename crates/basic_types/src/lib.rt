@@ -2,7 +2,7 @@
 #![tactic(auto)]
 
 ghost use Rattle.std.specs.Prelude.{◌≡◌, IfOk};
-ghost use Rattle.type_graph.specs.declared.node.Node.TheVariants.{Whole};
+ghost use Rattle.type_graph.specs.declared.node.Node.TheVariants.{Integer};
 ghost use Rattle.basic_types.specs.BasicNodes.{basic_nodes as the_basic_nodes};
 
 use std::alloc::{AllocError, Global};
@@ -40,9 +40,9 @@ pub const TAGGED_LIST: u32 = 12;
 pub const OBJECT: u32 = 13;
 
 fn integer(width: Width, signed: bool) -> Node
-    ensures { result ≡ Whole width signed }
+    ensures { result ≡ Integer width signed }
 {
-    Node::Whole { width, signed }
+    Node::Integer { width, signed }
 }
 
 /// The basic types, in the order of their numbers (ISO/IEC 19500-2, CDR transfer syntax).

@@ -6,7 +6,7 @@ use Rattle.type_graph.specs.Encoding.{Means}
 use Rattle.type_model.specs.declared.signatures.Interface.{Interface}
 use Rattle.type_model.specs.declared.signatures.Operation.{Operation}
 use Rattle.giop_types.specs.TapeParts.{counted}
-use Rattle.giop_types.specs.GiopNodes.{giop_nodes}
+use Rattle.giop_types.specs.GiopNodes.{giop_nodes, id_argument_node}
 use Rattle.giop_messages.specs.Messages.{Asked}
 use Rattle.broker_answers.specs.declared.exception.SystemException.{SystemException}
 use Rattle.broker_answers.specs.declared.exception.SystemException.TheVariants.{ObjectNotExist, BadOperation, Marshal}
@@ -67,10 +67,11 @@ pub data Finds (served : Served) (asked : Asked) (finding : Finding) : Type 0 wh
   NoObject : object_with served.objects asked.key ≡ None → finding ≡ Refuses ObjectNotExist → Finds served asked finding
   -- _is_a, with the id of a type
   AsksType : (object : ℕ) (interface : Interface) (id : List ℕ) → IsFor served asked object interface
-      → asked.operation ≡ is_a_name → IsRead giop_nodes asked 26 (counted id) → finding ≡ Tells (is_a interface id)
+      → asked.operation ≡ is_a_name → IsRead giop_nodes asked id_argument_node (counted id)
+      → finding ≡ Tells (is_a interface id)
       → Finds served asked finding
   AsksNoType : (object : ℕ) (interface : Interface) → IsFor served asked object interface
-      → asked.operation ≡ is_a_name → IsUnread giop_nodes asked 26 → finding ≡ Refuses Marshal
+      → asked.operation ≡ is_a_name → IsUnread giop_nodes asked id_argument_node → finding ≡ Refuses Marshal
       → Finds served asked finding
   -- _non_existent
   AsksWhetherGone : (object : ℕ) (interface : Interface) → IsFor served asked object interface

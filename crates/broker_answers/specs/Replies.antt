@@ -8,8 +8,8 @@ use Rattle.type_model.specs.declared.signatures.Operation.{Operation}
 use Rattle.type_model.specs.declared.signatures.Exception.{Exception}
 use Rattle.type_model.specs.ModelRules.{Parts}
 use Rattle.giop_types.specs.TapeParts.{counted, IsCounted}
-use Rattle.giop_messages.specs.Heads.{max_size}
-use Rattle.giop_types.specs.GiopNodes.{giop_nodes}
+use Rattle.giop_messages.specs.Heads.{max_size, reply_type}
+use Rattle.giop_types.specs.GiopNodes.{giop_nodes, reply_header_node, system_exception_node, boolean_result_node}
 use Rattle.giop_messages.specs.declared.message.ReplyStatus.{ReplyStatus}
 use Rattle.giop_messages.specs.declared.message.ReplyStatus.TheVariants.{NoException, UserException, SystemException as Systemic}
 use Rattle.giop_messages.specs.Headers.{reply_tree, number_of}
@@ -39,7 +39,7 @@ abbrev pub acceptance : Reply
 acceptance = record { status = NoException; body = None }
 
 abbrev pub exception_reply : SystemException → Reply
-exception_reply exception = reply_of Systemic giop_nodes 23 (exception_tape exception)
+exception_reply exception = reply_of Systemic giop_nodes system_exception_node (exception_tape exception)
 
 abbrev pub truth_number : Bool → ℕ
 truth_number true = 1
@@ -47,11 +47,12 @@ truth_number false = 0
 
 -- what _is_a and _non_existent answer
 abbrev pub truth_reply : Bool → Reply
-truth_reply truth = reply_of NoException giop_nodes 27 (word Big One (pos (truth_number truth)))
+truth_reply truth = reply_of NoException giop_nodes boolean_result_node (word Big One (pos (truth_number truth)))
 
 -- the octets of the reply to the request, in its byte order, with no service contexts
 pub record IsSent (asked : Asked) (reply : Reply) (octets : List ℕ) : Type 0 where
-  pub written : IsWritten asked.order 1 19 (reply_tree asked.id (number_of reply.status) NoTree) reply.body octets
+  pub written : IsWritten asked.order reply_type reply_header_node
+      (reply_tree asked.id (number_of reply.status) NoTree) reply.body octets
   pub short : length octets ≤ 12 + max_size
 
 -- its body isn't one of its frame, or the message would be too long

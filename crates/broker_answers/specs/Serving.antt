@@ -9,6 +9,8 @@ use Rattle.broker_answers.specs.Servants.{Call, Said, Acting}
 use Rattle.broker_answers.specs.Objects.{Served, object_with}
 use Rattle.broker_answers.specs.Findings.{Finding, Refuses, Tells, Calls, Finds}
 use Rattle.broker_answers.specs.Replies.{AnswersRequest}
+use Rattle.giop_types.specs.GiopNodes.{locate_reply_header_node}
+use Rattle.giop_messages.specs.Heads.{locate_reply_type, message_error_type}
 
 -- what a message says, or none where it is no message
 abbrev pub Item : Type 0
@@ -33,11 +35,11 @@ closes (Some Fails) = true
 
 -- MessageError in big order
 abbrev pub message_error : List ℕ
-message_error = head_octets Big 6 0
+message_error = head_octets Big message_error_type 0
 
 -- whether an object has the key (GIOP: LocateReply)
 pub record IsLocated (served : Served) (sought : Sought) (octets : List ℕ) : Type 0 where
-  pub written : IsWritten sought.order 4 21
+  pub written : IsWritten sought.order locate_reply_type locate_reply_header_node
       (here_tree sought.id (here_number (is_some (object_with served.objects sought.key)))) None octets
 
 -- the answer to a message, by what the servant says to calls

@@ -4,7 +4,7 @@ ghost use Rattle.std.specs.Prelude.{◌≡◌, ◌↔◌, IfOk, IsTrue, option_m
 ghost use Rattle.type_model.specs.ModelRules.{Parts};
 ghost use Rattle.type_model.specs.Names.{IsNamed};
 ghost use Rattle.giop_messages.specs.Messages.{asked_of};
-ghost use Rattle.giop_types.specs.GiopNodes.{giop_nodes};
+ghost use Rattle.giop_types.specs.GiopNodes.{giop_nodes, id_argument_node};
 ghost use Rattle.broker_answers.specs.Findings.{IsRead, IsReading, Tells};
 ghost use Rattle.broker_answers.specs.inner.FindingSteps.{HasId, IsKnown, IsTypeAsked, finding_of};
 
@@ -76,7 +76,7 @@ pub(crate) fn read_body(
 /// Whether the id that this tape says is one of the interface's.
 #[tactic(auto, using(crate::proofs::Readings::id_read, crate::proofs::Readings::id_is_there))]
 fn has_type(interface: &Interface, request: &Request<'_>, tape: &[u8]) -> bool
-    requires { IsRead giop_nodes (asked_of request.now) 26 tape.now }
+    requires { IsRead giop_nodes (asked_of request.now) id_argument_node tape.now }
     ensures { HasId interface.now (asked_of request.now) (Tells result) }
 {
     match split_octets(tape) {

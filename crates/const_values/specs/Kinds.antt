@@ -6,7 +6,7 @@ use Rattle.idl_tree.specs.declared.types.Integer.{Integer as IntegerType}
 use Rattle.idl_tree.specs.declared.types.Integer.TheVariants.{Signed, Unsigned}
 use Rattle.const_values.specs.Arithmetic.{where_true}
 use Rattle.const_values.specs.declared.constant.Constant.{Constant}
-use Rattle.const_values.specs.declared.constant.Constant.TheVariants.{Whole, Boolean, Character, Text, Enumerator}
+use Rattle.const_values.specs.declared.constant.Constant.TheVariants.{Integer, Boolean, Character, Text, Enumerator}
 use Rattle.const_values.specs.declared.kind.ConstKind.{ConstKind}
 use Rattle.const_values.specs.declared.kind.ConstKind.TheVariants as Kinds
 
@@ -33,7 +33,7 @@ is_within None n = true
 is_within (Some bound) n = nat_le n bound
 
 abbrev pub is_whole : (ℤ → Bool) → Constant → Bool
-is_whole test (Whole z) = test z
+is_whole test (Integer z) = test z
 is_whole test (Boolean b) = false
 is_whole test (Character c) = false
 is_whole test (Text t) = false
@@ -45,22 +45,22 @@ abbrev pub fits : ConstKind → Constant → Bool
 fits (Kinds.Integer i) c = is_whole (is_of_integer i) c
 fits Kinds.Octet c = is_whole (is_unsigned_of 8) c
 fits Kinds.Char (Character c) = true
-fits Kinds.Char (Whole z) = false
+fits Kinds.Char (Integer z) = false
 fits Kinds.Char (Boolean b) = false
 fits Kinds.Char (Text t) = false
 fits Kinds.Char (Enumerator e owner) = false
 fits Kinds.Boolean (Boolean b) = true
-fits Kinds.Boolean (Whole z) = false
+fits Kinds.Boolean (Integer z) = false
 fits Kinds.Boolean (Character c) = false
 fits Kinds.Boolean (Text t) = false
 fits Kinds.Boolean (Enumerator e owner) = false
 fits (Kinds.String bound) (Text t) = is_within bound (length t)
-fits (Kinds.String bound) (Whole z) = false
+fits (Kinds.String bound) (Integer z) = false
 fits (Kinds.String bound) (Boolean b) = false
 fits (Kinds.String bound) (Character c) = false
 fits (Kinds.String bound) (Enumerator e owner) = false
 fits (Kinds.Enum k) (Enumerator e owner) = nat_eq owner k
-fits (Kinds.Enum k) (Whole z) = false
+fits (Kinds.Enum k) (Integer z) = false
 fits (Kinds.Enum k) (Boolean b) = false
 fits (Kinds.Enum k) (Character c) = false
 fits (Kinds.Enum k) (Text t) = false

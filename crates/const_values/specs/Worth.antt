@@ -13,7 +13,7 @@ use Rattle.idl_tree.specs.declared.expression.Sign.{Sign}
 use Rattle.idl_tree.specs.declared.expression.Expr.{Expr, Name, Number, Character as CharacterLiteral, Text as Texts, Boolean as BooleanLiteral, Parenthesized', Signed', Chain', Row_of-Operand, end_of-Operand, more_of-Operand}
 use Rattle.idl_tree.specs.Lists.{parts}
 use Rattle.const_values.specs.declared.constant.Constant.{Constant}
-use Rattle.const_values.specs.declared.constant.Constant.TheVariants.{Whole, Boolean, Character, Text, Enumerator}
+use Rattle.const_values.specs.declared.constant.Constant.TheVariants.{Integer, Boolean, Character, Text, Enumerator}
 use Rattle.const_values.specs.Arithmetic.{applied, signed, where_true}
 use Rattle.const_values.specs.Texts.{joined_octets}
 
@@ -24,7 +24,7 @@ NamesWorth = ScopedName → Option Constant
 -- the number, where the constant is a whole one
 abbrev pub whole_number : Option Constant → Option ℤ
 whole_number None = None
-whole_number (Some (Whole z)) = Some z
+whole_number (Some (Integer z)) = Some z
 whole_number (Some (Boolean b)) = None
 whole_number (Some (Character c)) = None
 whole_number (Some (Text t)) = None
@@ -32,7 +32,7 @@ whole_number (Some (Enumerator e k)) = None
 
 abbrev pub whole_constant : Option ℤ → Option Constant
 whole_constant None = None
-whole_constant (Some z) = Some (Whole z)
+whole_constant (Some z) = Some (Integer z)
 
 abbrev pub sign_applied : Sign → Option ℤ → Option ℤ
 sign_applied s None = None
@@ -45,7 +45,7 @@ operator_applied o (Some a) (Some b) = applied o a b
 
 -- a token of a number or a character; the literals of an expression are of no other kind
 abbrev pub token_worth : Kind → List ℕ → Option Constant
-token_worth NumberToken text = Some (Whole (pos (number_value text)))
+token_worth NumberToken text = Some (Integer (pos (number_value text)))
 token_worth CharLit text = Some (Character (character_octet text))
 token_worth TextLit text = None
 token_worth Ident text = None

@@ -70,7 +70,7 @@ impl Text {
 /// What a constant is worth.
 pub enum Constant {
     /// A whole number.
-    Whole(i128),
+    Integer(i128),
     Boolean(bool),
     /// The octet of a character.
     Character(u8),
@@ -90,7 +90,7 @@ impl Drop for Text {
 impl Drop for Constant {
     fn drop(self) {
         match self {
-            Constant::Whole(_) => {}
+            Constant::Integer(_) => {}
             Constant::Boolean(_) => {}
             Constant::Character(_) => {}
             Constant::Text(_) => {}
@@ -112,7 +112,7 @@ impl Constant {
         ensures { IfOk result (λ c. c ≡ self.now) }
     {
         Ok(match self {
-            Constant::Whole(value) => Constant::Whole(*value),
+            Constant::Integer(value) => Constant::Integer(*value),
             Constant::Boolean(value) => Constant::Boolean(*value),
             Constant::Character(octet) => Constant::Character(*octet),
             Constant::Text(text) => Constant::Text(text.shared()?),

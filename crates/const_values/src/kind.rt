@@ -39,10 +39,10 @@ impl ConstKind {
         ensures { result ≡ fits self constant.now }
     {
         match (self, constant) {
-            (ConstKind::Integer(integer), Constant::Whole(value)) => {
+            (ConstKind::Integer(integer), Constant::Integer(value)) => {
                 is_of_integer_type(*value, integer)
             }
-            (ConstKind::Octet, Constant::Whole(value)) => u8::try_from(*value).is_ok(),
+            (ConstKind::Octet, Constant::Integer(value)) => u8::try_from(*value).is_ok(),
             (ConstKind::Char, Constant::Character(_)) => true,
             (ConstKind::Boolean, Constant::Boolean(_)) => true,
             (ConstKind::String(None), Constant::Text(_)) => true,

@@ -14,7 +14,7 @@ pub fn literal_constant(leaf: &Leaf<'_>) -> Option<Constant>
     ensures { result ≡ literal_worth leaf.now }
 {
     match leaf.token.kind {
-        Kind::Number => Some(Constant::Whole(i128::from(leaf.number()))),
+        Kind::Number => Some(Constant::Integer(i128::from(leaf.number()))),
         Kind::CharLit => Some(Constant::Character(leaf.character())),
         _ => None,
     }

@@ -5,7 +5,7 @@ ghost use Rattle.broker_answers.specs.Connections.{at};
 ghost use Rattle.broker_answers.specs.Servants.{acts};
 ghost use Rattle.iiop_broker.specs.Outcomes.{Ends};
 ghost use Rattle.event_loop.specs.Visits.{AreServedBy};
-ghost use Rattle.event_loop.specs.declared.serving.Interruption.TheVariants.{Unaccepted};
+ghost use Rattle.event_loop.specs.declared.serving.Interruption.TheVariants.{Unaccepted, Endless};
 ghost use Rattle.event_loop.specs.inner.Going.{GoesOn, IsUnderWay};
 
 use crate::listener::{End, Listener};
@@ -39,12 +39,15 @@ fn admit<S: Servant, L: Listener>(
     requires room { length broker.old.world.there < 64 }
     requires absent { at number broker.old.world.there ≡ None }
     ensures going { (before : S)
-        → GoesOn (L.ended listener.old) (acts S.says S.after) broker.old.served before (L.came listener.old) broker.old.world slots.old.items
-        → GoesOn (L.ended listener.new) (acts S.says S.after) broker.old.served before (L.came listener.new) broker.new.world slots.new.items }
+        → GoesOn (L.ended listener.old) (acts S.says S.after) broker.old.served before
+        (L.came listener.old) broker.old.world slots.old.items
+        → GoesOn (L.ended listener.new) (acts S.says S.after) broker.old.served before
+        (L.came listener.new) broker.new.world slots.new.items }
     ensures came { IfOk result (λ came. length (L.came listener.new) ≡ number + (if came then 1 else 0)) }
     ensures few { length slots.new.items ≤ length slots.old.items + 1 }
     ensures cause { IfErr result (λ interruption. interruption ≡ Unaccepted) }
     ensures failed { OnErr result (L.failure listener.new ≡ true) }
+    ensures looks { L.looks listener.new ≡ L.looks listener.old }
     ensures same { broker.new.served ≡ broker.old.served }
 {
     let connection = match listener.accept() {
@@ -90,8 +93,10 @@ fn admit_next<S: Servant, L: Listener>(
     requires under_way { IsUnderWay (L.ended listener.old) (acts S.says S.after) broker.old.served
         (L.came listener.old) broker.old.world slots.old.items }
     ensures going { (before : S)
-        → GoesOn (L.ended listener.old) (acts S.says S.after) broker.old.served before (L.came listener.old) broker.old.world slots.old.items
-        → GoesOn (L.ended listener.new) (acts S.says S.after) broker.old.served before (L.came listener.new) broker.new.world slots.new.items }
+        → GoesOn (L.ended listener.old) (acts S.says S.after) broker.old.served before
+        (L.came listener.old) broker.old.world slots.old.items
+        → GoesOn (L.ended listener.new) (acts S.says S.after) broker.old.served before
+        (L.came listener.new) broker.new.world slots.new.items }
     ensures begun { OnOk result (progress.new.begun ≡ length (L.came listener.new)) }
     ensures upto { OnOk result (progress.new.begun ≤ progress.new.count) }
     ensures few { OnOk result (length slots.new.items ≤ progress.new.at_once) }
@@ -99,6 +104,7 @@ fn admit_next<S: Servant, L: Listener>(
     ensures at_once { progress.new.at_once ≡ progress.old.at_once }
     ensures cause { IfErr result (λ interruption. interruption ≡ Unaccepted) }
     ensures failed { OnErr result (L.failure listener.new ≡ true) }
+    ensures looks { L.looks listener.new ≡ L.looks listener.old }
     ensures same { broker.new.served ≡ broker.old.served }
 {
     if progress.begun == progress.count || slots.len() >= progress.at_once {
@@ -135,6 +141,8 @@ pub fn serve_at_once<S: Servant, L: Listener>(
     ensures count { OnOk result (length (L.came listener.new) ≡ count) }
     ensures alone { OnOk result (broker.new.world.there ≡ []) }
     ensures failed { IfErr result (λ interruption. interruption ≡ Unaccepted → L.failure listener.new ≡ true) }
+    ensures endless { IfErr result (λ interruption. interruption ≡ Endless
+        → L.looks listener.new ≡ L.looks listener.old + 18446744073709551615) }
     ensures same { broker.new.served ≡ broker.old.served }
 {
     steps_are_the_talk::<S>();

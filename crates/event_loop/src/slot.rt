@@ -123,8 +123,10 @@ impl<C: Connection> Slot<C> {
         requires there { IsThere self.old.number broker.old.world.there }
         requires room { 0 < length buffer.old }
         ensures on { (before : S) (came : List Ends) (ended : List (ℕ × Gone)) (front back : List Slotted)
-            → IsGoing (acts S.says S.after) broker.old.served before came ended broker.old.world (front ++ self.old ∷ back)
-            → IsOn (acts S.says S.after) broker.old.served before came ended broker.new.world front self.new back result }
+            → IsGoing (acts S.says S.after) broker.old.served before came ended
+            broker.old.world (front ++ self.old ∷ back)
+            → IsOn (acts S.says S.after) broker.old.served before came ended
+            broker.new.world front self.new back result }
         ensures same { broker.new.served ≡ broker.old.served }
         ensures as_long { length buffer.new ≡ length buffer.old }
     {

@@ -25,6 +25,7 @@ pub(crate) fn let_go<S: Servant, L: Listener>(
     ensures ended { (all : List (ℕ × Gone)) → L.ended listener.old all
         → L.ended listener.new (all ++ (slot.number, gone slot.told end) ∷ []) }
     ensures came { L.came listener.new ≡ L.came listener.old }
+    ensures looks { L.looks listener.new ≡ L.looks listener.old }
     ensures same { broker.new.served ≡ broker.old.served }
 {
     let number = slot.number();
@@ -48,11 +49,14 @@ fn serve_at<S: Servant, L: Listener>(
     requires under_way { IsUnderWay (L.ended listener.old) (acts S.says S.after) broker.old.served
         (L.came listener.old) broker.old.world slots.old.items }
     ensures going { (before : S)
-        → GoesOn (L.ended listener.old) (acts S.says S.after) broker.old.served before (L.came listener.old) broker.old.world slots.old.items
-        → GoesOn (L.ended listener.new) (acts S.says S.after) broker.old.served before (L.came listener.old) broker.new.world slots.new.items }
+        → GoesOn (L.ended listener.old) (acts S.says S.after) broker.old.served before
+        (L.came listener.old) broker.old.world slots.old.items
+        → GoesOn (L.ended listener.new) (acts S.says S.after) broker.old.served before
+        (L.came listener.old) broker.new.world slots.new.items }
     ensures shorter { (end : End) → result ≡ Over end → length slots.new.items + 1 ≡ length slots.old.items }
     ensures as_many { ((end : End) → result ≢ Over end) → length slots.new.items ≡ length slots.old.items }
     ensures came { L.came listener.new ≡ L.came listener.old }
+    ensures looks { L.looks listener.new ≡ L.looks listener.old }
     ensures same { broker.new.served ≡ broker.old.served }
     ensures as_long { length buffer.new ≡ length buffer.old }
 {
@@ -76,10 +80,13 @@ pub(crate) fn sweep<S: Servant, L: Listener>(
     requires under_way { IsUnderWay (L.ended listener.old) (acts S.says S.after) broker.old.served
         (L.came listener.old) broker.old.world slots.old.items }
     ensures going { (before : S)
-        → GoesOn (L.ended listener.old) (acts S.says S.after) broker.old.served before (L.came listener.old) broker.old.world slots.old.items
-        → GoesOn (L.ended listener.new) (acts S.says S.after) broker.old.served before (L.came listener.old) broker.new.world slots.new.items }
+        → GoesOn (L.ended listener.old) (acts S.says S.after) broker.old.served before
+        (L.came listener.old) broker.old.world slots.old.items
+        → GoesOn (L.ended listener.new) (acts S.says S.after) broker.old.served before
+        (L.came listener.old) broker.new.world slots.new.items }
     ensures fewer { length slots.new.items ≤ length slots.old.items }
     ensures came { L.came listener.new ≡ L.came listener.old }
+    ensures looks { L.looks listener.new ≡ L.looks listener.old }
     ensures same { broker.new.served ≡ broker.old.served }
     ensures as_long { length buffer.new ≡ length buffer.old }
 {

@@ -70,7 +70,7 @@ pub fn code_of(alloc: Global, graph: &Graph, node: &Node) -> Result<Vec<Instr>, 
     match node {
         Node::Octet | Node::Char => aligned(alloc, Width::One, Instr::Octets { n: 1 }),
         Node::Boolean => aligned(alloc, Width::One, Instr::Bools { n: 1 }),
-        Node::Whole { width, .. } => {
+        Node::Integer { width, .. } => {
             let width = *width;
             aligned(alloc, width, Instr::Words { width, n: 1 })
         }

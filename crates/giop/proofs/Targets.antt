@@ -67,7 +67,7 @@ labelled n target tape behind rest begins e =
 -- a small number is the discriminator itself
 known : (n : ℕ) (target : Tree) (behind rest : List ℕ) → n < 2 ^ 15 → (l : Labelled n target behind rest)
     → l.label ≡ pos n
-known n target behind rest small l = number_same (nodes.Whole Two true) l.label (pos n) tt l.number small l.same
+known n target behind rest small l = number_same (nodes.Integer Two true) l.label (pos n) tt l.number small l.same
 
 -- what stands behind a known discriminator
 record Known (arm : ℕ) (target : Tree) (n : ℕ) (behind rest : List ℕ) : Type 0 where

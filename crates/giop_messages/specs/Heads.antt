@@ -29,6 +29,19 @@ abbrev pub kinds : List MessageKind
 kinds =
     Request ∷ Reply ∷ CancelRequest ∷ LocateRequest ∷ LocateReply ∷ CloseConnection ∷ MessageError ∷ Fragment ∷ []
 
+-- numbers of types that contracts name
+abbrev pub request_type : ℕ
+request_type = 0
+
+abbrev pub reply_type : ℕ
+reply_type = 1
+
+abbrev pub locate_reply_type : ℕ
+locate_reply_type = 4
+
+abbrev pub message_error_type : ℕ
+message_error_type = 6
+
 -- Messages that may be followed by fragments. Fragmented replies and locate requests are left out (own).
 abbrev pub may_go_on : MessageKind → Bool
 may_go_on Request = true

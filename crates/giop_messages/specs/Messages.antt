@@ -15,6 +15,7 @@ use Rattle.giop_messages.specs.declared.message.Reply.{Reply}
 use Rattle.giop_messages.specs.declared.message.Locate.{Locate}
 use Rattle.giop_messages.specs.declared.message.Message.{Message}
 use Rattle.giop_messages.specs.declared.message.Message.TheVariants as messages
+use Rattle.giop_types.specs.GiopNodes.{request_header_node, reply_header_node, locate_request_header_node, cancel_request_header_node}
 
 -- A call: its number, which answers are wanted, the key of its target, the operation, the byte order, and the body with
 -- its place.
@@ -80,7 +81,7 @@ pub record IsRequest (octets : List ℕ) (asked : Asked) : Type 0 where
   pub target : Tree
   pub contexts : Trees
   pub stop : ℕ
-  pub header : HasHeader octets head.order 17
+  pub header : HasHeader octets head.order request_header_node
       (request_tree asked.id asked.flags reserved target asked.operation contexts) stop
   pub key_is : IsKeyOf target asked.key
   pub body : HasBody octets stop asked.body_at asked.body
@@ -91,7 +92,8 @@ pub record IsReply (octets : List ℕ) (answered : Answered) : Type 0 where
   pub order_is : answered.order ≡ head.order
   pub contexts : Trees
   pub stop : ℕ
-  pub header : HasHeader octets head.order 19 (reply_tree answered.id (number_of answered.status) contexts) stop
+  pub header : HasHeader octets head.order reply_header_node
+      (reply_tree answered.id (number_of answered.status) contexts) stop
   pub body : HasBody octets stop answered.body_at answered.body
 
 -- what stands behind the header isn't looked at (own)
@@ -99,7 +101,7 @@ pub record IsCancel (octets : List ℕ) (id : ℕ) : Type 0 where
   pub head : Head
   pub is : IsWhole kinds.CancelRequest octets head
   pub stop : ℕ
-  pub header : HasHeader octets head.order 22 (cancel_tree id) stop
+  pub header : HasHeader octets head.order cancel_request_header_node (cancel_tree id) stop
 
 pub record IsLocate (octets : List ℕ) (sought : Sought) : Type 0 where
   pub head : Head
@@ -107,7 +109,7 @@ pub record IsLocate (octets : List ℕ) (sought : Sought) : Type 0 where
   pub order_is : sought.order ≡ head.order
   pub target : Tree
   pub stop : ℕ
-  pub header : HasHeader octets head.order 20 (locate_tree sought.id target) stop
+  pub header : HasHeader octets head.order locate_request_header_node (locate_tree sought.id target) stop
   pub key_is : IsKeyOf target sought.key
 
 -- a message that is its head, and any octets

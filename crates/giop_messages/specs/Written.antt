@@ -41,7 +41,8 @@ IsBody order None p octets = octets ≡ []
 IsBody order (Some given) p octets = IsGiven order given p octets
 
 -- Head, header and body: a message of the type with this number, whose header is this value of the node.
-pub record IsWritten (order : Order) (kind node : ℕ) (value : Tree) (body : Option Given) (octets : List ℕ) : Type 0 where
+pub record IsWritten (order : Order) (kind node : ℕ) (value : Tree) (body : Option Given)
+    (octets : List ℕ) : Type 0 where
   pub header : List ℕ
   pub behind : List ℕ
   pub octets_are : octets ≡ head_octets order kind (length header + length behind) ++ (header ++ behind)

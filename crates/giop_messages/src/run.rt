@@ -58,7 +58,8 @@ fn put(order: Order, out: &mut [u8], n: u32)
 /// Writes a size over that of a message.
 fn put_size(message: &mut Vec<u8>, order: Order, size: u32)
     requires { 12 ≤ length message.old.items }
-    ensures { message.new.items ≡ take 8 message.old.items ++ (plain_word order Four size ++ drop 12 message.old.items) }
+    ensures { message.new.items
+        ≡ take 8 message.old.items ++ (plain_word order Four size ++ drop 12 message.old.items) }
 {
     put(order, message.slice_mut(8..), size);
 }

@@ -1,5 +1,5 @@
 -- The types of GIOP 1.2 and IIOP (ISO/IEC 19500-2, GIOP message formats, IIOP profiles), behind the basic ones.
-use Rattle.std.specs.Prelude.{pos, List, [], ◌∷◌, ◌++◌, None}
+use Rattle.std.specs.Prelude.{ℕ, pos, List, [], ◌∷◌, ◌++◌, None}
 use Rattle.type_graph.specs.declared.node.Node.{Node}
 use Rattle.type_graph.specs.declared.node.Node.TheVariants as nodes
 use Rattle.basic_types.specs.BasicNodes.{basic_nodes}
@@ -43,3 +43,37 @@ body_nodes =
 
 abbrev pub giop_nodes : List Node
 giop_nodes = ((basic_nodes ++ request_nodes) ++ header_nodes) ++ body_nodes
+
+-- the numbers of the nodes that contracts name
+abbrev pub target_address_node : ℕ
+target_address_node = 16
+
+abbrev pub request_header_node : ℕ
+request_header_node = 17
+
+abbrev pub reply_header_node : ℕ
+reply_header_node = 19
+
+abbrev pub locate_request_header_node : ℕ
+locate_request_header_node = 20
+
+abbrev pub locate_reply_header_node : ℕ
+locate_reply_header_node = 21
+
+abbrev pub cancel_request_header_node : ℕ
+cancel_request_header_node = 22
+
+abbrev pub system_exception_node : ℕ
+system_exception_node = 23
+
+abbrev pub profile_body_1_0_node : ℕ
+profile_body_1_0_node = 24
+
+abbrev pub profile_body_1_1_node : ℕ
+profile_body_1_1_node = 25
+
+abbrev pub id_argument_node : ℕ
+id_argument_node = 26
+
+abbrev pub boolean_result_node : ℕ
+boolean_result_node = 27

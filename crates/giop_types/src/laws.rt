@@ -12,8 +12,10 @@ ghost use Rattle.giop_types.specs.Fields.{Holds};
 pub fn held_is_meant()
     ensures means { (format : Format) (node p : ℕ) (value : Tree) (octets : List ℕ) → Holds format node p value octets
         → Means giop_nodes format 64 node p (tape_of giop_nodes (node_at giop_nodes node) value) octets }
-    ensures holds { (format : Format) (node p : ℕ) (value : Tree) (octets : List ℕ) → Fits giop_nodes (node_at giop_nodes node) value 64
-        → Means giop_nodes format 64 node p (tape_of giop_nodes (node_at giop_nodes node) value) octets → Holds format node p value octets }
+    ensures holds { (format : Format) (node p : ℕ) (value : Tree) (octets : List ℕ)
+        → Fits giop_nodes (node_at giop_nodes node) value 64
+        → Means giop_nodes format 64 node p (tape_of giop_nodes (node_at giop_nodes node) value) octets
+        → Holds format node p value octets }
 {}
 
 /// One front of a list of octets holds a value of a node, and one value.

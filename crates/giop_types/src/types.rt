@@ -70,9 +70,11 @@ impl GiopTypes {
         octets: &[u8],
     ) -> Result<(Vec<u8>, usize), RunFault>
         requires { IsTrue (has_name node) }
-        ensures found { IfOk result (λ r. Means giop_nodes (reading order) 64 node pos r.0.items (take r.1 octets.now)) }
+        ensures found { IfOk result
+            (λ r. Means giop_nodes (reading order) 64 node pos r.0.items (take r.1 octets.now)) }
         ensures within { IfOk result (λ r. r.1 ≤ length octets.now) }
-        ensures refused { IfErr result (λ fault. OnlyIf fault ((tape front rest : List ℕ) → octets.now ≡ front ++ rest → Means giop_nodes (reading order) 64 node pos tape front → ⊥)) }
+        ensures refused { IfErr result (λ fault. OnlyIf fault ((tape front rest : List ℕ) → octets.now ≡ front ++ rest
+            → Means giop_nodes (reading order) 64 node pos tape front → ⊥)) }
     {
         self.accepted.read(alloc, node, order, pos, octets)
     }
@@ -92,7 +94,8 @@ impl GiopTypes {
     ) -> Result<Vec<u8>, RunFault>
         requires { IsTrue (has_name node) }
         ensures found { IfOk result (λ octets. Means giop_nodes (writing order) 64 node pos tape.now octets.items) }
-        ensures refused { IfErr result (λ fault. OnlyIf fault ((octets : List ℕ) → Means giop_nodes (writing order) 64 node pos tape.now octets → ⊥)) }
+        ensures refused { IfErr result (λ fault. OnlyIf fault ((octets : List ℕ)
+            → Means giop_nodes (writing order) 64 node pos tape.now octets → ⊥)) }
     {
         self.accepted.write(alloc, node, order, pos, tape)
     }

@@ -42,7 +42,8 @@ fn begins_with_quote(octets: &[u8]) -> bool
 /// Adds the octets of the characters up to the quote; where memory is refused, some of them.
 fn push_characters(octets: &[u8], out: &mut Vec<u8>) -> Result<(), AllocError>
     requires { ∥ ClosedCharacters octets.now ∥₁ }
-    ensures ok { IfOk result (λ _. (text : ClosedCharacters octets.now) → out.new.items ≡ out.old.items ++ text.octets) }
+    ensures ok { IfOk result (λ _. (text : ClosedCharacters octets.now)
+        → out.new.items ≡ out.old.items ++ text.octets) }
     ensures kept { take (length out.old.items) out.new.items ≡ out.old.items }
 {
     let mut rest = octets;
@@ -64,7 +65,8 @@ fn push_characters(octets: &[u8], out: &mut Vec<u8>) -> Result<(), AllocError>
 /// `AllocError` where memory was refused; then nothing was added.
 pub fn push_octets(text: &str, octets: &mut Vec<u8>) -> Result<(), AllocError>
     requires { HasForm Kind.TextLit text.now }
-    ensures ok { IfOk result (λ _. (literal : IsTextLiteral text.now (length text.now)) → octets.new.items ≡ octets.old.items ++ literal.octets) }
+    ensures ok { IfOk result (λ _. (literal : IsTextLiteral text.now (length text.now))
+        → octets.new.items ≡ octets.old.items ++ literal.octets) }
     ensures err { OnErr result (octets.new.items ≡ octets.old.items) }
 {
     let len = octets.len();

@@ -62,7 +62,8 @@ impl<'a> Listed<Leaf<'a>> {
     /// `AllocError` where memory was refused; then nothing was added.
     pub fn push_octets(&self, octets: &mut Vec<u8>) -> Result<(), AllocError>
         requires { AllByRecursion (IsLeafOf Kind.TextLit) (parts self.now) }
-        ensures ok { OnOk result (octets.new.items ≡ octets.old.items ++ flat_map (λ l. text_octets l.token.now.text.now) (parts self.now)) }
+        ensures ok { OnOk result (octets.new.items
+            ≡ octets.old.items ++ flat_map (λ l. text_octets l.token.now.text.now) (parts self.now)) }
         ensures err { OnErr result (octets.new.items ≡ octets.old.items) }
     {
         let len = octets.len();

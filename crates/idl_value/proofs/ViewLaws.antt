@@ -11,7 +11,7 @@ use Rattle.idl_value.specs.declared.value.Value.TheVariants as value
 use Rattle.idl_value.specs.declared.value.Value.TheFolds.{the_lemmas}
 use Rattle.idl_value.specs.View.{tree_of, trees_of, member_of}
 
-pub tree_of-whole : (n : ℤ) → tree_of (value.Whole n) ≡ Number n
+pub tree_of-whole : (n : ℤ) → tree_of (value.Integer n) ≡ Number n
 tree_of-whole n = search (rules, the_lemmas)
 
 pub tree_of-text : (text : Vec ℕ Global) → tree_of (value.Text text) ≡ Bytes text.items

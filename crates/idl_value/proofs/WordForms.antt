@@ -8,7 +8,7 @@ use Rattle.type_graph.specs.declared.width.Width.{Width}
 use Rattle.type_graph.specs.declared.width.Width.TheVariants.{One, Two, Four, Eight}
 use Rattle.type_graph.specs.declared.width.Order.TheVariants.{Big}
 use Rattle.type_graph.specs.declared.node.Node.{Node}
-use Rattle.type_graph.specs.declared.node.Node.TheVariants.{Whole}
+use Rattle.type_graph.specs.declared.node.Node.TheVariants.{Integer}
 use Rattle.type_graph.specs.Words.{octets_in, word}
 use Rattle.type_graph.specs.Value.{IsNumber, number_width}
 
@@ -35,8 +35,8 @@ low_octets_negsuc Eight n h =
 -- of a value of a node
 pub low_octets : (node : Node) (n : ℤ) → IsNumber node n → drop (16 - octets_in (number_width node)) (to_be_bytes w128 (cast_unsigned w128 n)) ≡ word Big (number_width node) n
 low_octets node (pos n) h = low_octets_pos (number_width node) n
-low_octets (Whole w true) (negsuc n) h = low_octets_negsuc w n h
-low_octets (Whole w false) (negsuc n) h = absurd h
+low_octets (Integer w true) (negsuc n) h = low_octets_negsuc w n h
+low_octets (Integer w false) (negsuc n) h = absurd h
 low_octets node (negsuc n) h = absurd h
 
 -- what is put behind a list

@@ -18,7 +18,7 @@ member_from (Some member) = AndTree member.value NoTree
 
 -- one level of a value, with the trees of what it holds in their places
 abbrev pub tree_step : Value-F Tree → Tree
-tree_step (layer.Whole n) = Number n
+tree_step (layer.Integer n) = Number n
 tree_step (layer.Text text) = Bytes text.items
 tree_step (layer.Items values) = Items (trees_from values.items)
 tree_step (layer.Choice a member) = Choice a (member_from member)

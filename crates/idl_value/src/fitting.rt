@@ -26,13 +26,14 @@ fn is_string(node: &Node, text: &[u8]) -> bool
 /// another.
 #[cycle(fitting)]
 pub fn is_value(graph: &Graph, number: u32, value: &Value, depth: u32) -> bool
-    ensures { number < length graph.now → IsTrue result ↔ Fits graph.now (node_at graph.now number) (tree_of value.now) depth }
+    ensures { number < length graph.now → IsTrue result
+        ↔ Fits graph.now (node_at graph.now number) (tree_of value.now) depth }
 {
     let Some(node) = graph.nodes().get(number as usize) else {
         return false;
     };
     match value {
-        Value::Whole(n) => node.has_number(*n),
+        Value::Integer(n) => node.has_number(*n),
         Value::Text(text) => is_string(node, text),
         Value::Items(values) => are_items(graph, node, values, depth),
         Value::Choice { disc, member } => is_choice(graph, node, *disc, member, depth),
@@ -71,7 +72,8 @@ fn are_items(graph: &Graph, node: &Node, values: &[Value], depth: u32) -> bool
 /// Whether values are of the nodes of these parts, one of each.
 #[cycle(fitting)]
 fn are_values(graph: &Graph, parts: Parts<'_>, values: &[Value], depth: u32) -> bool
-    ensures { AreWithin graph.now (numbers_of parts.entry) → IsTrue result ↔ FitAll graph.now (numbers_of parts.entry) (trees_of values.now) depth }
+    ensures { AreWithin graph.now (numbers_of parts.entry) → IsTrue result
+        ↔ FitAll graph.now (numbers_of parts.entry) (trees_of values.now) depth }
 {
     let mut left = parts;
     for value in values {
@@ -94,7 +96,8 @@ fn is_choice(
     member: &Option<Box<Value>>,
     depth: u32,
 ) -> bool
-    ensures { IsNode graph.now node.now → IsTrue result ↔ Fits graph.now node.now (Choice disc (member_of member.now)) depth }
+    ensures { IsNode graph.now node.now → IsTrue result
+        ↔ Fits graph.now node.now (Choice disc (member_of member.now)) depth }
 {
     let Node::Union {
         switch,

@@ -43,7 +43,8 @@ pub fn pack(alloc: Global, graph: &Graph, node: u32, value: &Value) -> Result<Ve
     requires { node < length graph.now }
     ensures fits { OnOk result (Fits graph.now (node_at graph.now node) (tree_of value.now) 64) }
     ensures tape { IfOk result (λ tape. tape.items ≡ tape_of graph.now (node_at graph.now node) (tree_of value.now)) }
-    ensures not_of_type { IsErrOf result ValueFault.NotOfType ↔ ¬ Fits graph.now (node_at graph.now node) (tree_of value.now) 64 }
+    ensures not_of_type { IsErrOf result ValueFault.NotOfType
+        ↔ ¬ Fits graph.now (node_at graph.now node) (tree_of value.now) 64 }
     ensures never_not_a_tape { ¬ IsErrOf result ValueFault.NotATape }
 {
     if !conforms(graph, node, value) {
@@ -62,7 +63,8 @@ pub fn unpack(alloc: Global, graph: &Graph, node: u32, tape: &[u8]) -> Result<Va
     requires { node < length graph.now }
     ensures fits { IfOk result (λ value. Fits graph.now (node_at graph.now node) (tree_of value) 64) }
     ensures tape { IfOk result (λ value. tape_of graph.now (node_at graph.now node) (tree_of value) ≡ tape.now) }
-    ensures refused { IfErr result (λ fault. RefusesTape fault ((value : Tree) → Fits graph.now (node_at graph.now node) value 64
+    ensures refused { IfErr result (λ fault. RefusesTape fault ((value : Tree)
+        → Fits graph.now (node_at graph.now node) value 64
         → tape_of graph.now (node_at graph.now node) value ≡ tape.now → ⊥)) }
 {
     let (value, rest) = read_value(alloc, graph, node, tape, MAX_DEPTH)?;

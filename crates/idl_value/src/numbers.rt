@@ -21,7 +21,8 @@ pub fn is_count(bound: u32, count: usize) -> bool
 /// Puts a number of a node behind a tape: the lowest of its octets in two's complement, in big
 /// order.
 pub fn push_number(tape: &mut Vec<u8>, node: &Node, n: i128) -> Result<(), AllocError>
-    ensures { OnOk result (IsNumber node.now n → tape.new.items ≡ tape.old.items ++ word Big (number_width node.now) n) }
+    ensures { OnOk result (IsNumber node.now n
+        → tape.new.items ≡ tape.old.items ++ word Big (number_width node.now) n) }
 {
     let octets = n.to_be_bytes();
     let width = node.number_width().octets();
@@ -79,10 +80,11 @@ fn signed_of_word(width: Width, word: u64) -> i128
 fn number_of_pattern(node: &Node, word: u64) -> i128
     requires { word < words_of (number_width node.now) }
     ensures pattern { twos_complement (octets_in (number_width node.now)) result ≡ word }
-    ensures only { (n : ℤ) → IsNumber node.now n → twos_complement (octets_in (number_width node.now)) n ≡ word → n ≡ result }
+    ensures only { (n : ℤ) → IsNumber node.now n
+        → twos_complement (octets_in (number_width node.now)) n ≡ word → n ≡ result }
 {
     match node {
-        Node::Whole {
+        Node::Integer {
             width,
             signed: true,
         } => signed_of_word(*width, word),
@@ -92,9 +94,11 @@ fn number_of_pattern(node: &Node, word: u64) -> i128
 
 /// The number of a node at the front, and the rest.
 pub fn read_number<'t>(node: &Node, tape: &'t [u8]) -> Option<(i128, &'t [u8])>
-    ensures found { IfSome result (λ r. IsNumber node.now r.0 × (tape.entry.now ≡ word Big (number_width node.now) r.0 ++ r.1.now)) }
+    ensures found { IfSome result (λ r. IsNumber node.now r.0
+        × (tape.entry.now ≡ word Big (number_width node.now) r.0 ++ r.1.now)) }
     ensures refused { IfNone result ((graph : List Node) → IsNode graph node.now
-        → (n : ℤ) (rest : List ℕ) → IsNumber node.now n → tape.entry.now ≡ word Big (number_width node.now) n ++ rest → ⊥) }
+        → (n : ℤ) (rest : List ℕ) → IsNumber node.now n → tape.entry.now ≡ word Big (number_width node.now) n ++ rest
+        → ⊥) }
 {
     let (word, rest) = read_word(node.number_width(), tape)?;
     let n = number_of_pattern(node, word);

@@ -24,13 +24,14 @@ pub fn push_value(
     number: u32,
     value: &Value,
 ) -> Result<(), AllocError>
-    ensures { OnOk result (number < length graph.now → AddsValue graph.now (node_at graph.now number) (tree_of value.now) tape.old.items tape.new.items) }
+    ensures { OnOk result (number < length graph.now
+        → AddsValue graph.now (node_at graph.now number) (tree_of value.now) tape.old.items tape.new.items) }
 {
     let Some(node) = graph.nodes().get(number as usize) else {
         return Ok(());
     };
     match value {
-        Value::Whole(n) => push_number(tape, node, *n),
+        Value::Integer(n) => push_number(tape, node, *n),
         Value::Text(text) => push_text(tape, text),
         Value::Items(values) => push_items(tape, graph, node, values),
         Value::Choice { disc, member } => push_choice(tape, graph, node, *disc, member),
@@ -45,7 +46,8 @@ fn push_items(
     node: &Node,
     values: &[Value],
 ) -> Result<(), AllocError>
-    ensures { OnOk result (IsNode graph.now node.now → AddsValue graph.now node.now (Items (trees_of values.now)) tape.old.items tape.new.items) }
+    ensures { OnOk result (IsNode graph.now node.now
+        → AddsValue graph.now node.now (Items (trees_of values.now)) tape.old.items tape.new.items) }
 {
     match node {
         Node::Seq { elem, .. } => {
@@ -77,7 +79,8 @@ fn push_values(
     parts: Parts<'_>,
     values: &[Value],
 ) -> Result<(), AllocError>
-    ensures { OnOk result (AreWithin graph.now (numbers_of parts.entry) → AddsValues graph.now (numbers_of parts.entry) (trees_of values.now) tape.old.items tape.new.items) }
+    ensures { OnOk result (AreWithin graph.now (numbers_of parts.entry)
+        → AddsValues graph.now (numbers_of parts.entry) (trees_of values.now) tape.old.items tape.new.items) }
 {
     let mut left = parts;
     for value in values {
@@ -98,7 +101,8 @@ fn push_choice(
     disc: i128,
     member: &Option<Box<Value>>,
 ) -> Result<(), AllocError>
-    ensures { OnOk result (IsNode graph.now node.now → AddsValue graph.now node.now (Choice disc (member_of member.now)) tape.old.items tape.new.items) }
+    ensures { OnOk result (IsNode graph.now node.now
+        → AddsValue graph.now node.now (Choice disc (member_of member.now)) tape.old.items tape.new.items) }
 {
     let Node::Union {
         switch,

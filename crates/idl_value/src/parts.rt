@@ -15,7 +15,8 @@ impl<'a> Parts<'a> {
 
     /// The first node, and the parts behind it.
     pub fn split_first(self) -> Option<(u32, Parts<'a>)>
-        ensures { MatchOption result (numbers_of self.entry ≡ []) (λ first. numbers_of self.entry ≡ first.0 ∷ numbers_of first.1) }
+        ensures { MatchOption result (numbers_of self.entry ≡ []) (λ first. numbers_of self.entry
+            ≡ first.0 ∷ numbers_of first.1) }
     {
         match self {
             Parts::Copies { left: 0, .. } => None,

@@ -29,8 +29,10 @@ pub fn push_text(tape: &mut Vec<u8>, text: &[u8]) -> Result<(), AllocError>
 
 /// The string at the front, and the rest.
 pub fn read_text(bound: u32, tape: &[u8]) -> Option<(&[u8], &[u8])>
-    ensures found { IfSome result (λ r. IsText bound r.0.now × (tape.now ≡ (word Big Four (pos (length r.0.now)) ++ r.0.now) ++ r.1.now)) }
-    ensures refused { IfNone result ((text rest : List ℕ) → IsText bound text → tape.now ≡ (word Big Four (pos (length text)) ++ text) ++ rest → ⊥) }
+    ensures found { IfSome result (λ r. IsText bound r.0.now
+        × (tape.now ≡ (word Big Four (pos (length r.0.now)) ++ r.0.now) ++ r.1.now)) }
+    ensures refused { IfNone result ((text rest : List ℕ) → IsText bound text
+        → tape.now ≡ (word Big Four (pos (length text)) ++ text) ++ rest → ⊥) }
 {
     let (count, octets) = read_count(tape)?;
     if octets.len() < count {

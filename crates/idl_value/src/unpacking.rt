@@ -20,19 +20,23 @@ use type_graph::{Arms, Graph, Node};
 
 /// An integer, octet, character, boolean or enumerator at the front, and the rest.
 fn read_whole<'t>(node: &Node, tape: &'t [u8]) -> Result<(Value, &'t [u8]), ValueFault>
-    ensures found { IfOk result (λ r. (graph : List Node) (depth : ℕ) → IsNumeric node.now → Begins graph node.now depth tape.entry.now (tree_of r.0) r.1.now) }
-    ensures refused { IfErr result (λ fault. RefusesTape fault ((graph : List Node) (depth : ℕ) → IsNode graph node.now → IsNumeric node.now → BeginsWithNone graph node.now depth tape.entry.now)) }
+    ensures found { IfOk result (λ r. (graph : List Node) (depth : ℕ) → IsNumeric node.now
+        → Begins graph node.now depth tape.entry.now (tree_of r.0) r.1.now) }
+    ensures refused { IfErr result (λ fault. RefusesTape fault ((graph : List Node) (depth : ℕ) → IsNode graph node.now
+        → IsNumeric node.now → BeginsWithNone graph node.now depth tape.entry.now)) }
 {
     let Some((n, rest)) = read_number(node, tape) else {
         return Err(ValueFault::NotATape);
     };
-    Ok((Value::Whole(n), rest))
+    Ok((Value::Integer(n), rest))
 }
 
 /// A string at the front, and the rest.
 fn read_string(alloc: Global, bound: u32, tape: &[u8]) -> Result<(Value, &[u8]), ValueFault>
-    ensures found { IfOk result (λ r. (graph : List Node) (depth : ℕ) → Begins graph (Text bound) depth tape.now (tree_of r.0) r.1.now) }
-    ensures refused { IfErr result (λ fault. RefusesTape fault ((graph : List Node) (depth : ℕ) → BeginsWithNone graph (Text bound) depth tape.now)) }
+    ensures found { IfOk result (λ r. (graph : List Node) (depth : ℕ)
+        → Begins graph (Text bound) depth tape.now (tree_of r.0) r.1.now) }
+    ensures refused { IfErr result (λ fault. RefusesTape fault ((graph : List Node) (depth : ℕ)
+        → BeginsWithNone graph (Text bound) depth tape.now)) }
 {
     let Some((text, rest)) = read_text(bound, tape) else {
         return Err(ValueFault::NotATape);
@@ -52,8 +56,10 @@ pub fn read_value<'t>(
     depth: u32,
 ) -> Result<(Value, &'t [u8]), ValueFault>
     ensures rules { IsGraph graph.now }
-    ensures found { IfOk result (λ r. number < length graph.now → Begins graph.now (node_at graph.now number) depth tape.entry.now (tree_of r.0) r.1.now) }
-    ensures refused { IfErr result (λ fault. number < length graph.now → RefusesTape fault (BeginsWithNone graph.now (node_at graph.now number) depth tape.entry.now)) }
+    ensures found { IfOk result (λ r. number < length graph.now
+        → Begins graph.now (node_at graph.now number) depth tape.entry.now (tree_of r.0) r.1.now) }
+    ensures refused { IfErr result (λ fault. number < length graph.now
+        → RefusesTape fault (BeginsWithNone graph.now (node_at graph.now number) depth tape.entry.now)) }
 {
     let Some(node) = graph.nodes().get(number as usize) else {
         return Err(ValueFault::NotATape);
@@ -89,8 +95,10 @@ fn read_sequence<'t>(
     tape: &'t [u8],
     depth: u32,
 ) -> Result<(Value, &'t [u8]), ValueFault>
-    ensures found { IfOk result (λ r. IsGraph graph.now → IsNode graph.now (Seq elem bound) → Begins graph.now (Seq elem bound) depth tape.entry.now (tree_of r.0) r.1.now) }
-    ensures refused { IfErr result (λ fault. IsGraph graph.now → IsNode graph.now (Seq elem bound) → RefusesTape fault (BeginsWithNone graph.now (Seq elem bound) depth tape.entry.now)) }
+    ensures found { IfOk result (λ r. IsGraph graph.now → IsNode graph.now (Seq elem bound)
+        → Begins graph.now (Seq elem bound) depth tape.entry.now (tree_of r.0) r.1.now) }
+    ensures refused { IfErr result (λ fault. IsGraph graph.now → IsNode graph.now (Seq elem bound)
+        → RefusesTape fault (BeginsWithNone graph.now (Seq elem bound) depth tape.entry.now)) }
 {
     if depth == 0 {
         return Err(ValueFault::NotATape);
@@ -122,8 +130,10 @@ fn read_items<'t>(
     tape: &'t [u8],
     depth: u32,
 ) -> Result<(Value, &'t [u8]), ValueFault>
-    ensures found { IfOk result (λ r. IsGraph graph.now → AreWithin graph.now (numbers_of parts.entry) → IsItems graph.now (numbers_of parts.entry) depth tape.entry.now (tree_of r.0) r.1.now) }
-    ensures refused { IfErr result (λ fault. IsGraph graph.now → AreWithin graph.now (numbers_of parts.entry) → RefusesTape fault (BeginsAllWithNone graph.now (numbers_of parts.entry) depth tape.entry.now)) }
+    ensures found { IfOk result (λ r. IsGraph graph.now → AreWithin graph.now (numbers_of parts.entry)
+        → IsItems graph.now (numbers_of parts.entry) depth tape.entry.now (tree_of r.0) r.1.now) }
+    ensures refused { IfErr result (λ fault. IsGraph graph.now → AreWithin graph.now (numbers_of parts.entry)
+        → RefusesTape fault (BeginsAllWithNone graph.now (numbers_of parts.entry) depth tape.entry.now)) }
 {
     let (values, rest) = read_values(alloc, graph, parts, tape, depth)?;
     Ok((Value::Items(values), rest))
@@ -138,8 +148,10 @@ fn read_values<'t>(
     tape: &'t [u8],
     depth: u32,
 ) -> Result<(Vec<Value>, &'t [u8]), ValueFault>
-    ensures found { IfOk result (λ r. IsGraph graph.now → AreWithin graph.now (numbers_of parts.entry) → BeginsAll graph.now (numbers_of parts.entry) depth tape.entry.now (trees_of r.0.items) r.1.now) }
-    ensures refused { IfErr result (λ fault. IsGraph graph.now → AreWithin graph.now (numbers_of parts.entry) → RefusesTape fault (BeginsAllWithNone graph.now (numbers_of parts.entry) depth tape.entry.now)) }
+    ensures found { IfOk result (λ r. IsGraph graph.now → AreWithin graph.now (numbers_of parts.entry)
+        → BeginsAll graph.now (numbers_of parts.entry) depth tape.entry.now (trees_of r.0.items) r.1.now) }
+    ensures refused { IfErr result (λ fault. IsGraph graph.now → AreWithin graph.now (numbers_of parts.entry)
+        → RefusesTape fault (BeginsAllWithNone graph.now (numbers_of parts.entry) depth tape.entry.now)) }
 {
     let mut values = Vec::new(alloc);
     let mut rest = tape;
@@ -163,8 +175,10 @@ fn read_choice<'t>(
     tape: &'t [u8],
     depth: u32,
 ) -> Result<(Value, &'t [u8]), ValueFault>
-    ensures found { IfOk result (λ r. IsNode graph.now (Union switch arms.now default) → Begins graph.now (Union switch arms.now default) depth tape.entry.now (tree_of r.0) r.1.now) }
-    ensures refused { IfErr result (λ fault. IsNode graph.now (Union switch arms.now default) → RefusesTape fault (BeginsWithNone graph.now (Union switch arms.now default) depth tape.entry.now)) }
+    ensures found { IfOk result (λ r. IsNode graph.now (Union switch arms.now default)
+        → Begins graph.now (Union switch arms.now default) depth tape.entry.now (tree_of r.0) r.1.now) }
+    ensures refused { IfErr result (λ fault. IsNode graph.now (Union switch arms.now default)
+        → RefusesTape fault (BeginsWithNone graph.now (Union switch arms.now default) depth tape.entry.now)) }
 {
     let Some(node) = graph.nodes().get(switch as usize) else {
         return Err(ValueFault::NotATape);

@@ -4,7 +4,7 @@
 #[derive(Drop)]
 pub enum Value {
     /// An integer, octet, character, boolean or enumerator.
-    Whole(i128),
+    Integer(i128),
     /// A string, without its terminating zero.
     Text(Vec<u8>),
     /// The elements of a sequence or an array, the members of a structure or a frame.

@@ -1,5 +1,6 @@
 -- The names of what frames carry (ISO/IEC 19500-1, operation declaration, attribute declaration): parameters by their
--- names, a result as `_return`, the value that an attribute is set to by the attribute's name; and those of a whole file.
+-- names, a result as `_return`, the value that an attribute is set to by the attribute's name; and those of a whole
+-- file.
 use Rattle.std.specs.Prelude.{ℕ, ◌+◌, Bool, true, false, ◌&&◌, if◌then◌else◌, nat_eq, map, List, [], ◌∷◌, ◌++◌, Option, Some, None, Ok, codes}
 use Rattle.std.specs.List.{filter}
 use Rattle.idl_tree.specs.declared.names.Leaf.{Leaf}
@@ -81,7 +82,8 @@ setting request name = call request (name ∷ []) []
 -- an attribute is set too, if it may be
 abbrev pub setting_parts : List Signature → ℕ → List ℕ → Bool → List Part → Parted
 setting_parts ops e name false ps = Ok ps
-setting_parts ops e name true ps = or_other (request_of ops e Roles.Setting) >> λ request. Ok (ps ++ setting request name)
+setting_parts ops e name true ps =
+    or_other (request_of ops e Roles.Setting) >> λ request. Ok (ps ++ setting request name)
 
 abbrev pub identifier_parts : List Entry → List Signature → ℕ → Bool → List Part → Leaf → Parted
 identifier_parts es ops scope set ps id =

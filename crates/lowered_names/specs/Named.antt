@@ -11,7 +11,8 @@ use Rattle.lowered_names.specs.Types.{Part}
 use Rattle.lowered_names.specs.Definitions.{file_parts}
 
 -- the file is lowered to these types and operations, whose names these are
-pub record Lowers (definitions : List Definition) (names : FileNames) (w : Lowered) (ops : List Signature) : Type 0 where
+pub record Lowers (definitions : List Definition) (names : FileNames) (w : Lowered)
+    (ops : List Signature) : Type 0 where
   pub own : AreNames definitions names
   pub lowered : Defined
   pub told : defined_by names.entries definitions ≡ Ok lowered

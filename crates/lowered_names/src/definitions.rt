@@ -71,7 +71,8 @@ impl<'a> PartList<'a> {
         scope: usize,
         export: &Export<'a>,
     ) -> Result<(), BuildFault>
-        ensures { Tells result (λ u. self.new) (export_parts names.now.entries types.now signatures.now scope self.old export.now) }
+        ensures { Tells result (λ u. self.new)
+            (export_parts names.now.entries types.now signatures.now scope self.old export.now) }
     {
         match export {
             Export::Pragma(_) => Ok(()),
@@ -201,7 +202,8 @@ pub(crate) fn parts_of_file<'a>(
     signatures: &[Signature],
     spec: &Spec<'a>,
 ) -> Result<PartList<'a>, BuildFault>
-    ensures { Tells result (λ list. list) (file_parts names.now.entries types.now signatures.now spec.now.definitions.items) }
+    ensures { Tells result (λ list. list)
+        (file_parts names.now.entries types.now signatures.now spec.now.definitions.items) }
 {
     let mut list = PartList::new(alloc);
     list.name_definitions(

@@ -46,7 +46,8 @@ impl<'a> NameList<'a> {
     }
 
     fn push_returned(&mut self, params: &Listed<Param<'a>>) -> Result<(), AllocError>
-        ensures { OnOk result (self.new ≡ self.old ++ map param_name (filter (λ p. goes_out p.direction) (parts params.now))) }
+        ensures { OnOk result (self.new
+            ≡ self.old ++ map param_name (filter (λ p. goes_out p.direction) (parts params.now))) }
     {
         for param in params.iter() {
             if is_out(param.direction) {

@@ -4,7 +4,7 @@ use Rattle.std.specs.Prelude.{slice_get, slice_set, IfSome, IsSomeAnd, ℤ}
 use Rattle.std.proofs.lemmas.List.Elements.{All-weaker}
 use Rattle.std.proofs.lemmas.Option.{get_or_from_slice_get, slice_get_within}
 use Rattle.type_graph.specs.declared.node.Node.{Node}
-use Rattle.type_graph.specs.declared.node.Node.TheVariants.{Whole, Octet, Char, Boolean, Enum, Text, Seq, Array, Struct, Union, Frame}
+use Rattle.type_graph.specs.declared.node.Node.TheVariants.{Integer, Octet, Char, Boolean, Enum, Text, Seq, Array, Struct, Union, Frame}
 use Rattle.type_graph.specs.Value.{IsNumber, node_at}
 use Rattle.type_graph.specs.GraphRules.{AreMembers, HasOther, IsNoFrame, IsNode, IsPart, IsSwitch, IsUnion}
 use Rattle.lowered_types.specs.Sound.{BeginsWithText, IsFrame, IsFrameAt, IsIdFrame}
@@ -122,7 +122,7 @@ union_stays graph later grows switch arms default h =
     by (Some n) h = part_stays graph later grows n h
 
 pub node_stays : (graph later : List Node) → Grows graph later → (node : Node) → IsNode graph node → IsNode later node
-node_stays graph later grows (Whole width signed) h = h
+node_stays graph later grows (Integer width signed) h = h
 node_stays graph later grows Octet h = h
 node_stays graph later grows Char h = h
 node_stays graph later grows Boolean h = h

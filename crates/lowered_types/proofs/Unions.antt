@@ -8,7 +8,7 @@ use Rattle.std.proofs.lemmas.List.{length-map}
 use Rattle.std.proofs.lemmas.List.Elements.{All-from_recursion, All-map, All-weaker}
 use Rattle.std.proofs.lemmas.Option.{get_or_from_slice_get}
 use Rattle.type_graph.specs.declared.node.Node.{Node}
-use Rattle.type_graph.specs.declared.node.Node.TheVariants.{Whole, Octet, Char, Boolean, Enum, Text, Seq, Array, Struct, Union, Frame}
+use Rattle.type_graph.specs.declared.node.Node.TheVariants.{Integer, Octet, Char, Boolean, Enum, Text, Seq, Array, Struct, Union, Frame}
 use Rattle.type_graph.specs.declared.values.Values.{Values}
 use Rattle.type_graph.specs.declared.width.Width.{Width}
 use Rattle.type_graph.specs.declared.width.Width.TheVariants.{One, Two, Four, Eight}
@@ -36,8 +36,8 @@ IsSwitchIn graph s = values_of (slice_get graph s.number) ≡ Some s.values
 
 has_values : (o : Option Node) (values : Values) → values_of o ≡ Some values → (node : Node) × (o ≡ Some node) × IsSwitch node × (values_of (Some node) ≡ Some values)
 has_values None values is = absurd cc
-has_values (Some (Whole width true)) values is = (Whole width true, refl, tt, is)
-has_values (Some (Whole width false)) values is = (Whole width false, refl, tt, is)
+has_values (Some (Integer width true)) values is = (Integer width true, refl, tt, is)
+has_values (Some (Integer width false)) values is = (Integer width false, refl, tt, is)
 has_values (Some Octet) values is = absurd cc
 has_values (Some Char) values is = (Char, refl, tt, is)
 has_values (Some Boolean) values is = (Boolean, refl, tt, is)
@@ -56,7 +56,7 @@ switch_stays graph later grows s is =
 
 -- ---- the values of a node lie between bounds
 
-within_signed : (w : Width) (n : ℤ) → neg_ℤ (pos (words_of w / 2)) ≤ℤ n → n <ℤ pos (words_of w / 2) → IsNumber (Whole w true) n
+within_signed : (w : Width) (n : ℤ) → neg_ℤ (pos (words_of w / 2)) ≤ℤ n → n <ℤ pos (words_of w / 2) → IsNumber (Integer w true) n
 within_signed One (pos n) low high = omega (arith, ints, high)
 within_signed One (negsuc n) low high = omega (arith, ints, low)
 within_signed Two (pos n) low high = omega (arith, ints, high)
@@ -82,12 +82,12 @@ record AreBetween (node : Node) (values : Values) : Type 0 where
   each : (n : ℤ) → values.least ≤ℤ n → n <ℤ values.end → IsNumber node n
 
 between : (node : Node) (values : Values) → values_of (Some node) ≡ Some values → AreBetween node values
-between (Whole w true) values is =
+between (Integer w true) values is =
     let same : signed_values (words_of w) ≡ values = cc in
-    subst (AreBetween (Whole w true)) same (record { wide = signed_wide w; each = λ n low high. within_signed w n low high })
-between (Whole w false) values is =
+    subst (AreBetween (Integer w true)) same (record { wide = signed_wide w; each = λ n low high. within_signed w n low high })
+between (Integer w false) values is =
     let same : values_below (words_of w) ≡ values = cc in
-    subst (AreBetween (Whole w false)) same (record { wide = omega (arith, ints); each = λ n low high. within_below (words_of w) n low high })
+    subst (AreBetween (Integer w false)) same (record { wide = omega (arith, ints); each = λ n low high. within_below (words_of w) n low high })
 between Octet values is = absurd cc
 between Char values is =
     let same : values_below 256 ≡ values = cc in

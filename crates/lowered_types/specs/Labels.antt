@@ -11,11 +11,11 @@ use Rattle.idl_tree.specs.declared.types.SwitchType.TheVariants as SwitchTypes
 use Rattle.idl_tree.specs.Starts.{expr_start, leaf_at, name_start}
 use Rattle.type_graph.specs.declared.fault.GraphLimit.TheVariants.{Members as MembersLimit}
 use Rattle.type_graph.specs.declared.node.Node.{Node}
-use Rattle.type_graph.specs.declared.node.Node.TheVariants.{Whole as WholeNode, Char, Boolean as BooleanNode, Enum}
+use Rattle.type_graph.specs.declared.node.Node.TheVariants.{Integer as IntegerNode, Char, Boolean as BooleanNode, Enum}
 use Rattle.type_graph.specs.declared.values.Values.{Values}
 use Rattle.type_graph.specs.Words.{words_of}
 use Rattle.const_values.specs.declared.constant.Constant.{Constant}
-use Rattle.const_values.specs.declared.constant.Constant.TheVariants.{Whole, Boolean, Character, Text, Enumerator}
+use Rattle.const_values.specs.declared.constant.Constant.TheVariants.{Integer, Boolean, Character, Text, Enumerator}
 use Rattle.const_values.specs.declared.kind.ConstKind.{ConstKind}
 use Rattle.const_values.specs.declared.kind.ConstKind.TheVariants as Kinds
 use Rattle.const_values.specs.Kinds.{fits}
@@ -67,8 +67,8 @@ signed_values n = record { least = neg_ℤ (pos (n / 2)); end = pos (n / 2); cou
 
 -- the values of a discriminator; an octet is none
 abbrev pub values_of : Option Node → Option Values
-values_of (Some (WholeNode width true)) = Some (signed_values (words_of width))
-values_of (Some (WholeNode width false)) = Some (values_below (words_of width))
+values_of (Some (IntegerNode width true)) = Some (signed_values (words_of width))
+values_of (Some (IntegerNode width false)) = Some (values_below (words_of width))
 values_of (Some Char) = Some (values_below 256)
 values_of (Some BooleanNode) = Some (values_below 2)
 values_of (Some (Enum n)) = Some (values_below n)
@@ -108,7 +108,7 @@ switch_read es w scope at s =
 -- the value of a discriminator for which a constant stands: an enumerator is the number of those before it, and
 -- enumerators are the entries behind their enumeration
 abbrev pub label_number : Constant → Option ℤ
-label_number (Whole n) = Some n
+label_number (Integer n) = Some n
 label_number (Boolean false) = Some (pos 0)
 label_number (Boolean true) = Some (pos 1)
 label_number (Character c) = Some (pos c)
@@ -117,7 +117,7 @@ label_number (Enumerator e owner) = Some (pos (e - owner - 1))
 
 -- a constant, without the octets of a text
 abbrev pub told_of : Constant → LabelWorth
-told_of (Whole n) = Worths.Whole n
+told_of (Integer n) = Worths.Integer n
 told_of (Boolean b) = Worths.Boolean b
 told_of (Character c) = Worths.Character c
 told_of (Text octets) = Worths.Text

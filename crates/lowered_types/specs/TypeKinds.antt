@@ -9,7 +9,7 @@ use Rattle.lowered_types.specs.declared.fault.TypeKind.TheVariants.{Integer, Cha
 
 -- a frame has no name, so it is never told
 abbrev pub node_kind : Node → TypeKind
-node_kind (Nodes.Whole width signed) = Integer
+node_kind (Nodes.Integer width signed) = Integer
 node_kind Nodes.Octet = Octet
 node_kind Nodes.Char = Char
 node_kind Nodes.Boolean = Boolean

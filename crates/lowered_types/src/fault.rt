@@ -28,7 +28,7 @@ pub enum TypeKind {
 /// What a label is worth, without the octets of a text.
 #[derive(Clone, Copy, Debug, PartialEq, Eq)]
 pub enum LabelWorth {
-    Whole(i128),
+    Integer(i128),
     Boolean(bool),
     Character(u8),
     Text,

@@ -11,7 +11,7 @@ fn node_kind(node: &Node) -> TypeKind
     ensures { result ≡ node_kind node.now }
 {
     match node {
-        Node::Whole { .. } => TypeKind::Integer,
+        Node::Integer { .. } => TypeKind::Integer,
         Node::Octet => TypeKind::Octet,
         Node::Char => TypeKind::Char,
         Node::Boolean => TypeKind::Boolean,

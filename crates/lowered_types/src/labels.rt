@@ -2,7 +2,7 @@
 
 ghost use Rattle.std.specs.Prelude.{◌≡◌, ◌≤◌, ◌^◌, length, option_copied, Some};
 ghost use Rattle.idl_tree.specs.Lists.{parts};
-ghost use Rattle.type_graph.specs.declared.node.Node.TheVariants.{Whole as WholeNode};
+ghost use Rattle.type_graph.specs.declared.node.Node.TheVariants.{Integer as IntegerNode};
 ghost use Rattle.lowered_types.specs.Faults.{Tells, each};
 ghost use Rattle.lowered_types.specs.Labels.{default_added, is_value, label_added, label_number, label_value, label_within, no_labels, once_test, out_of_range, signed_values, switch_at, switch_kind, switch_of, switch_read, switch_type, switched, taken_at, value_added, value_at, values_below, values_of};
 ghost use Rattle.lowered_types.specs.Lowered.{already};
@@ -194,7 +194,7 @@ fn value_of(constant: &Constant) -> Option<i128>
     ensures { result ≡ label_number constant.now }
 {
     match constant {
-        Constant::Whole(value) => Some(*value),
+        Constant::Integer(value) => Some(*value),
         Constant::Boolean(false) => Some(0),
         Constant::Boolean(true) => Some(1),
         Constant::Character(octet) => Some(i128::from(*octet)),
@@ -217,7 +217,7 @@ fn out_of_range(switch: Switch, at: At, constant: &Constant) -> TypeFault
     ensures { result ≡ out_of_range switch at constant.now }
 {
     let found = match constant {
-        Constant::Whole(value) => LabelWorth::Whole(*value),
+        Constant::Integer(value) => LabelWorth::Integer(*value),
         Constant::Boolean(value) => LabelWorth::Boolean(*value),
         Constant::Character(octet) => LabelWorth::Character(*octet),
         Constant::Text(_) => LabelWorth::Text,
@@ -292,7 +292,7 @@ fn signed_values(count: u128) -> Values
 }
 
 fn whole_values(width: Width, is_signed: bool) -> Values
-    ensures { Some result ≡ values_of (Some (WholeNode width is_signed)) }
+    ensures { Some result ≡ values_of (Some (IntegerNode width is_signed)) }
 {
     let count = width.patterns();
     if is_signed {
@@ -307,7 +307,7 @@ fn values_of(node: Option<&Node>) -> Option<Values>
     ensures { result ≡ values_of (option_copied node.entry) }
 {
     match node {
-        Some(Node::Whole { width, signed }) => Some(whole_values(*width, *signed)),
+        Some(Node::Integer { width, signed }) => Some(whole_values(*width, *signed)),
         Some(Node::Char) => Some(values_below(256)),
         Some(Node::Boolean) => Some(values_below(2)),
         Some(Node::Enum { n }) => Some(values_below(u128::from(*n))),

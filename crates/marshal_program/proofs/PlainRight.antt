@@ -31,7 +31,7 @@ use Rattle.marshal_program.proofs.RunLaws.{runs_opened}
 
 -- a node by which a union may switch has numbers as values
 switch_numeric : (node : Node) → IsSwitch node → IsNumeric node
-switch_numeric (nodes.Whole w signed) h = tt
+switch_numeric (nodes.Integer w signed) h = tt
 switch_numeric nodes.Char h = tt
 switch_numeric nodes.Boolean h = tt
 switch_numeric (nodes.Enum n) h = tt
@@ -44,7 +44,7 @@ numeric_at graph switch (Some node) e h = subst IsNumeric (sym (get_or_from_slic
 
 -- what a node that keeps its rules refers to
 pub plain_node : (graph : List Node) (node : Node) → IsNode graph node → HasPlainRoutine graph node
-plain_node graph (nodes.Whole w signed) h = tt
+plain_node graph (nodes.Integer w signed) h = tt
 plain_node graph nodes.Octet h = tt
 plain_node graph nodes.Char h = tt
 plain_node graph nodes.Boolean h = tt
@@ -135,7 +135,7 @@ module _ (graph : List Node) (format : Format) (good : HasPlainProgram graph) wh
   -- a switch chooses as a union of its discriminator's kind
   switch_does : (depth : ℕ) (switch : Node) (arms : List (ℤ × ℕ)) (default : Option ℕ) → IsNumeric switch → AllByRecursion (Right depth) (map (λ arm. arm.1) arms ++ option_to_list default)
       → Same Anywhere (Done depth (Switch (disc_of switch) arms default)) (Chosen format (number_width switch) (IsNumber switch) (λ a. Chain (Means graph format depth) (arm_of arms default a)))
-  switch_does d (nodes.Whole w signed) arms default i right = chosen_same (λ a h. chosen_does d arms default right a)
+  switch_does d (nodes.Integer w signed) arms default i right = chosen_same (λ a h. chosen_does d arms default right a)
   switch_does d nodes.Octet arms default i right = chosen_same (λ a h. chosen_does d arms default right a)
   switch_does d nodes.Char arms default i right = chosen_same (λ a h. chosen_does d arms default right a)
   switch_does d nodes.Boolean arms default i right = chosen_same (λ a h. chosen_does d arms default right a)
@@ -145,7 +145,7 @@ module _ (graph : List Node) (format : Format) (good : HasPlainProgram graph) wh
   -- the code of a node is right where the routines of its parts are, and those of elements with one of the depth less
   code_right : (depth : ℕ) (node : Node) → HasPlainRoutine graph node → (1 ≤ depth → (m : ℕ) → m < length graph → Right (depth - 1) m) → AllByRecursion (Right depth) (held_by node)
       → Same Anywhere (Chain (Done depth) (plain_code graph node)) (NodeMeans graph format depth node)
-  code_right d (nodes.Whole w signed) plain deep held =
+  code_right d (nodes.Integer w signed) plain deep held =
       same_trans (then_same_anywhere same_refl (same_trans then_nothing many_one)) (same_sym (whole_means graph format d w signed))
   code_right d nodes.Octet plain deep held =
       same_trans then_nothing (same_trans (octet_run_one (omega arith)) (same_sym (octet_means graph format d)))

@@ -24,7 +24,7 @@ impl Disc {
     {
         match node {
             Node::Boolean => Disc::Boolean,
-            Node::Whole { width, signed } => Disc::Word {
+            Node::Integer { width, signed } => Disc::Word {
                 width: *width,
                 signed: *signed,
             },

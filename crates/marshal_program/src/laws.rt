@@ -29,7 +29,8 @@ pub fn run_is_chain_of_code()
 /// Every routine of a plain program relates the tapes and octets that its node means: at every
 /// depth and position, in both byte orders, whatever the gaps may hold.
 pub fn plain_program_is_right()
-    ensures right { (graph : List Node) → HasPlainProgram graph → (format : Format) (depth number p : ℕ) (tape octets : List ℕ) → number < length graph
+    ensures right { (graph : List Node) → HasPlainProgram graph
+        → (format : Format) (depth number p : ℕ) (tape octets : List ℕ) → number < length graph
         → Runs (plain_program graph) format depth number p tape octets ↔ Means graph format depth number p tape octets }
     ensures every_graph { (graph : List Node) → IsGraph graph → HasPlainProgram graph }
 {}
@@ -41,7 +42,8 @@ pub fn plain_program_keeps_the_rules()
 
 /// In the plain program of a graph the routine with a node's number serves that node.
 pub fn plain_program_serves_every_node()
-    ensures { (graph : List Node) (number : ℕ) → number < length graph → served_by (plain_program graph) number ≡ Some number }
+    ensures { (graph : List Node) (number : ℕ) → number < length graph
+        → served_by (plain_program graph) number ≡ Some number }
 {}
 
 /// The joined program of a graph that keeps its rules keeps those of a program, its limits included.
@@ -51,5 +53,6 @@ pub fn joined_program_keeps_the_rules()
 
 /// In the joined program of a graph the routine with a node's number serves that node.
 pub fn joined_program_serves_every_node()
-    ensures { (graph : List Node) (number : ℕ) → number < length graph → served_by (joined_program graph) number ≡ Some number }
+    ensures { (graph : List Node) (number : ℕ) → number < length graph
+        → served_by (joined_program graph) number ≡ Some number }
 {}

@@ -18,7 +18,8 @@ scopes_of es e = names_to es e (around es (suc e))
 abbrev pub with_colons : List (List ℕ) → List ℕ
 with_colons names = flat_map (λ n. n ++ codes "::") names
 
--- what an operation is called on the wire (ISO/IEC 19500-2, operation names of attributes), by what stands before its name
+-- what an operation is called on the wire (ISO/IEC 19500-2, operation names of attributes), by what stands before its
+-- name
 abbrev pub mark_of : Role → List ℕ
 mark_of Operation = []
 mark_of Getting = codes "_get_"

@@ -221,7 +221,8 @@ impl<'a> Table<'a> {
         requires one { one.entry < length self.now }
         requires other { other.entry < length self.now }
         ensures { IfOk result (λ words. (name : List ℕ) →
-            (within_of self.now one.token (suc one.entry) name ≡ within_of self.now other.token (suc other.entry) name) ⊎ HasWord words.items name) }
+            (within_of self.now one.token (suc one.entry) name
+            ≡ within_of self.now other.token (suc other.entry) name) ⊎ HasWord words.items name) }
     {
         let mut words = Vec::new(alloc);
         let mut near = self.enter(&mut words, one)?;

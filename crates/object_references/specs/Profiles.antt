@@ -7,6 +7,7 @@ use Rattle.type_graph.specs.Value.{Tree, Bytes}
 use Rattle.giop_types.specs.TapeParts.{counted}
 use Rattle.giop_types.specs.Fields.{number_tree, octets_tree, struct_tree, tagged_list_tree}
 use Rattle.object_references.specs.Encapsulations.{Encapsulates, IsWritten}
+use Rattle.giop_types.specs.GiopNodes.{profile_body_1_0_node, profile_body_1_1_node}
 
 pub record Body : Type 0 where
   pub major : ℕ
@@ -19,7 +20,8 @@ pub record Body : Type 0 where
 -- a body of minor version 0 has no components
 abbrev pub body_tree : Body → ℕ → Tree
 body_tree body zero =
-    struct_tree (number_tree body.major ∷ number_tree body.minor ∷ Bytes body.host ∷ number_tree body.port ∷ octets_tree body.key ∷ [])
+    struct_tree (number_tree body.major ∷ number_tree body.minor ∷ Bytes body.host ∷ number_tree body.port
+    ∷ octets_tree body.key ∷ [])
 body_tree body (suc n) =
     struct_tree (
     number_tree body.major ∷ number_tree body.minor ∷ Bytes body.host ∷ number_tree body.port ∷ octets_tree body.key
@@ -27,8 +29,8 @@ body_tree body (suc n) =
     )
 
 abbrev pub body_node : ℕ → ℕ
-body_node zero = 24
-body_node (suc n) = 25
+body_node zero = profile_body_1_0_node
+body_node (suc n) = profile_body_1_1_node
 
 -- The key of a profile: its tag is that of IIOP, its major version 1. One of another tag or version has none (own).
 pub record HasKey (profile : ℕ × List ℕ) (key : List ℕ) : Type 0 where

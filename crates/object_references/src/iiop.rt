@@ -55,7 +55,8 @@ pub fn profile(
     key: &[u8],
 ) -> Result<Vec<u8>, ReferenceFault>
     ensures written { IfOk result (λ octets. IsProfile host.now port key.now octets.items) }
-    ensures refused { IfErr result (λ fault. OnlyIf fault ((octets : List ℕ) → IsProfile host.now port key.now octets → ⊥)) }
+    ensures refused { IfErr result (λ fault. OnlyIf fault ((octets : List ℕ)
+        → IsProfile host.now port key.now octets → ⊥)) }
 {
     match profile_tape(alloc, host, port, key) {
         Ok(tape) => write_encapsulation(types, alloc, PROFILE_BODY_1_1, tape.as_slice()),

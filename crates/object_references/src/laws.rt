@@ -18,8 +18,10 @@ pub fn written_text_is_read()
 
 /// A profile tells the key that it was written with and no other, and is written in one way.
 pub fn written_profile_has_its_key()
-    ensures told { (host : List ℕ) (port : ℕ) (key octets : List ℕ) → IsProfile host port key octets → HasKey (0, octets) key }
+    ensures told { (host : List ℕ) (port : ℕ) (key octets : List ℕ) → IsProfile host port key octets
+        → HasKey (0, octets) key }
     ensures alone { (host : List ℕ) (port : ℕ) (key other octets : List ℕ) → IsProfile host port key octets
         → HasKey (0, octets) other → other ≡ key }
-    ensures once { (host : List ℕ) (port : ℕ) (key a b : List ℕ) → IsProfile host port key a → IsProfile host port key b → a ≡ b }
+    ensures once { (host : List ℕ) (port : ℕ) (key a b : List ℕ) → IsProfile host port key a
+        → IsProfile host port key b → a ≡ b }
 {}

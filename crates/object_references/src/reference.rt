@@ -24,7 +24,8 @@ pub struct Ior {
 fn push_profiles(tape: &mut Vec<u8>, profiles: &[(u32, Vec<u8>)]) -> Result<(), TapeFault>
     ensures added { OnOk result (tape.new.items ≡ tape.old.items ++ tagged_each (owned_pairs profiles.now)) }
     ensures each { OnOk result (AllByRecursion IsTagged (owned_pairs profiles.now)) }
-    ensures refused { IfErr result (λ fault. RefusesWriting fault (AllByRecursion IsTagged (owned_pairs profiles.now) → ⊥)) }
+    ensures refused { IfErr result
+        (λ fault. RefusesWriting fault (AllByRecursion IsTagged (owned_pairs profiles.now) → ⊥)) }
 {
     for (tag, octets) in profiles {
         match push_tagged(tape, *tag, octets.as_slice()) {
@@ -69,7 +70,8 @@ fn owned(alloc: Global, profiles: &[Tagged<'_>]) -> Result<Vec<(u32, Vec<u8>)>, 
 /// The reference at the front of a tape.
 pub(crate) fn reference_in(alloc: Global, tape: &[u8]) -> Result<Ior, TapeFault>
     ensures found { IfOk result (λ ior. (rest : List ℕ) × IsFront tape.now (reference_of ior) rest) }
-    ensures refused { IfErr result (λ fault. RefusesReading fault ((reference : Reference) (rest : List ℕ) → IsFront tape.now reference rest → ⊥)) }
+    ensures refused { IfErr result (λ fault. RefusesReading fault ((reference : Reference) (rest : List ℕ)
+        → IsFront tape.now reference rest → ⊥)) }
 {
     let Some((type_id, behind)) = split_octets(tape) else {
         return Err(TapeFault::NotATape);

@@ -21,7 +21,8 @@ const WORD: &str = "IOR:";
 /// The encapsulation of a reference.
 fn write_reference(types: &GiopTypes, alloc: Global, ior: &Ior) -> Result<Vec<u8>, ReferenceFault>
     ensures written { IfOk result (λ octets. IsWritten 13 (reference_tree (reference_of ior.now)) octets.items) }
-    ensures refused { IfErr result (λ fault. OnlyIf fault ((octets : List ℕ) → IsWritten 13 (reference_tree (reference_of ior.now)) octets → ⊥)) }
+    ensures refused { IfErr result (λ fault. OnlyIf fault ((octets : List ℕ)
+        → IsWritten 13 (reference_tree (reference_of ior.now)) octets → ⊥)) }
 {
     let mut tape = Vec::new(alloc);
     match push_reference(&mut tape, ior) {
@@ -47,7 +48,8 @@ fn text_of(alloc: Global, octets: &[u8]) -> Result<String, AllocError>
 /// `BadIor` where the id holds a zero, or a part is too long for its count. Want of memory.
 pub fn ior_to_text(types: &GiopTypes, alloc: Global, ior: &Ior) -> Result<String, ReferenceFault>
     ensures text { IfOk result (λ text. IsTextOf (reference_of ior.now) (string_bytes text)) }
-    ensures refused { IfErr result (λ fault. OnlyIf fault ((text : List ℕ) → IsTextOf (reference_of ior.now) text → ⊥)) }
+    ensures refused { IfErr result (λ fault. OnlyIf fault ((text : List ℕ)
+        → IsTextOf (reference_of ior.now) text → ⊥)) }
 {
     match write_reference(types, alloc, ior) {
         Ok(octets) => Ok(text_of(alloc, octets.as_slice())?),
@@ -86,7 +88,8 @@ fn octets_of(alloc: Global, digits: &[u8]) -> Result<Vec<u8>, ReferenceFault>
 /// The reference in an encapsulation.
 fn read_reference(types: &GiopTypes, alloc: Global, octets: &[u8]) -> Result<Ior, ReferenceFault>
     ensures found { IfOk result (λ ior. Encapsulates 13 (reference_tree (reference_of ior)) octets.now) }
-    ensures refused { IfErr result (λ fault. OnlyIf fault ((reference : Reference) → Encapsulates 13 (reference_tree reference) octets.now → ⊥)) }
+    ensures refused { IfErr result (λ fault. OnlyIf fault ((reference : Reference)
+        → Encapsulates 13 (reference_tree reference) octets.now → ⊥)) }
 {
     let tape = match read_encapsulation(types, alloc, OBJECT, octets) {
         Ok(tape) => tape,

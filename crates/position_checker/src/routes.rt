@@ -41,7 +41,8 @@ impl Serving {
     }
 
     fn of(&self, program: Which, node: u32) -> Option<u32>
-        ensures { (table : TableParts) → IsServing table self.now → node < length table.model.graph → result ≡ served_by (program_at table program) node }
+        ensures { (table : TableParts) → IsServing table self.now → node < length table.model.graph
+            → result ≡ served_by (program_at table program) node }
     {
         let serving = match program {
             Which::First => self.first.as_slice(),

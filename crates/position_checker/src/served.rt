@@ -11,7 +11,8 @@ use std::alloc::{AllocError, Global};
 fn add(served: &mut Vec<Option<u32>>, number: u32, routine: &Routine)
     ensures long { length served.new.items ≡ length served.old.items }
     ensures each { (node : ℕ) → node < length served.old.items → slice_index_or served.new.items node None
-        ≡ option_or (slice_index_or served.old.items node None) (cond (is_serving node routine.now) (Some number) None) }
+        ≡ option_or (slice_index_or served.old.items node None)
+            (cond (is_serving node routine.now) (Some number) None) }
 {
     let node = routine.node as usize;
     if routine.entry != u8::MAX || node >= served.len() || served[node].is_some() {
@@ -26,7 +27,8 @@ pub(crate) fn serving_of(
     program: &Program,
     count: usize,
 ) -> Result<Vec<Option<u32>>, AllocError>
-    ensures { IfOk result (λ served. (node : ℕ) → node < count → slice_get served.items node ≡ Some (served_by program.now node)) }
+    ensures { IfOk result (λ served. (node : ℕ) → node < count
+        → slice_get served.items node ≡ Some (served_by program.now node)) }
 {
     let routines = program.routines();
     let mut served = vec![in alloc; None; count]?;

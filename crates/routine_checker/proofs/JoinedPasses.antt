@@ -51,7 +51,7 @@ no_octet nodes.Char parts e = absurd (none-some parts e)
 no_octet node parts e = refl
 
 no_whole : (width : Width) (node : Node) (parts : List ℕ) → parts_of node ≡ Some parts → is_whole width node ≡ false
-no_whole width (nodes.Whole wide signed) parts e = absurd (none-some parts e)
+no_whole width (nodes.Integer wide signed) parts e = absurd (none-some parts e)
 no_whole width node parts e = refl
 
 module _ (graph : List Node) (program : List Routine) where
@@ -106,14 +106,14 @@ module _ (graph : List Node) (program : List Routine) where
       by true e = (omega arith, (subst (λ w. Takes w number) (same_width width run.0 (eqb-true (octets_in width) (octets_in run.0) e)) takes, h.1))
       by false e = (omega arith, (takes, h))
 
-  whole_takes : (width : Width) (signed : Bool) (number : ℕ) → node_at graph number ≡ nodes.Whole width signed → IsWide width → Takes width number
+  whole_takes : (width : Width) (signed : Bool) (number : ℕ) → node_at graph number ≡ nodes.Integer width signed → IsWide width → Takes width number
   whole_takes One signed number e wide n = absurd wide
   whole_takes Two signed number e wide n = ap (is_whole Two) e
   whole_takes Four signed number e wide n = ap (is_whole Four) e
   whole_takes Eight signed number e wide n = ap (is_whole Eight) e
 
   width_takes : (width : Width) (node : Node) (number : ℕ) → node_at graph number ≡ node → IsNode graph node → width_of node ≡ Some width → Takes width number
-  width_takes width (nodes.Whole wide signed) number e rule f = subst (λ w. Takes w number) (same_Some wide width f) (whole_takes wide signed number e rule)
+  width_takes width (nodes.Integer wide signed) number e rule f = subst (λ w. Takes w number) (same_Some wide width f) (whole_takes wide signed number e rule)
   width_takes width nodes.Octet number e rule f = subst (λ w. Takes w number) (same_Some One width f) (λ n. ap is_octet e)
   width_takes width nodes.Char number e rule f = subst (λ w. Takes w number) (same_Some One width f) (λ n. ap is_octet e)
   width_takes width node number e rule f = absurd (none-some width f)

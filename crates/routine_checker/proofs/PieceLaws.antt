@@ -64,8 +64,8 @@ module _ (graph : List Node) (format : Format) (depth : ℕ) where
 
   -- an integer of the width
   pub whole_node_means : (width : Width) (node : Node) → is_whole width node ≡ true → Same Anywhere (NodeMeans graph format depth node) (Then (Gap format width) (AnyWord format width))
-  whole_node_means width (nodes.Whole wide signed) e =
-      subst (λ w. Same Anywhere (NodeMeans graph format depth (nodes.Whole wide signed)) (Then (Gap format w) (AnyWord format w)))
+  whole_node_means width (nodes.Integer wide signed) e =
+      subst (λ w. Same Anywhere (NodeMeans graph format depth (nodes.Integer wide signed)) (Then (Gap format w) (AnyWord format w)))
       (same_width wide width (sym (eqb-true (octets_in width) (octets_in wide) e)))
       (whole_means graph format depth wide signed)
   whole_node_means width node e = absurd (true≢false (sym e))

@@ -34,8 +34,8 @@ use Rattle.routine_checker.proofs.NameLaws.{own_named}
 -- ---- discriminators
 
 disc_is : (node : Node) → IsSwitch node → (node_of (disc_of node) ≡ node) × (is_disc_of (disc_of node) node ≡ true)
-disc_is (nodes.Whole w true) h = (refl, eq-eqb (octets_in w) (octets_in w) refl)
-disc_is (nodes.Whole w false) h = (refl, eq-eqb (octets_in w) (octets_in w) refl)
+disc_is (nodes.Integer w true) h = (refl, eq-eqb (octets_in w) (octets_in w) refl)
+disc_is (nodes.Integer w false) h = (refl, eq-eqb (octets_in w) (octets_in w) refl)
 disc_is nodes.Char h = (refl, refl)
 disc_is nodes.Boolean h = (refl, refl)
 disc_is (nodes.Enum n) h = (refl, eq-eqb n n refl)
@@ -166,7 +166,7 @@ module _ (graph : List Node) (program : List Routine) (own : (number : ℕ) → 
 
   pub node_through : (number : ℕ) (node : Node) → node_at graph number ≡ node → IsNode graph node → AllByRecursion (λ member. member < length graph) (held_by node)
       → AllByRecursion (λ member. height_of graph member < height_of graph number) (held_by node) → FromNode graph program (plain_code graph node) number One
-  node_through number (nodes.Whole width signed) e rule within low =
+  node_through number (nodes.Integer width signed) e rule within low =
       behind_gap_through width (Words width 1 ∷ []) number
       (one_through (Words width 1) number width refl refl (ap (is_whole width) e ∙ eq-eqb (octets_in width) (octets_in width) refl) (λ places. refl) (λ places. gaps_same_width places width))
   node_through number nodes.Octet e rule within low = one_through (Octets 1) number One refl refl (ap is_octet e) (λ places. refl) (λ places. gaps_same_width places One)

@@ -44,8 +44,8 @@ use Rattle.routine_checker.proofs.RoutineUse.{Found, found_routine, lower_right,
 disc_node : (disc : Disc) (node : Node) → is_disc_of disc node ≡ true → node_of disc ≡ node
 disc_node discs.Char nodes.Char e = refl
 disc_node discs.Boolean nodes.Boolean e = refl
-disc_node (discs.Word width true) (nodes.Whole wide true) e = ap (λ w. nodes.Whole w true) (same_width width wide (eqb-true (octets_in width) (octets_in wide) e))
-disc_node (discs.Word width false) (nodes.Whole wide false) e = ap (λ w. nodes.Whole w false) (same_width width wide (eqb-true (octets_in width) (octets_in wide) e))
+disc_node (discs.Word width true) (nodes.Integer wide true) e = ap (λ w. nodes.Integer w true) (same_width width wide (eqb-true (octets_in width) (octets_in wide) e))
+disc_node (discs.Word width false) (nodes.Integer wide false) e = ap (λ w. nodes.Integer w false) (same_width width wide (eqb-true (octets_in width) (octets_in wide) e))
 disc_node (discs.Enum n) (nodes.Enum limit) e = ap (λ k. nodes.Enum k) (eqb-true n limit e)
 disc_node disc node e = absurd (true≢false (sym e))
 
@@ -71,7 +71,7 @@ below_enum : (limit : ℕ) (n : ℤ) → IsNumber (nodes.Enum limit) n → (pos 
 below_enum limit (pos n) h = (omega (arith, ints), omega (arith, ints, h))
 below_enum limit (negsuc n) h = absurd h
 
-below_word : (w : Width) (n : ℤ) → IsNumber (nodes.Whole w false) n → (pos 0 ≤ℤ n) × (n <ℤ pos (words_of w))
+below_word : (w : Width) (n : ℤ) → IsNumber (nodes.Integer w false) n → (pos 0 ≤ℤ n) × (n <ℤ pos (words_of w))
 below_word w (pos n) h = (omega (arith, ints), omega (arith, ints, h))
 below_word w (negsuc n) h = absurd h
 
@@ -79,10 +79,10 @@ signed_between : (half : ℕ) (n : ℤ) → ((k : ℕ) → n ≡ pos k → k < h
 signed_between half (pos n) p q = let lt = p n refl in (omega (arith, ints, lt), omega (arith, ints, lt))
 signed_between half (negsuc n) p q = let lt = q n refl in (omega (arith, ints, lt), omega (arith, ints, lt))
 
-within_signed : (w : Width) (n : ℤ) → IsNumber (nodes.Whole w true) n → (negsuc (2 ^ (8 * octets_in w - 1) - 1) ≤ℤ n) × (n <ℤ pos (2 ^ (8 * octets_in w - 1)))
+within_signed : (w : Width) (n : ℤ) → IsNumber (nodes.Integer w true) n → (negsuc (2 ^ (8 * octets_in w - 1) - 1) ≤ℤ n) × (n <ℤ pos (2 ^ (8 * octets_in w - 1)))
 within_signed w n h = signed_between (2 ^ (8 * octets_in w - 1)) n (λ k e. subst (IsSigned w) e h) (λ k e. subst (IsSigned w) e h)
 
-signed_bounds : (w : Width) → Bounds (nodes.Whole w true) (words_of w)
+signed_bounds : (w : Width) → Bounds (nodes.Integer w true) (words_of w)
 signed_bounds One = record { least = negsuc 0x7F; end = pos 0x80; wide = refl; between = within_signed One }
 signed_bounds Two = record { least = negsuc 0x7FFF; end = pos 0x8000; wide = refl; between = within_signed Two }
 signed_bounds Four = record { least = negsuc 0x7FFFFFFF; end = pos 0x80000000; wide = refl; between = within_signed Four }
@@ -92,7 +92,7 @@ disc_bounds : (disc : Disc) → Bounds (node_of disc) (values_of disc)
 disc_bounds discs.Char = unsigned_bounds nodes.Char 256 below_char
 disc_bounds discs.Boolean = unsigned_bounds nodes.Boolean 2 below_boolean
 disc_bounds (discs.Word w true) = signed_bounds w
-disc_bounds (discs.Word w false) = unsigned_bounds (nodes.Whole w false) (words_of w) (below_word w)
+disc_bounds (discs.Word w false) = unsigned_bounds (nodes.Integer w false) (words_of w) (below_word w)
 disc_bounds (discs.Enum n) = unsigned_bounds (nodes.Enum n) n (below_enum n)
 
 -- a value that is no label leaves fewer labels than values

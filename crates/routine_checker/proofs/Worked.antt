@@ -27,7 +27,7 @@ free node code = full node 255 code
 -- ---- a structure of an octet, an unsigned long and a string
 
 abbrev small : List Node
-small = nodes.Octet ∷ nodes.Whole Four false ∷ nodes.Text 0 ∷ nodes.Struct (0 ∷ 1 ∷ 2 ∷ []) ∷ []
+small = nodes.Octet ∷ nodes.Integer Four false ∷ nodes.Text 0 ∷ nodes.Struct (0 ∷ 1 ∷ 2 ∷ []) ∷ []
 
 small_whole : program_fault 0 small (free 3 (Octets 1 ∷ Align Four ∷ Words Four 1 ∷ Align Four ∷ Text 0 ∷ []) ∷ []) ≡ None
 unfolding routine_fault step taken taken_within each_place gathered is_done_within
@@ -90,18 +90,18 @@ small_calls_another = refl
 -- ---- numbers, alone and in a sequence
 
 -- an unsigned long without its gap
-long_alone : program_fault 0 (nodes.Whole Four false ∷ []) (free 0 (Words Four 1 ∷ []) ∷ []) ≡ Some (WrongPadding (place_of 0 0) 0)
+long_alone : program_fault 0 (nodes.Integer Four false ∷ []) (free 0 (Words Four 1 ∷ []) ∷ []) ≡ Some (WrongPadding (place_of 0 0) 0)
 unfolding routine_fault step taken taken_within each_place gathered is_done_within
 long_alone = refl
 
 -- at the end a gap that is always empty
-long_gap_at_end : program_fault 0 (nodes.Whole Four false ∷ []) (free 0 (Align Four ∷ Words Four 1 ∷ Align Two ∷ []) ∷ []) ≡ None
+long_gap_at_end : program_fault 0 (nodes.Integer Four false ∷ []) (free 0 (Align Four ∷ Words Four 1 ∷ Align Two ∷ []) ∷ []) ≡ None
 unfolding routine_fault step taken taken_within each_place gathered is_done_within
 long_gap_at_end = refl
 
 -- a sequence of long longs
 abbrev longs : List Node
-longs = nodes.Whole Eight true ∷ nodes.Seq 0 0 ∷ []
+longs = nodes.Integer Eight true ∷ nodes.Seq 0 0 ∷ []
 
 longs_whole : program_fault 0 longs (free 1 (Align Four ∷ SeqWords Eight Eight 0 ∷ []) ∷ []) ≡ None
 unfolding routine_fault step taken taken_within each_place gathered is_done_within is_one
@@ -120,7 +120,7 @@ longs_gap_at_count = refl
 
 -- two octets and six more in an array; a long, an unsigned long and three longs in an array; a long long, a short, a string, a long
 abbrev mixed : List Node
-mixed = nodes.Octet ∷ nodes.Whole Four true ∷ nodes.Whole Four false ∷ nodes.Whole Eight true ∷ nodes.Whole Two true ∷ nodes.Text 0 ∷ nodes.Array 0 6 ∷ nodes.Array 1 3 ∷ nodes.Struct (0 ∷ 0 ∷ 6 ∷ 1 ∷ 2 ∷ 7 ∷ 3 ∷ 4 ∷ 5 ∷ 1 ∷ []) ∷ []
+mixed = nodes.Octet ∷ nodes.Integer Four true ∷ nodes.Integer Four false ∷ nodes.Integer Eight true ∷ nodes.Integer Two true ∷ nodes.Text 0 ∷ nodes.Array 0 6 ∷ nodes.Array 1 3 ∷ nodes.Struct (0 ∷ 0 ∷ 6 ∷ 1 ∷ 2 ∷ 7 ∷ 3 ∷ 4 ∷ 5 ∷ 1 ∷ []) ∷ []
 
 mixed_runs : program_fault 0 mixed (free 8 (Octets 8 ∷ Align Four ∷ Words Four 5 ∷ Align Eight ∷ Words Eight 1 ∷ Words Two 1 ∷ Align Four ∷ Text 0 ∷ Align Four ∷ Words Four 1 ∷ []) ∷ []) ≡ None
 unfolding routine_fault step taken taken_within each_place gathered is_done_within
@@ -132,7 +132,7 @@ mixed_run_too_long = refl
 
 -- a short, an unsigned short, a long, an octet and a character
 abbrev pairs : List Node
-pairs = nodes.Whole Two true ∷ nodes.Whole Two false ∷ nodes.Whole Four true ∷ nodes.Octet ∷ nodes.Char ∷ nodes.Struct (0 ∷ 1 ∷ 2 ∷ 3 ∷ 4 ∷ []) ∷ []
+pairs = nodes.Integer Two true ∷ nodes.Integer Two false ∷ nodes.Integer Four true ∷ nodes.Octet ∷ nodes.Char ∷ nodes.Struct (0 ∷ 1 ∷ 2 ∷ 3 ∷ 4 ∷ []) ∷ []
 
 pairs_joined : joined_code pairs (nodes.Struct (0 ∷ 1 ∷ 2 ∷ 3 ∷ 4 ∷ [])) ≡ Align Two ∷ Words Two 2 ∷ Align Four ∷ Words Four 1 ∷ Octets 2 ∷ []
 pairs_joined = refl
@@ -148,7 +148,7 @@ pairs_named = refl
 
 -- an octet, a sequence of the structure itself, a long
 abbrev tree : List Node
-tree = nodes.Octet ∷ nodes.Whole Four true ∷ nodes.Struct (0 ∷ 3 ∷ 1 ∷ []) ∷ nodes.Seq 2 0 ∷ []
+tree = nodes.Octet ∷ nodes.Integer Four true ∷ nodes.Struct (0 ∷ 3 ∷ 1 ∷ []) ∷ nodes.Seq 2 0 ∷ []
 
 abbrev tree_code : List Instr
 tree_code = Octets 1 ∷ Align Four ∷ SeqOf 0 One 0 ∷ Words Four 1 ∷ []
@@ -179,7 +179,7 @@ tree_nowhere = refl
 
 -- a long long and two longs; a sequence of these
 abbrev records : List Node
-records = nodes.Whole Eight true ∷ nodes.Whole Four true ∷ nodes.Struct (0 ∷ 1 ∷ 1 ∷ []) ∷ nodes.Seq 2 0 ∷ []
+records = nodes.Integer Eight true ∷ nodes.Integer Four true ∷ nodes.Struct (0 ∷ 1 ∷ 1 ∷ []) ∷ nodes.Seq 2 0 ∷ []
 
 -- the structure, wherever it starts
 abbrev record_routine : List ℕ → Routine
@@ -217,7 +217,7 @@ octet_as_boolean = refl
 
 -- a union with a short at TRUE, and no default
 abbrev maybe : List Node
-maybe = nodes.Boolean ∷ nodes.Whole Two true ∷ nodes.Union 0 ((pos 1, 1) ∷ []) None ∷ []
+maybe = nodes.Boolean ∷ nodes.Integer Two true ∷ nodes.Union 0 ((pos 1, 1) ∷ []) None ∷ []
 
 abbrev maybe_short : Routine
 maybe_short = free 1 (Align Two ∷ Words Two 1 ∷ [])
@@ -236,7 +236,7 @@ unfolding routine_fault step taken taken_within each_place gathered is_done_with
 octets_without_bound = refl
 
 -- two words for a number and an enumerator
-enum_as_word : program_fault 0 (nodes.Whole Four false ∷ nodes.Enum 3 ∷ nodes.Struct (0 ∷ 1 ∷ []) ∷ []) (free 2 (Align Four ∷ Words Four 2 ∷ []) ∷ []) ≡ Some (WrongWork (place_of 0 0) 1)
+enum_as_word : program_fault 0 (nodes.Integer Four false ∷ nodes.Enum 3 ∷ nodes.Struct (0 ∷ 1 ∷ []) ∷ []) (free 2 (Align Four ∷ Words Four 2 ∷ []) ∷ []) ≡ Some (WrongWork (place_of 0 0) 1)
 unfolding routine_fault step taken taken_within each_place gathered is_done_within
 enum_as_word = refl
 

@@ -161,7 +161,8 @@ tested at n false padded next = Err (EntryOutside at n)
 tested at n true false next = Err (WrongPadding at n)
 tested at n true true next = Ok next
 
-abbrev pub worked : List Node → List Routine → RoutinePlace → ℕ → Instr → Judged → Option (List ℕ) → Result Judged CheckFault
+abbrev pub worked : List Node → List Routine → RoutinePlace → ℕ → Instr → Judged → Option (List ℕ)
+    → Result Judged CheckFault
 worked graph program at n instr state None = Err (WrongWork at n)
 worked graph program at n instr state (Some rest) =
     tested at n (enters program instr state.places state.gap) (pads graph program instr state.places state.gap)

@@ -65,7 +65,7 @@ is_octet nodes.Char = true
 is_octet node = false
 
 abbrev pub is_whole : Width → Node → Bool
-is_whole width (nodes.Whole wide signed) = eqb (octets_in width) (octets_in wide)
+is_whole width (nodes.Integer wide signed) = eqb (octets_in width) (octets_in wide)
 is_whole width node = false
 
 abbrev pub is_boolean : Node → Bool
@@ -108,8 +108,8 @@ is_routine_of program routine number = is_node_of (slice_get program routine) nu
 abbrev pub is_disc_of : Disc → Node → Bool
 is_disc_of discs.Char nodes.Char = true
 is_disc_of discs.Boolean nodes.Boolean = true
-is_disc_of (discs.Word width true) (nodes.Whole wide true) = eqb (octets_in width) (octets_in wide)
-is_disc_of (discs.Word width false) (nodes.Whole wide false) = eqb (octets_in width) (octets_in wide)
+is_disc_of (discs.Word width true) (nodes.Integer wide true) = eqb (octets_in width) (octets_in wide)
+is_disc_of (discs.Word width false) (nodes.Integer wide false) = eqb (octets_in width) (octets_in wide)
 is_disc_of (discs.Enum n) (nodes.Enum limit) = eqb n limit
 is_disc_of disc node = false
 
@@ -128,7 +128,8 @@ is_default_of program routine number = false
 
 abbrev pub is_switch_of : List Node → List Routine → Disc → List (ℤ × ℕ) → Option ℕ → Node → Bool
 is_switch_of graph program disc arms otherwise (nodes.Union switch members default) =
-    is_disc_of disc (node_at graph switch) && are_arms_of program arms members && is_default_of program otherwise default
+    is_disc_of disc (node_at graph switch) && are_arms_of program arms members
+    && is_default_of program otherwise default
 is_switch_of graph program disc arms otherwise node = false
 
 -- whether the instruction does the work of the node, or a piece of its work

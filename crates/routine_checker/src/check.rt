@@ -72,10 +72,12 @@ fn follow(
 ) -> Result<Reached, CheckFault>
     requires code { length routine.now.code ≤ 65536 }
     requires instrs { instrs ≤ length routine.now.code }
-    ensures ok { IfOk result (λ end. (work rest : List ℕ) → work_behind graph.now program.now routine.now.code instrs work ≡ Some rest
+    ensures ok { IfOk result (λ end. (work rest : List ℕ)
+        → work_behind graph.now program.now routine.now.code instrs work ≡ Some rest
         → followed graph.now program.now at 0 routine.now.code (state_of work start)
         ≡ followed graph.now program.now at instrs (drop instrs routine.now.code) (state_of rest end)) }
-    ensures refused { IfErr result (λ fault. (work rest : List ℕ) → work_behind graph.now program.now routine.now.code instrs work ≡ Some rest
+    ensures refused { IfErr result (λ fault. (work rest : List ℕ)
+        → work_behind graph.now program.now routine.now.code instrs work ≡ Some rest
         → followed graph.now program.now at 0 routine.now.code (state_of work start) ≡ Err fault) }
 {
     let code = routine.code.as_slice();
@@ -139,7 +141,8 @@ fn check_routine(
     requires counts { AreCounts graph.now counts.now }
     requires code { length routine.now.code ≤ 65536 }
     ensures ok { OnOk result (routine_fault graph.now program.now at routine.now ≡ None) }
-    ensures refused { IfErr result (λ fault. OnlyIf fault (routine_fault graph.now program.now at routine.now ≡ Some fault)) }
+    ensures refused { IfErr result
+        (λ fault. OnlyIf fault (routine_fault graph.now program.now at routine.now ≡ Some fault)) }
 {
     if routine.node as usize >= nodes {
         return Err(CheckFault::WrongWork { at, instr: 0 });

@@ -49,7 +49,7 @@ fn kind_at(nodes: &[Node], number: u32) -> Option<RunKind>
     match nodes.get(number as usize) {
         Some(Node::Octet) | Some(Node::Char) => Some(RunKind::Octet),
         Some(Node::Boolean) => Some(RunKind::Boolean),
-        Some(Node::Whole { width, .. }) => Some(RunKind::Word(*width)),
+        Some(Node::Integer { width, .. }) => Some(RunKind::Word(*width)),
         _ => None,
     }
 }
@@ -92,7 +92,8 @@ impl Entries {
 
     /// How many of the pieces the node is made of, 0 where that isn't known.
     pub fn of(&self, piece: Piece, number: u32) -> u32
-        ensures { (graph : List Node) → AreEntries graph self.now → 0 < result → pieces_in 64 (is_piece_of piece graph) graph number ≡ result }
+        ensures { (graph : List Node) → AreEntries graph self.now → 0 < result
+            → pieces_in 64 (is_piece_of piece graph) graph number ≡ result }
     {
         let entries = self.entries.as_slice();
         for at in self.start(number)..entries.len() {
@@ -109,7 +110,8 @@ impl Entries {
 
     /// The members together, 0 where one of them isn't known.
     fn of_members(&self, piece: Piece, members: &[u32]) -> u32
-        ensures { (graph : List Node) → AreEntries graph self.now → 0 < result → parts_in (pieces_in 64 (is_piece_of piece graph) graph) (Some members.now) ≡ result }
+        ensures { (graph : List Node) → AreEntries graph self.now → 0 < result
+            → parts_in (pieces_in 64 (is_piece_of piece graph) graph) (Some members.now) ≡ result }
     {
         let mut sum = 0u32;
         for member in members {
@@ -144,7 +146,8 @@ impl Entries {
 
     /// The parts of a node together.
     fn of_parts(&self, piece: Piece, node: &Node) -> u32
-        ensures { (graph : List Node) → AreEntries graph self.now → 0 < result → parts_in (pieces_in 64 (is_piece_of piece graph) graph) (parts_of node.now) ≡ result }
+        ensures { (graph : List Node) → AreEntries graph self.now → 0 < result
+            → parts_in (pieces_in 64 (is_piece_of piece graph) graph) (parts_of node.now) ≡ result }
     {
         match node {
             Node::Array { elem, n } => product(*n, self.of(piece, *elem)),
@@ -276,7 +279,8 @@ impl Entries {
 
 /// What an instruction takes many of.
 pub fn piece_of(program: &[Routine], instr: &Instr) -> Option<Piece>
-    ensures { IfSome result (λ piece. (graph : List Node) → is_piece graph program.now instr.now ≡ is_piece_of piece graph) }
+    ensures { IfSome result (λ piece. (graph : List Node)
+        → is_piece graph program.now instr.now ≡ is_piece_of piece graph) }
 {
     match instr {
         Instr::Octets { .. } => Some(Piece::Kind {

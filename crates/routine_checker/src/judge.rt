@@ -118,7 +118,8 @@ fn enters_otherwise(program: &[Routine], from: u8, otherwise: Option<u32>) -> bo
 
 /// Each routine of a switch may start at each of the places.
 fn enters_all(program: &[Routine], from: u8, arms: &[(i128, u32)], otherwise: Option<u32>) -> bool
-    ensures { result ≡ list_all (λ routine. is_within from (entry_at program.now routine)) (arms_of arms.now otherwise) }
+    ensures { result ≡ list_all (λ routine. is_within from (entry_at program.now routine))
+        (arms_of arms.now otherwise) }
 {
     let arms_enter = enters_arms(program, from, arms);
     let other_enters = enters_otherwise(program, from, otherwise);

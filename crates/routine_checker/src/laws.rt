@@ -15,18 +15,24 @@ ghost use Rattle.routine_checker.specs.Right.{AreRight};
 /// Every routine of a program without a fault relates the tapes and octets that its node means: from
 /// its entries, at every depth, in both byte orders, whatever the gaps may hold. It ends at its exits.
 pub fn accepted_is_right()
-    ensures { (which : ℕ) (graph : List Node) (program : List Routine) → IsGraph graph → IsProgram program → program_fault which graph program ≡ None → AreRight graph program }
+    ensures { (which : ℕ) (graph : List Node) (program : List Routine) → IsGraph graph → IsProgram program
+        → program_fault which graph program ≡ None → AreRight graph program }
 {}
 
 /// The plain program of a graph that keeps its rules is accepted, with any names of its nodes.
 pub fn plain_program_is_accepted()
-    ensures routines { (which : ℕ) (graph : List Node) → IsGraph graph → program_fault which graph (plain_program graph) ≡ None }
-    ensures names { (graph : List Node) (number : ℕ) → number < length graph → name_fault (plain_program graph) number ≡ None }
+    ensures routines { (which : ℕ) (graph : List Node) → IsGraph graph
+        → program_fault which graph (plain_program graph) ≡ None }
+    ensures names { (graph : List Node) (number : ℕ) → number < length graph
+        → name_fault (plain_program graph) number ≡ None }
 {}
 
 /// So is its joined program, in which the routine with a node's number serves that node.
 pub fn joined_program_is_accepted()
-    ensures routines { (which : ℕ) (graph : List Node) → IsGraph graph → program_fault which graph (joined_program graph) ≡ None }
-    ensures names { (graph : List Node) (number : ℕ) → number < length graph → name_fault (joined_program graph) number ≡ None }
-    ensures serves { (graph : List Node) (number : ℕ) → number < length graph → served_by (joined_program graph) number ≡ Some number }
+    ensures routines { (which : ℕ) (graph : List Node) → IsGraph graph
+        → program_fault which graph (joined_program graph) ≡ None }
+    ensures names { (graph : List Node) (number : ℕ) → number < length graph
+        → name_fault (joined_program graph) number ≡ None }
+    ensures serves { (graph : List Node) (number : ℕ) → number < length graph
+        → served_by (joined_program graph) number ≡ Some number }
 {}

@@ -109,7 +109,8 @@ impl Counts {
 
     /// What is noted of a piece.
     fn noted_of(&self, piece: Piece) -> Option<&[u32]>
-        ensures { IfSome result (λ counts. (graph : List Node) → AreCounts graph self.now → IsNoted graph piece counts.now) }
+        ensures { IfSome result (λ counts. (graph : List Node) → AreCounts graph self.now
+            → IsNoted graph piece counts.now) }
     {
         let place = *self.places.get(piece_number(piece))?;
         let noted = self.noted.get(place)?;
@@ -121,7 +122,8 @@ impl Counts {
 
     /// Of how many of the pieces each node is made.
     fn counted(&self, alloc: Global, piece: Piece) -> Result<Vec<u32>, AllocError>
-        ensures { IfOk result (λ counts. (graph : List Node) → AreCounts graph self.now → IsNoted graph piece counts.items) }
+        ensures { IfOk result (λ counts. (graph : List Node) → AreCounts graph self.now
+            → IsNoted graph piece counts.items) }
     {
         let mut counts = Vec::new(alloc);
         for number in 0..MAX_NODES {
@@ -186,7 +188,8 @@ impl Counts {
 
     /// How many pieces of the instruction the node is made of, 0 where that isn't known.
     pub fn pieces(&self, program: &[Routine], instr: &Instr, number: u32) -> u32
-        ensures { (graph : List Node) → AreCounts graph self.now → 0 < result → Yields result (is_piece graph program.now instr.now) graph number }
+        ensures { (graph : List Node) → AreCounts graph self.now → 0 < result
+            → Yields result (is_piece graph program.now instr.now) graph number }
     {
         match piece_of(program, instr) {
             Some(piece) => self.entries.of(piece, number),
@@ -206,7 +209,8 @@ impl Counts {
         ensures within { result.1 ≤ wanted }
         ensures taken { (graph : List Node) → AreCounts graph self.now → (more : List ℕ)
             → taken wanted (is_piece graph program.now instr.now) graph (numbers.now ++ more)
-            ≡ taken (wanted - result.1) (is_piece graph program.now instr.now) graph (drop result.0 numbers.now ++ more) }
+            ≡ taken (wanted - result.1) (is_piece graph program.now instr.now) graph
+                (drop result.0 numbers.now ++ more) }
     {
         match piece_of(program, instr) {
             Some(piece) => self.front(piece, numbers, wanted),

@@ -29,7 +29,7 @@ fn is_whole(width: Width, node: &Node) -> bool
     ensures { result ≡ is_whole width node.now }
 {
     match node {
-        Node::Whole { width: wide, .. } => is_same_width(width, *wide),
+        Node::Integer { width: wide, .. } => is_same_width(width, *wide),
         _ => false,
     }
 }
@@ -162,7 +162,7 @@ fn is_disc_of(disc: Disc, node: &Node) -> bool
                 width,
                 signed: true,
             },
-            Node::Whole {
+            Node::Integer {
                 width: wide,
                 signed: true,
             },
@@ -172,7 +172,7 @@ fn is_disc_of(disc: Disc, node: &Node) -> bool
                 width,
                 signed: false,
             },
-            Node::Whole {
+            Node::Integer {
                 width: wide,
                 signed: false,
             },

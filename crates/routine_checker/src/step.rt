@@ -40,9 +40,11 @@ impl Reached {
         n: u32,
         instr: &Instr,
     ) -> Result<Reached, CheckFault>
-        ensures ok { IfOk result (λ next. (work rest : List ℕ) → takes graph.now program.now (Some instr.now) work ≡ Some rest
+        ensures ok { IfOk result (λ next. (work rest : List ℕ)
+            → takes graph.now program.now (Some instr.now) work ≡ Some rest
             → step graph.now program.now at n instr.now (state_of work self) ≡ Ok (state_of rest next)) }
-        ensures refused { IfErr result (λ fault. (work rest : List ℕ) → takes graph.now program.now (Some instr.now) work ≡ Some rest
+        ensures refused { IfErr result (λ fault. (work rest : List ℕ)
+            → takes graph.now program.now (Some instr.now) work ≡ Some rest
             → step graph.now program.now at n instr.now (state_of work self) ≡ Err fault) }
     {
         if let Instr::Align { to } = instr {

@@ -105,7 +105,9 @@ impl<'g> NodesTaken<'g> {
     fn parts_of_more(self, counts: &Counts, pieces: u32, number: u32) -> Option<Item<'g>>
         requires some { 0 < pieces }
         requires counts { AreCounts self.nodes.now counts.now }
-        ensures { IfSome result (λ parts. (more : List ℕ) → taken pieces (wants self.entry) self.entry.nodes.now (number ∷ more) ≡ taken pieces (wants self.entry) self.entry.nodes.now (held parts ++ more)) }
+        ensures { IfSome result (λ parts. (more : List ℕ)
+            → taken pieces (wants self.entry) self.entry.nodes.now (number ∷ more)
+            ≡ taken pieces (wants self.entry) self.entry.nodes.now (held parts ++ more)) }
     {
         if self.is(number) || counts.pieces(self.program, self.instr, number) <= pieces {
             return None;
@@ -164,7 +166,9 @@ impl<'g> Work<'g> {
 
     /// Takes the first node away, and how many copies of it follow one another.
     fn next_copies(&mut self) -> Result<Option<(u32, u32)>, AllocError>
-        ensures some { IfOk result (λ first. IfSome first (λ copies. work_of self.old.items.items ≡ replicate copies.1 copies.0 ++ work_of self.new.items.items)) }
+        ensures some { IfOk result
+            (λ first. IfSome first (λ copies. work_of self.old.items.items
+            ≡ replicate copies.1 copies.0 ++ work_of self.new.items.items)) }
         ensures many { IfOk result (λ first. IfSome first (λ copies. 0 < copies.1)) }
         ensures none { IfOk result (λ first. IfNone first (work_of self.old.items.items ≡ [])) }
         ensures empty { IfOk result (λ first. IfNone first (work_of self.new.items.items ≡ [])) }
@@ -181,7 +185,8 @@ impl<'g> Work<'g> {
     /// Takes the first node away.
     #[tactic(auto, using(crate::proofs::WorkLaws::first_copy))]
     fn next(&mut self) -> Result<Option<u32>, AllocError>
-        ensures some { IfOk result (λ first. IfSome first (λ number. work_of self.old.items.items ≡ number ∷ work_of self.new.items.items)) }
+        ensures some { IfOk result
+            (λ first. IfSome first (λ number. work_of self.old.items.items ≡ number ∷ work_of self.new.items.items)) }
         ensures none { IfOk result (λ first. IfNone first (work_of self.old.items.items ≡ [])) }
     {
         match self.next_copies()? {
@@ -196,8 +201,11 @@ impl<'g> Work<'g> {
     /// Takes the first node that the instruction wants, if nothing but opened nodes stands before
     /// it.
     fn take_one(&mut self, wanted: NodesTaken<'g>) -> Result<bool, AllocError>
-        ensures taken { IfOk result (λ took. IsTrue took → taken_within 64 (wants wanted.entry) wanted.entry.nodes.now (work_of self.old.items.items) ≡ Some (work_of self.new.items.items)) }
-        ensures refused { IfOk result (λ took. IsFalse took → taken_within 64 (wants wanted.entry) wanted.entry.nodes.now (work_of self.old.items.items) ≡ None) }
+        ensures taken { IfOk result (λ took. IsTrue took
+            → taken_within 64 (wants wanted.entry) wanted.entry.nodes.now (work_of self.old.items.items)
+            ≡ Some (work_of self.new.items.items)) }
+        ensures refused { IfOk result (λ took. IsFalse took
+            → taken_within 64 (wants wanted.entry) wanted.entry.nodes.now (work_of self.old.items.items) ≡ None) }
     {
         for level in 0..64u32 {
             let number = match self.next()? {
@@ -224,7 +232,9 @@ impl<'g> Work<'g> {
     ) -> Result<(), AllocError>
         requires some { 0 < pieces }
         requires counts { AreCounts wanted.nodes.now counts.now }
-        ensures { IfOk result (λ done. taken pieces (wants wanted.entry) wanted.entry.nodes.now (work_of self.old.items.items) ≡ taken pieces (wants wanted.entry) wanted.entry.nodes.now (work_of self.new.items.items)) }
+        ensures { IfOk result (λ done. taken pieces (wants wanted.entry) wanted.entry.nodes.now
+            (work_of self.old.items.items)
+            ≡ taken pieces (wants wanted.entry) wanted.entry.nodes.now (work_of self.new.items.items)) }
     {
         for level in 0..64u32 {
             let (number, copies) = match self.next_copies()? {
@@ -258,8 +268,11 @@ impl<'g> Work<'g> {
         requires some { 0 < pieces }
         requires counts { AreCounts wanted.nodes.now counts.now }
         ensures within { IfOk result (λ n. n ≤ pieces) }
-        ensures taken { IfOk result (λ n. 0 < n → taken pieces (wants wanted.entry) wanted.entry.nodes.now (work_of self.old.items.items) ≡ taken (pieces - n) (wants wanted.entry) wanted.entry.nodes.now (work_of self.new.items.items)) }
-        ensures refused { IfOk result (λ n. n ≡ 0 → taken pieces (wants wanted.entry) wanted.entry.nodes.now (work_of self.old.items.items) ≡ None) }
+        ensures taken { IfOk result (λ n. 0 < n
+            → taken pieces (wants wanted.entry) wanted.entry.nodes.now (work_of self.old.items.items)
+            ≡ taken (pieces - n) (wants wanted.entry) wanted.entry.nodes.now (work_of self.new.items.items)) }
+        ensures refused { IfOk result (λ n. n ≡ 0
+            → taken pieces (wants wanted.entry) wanted.entry.nodes.now (work_of self.old.items.items) ≡ None) }
     {
         let (number, copies) = match self.next_copies()? {
             Some(first) => first,
@@ -288,7 +301,9 @@ impl<'g> Work<'g> {
     ) -> Result<u32, AllocError>
         requires { AreCounts wanted.nodes.now counts.now }
         ensures within { IfOk result (λ n. n ≤ pieces) }
-        ensures taken { IfOk result (λ n. taken pieces (wants wanted.entry) wanted.entry.nodes.now (work_of self.old.items.items) ≡ taken (pieces - n) (wants wanted.entry) wanted.entry.nodes.now (work_of self.new.items.items)) }
+        ensures taken { IfOk result
+            (λ n. taken pieces (wants wanted.entry) wanted.entry.nodes.now (work_of self.old.items.items)
+            ≡ taken (pieces - n) (wants wanted.entry) wanted.entry.nodes.now (work_of self.new.items.items)) }
     {
         let item = match self.items.pop() {
             Some(item) => item,
@@ -309,8 +324,11 @@ impl<'g> Work<'g> {
         requires some { 0 < pieces }
         requires counts { AreCounts wanted.nodes.now counts.now }
         ensures within { IfOk result (λ n. n ≤ pieces) }
-        ensures taken { IfOk result (λ n. 0 < n → taken pieces (wants wanted.entry) wanted.entry.nodes.now (work_of self.old.items.items) ≡ taken (pieces - n) (wants wanted.entry) wanted.entry.nodes.now (work_of self.new.items.items)) }
-        ensures refused { IfOk result (λ n. n ≡ 0 → taken pieces (wants wanted.entry) wanted.entry.nodes.now (work_of self.old.items.items) ≡ None) }
+        ensures taken { IfOk result (λ n. 0 < n
+            → taken pieces (wants wanted.entry) wanted.entry.nodes.now (work_of self.old.items.items)
+            ≡ taken (pieces - n) (wants wanted.entry) wanted.entry.nodes.now (work_of self.new.items.items)) }
+        ensures refused { IfOk result (λ n. n ≡ 0
+            → taken pieces (wants wanted.entry) wanted.entry.nodes.now (work_of self.old.items.items) ≡ None) }
     {
         let n = self.take_front(wanted, counts, pieces)?;
         if n > 0 {
@@ -328,8 +346,11 @@ impl<'g> Work<'g> {
         pieces: u32,
     ) -> Result<bool, AllocError>
         requires { AreCounts wanted.nodes.now counts.now }
-        ensures taken { IfOk result (λ took. IsTrue took → taken pieces (wants wanted.entry) wanted.entry.nodes.now (work_of self.old.items.items) ≡ Some (work_of self.new.items.items)) }
-        ensures refused { IfOk result (λ took. IsFalse took → taken pieces (wants wanted.entry) wanted.entry.nodes.now (work_of self.old.items.items) ≡ None) }
+        ensures taken { IfOk result (λ took. IsTrue took
+            → taken pieces (wants wanted.entry) wanted.entry.nodes.now (work_of self.old.items.items)
+            ≡ Some (work_of self.new.items.items)) }
+        ensures refused { IfOk result (λ took. IsFalse took
+            → taken pieces (wants wanted.entry) wanted.entry.nodes.now (work_of self.old.items.items) ≡ None) }
     {
         let mut left = pieces;
         while left > 0 {

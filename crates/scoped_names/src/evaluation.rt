@@ -18,7 +18,7 @@ fn whole(constant: Option<Constant>) -> Option<i128>
     ensures { result ≡ whole_number constant }
 {
     match &constant {
-        Some(Constant::Whole(value)) => Some(*value),
+        Some(Constant::Integer(value)) => Some(*value),
         _ => None,
     }
 }
@@ -27,7 +27,7 @@ fn whole_constant(value: Option<i128>) -> Option<Constant>
     ensures { result ≡ whole_constant value }
 {
     match value {
-        Some(value) => Some(Constant::Whole(value)),
+        Some(value) => Some(Constant::Integer(value)),
         None => None,
     }
 }
@@ -221,7 +221,7 @@ pub(crate) fn size<'a>(
     ensures { Gives result (size_read table.now scope expr.now) }
 {
     match &value(table, alloc, scope, expr)? {
-        Constant::Whole(value) if *value > 0 => Ok(value.unsigned_abs()),
+        Constant::Integer(value) if *value > 0 => Ok(value.unsigned_abs()),
         _ => Err(NameFault::BadConstant {
             at: expr.start().at(),
             why: Flaw::NotPositive,

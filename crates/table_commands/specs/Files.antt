@@ -15,7 +15,8 @@ pub record SpellsAnother (octets : List ℕ) : Type 0 where
 -- the refusal of octets: want of memory, or they are no table's, or they are that of a table that may be wrong
 abbrev pub RefusesFile : List ℕ → Refusal → Type 0
 RefusesFile octets NoMemory = Unit {0}
-RefusesFile octets (NoTable fault) = (table : TableParts) → IsTable table → Spells table octets ⊎ SpellsOld table octets → ⊥
+RefusesFile octets (NoTable fault) =
+    (table : TableParts) → IsTable table → Spells table octets ⊎ SpellsOld table octets → ⊥
 RefusesFile octets (NotRight fault) = SpellsAnother octets
 RefusesFile octets refusal = ⊥
 

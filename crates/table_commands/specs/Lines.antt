@@ -49,7 +49,8 @@ HasNoAnswer graph node Encode order pos tape = HasNoOctets graph order node pos 
 HasNoAnswer graph node Decode order pos octets = HasNoTape graph order node pos octets
 
 -- what a command prints, of input that is written in hexadecimal
-pub record Answers (graph : List Node) (node : ℕ) (way : Way) (order : Order) (pos : ℕ) (digits line : List ℕ) : Type 0 where
+pub record Answers (graph : List Node) (node : ℕ) (way : Way) (order : Order) (pos : ℕ)
+    (digits line : List ℕ) : Type 0 where
   pub input : List ℕ
   pub digits_are : decode_of digits ≡ Ok input
   pub prints : Prints graph node way order pos input line

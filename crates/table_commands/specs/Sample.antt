@@ -12,7 +12,7 @@ use Rattle.table_file.specs.Table.{TableParts, table_of}
 
 -- an octet, an unsigned long, a string, and the structure of the three
 abbrev pub sample_nodes : List Node
-sample_nodes = nodes.Octet ∷ nodes.Whole Four false ∷ nodes.Text 0 ∷ nodes.Struct (0 ∷ 1 ∷ 2 ∷ []) ∷ []
+sample_nodes = nodes.Octet ∷ nodes.Integer Four false ∷ nodes.Text 0 ∷ nodes.Struct (0 ∷ 1 ∷ 2 ∷ []) ∷ []
 
 -- the structure alone has a name
 abbrev pub sample_model : Parts

@@ -41,7 +41,7 @@ fn graph(alloc: Global) -> Result<Graph, AllocError>
     let members = Members::new(vec![in alloc; 0, 1, 2]?);
     let nodes = vec![in alloc;
         Node::Octet,
-        Node::Whole {
+        Node::Integer {
             width: Width::Four,
             signed: false
         },

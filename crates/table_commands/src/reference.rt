@@ -47,7 +47,8 @@ fn reference_text(
     id: &str,
 ) -> Result<String, ReferenceFault>
     ensures text { IfOk result (λ text. IsReferenceText host.now port key.now id.now (string_bytes text)) }
-    ensures refused { IfErr result (λ fault. OnlyIf fault ((text : List ℕ) → IsReferenceText host.now port key.now id.now text → ⊥)) }
+    ensures refused { IfErr result (λ fault. OnlyIf fault ((text : List ℕ)
+        → IsReferenceText host.now port key.now id.now text → ⊥)) }
 {
     let types = GiopTypes::new(alloc)?;
     let data = match profile(&types, alloc, host.as_bytes(), port, key.as_bytes()) {

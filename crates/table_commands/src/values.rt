@@ -73,7 +73,8 @@ fn encode<'a>(
     tape: &[u8],
 ) -> Result<String, Refusal<'a>>
     requires { IsNamed table.now.model.names node }
-    ensures ok { IfOk result (λ line. PrintsOctets table.now.model.graph request.now.order node request.now.pos tape.now (string_bytes line)) }
+    ensures ok { IfOk result (λ line. PrintsOctets table.now.model.graph request.now.order node request.now.pos tape.now
+        (string_bytes line)) }
     ensures err { IfErr result (λ refusal. IsOfRun refusal × OnlyIf refusal
         (HasNoOctets table.now.model.graph request.now.order node request.now.pos tape.now)) }
 {
@@ -89,7 +90,8 @@ fn decode<'a>(
     octets: &[u8],
 ) -> Result<String, Refusal<'a>>
     requires { IsNamed table.now.model.names node }
-    ensures ok { IfOk result (λ line. PrintsTape table.now.model.graph request.now.order node request.now.pos octets.now (string_bytes line)) }
+    ensures ok { IfOk result (λ line. PrintsTape table.now.model.graph request.now.order node request.now.pos octets.now
+        (string_bytes line)) }
     ensures err { IfErr result (λ refusal. IsOfRun refusal × OnlyIf refusal
         (HasNoTape table.now.model.graph request.now.order node request.now.pos octets.now)) }
 {
@@ -106,7 +108,8 @@ fn answer<'a>(
     input: &[u8],
 ) -> Result<String, Refusal<'a>>
     requires { IsNamed table.now.model.names node }
-    ensures ok { IfOk result (λ line. Prints table.now.model.graph node request.now.way request.now.order request.now.pos input.now (string_bytes line)) }
+    ensures ok { IfOk result (λ line. Prints table.now.model.graph node
+        request.now.way request.now.order request.now.pos input.now (string_bytes line)) }
     ensures err { IfErr result (λ refusal. IsOfRun refusal × OnlyIf refusal
         (HasNoAnswer table.now.model.graph node request.now.way request.now.order request.now.pos input.now)) }
 {

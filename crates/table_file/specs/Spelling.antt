@@ -26,7 +26,7 @@ spelled_arm = spelled_pair spelled_label spelled_word
 
 -- each kind of node
 abbrev pub tagged_node : Node → Tagged
-tagged_node (nodes.Whole width signed) = (0, spelled_width width ++? spelled_flag signed)
+tagged_node (nodes.Integer width signed) = (0, spelled_width width ++? spelled_flag signed)
 tagged_node nodes.Octet = (1, Some [])
 tagged_node nodes.Char = (2, Some [])
 tagged_node nodes.Boolean = (3, Some [])

@@ -45,7 +45,8 @@ fn read_old(alloc: Global, octets: &[u8]) -> Result<OldDraft, TableFault>
 /// The table of what stands behind the start of a file of version 2.
 fn decode_body(alloc: Global, octets: &[u8]) -> Result<Table, TableFault>
     ensures spelled { IfOk result (λ table. spelled_body table ≡ Some octets.now) }
-    ensures refused { IfErr result (λ fault. OnlyIf fault ((table : TableParts) → IsTable table → spelled_body table ≡ Some octets.now → ⊥)) }
+    ensures refused { IfErr result (λ fault. OnlyIf fault ((table : TableParts) → IsTable table
+        → spelled_body table ≡ Some octets.now → ⊥)) }
 {
     skim_whole(alloc, octets)?;
     let draft = read_whole(alloc, octets)?;
@@ -55,7 +56,8 @@ fn decode_body(alloc: Global, octets: &[u8]) -> Result<Table, TableFault>
 /// The same of version 1.
 fn decode_old(alloc: Global, octets: &[u8]) -> Result<Table, TableFault>
     ensures spelled { IfOk result (λ table. IsOldBody table octets.now) }
-    ensures refused { IfErr result (λ fault. OnlyIf fault ((table : TableParts) → IsTable table → IsOldBody table octets.now → ⊥)) }
+    ensures refused { IfErr result (λ fault. OnlyIf fault ((table : TableParts) → IsTable table
+        → IsOldBody table octets.now → ⊥)) }
 {
     skim_old(alloc, octets)?;
     let old = read_old(alloc, octets)?;
@@ -66,7 +68,8 @@ fn decode_old(alloc: Global, octets: &[u8]) -> Result<Table, TableFault>
 /// The version, and the octets behind it.
 fn start_of(octets: &[u8]) -> Result<(u8, &[u8]), TableFault>
     ensures found { IfOk result (λ start. octets.now ≡ 73 ∷ 68 ∷ 76 ∷ 84 ∷ start.0 ∷ start.1.now) }
-    ensures refused { OnErr result ((version : ℕ) (rest : List ℕ) → octets.now ≡ 73 ∷ 68 ∷ 76 ∷ 84 ∷ version ∷ rest → ⊥) }
+    ensures refused { OnErr result ((version : ℕ) (rest : List ℕ)
+        → octets.now ≡ 73 ∷ 68 ∷ 76 ∷ 84 ∷ version ∷ rest → ⊥) }
 {
     match octets {
         [b'I', b'D', b'L', b'T', version, rest @ ..] => Ok((*version, rest)),
@@ -81,7 +84,8 @@ fn start_of(octets: &[u8]) -> Result<(u8, &[u8]), TableFault>
 /// `EmptyRoutine` and `RankRises`, in this order; or want of memory.
 pub fn decode_table(alloc: Global, octets: &[u8]) -> Result<Table, TableFault>
     ensures spelled { IfOk result (λ table. Spells table octets.now ⊎ SpellsOld table octets.now) }
-    ensures refused { IfErr result (λ fault. OnlyIf fault ((table : TableParts) → IsTable table → Spells table octets.now ⊎ SpellsOld table octets.now → ⊥)) }
+    ensures refused { IfErr result (λ fault. OnlyIf fault ((table : TableParts) → IsTable table
+        → Spells table octets.now ⊎ SpellsOld table octets.now → ⊥)) }
 {
     let (version, rest) = start_of(octets)?;
     match version {

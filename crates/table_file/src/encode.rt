@@ -43,7 +43,8 @@ fn write_names(names: &NameTable, out: &mut Vec<u8>) -> Result<(), TableFault>
 
 /// Puts what a model declares beside types behind what was written before.
 fn write_declared(model: &Model, out: &mut Vec<u8>) -> Result<(), TableFault>
-    ensures { Writes (spelled_list spelled_interface model.now.interfaces ++? spelled_list spelled_operation model.now.operations
+    ensures { Writes (spelled_list spelled_interface model.now.interfaces
+        ++? spelled_list spelled_operation model.now.operations
         ++? spelled_list spelled_exception model.now.exceptions) result out.old.items out.new.items }
 {
     write_list(model.interfaces(), out)?;
@@ -61,7 +62,8 @@ fn write_model(model: &Model, out: &mut Vec<u8>) -> Result<(), TableFault>
 
 /// Puts the programs of a table and its uses behind what was written before.
 fn write_programs(table: &Table, out: &mut Vec<u8>) -> Result<(), TableFault>
-    ensures { Writes (spelled_program table.now.first ++? spelled_program table.now.second ++? spelled_each spelled_which table.now.uses) result out.old.items out.new.items }
+    ensures { Writes (spelled_program table.now.first ++? spelled_program table.now.second
+        ++? spelled_each spelled_which table.now.uses) result out.old.items out.new.items }
 {
     write_list(table.first().routines(), out)?;
     write_list(table.second().routines(), out)?;

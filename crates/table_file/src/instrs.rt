@@ -50,7 +50,8 @@ fn write_switch(
     otherwise: &Option<u32>,
     out: &mut Vec<u8>,
 ) -> Result<(), TableFault>
-    ensures { Writes (spelled_disc disc.now ++? spelled_list spelled_arm arms.now ++? spelled_maybe otherwise.now) result out.old.items out.new.items }
+    ensures { Writes (spelled_disc disc.now ++? spelled_list spelled_arm arms.now
+        ++? spelled_maybe otherwise.now) result out.old.items out.new.items }
 {
     disc.write(out)?;
     arms.write(out)?;
@@ -60,7 +61,8 @@ fn write_switch(
 /// Reads what stands behind the tag of an instruction that names routines.
 fn read_naming(tag: u8, cursor: &mut Cursor<'_>) -> Result<Instr, TableFault>
     requires { 9 ≤ tag }
-    ensures { (start : Option (List ℕ)) → Takes 1 (tag ∷ []) start cursor.old → Reads spelled_instr result start cursor.new }
+    ensures { (start : Option (List ℕ)) → Takes 1 (tag ∷ []) start cursor.old
+        → Reads spelled_instr result start cursor.new }
 {
     match tag {
         9 => {

@@ -6,17 +6,20 @@ ghost use Rattle.table_file.specs.TableSpelling.{Spells, SpellsOld};
 
 /// No two lists of octets spell one table.
 pub fn table_has_one_spelling()
-    ensures { (table : TableParts) (octets others : List ℕ) → Spells table octets → Spells table others → octets ≡ others }
+    ensures { (table : TableParts) (octets others : List ℕ) → Spells table octets → Spells table others
+        → octets ≡ others }
 {}
 
 /// No list of octets spells two tables.
 pub fn octets_spell_one_table()
-    ensures { (table other : TableParts) (octets : List ℕ) → IsTable table → IsTable other → Spells table octets → Spells other octets → table ≡ other }
+    ensures { (table other : TableParts) (octets : List ℕ) → IsTable table → IsTable other → Spells table octets
+        → Spells other octets → table ≡ other }
 {}
 
 /// No list of octets of version 1 spells two tables.
 pub fn old_octets_spell_one_table()
-    ensures { (table other : TableParts) (octets : List ℕ) → IsTable table → IsTable other → SpellsOld table octets → SpellsOld other octets → table ≡ other }
+    ensures { (table other : TableParts) (octets : List ℕ) → IsTable table → IsTable other → SpellsOld table octets
+        → SpellsOld other octets → table ≡ other }
 {}
 
 /// No list of octets is of both versions.

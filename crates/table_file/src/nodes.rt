@@ -32,7 +32,7 @@ impl Part for Node {
         match cursor.octet()? {
             0 => {
                 let (width, signed) = <(Width, bool)>::read(cursor)?;
-                Ok(Node::Whole { width, signed })
+                Ok(Node::Integer { width, signed })
             }
             1 => Ok(Node::Octet),
             2 => Ok(Node::Char),
@@ -78,7 +78,7 @@ impl Part for Node {
 
     fn write(&self, out: &mut Vec<u8>) -> Result<(), TableFault> {
         match self {
-            Node::Whole { width, signed } => (0u8, (*width, *signed)).write(out),
+            Node::Integer { width, signed } => (0u8, (*width, *signed)).write(out),
             Node::Octet => 1u8.write(out),
             Node::Char => 2u8.write(out),
             Node::Boolean => 3u8.write(out),

@@ -49,7 +49,8 @@ impl Part for [u8; 8] {
 
 /// Puts the exits, the rank and the code behind what was written before.
 fn write_body(exits: &[u8; 8], rank: u32, code: &Code, out: &mut Vec<u8>) -> Result<(), TableFault>
-    ensures { Writes (spelled_run 8 spelled_octet exits.now ++? spelled_word rank ++? spelled_list spelled_instr code.now) result out.old.items out.new.items }
+    ensures { Writes (spelled_run 8 spelled_octet exits.now ++? spelled_word rank
+        ++? spelled_list spelled_instr code.now) result out.old.items out.new.items }
 {
     exits.write(out)?;
     rank.write(out)?;

@@ -81,7 +81,8 @@ fn write_frames(
     exceptions: &Items<u32>,
     out: &mut Vec<u8>,
 ) -> Result<(), TableFault>
-    ensures { Writes (spelled_word request ++? spelled_word reply ++? spelled_list spelled_word exceptions.now) result out.old.items out.new.items }
+    ensures { Writes (spelled_word request ++? spelled_word reply
+        ++? spelled_list spelled_word exceptions.now) result out.old.items out.new.items }
 {
     request.write(out)?;
     reply.write(out)?;

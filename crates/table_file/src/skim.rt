@@ -129,7 +129,8 @@ fn check_front(alloc: Global, octets: &[u8]) -> Result<(), TableFault>
 /// # Errors
 /// What is told while the octets are read, then `Trailing`, then `BadNumber`; or want of memory.
 pub(crate) fn skim_whole(alloc: Global, octets: &[u8]) -> Result<(), TableFault>
-    ensures { IfErr result (λ fault. OnlyIf fault ((table : TableParts) → IsTable table → spelled_body table ≡ Some octets.now → ⊥)) }
+    ensures { IfErr result (λ fault. OnlyIf fault ((table : TableParts) → IsTable table
+        → spelled_body table ≡ Some octets.now → ⊥)) }
 {
     let mut cursor = Cursor::new(alloc, octets);
     let told = skim_fields(&mut cursor);
@@ -142,7 +143,8 @@ pub(crate) fn skim_whole(alloc: Global, octets: &[u8]) -> Result<(), TableFault>
 
 /// The same of version 1.
 pub(crate) fn skim_old(alloc: Global, octets: &[u8]) -> Result<(), TableFault>
-    ensures { IfErr result (λ fault. OnlyIf fault ((table : TableParts) → IsTable table → IsOldBody table octets.now → ⊥)) }
+    ensures { IfErr result (λ fault. OnlyIf fault ((table : TableParts) → IsTable table
+        → IsOldBody table octets.now → ⊥)) }
 {
     let mut cursor = Cursor::new(alloc, octets);
     let told = skim_old_fields(&mut cursor);

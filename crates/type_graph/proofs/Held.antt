@@ -4,7 +4,7 @@ use Rattle.std.specs.Prelude.{IsSomeAnd}
 use Rattle.std.proofs.lemmas.List.Elements.{All-cons, All-nil, All-head, All-tail, All-weaker}
 use Rattle.std.proofs.lemmas.Option.{slice_get_within}
 use Rattle.type_graph.specs.declared.node.Node.{Node}
-use Rattle.type_graph.specs.declared.node.Node.TheVariants.{Whole, Octet, Char, Boolean, Enum, Text, Seq, Array, Struct, Union, Frame}
+use Rattle.type_graph.specs.declared.node.Node.TheVariants.{Integer, Octet, Char, Boolean, Enum, Text, Seq, Array, Struct, Union, Frame}
 use Rattle.type_graph.specs.GraphRules.{IsNoFrame, IsPart, IsSwitch, IsNode, held_by}
 
 default_holds : (P : ℕ → Type 0) (default : Option ℕ) → IfSome default P ↔ All P (option_to_list default)
@@ -44,7 +44,7 @@ held_within graph (Struct members) h = parts_within graph members h.1.parts
 held_within graph (Frame members) h = parts_within graph members h.parts
 held_within graph (Union switch arms default) h =
     (union_holds (λ number. number < length graph) arms default).0 (All-weaker (λ (arm : ℤ × ℕ). IsPart graph arm.1) (λ (arm : ℤ × ℕ). arm.1 < length graph) (λ arm part. part_within graph arm.1 part) arms h.parts, default_within graph default h.default_part)
-held_within graph (Whole width signed) h = All-nil (λ number. number < length graph)
+held_within graph (Integer width signed) h = All-nil (λ number. number < length graph)
 held_within graph Octet h = All-nil (λ number. number < length graph)
 held_within graph Char h = All-nil (λ number. number < length graph)
 held_within graph Boolean h = All-nil (λ number. number < length graph)

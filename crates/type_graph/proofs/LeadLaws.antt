@@ -4,7 +4,7 @@ use Rattle.std.specs.List.{AllByRecursion}
 use Rattle.type_graph.specs.declared.width.Width.{Width}
 use Rattle.type_graph.specs.declared.width.Width.TheVariants.{One, Two, Four, Eight}
 use Rattle.type_graph.specs.declared.node.Node.{Node}
-use Rattle.type_graph.specs.declared.node.Node.TheVariants.{Whole, Octet, Char, Boolean, Enum, Text, Seq, Array, Struct, Union, Frame}
+use Rattle.type_graph.specs.declared.node.Node.TheVariants.{Integer, Octet, Char, Boolean, Enum, Text, Seq, Array, Struct, Union, Frame}
 use Rattle.type_graph.specs.Words.{Format}
 use Rattle.type_graph.specs.Relation.{Relation, Then, Many, Chain}
 use Rattle.type_graph.specs.Comparison.{Anywhere, Same}
@@ -68,7 +68,7 @@ module _ (graph : List Node) (format : Format) (depth : ℕ) where
 
   -- a node's values lead as it says where those of the nodes that it holds do
   pub node_leads : (lead : ℕ → Width) (node : Node) → IsFilled node → AllByRecursion (λ m. Leads format (lead m) (Means graph format depth m)) (held_by node) → Leads format (lead_by lead graph node) (NodeMeans graph format depth node)
-  node_leads lead (Whole w signed) f a = leads_same (same_sym (whole_means graph format depth w signed)) gap_leads
+  node_leads lead (Integer w signed) f a = leads_same (same_sym (whole_means graph format depth w signed)) gap_leads
   node_leads lead Octet f a = one_leads
   node_leads lead Char f a = one_leads
   node_leads lead Boolean f a = one_leads

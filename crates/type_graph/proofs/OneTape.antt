@@ -7,7 +7,7 @@ use Rattle.type_graph.specs.declared.width.Width.TheVariants.{One, Four}
 use Rattle.type_graph.specs.declared.width.Order.{Order}
 use Rattle.type_graph.specs.declared.width.Order.TheVariants.{Big}
 use Rattle.type_graph.specs.declared.node.Node.{Node}
-use Rattle.type_graph.specs.declared.node.Node.TheVariants.{Whole, Octet, Char, Boolean, Enum, Text, Seq, Array, Struct, Union, Frame}
+use Rattle.type_graph.specs.declared.node.Node.TheVariants.{Integer, Octet, Char, Boolean, Enum, Text, Seq, Array, Struct, Union, Frame}
 use Rattle.type_graph.specs.Words.{word}
 use Rattle.type_graph.specs.Value.{IsNumeric, Tree, Number, Bytes, Items, Choice, Trees, NoTree, AndTree, count, node_at, IsNumber, number_width, arm_of, Fits, FitAll, tape_of, tapes_of, IsBelow}
 use Rattle.type_graph.specs.GraphRules.{IsNode, IsGraph}
@@ -58,8 +58,8 @@ below_weaken m k (negsuc n) h b = b
 
 -- numbers of a node of one word in some byte order are one
 pub number_same_in : (o : Order) (node : Node) (m n : ℤ) → FitsWord node → IsNumber node m → IsNumber node n → word o (number_width node) m ≡ word o (number_width node) n → m ≡ n
-number_same_in o (Whole w true) m n f hm hn e = signed_word_same o w m n hm hn e
-number_same_in o (Whole w false) m n f hm hn e = below_word_same o w m n hm hn e
+number_same_in o (Integer w true) m n f hm hn e = signed_word_same o w m n hm hn e
+number_same_in o (Integer w false) m n f hm hn e = below_word_same o w m n hm hn e
 number_same_in o Octet m n f hm hn e = below_word_same o One m n hm hn e
 number_same_in o Char m n f hm hn e = below_word_same o One m n hm hn e
 number_same_in o Boolean m n f hm hn e = below_word_same o One m n (below_weaken 2 256 m (omega arith) hm) (below_weaken 2 256 n (omega arith) hn) e
@@ -85,7 +85,7 @@ counts_same m n s r hm hn e =
 
 -- a node that has a number as a value is of a kind whose values are numbers
 pub number_numeric : (node : Node) (m : ℤ) → IsNumber node m → IsNumeric node
-number_numeric (Whole w signed) m h = tt
+number_numeric (Integer w signed) m h = tt
 number_numeric Octet m h = tt
 number_numeric Char m h = tt
 number_numeric Boolean m h = tt

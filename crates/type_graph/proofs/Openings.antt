@@ -4,7 +4,7 @@ use Rattle.type_graph.specs.declared.width.Width.{Width}
 use Rattle.type_graph.specs.declared.width.Width.TheVariants.{One, Four}
 use Rattle.type_graph.specs.declared.width.Order.TheVariants.{Big}
 use Rattle.type_graph.specs.declared.node.Node.{Node}
-use Rattle.type_graph.specs.declared.node.Node.TheVariants.{Whole, Octet, Char, Boolean, Enum, Text, Seq, Array, Struct, Union, Frame}
+use Rattle.type_graph.specs.declared.node.Node.TheVariants.{Integer, Octet, Char, Boolean, Enum, Text, Seq, Array, Struct, Union, Frame}
 use Rattle.type_graph.specs.Words.{Format, word}
 use Rattle.type_graph.specs.Relation.{Relation, Then, Many, Chain}
 use Rattle.type_graph.specs.Comparison.{Positions, Anywhere, Same}
@@ -68,9 +68,9 @@ module _ (graph : List Node) (format : Format) where
   }
 
   -- an integer: the gap, any word
-  pub whole_means : {S : Positions} (depth : ℕ) (w : Width) (signed : Bool) → Same S (NodeMeans graph format depth (Whole w signed)) (Then (Gap format w) (AnyWord format w))
-  whole_means d w true = same_at (same_trans (number_means d (Whole w true) tt) (then_same_anywhere same_refl (signed_word w)))
-  whole_means d w false = number_means d (Whole w false) tt
+  pub whole_means : {S : Positions} (depth : ℕ) (w : Width) (signed : Bool) → Same S (NodeMeans graph format depth (Integer w signed)) (Then (Gap format w) (AnyWord format w))
+  whole_means d w true = same_at (same_trans (number_means d (Integer w true) tt) (then_same_anywhere same_refl (signed_word w)))
+  whole_means d w false = number_means d (Integer w false) tt
 
   -- an octet behind the gap to one, which is empty
   pub octet_means_gap : {S : Positions} (depth : ℕ) → Same S (NodeMeans graph format depth Octet) (Then (Gap format One) (AnyWord format One))

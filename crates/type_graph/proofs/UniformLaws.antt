@@ -5,7 +5,7 @@ use Rattle.std.proofs.lemmas.List.{nil_from_length}
 use Rattle.type_graph.specs.declared.width.Width.{Width}
 use Rattle.type_graph.specs.declared.width.Width.TheVariants.{One, Two, Four, Eight}
 use Rattle.type_graph.specs.declared.node.Node.{Node}
-use Rattle.type_graph.specs.declared.node.Node.TheVariants.{Whole, Octet, Char, Array, Struct, Frame}
+use Rattle.type_graph.specs.declared.node.Node.TheVariants.{Integer, Octet, Char, Array, Struct, Frame}
 use Rattle.type_graph.specs.Words.{octets_in, pad, IsPadding, Format}
 use Rattle.type_graph.specs.Relation.{Relation, Nothing, Then, Many, Chain}
 use Rattle.type_graph.specs.Comparison.{Positions, Anywhere, Same, Ends}
@@ -111,7 +111,7 @@ module _ (graph : List Node) (format : Format) (depth : ℕ) where
 
   -- a node whose values are words
   word_means : (w : Width) (node : Node) → IsWordOf w node → Same Anywhere (NodeMeans graph format depth node) (GapWord format w)
-  word_means w (Whole v signed) a = subst (λ (u : Width). Same Anywhere (NodeMeans graph format depth (Whole v signed)) (GapWord format u)) a.width (whole_means graph format depth v signed)
+  word_means w (Integer v signed) a = subst (λ (u : Width). Same Anywhere (NodeMeans graph format depth (Integer v signed)) (GapWord format u)) a.width (whole_means graph format depth v signed)
   word_means w Octet a = subst (λ (u : Width). Same Anywhere (NodeMeans graph format depth Octet) (GapWord format u)) a.width (octet_means_gap graph format depth)
   word_means w Char a = subst (λ (u : Width). Same Anywhere (NodeMeans graph format depth Char) (GapWord format u)) a.width (char_means_gap graph format depth)
   word_means w node a = absurd a.plain

@@ -5,7 +5,7 @@ use Rattle.type_graph.specs.declared.width.Width.TheVariants.{One, Two, Four, Ei
 use Rattle.type_graph.specs.declared.width.Order.{Order}
 use Rattle.type_graph.specs.declared.width.Order.TheVariants.{Big, Little}
 use Rattle.type_graph.specs.declared.node.Node.{Node}
-use Rattle.type_graph.specs.declared.node.Node.TheVariants.{Whole, Octet, Boolean, Text, Seq, Struct, Union}
+use Rattle.type_graph.specs.declared.node.Node.TheVariants.{Integer, Octet, Boolean, Text, Seq, Struct, Union}
 use Rattle.type_graph.specs.Words.{octets_in, word, pad, Format, Zeros}
 use Rattle.type_graph.specs.Value.{Tree, Number, Bytes, Items, Choice, NoTree, AndTree, Fits, tape_of, IsCount}
 use Rattle.type_graph.specs.Encoding.{Encoding, Just, Joined, Aligned, Means}
@@ -42,7 +42,7 @@ no_more p = refl
 
 -- its parts, and then the structure
 abbrev pub three_parts : List Node
-three_parts = Octet ∷ Whole Four false ∷ Text 0 ∷ Struct (0 ∷ 1 ∷ 2 ∷ []) ∷ []
+three_parts = Octet ∷ Integer Four false ∷ Text 0 ∷ Struct (0 ∷ 1 ∷ 2 ∷ []) ∷ []
 
 -- the value
 abbrev pub seven_one_hi : Tree
@@ -94,7 +94,7 @@ seven_one_hi_little = record {
 
 -- the element, and then the sequence
 abbrev pub long_longs : List Node
-long_longs = Whole Eight true ∷ Seq 0 0 ∷ []
+long_longs = Integer Eight true ∷ Seq 0 0 ∷ []
 
 -- empty, at position 0
 pub no_long_longs : Means long_longs (zeros_in Big) 64 1 0 (0 ∷ 0 ∷ 0 ∷ 0 ∷ []) (0 ∷ 0 ∷ 0 ∷ 0 ∷ [])
@@ -187,7 +187,7 @@ one_and_kids_big_1 = record {
 
 -- the switch, the arm, the union
 abbrev pub maybe_short : List Node
-maybe_short = Boolean ∷ Whole Two true ∷ Union 0 ((pos 1, 1) ∷ []) None ∷ []
+maybe_short = Boolean ∷ Integer Two true ∷ Union 0 ((pos 1, 1) ∷ []) None ∷ []
 
 -- FALSE
 pub no_short : Means maybe_short (zeros_in Big) 64 2 0 (0 ∷ []) (0 ∷ [])

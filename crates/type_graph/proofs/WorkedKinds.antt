@@ -4,7 +4,7 @@ use Rattle.std.proofs.Common.{◌≡◌, ℕ, zero, suc, ◌-◌, ◌≤◌, pos
 use Rattle.std.proofs.lemmas.List.{length-append}
 use Rattle.type_graph.specs.declared.width.Width.TheVariants.{One, Two, Four}
 use Rattle.type_graph.specs.declared.width.Order.TheVariants.{Big, Little}
-use Rattle.type_graph.specs.declared.node.Node.TheVariants.{Whole, Octet, Char, Boolean, Enum, Text, Seq, Array, Struct, Frame}
+use Rattle.type_graph.specs.declared.node.Node.TheVariants.{Integer, Octet, Char, Boolean, Enum, Text, Seq, Array, Struct, Frame}
 use Rattle.type_graph.specs.Words.{reading, writing, word, AllBelow}
 use Rattle.type_graph.specs.Value.{Tree, Number, Bytes, Items, Choice, NoTree, AndTree, Fits}
 use Rattle.type_graph.specs.Encoding.{Encodes, Means}
@@ -18,7 +18,7 @@ pub third_little_2 : Means (Enum 3 ∷ []) (zeros_in Little) 64 0 2 (0 ∷ 0 ∷
 third_little_2 = record { value = Number (pos 2); fits = omega arith; tape_is = refl; encodes = aligned Little Four (pos 2) 2 2 refl }
 
 -- an array of two shorts, at position 1: one gap stands before the first
-pub two_shorts_1 : Means (Whole Two false ∷ Array 0 2 ∷ []) (zeros_in Big) 64 1 1 (0 ∷ 1 ∷ 0 ∷ 2 ∷ []) (0 ∷ 0 ∷ 1 ∷ 0 ∷ 2 ∷ [])
+pub two_shorts_1 : Means (Integer Two false ∷ Array 0 2 ∷ []) (zeros_in Big) 64 1 1 (0 ∷ 1 ∷ 0 ∷ 2 ∷ []) (0 ∷ 0 ∷ 1 ∷ 0 ∷ 2 ∷ [])
 two_shorts_1 = record {
   value = Items (AndTree (Number (pos 1)) (AndTree (Number (pos 2)) NoTree));
   fits = (omega arith, (omega arith, tt));
@@ -37,7 +37,7 @@ nothing_in_a_frame = record { value = Items NoTree; fits = tt; tape_is = refl; e
 -- ---- gaps
 
 -- whatever stands in a gap is read
-pub gap_is_read : Means (Whole Two false ∷ []) (reading Big) 64 0 1 (0 ∷ 7 ∷ []) (0xEE ∷ 0 ∷ 7 ∷ [])
+pub gap_is_read : Means (Integer Two false ∷ []) (reading Big) 64 0 1 (0 ∷ 7 ∷ []) (0xEE ∷ 0 ∷ 7 ∷ [])
 gap_is_read = record {
   value = Number (pos 7);
   fits = omega arith;
@@ -57,7 +57,7 @@ first_of_gap [] rest a more long e = absurd (omega arith)
 first_of_gap (b ∷ []) rest a more long e = let same : a ≡ b = cc in ap (λ n. n ∷ []) (sym same)
 first_of_gap (b ∷ c ∷ gap) rest a more long e = absurd (omega arith)
 
-not_written : (value : Tree) → Fits (Whole Two false ∷ []) (Whole Two false) value 64 → Encodes (writing Big) (Whole Two false ∷ []) (Whole Two false) value 1 (0xEE ∷ 0 ∷ 7 ∷ []) → ⊥
+not_written : (value : Tree) → Fits (Integer Two false ∷ []) (Integer Two false) value 64 → Encodes (writing Big) (Integer Two false ∷ []) (Integer Two false) value 1 (0xEE ∷ 0 ∷ 7 ∷ []) → ⊥
 not_written (Number n) fits e =
     let gap = first_of_gap e.octets1 e.octets2 0xEE (0 ∷ 7 ∷ []) e.first.long e.octets_is in
     let zeros : AllBelow 1 (0xEE ∷ []) = subst (AllBelow 1) gap e.first.filled in
@@ -68,7 +68,7 @@ not_written (Items values) fits e = absurd fits
 not_written (Choice label values) fits e = absurd fits
 
 -- it isn't written
-pub gap_is_not_written : (tape : List ℕ) → Means (Whole Two false ∷ []) (writing Big) 64 0 1 tape (0xEE ∷ 0 ∷ 7 ∷ []) → ⊥
+pub gap_is_not_written : (tape : List ℕ) → Means (Integer Two false ∷ []) (writing Big) 64 0 1 tape (0xEE ∷ 0 ∷ 7 ∷ []) → ⊥
 gap_is_not_written tape means = not_written means.value means.fits means.encodes
 
 -- ---- what is no value

@@ -3,7 +3,7 @@ use Rattle.std.proofs.Common.{◌≡◌, ℕ, pos, true, false, List, [], ◌∷
 use Rattle.type_graph.specs.declared.width.Width.{Width}
 use Rattle.type_graph.specs.declared.width.Width.TheVariants.{One, Two, Four, Eight}
 use Rattle.type_graph.specs.declared.node.Node.{Node}
-use Rattle.type_graph.specs.declared.node.Node.TheVariants.{Whole, Octet, Boolean, Text, Array, Struct, Union, Frame}
+use Rattle.type_graph.specs.declared.node.Node.TheVariants.{Integer, Octet, Boolean, Text, Array, Struct, Union, Frame}
 use Rattle.type_graph.specs.Value.{node_at, tape_of}
 use Rattle.type_graph.specs.Walks.{lead_within, lead_of}
 use Rattle.type_graph.specs.Leaves.{leaves_within, IsWordOf, IsUniform}
@@ -11,12 +11,12 @@ use Rattle.type_graph.specs.Zero.{zero_value, zero_of}
 
 -- both kinds of long, an array of three, two of those, and a structure of both kinds
 abbrev longs : List Node
-longs = Whole Four true ∷ Whole Four false ∷ Array 0 3 ∷ Array 2 2 ∷ Struct (0 ∷ 1 ∷ []) ∷ []
+longs = Integer Four true ∷ Integer Four false ∷ Array 0 3 ∷ Array 2 2 ∷ Struct (0 ∷ 1 ∷ []) ∷ []
 
-signed : IsWordOf Four (Whole Four true)
+signed : IsWordOf Four (Integer Four true)
 signed = record { plain = tt; width = refl }
 
-unsigned : IsWordOf Four (Whole Four false)
+unsigned : IsWordOf Four (Integer Four false)
 unsigned = record { plain = tt; width = refl }
 
 three_longs : IsUniform longs Four 3 2
@@ -49,7 +49,7 @@ boolean_is_none w n u = u.words.0.plain
 
 -- two widths
 abbrev short_and_long : List Node
-short_and_long = Whole Two true ∷ Whole Four true ∷ Struct (0 ∷ 1 ∷ []) ∷ []
+short_and_long = Integer Two true ∷ Integer Four true ∷ Struct (0 ∷ 1 ∷ []) ∷ []
 
 two_widths_are_none : (w : Width) (n : ℕ) → IsUniform short_and_long w n 2 → ⊥
 unfolding leaves_within
@@ -62,7 +62,7 @@ frame_is_none w n u = let long = u.long in let some = u.some in omega arith
 
 -- the structure of an octet, an unsigned long and a string
 abbrev sample : List Node
-sample = Octet ∷ Whole Four false ∷ Text 0 ∷ Struct (0 ∷ 1 ∷ 2 ∷ []) ∷ []
+sample = Octet ∷ Integer Four false ∷ Text 0 ∷ Struct (0 ∷ 1 ∷ 2 ∷ []) ∷ []
 
 zeros_of_sample : tape_of sample (node_at sample 3) (zero_of sample 3) ≡ 0 ∷ 0 ∷ 0 ∷ 0 ∷ 0 ∷ 0 ∷ 0 ∷ 0 ∷ 0 ∷ []
 unfolding zero_value
@@ -70,7 +70,7 @@ zeros_of_sample = refl
 
 -- unions over a boolean: the first has nothing for 0, the second a default, the third an arm
 abbrev unions : List Node
-unions = Boolean ∷ Whole Eight true ∷ Whole Two true ∷ Union 0 ((pos 1, 1) ∷ []) None ∷ Union 0 ((pos 1, 1) ∷ []) (Some 2) ∷ Union 0 ((pos 0, 2) ∷ (pos 1, 1) ∷ []) None ∷ []
+unions = Boolean ∷ Integer Eight true ∷ Integer Two true ∷ Union 0 ((pos 1, 1) ∷ []) None ∷ Union 0 ((pos 1, 1) ∷ []) (Some 2) ∷ Union 0 ((pos 0, 2) ∷ (pos 1, 1) ∷ []) None ∷ []
 
 zeros_without_member : tape_of unions (node_at unions 3) (zero_of unions 3) ≡ 0 ∷ []
 unfolding zero_value

@@ -10,7 +10,7 @@ use Rattle.type_graph.specs.declared.width.Width.{Width}
 use Rattle.type_graph.specs.declared.width.Width.TheVariants.{One, Two, Four, Eight}
 use Rattle.type_graph.specs.declared.width.Order.TheVariants.{Big}
 use Rattle.type_graph.specs.declared.node.Node.{Node}
-use Rattle.type_graph.specs.declared.node.Node.TheVariants.{Whole, Octet, Char, Boolean, Enum, Text, Seq, Array, Struct, Union, Frame}
+use Rattle.type_graph.specs.declared.node.Node.TheVariants.{Integer, Octet, Char, Boolean, Enum, Text, Seq, Array, Struct, Union, Frame}
 use Rattle.type_graph.specs.Words.{octets_in, word}
 use Rattle.type_graph.specs.Value.{Tree, node_at, number_width, arm_of, IsNumber, IsNumeric, Fits, FitAll, tape_of, tapes_of, InBound}
 use Rattle.type_graph.specs.GraphRules.{held_by, IsShallow, IsSwitch, IsNode, IsGraph}
@@ -40,7 +40,7 @@ module _ (graph : List Node) where
 
   -- a node's zeros, where those of the nodes that it holds are known
   zeros_by : (tree : ℕ → Tree) (size : ℕ → ℕ) (node : Node) → AllByRecursion (HasZeros tree size) (held_by node) → tape_of graph node (zero_by tree node) ≡ replicate (size_by size graph node) 0
-  zeros_by tree size (Whole w signed) a = zero_word w
+  zeros_by tree size (Integer w signed) a = zero_word w
   zeros_by tree size Octet a = zero_word One
   zeros_by tree size Char a = zero_word One
   zeros_by tree size Boolean a = zero_word One
@@ -79,7 +79,7 @@ module _ (graph : List Node) where
   fit_zeros depth tree (number ∷ numbers) a = (a.0, fit_zeros depth tree numbers a.1)
 
   -- an integer takes 0
-  whole_zero : (w : Width) (signed : Bool) → IsNumber (Whole w signed) (pos 0)
+  whole_zero : (w : Width) (signed : Bool) → IsNumber (Integer w signed) (pos 0)
   whole_zero One true = omega arith
   whole_zero Two true = omega arith
   whole_zero Four true = omega arith
@@ -91,7 +91,7 @@ module _ (graph : List Node) where
 
   -- a number that takes 0 has it as a value
   pub numeric_zero : (node : Node) → IsNumeric node → TakesZero node → IsNumber node (pos 0)
-  numeric_zero (Whole w signed) h z = whole_zero w signed
+  numeric_zero (Integer w signed) h z = whole_zero w signed
   numeric_zero Octet h z = omega arith
   numeric_zero Char h z = omega arith
   numeric_zero Boolean h z = omega arith
@@ -105,7 +105,7 @@ module _ (graph : List Node) where
 
   -- a node's zeros fit where those of the nodes that it holds do
   fits_by : (depth : ℕ) → 1 ≤ depth → (tree : ℕ → Tree) (node : Node) → TakesZero node → AllByRecursion (FitsZero depth tree) (held_by node) → Fits graph node (zero_by tree node) depth
-  fits_by depth deep tree (Whole w signed) z a = numeric_zero (Whole w signed) tt z
+  fits_by depth deep tree (Integer w signed) z a = numeric_zero (Integer w signed) tt z
   fits_by depth deep tree Octet z a = numeric_zero Octet tt z
   fits_by depth deep tree Char z a = numeric_zero Char tt z
   fits_by depth deep tree Boolean z a = numeric_zero Boolean tt z
@@ -127,7 +127,7 @@ module _ (graph : List Node) where
 
 -- 0 is a value of a discriminator
 switch_zero : (graph : List Node) (node : Node) → IsSwitch node → IsNode graph node → IsNumber node (pos 0)
-switch_zero graph (Whole w signed) s h = whole_zero graph w signed
+switch_zero graph (Integer w signed) s h = whole_zero graph w signed
 switch_zero graph Char s h = omega arith
 switch_zero graph Boolean s h = omega arith
 switch_zero graph (Enum n) s h = h.0

@@ -5,7 +5,7 @@ use Rattle.std.specs.List.{AllByRecursion}
 use Rattle.type_graph.specs.declared.width.Width.{Width}
 use Rattle.type_graph.specs.declared.width.Width.TheVariants.{One}
 use Rattle.type_graph.specs.declared.node.Node.{Node}
-use Rattle.type_graph.specs.declared.node.Node.TheVariants.{Whole, Octet, Char, Boolean, Enum, Text, Seq, Array, Struct, Union, Frame}
+use Rattle.type_graph.specs.declared.node.Node.TheVariants.{Integer, Octet, Char, Boolean, Enum, Text, Seq, Array, Struct, Union, Frame}
 use Rattle.type_graph.specs.Value.{node_at, IsNumber}
 
 -- integers have 2, 4 or 8 octets
@@ -28,7 +28,7 @@ pub record AreMembers (graph : List Node) (members : List ℕ) : Type 0 where
 
 -- the kinds that the discriminator of a union may have (ISO/IEC 19500-1, unions)
 abbrev pub IsSwitch : Node → Type 0
-IsSwitch (Whole width signed) = Unit {0}
+IsSwitch (Integer width signed) = Unit {0}
 IsSwitch Char = Unit {0}
 IsSwitch Boolean = Unit {0}
 IsSwitch (Enum n) = Unit {0}
@@ -57,7 +57,7 @@ pub record IsUnion (graph : List Node) (switch : ℕ) (arms : List (ℤ × ℕ))
 -- The rules of one node: widths of 2, 4 or 8 octets, an enumerator, an element, a member at least, and no more than
 -- the limits allow.
 abbrev pub IsNode : List Node → Node → Type 0
-IsNode graph (Whole width signed) = IsWide width
+IsNode graph (Integer width signed) = IsWide width
 IsNode graph Octet = Unit {0}
 IsNode graph Char = Unit {0}
 IsNode graph Boolean = Unit {0}

@@ -10,4 +10,5 @@ pub record AreHeights (graph : List Node) (heights : List ℕ) : Type 0 where
 
 -- what a table has at a number is the height of that node
 abbrev pub AreKnown : List Node → List (Option ℕ) → Type 0
-AreKnown graph known = (number : ℕ) → IfSome (slice_index_or known number None) (λ height. height ≡ height_of graph number)
+AreKnown graph known =
+    (number : ℕ) → IfSome (slice_index_or known number None) (λ height. height ≡ height_of graph number)

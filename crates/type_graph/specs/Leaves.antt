@@ -3,7 +3,7 @@ use Rattle.std.specs.Prelude.{◌≡◌, ℕ, zero, suc, ◌≤◌, List, [], �
 use Rattle.std.specs.List.{AllByRecursion, flat_map}
 use Rattle.type_graph.specs.declared.width.Width.{Width}
 use Rattle.type_graph.specs.declared.node.Node.{Node}
-use Rattle.type_graph.specs.declared.node.Node.TheVariants.{Whole, Octet, Char, Array, Struct, Frame}
+use Rattle.type_graph.specs.declared.node.Node.TheVariants.{Integer, Octet, Char, Array, Struct, Frame}
 use Rattle.type_graph.specs.Value.{node_at, number_width}
 
 -- an array is made of its elements, a structure and a frame of their members, where it is known of what those are made;
@@ -25,7 +25,7 @@ leaves_of graph number = leaves_within 64 graph number
 
 -- an integer, an octet or a character: each pattern of its octets is a value
 abbrev pub IsPlain : Node → Type 0
-IsPlain (Whole w signed) = Unit {0}
+IsPlain (Integer w signed) = Unit {0}
 IsPlain Octet = Unit {0}
 IsPlain Char = Unit {0}
 IsPlain node = ⊥

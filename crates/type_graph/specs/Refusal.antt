@@ -7,7 +7,7 @@ use Rattle.type_graph.specs.declared.fault.NodeRule.TheVariants.{LabelTwice, Lab
 use Rattle.type_graph.specs.declared.fault.RuleFault.{RuleFault}
 use Rattle.type_graph.specs.declared.fault.RuleFault.TheVariants.{TooManyNodes, TooManyMembers, InNode, SelfHeld, LongPath}
 use Rattle.type_graph.specs.declared.node.Node.{Node}
-use Rattle.type_graph.specs.declared.node.Node.TheVariants.{Whole, Enum, Seq, Array, Struct, Union, Frame}
+use Rattle.type_graph.specs.declared.node.Node.TheVariants.{Integer, Enum, Seq, Array, Struct, Union, Frame}
 use Rattle.type_graph.specs.Value.{node_at, IsNumber}
 use Rattle.type_graph.specs.GraphRules.{IsNode, IsPart, IsShallow, IsWide, all_members, label_at}
 
@@ -52,7 +52,7 @@ pub record IsUnionOfParts (graph : List Node) (switch : ℕ) (arms : List (ℤ �
 
 -- The rules of one node that have no name of their own: they are told as BadNode.
 abbrev pub IsWellFormed : List Node → Node → Type 0
-IsWellFormed graph (Whole width signed) = IsWide width
+IsWellFormed graph (Integer width signed) = IsWide width
 IsWellFormed graph (Enum n) = 0 < n
 IsWellFormed graph (Seq elem bound) = IsPart graph elem
 IsWellFormed graph (Array elem n) = IsPart graph elem × (0 < n)

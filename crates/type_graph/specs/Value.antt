@@ -8,7 +8,7 @@ use Rattle.type_graph.specs.declared.width.Width.{Width}
 use Rattle.type_graph.specs.declared.width.Width.TheVariants.{One, Four}
 use Rattle.type_graph.specs.declared.width.Order.TheVariants.{Big}
 use Rattle.type_graph.specs.declared.node.Node.{Node}
-use Rattle.type_graph.specs.declared.node.Node.TheVariants.{Whole, Octet, Char, Boolean, Enum, Text, Seq, Array, Struct, Union, Frame}
+use Rattle.type_graph.specs.declared.node.Node.TheVariants.{Integer, Octet, Char, Boolean, Enum, Text, Seq, Array, Struct, Union, Frame}
 use Rattle.type_graph.specs.Words.{octets_in, words_of, word}
 
 -- a value without its type
@@ -55,8 +55,8 @@ signed_of w n = if nat_lt n (2 ^ (8 * octets_in w - 1)) then pos n else negsuc (
 -- The numbers that are values of a node, which is an integer, octet, character, boolean or enumeration (primitive
 -- types, enumerated types). A boolean is 0 or 1 and an enumerator one of those declared; others are refused (own).
 abbrev pub IsNumber : Node → ℤ → Type 0
-IsNumber (Whole w true) n = IsSigned w n
-IsNumber (Whole w false) n = IsBelow (words_of w) n
+IsNumber (Integer w true) n = IsSigned w n
+IsNumber (Integer w false) n = IsBelow (words_of w) n
 IsNumber Octet n = IsBelow 256 n
 IsNumber Char n = IsBelow 256 n
 IsNumber Boolean n = IsBelow 2 n
@@ -65,7 +65,7 @@ IsNumber node n = ⊥
 
 -- the kinds that have such values
 abbrev pub IsNumeric : Node → Type 0
-IsNumeric (Whole w signed) = Unit {0}
+IsNumeric (Integer w signed) = Unit {0}
 IsNumeric Octet = Unit {0}
 IsNumeric Char = Unit {0}
 IsNumeric Boolean = Unit {0}
@@ -74,7 +74,7 @@ IsNumeric node = ⊥
 
 -- the size of such a number; an enumerator is an unsigned long (enumerated types)
 abbrev pub number_width : Node → Width
-number_width (Whole w signed) = w
+number_width (Integer w signed) = w
 number_width (Enum limit) = Four
 number_width node = One
 

@@ -116,7 +116,8 @@ impl Graph {
     /// Want of memory.
     pub fn zero(&self, alloc: Global, number: u32) -> Result<Vec<u8>, AllocError>
         requires { number < length self.now }
-        ensures { IfOk result (λ tape. tape.items ≡ tape_of self.now (node_at self.now number) (zero_of self.now number)) }
+        ensures { IfOk result (λ tape. tape.items
+            ≡ tape_of self.now (node_at self.now number) (zero_of self.now number)) }
     {
         zeros(alloc, shape_at(&self.shapes, number).size)
     }

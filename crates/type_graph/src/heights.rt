@@ -18,7 +18,8 @@ fn known_height(known: &[Option<u32>], number: u32) -> Option<u32>
 }
 
 fn keep(known: &mut [Option<u32>], number: u32, height: u32)
-    ensures { (graph : List Node) → AreKnown graph known.old → height ≡ height_of graph number → AreKnown graph known.new }
+    ensures { (graph : List Node) → AreKnown graph known.old → height ≡ height_of graph number
+        → AreKnown graph known.new }
 {
     if (number as usize) < known.len() {
         known[number as usize] = Some(height);

@@ -63,8 +63,10 @@ pub type Arms = Items<(i128, u32)>;
 
 /// The place of the first label that isn't less than the next, if there is one.
 pub(crate) fn first_fall(arms: &[(i128, u32)]) -> Option<usize>
-    ensures falls { IfSome result (λ place. (suc place < length arms.now) × (label_at arms.now (suc place) ≤ℤ label_at arms.now place)) }
-    ensures first { IfSome result (λ place. (before : ℕ) → before < place → label_at arms.now before <ℤ label_at arms.now (suc before)) }
+    ensures falls { IfSome result (λ place. (suc place < length arms.now)
+        × (label_at arms.now (suc place) ≤ℤ label_at arms.now place)) }
+    ensures first { IfSome result (λ place. (before : ℕ) → before < place
+        → label_at arms.now before <ℤ label_at arms.now (suc before)) }
     ensures none { IfNone result (AreRising arms.now) }
 {
     for next in 1..arms.len() {

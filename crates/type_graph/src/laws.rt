@@ -31,7 +31,8 @@ pub fn meaning_has_period_eight()
 /// whatever a reader may find there.
 pub fn written_is_read()
     ensures { (graph : List Node) (order : Order) (depth number p : ℕ) (tape octets : List ℕ)
-        → Means graph (writing order) depth number p tape octets → Means graph (reading order) depth number p tape octets }
+        → Means graph (writing order) depth number p tape octets
+        → Means graph (reading order) depth number p tape octets }
 {}
 
 /// A tape is that of one value of its type.
@@ -43,7 +44,8 @@ pub fn tape_has_one_value()
 
 /// One front of a list of octets has a meaning, and one tape.
 pub fn front_has_one_tape()
-    ensures { (graph : List Node) → IsGraph graph → (format : Format) (depth number p : ℕ) (tape1 tape2 octets1 octets2 rest1 rest2 : List ℕ)
+    ensures { (graph : List Node) → IsGraph graph
+        → (format : Format) (depth number p : ℕ) (tape1 tape2 octets1 octets2 rest1 rest2 : List ℕ)
         → Means graph format depth number p tape1 octets1 → Means graph format depth number p tape2 octets2
         → octets1 ++ rest1 ≡ octets2 ++ rest2 → (tape1 ≡ tape2) × (octets1 ≡ octets2) }
 {}
@@ -72,7 +74,8 @@ pub fn leaves_are_of_parts()
 /// A uniform node is the gap to its width, and its words one behind the other.
 pub fn uniform_is_words()
     ensures { (graph : List Node) → IsGraph graph → (format : Format) (depth : ℕ) (w : Width) (n number : ℕ)
-        → IsUniform graph w n number → Same Anywhere (Means graph format depth number) (Then (Gap format w) (Many n (AnyWord format w))) }
+        → IsUniform graph w n number → Same Anywhere (Means graph format depth number)
+            (Then (Gap format w) (Many n (AnyWord format w))) }
 {}
 
 /// The value of zeros is made of those of the parts.

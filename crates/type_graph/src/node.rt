@@ -12,7 +12,7 @@ use crate::width::Width;
 #[derive(Drop, PartialEq)]
 pub enum Node {
     /// An integer type of 2, 4 or 8 octets.
-    Whole {
+    Integer {
         width: Width,
         signed: bool,
     },
@@ -74,7 +74,7 @@ impl Node {
         ensures { result ≡ number_width self.now }
     {
         match self {
-            Node::Whole { width, .. } => *width,
+            Node::Integer { width, .. } => *width,
             Node::Enum { .. } => Width::Four,
             _ => Width::One,
         }

@@ -82,7 +82,8 @@ fn check_members(nodes: &[Node], members: &[u32]) -> Result<(), NodeRule>
 fn check_struct(nodes: &[Node], members: &[u32]) -> Result<(), NodeRule>
     ensures ok { OnOk result ((0 < length members.now) × AreMembers nodes.now members.now) }
     ensures err { OnErr result ((0 < length members.now) × AreMembers nodes.now members.now → ⊥) }
-    ensures bad { IfErr result (λ rule. DeniesIfBad rule ((0 < length members.now) × All (IsPart nodes.now) members.now)) }
+    ensures bad { IfErr result
+        (λ rule. DeniesIfBad rule ((0 < length members.now) × All (IsPart nodes.now) members.now)) }
 {
     if members.is_empty() {
         return Err(NodeRule::BadNode);
@@ -137,7 +138,7 @@ fn check_node(nodes: &[Node], node: &Node) -> Result<(), NodeRule>
     ensures place { IfErr result (IsPlaceIn nodes.now node.now) }
 {
     match node {
-        Node::Whole { width, .. } => check_width(*width),
+        Node::Integer { width, .. } => check_width(*width),
         Node::Octet | Node::Char | Node::Boolean => Ok(()),
         Node::Text { bound } => {
             let _bound = *bound;
@@ -261,7 +262,8 @@ fn is_missing(table: &[bool], number: usize) -> bool
 
 fn first_missing(table: &[bool]) -> Option<usize>
     ensures none { IfNone result (EachIndex table.now (λ number. slice_index_or table.now number false ≡ true)) }
-    ensures some { IfSome result (λ number. (number < length table.now) × (slice_index_or table.now number false ≡ false)) }
+    ensures some { IfSome result (λ number. (number < length table.now)
+        × (slice_index_or table.now number false ≡ false)) }
 {
     for number in 0..table.len() {
         if !table[number] {

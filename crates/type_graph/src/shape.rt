@@ -91,7 +91,8 @@ pub enum Run {
 const MAX_WORDS: u64 = 1_048_576;
 
 fn counted(width: Width, n: u64) -> Run
-    ensures { (leaves : List Node) → AllByRecursion (IsWordOf width) leaves → length leaves ≡ n → 1 ≤ n → IsRun leaves result }
+    ensures { (leaves : List Node) → AllByRecursion (IsWordOf width) leaves → length leaves ≡ n → 1 ≤ n
+        → IsRun leaves result }
 {
     if n > MAX_WORDS {
         return Run::Mixed;
@@ -122,7 +123,8 @@ fn joined_run(first: Run, second: Run) -> Run
 
 fn repeated_run(count: u32, run: Run) -> Run
     requires { 1 ≤ count }
-    ensures { (leaves : ℕ → List Node) (number : ℕ) → IsRun (leaves number) run → IsRun (flat_map leaves (replicate count number)) result }
+    ensures { (leaves : ℕ → List Node) (number : ℕ) → IsRun (leaves number) run
+        → IsRun (flat_map leaves (replicate count number)) result }
 {
     match run {
         Run::Empty => Run::Empty,
@@ -163,7 +165,8 @@ fn shape_of_none() -> Shape
 }
 
 fn joined(first: Shape, second: Shape) -> Shape
-    ensures { (leaves more : List Node) (n m : ℕ) → IsShape leaves n first → IsShape more m second → IsShape (leaves ++ more) (n + m) result }
+    ensures { (leaves more : List Node) (n m : ℕ) → IsShape leaves n first → IsShape more m second
+        → IsShape (leaves ++ more) (n + m) result }
 {
     Shape {
         run: joined_run(first.run, second.run),
@@ -172,7 +175,8 @@ fn joined(first: Shape, second: Shape) -> Shape
 }
 
 fn repeated(count: u32, shape: Shape) -> Shape
-    ensures { (leaves : ℕ → List Node) (size : ℕ → ℕ) (number : ℕ) → IsShape (leaves number) (size number) shape → IsShape (flat_map leaves (replicate count number)) (sum_by size (replicate count number)) result }
+    ensures { (leaves : ℕ → List Node) (size : ℕ → ℕ) (number : ℕ) → IsShape (leaves number) (size number) shape
+        → IsShape (flat_map leaves (replicate count number)) (sum_by size (replicate count number)) result }
 {
     if count == 0 {
         return shape_of_none();
@@ -189,7 +193,7 @@ fn leaf(node: &Node, size: Option<usize>) -> Shape
     ensures size { result.size ≡ size }
 {
     let run = match node {
-        Node::Whole { width, .. } => Run::Words(*width, 1),
+        Node::Integer { width, .. } => Run::Words(*width, 1),
         Node::Octet | Node::Char => Run::Words(Width::One, 1),
         _ => Run::Mixed,
     };
@@ -207,7 +211,8 @@ pub fn shape_at(table: &[Shape], number: u32) -> Shape
 }
 
 fn shape_of_members(table: &[Shape], members: &[u32]) -> Shape
-    ensures { (leaves : ℕ → List Node) (size : ℕ → ℕ) → AreShapes table.now leaves size → IsShape (flat_map leaves members.now) (sum_by size members.now) result }
+    ensures { (leaves : ℕ → List Node) (size : ℕ → ℕ) → AreShapes table.now leaves size
+        → IsShape (flat_map leaves members.now) (sum_by size members.now) result }
 {
     let mut shape = shape_of_none();
     for number in members {
@@ -218,7 +223,8 @@ fn shape_of_members(table: &[Shape], members: &[u32]) -> Shape
 
 /// The size of a union's tape of zeros: of its discriminator, and of what that chooses.
 fn size_of_union(switch: Width, table: &[Shape], arm: Option<u32>) -> Option<usize>
-    ensures { (leaves : ℕ → List Node) (size : ℕ → ℕ) → AreShapes table.now leaves size → IsSize (octets_in switch + sum_by size (option_to_list arm)) result }
+    ensures { (leaves : ℕ → List Node) (size : ℕ → ℕ) → AreShapes table.now leaves size
+        → IsSize (octets_in switch + sum_by size (option_to_list arm)) result }
 {
     let first = Some(switch.octets());
     match arm {

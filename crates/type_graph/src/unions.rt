@@ -33,7 +33,8 @@ fn switch_of(nodes: &[Node], switch: u32) -> Result<Values, NodeRule>
 /// The place of the first label that isn't among the values.
 fn first_outside(values: Values, arms: &[(i128, u32)]) -> Option<usize>
     ensures within { IfSome result (λ place. place < length arms.now) }
-    ensures outside { IfSome result (λ place. ((values.least ≤ℤ label_at arms.now place) × (label_at arms.now place <ℤ values.end)) → ⊥) }
+    ensures outside { IfSome result
+        (λ place. ((values.least ≤ℤ label_at arms.now place) × (label_at arms.now place <ℤ values.end)) → ⊥) }
     ensures none { IfNone result (AreWithin values.least values.end arms.now) }
 {
     arms.iter().position(|arm| !values.contains(arm.0))
@@ -99,7 +100,8 @@ fn check_default(
     requires rising { AreRising arms.now }
     ensures part { OnOk result (IfSome default (IsPart nodes.now)) }
     ensures needed { OnOk result (IfSome default (λ member. HasOtherWithin values.least values.end arms.now)) }
-    ensures err { OnErr result (IfSome default (IsPart nodes.now) → IfSome default (λ member. HasOtherWithin values.least values.end arms.now) → ⊥) }
+    ensures err { OnErr result (IfSome default (IsPart nodes.now)
+        → IfSome default (λ member. HasOtherWithin values.least values.end arms.now) → ⊥) }
     ensures bad { IfErr result (λ rule. DeniesIfBad rule (IfSome default (IsPart nodes.now))) }
     ensures place { (switch : ℕ) → IfErr result (IsPlace nodes.now switch arms.now) }
 {

@@ -1,7 +1,7 @@
 //! The numbers that are values of a node.
 
 ghost use Rattle.std.specs.Prelude.{◌≡◌, ◌^◌, ◌≤◌, ◌<ℤ◌, ◌≤ℤ◌, ◌↔◌, true, false, pos, ℤ, IsTrue, IfSome, IfNone};
-ghost use Rattle.type_graph.specs.declared.node.Node.TheVariants.{Whole};
+ghost use Rattle.type_graph.specs.declared.node.Node.TheVariants.{Integer};
 ghost use Rattle.type_graph.specs.Labels.{AreValues};
 ghost use Rattle.type_graph.specs.Value.{IsNumber, IsNumeric};
 
@@ -26,7 +26,7 @@ impl Values {
 }
 
 fn signed_values(width: Width) -> Values
-    ensures { AreValues (Whole width true) result.least result.end result.count }
+    ensures { AreValues (Integer width true) result.least result.end result.count }
 {
     let count = width.patterns();
     let half = (count / 2) as i128;
@@ -49,7 +49,7 @@ fn values_below(end: u128) -> Values
 }
 
 fn unsigned_values(width: Width) -> Values
-    ensures { AreValues (Whole width false) result.least result.end result.count }
+    ensures { AreValues (Integer width false) result.least result.end result.count }
 {
     values_below(width.patterns())
 }
@@ -63,11 +63,11 @@ impl Node {
         ensures none { IfNone result (IsNumeric self.now → ⊥) }
     {
         match self {
-            Node::Whole {
+            Node::Integer {
                 width,
                 signed: true,
             } => Some(signed_values(*width)),
-            Node::Whole {
+            Node::Integer {
                 width,
                 signed: false,
             } => Some(unsigned_values(*width)),

@@ -48,7 +48,8 @@ abbrev pub IsInterface : ℕ → Interface → Type 0
 IsInterface count interface = All (λ number. number < count) interface.operations
 
 -- its frames are named, and its exceptions are among all exceptions, of which there are so many
-pub record IsOperation (graph : List Node) (names : List (List ℕ × ℕ)) (count : ℕ) (operation : Operation) : Type 0 where
+pub record IsOperation (graph : List Node) (names : List (List ℕ × ℕ)) (count : ℕ)
+    (operation : Operation) : Type 0 where
   pub request : IsNamedFrame graph names operation.request
   pub reply : IsNamedFrame graph names operation.reply
   pub raises : All (λ number. number < count) operation.exceptions

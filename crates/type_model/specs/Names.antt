@@ -29,7 +29,8 @@ AreMarks numbers marks = (number : ℕ) → (slice_index_or marks number false �
 -- the map finds just the names of the list
 abbrev pub IsMapOf : List (List ℕ × ℕ) → List (String Global × ℕ) → Type 0
 IsMapOf names entries =
-    (name : List ℕ) → lookup (is_at (λ key. slice_cmp nat_cmp name (string_bytes key))) entries ≡ lookup (bytes_eq name) names
+    (name : List ℕ) → lookup (is_at (λ key. slice_cmp nat_cmp name (string_bytes key))) entries
+    ≡ lookup (bytes_eq name) names
 
 -- what a table of names keeps
 pub record IsTable (names : List (List ℕ × ℕ)) (entries : List (String Global × ℕ)) (marks : List Bool) : Type 0 where

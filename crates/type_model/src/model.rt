@@ -138,7 +138,8 @@ impl Model {
     ) -> Result<Model, GraphFault>
         ensures kept { IfOk result (λ model. model ≡ parts_of graph names interfaces operations exceptions) }
         ensures rules { IfOk result IsModel }
-        ensures refused { IfErr result (λ fault. OnlyIf fault (IsModel (parts_of graph names interfaces operations exceptions) → ⊥)) }
+        ensures refused { IfErr result
+            (λ fault. OnlyIf fault (IsModel (parts_of graph names interfaces operations exceptions) → ⊥)) }
     {
         let names = NameTable::new(alloc, names, graph.nodes().len())?;
         let nodes = graph.nodes();

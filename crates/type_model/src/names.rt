@@ -90,7 +90,8 @@ fn map_of(alloc: Global, names: &[(Name, u32)]) -> Result<BTreeMap<String, u32>,
 fn marks_of(alloc: Global, names: &[(Name, u32)], count: usize) -> Result<Vec<bool>, GraphFault>
     ensures marks { IfOk result (λ marks. AreMarks (map (λ name. name.1) names.now) marks.items) }
     ensures within { OnOk result (All (λ number. number < count) (map (λ name. name.1) names.now)) }
-    ensures refused { IfErr result (λ fault. OnlyIf fault (All (λ number. number < count) (map (λ name. name.1) names.now) → ⊥)) }
+    ensures refused { IfErr result
+        (λ fault. OnlyIf fault (All (λ number. number < count) (map (λ name. name.1) names.now) → ⊥)) }
 {
     let mut marks = vec![in alloc; false; count]?;
     for place in 0..names.len() {

@@ -29,7 +29,8 @@ HasPath Holds (suc steps) node = HoldsOne Holds (HasPath Holds steps) node
 abbrev pub IsEndless : (ℕ → ℕ → Type 0) → ℕ → Type 0
 IsEndless Holds node = (steps : ℕ) → HasPath Holds steps node
 
--- With the members up to a token a type holds itself: a path without end comes back, since a list has finitely many nodes.
+-- With the members up to a token a type holds itself: a path without end comes back, since a list has finitely many
+-- nodes.
 pub record GoesRoundBy (types : Types) (token : ℕ) : Type 0 where
   pub node : ℕ
   pub within : node < length types.nodes

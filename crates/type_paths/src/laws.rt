@@ -22,7 +22,8 @@ pub fn fault_is_of_long_paths()
 /// There is a member at the token that closes a circle. Of a node without sites that is token 0.
 pub fn circle_closes_at_a_member()
     ensures { (types : Types) (token : ℕ) → ClosesCircle types token
-        → ((node place part : ℕ) → slice_get (held_by (node_at types.nodes node)) place ≡ Some part → token_at types node place ≡ token → ⊥) → ⊥ }
+        → ((node place part : ℕ) → slice_get (held_by (node_at types.nodes node)) place ≡ Some part
+        → token_at types node place ≡ token → ⊥) → ⊥ }
 {}
 
 /// A list has one fault at most.

@@ -5,7 +5,7 @@ use Rattle.type_model.specs.declared.signatures.Interface.{Interface}
 use Rattle.type_model.specs.declared.signatures.Operation.{Operation}
 use Rattle.type_model.specs.ModelRules.{Parts}
 use Rattle.giop_types.specs.TapeParts.{counted}
-use Rattle.giop_types.specs.GiopNodes.{giop_nodes}
+use Rattle.giop_types.specs.GiopNodes.{giop_nodes, id_argument_node}
 use Rattle.giop_messages.specs.Messages.{Asked}
 use Rattle.broker_answers.specs.declared.exception.SystemException.TheVariants.{BadOperation, Marshal}
 use Rattle.broker_answers.specs.declared.finding.AskedCall.{AskedCall}
@@ -34,7 +34,7 @@ IsKnown model (found.Calls asked) = slice_get model.operations asked.number ≡ 
 -- `_is_a` with an id
 pub record HasId (interface : Interface) (asked : Asked) (finding : Finding) : Type 0 where
   pub id : List ℕ
-  pub read : IsRead giop_nodes asked 26 (counted id)
+  pub read : IsRead giop_nodes asked id_argument_node (counted id)
   pub finding_is : finding ≡ Tells (is_a interface id)
 
 -- the body can't be read
@@ -43,7 +43,8 @@ pub record IsIllegible (graph : List Node) (node : ℕ) (asked : Asked) (finding
   pub finding_is : finding ≡ Refuses Marshal
 
 abbrev pub IsTypeAsked : Interface → Asked → Finding → Type 0
-IsTypeAsked interface asked finding = HasId interface asked finding ⊎ IsIllegible giop_nodes 26 asked finding
+IsTypeAsked interface asked finding =
+    HasId interface asked finding ⊎ IsIllegible giop_nodes id_argument_node asked finding
 
 -- a call with arguments
 pub record HasArguments (graph : List Node) (object number : ℕ) (operation : Operation) (asked : Asked)

@@ -5,7 +5,7 @@ use Rattle.type_graph.specs.declared.width.Order.{Order}
 use Rattle.type_graph.specs.declared.width.Order.TheVariants.{Big}
 use Rattle.type_graph.specs.Words.{word}
 use Rattle.type_graph.specs.Value.{Tree, node_at, Fits, tape_of}
-use Rattle.giop_types.specs.GiopNodes.{giop_nodes}
+use Rattle.giop_types.specs.GiopNodes.{giop_nodes, target_address_node}
 use Rattle.object_references.specs.Profiles.{HasKey}
 use Rattle.giop_messages.specs.Messages.{HasHeader}
 use Rattle.giop_types.specs.TapeParts.{counted, IsCounted, tagged, IsTagged, tagged_list, AreTagged}
@@ -52,7 +52,7 @@ IsAt None key = key ≡ None
 -- a discriminator, and then the tape behind that of a target
 pub record BeginsBehind (label : ℕ) (target : Tree) (tape rest : List ℕ) : Type 0 where
   pub whole : List ℕ
-  pub begins : Begins 16 target whole rest
+  pub begins : Begins target_address_node target whole rest
   pub is : whole ≡ word Big Two (pos label) ++ tape
 
 -- Behind the head stands a value of the node, which ends at this place and has this tape.

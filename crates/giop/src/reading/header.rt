@@ -7,6 +7,7 @@ ghost use Rattle.giop_messages.specs.declared.message.ReplyStatus.{ReplyStatus};
 ghost use Rattle.giop_messages.specs.Headers.{cancel_tree, number_of};
 ghost use Rattle.giop.specs.inner.Tapes.{Begins};
 ghost use Rattle.giop.specs.inner.Targets.{IsLocateHeader, IsReplyHeader, IsRequestHeader};
+ghost use Rattle.giop_types.specs.GiopNodes.{request_header_node, reply_header_node, locate_request_header_node, cancel_request_header_node};
 
 use crate::reading::target::{Target, split_target};
 use giop_messages::ReplyStatus as Status;
@@ -52,9 +53,9 @@ fn skip_reserved(tape: &[u8]) -> Option<&[u8]>
 /// The header of a request at the front of a tape.
 pub(crate) fn request_header(alloc: Global, tape: &[u8]) -> Result<RequestHeader<'_>, TapeFault>
     ensures found { IfOk result (λ header. (value : Tree) (rest : List ℕ)
-        → Begins 17 value tape.now rest → IsRequestHeader value header) }
+        → Begins request_header_node value tape.now rest → IsRequestHeader value header) }
     ensures refused { IfErr result (λ fault. RefusesReading fault
-        ((value : Tree) (rest : List ℕ) → Begins 17 value tape.now rest → ⊥)) }
+        ((value : Tree) (rest : List ℕ) → Begins request_header_node value tape.now rest → ⊥)) }
 {
     let Some((id, behind)) = split_u32(tape) else {
         return Err(TapeFault::NotATape);
@@ -99,8 +100,9 @@ fn status_of(number: u32) -> Option<Status>
 /// The header of a reply at the front of a tape.
 pub(crate) fn reply_header(tape: &[u8]) -> Option<ReplyHeader>
     ensures found { IfSome result (λ header. (value : Tree) (rest : List ℕ)
-        → Begins 19 value tape.now rest → IsReplyHeader value header) }
-    ensures refused { IfNone result ((value : Tree) (rest : List ℕ) → Begins 19 value tape.now rest → ⊥) }
+        → Begins reply_header_node value tape.now rest → IsReplyHeader value header) }
+    ensures refused { IfNone result ((value : Tree) (rest : List ℕ)
+        → Begins reply_header_node value tape.now rest → ⊥) }
 {
     let Some((id, behind)) = split_u32(tape) else {
         return None;
@@ -117,8 +119,9 @@ pub(crate) fn reply_header(tape: &[u8]) -> Option<ReplyHeader>
 /// The number in the header of a cancel request at the front of a tape.
 pub(crate) fn cancel_header(tape: &[u8]) -> Option<u32>
     ensures found { IfSome result (λ id. (value : Tree) (rest : List ℕ)
-        → Begins 22 value tape.now rest → value ≡ cancel_tree id) }
-    ensures refused { IfNone result ((value : Tree) (rest : List ℕ) → Begins 22 value tape.now rest → ⊥) }
+        → Begins cancel_request_header_node value tape.now rest → value ≡ cancel_tree id) }
+    ensures refused { IfNone result ((value : Tree) (rest : List ℕ)
+        → Begins cancel_request_header_node value tape.now rest → ⊥) }
 {
     match split_u32(tape) {
         Some((id, _)) => Some(id),
@@ -129,9 +132,9 @@ pub(crate) fn cancel_header(tape: &[u8]) -> Option<u32>
 /// The header of a locate request at the front of a tape.
 pub(crate) fn locate_header(alloc: Global, tape: &[u8]) -> Result<LocateHeader<'_>, TapeFault>
     ensures found { IfOk result (λ header. (value : Tree) (rest : List ℕ)
-        → Begins 20 value tape.now rest → IsLocateHeader value header) }
+        → Begins locate_request_header_node value tape.now rest → IsLocateHeader value header) }
     ensures refused { IfErr result (λ fault. RefusesReading fault
-        ((value : Tree) (rest : List ℕ) → Begins 20 value tape.now rest → ⊥)) }
+        ((value : Tree) (rest : List ℕ) → Begins locate_request_header_node value tape.now rest → ⊥)) }
 {
     let Some((id, behind)) = split_u32(tape) else {
         return Err(TapeFault::NotATape);

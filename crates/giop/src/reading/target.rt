@@ -5,6 +5,7 @@ ghost use Rattle.type_graph.specs.Value.{Tree};
 ghost use Rattle.giop_types.specs.TapeRefusal.{RefusesReading};
 ghost use Rattle.giop.specs.inner.Tapes.{Begins, BeginsBehind};
 ghost use Rattle.giop.specs.inner.Targets.{TellsTarget};
+ghost use Rattle.giop_types.specs.GiopNodes.{target_address_node};
 
 use giop_types::{
     Tagged, TapeFault, split_octets, split_tagged, split_tagged_list, split_u16, split_u32,
@@ -77,9 +78,9 @@ fn split_reference(alloc: Global, tape: &[u8]) -> Result<(Target<'_>, &[u8]), Ta
 /// `NotATape` where none stands there. Want of memory.
 pub(crate) fn split_target(alloc: Global, tape: &[u8]) -> Result<(Target<'_>, &[u8]), TapeFault>
     ensures found { IfOk result (λ r. (target : Tree) (rest : List ℕ)
-        → Begins 16 target tape.now rest → TellsTarget target r.0 × (rest ≡ r.1.now)) }
+        → Begins target_address_node target tape.now rest → TellsTarget target r.0 × (rest ≡ r.1.now)) }
     ensures refused { IfErr result (λ fault. RefusesReading fault
-        ((target : Tree) (rest : List ℕ) → Begins 16 target tape.now rest → ⊥)) }
+        ((target : Tree) (rest : List ℕ) → Begins target_address_node target tape.now rest → ⊥)) }
 {
     let Some((label, behind)) = split_u16(tape) else {
         return Err(TapeFault::NotATape);

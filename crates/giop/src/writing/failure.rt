@@ -3,6 +3,7 @@
 ghost use Rattle.std.specs.Prelude.{◌≡◌, IfOk};
 ghost use Rattle.type_graph.specs.declared.width.Order.TheVariants.{Big};
 ghost use Rattle.giop_messages.specs.Written.{head_octets};
+ghost use Rattle.giop_messages.specs.Heads.{message_error_type};
 
 use crate::giop_calls::Giop;
 use crate::writing::message::push_head;
@@ -21,7 +22,7 @@ impl Giop {
     /// Want of memory.
     pub fn write_message_error(&self, alloc: Global) -> Result<Vec<u8>, AllocError>
         // the messages of type 6
-        ensures { IfOk result (λ octets. octets.items ≡ head_octets Big 6 0) }
+        ensures { IfOk result (λ octets. octets.items ≡ head_octets Big message_error_type 0) }
     {
         let mut octets = Vec::with_capacity(alloc, HEAD_LEN)?;
         push_head(&mut octets, Order::Big, MESSAGE_ERROR, 0)?;

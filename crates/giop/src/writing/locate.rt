@@ -2,8 +2,8 @@
 
 ghost use Rattle.std.specs.Prelude.{◌≡◌, ◌≤◌, ◌+◌, length, None, IfOk, IfErr};
 ghost use Rattle.type_graph.specs.Value.{node_at, tape_of};
-ghost use Rattle.giop_messages.specs.Heads.{max_size};
-ghost use Rattle.giop_types.specs.GiopNodes.{giop_nodes};
+ghost use Rattle.giop_messages.specs.Heads.{max_size, locate_reply_type};
+ghost use Rattle.giop_types.specs.GiopNodes.{giop_nodes, locate_reply_header_node};
 ghost use Rattle.giop_messages.specs.Headers.{here_number, here_tree};
 ghost use Rattle.giop_messages.specs.Written.{IsWritten};
 ghost use Rattle.giop.specs.Refusal.{IsNotWritten};
@@ -43,9 +43,12 @@ impl Giop {
     ) -> Result<Vec<u8>, GiopFault>
         // the messages of type 4, whose header is of node 21
         ensures written { IfOk result (λ octets.
-            IsWritten order 4 21 (here_tree id (here_number here)) None octets.items) }
+            IsWritten order locate_reply_type locate_reply_header_node
+            (here_tree id (here_number here)) None octets.items) }
         ensures limited { IfOk result (λ octets. length octets.items ≤ 12 + max_size) }
-        ensures refused { IfErr result (λ fault. IsNotWritten fault order 4 21 (here_tree id (here_number here)) None) }
+        ensures refused { IfErr result
+            (λ fault. IsNotWritten fault order locate_reply_type locate_reply_header_node
+            (here_tree id (here_number here)) None) }
     {
         let tape = match header_tape(alloc, id, here) {
             Ok(tape) => tape,

@@ -4,8 +4,8 @@ ghost use Rattle.std.specs.Prelude.{◌≡◌, ◌≤◌, ◌+◌, length, IfOk,
 ghost use Rattle.std.specs.Option.{ForSome};
 ghost use Rattle.type_graph.specs.Value.{NoTree, node_at, tape_of};
 ghost use Rattle.type_model.specs.Names.{IsNamed};
-ghost use Rattle.giop_messages.specs.Heads.{max_size};
-ghost use Rattle.giop_types.specs.GiopNodes.{giop_nodes};
+ghost use Rattle.giop_messages.specs.Heads.{max_size, reply_type};
+ghost use Rattle.giop_types.specs.GiopNodes.{giop_nodes, reply_header_node};
 ghost use Rattle.giop_messages.specs.Headers.{number_of, reply_tree};
 ghost use Rattle.giop_messages.specs.Written.{IsWritten};
 ghost use Rattle.giop.specs.Made.{given_by};
@@ -53,7 +53,8 @@ impl Giop {
         requires { ForSome body (λ b. IsNamed b.0.now.model.names b.1) }
         // the messages of type 1, whose header is of node 19
         ensures written { IfOk result (λ octets.
-            IsWritten order 1 19 (reply_tree id (number_of status) NoTree) (given_by body.entry) octets.items) }
+            IsWritten order reply_type reply_header_node (reply_tree id (number_of status) NoTree)
+            (given_by body.entry) octets.items) }
         ensures limited { IfOk result (λ octets. length octets.items ≤ 12 + max_size) }
         ensures refused { IfErr result (λ fault.
             IsNotWritten fault order 1 19 (reply_tree id (number_of status) NoTree) (given_by body.entry)) }

@@ -9,8 +9,8 @@ ghost use Rattle.type_graph.specs.Value.{IsText, NoTree, node_at, tape_of};
 ghost use Rattle.type_model.specs.Names.{IsNamed};
 ghost use Rattle.giop_types.specs.TapeParts.{counted, IsCounted};
 ghost use Rattle.giop_types.specs.TapeRefusal.{RefusesWriting};
-ghost use Rattle.giop_messages.specs.Heads.{max_size};
-ghost use Rattle.giop_types.specs.GiopNodes.{giop_nodes};
+ghost use Rattle.giop_messages.specs.Heads.{max_size, request_type};
+ghost use Rattle.giop_types.specs.GiopNodes.{giop_nodes, request_header_node};
 ghost use Rattle.giop_types.specs.Fields.{octet_trees};
 ghost use Rattle.giop_messages.specs.declared.fault.GiopFault.TheVariants.{BadHead};
 ghost use Rattle.giop_messages.specs.Faults.{IsMemoryOr};
@@ -75,7 +75,7 @@ fn header_tape(
     key: &[u8],
     operation: &[u8],
 ) -> Result<Vec<u8>, GiopFault>
-    ensures tape { IfOk result (λ tape. tape.items ≡ tape_of giop_nodes (node_at giop_nodes 17)
+    ensures tape { IfOk result (λ tape. tape.items ≡ tape_of giop_nodes (node_at giop_nodes request_header_node)
         (request_tree id flags (octet_trees (0 ∷ 0 ∷ 0 ∷ [])) (key_target key.now) operation.now NoTree)) }
     ensures key { OnOk result (IsCounted key.now) }
     ensures operation { OnOk result (IsText 0 operation.now) }
@@ -119,11 +119,11 @@ impl Giop {
     ) -> Result<Vec<u8>, GiopFault>
         requires { ForSome body (λ b. IsNamed b.0.now.model.names b.1) }
         // the messages of type 0, whose header is of node 17
-        ensures written { IfOk result (λ octets. IsWritten order 0 17
+        ensures written { IfOk result (λ octets. IsWritten order request_type request_header_node
             (request_tree id flags (octet_trees (0 ∷ 0 ∷ 0 ∷ [])) (key_target key.now) operation.now NoTree)
             (given_by body.entry) octets.items) }
         ensures limited { IfOk result (λ octets. length octets.items ≤ 12 + max_size) }
-        ensures refused { IfErr result (λ fault. IsNotWritten fault order 0 17
+        ensures refused { IfErr result (λ fault. IsNotWritten fault order request_type request_header_node
             (request_tree id flags (octet_trees (0 ∷ 0 ∷ 0 ∷ [])) (key_target key.now) operation.now NoTree)
             (given_by body.entry)) }
     {

@@ -57,7 +57,8 @@ pub fn split_u32(tape: &[u8]) -> Option<(u32, &[u8])>
 /// The octets of a sequence of octets, or of a string.
 pub fn split_octets(tape: &[u8]) -> Option<(&[u8], &[u8])>
     ensures found { IfSome result (λ r. IsCounted r.0.now × (tape.now ≡ counted r.0.now ++ r.1.now)) }
-    ensures refused { IfNone result ((octets rest : List ℕ) → IsCounted octets → tape.now ≡ counted octets ++ rest → ⊥) }
+    ensures refused { IfNone result ((octets rest : List ℕ) → IsCounted octets
+        → tape.now ≡ counted octets ++ rest → ⊥) }
 {
     let (count, behind) = split_u32(tape)?;
     if behind.len() < count as usize {
@@ -69,7 +70,8 @@ pub fn split_octets(tape: &[u8]) -> Option<(&[u8], &[u8])>
 /// A tag with its octets.
 pub fn split_tagged(tape: &[u8]) -> Option<(Tagged<'_>, &[u8])>
     ensures found { IfSome result (λ r. IsTagged (pair_of r.0) × (tape.now ≡ tagged (pair_of r.0) ++ r.1.now)) }
-    ensures refused { IfNone result ((one : ℕ × List ℕ) (rest : List ℕ) → IsTagged one → tape.now ≡ tagged one ++ rest → ⊥) }
+    ensures refused { IfNone result ((one : ℕ × List ℕ) (rest : List ℕ) → IsTagged one
+        → tape.now ≡ tagged one ++ rest → ⊥) }
 {
     let (tag, behind) = split_u32(tape)?;
     let (octets, rest) = split_octets(behind)?;
@@ -79,7 +81,8 @@ pub fn split_tagged(tape: &[u8]) -> Option<(Tagged<'_>, &[u8])>
 /// So many tags with their octets.
 fn split_each(alloc: Global, count: u32, tape: &[u8]) -> Result<(Vec<Tagged<'_>>, &[u8]), TapeFault>
     ensures found { IfOk result (λ r. AreFront count tape.now (pairs_of r.0.items) r.1.now) }
-    ensures refused { IfErr result (λ fault. RefusesReading fault ((all : List (ℕ × List ℕ)) (rest : List ℕ) → AreFront count tape.now all rest → ⊥)) }
+    ensures refused { IfErr result (λ fault. RefusesReading fault ((all : List (ℕ × List ℕ)) (rest : List ℕ)
+        → AreFront count tape.now all rest → ⊥)) }
 {
     let mut all = Vec::new(alloc);
     let mut rest = tape;
@@ -100,8 +103,10 @@ fn split_each(alloc: Global, count: u32, tape: &[u8]) -> Result<(Vec<Tagged<'_>>
 /// # Errors
 /// `NotATape` where none stands there. Want of memory.
 pub fn split_tagged_list(alloc: Global, tape: &[u8]) -> Result<(Vec<Tagged<'_>>, &[u8]), TapeFault>
-    ensures found { IfOk result (λ r. AreTagged (pairs_of r.0.items) × (tape.now ≡ tagged_list (pairs_of r.0.items) ++ r.1.now)) }
-    ensures refused { IfErr result (λ fault. RefusesReading fault ((all : List (ℕ × List ℕ)) (rest : List ℕ) → AreTagged all → tape.now ≡ tagged_list all ++ rest → ⊥)) }
+    ensures found { IfOk result (λ r. AreTagged (pairs_of r.0.items)
+        × (tape.now ≡ tagged_list (pairs_of r.0.items) ++ r.1.now)) }
+    ensures refused { IfErr result (λ fault. RefusesReading fault ((all : List (ℕ × List ℕ)) (rest : List ℕ)
+        → AreTagged all → tape.now ≡ tagged_list all ++ rest → ⊥)) }
 {
     let Some((count, behind)) = split_u32(tape) else {
         return Err(TapeFault::NotATape);

@@ -9,4 +9,5 @@ AddsValue graph node value old new = (depth : ℕ) → Fits graph node value dep
 
 -- the tapes of values, if they are of these nodes
 abbrev pub AddsValues : List Node → List ℕ → Trees → List ℕ → List ℕ → Type 0
-AddsValues graph numbers values old new = (depth : ℕ) → FitAll graph numbers values depth → new ≡ old ++ tapes_of graph numbers values
+AddsValues graph numbers values old new =
+    (depth : ℕ) → FitAll graph numbers values depth → new ≡ old ++ tapes_of graph numbers values

@@ -13,12 +13,15 @@ BeginsWithNone graph node depth tape = (value : Tree) (rest : List ℕ) → Begi
 
 -- the tapes of values of these nodes, and then the rest
 abbrev pub BeginsAll : List Node → List ℕ → ℕ → List ℕ → Trees → List ℕ → Type 0
-BeginsAll graph numbers depth tape values rest = FitAll graph numbers values depth × (tape ≡ tapes_of graph numbers values ++ rest)
+BeginsAll graph numbers depth tape values rest =
+    FitAll graph numbers values depth × (tape ≡ tapes_of graph numbers values ++ rest)
 
 -- those of no values
 abbrev pub BeginsAllWithNone : List Node → List ℕ → ℕ → List ℕ → Type 0
-BeginsAllWithNone graph numbers depth tape = (values : Trees) (rest : List ℕ) → BeginsAll graph numbers depth tape values rest → ⊥
+BeginsAllWithNone graph numbers depth tape =
+    (values : Trees) (rest : List ℕ) → BeginsAll graph numbers depth tape values rest → ⊥
 
 -- the value has the values of these nodes, whose tapes begin the tape
 abbrev pub IsItems : List Node → List ℕ → ℕ → List ℕ → Tree → List ℕ → Type 0
-IsItems graph numbers depth tape value rest = (values : Trees) × (value ≡ Items values) × BeginsAll graph numbers depth tape values rest
+IsItems graph numbers depth tape value rest =
+    (values : Trees) × (value ≡ Items values) × BeginsAll graph numbers depth tape values rest

@@ -24,7 +24,8 @@ abbrev pub IsSigned : List Entry → List Signature → ℕ → Leaf → Role �
 IsSigned es ops scope l role = (e : ℕ) × (entry_of es scope l ≡ Ok e) × HasCall ops e role
 
 abbrev pub IsAccessed : List Entry → List Signature → ℕ → Attributes → Leaf → Type 0
-IsAccessed es ops scope a l = IsSigned es ops scope l Roles.Getting × (is_set a ≡ true → IsSigned es ops scope l Roles.Setting)
+IsAccessed es ops scope a l =
+    IsSigned es ops scope l Roles.Getting × (is_set a ≡ true → IsSigned es ops scope l Roles.Setting)
 
 abbrev pub ExportSigned : List Entry → List Signature → ℕ → Export → Type 0
 ExportSigned es ops scope (Exports.Pragma p) = Unit {0}

@@ -30,6 +30,7 @@ pub record IsTaken (graph : List Node) (program : List Routine) (routine : Routi
   pub behind : work_behind graph program routine.code taken.instrs (routine.node ∷ []) ≡ Some rest
   pub within : taken.instrs ≤ length routine.code
   pub lacks : taken.is_all ≡ false → (at : RoutinePlace) (entry : ℕ) (reached : Reached)
-      → ended graph at routine entry (followed graph program at taken.instrs (drop taken.instrs routine.code) (state_of rest reached))
+      → ended graph at routine entry
+      (followed graph program at taken.instrs (drop taken.instrs routine.code) (state_of rest reached))
       ≡ Some (WrongWork at taken.instrs)
   pub whole : taken.is_all ≡ true → (taken.instrs ≡ length routine.code) × (is_done_within 64 graph rest ≡ true)

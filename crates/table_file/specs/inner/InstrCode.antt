@@ -100,11 +100,13 @@ call_only a e = absurd (omega arith)
 pub is_call : IsKind tagged_instr 11 spelled_word (λ (x : ℕ). Call x)
 is_call = record { says = λ x. refl; only = call_only }
 
-switch_only : (a : Instr) → (tagged_instr a).0 ≡ 12 → (x : Disc × (List (ℤ × ℕ) × Option ℕ)) × (a ≡ Switch x.0 x.1.0 x.1.1)
+switch_only : (a : Instr) → (tagged_instr a).0 ≡ 12
+    → (x : Disc × (List (ℤ × ℕ) × Option ℕ)) × (a ≡ Switch x.0 x.1.0 x.1.1)
 switch_only (Switch disc arms otherwise) e = ((disc, (arms, otherwise)), refl)
 switch_only a e = absurd (omega arith)
 
-pub is_switch : IsKind tagged_instr 12 (spelled_pair spelled_disc (spelled_pair (spelled_list spelled_arm) spelled_maybe))
+pub is_switch : IsKind tagged_instr 12
+    (spelled_pair spelled_disc (spelled_pair (spelled_list spelled_arm) spelled_maybe))
     (λ (x : Disc × (List (ℤ × ℕ) × Option ℕ)). Switch x.0 x.1.0 x.1.1)
 is_switch = record { says = λ x. refl; only = switch_only }
 
@@ -135,5 +137,6 @@ instr_code = tagged_code tagged_instr (elim [
   | Switch disc arms otherwise ↦
       one_kind is_switch
       (pair_code spelled_disc (spelled_pair (spelled_list spelled_arm) spelled_maybe)
-      disc_code (pair_code (spelled_list spelled_arm) spelled_maybe (list_code spelled_arm arm_code) maybe_code)).one (disc, (arms, otherwise))
+      disc_code (pair_code (spelled_list spelled_arm) spelled_maybe (list_code spelled_arm arm_code) maybe_code)).one
+      (disc, (arms, otherwise))
 ])

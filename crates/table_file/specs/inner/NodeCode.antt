@@ -2,7 +2,7 @@
 use Rattle.std.proofs.Common.{◌≡◌, ℕ, ℤ, ◌<◌, Bool, List, Option, refl, arith}
 use Rattle.type_graph.specs.declared.width.Width.{Width}
 use Rattle.type_graph.specs.declared.node.Node.{Node}
-use Rattle.type_graph.specs.declared.node.Node.TheVariants.{Whole, Octet, Char, Boolean, Enum, Text, Seq, Array, Struct, Union, Frame}
+use Rattle.type_graph.specs.declared.node.Node.TheVariants.{Integer, Octet, Char, Boolean, Enum, Text, Seq, Array, Struct, Union, Frame}
 use Rattle.table_file.specs.Octets.{spelled_word, spelled_flag, spelled_maybe, spelled_list, spelled_pair}
 use Rattle.table_file.specs.Spelling.{spelled_width, spelled_arm, tagged_node, spelled_node}
 use Rattle.table_file.specs.inner.Codes.{IsCode, pair_code, word_code, flag_code, width_code}
@@ -11,11 +11,11 @@ use Rattle.table_file.specs.inner.ListCodes.{list_code}
 use Rattle.table_file.specs.inner.LabelCode.{arm_code}
 use Rattle.table_file.specs.inner.Variants.{IsKind, one_kind, nothing, one_nothing, tagged_code}
 
-whole_only : (a : Node) → (tagged_node a).0 ≡ 0 → (x : Width × Bool) × (a ≡ Whole x.0 x.1)
-whole_only (Whole width signed) e = ((width, signed), refl)
+whole_only : (a : Node) → (tagged_node a).0 ≡ 0 → (x : Width × Bool) × (a ≡ Integer x.0 x.1)
+whole_only (Integer width signed) e = ((width, signed), refl)
 whole_only a e = absurd (omega arith)
 
-pub is_whole : IsKind tagged_node 0 (spelled_pair spelled_width spelled_flag) (λ (x : Width × Bool). Whole x.0 x.1)
+pub is_whole : IsKind tagged_node 0 (spelled_pair spelled_width spelled_flag) (λ (x : Width × Bool). Integer x.0 x.1)
 is_whole = record { says = λ x. refl; only = whole_only }
 
 octet_only : (a : Node) → (tagged_node a).0 ≡ 1 → (x : Unit {0}) × (a ≡ Octet)
@@ -95,7 +95,7 @@ node_few a = grind arith
 
 pub node_code : IsCode spelled_node
 node_code = tagged_code tagged_node (elim [
-  | Whole width signed ↦
+  | Integer width signed ↦
       one_kind is_whole
       (pair_code spelled_width spelled_flag width_code flag_code).one (width, signed)
   | Octet ↦ one_kind is_octet one_nothing tt
@@ -109,6 +109,7 @@ node_code = tagged_code tagged_node (elim [
   | Union switch arms default ↦
       one_kind is_union
       (pair_code spelled_word (spelled_pair (spelled_list spelled_arm) spelled_maybe)
-      word_code (pair_code (spelled_list spelled_arm) spelled_maybe (list_code spelled_arm arm_code) maybe_code)).one (switch, (arms, default))
+      word_code (pair_code (spelled_list spelled_arm) spelled_maybe (list_code spelled_arm arm_code) maybe_code)).one
+      (switch, (arms, default))
   | Frame members ↦ one_kind is_frame (list_code spelled_word word_code).one members
 ])

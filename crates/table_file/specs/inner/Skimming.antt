@@ -53,7 +53,8 @@ IsSize weight size items = (length items ≡ size.count) × (size.weight ≤ sum
 
 -- the nodes at the front aren't those of a graph, or none are there
 abbrev pub BeginsWithNoGraph : List ℕ → Type 0
-BeginsWithNoGraph octets = (nodes : List Node) (rest : List ℕ) → spelled_list spelled_node nodes ++? Some rest ≡ Some octets → IsGraph nodes → ⊥
+BeginsWithNoGraph octets = (nodes : List Node) (rest : List ℕ)
+    → spelled_list spelled_node nodes ++? Some rest ≡ Some octets → IsGraph nodes → ⊥
 
 -- ---- of the parts of a file
 

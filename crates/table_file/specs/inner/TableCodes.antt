@@ -77,7 +77,8 @@ one_fields a b x y octets ea eb =
     let ra = run_at (length a.0.0.1.0) spelled_which a.1 x pa.0 pa.1 in
     let rb = run_at (length b.0.0.1.0) spelled_which b.1 y pb.0 pb.1 in
     let counts : length a.0.0.1.0 ≡ length b.0.0.1.0 = ap (λ (m : MostFields). length m.0.1.0) most.0 in
-    let uses = one_each spelled_which which_code a.1 b.1 x y pb.0 (ra.0 ∙ counts ∙ sym rb.0) (ra.1 ∙ ap Some most.1) rb.1 in
+    let uses =
+    one_each spelled_which which_code a.1 b.1 x y pb.0 (ra.0 ∙ counts ∙ sym rb.0) (ra.1 ∙ ap Some most.1) rb.1 in
     let same : a ≡ b = ap₂ (λ (i : MostFields) (j : List Which). (i, j)) most.0 uses.0 in
     (same, uses.1)
 

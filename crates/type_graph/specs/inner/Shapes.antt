@@ -27,7 +27,8 @@ size_by size graph (Seq elem bound) = 4
 size_by size graph (Array elem n) = sum_by size (replicate n elem)
 size_by size graph (Struct members) = sum_by size members
 size_by size graph (Frame members) = sum_by size members
-size_by size graph (Union switch arms default) = octets_in (number_width (node_at graph switch)) + sum_by size (arm_of arms default (pos 0))
+size_by size graph (Union switch arms default) =
+    octets_in (number_width (node_at graph switch)) + sum_by size (arm_of arms default (pos 0))
 size_by size graph node = octets_in (number_width node)
 
 -- the same, within so many levels; the octet of an octet stands for what lies deeper

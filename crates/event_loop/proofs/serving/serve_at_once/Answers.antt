@@ -13,6 +13,7 @@ loop-init g c =
     let acting = acts g.S.Servant.says g.S.Servant.after in
     let w = c.args.broker.now.world in
     record {
+      looks = search rules;
       served = refl;
       room = omega arith;
       begun = search rules;
@@ -84,6 +85,7 @@ loop-preserved g c =
     let goes : GoesOn (g.L.Listener.ended c.look.new.self) acting c.admit_next.new.broker.served before (g.L.Listener.came c.admit_next.new.listener) c.sweep-moved.new.broker.world c.sweep-moved.new.slots.items =
     record { ended = swept.ended; told = c.look.ensures.ended swept.ended swept.told; going = swept.going } in
     record {
+      looks = search rules;
       served = served;
       room = search rules;
       begun = search rules;

@@ -1,10 +1,11 @@
-use Rattle.std.proofs.Common.{◌≡◌, ◌≤◌, ◌<◌, length}
+use Rattle.std.proofs.Common.{◌≡◌, ◌≤◌, ◌<◌, ◌+◌, length}
 use Rattle.broker_answers.specs.Servants.{acts}
 use Rattle.event_loop.specs.inner.Going.{GoesOn}
 use Rattle.event_loop.proofs.serving.serve_at_once.Given as goal
 
 abbrev pub invariant-loop : goal.invariant-loop
 invariant-loop g l = record {
+  looks : g.L.Listener.looks l.listener ≡ g.L.Listener.looks l.fn.listener + l.counter;
   served : l.broker.served ≡ l.fn.broker.served;
   room : 0 < length l.buffer;
   begun : l.progress.begun ≡ length (g.L.Listener.came l.listener);

@@ -8,6 +8,7 @@ invariant-loop-at g l = record {
   room : 0 < length l.buffer;
   as_long : length l.buffer ≡ length l.fn.buffer;
   came : g.L.Listener.came l.listener ≡ g.L.Listener.came l.fn.listener;
+  looks : g.L.Listener.looks l.listener ≡ g.L.Listener.looks l.fn.listener;
   served : l.broker.served ≡ l.fn.broker.served;
   fewer : length l.slots.items ≤ length l.fn.slots.items;
   going : (before : g.row.S.Denot)
