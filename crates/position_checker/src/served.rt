@@ -12,7 +12,7 @@ fn add(served: &mut Vec<Option<u32>>, number: u32, routine: &Routine)
     ensures long { length served.new.items ≡ length served.old.items }
     ensures each { (node : ℕ) → node < length served.old.items → slice_index_or served.new.items node None
         ≡ option_or (slice_index_or served.old.items node None)
-            (cond (is_serving node routine.now) (Some number) None) }
+        (cond (is_serving node routine.now) (Some number) None) }
 {
     let node = routine.node as usize;
     if routine.entry != u8::MAX || node >= served.len() || served[node].is_some() {

@@ -210,7 +210,7 @@ impl Counts {
         ensures taken { (graph : List Node) → AreCounts graph self.now → (more : List ℕ)
             → taken wanted (is_piece graph program.now instr.now) graph (numbers.now ++ more)
             ≡ taken (wanted - result.1) (is_piece graph program.now instr.now) graph
-                (drop result.0 numbers.now ++ more) }
+            (drop result.0 numbers.now ++ more) }
     {
         match piece_of(program, instr) {
             Some(piece) => self.front(piece, numbers, wanted),

@@ -75,7 +75,7 @@ pub fn leaves_are_of_parts()
 pub fn uniform_is_words()
     ensures { (graph : List Node) → IsGraph graph → (format : Format) (depth : ℕ) (w : Width) (n number : ℕ)
         → IsUniform graph w n number → Same Anywhere (Means graph format depth number)
-            (Then (Gap format w) (Many n (AnyWord format w))) }
+        (Then (Gap format w) (Many n (AnyWord format w))) }
 {}
 
 /// The value of zeros is made of those of the parts.
