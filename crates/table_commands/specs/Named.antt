@@ -2,6 +2,7 @@
 use Rattle.std.specs.Prelude.{◌≡◌, ◌≢◌, ◌⊎◌, ℕ, List, codes}
 use Rattle.position_checker.specs.Acceptance.{IsRight}
 use Rattle.table_commands.specs.Answer.{Ask, IsLine, IsRefusalOf}
+use Rattle.table_commands.specs.Files.{RefusesFile, RefusesTable}
 use Rattle.table_commands.specs.Lines.{accepted}
 use Rattle.table_commands.specs.NoReference.{IsReferenceRefusal}
 use Rattle.table_commands.specs.References.{ReferenceParts, IsReferenceLine}
@@ -73,14 +74,30 @@ IsUnwritten name (Unwritten file) = file.now ≡ name
 IsUnwritten name NoMemory = Unit {0}
 IsUnwritten name refusal = ⊥
 
+-- the file of a name was read, and its octets are refused so
+pub record IsRefusedFile (Reads : Passing) (name : List ℕ) (refusal : Refusal) : Type 0 where
+  pub other : name ≢ codes "builtin"
+  pub octets : List ℕ
+  pub read : Reads name octets
+  pub refused : RefusesFile octets refusal
+
 -- a file can't be read, or it is no table's, or its table isn't right; of the sample want of memory alone
-abbrev pub IsNoTable : List ℕ → Refusal → Type 0
-IsNoTable name (Unread file) = (name ≢ codes "builtin") × (file.now ≡ name)
-IsNoTable name (NoTable fault) = name ≢ codes "builtin"
-IsNoTable name (NotRight fault) = name ≢ codes "builtin"
-IsNoTable name TooLong = name ≢ codes "builtin"
-IsNoTable name NoMemory = Unit {0}
-IsNoTable name refusal = ⊥
+abbrev pub IsNoTable : Passing → List ℕ → Refusal → Type 0
+IsNoTable Reads name (Unread file) = (name ≢ codes "builtin") × (file.now ≡ name)
+IsNoTable Reads name (NoTable fault) = IsRefusedFile Reads name (NoTable fault)
+IsNoTable Reads name (NotRight fault) = IsRefusedFile Reads name (NotRight fault)
+IsNoTable Reads name TooLong = name ≢ codes "builtin"
+IsNoTable Reads name NoMemory = Unit {0}
+IsNoTable Reads name refusal = ⊥
+
+-- the table of a name has no octets that fit a file, or the other file can't be written
+pub record IsNotWritten (Reads : Passing) (name output : List ℕ) (refusal : Refusal) : Type 0 where
+  pub table : TableParts
+  pub is : IsTableOf Reads name table
+  pub refused : RefusesTable table refusal ⊎ IsUnwritten output refusal
+
+abbrev pub IsNoUpgrade : Passing → List ℕ → List ℕ → Refusal → Type 0
+IsNoUpgrade Reads name output refusal = IsNoTable Reads name refusal ⊎ IsNotWritten Reads name output refusal
 
 -- the table of a name has no answer
 pub record HasNoValue (Reads : Passing) (name : List ℕ) (ask : Ask) (refusal : Refusal) : Type 0 where
@@ -95,7 +112,7 @@ pub record HasNoReference (Reads : Passing) (name : List ℕ) (ask : ReferencePa
 
 -- the refusal that answers
 abbrev pub IsValueRefusal : Passing → List ℕ → Ask → Refusal → Type 0
-IsValueRefusal Reads name ask refusal = IsNoTable name refusal ⊎ HasNoValue Reads name ask refusal
+IsValueRefusal Reads name ask refusal = IsNoTable Reads name refusal ⊎ HasNoValue Reads name ask refusal
 
 abbrev pub IsNoReference : Passing → List ℕ → ReferenceParts → Refusal → Type 0
-IsNoReference Reads name ask refusal = IsNoTable name refusal ⊎ HasNoReference Reads name ask refusal
+IsNoReference Reads name ask refusal = IsNoTable Reads name refusal ⊎ HasNoReference Reads name ask refusal

@@ -1,10 +1,11 @@
 //! What the commands do with the table of a name: the sample, or that of a file.
 
-ghost use Rattle.std.specs.Prelude.{◌≡◌, ◌≤◌, length, IfOk, IfErr, OnOk};
+ghost use Rattle.std.specs.Prelude.{◌≡◌, ◌≤◌, ◌⊎◌, length, IfOk, IfErr, OnOk};
 ghost use Rattle.std.specs.String.{string_bytes};
 ghost use Rattle.table_commands.specs.Answer.{ask_of};
+ghost use Rattle.table_commands.specs.Files.{RefusesTable};
 ghost use Rattle.table_commands.specs.Lines.{accepted as accepted_routines};
-ghost use Rattle.table_commands.specs.Named.{IsCounted, IsNoReference, IsNoTable, IsReferenceOf, IsTableOf, IsUnread, IsUnwritten, IsUpgraded, IsValueLine, IsValueRefusal, IsWritten};
+ghost use Rattle.table_commands.specs.Named.{IsCounted, IsNoReference, IsNoTable, IsNoUpgrade, IsReferenceOf, IsTableOf, IsUnread, IsUnwritten, IsUpgraded, IsValueLine, IsValueRefusal, IsWritten};
 ghost use Rattle.table_commands.specs.References.{reference_parts_of};
 
 use crate::builtin::sample;
@@ -67,7 +68,7 @@ pub fn table_of<'a, R: WholeFiles + AllocGlobal>(
     name: &'a str,
 ) -> Result<Accepted, Refusal<'a>>
     ensures is { IfOk result (IsTableOf (R.reads rt.now) name.now) }
-    ensures refused { IfErr result (IsNoTable name.now) }
+    ensures refused { IfErr result (IsNoTable (R.reads rt.now) name.now) }
 {
     if name == SAMPLE {
         return match sample(rt.alloc()) {
@@ -91,7 +92,7 @@ pub fn accepted_of<'a, R: WholeFiles + AllocGlobal>(
     name: &'a str,
 ) -> Result<String, Refusal<'a>>
     ensures counted { IfOk result (λ line. IsCounted (R.reads rt.now) name.now (string_bytes line)) }
-    ensures refused { IfErr result (IsNoTable name.now) }
+    ensures refused { IfErr result (IsNoTable (R.reads rt.now) name.now) }
 {
     let table = match table_of(rt, name) {
         Ok(table) => table,
@@ -111,7 +112,7 @@ pub fn listing_of<'a, R: WholeFiles + AllocGlobal>(
     rt: &R,
     name: &'a str,
 ) -> Result<String, Refusal<'a>>
-    ensures refused { IfErr result (IsNoTable name.now) }
+    ensures refused { IfErr result (IsNoTable (R.reads rt.now) name.now) }
 {
     let table = match table_of(rt, name) {
         Ok(table) => table,
@@ -172,6 +173,7 @@ fn write_upgraded<'a, R: WholeFiles + AllocGlobal>(
 ) -> Result<String, Refusal<'a>>
     ensures written { OnOk result (IsWritten (R.takes rt.now) output.now table.now) }
     ensures line { IfOk result (λ line. string_bytes line ≡ accepted_routines table.now) }
+    ensures refused { IfErr result (λ refusal. RefusesTable table.now refusal ⊎ IsUnwritten output.now refusal) }
 {
     let octets = upgraded(rt.alloc(), table)?;
     let line = accepted_line(rt.alloc(), table)?;
@@ -189,8 +191,9 @@ pub fn upgrade<'a, R: WholeFiles + AllocGlobal>(
     name: &'a str,
     output: &'a str,
 ) -> Result<String, Refusal<'a>>
-    ensures { IfOk result (λ line.
+    ensures written { IfOk result (λ line.
         IsUpgraded (R.reads rt.now) (R.takes rt.now) name.now output.now (string_bytes line)) }
+    ensures refused { IfErr result (IsNoUpgrade (R.reads rt.now) name.now output.now) }
 {
     let table = match table_of(rt, name) {
         Ok(table) => table,
