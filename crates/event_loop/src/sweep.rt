@@ -20,11 +20,15 @@ pub(crate) fn let_go<S: Servant, L: Listener>(
     slot: Slot<L::Connection>,
     end: End,
 )
-    requires { IsThere slot.number broker.old.world.there }
+    requires known { IsThere slot.number broker.old.world.there }
+    requires there { 0 < L.there listener.old }
     ensures left { Leaves broker.old.world slot.number [] broker.new.world }
     ensures ended { (all : List (ℕ × Gone)) → L.ended listener.old all
         → L.ended listener.new (all ++ (slot.number, gone slot.told end) ∷ []) }
     ensures came { L.came listener.new ≡ L.came listener.old }
+    ensures there { L.there listener.new + 1 ≡ L.there listener.old }
+    ensures most { L.most listener.new ≡ L.most listener.old }
+    ensures port { L.port listener.new ≡ L.port listener.old }
     ensures looks { L.looks listener.new ≡ L.looks listener.old }
     ensures same { broker.new.served ≡ broker.old.served }
 {
@@ -46,6 +50,7 @@ fn serve_at<S: Servant, L: Listener>(
 ) -> Course
     requires there { at < length slots.old.items }
     requires room { 0 < length buffer.old }
+    requires open { L.there listener.old ≡ length slots.old.items }
     requires under_way { IsUnderWay (L.ended listener.old) (acts S.says S.after) broker.old.served
         (L.came listener.old) broker.old.world slots.old.items }
     ensures going { (before : S)
@@ -55,7 +60,10 @@ fn serve_at<S: Servant, L: Listener>(
         (L.came listener.old) broker.new.world slots.new.items }
     ensures shorter { (end : End) → result ≡ Over end → length slots.new.items + 1 ≡ length slots.old.items }
     ensures as_many { ((end : End) → result ≢ Over end) → length slots.new.items ≡ length slots.old.items }
+    ensures open { L.there listener.new ≡ length slots.new.items }
     ensures came { L.came listener.new ≡ L.came listener.old }
+    ensures most { L.most listener.new ≡ L.most listener.old }
+    ensures port { L.port listener.new ≡ L.port listener.old }
     ensures looks { L.looks listener.new ≡ L.looks listener.old }
     ensures same { broker.new.served ≡ broker.old.served }
     ensures as_long { length buffer.new ≡ length buffer.old }
@@ -77,6 +85,7 @@ pub(crate) fn sweep<S: Servant, L: Listener>(
     buffer: &mut [u8],
 ) -> bool
     requires room { 0 < length buffer.old }
+    requires open { L.there listener.old ≡ length slots.old.items }
     requires under_way { IsUnderWay (L.ended listener.old) (acts S.says S.after) broker.old.served
         (L.came listener.old) broker.old.world slots.old.items }
     ensures going { (before : S)
@@ -85,7 +94,10 @@ pub(crate) fn sweep<S: Servant, L: Listener>(
         → GoesOn (L.ended listener.new) (acts S.says S.after) broker.old.served before
         (L.came listener.old) broker.new.world slots.new.items }
     ensures fewer { length slots.new.items ≤ length slots.old.items }
+    ensures open { L.there listener.new ≡ length slots.new.items }
     ensures came { L.came listener.new ≡ L.came listener.old }
+    ensures most { L.most listener.new ≡ L.most listener.old }
+    ensures port { L.port listener.new ≡ L.port listener.old }
     ensures looks { L.looks listener.new ≡ L.looks listener.old }
     ensures same { broker.new.served ≡ broker.old.served }
     ensures as_long { length buffer.new ≡ length buffer.old }

@@ -34,6 +34,7 @@ pub fn served<'a, R: WholeFiles + Net + AllocGlobal, O: Write>(
         port: service.port,
         object: service.object,
         connections: service.connections,
+        at_once: service.at_once,
     };
     match serve(rt, out, table, &options) {
         Ok(()) => Ok(()),

@@ -1,5 +1,5 @@
 -- How serving an object ends.
-use Rattle.std.specs.Prelude.{◌⊎◌, ℕ, List, [], ◌∷◌, Option}
+use Rattle.std.specs.Prelude.{◌⊎◌, ⊤, ℕ, List, [], ◌∷◌, replicate, Option, Some, None}
 use Rattle.std.specs.Io.KnownBytes.{Appends, Keeps}
 use Rattle.type_model.specs.ModelRules.{Parts}
 use Rattle.broker_answers.specs.Objects.{served}
@@ -10,7 +10,8 @@ use Rattle.socket_server.specs.declared.fault.ServeFault.{ServeFault}
 use Rattle.socket_server.specs.declared.fault.ServeFault.TheVariants.{BadObject, NoInterface, Socket, Unwritten, NoMemory}
 use Rattle.socket_server.specs.Lines.{serving}
 use Rattle.socket_server.specs.Objects.{IsObjectFault, IsObjectOf}
-use Rattle.socket_server.specs.Visits.{AreServed}
+use Rattle.event_loop.specs.Visits.{AreServedBy, Gone}
+use Rattle.socket_server.specs.Visits.{AreServed, untold}
 
 -- Just so many connections came, and the object that the word names was served to each of them, by a keeper that had
 -- its attributes as they are at first, and kept them from one to the next.
@@ -20,6 +21,21 @@ pub record IsDone (model : Parts) (word : List ℕ) (count : ℕ) (came came' : 
   pub last : Keeping
   pub served_all : AreServed (acts says after) (served model (object ∷ [])) count came
       (first_keeping model (object ∷ [])) came' last
+
+-- The object that the word names was served to connections that came, at the same time, by such a keeper; of those that
+-- went some list may be told.
+pub record IsDoneTogether (Told : List (ℕ × Gone) → Type 0) (model : Parts) (word : List ℕ) (came : List Ends)
+    : Type 0 where
+  pub object : List ℕ × ℕ
+  pub is : IsObjectOf model word object
+  pub last : Keeping
+  pub served_all : AreServedBy Told (acts says after) (served model (object ∷ [])) (first_keeping model (object ∷ []))
+      came last
+
+-- Just so many connections came that tell nothing, and were served one after the other or at the same time.
+abbrev pub IsServed : Parts → List ℕ → Option ℕ → ℕ → Type 0
+IsServed model word None count = IsDone model word count [] (replicate count untold)
+IsServed model word (Some at_once) count = IsDoneTogether (λ ended. ⊤) model word (replicate count untold)
 
 -- the word names an object of an interface that is there
 pub record HasObject (model : Parts) (word : List ℕ) : Type 0 where

@@ -1,10 +1,10 @@
 //! An object served.
 
-ghost use Rattle.std.specs.Prelude.{◌≡◌, [], replicate, IfErr, OnOk, Some};
+ghost use Rattle.std.specs.Prelude.{◌≡◌, [], ⊤, replicate, IfErr, OnOk, Some};
 ghost use Rattle.std.specs.Io.KnownBytes.{Appends};
 ghost use Rattle.broker_answers.specs.Servants.{acts};
 ghost use Rattle.socket_server.specs.Lines.{serving};
-ghost use Rattle.socket_server.specs.Serving.{IsDone, IsFaultOf, IsLineOrNothing, IsOfObject, IsUnprinted};
+ghost use Rattle.socket_server.specs.Serving.{IsDone, IsDoneTogether, IsFaultOf, IsLineOrNothing, IsOfObject, IsServed, IsUnprinted};
 ghost use Rattle.socket_server.specs.Visits.{AreServed, untold};
 
 use crate::announcing::serving_line;
@@ -14,6 +14,8 @@ use crate::listener::Listener;
 use crate::loopback::Loopback;
 use crate::object::broker_of;
 use crate::options::ServeOptions;
+use crate::polled_loopback::PolledLoopback;
+use crate::serving_many::serve_many_at;
 use iiop_broker::{Broker, Servant};
 use position_checker::Accepted;
 use std::alloc::Global;
@@ -104,7 +106,7 @@ pub fn serve_at<'a, L: Listener, W: Write>(
 ///
 /// # Errors
 /// As `serve_at`.
-pub fn serve<'a, R: Net + AllocGlobal, W: Write>(
+fn serve_in_turn<'a, R: Net + AllocGlobal, W: Write>(
     rt: &R,
     out: &mut W,
     table: Accepted,
@@ -119,4 +121,53 @@ pub fn serve<'a, R: Net + AllocGlobal, W: Write>(
 {
     let mut loopback = Loopback::new(rt);
     serve_at(rt.alloc(), &mut loopback, out, table, options)
+}
+
+/// At most so many of them at the same time.
+///
+/// # Errors
+/// As `serve_many_at`.
+fn serve_many<'a, R: Net + AllocGlobal, W: Write>(
+    rt: &R,
+    out: &mut W,
+    table: Accepted,
+    options: &ServeOptions<'a>,
+    at_once: u8,
+) -> Result<(), ServeFault<'a>>
+    ensures done { OnOk result (IsDoneTogether (λ ended. ⊤) table.model options.now.object.now
+        (replicate options.now.connections untold)) }
+    ensures printed { OnOk result (Appends (W.contents out.old) (W.contents out.new) (serving options.now.port)) }
+    ensures refused { IfErr result (IsFaultOf table.model options.now.object.now) }
+    ensures printing { IfErr result (IsLineOrNothing options.now.port (W.contents out.old) (W.contents out.new)) }
+    ensures silent { IfErr result (λ fault. IsOfObject fault → out.new ≡ out.old) }
+{
+    let mut loopback = match PolledLoopback::new(rt, rt.alloc()) {
+        Ok(loopback) => loopback,
+        Err(_) => return Err(ServeFault::NoMemory),
+    };
+    serve_many_at(rt.alloc(), &mut loopback, out, table, options, at_once)
+}
+
+/// Serves an object on TCP, to connections to 127.0.0.1, which tell nothing of what they carry: one
+/// after the other, or at the same time.
+///
+/// # Errors
+/// As `serve_at`.
+pub fn serve<'a, R: Net + AllocGlobal, W: Write>(
+    rt: &R,
+    out: &mut W,
+    table: Accepted,
+    options: &ServeOptions<'a>,
+) -> Result<(), ServeFault<'a>>
+    ensures done { OnOk result
+        (IsServed table.model options.now.object.now options.now.at_once options.now.connections) }
+    ensures printed { OnOk result (Appends (W.contents out.old) (W.contents out.new) (serving options.now.port)) }
+    ensures refused { IfErr result (IsFaultOf table.model options.now.object.now) }
+    ensures printing { IfErr result (IsLineOrNothing options.now.port (W.contents out.old) (W.contents out.new)) }
+    ensures silent { IfErr result (λ fault. IsOfObject fault → out.new ≡ out.old) }
+{
+    match options.at_once {
+        None => serve_in_turn(rt, out, table, options),
+        Some(at_once) => serve_many(rt, out, table, options, at_once),
+    }
 }

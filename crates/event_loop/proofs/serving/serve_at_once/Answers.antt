@@ -14,6 +14,9 @@ loop-init g c =
     let w = c.args.broker.now.world in
     record {
       looks = search rules;
+      open = search rules;
+      most = search rules;
+      port = search rules;
       served = refl;
       room = omega arith;
       begun = search rules;
@@ -86,6 +89,9 @@ loop-preserved g c =
     record { ended = swept.ended; told = c.look.ensures.ended swept.ended swept.told; going = swept.going } in
     record {
       looks = search rules;
+      open = search rules;
+      most = search rules;
+      port = search rules;
       served = served;
       room = search rules;
       begun = search rules;
