@@ -3,7 +3,7 @@
 ghost use Rattle.std.specs.Prelude.{◌≡◌, pos, codes, IfOk, Some, None, false};
 ghost use Rattle.clap.specs.Words.{app_of, rule_of};
 ghost use Rattle.clap.specs.declared.builder.value_parser.ValueParser.TheVariants.{Names, Signed, Unsigned};
-ghost use Rattle.command_words.specs.Commands.{at_once_rule, command_app, compile_app, explain_app, first_app, option_rule, output, program_app, reference_app, serve_app, served_app, table_app, tables_app, upgrade_app, value_app, wanted};
+ghost use Rattle.command_words.specs.Commands.{at_once_rule, command_app, compile_app, explain_app, first_app, idle_rule, option_rule, output, program_app, reference_app, serve_app, served_app, table_app, tables_app, upgrade_app, value_app, wanted};
 
 use clap::{Arg, Command, value_parser};
 use std::alloc::{AllocError, Global};
@@ -179,6 +179,18 @@ fn at_once_option<'a>(alloc: Global) -> Arg<'a>
         .value_parser(value_parser!(u8).range(1..65))
 }
 
+/// The option for the seconds that a connection may be idle.
+fn idle_option<'a>(alloc: Global) -> Arg<'a>
+    ensures rule { rule_of result ≡ idle_rule }
+    ensures local { result.global ≡ false }
+{
+    Arg::new(alloc, "idle")
+        .long("idle")
+        .value_name("S")
+        .help("A connection without octets for so many seconds ends, 0 to 86400; 0 or else: none")
+        .value_parser(value_parser!(u32).range(0..86401))
+}
+
 /// The command that serves calls.
 fn serve_command<'a>(alloc: Global) -> Result<Command<'a>, AllocError>
     ensures { IfOk result (λ command. app_of command ≡ serve_app) }
@@ -187,7 +199,8 @@ fn serve_command<'a>(alloc: Global) -> Result<Command<'a>, AllocError>
         .arg(port_option(alloc))?
         .arg(object_option(alloc))?
         .arg(connections_option(alloc))?
-        .arg(at_once_option(alloc))
+        .arg(at_once_option(alloc))?
+        .arg(idle_option(alloc))
 }
 
 /// The word for the number of a refusal.

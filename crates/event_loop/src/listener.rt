@@ -16,6 +16,8 @@ pub enum End {
     Failed,
     /// Memory was wanted for it.
     GivenUp,
+    /// No octets moved for so long that it was ended.
+    Idle,
 }
 
 /// Where connections come from, and to which they are handed back. It tells what each connection
@@ -75,7 +77,8 @@ pub trait Listener {
         requires { 0 < there self.old }
         ensures came { came self.new ≡ came self.old }
         ensures ended { (all : List (ℕ × Gone)) → ended self.old all
-            → ended self.new (all ++ (number, gone (Self.Connection.told connection) end) ∷ []) }
+            → ended self.new (all
+            ++ (number, gone (Self.Connection.told connection) (Self.Connection.quiet connection) end) ∷ []) }
         ensures there { there self.new + 1 ≡ there self.old }
         ensures most { most self.new ≡ most self.old }
         ensures port { port self.new ≡ port self.old }

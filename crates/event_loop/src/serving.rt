@@ -39,10 +39,10 @@ fn admit<S: Servant, L: Listener>(
     requires room { length broker.old.world.there < 64 }
     requires absent { at number broker.old.world.there ≡ None }
     requires open { L.there listener.old ≡ length slots.old.items }
-    ensures going { (before : S)
-        → GoesOn (L.ended listener.old) (acts S.says S.after) broker.old.served before
+    ensures going { (idle : ℕ) (before : S)
+        → GoesOn (L.ended listener.old) (acts S.says S.after) broker.old.served idle before
         (L.came listener.old) broker.old.world slots.old.items
-        → GoesOn (L.ended listener.new) (acts S.says S.after) broker.old.served before
+        → GoesOn (L.ended listener.new) (acts S.says S.after) broker.old.served idle before
         (L.came listener.new) broker.new.world slots.new.items }
     ensures came { IfOk result (λ came. length (L.came listener.new) ≡ number + (if came then 1 else 0)) }
     ensures open { OnOk result (L.there listener.new ≡ length slots.new.items) }
@@ -95,12 +95,12 @@ fn admit_next<S: Servant, L: Listener>(
     requires few { length slots.old.items ≤ progress.old.at_once }
     requires most { progress.old.at_once ≤ 64 }
     requires open { L.there listener.old ≡ length slots.old.items }
-    requires under_way { IsUnderWay (L.ended listener.old) (acts S.says S.after) broker.old.served
+    requires under_way { (idle : ℕ) × IsUnderWay (L.ended listener.old) (acts S.says S.after) broker.old.served idle
         (L.came listener.old) broker.old.world slots.old.items }
-    ensures going { (before : S)
-        → GoesOn (L.ended listener.old) (acts S.says S.after) broker.old.served before
+    ensures going { (idle : ℕ) (before : S)
+        → GoesOn (L.ended listener.old) (acts S.says S.after) broker.old.served idle before
         (L.came listener.old) broker.old.world slots.old.items
-        → GoesOn (L.ended listener.new) (acts S.says S.after) broker.old.served before
+        → GoesOn (L.ended listener.new) (acts S.says S.after) broker.old.served idle before
         (L.came listener.new) broker.new.world slots.new.items }
     ensures begun { OnOk result (progress.new.begun ≡ length (L.came listener.new)) }
     ensures upto { OnOk result (progress.new.begun ≤ progress.new.count) }
@@ -127,8 +127,8 @@ fn admit_next<S: Servant, L: Listener>(
 
 /// Serves so many connections, at most so many of them at the same time: what comes on each is
 /// answered as the talk of all says, in the order in which it comes. A connection ends when all was
-/// read, the broker closed it, a read or a write failed, or memory was wanted for what came on it;
-/// the others go on.
+/// read, the broker closed it, a read or a write failed, memory was wanted for what came on it, or
+/// no octets moved on it for so many milliseconds, where these aren't 0; the others go on.
 ///
 /// # Errors
 /// `Unaccepted` where a connection can't be accepted. `Endless` after 2 ^ 64 - 1 rounds.
@@ -138,6 +138,7 @@ pub fn serve_at_once<S: Servant, L: Listener>(
     listener: &mut L,
     count: u32,
     at_once: usize,
+    idle: u64,
 ) -> Result<(), Interruption>
     requires alone { broker.old.world.there ≡ [] }
     requires fresh { L.came listener.old ≡ [] }
@@ -146,7 +147,7 @@ pub fn serve_at_once<S: Servant, L: Listener>(
     requires unlooked { L.looks listener.old ≡ 0 }
     requires few { at_once ≤ 64 }
     ensures served { OnOk result
-        (AreServedBy (L.ended listener.new) (acts S.says S.after) broker.old.served broker.old.world.servant
+        (AreServedBy (L.ended listener.new) (acts S.says S.after) broker.old.served idle broker.old.world.servant
         (L.came listener.new) broker.new.world.servant) }
     ensures count { OnOk result (length (L.came listener.new) ≡ count) }
     ensures most { L.most listener.new ≤ max (L.most listener.old) at_once }
@@ -170,7 +171,7 @@ pub fn serve_at_once<S: Servant, L: Listener>(
         if progress.begun == count && slots.is_empty() {
             return Ok(());
         }
-        let moved = sweep(broker, listener, &mut slots, &mut buffer);
+        let moved = sweep(broker, listener, &mut slots, &mut buffer, idle);
         listener.look(came | moved);
     }
     Err(Interruption::Endless)

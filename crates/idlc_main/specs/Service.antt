@@ -1,6 +1,6 @@
 -- What is served.
 use Rattle.command_words.specs.declared.task.Service.{Service}
-use Rattle.socket_server.specs.Serving.{IsServed as IsServedBy}
+use Rattle.socket_server.specs.Serving.{IsServed as IsServedBy, places_of}
 use Rattle.table_file.specs.Table.{TableParts}
 use Rattle.table_commands.specs.Named.{Passing, IsTableOf}
 
@@ -9,4 +9,5 @@ use Rattle.table_commands.specs.Named.{Passing, IsTableOf}
 pub record IsServed (Reads : Passing) (service : Service) : Type 0 where
   pub table : TableParts
   pub is : IsTableOf Reads service.table.now table
-  pub done : IsServedBy table.model service.object.now service.at_once service.connections
+  pub done : IsServedBy table.model service.object.now (places_of service.at_once service.idle)
+      service.idle service.connections

@@ -1,5 +1,5 @@
 -- How serving an object ends.
-use Rattle.std.specs.Prelude.{◌⊎◌, ⊤, ℕ, List, [], ◌∷◌, replicate, Option, Some, None}
+use Rattle.std.specs.Prelude.{◌⊎◌, ◌*◌, ⊤, ℕ, zero, suc, List, [], ◌∷◌, replicate, Option, Some, None}
 use Rattle.std.specs.Io.KnownBytes.{Appends, Keeps}
 use Rattle.type_model.specs.ModelRules.{Parts}
 use Rattle.broker_answers.specs.Objects.{served}
@@ -24,18 +24,26 @@ pub record IsDone (model : Parts) (word : List ℕ) (count : ℕ) (came came' : 
 
 -- The object that the word names was served to connections that came, at the same time, by such a keeper; of those that
 -- went some list may be told.
-pub record IsDoneTogether (Told : List (ℕ × Gone) → Type 0) (model : Parts) (word : List ℕ) (came : List Ends)
+pub record IsDoneTogether (Told : List (ℕ × Gone) → Type 0) (model : Parts) (word : List ℕ) (idle : ℕ) (came : List Ends)
     : Type 0 where
   pub object : List ℕ × ℕ
   pub is : IsObjectOf model word object
   pub last : Keeping
-  pub served_all : AreServedBy Told (acts says after) (served model (object ∷ [])) (first_keeping model (object ∷ []))
-      came last
+  pub served_all : AreServedBy Told (acts says after) (served model (object ∷ [])) idle
+      (first_keeping model (object ∷ [])) came last
 
--- Just so many connections came that tell nothing, and were served one after the other or at the same time.
-abbrev pub IsServed : Parts → List ℕ → Option ℕ → ℕ → Type 0
-IsServed model word None count = IsDone model word count [] (replicate count untold)
-IsServed model word (Some at_once) count = IsDoneTogether (λ ended. ⊤) model word (replicate count untold)
+-- how many are served at the same time at most, or that it is one after the other, with calls that wait
+abbrev pub places_of : Option ℕ → ℕ → Option ℕ
+places_of (Some at_once) idle = Some at_once
+places_of None zero = None
+places_of None (suc idle) = Some 1
+
+-- Just so many connections came that tell nothing, and were served one after the other or at the same time; those that
+-- were idle for so many seconds ended, unless these are none.
+abbrev pub IsServed : Parts → List ℕ → Option ℕ → ℕ → ℕ → Type 0
+IsServed model word None idle count = IsDone model word count [] (replicate count untold)
+IsServed model word (Some places) idle count =
+    IsDoneTogether (λ ended. ⊤) model word (idle * 1000) (replicate count untold)
 
 -- the word names an object of an interface that is there
 pub record HasObject (model : Parts) (word : List ℕ) : Type 0 where

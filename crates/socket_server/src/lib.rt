@@ -7,6 +7,7 @@ mod connections;
 mod fault;
 mod listener;
 mod loopback;
+mod misses;
 mod object;
 mod options;
 mod polled_loopback;

@@ -12,4 +12,6 @@ pub struct ServeOptions<'a> {
     /// So many of them at most at the same time: 0 is 1, and more than 64 are 64. Where there is no
     /// number, one after the other.
     pub at_once: Option<u8>,
+    /// A connection ends on which no octets move for so many seconds. 0: none does.
+    pub idle: u32,
 }

@@ -3,6 +3,7 @@
 ghost use Rattle.std.specs.Prelude.{◌≡◌, ◌≤◌, ⊤, replicate, IfOk};
 ghost use Rattle.socket_server.specs.Visits.{untold};
 
+use crate::misses::{Misses, PAUSE};
 use crate::polled_stream::{PolledStream, TRIES};
 use event_loop::{End, Listener};
 use iiop_broker::Failed;
@@ -11,13 +12,14 @@ use mio::{Events, Interest, Poll, Token};
 use std::alloc::{AllocError, Global};
 use std::io::ErrorKind;
 use std::net::{Ipv4Addr, Net, SocketAddr};
-use std::time::Duration;
+use std::time::{Clock, Duration};
 
 /// As many events are taken at a time: of 64 connections, and of those that wait to come.
 const EVENTS: usize = 65;
 
-/// No wait has more seconds: so much time is lost at most where an event doesn't come.
-const LONGEST_WAIT: u64 = 1;
+/// No wait has more milliseconds: so much time is lost at most where an event doesn't come, and so
+/// late is it seen that a connection is idle.
+const LONGEST_WAIT: u64 = 1000;
 
 /// What is listened on, and what waits until octets may move there.
 #[derive(Drop)]
@@ -60,10 +62,12 @@ impl Port {
     }
 }
 
-/// Listens on 127.0.0.1. Its connections tell nothing of the octets that they carry.
+/// Listens on 127.0.0.1. Its connections tell nothing of the octets that they carry. An accept that
+/// fails is tried again, and the first is told.
 #[derive(Drop)]
-pub struct PolledLoopback<'r, R: Net> {
+pub struct PolledLoopback<'r, R: Net + Clock + Eprint> {
     net: &'r R,
+    misses: Misses,
     port: Option<Port>,
     /// The number of the port that is listened on.
     number: Option<u16>,
@@ -77,7 +81,7 @@ pub struct PolledLoopback<'r, R: Net> {
     ghost fewer: { there ≤ count },
 }
 
-impl<'r, R: Net> PolledLoopback<'r, R> {
+impl<'r, R: Net + Clock + Eprint> PolledLoopback<'r, R> {
     pub fn new(net: &'r R, alloc: Global) -> Result<PolledLoopback<'r, R>, AllocError>
         ensures none { IfOk result (λ it. it.count ≡ 0) }
         ensures there { IfOk result (λ it. it.there ≡ 0) }
@@ -86,6 +90,7 @@ impl<'r, R: Net> PolledLoopback<'r, R> {
     {
         Ok(PolledLoopback {
             net,
+            misses: Misses::new(),
             port: None,
             number: None,
             events: Events::with_capacity(alloc, EVENTS)?,
@@ -106,8 +111,8 @@ impl<'r, R: Net> PolledLoopback<'r, R> {
     }
 }
 
-impl<'r, R: Net> Listener for PolledLoopback<'r, R> {
-    type Connection = PolledStream;
+impl<'r, R: Net + Clock + Eprint> Listener for PolledLoopback<'r, R> {
+    type Connection = PolledStream<'r, R>;
 
     ghost came = { λ it. replicate it.count untold };
 
@@ -130,21 +135,32 @@ impl<'r, R: Net> Listener for PolledLoopback<'r, R> {
         Ok(())
     }
 
-    fn accept(&mut self) -> Result<Option<PolledStream>, Failed> {
-        let (Ok(next), Some(count)) = (self.next(), self.count.checked_add(1)) else {
-            self.failed = true;
-            return Err(Failed);
-        };
-        let Some(stream) = next else {
+    fn accept(&mut self) -> Result<Option<PolledStream<'r, R>>, Failed> {
+        if self.misses.is_fresh(self.net) {
             return Ok(None);
-        };
-        self.count = count;
-        self.there += 1;
-        self.most = self.most.max(self.there);
-        Ok(Some(PolledStream::new(stream)))
+        }
+        match self.next() {
+            Ok(None) => Ok(None),
+            Ok(Some(stream)) => {
+                let Some(count) = self.count.checked_add(1) else {
+                    self.failed = true;
+                    return Err(Failed);
+                };
+                self.misses.clear();
+                self.count = count;
+                self.there += 1;
+                self.most = self.most.max(self.there);
+                Ok(Some(PolledStream::new(self.net, stream)))
+            }
+            Err(_) if self.misses.add(self.net) => Ok(None),
+            Err(_) => {
+                self.failed = true;
+                Err(Failed)
+            }
+        }
     }
 
-    fn hand_back(&mut self, _number: u32, _connection: PolledStream, _end: End) {
+    fn hand_back(&mut self, _number: u32, _connection: PolledStream<'r, R>, _end: End) {
         self.there -= 1;
     }
 
@@ -154,7 +170,8 @@ impl<'r, R: Net> Listener for PolledLoopback<'r, R> {
             return;
         }
         if let Some(port) = &mut self.port {
-            let wait = Duration::from_secs(LONGEST_WAIT);
+            let wait = if self.misses.is_some() { PAUSE } else { LONGEST_WAIT };
+            let wait = Duration::from_millis(wait);
             let _ = port.poll.poll(&mut self.events, Some(wait));
         }
     }

@@ -1,10 +1,10 @@
 //! An object served.
 
-ghost use Rattle.std.specs.Prelude.{◌≡◌, [], ⊤, replicate, IfErr, OnOk, Some};
+ghost use Rattle.std.specs.Prelude.{◌≡◌, ◌*◌, [], ⊤, replicate, IfErr, OnOk, Some};
 ghost use Rattle.std.specs.Io.KnownBytes.{Appends};
 ghost use Rattle.broker_answers.specs.Servants.{acts};
 ghost use Rattle.socket_server.specs.Lines.{serving};
-ghost use Rattle.socket_server.specs.Serving.{IsDone, IsDoneTogether, IsFaultOf, IsLineOrNothing, IsOfObject, IsServed, IsUnprinted};
+ghost use Rattle.socket_server.specs.Serving.{IsDone, IsDoneTogether, IsFaultOf, IsLineOrNothing, IsOfObject, IsServed, IsUnprinted, places_of};
 ghost use Rattle.socket_server.specs.Visits.{AreServed, untold};
 
 use crate::announcing::serving_line;
@@ -21,6 +21,7 @@ use position_checker::Accepted;
 use std::alloc::Global;
 use std::io::Write;
 use std::net::Net;
+use std::time::Clock;
 
 /// Listens, and says so.
 fn announce<'a, L: Listener, W: Write>(
@@ -106,7 +107,7 @@ pub fn serve_at<'a, L: Listener, W: Write>(
 ///
 /// # Errors
 /// As `serve_at`.
-fn serve_in_turn<'a, R: Net + AllocGlobal, W: Write>(
+fn serve_in_turn<'a, R: Net + Clock + Eprint + AllocGlobal, W: Write>(
     rt: &R,
     out: &mut W,
     table: Accepted,
@@ -127,7 +128,7 @@ fn serve_in_turn<'a, R: Net + AllocGlobal, W: Write>(
 ///
 /// # Errors
 /// As `serve_many_at`.
-fn serve_many<'a, R: Net + AllocGlobal, W: Write>(
+fn serve_many<'a, R: Net + Clock + Eprint + AllocGlobal, W: Write>(
     rt: &R,
     out: &mut W,
     table: Accepted,
@@ -135,7 +136,7 @@ fn serve_many<'a, R: Net + AllocGlobal, W: Write>(
     at_once: u8,
 ) -> Result<(), ServeFault<'a>>
     ensures done { OnOk result (IsDoneTogether (λ ended. ⊤) table.model options.now.object.now
-        (replicate options.now.connections untold)) }
+        (options.now.idle * 1000) (replicate options.now.connections untold)) }
     ensures printed { OnOk result (Appends (W.contents out.old) (W.contents out.new) (serving options.now.port)) }
     ensures refused { IfErr result (IsFaultOf table.model options.now.object.now) }
     ensures printing { IfErr result (IsLineOrNothing options.now.port (W.contents out.old) (W.contents out.new)) }
@@ -148,25 +149,37 @@ fn serve_many<'a, R: Net + AllocGlobal, W: Write>(
     serve_many_at(rt.alloc(), &mut loopback, out, table, options, at_once)
 }
 
+/// How many are served at the same time at most. With calls that wait, one that is idle can't end.
+fn places_in(options: &ServeOptions<'_>) -> Option<u8>
+    ensures { result ≡ places_of options.now.at_once options.now.idle }
+{
+    match options.at_once {
+        Some(at_once) => Some(at_once),
+        None if options.idle == 0 => None,
+        None => Some(1),
+    }
+}
+
 /// Serves an object on TCP, to connections to 127.0.0.1, which tell nothing of what they carry: one
 /// after the other, or at the same time.
 ///
 /// # Errors
 /// As `serve_at`.
-pub fn serve<'a, R: Net + AllocGlobal, W: Write>(
+pub fn serve<'a, R: Net + Clock + Eprint + AllocGlobal, W: Write>(
     rt: &R,
     out: &mut W,
     table: Accepted,
     options: &ServeOptions<'a>,
 ) -> Result<(), ServeFault<'a>>
     ensures done { OnOk result
-        (IsServed table.model options.now.object.now options.now.at_once options.now.connections) }
+        (IsServed table.model options.now.object.now (places_of options.now.at_once options.now.idle)
+        options.now.idle options.now.connections) }
     ensures printed { OnOk result (Appends (W.contents out.old) (W.contents out.new) (serving options.now.port)) }
     ensures refused { IfErr result (IsFaultOf table.model options.now.object.now) }
     ensures printing { IfErr result (IsLineOrNothing options.now.port (W.contents out.old) (W.contents out.new)) }
     ensures silent { IfErr result (λ fault. IsOfObject fault → out.new ≡ out.old) }
 {
-    match options.at_once {
+    match places_in(options) {
         None => serve_in_turn(rt, out, table, options),
         Some(at_once) => serve_many(rt, out, table, options, at_once),
     }

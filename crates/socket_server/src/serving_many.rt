@@ -1,6 +1,6 @@
 //! An object served to many connections at the same time.
 
-ghost use Rattle.std.specs.Prelude.{◌≡◌, ◌≤◌, [], length, max, IfErr, OnOk, Some};
+ghost use Rattle.std.specs.Prelude.{◌≡◌, ◌≤◌, ◌*◌, [], length, max, IfErr, OnOk, Some};
 ghost use Rattle.std.specs.Io.KnownBytes.{Appends};
 ghost use Rattle.broker_answers.specs.Servants.{acts};
 ghost use Rattle.event_loop.specs.Visits.{AreServedBy};
@@ -65,6 +65,7 @@ fn serve_by<'a, S: Servant, L: Listener, W: Write>(
     out: &mut W,
     options: &ServeOptions<'_>,
     places: usize,
+    idle: u64,
 ) -> Result<(), ServeFault<'a>>
     requires alone { broker.old.world.there ≡ [] }
     requires fresh { L.came listener.old ≡ [] }
@@ -73,7 +74,7 @@ fn serve_by<'a, S: Servant, L: Listener, W: Write>(
     requires unlooked { L.looks listener.old ≡ 0 }
     requires few { places ≤ 64 }
     ensures done { OnOk result
-        (AreServedBy (L.ended listener.new) (acts S.says S.after) broker.old.served broker.old.world.servant
+        (AreServedBy (L.ended listener.new) (acts S.says S.after) broker.old.served idle broker.old.world.servant
         (L.came listener.new) broker.new.world.servant) }
     ensures count { OnOk result (length (L.came listener.new) ≡ options.now.connections) }
     ensures most { L.most listener.new ≤ max (L.most listener.old) places }
@@ -86,7 +87,7 @@ fn serve_by<'a, S: Servant, L: Listener, W: Write>(
         Ok(()) => {}
         Err(fault) => return Err(fault),
     }
-    match serve_at_once(alloc, broker, listener, options.connections, places) {
+    match serve_at_once(alloc, broker, listener, options.connections, places, idle) {
         Ok(()) => Ok(()),
         Err(_) => Err(ServeFault::Socket),
     }
@@ -94,7 +95,7 @@ fn serve_by<'a, S: Servant, L: Listener, W: Write>(
 
 /// Serves an object of a table's interface to connections that a listener has come, at most so many
 /// at the same time, and prints `serving` and the port once it listens. A connection that breaks off
-/// counts as one that ends well.
+/// or is idle for too long counts as one that ends well.
 ///
 /// # Errors
 /// `BadObject` and `NoInterface` before anything is listened on. `Socket` where the port can't be
@@ -113,7 +114,8 @@ pub fn serve_many_at<'a, L: Listener, W: Write>(
     requires empty { L.there listener.old ≡ 0 }
     requires unlooked { L.looks listener.old ≡ 0 }
     ensures done { OnOk result
-        (IsDoneTogether (L.ended listener.new) table.model options.now.object.now (L.came listener.new)) }
+        (IsDoneTogether (L.ended listener.new) table.model options.now.object.now (options.now.idle * 1000)
+        (L.came listener.new)) }
     ensures count { OnOk result (length (L.came listener.new) ≡ options.now.connections) }
     ensures most { 1 ≤ at_once → L.most listener.new ≤ max (L.most listener.old) at_once }
     ensures listens { OnOk result (L.port listener.new ≡ Some options.now.port) }
@@ -127,5 +129,6 @@ pub fn serve_many_at<'a, L: Listener, W: Write>(
         Ok(broker) => broker,
         Err(fault) => return Err(fault),
     };
-    serve_by(alloc, &mut broker, listener, out, options, places(at_once))
+    let idle = u64::from(options.idle) * 1000;
+    serve_by(alloc, &mut broker, listener, out, options, places(at_once), idle)
 }

@@ -16,6 +16,6 @@ invariant-loop g l = record {
   few : length l.slots.items ≤ l.progress.at_once;
   count : l.progress.count ≡ l.count;
   at_once : l.progress.at_once ≡ l.at_once;
-  going : GoesOn (g.L.Listener.ended l.listener) (acts g.S.Servant.says g.S.Servant.after) l.fn.broker.served l.fn.broker.world.servant
+  going : GoesOn (g.L.Listener.ended l.listener) (acts g.S.Servant.says g.S.Servant.after) l.fn.broker.served l.idle l.fn.broker.world.servant
       (g.L.Listener.came l.listener) l.broker.world l.slots.items;
 }

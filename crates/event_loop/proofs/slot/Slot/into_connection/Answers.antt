@@ -1,0 +1,1 @@
+use Rattle.event_loop.proofs.slot.Slot.into_connection.Goals as goal
