@@ -11,15 +11,16 @@ use Rattle.socket_server.specs.declared.fault.ServeFault.TheVariants.{BadObject,
 use Rattle.socket_server.specs.Lines.{serving}
 use Rattle.socket_server.specs.Objects.{IsObjectFault, IsObjectOf}
 use Rattle.event_loop.specs.Visits.{AreServedBy, Gone}
-use Rattle.socket_server.specs.Visits.{AreServed, untold}
+use Rattle.socket_server.specs.Visits.{AreServed, Went, untold}
 
 -- Just so many connections came, and the object that the word names was served to each of them, by a keeper that had
--- its attributes as they are at first, and kept them from one to the next.
-pub record IsDone (model : Parts) (word : List ℕ) (count : ℕ) (came came' : List Ends) : Type 0 where
+-- its attributes as they are at first, and kept them from one to the next; of those that went some list may be told.
+pub record IsDone (Told : List Went → Type 0) (model : Parts) (word : List ℕ) (count : ℕ) (came came' : List Ends)
+    : Type 0 where
   pub object : List ℕ × ℕ
   pub is : IsObjectOf model word object
   pub last : Keeping
-  pub served_all : AreServed (acts says after) (served model (object ∷ [])) count came
+  pub served_all : AreServed Told (acts says after) (served model (object ∷ [])) count came
       (first_keeping model (object ∷ [])) came' last
 
 -- The object that the word names was served to connections that came, at the same time, by such a keeper; of those that
@@ -41,7 +42,7 @@ places_of None (suc idle) = Some 1
 -- Just so many connections came that tell nothing, and were served one after the other or at the same time; those that
 -- were idle for so many seconds ended, unless these are none.
 abbrev pub IsServed : Parts → List ℕ → Option ℕ → ℕ → ℕ → Type 0
-IsServed model word None idle count = IsDone model word count [] (replicate count untold)
+IsServed model word None idle count = IsDone (λ gone. ⊤) model word count [] (replicate count untold)
 IsServed model word (Some places) idle count =
     IsDoneTogether (λ ended. ⊤) model word (idle * 1000) (replicate count untold)
 

@@ -16,7 +16,7 @@ mod serving;
 mod serving_many;
 
 pub use announcing::serving_line;
-pub use connections::{Interruption, serve_connections};
+pub use connections::serve_connections;
 pub use fault::ServeFault;
 pub use listener::Listener;
 pub use loopback::Loopback;

@@ -1,11 +1,11 @@
 //! Sockets of this machine alone.
 
-ghost use Rattle.std.specs.Prelude.{◌≡◌, false, replicate, IfSome};
+ghost use Rattle.std.specs.Prelude.{◌≡◌, ⊤, false, replicate, IfSome};
 ghost use Rattle.socket_server.specs.Visits.{untold};
 
 use crate::listener::Listener;
 use crate::misses::{Misses, PAUSE, TRIES};
-use iiop_broker::{Failed, Wire};
+use iiop_broker::{Failed, StreamFault, Wire};
 use std::net::{Net, OpenListener, OpenStream, TcpListener};
 use std::thread;
 use std::time::{Clock, Duration};
@@ -21,6 +21,7 @@ pub struct Loopback<'r, R: Net + Clock + Eprint> {
     port: Option<u16>,
     /// How many connections have come.
     count: u64,
+    failed: bool,
 }
 
 impl<'r, R: Net + Clock + Eprint> Loopback<'r, R> {
@@ -33,6 +34,7 @@ impl<'r, R: Net + Clock + Eprint> Loopback<'r, R> {
             socket: None,
             port: None,
             count: 0,
+            failed: false,
         }
     }
 }
@@ -52,6 +54,31 @@ fn next<S: OpenStream + Drop, T: OpenListener<Stream = S>>(socket: &T) -> Option
     }
 }
 
+impl<'r, R: Net + Clock + Eprint> Loopback<'r, R> {
+    /// The two ends of the next connection, for which it is tried often enough.
+    fn wait(&mut self) -> Option<(Wire<R::Stream>, Wire<R::Stream>)>
+        ensures reading { IfSome result (λ it. it.0.failed ≡ false) }
+        ensures writing { IfSome result (λ it. it.1.failed ≡ false) }
+        ensures port { self.new.port ≡ self.old.port }
+        ensures count { self.new.count ≡ self.old.count }
+    {
+        let Some(socket) = &self.socket else {
+            return None;
+        };
+        for _ in 0..TRIES {
+            if let Some(ends) = next(socket) {
+                self.misses.clear();
+                return Some(ends);
+            }
+            if !self.misses.add(self.net) {
+                return None;
+            }
+            thread::sleep(self.net, Duration::from_millis(PAUSE));
+        }
+        None
+    }
+}
+
 impl<'r, R: Net + Clock + Eprint> Listener for Loopback<'r, R> {
     type Reader = Wire<R::Stream>;
 
@@ -59,7 +86,11 @@ impl<'r, R: Net + Clock + Eprint> Listener for Loopback<'r, R> {
 
     ghost came = { λ loopback. replicate loopback.count untold };
 
+    ghost went = { λ loopback all. ⊤ };
+
     ghost port = { λ loopback. loopback.port };
+
+    ghost failure = { λ loopback. loopback.failed };
 
     fn listen(&mut self, number: u16) -> Result<(), Failed> {
         match TcpListener::bind(self.net, ("127.0.0.1", number)) {
@@ -73,20 +104,23 @@ impl<'r, R: Net + Clock + Eprint> Listener for Loopback<'r, R> {
     }
 
     fn accept(&mut self) -> Result<(Wire<R::Stream>, Wire<R::Stream>), Failed> {
-        let (Some(socket), Some(count)) = (&self.socket, self.count.checked_add(1)) else {
-            return Err(Failed);
-        };
-        for _ in 0..TRIES {
-            if let Some(ends) = next(socket) {
-                self.misses.clear();
+        match (self.wait(), self.count.checked_add(1)) {
+            (Some(ends), Some(count)) => {
                 self.count = count;
-                return Ok(ends);
+                Ok(ends)
             }
-            if !self.misses.add(self.net) {
-                return Err(Failed);
+            _ => {
+                self.failed = true;
+                Err(Failed)
             }
-            thread::sleep(self.net, Duration::from_millis(PAUSE));
         }
-        Err(Failed)
+    }
+
+    fn hand_back(
+        &mut self,
+        _reader: Wire<R::Stream>,
+        _writer: Wire<R::Stream>,
+        _result: Result<(), StreamFault>,
+    ) {
     }
 }

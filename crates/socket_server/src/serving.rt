@@ -30,6 +30,8 @@ fn announce<'a, L: Listener, W: Write>(
     out: &mut W,
     port: u16,
 ) -> Result<(), ServeFault<'a>>
+    requires none { L.went listener.old [] }
+    ensures none { L.went listener.new [] }
     ensures came { L.came listener.new ≡ L.came listener.old }
     ensures listens { OnOk result (L.port listener.new ≡ Some port) }
     ensures printed { OnOk result (Appends (W.contents out.old) (W.contents out.new) (serving port)) }
@@ -55,7 +57,9 @@ fn serve_by<'a, S: Servant, L: Listener, W: Write>(
     options: &ServeOptions<'_>,
 ) -> Result<(), ServeFault<'a>>
     requires alone { broker.old.world.there ≡ [] }
-    ensures done { OnOk result (AreServed (acts S.says S.after) broker.old.served options.now.connections
+    requires none { L.went listener.old [] }
+    ensures done { OnOk result
+        (AreServed (L.went listener.new) (acts S.says S.after) broker.old.served options.now.connections
         (L.came listener.old) broker.old.world.servant (L.came listener.new) broker.new.world.servant) }
     ensures listens { OnOk result (L.port listener.new ≡ Some options.now.port) }
     ensures printed { OnOk result (Appends (W.contents out.old) (W.contents out.new) (serving options.now.port)) }
@@ -68,7 +72,7 @@ fn serve_by<'a, S: Servant, L: Listener, W: Write>(
     }
     match serve_connections(broker, listener, options.connections) {
         Ok(()) => Ok(()),
-        Err(interruption) => Err(ServeFault::from(interruption)),
+        Err(_) => Err(ServeFault::Socket),
     }
 }
 
@@ -87,7 +91,9 @@ pub fn serve_at<'a, L: Listener, W: Write>(
     table: Accepted,
     options: &ServeOptions<'a>,
 ) -> Result<(), ServeFault<'a>>
-    ensures done { OnOk result (IsDone table.model options.now.object.now options.now.connections
+    requires none { L.went listener.old [] }
+    ensures done { OnOk result
+        (IsDone (L.went listener.new) table.model options.now.object.now options.now.connections
         (L.came listener.old) (L.came listener.new)) }
     ensures listens { OnOk result (L.port listener.new ≡ Some options.now.port) }
     ensures printed { OnOk result (Appends (W.contents out.old) (W.contents out.new) (serving options.now.port)) }
@@ -113,7 +119,8 @@ fn serve_in_turn<'a, R: Net + Clock + Eprint + AllocGlobal, W: Write>(
     table: Accepted,
     options: &ServeOptions<'a>,
 ) -> Result<(), ServeFault<'a>>
-    ensures done { OnOk result (IsDone table.model options.now.object.now options.now.connections []
+    ensures done { OnOk result
+        (IsDone (λ gone. ⊤) table.model options.now.object.now options.now.connections []
         (replicate options.now.connections untold)) }
     ensures printed { OnOk result (Appends (W.contents out.old) (W.contents out.new) (serving options.now.port)) }
     ensures refused { IfErr result (IsFaultOf table.model options.now.object.now) }
