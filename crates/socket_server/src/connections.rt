@@ -31,8 +31,8 @@ fn serve_next<S: Servant, L: Listener>(
         Ok(ends) => ends,
         Err(failed) => return Err(failed),
     };
-    let result = serve_stream(broker, CONNECTION, &mut reader, &mut writer);
-    listener.hand_back(reader, writer, result);
+    let end = serve_stream(broker, CONNECTION, &mut reader, &mut writer);
+    listener.hand_back(reader, writer, end);
     Ok(())
 }
 

@@ -50,11 +50,11 @@ pub trait Listener {
         &mut self,
         reader: Self::Reader,
         writer: Self::Writer,
-        result: Result<(), StreamFault>,
+        end: Result<(), StreamFault>,
     )
         ensures came { came self.new ≡ came self.old }
         ensures went { (all : List Went) → went self.old all → went self.new (all
             ++ went_as (ends (Self.Reader.left reader) (Self.Writer.written writer) (Self.Reader.failure reader)
-            (Self.Writer.failure writer)) result ∷ []) }
+            (Self.Writer.failure writer)) end ∷ []) }
         ensures port { port self.new ≡ port self.old };
 }

@@ -120,7 +120,7 @@ impl<'r, R: Net + Clock + Eprint> Listener for Loopback<'r, R> {
         &mut self,
         _reader: Wire<R::Stream>,
         _writer: Wire<R::Stream>,
-        _result: Result<(), StreamFault>,
+        _end: Result<(), StreamFault>,
     ) {
     }
 }

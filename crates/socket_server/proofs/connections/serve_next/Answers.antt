@@ -9,13 +9,13 @@ pub returns-clause-visit : goal.returns-clause-visit
 returns-clause-visit g c =
     let acting = acts g.S.Servant.says g.S.Servant.after in
     let before = c.args.broker.now in
-    let after = c.serve_stream-result.new.broker.world in
+    let after = c.serve_stream-end.new.broker.world in
     let from = ends (g.L.Reader.Input.left c.in-Ok.reader) (g.L.Writer.Output.written c.in-Ok.writer) (g.L.Reader.Input.failure c.in-Ok.reader) (g.L.Writer.Output.failure c.in-Ok.writer) in
-    let to = ends (g.L.Reader.Input.left c.serve_stream-result.new.reader) (g.L.Writer.Output.written c.serve_stream-result.new.writer) (g.L.Reader.Input.failure c.serve_stream-result.new.reader) (g.L.Writer.Output.failure c.serve_stream-result.new.writer) in
+    let to = ends (g.L.Reader.Input.left c.serve_stream-end.new.reader) (g.L.Writer.Output.written c.serve_stream-end.new.writer) (g.L.Reader.Input.failure c.serve_stream-end.new.reader) (g.L.Writer.Output.failure c.serve_stream-end.new.writer) in
     record {
       from = from;
-      to = went_as to c.serve_stream-result.result;
+      to = went_as to c.serve_stream-end.result;
       came_is = search rules;
       gone = λ all told. c.hand_back.ensures.went all (c.accept.ensures.went all told);
-      seen = seen_of acting before.served before.world from c.serve_stream-result.result after to c.requires c.serve_stream-result.ensures.served;
+      seen = seen_of acting before.served before.world from c.serve_stream-end.result after to c.requires c.serve_stream-end.ensures.served;
     }
