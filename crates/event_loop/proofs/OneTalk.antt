@@ -64,11 +64,12 @@ module _ {S : Type 0} (acting : Acting S) (served : Served) (rules : IsGraph ser
     happens_once w x y (Brings c octets) a b p q =
         let kept = one_kept (at c w.there) p.kept q.kept p.there q.there in
         let same = serves_once acting served rules (keeping.heard q.kept octets).raws w.servant a b p.closes q.closes p.servant q.servant
-        (subst (λ (k : C). Serves acting served (keeping.heard k octets).raws w.servant a p.closes p.servant) kept p.served) q.served in
-        (same.answer,
-        p.now ∙ ap (λ (s : S). brought_to w c octets s p.closes p.kept) same.state
-        ∙ ap (λ (d : Bool). brought_to w c octets q.servant d p.kept) same.closing
-        ∙ ap (λ (k : C). brought_to w c octets q.servant q.closes k) kept ∙ sym q.now)
+        (subst (λ (k : C). Serves acting served (keeping.heard k octets).raws w.servant a p.closes p.servant) kept p.served) q.served in (
+          same.answer,
+          p.now ∙ ap (λ (s : S). brought_to w c octets s p.closes p.kept) same.state
+              ∙ ap (λ (d : Bool). brought_to w c octets q.servant d p.kept) same.closing
+              ∙ ap (λ (k : C). brought_to w c octets q.servant q.closes k) kept ∙ sym q.now,
+        )
     happens_once w x y (GivesUp c octets j) a b p q =
         let kept = one_kept (at c w.there) p.kept q.kept p.there q.there in
         let same = moves_once (take j (keeping.heard q.kept octets).raws) w.servant p.servant q.servant

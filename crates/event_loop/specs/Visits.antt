@@ -107,6 +107,7 @@ pub record AreServed {S : Type 0} (acting : Acting S) (served : Served) (idle : 
   pub each : (c : ℕ) → c < length came → IsVisit acting served idle before said came ended c
 
 -- the same, for some list of those that went that may be told
-abbrev pub AreServedBy : {S : Type 0} → (List (ℕ × Gone) → Type 0) → Acting S → Served → ℕ → S → List Ends → S → Type 0
+abbrev pub AreServedBy : {S : Type 0} → (List (ℕ × Gone) → Type 0) → Acting S → Served → ℕ → S → List Ends → S
+    → Type 0
 AreServedBy Told acting served idle before came after =
     (ended : List (ℕ × Gone)) × Told ended × AreServed acting served idle before came ended after

@@ -38,14 +38,14 @@ fn admit<S: Servant, L: Listener>(
     requires number { number ≡ length (L.came listener.old) }
     requires room { length broker.old.world.there < 64 }
     requires absent { at number broker.old.world.there ≡ None }
-    requires open { L.there listener.old ≡ length slots.old.items }
+    requires filled { L.there listener.old ≡ length slots.old.items }
     ensures going { (idle : ℕ) (before : S)
         → GoesOn (L.ended listener.old) (acts S.says S.after) broker.old.served idle before
         (L.came listener.old) broker.old.world slots.old.items
         → GoesOn (L.ended listener.new) (acts S.says S.after) broker.old.served idle before
         (L.came listener.new) broker.new.world slots.new.items }
     ensures came { IfOk result (λ came. length (L.came listener.new) ≡ number + (if came then 1 else 0)) }
-    ensures open { OnOk result (L.there listener.new ≡ length slots.new.items) }
+    ensures filled { OnOk result (L.there listener.new ≡ length slots.new.items) }
     ensures few { length slots.new.items ≤ length slots.old.items + 1 }
     ensures most { L.most listener.new ≤ max (L.most listener.old) (length slots.old.items + 1) }
     ensures port { L.port listener.new ≡ L.port listener.old }
@@ -94,7 +94,7 @@ fn admit_next<S: Servant, L: Listener>(
     requires upto { progress.old.begun ≤ progress.old.count }
     requires few { length slots.old.items ≤ progress.old.at_once }
     requires most { progress.old.at_once ≤ 64 }
-    requires open { L.there listener.old ≡ length slots.old.items }
+    requires filled { L.there listener.old ≡ length slots.old.items }
     requires under_way { (idle : ℕ) × IsUnderWay (L.ended listener.old) (acts S.says S.after) broker.old.served idle
         (L.came listener.old) broker.old.world slots.old.items }
     ensures going { (idle : ℕ) (before : S)
@@ -104,7 +104,7 @@ fn admit_next<S: Servant, L: Listener>(
         (L.came listener.new) broker.new.world slots.new.items }
     ensures begun { OnOk result (progress.new.begun ≡ length (L.came listener.new)) }
     ensures upto { OnOk result (progress.new.begun ≤ progress.new.count) }
-    ensures open { OnOk result (L.there listener.new ≡ length slots.new.items) }
+    ensures filled { OnOk result (L.there listener.new ≡ length slots.new.items) }
     ensures few { OnOk result (length slots.new.items ≤ progress.new.at_once) }
     ensures most { L.most listener.new ≤ max (L.most listener.old) progress.old.at_once }
     ensures port { L.port listener.new ≡ L.port listener.old }

@@ -52,7 +52,7 @@ fn serve_at<S: Servant, L: Listener>(
 ) -> Course
     requires there { at < length slots.old.items }
     requires room { 0 < length buffer.old }
-    requires open { L.there listener.old ≡ length slots.old.items }
+    requires filled { L.there listener.old ≡ length slots.old.items }
     requires under_way { IsUnderWay (L.ended listener.old) (acts S.says S.after) broker.old.served idle
         (L.came listener.old) broker.old.world slots.old.items }
     ensures going { (before : S)
@@ -62,7 +62,7 @@ fn serve_at<S: Servant, L: Listener>(
         (L.came listener.old) broker.new.world slots.new.items }
     ensures shorter { (end : End) → result ≡ Over end → length slots.new.items + 1 ≡ length slots.old.items }
     ensures as_many { ((end : End) → result ≢ Over end) → length slots.new.items ≡ length slots.old.items }
-    ensures open { L.there listener.new ≡ length slots.new.items }
+    ensures filled { L.there listener.new ≡ length slots.new.items }
     ensures came { L.came listener.new ≡ L.came listener.old }
     ensures most { L.most listener.new ≡ L.most listener.old }
     ensures port { L.port listener.new ≡ L.port listener.old }
@@ -88,7 +88,7 @@ pub(crate) fn sweep<S: Servant, L: Listener>(
     idle: u64,
 ) -> bool
     requires room { 0 < length buffer.old }
-    requires open { L.there listener.old ≡ length slots.old.items }
+    requires filled { L.there listener.old ≡ length slots.old.items }
     requires under_way { IsUnderWay (L.ended listener.old) (acts S.says S.after) broker.old.served idle
         (L.came listener.old) broker.old.world slots.old.items }
     ensures going { (before : S)
@@ -97,7 +97,7 @@ pub(crate) fn sweep<S: Servant, L: Listener>(
         → GoesOn (L.ended listener.new) (acts S.says S.after) broker.old.served idle before
         (L.came listener.old) broker.new.world slots.new.items }
     ensures fewer { length slots.new.items ≤ length slots.old.items }
-    ensures open { L.there listener.new ≡ length slots.new.items }
+    ensures filled { L.there listener.new ≡ length slots.new.items }
     ensures came { L.came listener.new ≡ L.came listener.old }
     ensures most { L.most listener.new ≡ L.most listener.old }
     ensures port { L.port listener.new ≡ L.port listener.old }

@@ -25,8 +25,8 @@ pub record IsDone (Told : List Went → Type 0) (model : Parts) (word : List ℕ
 
 -- The object that the word names was served to connections that came, at the same time, by such a keeper; of those that
 -- went some list may be told.
-pub record IsDoneTogether (Told : List (ℕ × Gone) → Type 0) (model : Parts) (word : List ℕ) (idle : ℕ) (came : List Ends)
-    : Type 0 where
+pub record IsDoneTogether (Told : List (ℕ × Gone) → Type 0) (model : Parts) (word : List ℕ) (idle : ℕ)
+    (came : List Ends) : Type 0 where
   pub object : List ℕ × ℕ
   pub is : IsObjectOf model word object
   pub last : Keeping

@@ -121,6 +121,5 @@ impl<'r, R: Net + Clock + Eprint> Listener for Loopback<'r, R> {
         _reader: Wire<R::Stream>,
         _writer: Wire<R::Stream>,
         _end: Result<(), StreamFault>,
-    ) {
-    }
+    ) {}
 }

@@ -170,7 +170,11 @@ impl<'r, R: Net + Clock + Eprint> Listener for PolledLoopback<'r, R> {
             return;
         }
         if let Some(port) = &mut self.port {
-            let wait = if self.misses.is_some() { PAUSE } else { LONGEST_WAIT };
+            let wait = if self.misses.is_some() {
+                PAUSE
+            } else {
+                LONGEST_WAIT
+            };
             let wait = Duration::from_millis(wait);
             let _ = port.poll.poll(&mut self.events, Some(wait));
         }

@@ -130,5 +130,13 @@ pub fn serve_many_at<'a, L: Listener, W: Write>(
         Err(fault) => return Err(fault),
     };
     let idle = u64::from(options.idle) * 1000;
-    serve_by(alloc, &mut broker, listener, out, options, places(at_once), idle)
+    serve_by(
+        alloc,
+        &mut broker,
+        listener,
+        out,
+        options,
+        places(at_once),
+        idle,
+    )
 }

@@ -45,8 +45,8 @@ pub record IsOpen (said : Log) (came : List Ends) (one : Slotted) : Type 0 where
   pub wrote : one.told.written ≡ written_with from.written sent
 
 -- one that went
-pub record IsGone {S : Type 0} (acting : Acting S) (served : Served) (idle : ℕ) (before : S) (said : Log) (came : List Ends)
-    (slots : List Slotted) (one : ℕ × Gone) : Type 0 where
+pub record IsGone {S : Type 0} (acting : Acting S) (served : Served) (idle : ℕ) (before : S) (said : Log)
+    (came : List Ends) (slots : List Slotted) (one : ℕ × Gone) : Type 0 where
   pub from : Ends
   pub came_is : slice_get came one.0 ≡ Some from
   pub carried : IsCarried acting served idle before said one.0 from one.1
@@ -74,8 +74,8 @@ pub record IsOn {S : Type 0} (acting : Acting S) (served : Served) (idle : ℕ) 
       → HasEnded acting served idle before going.said slot.number slot.waiting slot.told slot.quiet end
 
 -- the same, for some list of those that went that may be told
-pub record GoesOn {S : Type 0} (Told : List (ℕ × Gone) → Type 0) (acting : Acting S) (served : Served) (idle : ℕ) (before : S)
-    (came : List Ends) (now : World S Stream) (slots : List Slotted) : Type 0 where
+pub record GoesOn {S : Type 0} (Told : List (ℕ × Gone) → Type 0) (acting : Acting S) (served : Served) (idle : ℕ)
+    (before : S) (came : List Ends) (now : World S Stream) (slots : List Slotted) : Type 0 where
   pub ended : List (ℕ × Gone)
   pub told : Told ended
   pub going : IsGoing acting served idle before came ended now slots

@@ -14,7 +14,7 @@ loop-init g c =
     let w = c.args.broker.now.world in
     record {
       looks = search rules;
-      open = search rules;
+      filled = search rules;
       most = search rules;
       port = search rules;
       served = refl;
@@ -89,7 +89,7 @@ loop-preserved g c =
     record { ended = swept.ended; told = c.look.ensures.ended swept.ended swept.told; going = swept.going } in
     record {
       looks = search rules;
-      open = search rules;
+      filled = search rules;
       most = search rules;
       port = search rules;
       served = served;

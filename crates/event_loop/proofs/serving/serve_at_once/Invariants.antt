@@ -6,7 +6,7 @@ use Rattle.event_loop.proofs.serving.serve_at_once.Given as goal
 abbrev pub invariant-loop : goal.invariant-loop
 invariant-loop g l = record {
   looks : g.L.Listener.looks l.listener ≡ l.counter;
-  open : g.L.Listener.there l.listener ≡ length l.slots.items;
+  filled : g.L.Listener.there l.listener ≡ length l.slots.items;
   most : g.L.Listener.most l.listener ≤ max (g.L.Listener.most l.fn.listener) l.at_once;
   port : g.L.Listener.port l.listener ≡ g.L.Listener.port l.fn.listener;
   served : l.broker.served ≡ l.fn.broker.served;

@@ -7,7 +7,7 @@ abbrev pub invariant-loop-at : goal.invariant-loop-at
 invariant-loop-at g l = record {
   room : 0 < length l.buffer;
   as_long : length l.buffer ≡ length l.fn.buffer;
-  open : g.L.Listener.there l.listener ≡ length l.slots.items;
+  filled : g.L.Listener.there l.listener ≡ length l.slots.items;
   most : g.L.Listener.most l.listener ≡ g.L.Listener.most l.fn.listener;
   port : g.L.Listener.port l.listener ≡ g.L.Listener.port l.fn.listener;
   came : g.L.Listener.came l.listener ≡ g.L.Listener.came l.fn.listener;
