@@ -91,8 +91,8 @@ pub record IsCarried {S : Type 0} (acting : Acting S) (served : Served) (idle : 
   pub ended : HasEnded acting served idle before said c waiting to.told to.quiet to.end
 
 -- the connection that came as this number among all, and what it told when it was handed back
-pub record IsVisit {S : Type 0} (acting : Acting S) (served : Served) (idle : ℕ) (before : S) (said : Log) (came : List Ends)
-    (ended : List (ℕ × Gone)) (c : ℕ) : Type 0 where
+pub record IsVisit {S : Type 0} (acting : Acting S) (served : Served) (idle : ℕ) (before : S) (said : Log)
+    (came : List Ends) (ended : List (ℕ × Gone)) (c : ℕ) : Type 0 where
   pub from : Ends
   pub to : Gone
   pub came_is : slice_get came c ≡ Some from
