@@ -1,5 +1,5 @@
 -- How serving an object ends.
-use Rattle.std.specs.Prelude.{◌⊎◌, ◌*◌, ⊤, ℕ, zero, suc, List, [], ◌∷◌, replicate, Option, Some, None}
+use Rattle.std.specs.Prelude.{◌≡◌, ◌⊎◌, ◌*◌, ⊤, ℕ, zero, suc, List, [], ◌∷◌, replicate, Option, Some, None}
 use Rattle.std.specs.Io.KnownBytes.{Appends, Keeps}
 use Rattle.type_model.specs.ModelRules.{Parts}
 use Rattle.broker_answers.specs.Objects.{served}
@@ -70,9 +70,15 @@ abbrev pub IsLineOrNothing : ℕ → Option (List ℕ) → Option (List ℕ) →
 IsLineOrNothing port old new Unwritten = Unit {0}
 IsLineOrNothing port old new fault = Appends old new (serving port) ⊎ Keeps old new
 
--- the line isn't printed: the port isn't listened on, there is no memory for the line, or printing failed
-abbrev pub IsUnprinted : Option (List ℕ) → Option (List ℕ) → ServeFault → Type 0
-IsUnprinted old new Unwritten = Unit {0}
-IsUnprinted old new Socket = Keeps old new
-IsUnprinted old new NoMemory = Keeps old new
-IsUnprinted old new fault = ⊥
+-- the same, and where the line or a part of it was printed the port is listened on
+abbrev pub IsHeardOrNothing : ℕ → Option ℕ → Option (List ℕ) → Option (List ℕ) → ServeFault → Type 0
+IsHeardOrNothing port listened old new Unwritten = listened ≡ Some port
+IsHeardOrNothing port listened old new fault =
+    (Appends old new (serving port) × (listened ≡ Some port)) ⊎ Keeps old new
+
+-- The line isn't printed: the port isn't listened on, or there is no memory for the line; or printing failed.
+abbrev pub IsUnprinted : ℕ → Option ℕ → Option (List ℕ) → Option (List ℕ) → ServeFault → Type 0
+IsUnprinted port listened old new Unwritten = listened ≡ Some port
+IsUnprinted port listened old new Socket = Keeps old new
+IsUnprinted port listened old new NoMemory = Keeps old new
+IsUnprinted port listened old new fault = ⊥

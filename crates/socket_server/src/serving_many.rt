@@ -5,7 +5,7 @@ ghost use Rattle.std.specs.Io.KnownBytes.{Appends};
 ghost use Rattle.broker_answers.specs.Servants.{acts};
 ghost use Rattle.event_loop.specs.Visits.{AreServedBy};
 ghost use Rattle.socket_server.specs.Lines.{serving};
-ghost use Rattle.socket_server.specs.Serving.{IsDoneTogether, IsFaultOf, IsLineOrNothing, IsOfObject, IsUnprinted};
+ghost use Rattle.socket_server.specs.Serving.{IsDoneTogether, IsFaultOf, IsHeardOrNothing, IsLineOrNothing, IsOfObject, IsUnprinted};
 
 use crate::announcing::serving_line;
 use crate::fault::ServeFault;
@@ -44,7 +44,8 @@ fn announce<'a, L: Listener, W: Write>(
     ensures looks { L.looks listener.new ≡ L.looks listener.old }
     ensures listens { OnOk result (L.port listener.new ≡ Some port) }
     ensures printed { OnOk result (Appends (W.contents out.old) (W.contents out.new) (serving port)) }
-    ensures unprinted { IfErr result (IsUnprinted (W.contents out.old) (W.contents out.new)) }
+    ensures unprinted { IfErr result
+        (IsUnprinted port (L.port listener.new) (W.contents out.old) (W.contents out.new)) }
 {
     let line = serving_line(alloc, port)?;
     if listener.listen(port).is_err() {
@@ -81,6 +82,8 @@ fn serve_by<'a, S: Servant, L: Listener, W: Write>(
     ensures listens { OnOk result (L.port listener.new ≡ Some options.now.port) }
     ensures printed { OnOk result (Appends (W.contents out.old) (W.contents out.new) (serving options.now.port)) }
     ensures printing { IfErr result (IsLineOrNothing options.now.port (W.contents out.old) (W.contents out.new)) }
+    ensures heard { IfErr result
+        (IsHeardOrNothing options.now.port (L.port listener.new) (W.contents out.old) (W.contents out.new)) }
     ensures later { IfErr result (λ fault. IsOfObject fault → ⊥) }
 {
     match announce(alloc, listener, out, options.port) {
@@ -122,6 +125,8 @@ pub fn serve_many_at<'a, L: Listener, W: Write>(
     ensures printed { OnOk result (Appends (W.contents out.old) (W.contents out.new) (serving options.now.port)) }
     ensures refused { IfErr result (IsFaultOf table.model options.now.object.now) }
     ensures printing { IfErr result (IsLineOrNothing options.now.port (W.contents out.old) (W.contents out.new)) }
+    ensures heard { IfErr result
+        (IsHeardOrNothing options.now.port (L.port listener.new) (W.contents out.old) (W.contents out.new)) }
     ensures silent { IfErr result (λ fault. IsOfObject fault → out.new ≡ out.old) }
     ensures deaf { IfErr result (λ fault. IsOfObject fault → listener.new ≡ listener.old) }
 {
