@@ -221,3 +221,6 @@ sent_parts (x ∷ xs) (suc s) n = sent_parts xs s n ∙ ap (λ (k : ℕ). take n
 -- what is said last to one that was idle is a front of the message
 pub farewell : (message : List ℕ) (n : ℕ) → Says message Closes → IsFarewell (take n message)
 farewell message n says = record { message = message; rest = drop n message; says = says; split = parts message n }
+
+pub no_farewell : (message : List ℕ) → Says message Closes → IsFarewell []
+no_farewell message says = record { message = message; rest = message; says = says; split = refl }

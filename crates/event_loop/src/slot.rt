@@ -10,7 +10,7 @@ ghost use Rattle.event_loop.specs.declared.listener.End.{End};
 ghost use Rattle.event_loop.specs.declared.listener.End.TheVariants.{Idle};
 ghost use Rattle.event_loop.specs.declared.slot.Course.TheVariants.{Over};
 ghost use Rattle.event_loop.specs.inner.Going.{IsGoing, IsOn, Slotted, slotted};
-ghost use Rattle.event_loop.specs.inner.Turns.{HasHeard, HasParted, HasSent, IsLetGo, HasWaited};
+ghost use Rattle.event_loop.specs.inner.Turns.{HasClosed, HasHeard, HasParted, HasSent, IsLetGo, HasWaited};
 
 use crate::connection::Connection;
 use crate::listener::End;
@@ -33,6 +33,19 @@ fn close_connection() -> [u8; 12]
     ensures { Says result Closes }
 {
     [b'G', b'I', b'O', b'P', 1, 2, 0, 5, 0, 0, 0, 0]
+}
+
+/// Says that no more is heard, or a part of that, as far as it goes at once.
+fn close<C: Connection>(connection: &mut C)
+    ensures closed { HasClosed (C.told connection.old) (C.told connection.new) }
+    ensures quiet { C.quiet connection.new ≡ C.quiet connection.old }
+{
+    let message = close_connection();
+    match connection.write(message.as_slice()) {
+        Ok(Some(_)) => {}
+        Ok(None) => {}
+        Err(_) => {}
+    }
 }
 
 /// A connection with its number and its last answer, of which so much is sent.
@@ -86,11 +99,11 @@ impl<C: Connection> Slot<C> {
     fn into_parted(self) -> C
         ensures { HasParted self (gone (C.told result) (C.quiet result) Idle) }
     {
-        let is_sent = self.is_sent();
-        let mut connection = self.connection;
-        if is_sent {
-            let _ = connection.write(close_connection().as_slice());
+        if !self.is_sent() {
+            return self.connection;
         }
+        let mut connection = self.connection;
+        close(&mut connection);
         connection
     }
 

@@ -10,7 +10,8 @@ use Rattle.event_loop.specs.declared.listener.End.{End}
 use Rattle.event_loop.specs.declared.listener.End.TheVariants.{Finished, Failed, GivenUp, Idle}
 use Rattle.event_loop.specs.declared.slot.Course.{Course}
 use Rattle.event_loop.specs.declared.slot.Course.TheVariants.{Moved, Still, Over}
-use Rattle.event_loop.specs.Visits.{Gone, IsLast, gone}
+use Rattle.iiop_broker.specs.Outcomes.{Ends}
+use Rattle.event_loop.specs.Visits.{Gone, IsFarewell, IsLast, gone}
 use Rattle.event_loop.specs.inner.Going.{Slotted}
 
 -- some of what waits was sent; it is over where a write failed
@@ -65,6 +66,13 @@ pub record HasWaited (before after : Slotted) : Type 0 where
   pub number : after.number ≡ before.number
   pub told : after.told ≡ before.told
   pub waiting : after.waiting ≡ before.waiting
+
+-- a front of the message that no more is heard was written
+pub record HasClosed (before after : Ends) : Type 0 where
+  pub last : List ℕ
+  pub is : IsFarewell last
+  pub left : after.left ≡ before.left
+  pub written : after.written ≡ written_with before.written last
 
 -- one that was idle was let go of
 pub record HasParted (before : Slotted) (to : Gone) : Type 0 where

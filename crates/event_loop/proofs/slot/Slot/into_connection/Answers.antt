@@ -1,1 +1,0 @@
-use Rattle.event_loop.proofs.slot.Slot.into_connection.Goals as goal
