@@ -1,3 +1,4 @@
 pub mod NameLaws
 pub mod ModelLaws
 pub mod Refusals
+pub mod NameOrder

@@ -1,57 +1,12 @@
--- Names that differ, the map that finds them, and the table of the numbers that they have.
-use Rattle.std.proofs.Common.{◌≡◌, ◌≢◌, ◌<◌, ◌+◌, ℕ, Bool, true, false, cond, List, [], ◌∷◌, ◌++◌, length, map, take, take_all, get_or, set, Option, None, Some, is_some, IfNone, All, Contains, refl, sym, ap, subst, ◌∙◌, ◌≤◌, inl, inr, length-append, arith, suc, drop, drop-cons, take-append-drop}
-use Rattle.std.specs.Str.{bytes_eq}
-use Rattle.std.specs.Prelude.{String}
-use Rattle.std.specs.String.{string_bytes}
-use Rattle.std.specs.declared.alloc.Global.{Global}
-use Rattle.std.specs.Map.{lookup}
-use Rattle.std.specs.BTreeMap.{is_at}
-use Rattle.std.specs.Option.{option_or}
-use Rattle.std.specs.Cmp.Lexicographic.{slice_cmp}
-use Rattle.std.specs.Ordering.{nat_cmp}
-use Rattle.std.proofs.lemmas.Bool.{cases_order, cases_eq, true≢false}
-use Rattle.std.proofs.lemmas.List.{get_or-set_same, get_or-set_other, get_or_default, get_or-map, length-set, length-map, take_more}
-use Rattle.std.proofs.Math.Seq.{get_or-append_seam}
-use Rattle.std.proofs.Math.ListN.{get_or-append}
-use Rattle.std.proofs.lemmas.Slice.Eq.{bytes_eq-Decides}
-use Rattle.std.proofs.lemmas.List.Elements.{All-more, All-same, All-weaker, All-contains, All-map, All-cons, All-nil, Contains-get_or, Contains-append_right}
-use Rattle.std.proofs.lemmas.List.Quantifiers.{all_pairs_push}
-use Rattle.type_model.specs.Names.{AreDistinct, AreMarks, IsMapOf}
-
--- ---- names
-
-abbrev Names : Type 0
-Names = List (List ℕ × ℕ)
-
--- what is found is in the list
-pub found_in : (names : Names) (name : List ℕ) (node : ℕ) → lookup (bytes_eq name) names ≡ Some node → Contains names (name, node)
-found_in [] name node e = absurd cc
-found_in (entry ∷ more) name node e = by (λ e. found_in more name node e) (bytes_eq name entry.0) refl
-  where
-    by : (lookup (bytes_eq name) more ≡ Some node → Contains more (name, node)) → (b : Bool) → bytes_eq name entry.0 ≡ b → Contains (entry ∷ more) (name, node)
-    by later true same =
-        let is_name : name ≡ entry.0 = (bytes_eq-Decides name entry.0).0 same in
-        let taken : Some entry.1 ≡ Some node = sym (ap (λ b. cond b (Some entry.1) (lookup (bytes_eq name) more)) same) ∙ e in
-        let is_node : entry.1 ≡ node = cc in
-        (0, omega arith, λ i. (sym is_name i, is_node i))
-    by later false other = Contains-append_right (entry ∷ []) more (name, node) (later (sym (ap (λ b. cond b (Some entry.1) (lookup (bytes_eq name) more)) other) ∙ e))
-
--- a name that isn't found isn't there
-pub not_found : (names : Names) (name : List ℕ) → lookup (bytes_eq name) names ≡ None → All (λ pair. pair.0 ≢ name) names
-not_found [] name e = All-nil (λ (pair : List ℕ × ℕ). pair.0 ≢ name)
-not_found (entry ∷ more) name e = by (λ e. not_found more name e) (bytes_eq name entry.0) refl
-  where
-    by : (lookup (bytes_eq name) more ≡ None → All (λ pair. pair.0 ≢ name) more) → (b : Bool) → bytes_eq name entry.0 ≡ b → All (λ pair. pair.0 ≢ name) (entry ∷ more)
-    by later true same =
-        let taken : Some entry.1 ≡ None = sym (ap (λ b. cond b (Some entry.1) (lookup (bytes_eq name) more)) same) ∙ e in
-        absurd cc
-    by later false other =
-        All-cons (λ (pair : List ℕ × ℕ). pair.0 ≢ name) entry more
-        (λ same. true≢false (sym ((bytes_eq-Decides name entry.0).1 (sym same)) ∙ other))
-        (later (sym (ap (λ b. cond b (Some entry.1) (lookup (bytes_eq name) more)) other) ∙ e))
+-- Names that differ, the order in which they are sought, and the table of the numbers that they have.
+use Rattle.std.proofs.Common.{◌≡◌, ◌≢◌, ◌<◌, ◌+◌, ℕ, Bool, true, false, List, [], length, map, take, take_all, get_or, set, Option, None, Some, IfNone, All, Contains, refl, sym, ap, subst, ◌∙◌, ◌≤◌, inl, inr, arith}
+use Rattle.std.proofs.lemmas.Bool.{cases_order, cases_eq}
+use Rattle.std.proofs.lemmas.List.{get_or-set_same, get_or-set_other, get_or_default, get_or-map, length-set, length-map}
+use Rattle.std.proofs.lemmas.List.Elements.{All-more, All-same, All-weaker, All-contains, All-map, Contains-get_or}
+use Rattle.type_model.specs.Names.{AreDistinct, AreMarks, name_at}
 
 -- where names differ, a name has one node
-one_node : (names : List (List ℕ × ℕ)) (name : List ℕ) (one other : ℕ) → AreDistinct names → Contains names (name, one) → Contains names (name, other) → one ≡ other
+pub one_node : (names : List (List ℕ × ℕ)) (name : List ℕ) (one other : ℕ) → AreDistinct names → Contains names (name, one) → Contains names (name, other) → one ≡ other
 one_node names name one other distinct at_one at_other =
     let there : get_or names at_other.0 (name, one) ≡ (name, other) = get_or_default names at_other.0 (name, one) (name, other) at_other.1 ∙ at_other.2 in
     let apart : (i j : ℕ) → i < j → j < length names → (get_or names i (name, one)).0 ≡ name → (get_or names j (name, one)).0 ≡ name → ⊥ = λ i j lt within a b. distinct i j (name, one) lt within (a ∙ sym b) in
@@ -63,106 +18,25 @@ one_node names name one other distinct at_one at_other =
       ]
     ]
 
--- so just what is in the list is found
-pub found_all : (names : Names) (name : List ℕ) (node : ℕ) → AreDistinct names → Contains names (name, node) → lookup (bytes_eq name) names ≡ Some node
-found_all names name node distinct there = by (lookup (bytes_eq name) names) refl
-  where
-    by : (r : Option ℕ) → lookup (bytes_eq name) names ≡ r → lookup (bytes_eq name) names ≡ Some node
-    by None e = absurd (All-contains (λ pair. pair.0 ≢ name) names (name, node) (not_found names name e) there refl)
-    by (Some other) e = e ∙ ap Some (one_node names name other node distinct (found_in names name other e) there)
+-- where no place has a name
+pub nowhere_is : (names : List (List ℕ × ℕ)) (name : List ℕ) → ((place : ℕ) → place < length names → name_at names place ≢ name) → All (λ pair. pair.0 ≢ name) names
+nowhere_is names name none = λ k d within same. none k within (ap (λ (pair : List ℕ × ℕ). pair.0) (get_or_default names k ([], 0) d within) ∙ same)
 
-pub missing : (r : Option ℕ) (names : Names) (name : List ℕ) → r ≡ lookup (bytes_eq name) names → IfNone r (All (λ pair. pair.0 ≢ name) names)
-missing None names name e = not_found names name (sym e)
-missing (Some node) names name e = tt
+pub none_any : {X : Type 0} (r : Option X) (P : Type 0) → P → IfNone r P
+none_any None P h = h
+none_any (Some x) P h = tt
 
--- a name that is there and comes again
-pub twice : (done rest : List (List ℕ × ℕ)) (name : List ℕ) (old node : ℕ) → Contains done (name, old) → AreDistinct (done ++ (name, node) ∷ rest) → ⊥
-twice done rest name old node there distinct =
-    let first : (get_or (done ++ (name, node) ∷ rest) there.0 (name, old)).0 ≡ name = ap (λ (p : List ℕ × ℕ). p.0) (get_or-append done ((name, node) ∷ rest) (name, old) there.0 there.1 ∙ there.2) in
-    let second : (get_or (done ++ (name, node) ∷ rest) (length done) (name, old)).0 ≡ name = ap (λ (p : List ℕ × ℕ). p.0) (get_or-append_seam done (name, node) rest (name, old)) in
-    distinct there.0 (length done) (name, old) there.1 (omega (arith, length-append done ((name, node) ∷ rest))) (first ∙ sym second)
+-- the pair at the place of a name
+module _ (names : List (List ℕ × ℕ)) (name : List ℕ) (place : ℕ) (pair : List ℕ × ℕ) (distinct : AreDistinct names) (within : place < length names)
+    (named : name_at names place ≡ name) (here : get_or names place pair ≡ pair) where
+  pub stands : (node : ℕ) → Some pair.1 ≡ Some node → Contains names (name, node)
+  stands node e =
+      let is_node : pair.1 ≡ node = cc in
+      let is_name : pair.0 ≡ name = sym (ap (λ (it : List ℕ × ℕ). it.0) (get_or_default names place ([], 0) pair within ∙ here)) ∙ named in
+      (place, within, get_or_default names place (name, node) pair within ∙ here ∙ (λ i. (is_name i, is_node i)))
 
-pub none_from : (o : Option ℕ) → is_some o ≡ false → o ≡ None
-none_from None h = refl
-none_from (Some x) h = absurd (true≢false h)
-
--- a name that isn't there, one more
-pub distinct_more : (names : List (List ℕ × ℕ)) (name : List ℕ) (node : ℕ) → AreDistinct names → All (λ pair. pair.0 ≢ name) names → AreDistinct (names ++ (name, node) ∷ [])
-distinct_more names name node distinct missing = all_pairs_push (λ one other. one.0 ≢ other.0) names (name, node) distinct (λ k d within. missing k d within)
-
--- ---- the map of the names before a place
-
-pub record MapUpTo (names : Names) (place : ℕ) (entries : List (String Global × ℕ)) : Type 0 where
-  pub mapped : IsMapOf (take place names) entries
-  pub distinct : AreDistinct (take place names)
-
-lookup_push : (test : List ℕ → Bool) (names : Names) (name : List ℕ) (node : ℕ) → lookup test (names ++ (name, node) ∷ []) ≡ option_or (lookup test names) (cond (test name) (Some node) None)
-lookup_push test [] name node = refl
-lookup_push test (entry ∷ more) name node = by (lookup_push test more name node) (test entry.0)
-  where
-    by : lookup test (more ++ (name, node) ∷ []) ≡ option_or (lookup test more) (cond (test name) (Some node) None)
-        → (b : Bool) → cond b (Some entry.1) (lookup test (more ++ (name, node) ∷ [])) ≡ option_or (cond b (Some entry.1) (lookup test more)) (cond (test name) (Some node) None)
-    by later true = refl
-    by later false = later
-
-turned : (one other : List ℕ) → bytes_eq one other ≡ false → bytes_eq other one ≡ false
-turned one other e = by (bytes_eq other one) refl
-  where
-    by : (b : Bool) → bytes_eq other one ≡ b → b ≡ false
-    by true h = absurd (true≢false (sym ((bytes_eq-Decides one other).1 (sym ((bytes_eq-Decides other one).0 h))) ∙ e))
-    by false h = refl
-
--- a new name in front of the others of its text, of which there are none
-set_or_push : (found : List ℕ → Option ℕ) (name text : List ℕ) (node : ℕ) → found name ≡ None
-    → cond (bytes_eq name text) (Some node) (found text) ≡ option_or (found text) (cond (bytes_eq text name) (Some node) None)
-set_or_push found name text node none = by (bytes_eq name text) refl
-  where
-    nothing : (o : Option ℕ) → o ≡ option_or o None
-    nothing None = refl
-    nothing (Some n) = refl
-
-    by : (b : Bool) → bytes_eq name text ≡ b → cond b (Some node) (found text) ≡ option_or (found text) (cond (bytes_eq text name) (Some node) None)
-    by true e =
-        let same : name ≡ text = (bytes_eq-Decides name text).0 e in
-        sym (ap (λ o. option_or o (cond (bytes_eq text name) (Some node) None)) (ap found (sym same) ∙ none)
-        ∙ ap (λ b. cond b (Some node) None) ((bytes_eq-Decides text name).1 (sym same)))
-    by false e = nothing (found text) ∙ ap (λ b. option_or (found text) (cond b (Some node) None)) (sym (turned name text e))
-
-module _ (names : Names) (place : ℕ) (name key : List ℕ) (node : ℕ) (within : place < length names) (here : get_or names place (name, node) ≡ (name, node)) (same : key ≡ name)
-    (old : List (String Global × ℕ)) (up : MapUpTo names place old) where
-  -- a name that is new
-  pub map_more : (new : List (String Global × ℕ)) → lookup (is_at (λ k. slice_cmp nat_cmp key (string_bytes k))) old ≡ None
-      → ((text : List ℕ) → lookup (is_at (λ k. slice_cmp nat_cmp text (string_bytes k))) new ≡ cond (bytes_eq key text) (Some node) (lookup (is_at (λ k. slice_cmp nat_cmp text (string_bytes k))) old))
-      → MapUpTo names (place + 1) new
-  map_more new none updated =
-      let done = take place names in
-      let parts : take (place + 1) names ≡ done ++ (name, node) ∷ [] = take_more names place (name, node) within ∙ ap (λ pair. done ++ pair ∷ []) here in
-      let absent : lookup (bytes_eq name) done ≡ None = sym (up.mapped name) ∙ ap (λ text. lookup (is_at (λ k. slice_cmp nat_cmp text (string_bytes k))) old) (sym same) ∙ none in
-      record {
-        mapped = λ text. updated text ∙ ap (λ k. cond (bytes_eq k text) (Some node) (lookup (is_at (λ k. slice_cmp nat_cmp text (string_bytes k))) old)) same
-            ∙ ap (λ o. cond (bytes_eq name text) (Some node) o) (up.mapped text)
-            ∙ set_or_push (λ text. lookup (bytes_eq text) done) name text node absent
-            ∙ sym (ap (lookup (bytes_eq text)) parts ∙ lookup_push (bytes_eq text) done name node);
-        distinct = subst AreDistinct (sym parts) (distinct_more done name node up.distinct (not_found done name absent));
-      }
-
-  -- one that isn't
-  pub map_twice : (found : Option ℕ) → found ≡ lookup (is_at (λ k. slice_cmp nat_cmp key (string_bytes k))) old → is_some found ≡ true → AreDistinct names → ⊥
-  map_twice None e h distinct = true≢false (sym h)
-  map_twice (Some other) e h distinct =
-      let done = take place names in
-      let there : Contains done (name, other) = found_in done name other (sym (up.mapped name) ∙ ap (λ text. lookup (is_at (λ k. slice_cmp nat_cmp text (string_bytes k))) old) (sym same) ∙ sym e) in
-      let parts : names ≡ done ++ (name, node) ∷ drop (suc place) names =
-      sym (take-append-drop place names) ∙ ap (λ more. done ++ more) (drop-cons names place (name, node) within ∙ ap (λ pair. pair ∷ drop (suc place) names) here) in
-      twice done (drop (suc place) names) name other node there (subst AreDistinct parts distinct)
-
-pub map_none : (names : Names) → MapUpTo names 0 []
-map_none names = record { mapped = λ text. refl; distinct = λ i j d lt within. absurd (omega (arith, within)) }
-
-pub map_all : (names : Names) (place : ℕ) (entries : List (String Global × ℕ)) → length names ≤ place → MapUpTo names place entries → IsMapOf names entries × AreDistinct names
-map_all names place entries past up =
-    let all = take_all place names past in
-    (subst (λ list. IsMapOf list entries) all up.mapped, subst AreDistinct all up.distinct)
+  pub stands_alone : (node : ℕ) → Contains names (name, node) → Some pair.1 ≡ Some node
+  stands_alone node there = ap Some (one_node names name pair.1 node distinct (stands pair.1 refl) there)
 
 -- ---- the table of numbers
 

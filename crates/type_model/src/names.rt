@@ -2,11 +2,13 @@
 
 ghost use Rattle.std.specs.Prelude.{◌≡◌, ◌≢◌, ◌<◌, ◌≤◌, ◌↔◌, ℕ, List, All, Contains, length, slice_get, slice_index_or, map, IfSome, IfNone, IfOk, IfErr, OnOk, IsTrue, Some, true, false};
 ghost use Rattle.std.specs.String.{string_bytes};
-ghost use Rattle.type_model.specs.Names.{AreDistinct, AreNames, AreMarks, IsMapOf, IsNamed};
+ghost use Rattle.std.specs.List.Sorted.{IsSorted};
+ghost use Rattle.type_model.specs.Names.{AreDistinct, AreNames, AreMarks, IsNamed, IsOrder, name_at};
+ghost use Rattle.type_model.specs.inner.Keys.{AreKeys, Differ, key_cmp, place_of};
 ghost use Rattle.type_graph.specs.Refusal.{OnlyIf};
 
-use std::alloc::Global;
-use std::collections::BTreeMap;
+use std::alloc::{AllocError, Global};
+use std::cmp::Ordering;
 use std::marker::Model;
 use type_graph::{GraphFault, Items};
 
@@ -53,7 +55,8 @@ impl Name {
 #[derive(Drop)]
 pub struct NameTable {
     names: Vec<(Name, u32)>,
-    nodes: BTreeMap<String, u32>,
+    /// The places of the names, in the order of their octets.
+    order: Vec<usize>,
     /// True at the number of each node that has a name.
     marks: Vec<bool>,
 }
@@ -66,24 +69,50 @@ impl Model for NameTable {
 
     ghost view = { λ t. t.names.items };
 
-    ghost invariant = { λ t. IsTable t.names.items t.nodes.entries t.marks.items };
+    ghost invariant = { λ t. IsTable t.names.items t.order.items t.marks.items };
 }
 
-/// The map from names to nodes.
-fn map_of(alloc: Global, names: &[(Name, u32)]) -> Result<BTreeMap<String, u32>, GraphFault>
-    ensures map { IfOk result (λ nodes. IsMapOf names.now nodes.entries) }
+/// The texts of names with their places, in the order of the texts.
+fn sorted(alloc: Global, names: &[(Name, u32)]) -> Result<Vec<(&str, usize)>, AllocError>
+    ensures keys { IfOk result (λ keys. AreKeys names.now keys.items) }
+    ensures sorted { IfOk result (λ keys. IsSorted key_cmp keys.items) }
+{
+    let mut keys = Vec::new(alloc);
+    keys.reserve(names.len())?;
+    for place in 0..names.len() {
+        keys.push((names[place].0.as_str(), place))?;
+    }
+    keys.sort_unstable();
+    Ok(keys)
+}
+
+/// The places of texts that stand in their order; None where one stands twice.
+fn places_of(alloc: Global, keys: &[(&str, usize)]) -> Result<Vec<usize>, GraphFault>
+    ensures places { IfOk result (λ places. places.items ≡ map place_of keys.now) }
+    ensures differ { OnOk result (Differ keys.now (length keys.now)) }
+    ensures refused { IfErr result (λ fault. OnlyIf fault (Differ keys.now (length keys.now) → ⊥)) }
+{
+    let mut places = Vec::new(alloc);
+    places.reserve(keys.len())?;
+    for at in 0..keys.len() {
+        let (text, place) = keys[at];
+        if at > 0 && keys[at - 1].0 == text {
+            return Err(GraphFault::BadNode);
+        }
+        places.push(place)?;
+    }
+    Ok(places)
+}
+
+/// The places of names in the order of their octets.
+fn order_of(alloc: Global, names: &[(Name, u32)]) -> Result<Vec<usize>, GraphFault>
+    ensures order { IfOk result (λ order. IsOrder names.now order.items) }
     ensures distinct { OnOk result (AreDistinct names.now) }
     ensures refused { IfErr result (λ fault. OnlyIf fault (AreDistinct names.now → ⊥)) }
 {
-    let mut nodes = BTreeMap::new(alloc);
-    for place in 0..names.len() {
-        let (name, node) = &names[place];
-        let key = String::from_str(alloc, name.as_str())?;
-        if nodes.insert(key, *node)?.is_some() {
-            return Err(GraphFault::BadNode);
-        }
-    }
-    Ok(nodes)
+    let keys = sorted(alloc, names)?;
+    let order = places_of(alloc, keys.as_slice())?;
+    Ok(order)
 }
 
 /// True at each number below the count that a name has.
@@ -119,11 +148,11 @@ impl NameTable {
         ensures refused { IfErr result (λ fault. OnlyIf fault (AreNames count names → ⊥)) }
     {
         let names = names.into_vec();
-        let nodes = map_of(alloc, names.as_slice())?;
+        let order = order_of(alloc, names.as_slice())?;
         let marks = marks_of(alloc, names.as_slice(), count)?;
         Ok(NameTable {
             names,
-            nodes,
+            order,
             marks,
         })
     }
@@ -152,12 +181,32 @@ impl NameTable {
         (name.as_str(), *node)
     }
 
+    /// The place of a name in the order of declaration.
+    fn place_of(&self, name: &str) -> Option<usize>
+        ensures found { IfSome result (λ place. (place < length self.now) × (name_at self.now place ≡ name.now)) }
+        ensures missing { IfNone result ((place : ℕ) → place < length self.now → name_at self.now place ≢ name.now) }
+    {
+        let mut low = 0;
+        let mut high = self.order.len();
+        while low < high {
+            let middle = low + (high - low) / 2;
+            let place = self.order[middle];
+            match self.names[place].0.as_str().cmp(name) {
+                Ordering::Less => low = middle + 1,
+                Ordering::Greater => high = middle,
+                Ordering::Equal => return Some(place),
+            }
+        }
+        None
+    }
+
     /// The node of a name.
     pub fn node_of(&self, name: &str) -> Option<u32>
         ensures found { (node : ℕ) → (result ≡ Some node) ↔ Contains self.now (name.now, node) }
         ensures missing { IfNone result (All (λ pair. pair.0 ≢ name.now) self.now) }
     {
-        self.nodes.get(name).copied()
+        let place = self.place_of(name)?;
+        Some(self.names[place].1)
     }
 
     /// Whether some name has this node.

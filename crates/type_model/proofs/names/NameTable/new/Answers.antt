@@ -15,7 +15,7 @@ returns-in_err-marks-clause-refused c =
 
 pub returns-clause-rules : goal.returns-clause-rules
 returns-clause-rules c = record {
-  distinct = subst AreDistinct (c.as_slice.ensures.value ∙ c.into_vec-names.ensures) c.in_ok-nodes.ensures.distinct;
+  distinct = subst AreDistinct (c.as_slice.ensures.value ∙ c.into_vec-names.ensures) c.in_ok-order.ensures.distinct;
   within = names_within c.args.count c.args.names
       (subst (λ (list : List (List ℕ × ℕ)). All (λ number. number < c.args.count) (map (λ name. name.1) list)) (c.as_slice-2.ensures.value ∙ c.into_vec-names.ensures) c.in_ok-marks.ensures.within);
 }
