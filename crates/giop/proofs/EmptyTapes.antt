@@ -4,7 +4,7 @@ use Rattle.type_graph.specs.declared.width.Width.{Width}
 use Rattle.type_graph.specs.declared.width.Width.TheVariants.{One, Two, Four, Eight}
 use Rattle.type_graph.specs.declared.width.Order.TheVariants.{Big}
 use Rattle.type_graph.specs.declared.node.Node.{Node}
-use Rattle.type_graph.specs.declared.node.Node.TheVariants.{Whole, Octet, Char, Boolean, Enum, Text, Seq, Array, Struct, Union, Frame}
+use Rattle.type_graph.specs.declared.node.Node.TheVariants.{Integer, Octet, Char, Boolean, Enum, Text, Seq, Array, Struct, Union, Frame}
 use Rattle.type_graph.specs.Words.{Format, word, octets_in}
 use Rattle.type_graph.specs.Value.{Tree, Number, Bytes, Items, Choice, Trees, NoTree, AndTree, count, node_at, number_width, arm_of, tape_of, tapes_of}
 use Rattle.type_graph.specs.Encoding.{Encodes, EncodeAll, Means}
@@ -42,14 +42,14 @@ mutual
   none_encoded format graph (Union switch arms default) (Choice label values) p octets e is =
       absurd
       (no_word (number_width (node_at graph switch)) label (tapes_of graph (arm_of arms default label) values) e)
-  none_encoded format graph (Whole w signed) (Items values) p octets e is = absurd is
+  none_encoded format graph (Integer w signed) (Items values) p octets e is = absurd is
   none_encoded format graph Octet (Items values) p octets e is = absurd is
   none_encoded format graph Char (Items values) p octets e is = absurd is
   none_encoded format graph Boolean (Items values) p octets e is = absurd is
   none_encoded format graph (Enum limit) (Items values) p octets e is = absurd is
   none_encoded format graph (Text bound) (Items values) p octets e is = absurd is
   none_encoded format graph (Union switch arms default) (Items values) p octets e is = absurd is
-  none_encoded format graph (Whole w signed) (Choice label values) p octets e is = absurd is
+  none_encoded format graph (Integer w signed) (Choice label values) p octets e is = absurd is
   none_encoded format graph Octet (Choice label values) p octets e is = absurd is
   none_encoded format graph Char (Choice label values) p octets e is = absurd is
   none_encoded format graph Boolean (Choice label values) p octets e is = absurd is
