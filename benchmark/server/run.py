@@ -1,10 +1,12 @@
 """Measures round trips over a loopback socket: of calls to an object that is served, and of as many octets sent to a
-server that sends back what comes. Both servers are one program, which is proved; the client is a program in C.
+server that sends back what comes; then pings of 1, 8 and 64 clients that are served at once. Both servers are one
+program, which is proved; the client is a program in C.
 """
 import socket
 import subprocess
 import sys
 
+CLIENTS = (1, 8, 64)
 CALLS = ("ping", "_get_n", "_set_n", "octets")
 
 
@@ -25,6 +27,19 @@ def trips(program, client, words, mode, call):
     return max(found)
 
 
+def trips_at_once(program, client, table, count):
+    """The pings a second of so many clients at once, over all: the most of three servers."""
+    most = 0
+    for _ in range(3):
+        port = free_port()
+        server = subprocess.Popen([program, "serve", port, str(count), table, str(count)])
+        asked = [client, port, "giop", "ping", "1000"]
+        clients = [subprocess.Popen(asked, stdout=subprocess.PIPE, text=True) for _ in range(count)]
+        most = max(most, sum(int(one.communicate()[0]) for one in clients))
+        server.wait()
+    return most
+
+
 def run(benchmark):
     program, _ = benchmark.build()
     client, table = benchmark.room / "client", benchmark.room / "table"
@@ -37,4 +52,9 @@ def run(benchmark):
         echoed = trips(program, client, [], "echo", call)
         times = f"{1e6 / served:.1f} | {1e6 / echoed:.1f}"
         print(f"| {call} | {served} | {echoed} | {served / echoed:.2f} | {times} |")
+        sys.stdout.flush()
+    print("\n| clients at once | pings a second, over all |")
+    print("|---:|---:|")
+    for count in CLIENTS:
+        print(f"| {count} | {trips_at_once(program, client, table, count)} |")
         sys.stdout.flush()

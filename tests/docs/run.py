@@ -4,6 +4,7 @@ A session is a code block with lines that begin with `$ `: a command, and below 
 `examples/` and the files of `examples/idl/` are at hand where it runs. Sessions with a program that isn't `idlc` aren't
 run.
 """
+import contextlib
 import re
 import shutil
 import socket
@@ -13,6 +14,8 @@ from driver.suite import Count
 from driver.workspace import TOP
 
 PROGRAM = TOP / "crates" / "idlc_main" / "out" / "idlc_main"
+# a call of the operation `ping` of the object `K`
+PING = bytes.fromhex("47494f500102000000000024000000010300000000000000000000014b0000000000000570696e670000000000000000")
 DOCUMENTS = [TOP / "README.md", *sorted((TOP / "docs").glob("*.md"))]
 
 
@@ -44,12 +47,16 @@ def steps(block):
 
 
 def served(words, folder):
-    """What `serve` prints where one client connects to it and leaves."""
-    port = int(re.search(r"--port (\d+)", words)[1])
+    """What `serve` prints where as many clients as it takes connect to it, the last asks first, and all leave."""
+    port, count = (int(re.search(rf"--{option} (\d+)", words)[1]) for option in ("port", "connections"))
     server = subprocess.Popen(words, shell=True, cwd=folder, stdout=subprocess.PIPE, text=True)
     said = server.stdout.readline()
-    if said:
-        socket.create_connection(("127.0.0.1", port), timeout=10).close()
+    with contextlib.ExitStack() as stack:
+        clients = range(count if said else 0)
+        streams = [stack.enter_context(socket.create_connection(("127.0.0.1", port), timeout=10)) for _ in clients]
+        for stream in reversed(streams):
+            stream.sendall(PING)
+            said += "" if stream.recv(12).startswith(b"GIOP") else "no answer"
     return said + server.communicate(timeout=60)[0]
 
 

@@ -70,11 +70,31 @@ reference_app = with_rule
     (with_rule (with_rule (table_app (codes "ior")) (option_rule (codes "host") None)) port_rule)
     object_rule
 
+-- how many connections are served at the same time, which may be left out
+abbrev pub at_once_rule : Rule
+at_once_rule = record (new_rule (codes "at-once")) {
+  long = Some (codes "at-once");
+  value_names = 1;
+  parser = Some (Signed (pos 1) (pos 64));
+}
+
+-- after how many seconds without octets a connection ends, which may be left out
+abbrev pub idle_rule : Rule
+idle_rule = record (new_rule (codes "idle")) {
+  long = Some (codes "idle");
+  value_names = 1;
+  parser = Some (Signed (pos 0) (pos 86400));
+}
+
 -- the words of the command that serves calls
 abbrev pub serve_app : App
 serve_app = with_rule
+    (with_rule
+    (with_rule
     (with_rule (with_rule (table_app (codes "serve")) port_rule) object_rule)
-    (option_rule (codes "connections") (Some (Signed (pos 0) (pos 4294967295))))
+    (option_rule (codes "connections") (Some (Signed (pos 0) (pos 4294967295)))))
+    at_once_rule)
+    idle_rule
 
 -- the command that says what refusals mean
 abbrev pub explain_app : App

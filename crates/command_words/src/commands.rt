@@ -3,7 +3,7 @@
 ghost use Rattle.std.specs.Prelude.{◌≡◌, pos, codes, IfOk, Some, None, false};
 ghost use Rattle.clap.specs.Words.{app_of, rule_of};
 ghost use Rattle.clap.specs.declared.builder.value_parser.ValueParser.TheVariants.{Names, Signed, Unsigned};
-ghost use Rattle.command_words.specs.Commands.{command_app, compile_app, explain_app, first_app, option_rule, output, program_app, reference_app, serve_app, served_app, table_app, tables_app, upgrade_app, value_app, wanted};
+ghost use Rattle.command_words.specs.Commands.{at_once_rule, command_app, compile_app, explain_app, first_app, idle_rule, option_rule, output, program_app, reference_app, serve_app, served_app, table_app, tables_app, upgrade_app, value_app, wanted};
 
 use clap::{Arg, Command, value_parser};
 use std::alloc::{AllocError, Global};
@@ -163,8 +163,32 @@ fn connections_option<'a>(alloc: Global) -> Arg<'a>
     ensures rule { rule_of result ≡ option_rule (codes "connections") (Some (Signed (pos 0) (pos 4294967295))) }
     ensures local { result.global ≡ false }
 {
-    let help = "So many connections are served, one after the other";
+    let help = "So many connections are served";
     option(alloc, "connections", "N", help).value_parser(value_parser!(u32))
+}
+
+/// The option for the number of connections that are served at the same time.
+fn at_once_option<'a>(alloc: Global) -> Arg<'a>
+    ensures rule { rule_of result ≡ at_once_rule }
+    ensures local { result.global ≡ false }
+{
+    Arg::new(alloc, "at-once")
+        .long("at-once")
+        .value_name("M")
+        .help("At most so many at the same time, 1 to 64; else one after the other")
+        .value_parser(value_parser!(u8).range(1..65))
+}
+
+/// The option for the seconds that a connection may be idle.
+fn idle_option<'a>(alloc: Global) -> Arg<'a>
+    ensures rule { rule_of result ≡ idle_rule }
+    ensures local { result.global ≡ false }
+{
+    Arg::new(alloc, "idle")
+        .long("idle")
+        .value_name("S")
+        .help("A connection without octets for so many seconds ends, 0 to 86400; 0 or else: none")
+        .value_parser(value_parser!(u32).range(0..86401))
 }
 
 /// The command that serves calls.
@@ -174,7 +198,9 @@ fn serve_command<'a>(alloc: Global) -> Result<Command<'a>, AllocError>
     table_command(alloc, "serve")?
         .arg(port_option(alloc))?
         .arg(object_option(alloc))?
-        .arg(connections_option(alloc))
+        .arg(connections_option(alloc))?
+        .arg(at_once_option(alloc))?
+        .arg(idle_option(alloc))
 }
 
 /// The word for the number of a refusal.

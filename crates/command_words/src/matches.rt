@@ -154,5 +154,7 @@ pub(crate) fn service_in<'a>(matches: &ArgMatches<'a>) -> Option<Service<'a>> {
         port: words.get_one::<u16>("port")?,
         object: words.get_str("object")?,
         connections: words.get_one::<u32>("connections")?,
+        at_once: words.get_one::<u8>("at-once"),
+        idle: words.get_one::<u32>("idle").unwrap_or(0),
     })
 }

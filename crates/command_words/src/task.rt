@@ -26,8 +26,12 @@ pub struct Service<'a> {
     pub port: u16,
     /// The key of the object, an equals sign, and the name of its interface.
     pub object: &'a str,
-    /// So many connections are served, one after the other.
+    /// So many connections are served.
     pub connections: u32,
+    /// So many of them at most at the same time, 1 to 64; else one after the other.
+    pub at_once: Option<u8>,
+    /// A connection ends on which no octets move for so many seconds. 0: none does.
+    pub idle: u32,
 }
 
 /// What a run is asked to do.

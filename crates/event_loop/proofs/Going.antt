@@ -7,15 +7,16 @@ use Rattle.broker_answers.specs.Talk.{Event, Begins, GivesUp, Ends as Leaving, W
 use Rattle.broker_answers.specs.Servants.{Acting}
 use Rattle.broker_answers.specs.Objects.{Served}
 use Rattle.broker_answers.specs.Serving.{Moves, Serves}
-use Rattle.iiop_broker.specs.Ends.{Gives, IsEmpty}
+use Rattle.iiop_broker.specs.Ends.{Gives, IsEmpty, written_with}
 use Rattle.iiop_broker.specs.Outcomes.{Ends}
 use Rattle.iiop_broker.proofs.Going.{gives_start}
-use Rattle.iiop_broker.proofs.Written.{written_nothing}
+use Rattle.iiop_broker.proofs.Written.{written_nothing, written_then}
 use Rattle.event_loop.specs.declared.slot.Course.TheVariants.{Over}
 use Rattle.event_loop.specs.Carried.{Log, answered, brought, connection_of}
-use Rattle.event_loop.specs.Visits.{IsShut, IsGivenUp, IsFinished, IsForsaken, HasEnded, Gone, gone, IsCarried}
+use Rattle.event_loop.specs.Visits.{IsShut, IsGivenUp, IsFinished, IsForsaken, HasEnded, IsIdle, IsLast, Gone, gone, IsCarried}
 use Rattle.event_loop.specs.declared.listener.End.{End}
-use Rattle.event_loop.specs.declared.listener.End.TheVariants.{Finished, Failed, GivenUp}
+use Rattle.event_loop.specs.declared.listener.End.TheVariants.{Finished, Failed, GivenUp, Idle}
+use Rattle.event_loop.specs.inner.Turns.{IsLetGo}
 use Rattle.event_loop.specs.inner.Going.{Slotted, slotted, numbers, keys, IsRising, IsOpen, IsGone, IsGoing, IsOn}
 use Rattle.event_loop.proofs.Parts.{all_parts, all_joined, rising_apart, rising_without, rising_with}
 use Rattle.event_loop.proofs.Logs.{brought_own, answered_own, brought_other, answered_other, brought_none, answered_none, follows_more}
@@ -69,7 +70,7 @@ get_last : {A : Type 0} (xs : List A) (y : A) → slice_get (xs ++ y ∷ []) (le
 get_last [] y = refl
 get_last (x ∷ xs) y = get_last xs y
 
-module _ {S : Type 0} (acting : Acting S) (served : Served) (before : S) where
+module _ {S : Type 0} (acting : Acting S) (served : Served) (idle : ℕ) (before : S) where
   -- ---- what a longer log changes nothing of
 
   shut_still : (said more : Log) (c : ℕ) → IsShut acting served before said c → IsShut acting served before (said ++ more) c
@@ -105,21 +106,25 @@ module _ {S : Type 0} (acting : Acting S) (served : Served) (before : S) where
     by (inl given) = inl (given_still said more c given)
     by (inr none) = inr (same ∙ none)
 
-  pub ended_still : (said more : Log) (c : ℕ) (waiting : List ℕ) (to : Ends) (end : End) → brought c (said ++ more) ≡ brought c said
-      → HasEnded acting served before said c waiting to end → HasEnded acting served before (said ++ more) c waiting to end
-  ended_still said more c waiting to Finished same h = finished_still said more c waiting to h
-  ended_still said more c waiting to Failed same h = h
-  ended_still said more c waiting to GivenUp same h = forsaken_still said more c waiting same h
+  pub ended_still : (said more : Log) (c : ℕ) (waiting : List ℕ) (to : Ends) (quiet : ℕ) (end : End) → brought c (said ++ more) ≡ brought c said
+      → HasEnded acting served idle before said c waiting to quiet end
+      → HasEnded acting served idle before (said ++ more) c waiting to quiet end
+  ended_still said more c waiting to quiet Finished same h = finished_still said more c waiting to h
+  ended_still said more c waiting to quiet Failed same h = h
+  ended_still said more c waiting to quiet GivenUp same h = forsaken_still said more c waiting same h
+  ended_still said more c waiting to quiet Idle same h = h
 
   carried_still : (said : Log) (e : Event) (a : List ℕ) (c : ℕ) (from : Ends) (to : Gone) → connection_of e ≢ c
-      → IsCarried acting served before said c from to → IsCarried acting served before (said ++ (e, a) ∷ []) c from to
+      → IsCarried acting served idle before said c from to → IsCarried acting served idle before (said ++ (e, a) ∷ []) c from to
   carried_still said e a c from to differs h = record {
     sent = h.sent;
     waiting = h.waiting;
+    last = h.last;
     answer_is = answered_other c said e a differs ∙ h.answer_is;
     read = subst (λ (o : List ℕ). Gives from.left o to.told.left) (sym (brought_other c said e a differs)) h.read;
     wrote = h.wrote;
-    ended = ended_still said ((e, a) ∷ []) c h.waiting to.told to.end (brought_other c said e a differs) h.ended;
+    last_is = h.last_is;
+    ended = ended_still said ((e, a) ∷ []) c h.waiting to.told to.quiet to.end (brought_other c said e a differs) h.ended;
   }
 
   open_still : (said : Log) (e : Event) (a : List ℕ) (came : List Ends) (s : Slotted) → connection_of e ≢ s.number
@@ -146,16 +151,16 @@ module _ {S : Type 0} (acting : Acting S) (served : Served) (before : S) where
   -- ---- an event of a connection that stays
 
   known_with : (came : List Ends) (ended : List (ℕ × Gone)) (w : World S Stream) (slots : List Slotted)
-      (g : IsGoing acting served before came ended w slots) (e : Event) (a : List ℕ) → connection_of e < length came
+      (g : IsGoing acting served idle before came ended w slots) (e : Event) (a : List ℕ) → connection_of e < length came
       → All (λ one. connection_of one.0 < length came) (g.said ++ (e, a) ∷ [])
   known_with came ended w slots g e a below = All-push (λ one. connection_of one.0 < length came) g.said (e, a) g.known below
 
   pub goes_on : (came : List Ends) (ended : List (ℕ × Gone)) (w w' : World S Stream) (front : List Slotted) (s t : Slotted)
       (back : List Slotted) (e : Event) (a : List ℕ)
-      (g : IsGoing acting served before came ended w (front ++ s ∷ back))
+      (g : IsGoing acting served idle before came ended w (front ++ s ∷ back))
       → Happens rests (Serves acting served) (Moves acting served) w e a w' → connection_of e ≡ s.number → t.number ≡ s.number
       → keys w'.there ≡ keys w.there → IsOpen (g.said ++ (e, a) ∷ []) came t
-      → (after : IsGoing acting served before came ended w' (front ++ t ∷ back)) × (after.said ≡ g.said ++ (e, a) ∷ [])
+      → (after : IsGoing acting served idle before came ended w' (front ++ t ∷ back)) × (after.said ≡ g.said ++ (e, a) ∷ [])
   goes_on came ended w w' front s t back e a g h its same kept opened =
       let said : Log = g.said ++ (e, a) ∷ [] in
       let ns = same_numbers front s t back same in
@@ -177,7 +182,7 @@ module _ {S : Type 0} (acting : Acting S) (served : Served) (before : S) where
               opened
               (all_both (IsOpen g.said came) (λ x. x.number ≢ s.number) (IsOpen said came) back still parts.2
               (all_of_map (λ n. n ≢ s.number) (λ (x : Slotted). x.number) back apart.1));
-          gone = All-weaker (IsGone acting served before g.said came (front ++ s ∷ back)) (IsGone acting served before said came (front ++ t ∷ back))
+          gone = All-weaker (IsGone acting served idle before g.said came (front ++ s ∷ back)) (IsGone acting served idle before said came (front ++ t ∷ back))
               (λ one o.
               let others = all_parts (λ slot. slot.number ≢ one.0) front s back o.apart in
               record {
@@ -201,9 +206,9 @@ module _ {S : Type 0} (acting : Acting S) (served : Served) (before : S) where
   -- ---- a connection that moves without an event
 
   pub moves_on : (came : List Ends) (ended : List (ℕ × Gone)) (w : World S Stream) (front : List Slotted) (s t : Slotted)
-      (back : List Slotted) (g : IsGoing acting served before came ended w (front ++ s ∷ back)) → t.number ≡ s.number
+      (back : List Slotted) (g : IsGoing acting served idle before came ended w (front ++ s ∷ back)) → t.number ≡ s.number
       → IsOpen g.said came t
-      → (after : IsGoing acting served before came ended w (front ++ t ∷ back)) × (after.said ≡ g.said)
+      → (after : IsGoing acting served idle before came ended w (front ++ t ∷ back)) × (after.said ≡ g.said)
   moves_on came ended w front s t back g same opened =
       let ns = same_numbers front s t back same in
       let parts = all_parts (IsOpen g.said came) front s back g.opened in (
@@ -214,7 +219,7 @@ module _ {S : Type 0} (acting : Acting S) (served : Served) (before : S) where
           rising = subst (IsRising 0) ns g.rising;
           known = g.known;
           opened = all_joined (IsOpen g.said came) front t back parts.0 opened parts.2;
-          gone = All-weaker (IsGone acting served before g.said came (front ++ s ∷ back)) (IsGone acting served before g.said came (front ++ t ∷ back))
+          gone = All-weaker (IsGone acting served idle before g.said came (front ++ s ∷ back)) (IsGone acting served idle before g.said came (front ++ t ∷ back))
               (λ one o.
               let others = all_parts (λ slot. slot.number ≢ one.0) front s back o.apart in
               record {
@@ -256,12 +261,12 @@ module _ {S : Type 0} (acting : Acting S) (served : Served) (before : S) where
     by (inr is) = inr (ap suc is)
 
   pub begins : (came : List Ends) (ended : List (ℕ × Gone)) (w w' : World S Stream) (slots : List Slotted) (c : ℕ) (told : Ends)
-      (a : List ℕ) (g : IsGoing acting served before came ended w slots) → c ≡ length came → Opens rests w c a w'
-      → (after : IsGoing acting served before (came ++ told ∷ []) ended w' (slots ++ slotted c told [] ∷ [])) × (brought c after.said ≡ [])
-  begins came ended w w' slots c told a g number opens =
+      (quiet : ℕ) (a : List ℕ) (g : IsGoing acting served idle before came ended w slots) → c ≡ length came → Opens rests w c a w'
+      → (after : IsGoing acting served idle before (came ++ told ∷ []) ended w' (slots ++ slotted c told quiet [] ∷ [])) × (brought c after.said ≡ [])
+  begins came ended w w' slots c told quiet a g number opens =
       let said : Log = g.said ++ (Begins c, a) ∷ [] in
       let came' : List Ends = came ++ told ∷ [] in
-      let s : Slotted = slotted c told [] in
+      let s : Slotted = slotted c told quiet [] in
       let below = all_below g.said came slots g.opened in
       let low : (n : ℕ) → n < length came → c ≢ n = λ n lt is. omega (arith, lt, number, is) in
       let none : brought c said ≡ [] =
@@ -293,7 +298,7 @@ module _ {S : Type 0} (acting : Acting S) (served : Served) (before : S) where
                 read = subst (λ (o : List ℕ). Gives told.left o told.left) (sym none) (gives_start told.left);
                 wrote = sym (written_nothing told.written);
               });
-          gone = All-weaker (IsGone acting served before g.said came slots) (IsGone acting served before said came' (slots ++ s ∷ []))
+          gone = All-weaker (IsGone acting served idle before g.said came slots) (IsGone acting served idle before said came' (slots ++ s ∷ []))
               (λ one o.
               let lt = get_below came one.0 o.from o.came_is in
               record {
@@ -309,24 +314,24 @@ module _ {S : Type 0} (acting : Acting S) (served : Served) (before : S) where
       )
     where
       either : (d : ℕ) → Contains (numbers slots) d ⊎ Contains (keys ended) d
-          → Contains (numbers (slots ++ slotted c told [] ∷ [])) d ⊎ Contains (keys ended) d
+          → Contains (numbers (slots ++ slotted c told quiet [] ∷ [])) d ⊎ Contains (keys ended) d
       either d (inl there) =
-          inl (subst (λ (ns : List ℕ). Contains ns d) (sym (map_two (λ (x : Slotted). x.number) slots (slotted c told [] ∷ [])))
+          inl (subst (λ (ns : List ℕ). Contains ns d) (sym (map_two (λ (x : Slotted). x.number) slots (slotted c told quiet [] ∷ [])))
           (Contains-append_left (numbers slots) (c ∷ []) d there))
       either d (inr there) = inr there
 
       with_one : (d : ℕ) → (d < length came) ⊎ (d ≡ length came)
-          → Contains (numbers (slots ++ slotted c told [] ∷ [])) d ⊎ Contains (keys ended) d
+          → Contains (numbers (slots ++ slotted c told quiet [] ∷ [])) d ⊎ Contains (keys ended) d
       with_one d (inl lt) = either d (g.all d lt)
       with_one d (inr is) =
-          inl (subst (λ (ns : List ℕ). Contains ns d) (sym (map_two (λ (x : Slotted). x.number) slots (slotted c told [] ∷ [])))
+          inl (subst (λ (ns : List ℕ). Contains ns d) (sym (map_two (λ (x : Slotted). x.number) slots (slotted c told quiet [] ∷ [])))
           (subst (λ (n : ℕ). Contains (numbers slots ++ c ∷ []) n) (number ∙ sym is) (Contains-push (numbers slots) c)))
 
   -- one that came and whose begin wanted memory
   pub not_begun : (came : List Ends) (ended : List (ℕ × Gone)) (w : World S Stream) (slots : List Slotted) (c : ℕ) (told : Ends)
-      (g : IsGoing acting served before came ended w slots) → c ≡ length came
-      → IsGoing acting served before (came ++ told ∷ []) (ended ++ (c, gone told GivenUp) ∷ []) w slots
-  not_begun came ended w slots c told g number =
+      (quiet : ℕ) (g : IsGoing acting served idle before came ended w slots) → c ≡ length came
+      → IsGoing acting served idle before (came ++ told ∷ []) (ended ++ (c, gone told quiet GivenUp) ∷ []) w slots
+  not_begun came ended w slots c told quiet g number =
       let came' : List Ends = came ++ told ∷ [] in
       let below = all_below g.said came slots g.opened in
       let none = brought_none (length came) c g.said (omega (arith, number)) g.known in
@@ -338,8 +343,8 @@ module _ {S : Type 0} (acting : Acting S) (served : Served) (before : S) where
         known = All-weaker (λ one. connection_of one.0 < length came) (λ one. connection_of one.0 < length came')
             (λ one lt. longer came told (connection_of one.0) lt) g.said g.known;
         opened = All-weaker (IsOpen g.said came) (IsOpen g.said came') (λ x o. open_more g.said came told x o) slots g.opened;
-        gone = All-push (IsGone acting served before g.said came' slots) ended (c, gone told GivenUp)
-            (All-weaker (IsGone acting served before g.said came slots) (IsGone acting served before g.said came' slots)
+        gone = All-push (IsGone acting served idle before g.said came' slots) ended (c, gone told quiet GivenUp)
+            (All-weaker (IsGone acting served idle before g.said came slots) (IsGone acting served idle before g.said came' slots)
             (λ one o. record {
               from = o.from;
               came_is = get_more came one.0 o.from told o.came_is;
@@ -353,9 +358,11 @@ module _ {S : Type 0} (acting : Acting S) (served : Served) (before : S) where
               carried = record {
                 sent = [];
                 waiting = [];
+                last = [];
                 answer_is = answered_none (length came) c g.said (omega (arith, number)) g.known;
                 read = subst (λ (o : List ℕ). Gives told.left o told.left) (sym none) (gives_start told.left);
                 wrote = sym (written_nothing told.written);
+                last_is = refl;
                 ended = record { sent = refl; wanted = inr none };
               };
               apart = All-weaker (λ x. x.number < length came) (λ x. x.number ≢ c) (λ x lt is. omega (arith, lt, is, number)) slots below;
@@ -363,27 +370,67 @@ module _ {S : Type 0} (acting : Acting S) (served : Served) (before : S) where
         all = λ d lt. with_one d (came_before came told d lt);
       }
     where
-      keys_more : (d : ℕ) → Contains (keys ended ++ c ∷ []) d → Contains (keys (ended ++ (c, gone told GivenUp) ∷ [])) d
-      keys_more d there = subst (λ (ns : List ℕ). Contains ns d) (sym (map_two (λ (x : ℕ × Gone). x.0) ended ((c, gone told GivenUp) ∷ []))) there
+      keys_more : (d : ℕ) → Contains (keys ended ++ c ∷ []) d → Contains (keys (ended ++ (c, gone told quiet GivenUp) ∷ [])) d
+      keys_more d there = subst (λ (ns : List ℕ). Contains ns d) (sym (map_two (λ (x : ℕ × Gone). x.0) ended ((c, gone told quiet GivenUp) ∷ []))) there
 
       either : (d : ℕ) → Contains (numbers slots) d ⊎ Contains (keys ended) d
-          → Contains (numbers slots) d ⊎ Contains (keys (ended ++ (c, gone told GivenUp) ∷ [])) d
+          → Contains (numbers slots) d ⊎ Contains (keys (ended ++ (c, gone told quiet GivenUp) ∷ [])) d
       either d (inl there) = inl there
       either d (inr there) = inr (keys_more d (Contains-append_left (keys ended) (c ∷ []) d there))
 
       with_one : (d : ℕ) → (d < length came) ⊎ (d ≡ length came)
-          → Contains (numbers slots) d ⊎ Contains (keys (ended ++ (c, gone told GivenUp) ∷ [])) d
+          → Contains (numbers slots) d ⊎ Contains (keys (ended ++ (c, gone told quiet GivenUp) ∷ [])) d
       with_one d (inl lt) = either d (g.all d lt)
       with_one d (inr is) =
           inr (keys_more d (subst (λ (n : ℕ). Contains (keys ended ++ c ∷ []) n) (number ∙ sym is) (Contains-push (keys ended) c)))
 
+  plain : (said : Log) (c : ℕ) (from : Ends) (sent : List ℕ) (s : Slotted) (end : End)
+      → answered c said ≡ sent ++ s.waiting → Gives from.left (brought c said) s.told.left
+      → s.told.written ≡ written_with from.written sent
+      → HasEnded acting served idle before said c s.waiting s.told s.quiet end
+      → IsLast end s.waiting [] → IsCarried acting served idle before said c from (gone s.told s.quiet end)
+  plain said c from sent s end answer read wrote ended last_is = record {
+    sent = sent;
+    waiting = s.waiting;
+    last = [];
+    answer_is = answer;
+    read = read;
+    wrote = wrote ∙ ap (λ (xs : List ℕ). written_with from.written xs) (sym (append-nil sent));
+    last_is = last_is;
+    ended = ended;
+  }
+
+  -- what is known of one that is let go of, by how it ended
+  let_go : (said : Log) (c : ℕ) (from : Ends) (sent : List ℕ) (s : Slotted) (end : End) (to : Gone)
+      → answered c said ≡ sent ++ s.waiting → Gives from.left (brought c said) s.told.left
+      → s.told.written ≡ written_with from.written sent
+      → HasEnded acting served idle before said c s.waiting s.told s.quiet end
+      → IsLetGo s end to → IsCarried acting served idle before said c from to
+  let_go said c from sent s Finished to answer read wrote ended is =
+      subst (λ (t : Gone). IsCarried acting served idle before said c from t) (sym is) (plain said c from sent s Finished answer read wrote ended refl)
+  let_go said c from sent s Failed to answer read wrote ended is =
+      subst (λ (t : Gone). IsCarried acting served idle before said c from t) (sym is) (plain said c from sent s Failed answer read wrote ended refl)
+  let_go said c from sent s GivenUp to answer read wrote ended is =
+      subst (λ (t : Gone). IsCarried acting served idle before said c from t) (sym is) (plain said c from sent s GivenUp answer read wrote ended refl)
+  let_go said c from sent s Idle to answer read wrote ended is = record {
+    sent = sent;
+    waiting = s.waiting;
+    last = is.last;
+    answer_is = answer;
+    read = subst (λ l. Gives from.left (brought c said) l) (sym is.left) read;
+    wrote = is.written ∙ ap (λ x. written_with x is.last) wrote ∙ written_then from.written sent is.last;
+    last_is = subst (λ (e : End). IsLast e s.waiting is.last) (sym is.end_is) is.last_is;
+    ended = subst (λ (e : End). HasEnded acting served idle before said c s.waiting to.told to.quiet e) (sym is.end_is)
+        (subst (λ (q : ℕ). IsIdle idle q) (sym is.quiet) ended);
+  }
+
   -- ---- one less
 
   pub leaves : (came : List Ends) (ended : List (ℕ × Gone)) (w w' : World S Stream) (front : List Slotted) (s : Slotted)
-      (back : List Slotted) (a : List ℕ) (end : End)
-      (on : IsOn acting served before came ended w front s back (Over end)) → Leaves w s.number a w'
-      → IsGoing acting served before came (ended ++ (s.number, gone s.told end) ∷ []) w' (front ++ back)
-  leaves came ended w w' front s back a end on left =
+      (back : List Slotted) (a : List ℕ) (end : End) (to : Gone)
+      (on : IsOn acting served idle before came ended w front s back (Over end)) → Leaves w s.number a w' → IsLetGo s end to
+      → IsGoing acting served idle before came (ended ++ (s.number, to) ∷ []) w' (front ++ back)
+  leaves came ended w w' front s back a end to on left parted =
       let g = on.going in
       let c : ℕ = s.number in
       let said : Log = g.said ++ (Leaving c, a) ∷ [] in
@@ -411,8 +458,8 @@ module _ {S : Type 0} (acting : Acting S) (served : Served) (before : S) where
         opened = all_two (IsOpen said came) front back
             (all_both (IsOpen g.said came) (λ x. x.number ≢ c) (IsOpen said came) front still parts.0 apart_front)
             (all_both (IsOpen g.said came) (λ x. x.number ≢ c) (IsOpen said came) back still parts.2 apart_back);
-        gone = All-push (IsGone acting served before said came (front ++ back)) ended (c, gone s.told end)
-            (All-weaker (IsGone acting served before g.said came (front ++ s ∷ back)) (IsGone acting served before said came (front ++ back))
+        gone = All-push (IsGone acting served idle before said came (front ++ back)) ended (c, to)
+            (All-weaker (IsGone acting served idle before g.said came (front ++ s ∷ back)) (IsGone acting served idle before said came (front ++ back))
             (λ one k.
             let others = all_parts (λ slot. slot.number ≢ one.0) front s back k.apart in
             record {
@@ -425,14 +472,10 @@ module _ {S : Type 0} (acting : Acting S) (served : Served) (before : S) where
             (record {
               from = o.from;
               came_is = o.came_is;
-              carried = record {
-                sent = o.sent;
-                waiting = s.waiting;
-                answer_is = silent ∙ o.answer_is;
-                read = subst (λ (x : List ℕ). Gives o.from.left x s.told.left) (sym nothing) o.read;
-                wrote = o.wrote;
-                ended = ended_still g.said ((Leaving c, a) ∷ []) c s.waiting s.told end nothing (on.over end refl);
-              };
+              carried = let_go said c o.from o.sent s end to
+                  (silent ∙ o.answer_is)
+                  (subst (λ (x : List ℕ). Gives o.from.left x s.told.left) (sym nothing) o.read) o.wrote
+                  (ended_still g.said ((Leaving c, a) ∷ []) c s.waiting s.told s.quiet end nothing (on.over end refl)) parted;
               apart = all_two (λ slot. slot.number ≢ c) front back apart_front apart_back;
             });
         all = λ d lt. either d (g.all d lt);
@@ -442,25 +485,25 @@ module _ {S : Type 0} (acting : Acting S) (served : Served) (before : S) where
       all_two P [] ys p q = q
       all_two P (x ∷ xs) ys p q = All-cons P x (xs ++ ys) (All-head P x xs p) (all_two P xs ys (All-tail P x xs p) q)
 
-      into : (d : ℕ) → Contains (keys ended ++ s.number ∷ []) d → Contains (keys (ended ++ (s.number, gone s.told end) ∷ [])) d
-      into d there = subst (λ (ns : List ℕ). Contains ns d) (sym (map_two (λ (x : ℕ × Gone). x.0) ended ((s.number, gone s.told end) ∷ []))) there
+      into : (d : ℕ) → Contains (keys ended ++ s.number ∷ []) d → Contains (keys (ended ++ (s.number, to) ∷ [])) d
+      into d there = subst (λ (ns : List ℕ). Contains ns d) (sym (map_two (λ (x : ℕ × Gone). x.0) ended ((s.number, to) ∷ []))) there
 
       behind : (d : ℕ) → Contains (s.number ∷ numbers back) d
-          → Contains (numbers (front ++ back)) d ⊎ Contains (keys (ended ++ (s.number, gone s.told end) ∷ [])) d
+          → Contains (numbers (front ++ back)) d ⊎ Contains (keys (ended ++ (s.number, to) ∷ [])) d
       behind d (zero, lt, is) = inr (into d (subst (λ (n : ℕ). Contains (keys ended ++ s.number ∷ []) n) is (Contains-push (keys ended) s.number)))
       behind d (suc k, lt, is) =
           inl (subst (λ (ns : List ℕ). Contains ns d) (sym (map_two (λ (x : Slotted). x.number) front back))
           (Contains-append_right (numbers front) (numbers back) d (k, omega (arith, lt), is)))
 
       among : (d : ℕ) → Contains (numbers front) d ⊎ Contains (s.number ∷ numbers back) d
-          → Contains (numbers (front ++ back)) d ⊎ Contains (keys (ended ++ (s.number, gone s.told end) ∷ [])) d
+          → Contains (numbers (front ++ back)) d ⊎ Contains (keys (ended ++ (s.number, to) ∷ [])) d
       among d (inl there) =
           inl (subst (λ (ns : List ℕ). Contains ns d) (sym (map_two (λ (x : Slotted). x.number) front back))
           (Contains-append_left (numbers front) (numbers back) d there))
       among d (inr there) = behind d there
 
       either : (d : ℕ) → Contains (numbers (front ++ s ∷ back)) d ⊎ Contains (keys ended) d
-          → Contains (numbers (front ++ back)) d ⊎ Contains (keys (ended ++ (s.number, gone s.told end) ∷ [])) d
+          → Contains (numbers (front ++ back)) d ⊎ Contains (keys (ended ++ (s.number, to) ∷ [])) d
       either d (inl there) =
           among d (Contains-append_cases (numbers front) (s.number ∷ numbers back) d
           (subst (λ (ns : List ℕ). Contains ns d) (map_joined (λ (x : Slotted). x.number) front s back) there))

@@ -1,6 +1,7 @@
 pub mod Parts
 pub mod Items
 pub mod Logs
+pub mod OneTalk
 pub mod Keys
 pub mod Going
 pub mod Turns

@@ -1,4 +1,5 @@
 pub mod Carried
+pub mod OneTalk
 pub mod Telling
 pub mod Visits
 pub mod inner

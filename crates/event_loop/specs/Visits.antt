@@ -1,15 +1,16 @@
 -- Connections that came, were served at the same time, and went.
-use Rattle.std.specs.Prelude.{◌≡◌, ◌⊎◌, ℕ, ◌<◌, true, List, [], ◌∷◌, ◌++◌, length, Some, slice_get}
+use Rattle.std.specs.Prelude.{◌≡◌, ◌⊎◌, ℕ, ◌<◌, ◌≤◌, true, List, [], ◌∷◌, ◌++◌, length, Some, slice_get}
 use Rattle.broker_answers.specs.Streams.{Stream, Closed}
 use Rattle.broker_answers.specs.Connections.{at}
 use Rattle.broker_answers.specs.Talk.{World, world, rests, Follows, Talk, GivesUp}
 use Rattle.broker_answers.specs.Servants.{Acting}
 use Rattle.broker_answers.specs.Objects.{Served}
 use Rattle.broker_answers.specs.Serving.{Moves, Serves}
+use Rattle.giop_messages.specs.Messages.{Closes, Says}
 use Rattle.iiop_broker.specs.Ends.{Gives, IsEmpty, written_with}
 use Rattle.iiop_broker.specs.Outcomes.{Ends}
 use Rattle.event_loop.specs.declared.listener.End.{End}
-use Rattle.event_loop.specs.declared.listener.End.TheVariants.{Finished, Failed, GivenUp}
+use Rattle.event_loop.specs.declared.listener.End.TheVariants.{Finished, Failed, GivenUp, Idle}
 use Rattle.event_loop.specs.Carried.{Log, answered, brought}
 
 -- at some time of the log the broker had closed the connection
@@ -40,48 +41,73 @@ pub record IsForsaken (said : Log) (c : ℕ) (waiting : List ℕ) : Type 0 where
   pub sent : waiting ≡ []
   pub wanted : IsGivenUp said c ⊎ (brought c said ≡ [])
 
--- How a connection ended, of whose answers these aren't written.
-abbrev pub HasEnded : {S : Type 0} → Acting S → Served → S → Log → ℕ → List ℕ → Ends → End → Type 0
-HasEnded acting served before said c waiting to Finished = IsFinished acting served before said c waiting to
-HasEnded acting served before said c waiting to Failed = (to.unwritten ≡ true) ⊎ ((waiting ≡ []) × (to.unread ≡ true))
-HasEnded acting served before said c waiting to GivenUp = IsForsaken said c waiting
+-- connections are to end after so many milliseconds, and no octets had moved on this one for as many
+pub record IsIdle (idle quiet : ℕ) : Type 0 where
+  pub wanted : 0 < idle
+  pub long : idle ≤ quiet
 
--- what a connection that was handed back told then, and how it ended
+-- How a connection ended, of whose answers these aren't written.
+abbrev pub HasEnded : {S : Type 0} → Acting S → Served → ℕ → S → Log → ℕ → List ℕ → Ends → ℕ → End → Type 0
+HasEnded acting served idle before said c waiting to quiet Finished =
+    IsFinished acting served before said c waiting to
+HasEnded acting served idle before said c waiting to quiet Failed =
+    (to.unwritten ≡ true) ⊎ ((waiting ≡ []) × (to.unread ≡ true))
+HasEnded acting served idle before said c waiting to quiet GivenUp = IsForsaken said c waiting
+HasEnded acting served idle before said c waiting to quiet Idle = IsIdle idle quiet
+
+-- a front of the message that no more is heard (GIOP: CloseConnection)
+pub record IsFarewell (octets : List ℕ) : Type 0 where
+  pub message : List ℕ
+  pub rest : List ℕ
+  pub says : Says message Closes
+  pub split : message ≡ octets ++ rest
+
+-- what is written behind the answers: such a front where it was idle and none waits, and else nothing
+abbrev pub IsLast : End → List ℕ → List ℕ → Type 0
+IsLast Idle waiting last = (last ≡ []) ⊎ ((waiting ≡ []) × IsFarewell last)
+IsLast end waiting last = last ≡ []
+
+-- what a connection that was handed back told then, for how many milliseconds no octets had moved on it when it was
+-- asked last, and how it ended
 pub record Gone : Type 0 where
   pub told : Ends
+  pub quiet : ℕ
   pub end : End
 
-abbrev pub gone : Ends → End → Gone
-gone told end = record { told = told; end = end }
+abbrev pub gone : Ends → ℕ → End → Gone
+gone told quiet end = record { told = told; quiet = quiet; end = end }
 
 -- A connection that told one thing when it came and another when it went: just the octets of its events were read, and
--- its answers are written, but for those that wait.
-pub record IsCarried {S : Type 0} (acting : Acting S) (served : Served) (before : S) (said : Log) (c : ℕ)
+-- its answers are written, but for those that wait, and then what is last.
+pub record IsCarried {S : Type 0} (acting : Acting S) (served : Served) (idle : ℕ) (before : S) (said : Log) (c : ℕ)
     (from : Ends) (to : Gone) : Type 0 where
   pub sent : List ℕ
   pub waiting : List ℕ
+  pub last : List ℕ
   pub answer_is : answered c said ≡ sent ++ waiting
   pub read : Gives from.left (brought c said) to.told.left
-  pub wrote : to.told.written ≡ written_with from.written sent
-  pub ended : HasEnded acting served before said c waiting to.told to.end
+  pub wrote : to.told.written ≡ written_with from.written (sent ++ last)
+  pub last_is : IsLast to.end waiting last
+  pub ended : HasEnded acting served idle before said c waiting to.told to.quiet to.end
 
 -- the connection that came as this number among all, and what it told when it was handed back
-pub record IsVisit {S : Type 0} (acting : Acting S) (served : Served) (before : S) (said : Log) (came : List Ends)
-    (ended : List (ℕ × Gone)) (c : ℕ) : Type 0 where
+pub record IsVisit {S : Type 0} (acting : Acting S) (served : Served) (idle : ℕ) (before : S) (said : Log)
+    (came : List Ends) (ended : List (ℕ × Gone)) (c : ℕ) : Type 0 where
   pub from : Ends
   pub to : Gone
   pub came_is : slice_get came c ≡ Some from
   pub ended_is : at c ended ≡ Some to
-  pub carried : IsCarried acting served before said c from to
+  pub carried : IsCarried acting served idle before said c from to
 
 -- Each connection was served what the talk of all says, in which their events come in some order.
-pub record AreServed {S : Type 0} (acting : Acting S) (served : Served) (before : S) (came : List Ends)
+pub record AreServed {S : Type 0} (acting : Acting S) (served : Served) (idle : ℕ) (before : S) (came : List Ends)
     (ended : List (ℕ × Gone)) (after : S) : Type 0 where
   pub said : Log
   pub talk : Talk (Serves acting served) (Moves acting served) before said after
-  pub each : (c : ℕ) → c < length came → IsVisit acting served before said came ended c
+  pub each : (c : ℕ) → c < length came → IsVisit acting served idle before said came ended c
 
 -- the same, for some list of those that went that may be told
-abbrev pub AreServedBy : {S : Type 0} → (List (ℕ × Gone) → Type 0) → Acting S → Served → S → List Ends → S → Type 0
-AreServedBy Told acting served before came after =
-    (ended : List (ℕ × Gone)) × Told ended × AreServed acting served before came ended after
+abbrev pub AreServedBy : {S : Type 0} → (List (ℕ × Gone) → Type 0) → Acting S → Served → ℕ → S → List Ends → S
+    → Type 0
+AreServedBy Told acting served idle before came after =
+    (ended : List (ℕ × Gone)) × Told ended × AreServed acting served idle before came ended after

@@ -1,6 +1,6 @@
 //! Connections on which no call waits.
 
-ghost use Rattle.std.specs.Prelude.{◌≡◌, ◌<◌, ◌≤◌, length, take, IfNone, IfOk, IfSome, OnErr};
+ghost use Rattle.std.specs.Prelude.{◌≡◌, ◌<◌, ◌≤◌, ℕ, IsTrue, length, take, IfNone, IfOk, IfSome, OnErr};
 ghost use Rattle.iiop_broker.specs.Ends.{IsEmpty};
 ghost use Rattle.iiop_broker.specs.Outcomes.{Ends};
 ghost use Rattle.event_loop.specs.Telling.{HasRead, HasWritten, with_failed_read, with_failed_write};
@@ -8,9 +8,12 @@ ghost use Rattle.event_loop.specs.Telling.{HasRead, HasWritten, with_failed_read
 use iiop_broker::Failed;
 
 /// A connection of which a call moves octets at once or says that it can't now. It tells the octets
-/// that are left and those that were written, or nothing of them, and whether a call has failed.
+/// that are left and those that were written, or nothing of them, and whether a call has failed; and
+/// for how many milliseconds no octets had moved when that was asked last.
 pub trait Connection {
     ghost told: { Self → Ends };
+
+    ghost quiet: { Self → ℕ };
 
     /// Reads octets into the buffer, at most as many as it has room for; 0 at the end. None where
     /// none are there now.
@@ -25,7 +28,8 @@ pub trait Connection {
         ensures end { IfOk result (λ got. IfSome got (λ n. n ≡ 0 → 0 < length buffer.old
             → IsEmpty (told self.old).left)) }
         ensures not_now { IfOk result (λ got. IfNone got (told self.new ≡ told self.old)) }
-        ensures failed { OnErr result (told self.new ≡ with_failed_read (told self.old)) };
+        ensures failed { OnErr result (told self.new ≡ with_failed_read (told self.old)) }
+        ensures quiet { quiet self.new ≡ quiet self.old };
 
     /// Writes octets, and tells how many it took. None where it takes none now. It fails too where
     /// it takes 0 of some.
@@ -37,5 +41,11 @@ pub trait Connection {
         ensures written { IfOk result
             (λ got. IfSome got (λ n. HasWritten (told self.old) octets.now n (told self.new))) }
         ensures not_now { IfOk result (λ got. IfNone got (told self.new ≡ told self.old)) }
-        ensures failed { OnErr result (told self.new ≡ with_failed_write (told self.old)) };
+        ensures failed { OnErr result (told self.new ≡ with_failed_write (told self.old)) }
+        ensures quiet { quiet self.new ≡ quiet self.old };
+
+    /// Whether no octets have moved for so many milliseconds, as far as it knows.
+    fn is_quiet(&mut self, least: u64) -> bool
+        ensures told { told self.new ≡ told self.old }
+        ensures quiet { IsTrue result → least ≤ quiet self.new };
 }

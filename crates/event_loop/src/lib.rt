@@ -2,6 +2,7 @@
 #![tactic(auto)]
 
 mod connection;
+pub mod laws;
 mod listener;
 mod serving;
 mod slot;

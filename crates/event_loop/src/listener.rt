@@ -1,6 +1,6 @@
 //! Where connections come from and go to.
 
-ghost use Rattle.std.specs.Prelude.{◌≡◌, ◌∷◌, ◌++◌, ◌+◌, [], ℕ, Bool, true, List, IfNone, IfOk, IfSome, OnErr};
+ghost use Rattle.std.specs.Prelude.{◌≡◌, ◌∷◌, ◌++◌, ◌+◌, ◌<◌, [], ℕ, Bool, true, List, Option, Some, max, IfNone, IfOk, IfSome, OnErr, OnOk};
 ghost use Rattle.iiop_broker.specs.Outcomes.{Ends};
 ghost use Rattle.event_loop.specs.Visits.{Gone, gone};
 
@@ -16,10 +16,13 @@ pub enum End {
     Failed,
     /// Memory was wanted for it.
     GivenUp,
+    /// No octets moved for so long that it was ended.
+    Idle,
 }
 
 /// Where connections come from, and to which they are handed back. It tells what each connection
 /// that came told then, which list of those that were handed back, by their numbers, it may have,
+/// how many are there and how many were at the same time at most, the port that is listened on,
 /// whether a call has failed, and how often it has looked.
 pub trait Listener {
     type Connection: Connection + Drop;
@@ -28,9 +31,27 @@ pub trait Listener {
 
     ghost ended: { Self → List (ℕ × Gone) → Type 0 };
 
+    ghost there: { Self → ℕ };
+
+    ghost most: { Self → ℕ };
+
+    ghost port: { Self → Option ℕ };
+
     ghost failure: { Self → Bool };
 
     ghost looks: { Self → ℕ };
+
+    /// Has connections come to the port of the number. None has come by that.
+    ///
+    /// # Errors
+    /// The port can't be listened on.
+    fn listen(&mut self, number: u16) -> Result<(), Failed>
+        ensures port { OnOk result (port self.new ≡ Some number) }
+        ensures came { came self.new ≡ came self.old }
+        ensures ended { (all : List (ℕ × Gone)) → ended self.old all → ended self.new all }
+        ensures there { there self.new ≡ there self.old }
+        ensures most { most self.new ≡ most self.old }
+        ensures looks { looks self.new ≡ looks self.old };
 
     /// The next connection, or None where none has come now.
     ///
@@ -39,23 +60,38 @@ pub trait Listener {
     fn accept(&mut self) -> Result<Option<Self::Connection>, Failed>
         ensures came { IfOk result
             (λ got. IfSome got (λ it. came self.new ≡ came self.old ++ Self.Connection.told it ∷ [])) }
+        ensures there { IfOk result (λ got. IfSome got (λ _. there self.new ≡ there self.old + 1)) }
+        ensures most { IfOk result (λ got. IfSome got (λ _. most self.new ≡ max (most self.old) (there self.new))) }
         ensures not_now { IfOk result (λ got. IfNone got (came self.new ≡ came self.old)) }
+        ensures as_many { IfOk result (λ got. IfNone got (there self.new ≡ there self.old)) }
+        ensures no_more { IfOk result (λ got. IfNone got (most self.new ≡ most self.old)) }
         ensures kept { OnErr result (came self.new ≡ came self.old) }
+        ensures still { OnErr result (most self.new ≡ most self.old) }
         ensures failed { OnErr result (failure self.new ≡ true) }
+        ensures port { port self.new ≡ port self.old }
         ensures looks { looks self.new ≡ looks self.old }
         ensures ended { (all : List (ℕ × Gone)) → ended self.old all → ended self.new all };
 
     /// Takes back a connection that ended: which it was among those that came, and how it ended.
     fn hand_back(&mut self, number: u32, connection: Self::Connection, end: End)
+        requires { 0 < there self.old }
         ensures came { came self.new ≡ came self.old }
         ensures ended { (all : List (ℕ × Gone)) → ended self.old all
-            → ended self.new (all ++ (number, gone (Self.Connection.told connection) end) ∷ []) }
+            → ended self.new (all
+            ++ (number, gone (Self.Connection.told connection) (Self.Connection.quiet connection) end) ∷ []) }
+        ensures there { there self.new + 1 ≡ there self.old }
+        ensures most { most self.new ≡ most self.old }
+        ensures port { port self.new ≡ port self.old }
         ensures looks { looks self.new ≡ looks self.old };
 
     /// Looks where octets may move: unless some moved just now, it waits until a connection may have
     /// come, or a call on one may move octets. It may come back before: nothing is concluded from it.
     fn look(&mut self, moved: bool)
+        requires { looks self.old < 18446744073709551615 }
         ensures came { came self.new ≡ came self.old }
         ensures ended { (all : List (ℕ × Gone)) → ended self.old all → ended self.new all }
+        ensures there { there self.new ≡ there self.old }
+        ensures most { most self.new ≡ most self.old }
+        ensures port { port self.new ≡ port self.old }
         ensures looks { looks self.new ≡ looks self.old + 1 };
 }

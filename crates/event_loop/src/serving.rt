@@ -1,6 +1,6 @@
 //! Connections served at the same time.
 
-ghost use Rattle.std.specs.Prelude.{◌≡◌, ◌<◌, ◌≤◌, ◌+◌, [], List, ℕ, true, length, IfErr, IfOk, None, OnErr, OnOk, if◌then◌else◌};
+ghost use Rattle.std.specs.Prelude.{◌≡◌, ◌<◌, ◌≤◌, ◌+◌, [], List, ℕ, true, length, max, IfErr, IfOk, None, OnErr, OnOk, if◌then◌else◌};
 ghost use Rattle.broker_answers.specs.Connections.{at};
 ghost use Rattle.broker_answers.specs.Servants.{acts};
 ghost use Rattle.iiop_broker.specs.Outcomes.{Ends};
@@ -38,13 +38,17 @@ fn admit<S: Servant, L: Listener>(
     requires number { number ≡ length (L.came listener.old) }
     requires room { length broker.old.world.there < 64 }
     requires absent { at number broker.old.world.there ≡ None }
-    ensures going { (before : S)
-        → GoesOn (L.ended listener.old) (acts S.says S.after) broker.old.served before
+    requires filled { L.there listener.old ≡ length slots.old.items }
+    ensures going { (idle : ℕ) (before : S)
+        → GoesOn (L.ended listener.old) (acts S.says S.after) broker.old.served idle before
         (L.came listener.old) broker.old.world slots.old.items
-        → GoesOn (L.ended listener.new) (acts S.says S.after) broker.old.served before
+        → GoesOn (L.ended listener.new) (acts S.says S.after) broker.old.served idle before
         (L.came listener.new) broker.new.world slots.new.items }
     ensures came { IfOk result (λ came. length (L.came listener.new) ≡ number + (if came then 1 else 0)) }
+    ensures filled { OnOk result (L.there listener.new ≡ length slots.new.items) }
     ensures few { length slots.new.items ≤ length slots.old.items + 1 }
+    ensures most { L.most listener.new ≤ max (L.most listener.old) (length slots.old.items + 1) }
+    ensures port { L.port listener.new ≡ L.port listener.old }
     ensures cause { IfErr result (λ interruption. interruption ≡ Unaccepted) }
     ensures failed { OnErr result (L.failure listener.new ≡ true) }
     ensures looks { L.looks listener.new ≡ L.looks listener.old }
@@ -90,16 +94,20 @@ fn admit_next<S: Servant, L: Listener>(
     requires upto { progress.old.begun ≤ progress.old.count }
     requires few { length slots.old.items ≤ progress.old.at_once }
     requires most { progress.old.at_once ≤ 64 }
-    requires under_way { IsUnderWay (L.ended listener.old) (acts S.says S.after) broker.old.served
+    requires filled { L.there listener.old ≡ length slots.old.items }
+    requires under_way { (idle : ℕ) × IsUnderWay (L.ended listener.old) (acts S.says S.after) broker.old.served idle
         (L.came listener.old) broker.old.world slots.old.items }
-    ensures going { (before : S)
-        → GoesOn (L.ended listener.old) (acts S.says S.after) broker.old.served before
+    ensures going { (idle : ℕ) (before : S)
+        → GoesOn (L.ended listener.old) (acts S.says S.after) broker.old.served idle before
         (L.came listener.old) broker.old.world slots.old.items
-        → GoesOn (L.ended listener.new) (acts S.says S.after) broker.old.served before
+        → GoesOn (L.ended listener.new) (acts S.says S.after) broker.old.served idle before
         (L.came listener.new) broker.new.world slots.new.items }
     ensures begun { OnOk result (progress.new.begun ≡ length (L.came listener.new)) }
     ensures upto { OnOk result (progress.new.begun ≤ progress.new.count) }
+    ensures filled { OnOk result (L.there listener.new ≡ length slots.new.items) }
     ensures few { OnOk result (length slots.new.items ≤ progress.new.at_once) }
+    ensures most { L.most listener.new ≤ max (L.most listener.old) progress.old.at_once }
+    ensures port { L.port listener.new ≡ L.port listener.old }
     ensures count { progress.new.count ≡ progress.old.count }
     ensures at_once { progress.new.at_once ≡ progress.old.at_once }
     ensures cause { IfErr result (λ interruption. interruption ≡ Unaccepted) }
@@ -119,8 +127,8 @@ fn admit_next<S: Servant, L: Listener>(
 
 /// Serves so many connections, at most so many of them at the same time: what comes on each is
 /// answered as the talk of all says, in the order in which it comes. A connection ends when all was
-/// read, the broker closed it, a read or a write failed, or memory was wanted for what came on it;
-/// the others go on.
+/// read, the broker closed it, a read or a write failed, memory was wanted for what came on it, or
+/// no octets moved on it for so many milliseconds, where these aren't 0; the others go on.
 ///
 /// # Errors
 /// `Unaccepted` where a connection can't be accepted. `Endless` after 2 ^ 64 - 1 rounds.
@@ -130,19 +138,24 @@ pub fn serve_at_once<S: Servant, L: Listener>(
     listener: &mut L,
     count: u32,
     at_once: usize,
+    idle: u64,
 ) -> Result<(), Interruption>
     requires alone { broker.old.world.there ≡ [] }
     requires fresh { L.came listener.old ≡ [] }
     requires none { L.ended listener.old [] }
+    requires empty { L.there listener.old ≡ 0 }
+    requires unlooked { L.looks listener.old ≡ 0 }
     requires few { at_once ≤ 64 }
     ensures served { OnOk result
-        (AreServedBy (L.ended listener.new) (acts S.says S.after) broker.old.served broker.old.world.servant
+        (AreServedBy (L.ended listener.new) (acts S.says S.after) broker.old.served idle broker.old.world.servant
         (L.came listener.new) broker.new.world.servant) }
     ensures count { OnOk result (length (L.came listener.new) ≡ count) }
+    ensures most { L.most listener.new ≤ max (L.most listener.old) at_once }
+    ensures port { L.port listener.new ≡ L.port listener.old }
     ensures alone { OnOk result (broker.new.world.there ≡ []) }
     ensures failed { IfErr result (λ interruption. interruption ≡ Unaccepted → L.failure listener.new ≡ true) }
     ensures endless { IfErr result (λ interruption. interruption ≡ Endless
-        → L.looks listener.new ≡ L.looks listener.old + 18446744073709551615) }
+        → L.looks listener.new ≡ 18446744073709551615) }
     ensures same { broker.new.served ≡ broker.old.served }
 {
     steps_are_the_talk::<S>();
@@ -158,7 +171,7 @@ pub fn serve_at_once<S: Servant, L: Listener>(
         if progress.begun == count && slots.is_empty() {
             return Ok(());
         }
-        let moved = sweep(broker, listener, &mut slots, &mut buffer);
+        let moved = sweep(broker, listener, &mut slots, &mut buffer, idle);
         listener.look(came | moved);
     }
     Err(Interruption::Endless)

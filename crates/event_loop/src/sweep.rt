@@ -4,10 +4,11 @@ ghost use Rattle.std.specs.Prelude.{◌≡◌, ◌≢◌, ◌<◌, ◌≤◌, �
 ghost use Rattle.broker_answers.specs.Servants.{acts};
 ghost use Rattle.broker_answers.specs.Talk.{Leaves};
 ghost use Rattle.iiop_broker.specs.Listed.{IsThere};
-ghost use Rattle.event_loop.specs.Visits.{Gone, gone};
+ghost use Rattle.event_loop.specs.Visits.{Gone};
 ghost use Rattle.event_loop.specs.declared.listener.End.{End};
 ghost use Rattle.event_loop.specs.declared.slot.Course.TheVariants.{Over};
 ghost use Rattle.event_loop.specs.inner.Going.{GoesOn, IsUnderWay};
+ghost use Rattle.event_loop.specs.inner.Turns.{IsLetGo};
 
 use crate::listener::{End, Listener};
 use crate::slot::{Course, Slot};
@@ -20,11 +21,15 @@ pub(crate) fn let_go<S: Servant, L: Listener>(
     slot: Slot<L::Connection>,
     end: End,
 )
-    requires { IsThere slot.number broker.old.world.there }
+    requires known { IsThere slot.number broker.old.world.there }
+    requires there { 0 < L.there listener.old }
     ensures left { Leaves broker.old.world slot.number [] broker.new.world }
     ensures ended { (all : List (ℕ × Gone)) → L.ended listener.old all
-        → L.ended listener.new (all ++ (slot.number, gone slot.told end) ∷ []) }
+        → (to : Gone) × IsLetGo slot end to × L.ended listener.new (all ++ (slot.number, to) ∷ []) }
     ensures came { L.came listener.new ≡ L.came listener.old }
+    ensures there { L.there listener.new + 1 ≡ L.there listener.old }
+    ensures most { L.most listener.new ≡ L.most listener.old }
+    ensures port { L.port listener.new ≡ L.port listener.old }
     ensures looks { L.looks listener.new ≡ L.looks listener.old }
     ensures same { broker.new.served ≡ broker.old.served }
 {
@@ -33,7 +38,7 @@ pub(crate) fn let_go<S: Servant, L: Listener>(
         Ok(_) => {}
         Err(_) => unreachable!(),
     }
-    listener.hand_back(number, slot.into_connection(), end);
+    listener.hand_back(number, slot.into_connection(end), end);
 }
 
 /// Serves the connection at a place as far as it goes at once, and lets go of it where it is over.
@@ -43,24 +48,29 @@ fn serve_at<S: Servant, L: Listener>(
     slots: &mut Vec<Slot<L::Connection>>,
     at: usize,
     buffer: &mut [u8],
+    idle: u64,
 ) -> Course
     requires there { at < length slots.old.items }
     requires room { 0 < length buffer.old }
-    requires under_way { IsUnderWay (L.ended listener.old) (acts S.says S.after) broker.old.served
+    requires filled { L.there listener.old ≡ length slots.old.items }
+    requires under_way { IsUnderWay (L.ended listener.old) (acts S.says S.after) broker.old.served idle
         (L.came listener.old) broker.old.world slots.old.items }
     ensures going { (before : S)
-        → GoesOn (L.ended listener.old) (acts S.says S.after) broker.old.served before
+        → GoesOn (L.ended listener.old) (acts S.says S.after) broker.old.served idle before
         (L.came listener.old) broker.old.world slots.old.items
-        → GoesOn (L.ended listener.new) (acts S.says S.after) broker.old.served before
+        → GoesOn (L.ended listener.new) (acts S.says S.after) broker.old.served idle before
         (L.came listener.old) broker.new.world slots.new.items }
     ensures shorter { (end : End) → result ≡ Over end → length slots.new.items + 1 ≡ length slots.old.items }
     ensures as_many { ((end : End) → result ≢ Over end) → length slots.new.items ≡ length slots.old.items }
+    ensures filled { L.there listener.new ≡ length slots.new.items }
     ensures came { L.came listener.new ≡ L.came listener.old }
+    ensures most { L.most listener.new ≡ L.most listener.old }
+    ensures port { L.port listener.new ≡ L.port listener.old }
     ensures looks { L.looks listener.new ≡ L.looks listener.old }
     ensures same { broker.new.served ≡ broker.old.served }
     ensures as_long { length buffer.new ≡ length buffer.old }
 {
-    let course = slots[at].serve(broker, buffer);
+    let course = slots[at].serve(broker, buffer, idle);
     if let Course::Over(end) = course {
         let slot = slots.remove(at);
         let_go(broker, listener, slot, end);
@@ -68,24 +78,29 @@ fn serve_at<S: Servant, L: Listener>(
     course
 }
 
-/// Serves each connection as far as it goes at once, and lets go of those that are over: whether
-/// anything moved.
+/// Serves each connection as far as it goes at once, and lets go of those that are over, also where
+/// no octets moved for so many milliseconds, unless they are 0: whether anything moved.
 pub(crate) fn sweep<S: Servant, L: Listener>(
     broker: &mut Broker<S>,
     listener: &mut L,
     slots: &mut Vec<Slot<L::Connection>>,
     buffer: &mut [u8],
+    idle: u64,
 ) -> bool
     requires room { 0 < length buffer.old }
-    requires under_way { IsUnderWay (L.ended listener.old) (acts S.says S.after) broker.old.served
+    requires filled { L.there listener.old ≡ length slots.old.items }
+    requires under_way { IsUnderWay (L.ended listener.old) (acts S.says S.after) broker.old.served idle
         (L.came listener.old) broker.old.world slots.old.items }
     ensures going { (before : S)
-        → GoesOn (L.ended listener.old) (acts S.says S.after) broker.old.served before
+        → GoesOn (L.ended listener.old) (acts S.says S.after) broker.old.served idle before
         (L.came listener.old) broker.old.world slots.old.items
-        → GoesOn (L.ended listener.new) (acts S.says S.after) broker.old.served before
+        → GoesOn (L.ended listener.new) (acts S.says S.after) broker.old.served idle before
         (L.came listener.old) broker.new.world slots.new.items }
     ensures fewer { length slots.new.items ≤ length slots.old.items }
+    ensures filled { L.there listener.new ≡ length slots.new.items }
     ensures came { L.came listener.new ≡ L.came listener.old }
+    ensures most { L.most listener.new ≡ L.most listener.old }
+    ensures port { L.port listener.new ≡ L.port listener.old }
     ensures looks { L.looks listener.new ≡ L.looks listener.old }
     ensures same { broker.new.served ≡ broker.old.served }
     ensures as_long { length buffer.new ≡ length buffer.old }
@@ -93,7 +108,7 @@ pub(crate) fn sweep<S: Servant, L: Listener>(
     let mut moved = false;
     let mut at = 0;
     while at < slots.len() {
-        match serve_at(broker, listener, slots, at, buffer) {
+        match serve_at(broker, listener, slots, at, buffer, idle) {
             Course::Moved => {
                 moved = true;
                 at += 1;

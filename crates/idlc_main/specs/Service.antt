@@ -1,14 +1,13 @@
 -- What is served.
-use Rattle.std.specs.Prelude.{[], replicate}
 use Rattle.command_words.specs.declared.task.Service.{Service}
-use Rattle.socket_server.specs.Serving.{IsDone}
-use Rattle.socket_server.specs.Visits.{untold}
+use Rattle.socket_server.specs.Serving.{IsServed as IsServedBy, places_of}
 use Rattle.table_file.specs.Table.{TableParts}
 use Rattle.table_commands.specs.Named.{Passing, IsTableOf}
 
 -- just so many connections came as the words say, and the object that they name was served to each, by the table
--- that they name
+-- that they name, one after the other or at the same time
 pub record IsServed (Reads : Passing) (service : Service) : Type 0 where
   pub table : TableParts
   pub is : IsTableOf Reads service.table.now table
-  pub done : IsDone table.model service.object.now service.connections [] (replicate service.connections untold)
+  pub done : IsServedBy table.model service.object.now (places_of service.at_once service.idle)
+      service.idle service.connections

@@ -26,6 +26,7 @@ use std::alloc::AllocError;
 use std::net::Net;
 use std::process::ExitCode;
 use std::rt::Env;
+use std::time::Clock;
 use std::{env, io};
 use table_commands::WholeFiles;
 
@@ -63,7 +64,7 @@ fn say<O: io::Write, E: io::Write>(out: &mut O, err: &mut E, answer: &Answer) ->
 /// what was asked for, 1 for refused input, 2 for usage, 3 for files and standard output, 4 for
 /// want of memory. Standard output has the answer or nothing, where calls are served the line that
 /// says so; a fault is told on standard error.
-pub fn run<R: WholeFiles + Net + AllocGlobal, O: io::Write, E: io::Write>(
+pub fn run<R: WholeFiles + Net + Clock + Eprint + AllocGlobal, O: io::Write, E: io::Write>(
     rt: &R,
     words: &[&str],
     out: &mut O,

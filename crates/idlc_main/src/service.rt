@@ -12,10 +12,11 @@ use command_words::Service;
 use socket_server::{ServeOptions, serve};
 use std::io::Write;
 use std::net::Net;
+use std::time::Clock;
 use table_commands::{WholeFiles, table_of};
 
 /// Serves calls by a table, which is checked before anything listens.
-pub fn served<'a, R: WholeFiles + Net + AllocGlobal, O: Write>(
+pub fn served<'a, R: WholeFiles + Net + Clock + Eprint + AllocGlobal, O: Write>(
     rt: &R,
     out: &mut O,
     service: &Service<'a>,
@@ -34,6 +35,8 @@ pub fn served<'a, R: WholeFiles + Net + AllocGlobal, O: Write>(
         port: service.port,
         object: service.object,
         connections: service.connections,
+        at_once: service.at_once,
+        idle: service.idle,
     };
     match serve(rt, out, table, &options) {
         Ok(()) => Ok(()),

@@ -8,24 +8,46 @@ use Rattle.attribute_keeper.specs.Keeping.{Keeping, says, after}
 use Rattle.socket_server.specs.declared.fault.ServeFault.{ServeFault}
 use Rattle.socket_server.specs.declared.fault.ServeFault.TheVariants.{BadObject, NoInterface, Socket, Unwritten, NoMemory}
 use Rattle.socket_server.specs.Objects.{IsBrokerOf}
-use Rattle.socket_server.specs.Serving.{HasObject, IsDone, IsFaultOf, IsOfObject}
-use Rattle.socket_server.specs.Visits.{AreServed}
+use Rattle.event_loop.specs.Visits.{AreServedBy, Gone}
+use Rattle.socket_server.specs.Serving.{HasObject, IsDone, IsDoneTogether, IsFaultOf, IsOfObject}
+use Rattle.socket_server.specs.Visits.{AreServed, Went}
 
 module _ (model : Parts) (word : List ℕ) where
-  pub done_by : (broker : Broking Keeping) (count : ℕ) (came came' : List Ends) (last : Keeping) → IsBrokerOf model word broker
-      → AreServed (acts says after) broker.served count came broker.world.servant came' last → IsDone model word count came came'
-  done_by broker count came came' last made all = record {
+  pub done_by : (Told : List Went → Type 0) (broker : Broking Keeping) (count : ℕ) (came came' : List Ends) (last : Keeping)
+      → IsBrokerOf model word broker
+      → AreServed Told (acts says after) broker.served count came broker.world.servant came' last
+      → IsDone Told model word count came came'
+  done_by Told broker count came came' last made all = record {
     object = made.object;
     is = made.is;
     last = last;
-    served_all = subst (λ (b : Broking Keeping). AreServed (acts says after) b.served count came b.world.servant came' last) made.new all;
+    served_all = subst (λ (b : Broking Keeping). AreServed Told (acts says after) b.served count came b.world.servant came' last) made.new all;
   }
 
-  pub done_on_ok : (r : Result (Unit {0}) ServeFault) (broker : Broking Keeping) (count : ℕ) (came came' : List Ends) (last : Keeping)
-      → IsBrokerOf model word broker → OnOk r (AreServed (acts says after) broker.served count came broker.world.servant came' last)
-      → OnOk r (IsDone model word count came came')
-  done_on_ok (Ok done) broker count came came' last made all = done_by broker count came came' last made all
-  done_on_ok (Err fault) broker count came came' last made all = tt
+  pub done_on_ok : (Told : List Went → Type 0) (r : Result (Unit {0}) ServeFault) (broker : Broking Keeping) (count : ℕ)
+      (came came' : List Ends) (last : Keeping) → IsBrokerOf model word broker
+      → OnOk r (AreServed Told (acts says after) broker.served count came broker.world.servant came' last)
+      → OnOk r (IsDone Told model word count came came')
+  done_on_ok Told (Ok done) broker count came came' last made all = done_by Told broker count came came' last made all
+  done_on_ok Told (Err fault) broker count came came' last made all = tt
+
+  together_by : (Told : List (ℕ × Gone) → Type 0) (broker : Broking Keeping) (idle : ℕ) (came : List Ends) (last : Keeping)
+      → IsBrokerOf model word broker
+      → AreServedBy Told (acts says after) broker.served idle broker.world.servant came last
+      → IsDoneTogether Told model word idle came
+  together_by Told broker idle came last made all = record {
+    object = made.object;
+    is = made.is;
+    last = last;
+    served_all = subst (λ (b : Broking Keeping). AreServedBy Told (acts says after) b.served idle b.world.servant came last) made.new all;
+  }
+
+  pub together_on_ok : (Told : List (ℕ × Gone) → Type 0) (r : Result (Unit {0}) ServeFault) (broker : Broking Keeping) (idle : ℕ)
+      (came : List Ends) (last : Keeping) → IsBrokerOf model word broker
+      → OnOk r (AreServedBy Told (acts says after) broker.served idle broker.world.servant came last)
+      → OnOk r (IsDoneTogether Told model word idle came)
+  together_on_ok Told (Ok done) broker idle came last made all = together_by Told broker idle came last made all
+  together_on_ok Told (Err fault) broker idle came last made all = tt
 
   pub has_object : (broker : Broking Keeping) → IsBrokerOf model word broker → HasObject model word
   has_object broker made = record { object = made.object; is = made.is }

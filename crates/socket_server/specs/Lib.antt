@@ -1,5 +1,4 @@
 pub mod Lines
 pub mod Objects
-pub mod Faults
 pub mod Visits
 pub mod Serving

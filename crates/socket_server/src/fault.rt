@@ -1,10 +1,8 @@
 //! Why serving ends early.
 
 ghost use Rattle.std.specs.Prelude.{◌≡◌};
-ghost use Rattle.socket_server.specs.Faults.{fault_of};
 ghost use Rattle.socket_server.specs.declared.fault.ServeFault.TheVariants.{NoMemory};
 
-use crate::connections::Interruption;
 use std::alloc::AllocError;
 use thiserror::Error;
 
@@ -32,16 +30,5 @@ impl<'a> From<AllocError> for ServeFault<'a> {
 
     fn from(_error: AllocError) -> ServeFault<'a> {
         ServeFault::NoMemory
-    }
-}
-
-impl<'a> From<Interruption> for ServeFault<'a> {
-    ghost from_gives = { λ interruption fault. fault ≡ fault_of interruption };
-
-    fn from(interruption: Interruption) -> ServeFault<'a> {
-        match interruption {
-            Interruption::Unaccepted => ServeFault::Socket,
-            Interruption::NoMemory => ServeFault::NoMemory,
-        }
     }
 }

@@ -1,5 +1,5 @@
 //! An object served on TCP: a broker with a keeper of attributes answers connections, one after the
-//! other.
+//! other or at the same time.
 #![tactic(auto)]
 
 mod announcing;
@@ -7,14 +7,21 @@ mod connections;
 mod fault;
 mod listener;
 mod loopback;
+mod misses;
 mod object;
 mod options;
+mod polled_loopback;
+mod polled_stream;
 mod serving;
+mod serving_many;
 
 pub use announcing::serving_line;
-pub use connections::{Interruption, serve_connections};
+pub use connections::serve_connections;
 pub use fault::ServeFault;
 pub use listener::Listener;
 pub use loopback::Loopback;
 pub use options::ServeOptions;
+pub use polled_loopback::PolledLoopback;
+pub use polled_stream::PolledStream;
 pub use serving::{serve, serve_at};
+pub use serving_many::serve_many_at;

@@ -1,12 +1,14 @@
-//! Where connections come from.
+//! Where connections come from, and to which they are handed back.
 
-ghost use Rattle.std.specs.Prelude.{◌≡◌, ◌∷◌, ◌++◌, [], ℕ, List, Option, Some, false, IfOk, OnErr, OnOk};
+ghost use Rattle.std.specs.Prelude.{◌≡◌, ◌∷◌, ◌++◌, [], ℕ, Bool, List, Option, Some, true, false, IfOk, OnErr, OnOk};
 ghost use Rattle.iiop_broker.specs.Outcomes.{Ends, ends};
+ghost use Rattle.socket_server.specs.Visits.{Went, went_as};
 
-use iiop_broker::{Failed, Input, Output};
+use iiop_broker::{Failed, Input, Output, StreamFault};
 
 /// Where connections come from, one after the other. It tells of each connection that came what its
-/// reader and its writer told then, and of the port that is listened on.
+/// reader and its writer told then, which list of those that were handed back it may have, the port
+/// that is listened on, and whether a call has failed.
 pub trait Listener {
     type Reader: Input + Drop;
 
@@ -14,7 +16,11 @@ pub trait Listener {
 
     ghost came: { Self → List Ends };
 
+    ghost went: { Self → List Went → Type 0 };
+
     ghost port: { Self → Option ℕ };
+
+    ghost failure: { Self → Bool };
 
     /// Has connections come to the port of the number. None has come by that.
     ///
@@ -22,6 +28,7 @@ pub trait Listener {
     /// The port can't be listened on.
     fn listen(&mut self, number: u16) -> Result<(), Failed>
         ensures came { came self.new ≡ came self.old }
+        ensures went { (all : List Went) → went self.old all → went self.new all }
         ensures port { OnOk result (port self.new ≡ Some number) };
 
     /// The next connection: its reader and its writer, of which no call has failed.
@@ -34,5 +41,20 @@ pub trait Listener {
         ensures reading { IfOk result (λ it. Self.Reader.failure it.0 ≡ false) }
         ensures writing { IfOk result (λ it. Self.Writer.failure it.1 ≡ false) }
         ensures kept { OnErr result (came self.new ≡ came self.old) }
+        ensures failed { OnErr result (failure self.new ≡ true) }
+        ensures went { (all : List Went) → went self.old all → went self.new all }
+        ensures port { port self.new ≡ port self.old };
+
+    /// Takes back the connection that came last, and how its stream ended.
+    fn hand_back(
+        &mut self,
+        reader: Self::Reader,
+        writer: Self::Writer,
+        end: Result<(), StreamFault>,
+    )
+        ensures came { came self.new ≡ came self.old }
+        ensures went { (all : List Went) → went self.old all → went self.new (all
+            ++ went_as (ends (Self.Reader.left reader) (Self.Writer.written writer) (Self.Reader.failure reader)
+            (Self.Writer.failure writer)) end ∷ []) }
         ensures port { port self.new ≡ port self.old };
 }

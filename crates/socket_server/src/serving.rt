@@ -1,10 +1,10 @@
 //! An object served.
 
-ghost use Rattle.std.specs.Prelude.{◌≡◌, [], replicate, IfErr, OnOk, Some};
+ghost use Rattle.std.specs.Prelude.{◌≡◌, ◌*◌, [], ⊤, replicate, IfErr, OnOk, Some};
 ghost use Rattle.std.specs.Io.KnownBytes.{Appends};
 ghost use Rattle.broker_answers.specs.Servants.{acts};
 ghost use Rattle.socket_server.specs.Lines.{serving};
-ghost use Rattle.socket_server.specs.Serving.{IsDone, IsFaultOf, IsLineOrNothing, IsOfObject, IsUnprinted};
+ghost use Rattle.socket_server.specs.Serving.{IsDone, IsDoneTogether, IsFaultOf, IsHeardOrNothing, IsLineOrNothing, IsOfObject, IsServed, IsUnprinted, places_of};
 ghost use Rattle.socket_server.specs.Visits.{AreServed, untold};
 
 use crate::announcing::serving_line;
@@ -14,11 +14,14 @@ use crate::listener::Listener;
 use crate::loopback::Loopback;
 use crate::object::broker_of;
 use crate::options::ServeOptions;
+use crate::polled_loopback::PolledLoopback;
+use crate::serving_many::serve_many_at;
 use iiop_broker::{Broker, Servant};
 use position_checker::Accepted;
 use std::alloc::Global;
 use std::io::Write;
 use std::net::Net;
+use std::time::Clock;
 
 /// Listens, and says so.
 fn announce<'a, L: Listener, W: Write>(
@@ -27,10 +30,13 @@ fn announce<'a, L: Listener, W: Write>(
     out: &mut W,
     port: u16,
 ) -> Result<(), ServeFault<'a>>
+    requires none { L.went listener.old [] }
+    ensures none { L.went listener.new [] }
     ensures came { L.came listener.new ≡ L.came listener.old }
     ensures listens { OnOk result (L.port listener.new ≡ Some port) }
     ensures printed { OnOk result (Appends (W.contents out.old) (W.contents out.new) (serving port)) }
-    ensures unprinted { IfErr result (IsUnprinted (W.contents out.old) (W.contents out.new)) }
+    ensures unprinted { IfErr result
+        (IsUnprinted port (L.port listener.new) (W.contents out.old) (W.contents out.new)) }
 {
     let line = serving_line(alloc, port)?;
     if listener.listen(port).is_err() {
@@ -52,11 +58,15 @@ fn serve_by<'a, S: Servant, L: Listener, W: Write>(
     options: &ServeOptions<'_>,
 ) -> Result<(), ServeFault<'a>>
     requires alone { broker.old.world.there ≡ [] }
-    ensures done { OnOk result (AreServed (acts S.says S.after) broker.old.served options.now.connections
+    requires none { L.went listener.old [] }
+    ensures done { OnOk result
+        (AreServed (L.went listener.new) (acts S.says S.after) broker.old.served options.now.connections
         (L.came listener.old) broker.old.world.servant (L.came listener.new) broker.new.world.servant) }
     ensures listens { OnOk result (L.port listener.new ≡ Some options.now.port) }
     ensures printed { OnOk result (Appends (W.contents out.old) (W.contents out.new) (serving options.now.port)) }
     ensures printing { IfErr result (IsLineOrNothing options.now.port (W.contents out.old) (W.contents out.new)) }
+    ensures heard { IfErr result
+        (IsHeardOrNothing options.now.port (L.port listener.new) (W.contents out.old) (W.contents out.new)) }
     ensures later { IfErr result (λ fault. IsOfObject fault → ⊥) }
 {
     match announce(alloc, listener, out, options.port) {
@@ -65,7 +75,7 @@ fn serve_by<'a, S: Servant, L: Listener, W: Write>(
     }
     match serve_connections(broker, listener, options.connections) {
         Ok(()) => Ok(()),
-        Err(interruption) => Err(ServeFault::from(interruption)),
+        Err(_) => Err(ServeFault::Socket),
     }
 }
 
@@ -84,12 +94,16 @@ pub fn serve_at<'a, L: Listener, W: Write>(
     table: Accepted,
     options: &ServeOptions<'a>,
 ) -> Result<(), ServeFault<'a>>
-    ensures done { OnOk result (IsDone table.model options.now.object.now options.now.connections
+    requires none { L.went listener.old [] }
+    ensures done { OnOk result
+        (IsDone (L.went listener.new) table.model options.now.object.now options.now.connections
         (L.came listener.old) (L.came listener.new)) }
     ensures listens { OnOk result (L.port listener.new ≡ Some options.now.port) }
     ensures printed { OnOk result (Appends (W.contents out.old) (W.contents out.new) (serving options.now.port)) }
     ensures refused { IfErr result (IsFaultOf table.model options.now.object.now) }
     ensures printing { IfErr result (IsLineOrNothing options.now.port (W.contents out.old) (W.contents out.new)) }
+    ensures heard { IfErr result
+        (IsHeardOrNothing options.now.port (L.port listener.new) (W.contents out.old) (W.contents out.new)) }
     ensures silent { IfErr result (λ fault. IsOfObject fault → out.new ≡ out.old) }
     ensures deaf { IfErr result (λ fault. IsOfObject fault → listener.new ≡ listener.old) }
 {
@@ -104,13 +118,14 @@ pub fn serve_at<'a, L: Listener, W: Write>(
 ///
 /// # Errors
 /// As `serve_at`.
-pub fn serve<'a, R: Net + AllocGlobal, W: Write>(
+fn serve_in_turn<'a, R: Net + Clock + Eprint + AllocGlobal, W: Write>(
     rt: &R,
     out: &mut W,
     table: Accepted,
     options: &ServeOptions<'a>,
 ) -> Result<(), ServeFault<'a>>
-    ensures done { OnOk result (IsDone table.model options.now.object.now options.now.connections []
+    ensures done { OnOk result
+        (IsDone (λ gone. ⊤) table.model options.now.object.now options.now.connections []
         (replicate options.now.connections untold)) }
     ensures printed { OnOk result (Appends (W.contents out.old) (W.contents out.new) (serving options.now.port)) }
     ensures refused { IfErr result (IsFaultOf table.model options.now.object.now) }
@@ -119,4 +134,65 @@ pub fn serve<'a, R: Net + AllocGlobal, W: Write>(
 {
     let mut loopback = Loopback::new(rt);
     serve_at(rt.alloc(), &mut loopback, out, table, options)
+}
+
+/// At most so many of them at the same time.
+///
+/// # Errors
+/// As `serve_many_at`.
+fn serve_many<'a, R: Net + Clock + Eprint + AllocGlobal, W: Write>(
+    rt: &R,
+    out: &mut W,
+    table: Accepted,
+    options: &ServeOptions<'a>,
+    at_once: u8,
+) -> Result<(), ServeFault<'a>>
+    ensures done { OnOk result (IsDoneTogether (λ ended. ⊤) table.model options.now.object.now
+        (options.now.idle * 1000) (replicate options.now.connections untold)) }
+    ensures printed { OnOk result (Appends (W.contents out.old) (W.contents out.new) (serving options.now.port)) }
+    ensures refused { IfErr result (IsFaultOf table.model options.now.object.now) }
+    ensures printing { IfErr result (IsLineOrNothing options.now.port (W.contents out.old) (W.contents out.new)) }
+    ensures silent { IfErr result (λ fault. IsOfObject fault → out.new ≡ out.old) }
+{
+    let mut loopback = match PolledLoopback::new(rt, rt.alloc()) {
+        Ok(loopback) => loopback,
+        Err(_) => return Err(ServeFault::NoMemory),
+    };
+    serve_many_at(rt.alloc(), &mut loopback, out, table, options, at_once)
+}
+
+/// How many are served at the same time at most. With calls that wait, one that is idle can't end.
+fn places_in(options: &ServeOptions<'_>) -> Option<u8>
+    ensures { result ≡ places_of options.now.at_once options.now.idle }
+{
+    match options.at_once {
+        Some(at_once) => Some(at_once),
+        None if options.idle == 0 => None,
+        None => Some(1),
+    }
+}
+
+/// Serves an object on TCP, to connections to 127.0.0.1, which tell nothing of what they carry: one
+/// after the other, or at the same time.
+///
+/// # Errors
+/// As `serve_at`.
+pub fn serve<'a, R: Net + Clock + Eprint + AllocGlobal, W: Write>(
+    rt: &R,
+    out: &mut W,
+    table: Accepted,
+    options: &ServeOptions<'a>,
+) -> Result<(), ServeFault<'a>>
+    ensures done { OnOk result
+        (IsServed table.model options.now.object.now (places_of options.now.at_once options.now.idle)
+        options.now.idle options.now.connections) }
+    ensures printed { OnOk result (Appends (W.contents out.old) (W.contents out.new) (serving options.now.port)) }
+    ensures refused { IfErr result (IsFaultOf table.model options.now.object.now) }
+    ensures printing { IfErr result (IsLineOrNothing options.now.port (W.contents out.old) (W.contents out.new)) }
+    ensures silent { IfErr result (λ fault. IsOfObject fault → out.new ≡ out.old) }
+{
+    match places_in(options) {
+        None => serve_in_turn(rt, out, table, options),
+        Some(at_once) => serve_many(rt, out, table, options, at_once),
+    }
 }

@@ -7,9 +7,11 @@ use Rattle.broker_answers.specs.Objects.{Served}
 use Rattle.broker_answers.specs.Serving.{Moves, Serves}
 use Rattle.iiop_broker.specs.Ends.{Gives, IsEmpty, written_with}
 use Rattle.event_loop.specs.declared.listener.End.{End}
-use Rattle.event_loop.specs.declared.listener.End.TheVariants.{Finished, Failed, GivenUp}
+use Rattle.event_loop.specs.declared.listener.End.TheVariants.{Finished, Failed, GivenUp, Idle}
 use Rattle.event_loop.specs.declared.slot.Course.{Course}
 use Rattle.event_loop.specs.declared.slot.Course.TheVariants.{Moved, Still, Over}
+use Rattle.iiop_broker.specs.Outcomes.{Ends}
+use Rattle.event_loop.specs.Visits.{Gone, IsFarewell, IsLast, gone}
 use Rattle.event_loop.specs.inner.Going.{Slotted}
 
 -- some of what waits was sent; it is over where a write failed
@@ -57,3 +59,31 @@ HasHeard acting served now before Still then after = (then ≡ now) × (after �
 HasHeard acting served now before (Over Finished) then after = IsAtEnd now before then after (IsEmpty after.told.left)
 HasHeard acting served now before (Over Failed) then after = IsAtEnd now before then after (after.told.unread ≡ true)
 HasHeard acting served now before (Over GivenUp) then after = IsForgotten acting served now before then after
+HasHeard acting served now before (Over Idle) then after = ⊥
+
+-- it was asked for how long no octets moved on it
+pub record HasWaited (before after : Slotted) : Type 0 where
+  pub number : after.number ≡ before.number
+  pub told : after.told ≡ before.told
+  pub waiting : after.waiting ≡ before.waiting
+
+-- a front of the message that no more is heard was written
+pub record HasClosed (before after : Ends) : Type 0 where
+  pub last : List ℕ
+  pub is : IsFarewell last
+  pub left : after.left ≡ before.left
+  pub written : after.written ≡ written_with before.written last
+
+-- one that was idle was let go of
+pub record HasParted (before : Slotted) (to : Gone) : Type 0 where
+  pub last : List ℕ
+  pub last_is : IsLast Idle before.waiting last
+  pub left : to.told.left ≡ before.told.left
+  pub written : to.told.written ≡ written_with before.told.written last
+  pub quiet : to.quiet ≡ before.quiet
+  pub end_is : to.end ≡ Idle
+
+-- what one tells that was let go of
+abbrev pub IsLetGo : Slotted → End → Gone → Type 0
+IsLetGo before Idle to = HasParted before to
+IsLetGo before end to = to ≡ gone before.told before.quiet end

@@ -7,19 +7,20 @@ use Rattle.iiop_broker.specs.Outcomes.{Ends}
 use Rattle.event_loop.specs.Visits.{gone}
 use Rattle.event_loop.specs.declared.listener.End.TheVariants.{GivenUp}
 use Rattle.event_loop.specs.inner.Going.{Slotted, slotted, GoesOn}
-use Rattle.event_loop.proofs.Visits.{admits, refuses, passes, begun_there}
+use Rattle.event_loop.proofs.Visits.{admits, refuses, passes, given_up, begun_there}
 use Rattle.event_loop.proofs.serving.admit.Goals as goal
 
 pub returns-in-Err-NoMemory-clause-going : goal.returns-in-Err-NoMemory-clause-going
-returns-in-Err-NoMemory-clause-going g c = λ before going.
+returns-in-Err-NoMemory-clause-going g c = λ idle before going.
     let acting = acts g.S.Servant.says g.S.Servant.after in
     let told = g.L.Connection.Connection.told c.in-Ok-Some.connection in
+    let quiet = g.L.Connection.Connection.quiet c.in-Ok-Some.connection in
     let came : g.L.Listener.came c.hand_back.new.self ≡ g.L.Listener.came c.args.listener.now ++ told ∷ [] = search rules in
     let same : c.step.new.self.world ≡ c.args.broker.now.world = search rules in
-    subst (λ (w : World g.row.S.Denot Stream). GoesOn (g.L.Listener.ended c.hand_back.new.self) acting c.args.broker.now.served before (g.L.Listener.came c.hand_back.new.self) w c.args.slots.now.items) (sym same)
-    (subst (λ (xs : List Ends). GoesOn (g.L.Listener.ended c.hand_back.new.self) acting c.args.broker.now.served before xs c.args.broker.now.world c.args.slots.now.items) (sym came)
-    (refuses acting c.args.broker.now.served before (g.L.Listener.ended c.args.listener.now) (g.L.Listener.ended c.accept.new.self) (g.L.Listener.ended c.hand_back.new.self)
-    (g.L.Listener.came c.args.listener.now) c.args.broker.now.world c.args.slots.now.items c.args.number told c.requires.number c.accept.ensures.ended
+    subst (λ (w : World g.row.S.Denot Stream). GoesOn (g.L.Listener.ended c.hand_back.new.self) acting c.args.broker.now.served idle before (g.L.Listener.came c.hand_back.new.self) w c.args.slots.now.items) (sym same)
+    (subst (λ (xs : List Ends). GoesOn (g.L.Listener.ended c.hand_back.new.self) acting c.args.broker.now.served idle before xs c.args.broker.now.world c.args.slots.now.items) (sym came)
+    (refuses acting c.args.broker.now.served idle before (g.L.Listener.ended c.args.listener.now) (g.L.Listener.ended c.accept.new.self) (g.L.Listener.ended c.hand_back.new.self)
+    (g.L.Listener.came c.args.listener.now) c.args.broker.now.world c.args.slots.now.items c.args.number told quiet c.requires.number c.accept.ensures.ended
     c.hand_back.ensures.ended going))
 
 pub let_go-requires : goal.let_go-requires
@@ -30,30 +31,32 @@ let_go-requires g c =
     (begun_there c.args.broker.now.world c.step.new.self.world c.args.number c.in-Ok.field-0.items c.requires.absent opens)
 
 pub returns-in-Err-push-clause-going : goal.returns-in-Err-push-clause-going
-returns-in-Err-push-clause-going g c = λ before going.
+returns-in-Err-push-clause-going g c = λ idle before going.
     let acting = acts g.S.Servant.says g.S.Servant.after in
     let told = g.L.Connection.Connection.told c.in-Ok-Some.connection in
-    let is : c.in-Err-push.error.value ≡ slotted c.args.number told [] = search rules in
+    let quiet = g.L.Connection.Connection.quiet c.in-Ok-Some.connection in
+    let is : c.in-Err-push.error.value ≡ slotted c.args.number told quiet [] = search rules in
     let same : c.push.new.self.items ≡ c.args.slots.now.items = search rules in
     let came : g.L.Listener.came c.let_go.new.listener ≡ g.L.Listener.came c.args.listener.now ++ told ∷ [] = search rules in
-    subst (λ (ss : List Slotted). GoesOn (g.L.Listener.ended c.let_go.new.listener) acting c.args.broker.now.served before (g.L.Listener.came c.let_go.new.listener) c.let_go.new.broker.world ss) (sym same)
-    (subst (λ (xs : List Ends). GoesOn (g.L.Listener.ended c.let_go.new.listener) acting c.args.broker.now.served before xs c.let_go.new.broker.world c.args.slots.now.items) (sym came)
-    (passes acting c.args.broker.now.served before (g.L.Listener.ended c.args.listener.now) (g.L.Listener.ended c.accept.new.self) (g.L.Listener.ended c.let_go.new.listener)
-    (g.L.Listener.came c.args.listener.now) c.args.broker.now.world c.step.new.self.world c.let_go.new.broker.world c.args.slots.now.items c.args.number told
+    subst (λ (ss : List Slotted). GoesOn (g.L.Listener.ended c.let_go.new.listener) acting c.args.broker.now.served idle before (g.L.Listener.came c.let_go.new.listener) c.let_go.new.broker.world ss) (sym same)
+    (subst (λ (xs : List Ends). GoesOn (g.L.Listener.ended c.let_go.new.listener) acting c.args.broker.now.served idle before xs c.let_go.new.broker.world c.args.slots.now.items) (sym came)
+    (passes acting c.args.broker.now.served idle before (g.L.Listener.ended c.args.listener.now) (g.L.Listener.ended c.accept.new.self) (g.L.Listener.ended c.let_go.new.listener)
+    (g.L.Listener.came c.args.listener.now) c.args.broker.now.world c.step.new.self.world c.let_go.new.broker.world c.args.slots.now.items c.args.number told quiet
     c.in-Ok.field-0.items c.requires.number c.in-Ok.ensures.answered
     (subst (λ (s : Slotted). Leaves c.step.new.self.world s.number [] c.let_go.new.broker.world) is c.let_go.ensures.left)
     c.accept.ensures.ended
-    (λ all held. subst (λ (s : Slotted). g.L.Listener.ended c.let_go.new.listener (all ++ (s.number, gone s.told GivenUp) ∷ [])) is (c.let_go.ensures.ended all held))
+    (λ all held. given_up c.in-Err-push.error.value c.args.number told quiet (g.L.Listener.ended c.let_go.new.listener) all is (c.let_go.ensures.ended all held))
     going))
 
 pub returns-in_default-clause-going : goal.returns-in_default-clause-going
-returns-in_default-clause-going g c = λ before going.
+returns-in_default-clause-going g c = λ idle before going.
     let acting = acts g.S.Servant.says g.S.Servant.after in
     let told = g.L.Connection.Connection.told c.in-Ok-Some.connection in
-    let pushed : c.push.new.self.items ≡ c.args.slots.now.items ++ slotted c.args.number told [] ∷ [] = search rules in
+    let quiet = g.L.Connection.Connection.quiet c.in-Ok-Some.connection in
+    let pushed : c.push.new.self.items ≡ c.args.slots.now.items ++ slotted c.args.number told quiet [] ∷ [] = search rules in
     let came : g.L.Listener.came c.accept.new.self ≡ g.L.Listener.came c.args.listener.now ++ told ∷ [] = search rules in
-    subst (λ (ss : List Slotted). GoesOn (g.L.Listener.ended c.accept.new.self) acting c.args.broker.now.served before (g.L.Listener.came c.accept.new.self) c.step.new.self.world ss) (sym pushed)
-    (subst (λ (xs : List Ends). GoesOn (g.L.Listener.ended c.accept.new.self) acting c.args.broker.now.served before xs c.step.new.self.world (c.args.slots.now.items ++ slotted c.args.number told [] ∷ [])) (sym came)
-    (admits acting c.args.broker.now.served before (g.L.Listener.ended c.args.listener.now) (g.L.Listener.ended c.accept.new.self)
-    (g.L.Listener.came c.args.listener.now) c.args.broker.now.world c.step.new.self.world c.args.slots.now.items c.args.number told
+    subst (λ (ss : List Slotted). GoesOn (g.L.Listener.ended c.accept.new.self) acting c.args.broker.now.served idle before (g.L.Listener.came c.accept.new.self) c.step.new.self.world ss) (sym pushed)
+    (subst (λ (xs : List Ends). GoesOn (g.L.Listener.ended c.accept.new.self) acting c.args.broker.now.served idle before xs c.step.new.self.world (c.args.slots.now.items ++ slotted c.args.number told quiet [] ∷ [])) (sym came)
+    (admits acting c.args.broker.now.served idle before (g.L.Listener.ended c.args.listener.now) (g.L.Listener.ended c.accept.new.self)
+    (g.L.Listener.came c.args.listener.now) c.args.broker.now.world c.step.new.self.world c.args.slots.now.items c.args.number told quiet
     c.in-Ok.field-0.items c.requires.number c.in-Ok.ensures.answered c.accept.ensures.ended going))

@@ -14,6 +14,9 @@ loop-init g c =
     let w = c.args.broker.now.world in
     record {
       looks = search rules;
+      filled = search rules;
+      most = search rules;
+      port = search rules;
       served = refl;
       room = omega arith;
       begun = search rules;
@@ -24,9 +27,9 @@ loop-init g c =
       going = record {
         ended = [];
         told = c.requires.none;
-        going = subst (λ (xs : List Ends). IsGoing acting c.args.broker.now.served w.servant xs [] w c.new-slots.result.items) (sym c.requires.fresh)
-            (subst (λ (ss : List Slotted). IsGoing acting c.args.broker.now.served w.servant [] [] w ss) (sym c.new-slots.ensures.items)
-            (starts acting c.args.broker.now.served w.servant w (ap (λ x. world w.servant x) c.requires.alone)));
+        going = subst (λ (xs : List Ends). IsGoing acting c.args.broker.now.served c.args.idle w.servant xs [] w c.new-slots.result.items) (sym c.requires.fresh)
+            (subst (λ (ss : List Slotted). IsGoing acting c.args.broker.now.served c.args.idle w.servant [] [] w ss) (sym c.new-slots.ensures.items)
+            (starts acting c.args.broker.now.served c.args.idle w.servant w (ap (λ x. world w.servant x) c.requires.alone)));
       };
     }
 
@@ -37,17 +40,17 @@ returns-then-is_empty-clause-served g c =
     let same = c.loop.invariant.served in
     let l = c.admit_next.new.listener in
     let w = c.admit_next.new.broker.world in
-    let start = subst (λ (s : Served). GoesOn (g.L.Listener.ended c.loop.listener) acting s before (g.L.Listener.came c.loop.listener) c.loop.broker.world c.loop.slots.items) (sym same) c.loop.invariant.going in
-    let now = subst (λ (s : Served). GoesOn (g.L.Listener.ended l) acting s before (g.L.Listener.came l) w c.admit_next.new.slots.items) same
-    (c.admit_next.ensures.going before start) in
+    let start = subst (λ (s : Served). GoesOn (g.L.Listener.ended c.loop.listener) acting s c.args.idle before (g.L.Listener.came c.loop.listener) c.loop.broker.world c.loop.slots.items) (sym same) c.loop.invariant.going in
+    let now = subst (λ (s : Served). GoesOn (g.L.Listener.ended l) acting s c.args.idle before (g.L.Listener.came l) w c.admit_next.new.slots.items) same
+    (c.admit_next.ensures.going c.args.idle before start) in
     let empty = no_items c.admit_next.new.slots.items in
     let none : c.admit_next.new.slots.items ≡ [] = search rules in
-    let all = subst (λ (ss : List Slotted). IsGoing acting c.args.broker.now.served before (g.L.Listener.came l) now.ended w ss) none now.going in (
+    let all = subst (λ (ss : List Slotted). IsGoing acting c.args.broker.now.served c.args.idle before (g.L.Listener.came l) now.ended w ss) none now.going in (
       now.ended,
       now.told,
-      all_served acting c.args.broker.now.served before (g.L.Listener.came l) now.ended w all
+      all_served acting c.args.broker.now.served c.args.idle before (g.L.Listener.came l) now.ended w all
           ((c.steps_are_the_talk.ensures c.args.broker.now.served before w.servant all.said).0
-          (said_of acting c.args.broker.now.served before (g.L.Listener.came l) now.ended w [] all)),
+          (said_of acting c.args.broker.now.served c.args.idle before (g.L.Listener.came l) now.ended w [] all)),
     )
 
 pub returns-then-is_empty-clause-alone : goal.returns-then-is_empty-clause-alone
@@ -55,8 +58,8 @@ returns-then-is_empty-clause-alone g c =
     let acting = acts g.S.Servant.says g.S.Servant.after in
     let before = c.args.broker.now.world.servant in
     let same = c.loop.invariant.served in
-    let start = subst (λ (s : Served). GoesOn (g.L.Listener.ended c.loop.listener) acting s before (g.L.Listener.came c.loop.listener) c.loop.broker.world c.loop.slots.items) (sym same) c.loop.invariant.going in
-    let now = c.admit_next.ensures.going before start in
+    let start = subst (λ (s : Served). GoesOn (g.L.Listener.ended c.loop.listener) acting s c.args.idle before (g.L.Listener.came c.loop.listener) c.loop.broker.world c.loop.slots.items) (sym same) c.loop.invariant.going in
+    let now = c.admit_next.ensures.going c.args.idle before start in
     let empty = no_items c.admit_next.new.slots.items in
     let none : c.admit_next.new.slots.items ≡ [] = search rules in
     no_keys c.admit_next.new.broker.world.there (now.going.there ∙ ap (λ (ss : List Slotted). numbers ss) none)
@@ -65,11 +68,11 @@ pub sweep-moved-requires-clause-under_way : goal.sweep-moved-requires-clause-und
 sweep-moved-requires-clause-under_way g c =
     let acting = acts g.S.Servant.says g.S.Servant.after in
     let before = c.args.broker.now.world.servant in
-    let start = subst (λ (s : Served). GoesOn (g.L.Listener.ended c.loop.listener) acting s before (g.L.Listener.came c.loop.listener) c.loop.broker.world c.loop.slots.items) (sym c.loop.invariant.served) c.loop.invariant.going in
+    let start = subst (λ (s : Served). GoesOn (g.L.Listener.ended c.loop.listener) acting s c.args.idle before (g.L.Listener.came c.loop.listener) c.loop.broker.world c.loop.slots.items) (sym c.loop.invariant.served) c.loop.invariant.going in
     record {
       before = before;
-      goes = subst (λ (s : Served). GoesOn (g.L.Listener.ended c.admit_next.new.listener) acting s before (g.L.Listener.came c.admit_next.new.listener) c.admit_next.new.broker.world c.admit_next.new.slots.items)
-          (sym c.admit_next.ensures.same) (c.admit_next.ensures.going before start);
+      goes = subst (λ (s : Served). GoesOn (g.L.Listener.ended c.admit_next.new.listener) acting s c.args.idle before (g.L.Listener.came c.admit_next.new.listener) c.admit_next.new.broker.world c.admit_next.new.slots.items)
+          (sym c.admit_next.ensures.same) (c.admit_next.ensures.going c.args.idle before start);
     }
 
 pub loop-preserved : goal.loop-preserved
@@ -77,15 +80,18 @@ loop-preserved g c =
     let acting = acts g.S.Servant.says g.S.Servant.after in
     let before = c.args.broker.now.world.servant in
     let served = c.sweep-moved.ensures.same ∙ c.admit_next.ensures.same ∙ c.loop.invariant.served in
-    let start = subst (λ (s : Served). GoesOn (g.L.Listener.ended c.loop.listener) acting s before (g.L.Listener.came c.loop.listener) c.loop.broker.world c.loop.slots.items) (sym c.loop.invariant.served) c.loop.invariant.going in
-    let next = subst (λ (s : Served). GoesOn (g.L.Listener.ended c.admit_next.new.listener) acting s before (g.L.Listener.came c.admit_next.new.listener) c.admit_next.new.broker.world c.admit_next.new.slots.items)
-    (sym c.admit_next.ensures.same) (c.admit_next.ensures.going before start) in
+    let start = subst (λ (s : Served). GoesOn (g.L.Listener.ended c.loop.listener) acting s c.args.idle before (g.L.Listener.came c.loop.listener) c.loop.broker.world c.loop.slots.items) (sym c.loop.invariant.served) c.loop.invariant.going in
+    let next = subst (λ (s : Served). GoesOn (g.L.Listener.ended c.admit_next.new.listener) acting s c.args.idle before (g.L.Listener.came c.admit_next.new.listener) c.admit_next.new.broker.world c.admit_next.new.slots.items)
+    (sym c.admit_next.ensures.same) (c.admit_next.ensures.going c.args.idle before start) in
     let swept = c.sweep-moved.ensures.going before next in
     let came : g.L.Listener.came c.look.new.self ≡ g.L.Listener.came c.admit_next.new.listener = search rules in
-    let goes : GoesOn (g.L.Listener.ended c.look.new.self) acting c.admit_next.new.broker.served before (g.L.Listener.came c.admit_next.new.listener) c.sweep-moved.new.broker.world c.sweep-moved.new.slots.items =
+    let goes : GoesOn (g.L.Listener.ended c.look.new.self) acting c.admit_next.new.broker.served c.args.idle before (g.L.Listener.came c.admit_next.new.listener) c.sweep-moved.new.broker.world c.sweep-moved.new.slots.items =
     record { ended = swept.ended; told = c.look.ensures.ended swept.ended swept.told; going = swept.going } in
     record {
       looks = search rules;
+      filled = search rules;
+      most = search rules;
+      port = search rules;
       served = served;
       room = search rules;
       begun = search rules;
@@ -93,7 +99,7 @@ loop-preserved g c =
       few = search rules;
       count = search rules;
       at_once = search rules;
-      going = subst (λ (xs : List Ends). GoesOn (g.L.Listener.ended c.look.new.self) acting c.args.broker.now.served before xs c.sweep-moved.new.broker.world c.sweep-moved.new.slots.items) (sym came)
-          (subst (λ (s : Served). GoesOn (g.L.Listener.ended c.look.new.self) acting s before (g.L.Listener.came c.admit_next.new.listener) c.sweep-moved.new.broker.world c.sweep-moved.new.slots.items)
+      going = subst (λ (xs : List Ends). GoesOn (g.L.Listener.ended c.look.new.self) acting c.args.broker.now.served c.args.idle before xs c.sweep-moved.new.broker.world c.sweep-moved.new.slots.items) (sym came)
+          (subst (λ (s : Served). GoesOn (g.L.Listener.ended c.look.new.self) acting s c.args.idle before (g.L.Listener.came c.admit_next.new.listener) c.sweep-moved.new.broker.world c.sweep-moved.new.slots.items)
           (c.admit_next.ensures.same ∙ c.loop.invariant.served) goes);
     }

@@ -1,11 +1,14 @@
-use Rattle.std.proofs.Common.{◌≡◌, ◌≤◌, ◌<◌, ◌+◌, length}
+use Rattle.std.proofs.Common.{◌≡◌, ◌≤◌, ◌<◌, length, max}
 use Rattle.broker_answers.specs.Servants.{acts}
 use Rattle.event_loop.specs.inner.Going.{GoesOn}
 use Rattle.event_loop.proofs.serving.serve_at_once.Given as goal
 
 abbrev pub invariant-loop : goal.invariant-loop
 invariant-loop g l = record {
-  looks : g.L.Listener.looks l.listener ≡ g.L.Listener.looks l.fn.listener + l.counter;
+  looks : g.L.Listener.looks l.listener ≡ l.counter;
+  filled : g.L.Listener.there l.listener ≡ length l.slots.items;
+  most : g.L.Listener.most l.listener ≤ max (g.L.Listener.most l.fn.listener) l.at_once;
+  port : g.L.Listener.port l.listener ≡ g.L.Listener.port l.fn.listener;
   served : l.broker.served ≡ l.fn.broker.served;
   room : 0 < length l.buffer;
   begun : l.progress.begun ≡ length (g.L.Listener.came l.listener);
@@ -13,6 +16,6 @@ invariant-loop g l = record {
   few : length l.slots.items ≤ l.progress.at_once;
   count : l.progress.count ≡ l.count;
   at_once : l.progress.at_once ≡ l.at_once;
-  going : GoesOn (g.L.Listener.ended l.listener) (acts g.S.Servant.says g.S.Servant.after) l.fn.broker.served l.fn.broker.world.servant
+  going : GoesOn (g.L.Listener.ended l.listener) (acts g.S.Servant.says g.S.Servant.after) l.fn.broker.served l.idle l.fn.broker.world.servant
       (g.L.Listener.came l.listener) l.broker.world l.slots.items;
 }

@@ -3,7 +3,7 @@ use Rattle.socket_server.proofs.serving.serve_at.Goals as goal
 
 pub returns-clause-done : goal.returns-clause-done
 returns-clause-done g c =
-    done_on_ok c.args.table.model c.args.options.now.object.now c.serve_by.result c.in-Ok.broker c.args.options.now.connections
+    done_on_ok c.args.table.model c.args.options.now.object.now _ c.serve_by.result c.in-Ok.broker c.args.options.now.connections
     _ _ _ c.in-Ok.ensures.made c.serve_by.ensures.done
 
 pub returns-clause-refused : goal.returns-clause-refused

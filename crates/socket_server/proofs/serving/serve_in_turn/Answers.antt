@@ -1,5 +1,5 @@
 use Rattle.socket_server.proofs.Counts.{all_came}
-use Rattle.socket_server.proofs.serving.serve.Goals as goal
+use Rattle.socket_server.proofs.serving.serve_in_turn.Goals as goal
 
 pub returns-clause-done : goal.returns-clause-done
 returns-clause-done g c =

@@ -1,0 +1,182 @@
+//! Sockets of this machine alone, on which no call waits.
+
+ghost use Rattle.std.specs.Prelude.{◌≡◌, ◌≤◌, ⊤, replicate, IfOk};
+ghost use Rattle.socket_server.specs.Visits.{untold};
+
+use crate::misses::{Misses, PAUSE};
+use crate::polled_stream::{PolledStream, TRIES};
+use event_loop::{End, Listener};
+use iiop_broker::Failed;
+use mio::net::{TcpListener, TcpStream};
+use mio::{Events, Interest, Poll, Token};
+use std::alloc::{AllocError, Global};
+use std::io::ErrorKind;
+use std::net::{Ipv4Addr, Net, SocketAddr};
+use std::time::{Clock, Duration};
+
+/// As many events are taken at a time: of 64 connections, and of those that wait to come.
+const EVENTS: usize = 65;
+
+/// No wait has more milliseconds: so much time is lost at most where an event doesn't come, and so
+/// late is it seen that a connection is idle.
+const LONGEST_WAIT: u64 = 1000;
+
+/// What is listened on, and what waits until octets may move there.
+#[derive(Drop)]
+struct Port {
+    socket: TcpListener,
+    poll: Poll,
+}
+
+/// Has events come of what is read and what is written. Without them the longest wait is lost.
+fn watch<S: mio::event::Source>(poll: &Poll, source: &mut S) {
+    let both = Interest::READABLE | Interest::WRITABLE;
+    let _ = poll.registry().register(source, Token(0), both);
+}
+
+impl Port {
+    fn open<R: Net>(net: &R, number: u16) -> Result<Port, Failed> {
+        let address = SocketAddr::from((Ipv4Addr::LOCALHOST, number));
+        let (Ok(mut socket), Ok(poll)) = (TcpListener::bind(net, address), Poll::new(net)) else {
+            return Err(Failed);
+        };
+        watch(&poll, &mut socket);
+        Ok(Port { socket, poll })
+    }
+
+    /// The next connection, of which small answers go out at once, where the system can.
+    fn next(&self) -> Result<Option<TcpStream>, Failed> {
+        for _ in 0..TRIES {
+            match self.socket.accept() {
+                Ok((mut stream, _)) => {
+                    let _ = stream.set_nodelay(true);
+                    watch(&self.poll, &mut stream);
+                    return Ok(Some(stream));
+                }
+                Err(error) if error.kind() == ErrorKind::Interrupted => {}
+                Err(error) if error.kind() == ErrorKind::WouldBlock => return Ok(None),
+                Err(_) => return Err(Failed),
+            }
+        }
+        Ok(None)
+    }
+}
+
+/// Listens on 127.0.0.1. Its connections tell nothing of the octets that they carry. An accept that
+/// fails is tried again, and the first is told.
+#[derive(Drop)]
+pub struct PolledLoopback<'r, R: Net + Clock + Eprint> {
+    net: &'r R,
+    misses: Misses,
+    port: Option<Port>,
+    /// The number of the port that is listened on.
+    number: Option<u16>,
+    events: Events,
+    /// How many connections have come, are there, and were there at the same time at most.
+    count: u64,
+    there: u64,
+    most: u64,
+    looks: u64,
+    failed: bool,
+    ghost fewer: { there ≤ count },
+}
+
+impl<'r, R: Net + Clock + Eprint> PolledLoopback<'r, R> {
+    pub fn new(net: &'r R, alloc: Global) -> Result<PolledLoopback<'r, R>, AllocError>
+        ensures none { IfOk result (λ it. it.count ≡ 0) }
+        ensures there { IfOk result (λ it. it.there ≡ 0) }
+        ensures most { IfOk result (λ it. it.most ≡ 0) }
+        ensures looks { IfOk result (λ it. it.looks ≡ 0) }
+    {
+        Ok(PolledLoopback {
+            net,
+            misses: Misses::new(),
+            port: None,
+            number: None,
+            events: Events::with_capacity(alloc, EVENTS)?,
+            count: 0,
+            there: 0,
+            most: 0,
+            looks: 0,
+            failed: false,
+        })
+    }
+
+    /// The next connection, where a port is listened on.
+    fn next(&self) -> Result<Option<TcpStream>, Failed> {
+        match &self.port {
+            Some(port) => port.next(),
+            None => Err(Failed),
+        }
+    }
+}
+
+impl<'r, R: Net + Clock + Eprint> Listener for PolledLoopback<'r, R> {
+    type Connection = PolledStream<'r, R>;
+
+    ghost came = { λ it. replicate it.count untold };
+
+    ghost ended = { λ it all. ⊤ };
+
+    ghost there = { λ it. it.there };
+
+    ghost most = { λ it. it.most };
+
+    ghost port = { λ it. it.number };
+
+    ghost failure = { λ it. it.failed };
+
+    ghost looks = { λ it. it.looks };
+
+    fn listen(&mut self, number: u16) -> Result<(), Failed> {
+        let port = Port::open(self.net, number)?;
+        self.port = Some(port);
+        self.number = Some(number);
+        Ok(())
+    }
+
+    fn accept(&mut self) -> Result<Option<PolledStream<'r, R>>, Failed> {
+        if self.misses.is_fresh(self.net) {
+            return Ok(None);
+        }
+        match self.next() {
+            Ok(None) => Ok(None),
+            Ok(Some(stream)) => {
+                let Some(count) = self.count.checked_add(1) else {
+                    self.failed = true;
+                    return Err(Failed);
+                };
+                self.misses.clear();
+                self.count = count;
+                self.there += 1;
+                self.most = self.most.max(self.there);
+                Ok(Some(PolledStream::new(self.net, stream)))
+            }
+            Err(_) if self.misses.add(self.net) => Ok(None),
+            Err(_) => {
+                self.failed = true;
+                Err(Failed)
+            }
+        }
+    }
+
+    fn hand_back(&mut self, _number: u32, _connection: PolledStream<'r, R>, _end: End) {
+        self.there -= 1;
+    }
+
+    fn look(&mut self, moved: bool) {
+        self.looks += 1;
+        if moved {
+            return;
+        }
+        if let Some(port) = &mut self.port {
+            let wait = if self.misses.is_some() {
+                PAUSE
+            } else {
+                LONGEST_WAIT
+            };
+            let wait = Duration::from_millis(wait);
+            let _ = port.poll.poll(&mut self.events, Some(wait));
+        }
+    }
+}

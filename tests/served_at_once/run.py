@@ -1,0 +1,159 @@
+"""Clients of `idlc serve` at the same time, over sockets: what each is answered, and how the program ends.
+
+`./idlc` proves and builds what is missing of the program.
+"""
+import concurrent.futures
+import socket
+import struct
+import subprocess
+
+from driver.suite import Count
+from driver.workspace import TOP
+
+PROGRAM = TOP / "crates" / "idlc_main" / "out" / "idlc_main"
+
+CALLS = 100
+CLOSE = b"GIOP\x01\x02\x00\x05\x00\x00\x00\x00"
+
+
+def padded(octets, to):
+    return octets + bytes(-len(octets) % to)
+
+
+def request(number, operation, body=b""):
+    """A request of GIOP 1.2 in big order to the object `K`."""
+    name = operation.encode() + b"\x00"
+    header = struct.pack(">IB3xH2xI4sI", number, 3, 0, 1, b"K", len(name)) + name
+    header = padded(header, 4) + struct.pack(">I", 0)
+    if body:
+        # a body stands at a multiple of 8, counted with the 12 octets of the head
+        header = padded(header + bytes(4), 8)[: -4]
+    return b"GIOP\x01\x02\x00\x00" + struct.pack(">I", len(header + body)) + header + body
+
+
+def received(stream, count):
+    octets = b""
+    while len(octets) < count:
+        more = stream.recv(count - len(octets))
+        if not more:
+            raise EOFError
+        octets += more
+    return octets
+
+
+def call(stream, number, operation, body=b""):
+    """The body of the reply, which tells of no exception."""
+    stream.sendall(request(number, operation, body))
+    head = received(stream, 12)
+    octets = received(stream, struct.unpack(">I", head[8:])[0])
+    if head[:8] != b"GIOP\x01\x02\x00\x01" or octets[:8] != struct.pack(">II", number, 0):
+        raise ValueError(octets.hex())
+    return octets[12:]
+
+
+def number_in(body):
+    return struct.unpack(">i", body)[0]
+
+
+class Server:
+    """The program, which serves the object of `hello.idl`."""
+
+    def __init__(self, table, connections, *words):
+        with socket.socket() as probe:
+            probe.bind(("127.0.0.1", 0))
+            self.port = probe.getsockname()[1]
+        self.process = subprocess.Popen(
+            [PROGRAM, "serve", table, "--port", str(self.port), "--object", "K=Hello", "--connections", str(connections), *words],
+            stdout=subprocess.PIPE, stderr=subprocess.PIPE, text=True,
+        )
+        self.line = self.process.stdout.readline()
+
+    def connect(self):
+        stream = socket.create_connection(("127.0.0.1", self.port), timeout=30)
+        stream.setsockopt(socket.IPPROTO_TCP, socket.TCP_NODELAY, 1)
+        return stream
+
+    def end(self):
+        """The status, and whether it printed that it serves and nothing else."""
+        out, err = self.process.communicate(timeout=60)
+        return self.process.returncode, self.line + out == f"serving {self.port}\n" and not err
+
+
+def one_silent(table, count):
+    server = Server(table, 2, "--at-once", "2")
+    with server.connect():
+        with server.connect() as other:
+            answer = number_in(call(other, 1, "_get_visits"))
+    count.add((answer, server.end()) == (0, (0, True)), "beside a silent client")
+
+
+def visit(server, place):
+    """Sets the number of visits so often, and gives those that were read between."""
+    found = []
+    with server.connect() as stream:
+        for turn in range(CALLS):
+            call(stream, 2 * turn, "_set_visits", struct.pack(">i", place * CALLS + turn))
+            found.append(number_in(call(stream, 2 * turn + 1, "_get_visits")))
+    return found
+
+
+def sixty_four(table, count):
+    """Each reads what some client has set, and of one what it set first it reads no more once it read a later one."""
+    server = Server(table, 65, "--at-once", "64")
+    with concurrent.futures.ThreadPoolExecutor(64) as pool:
+        found = list(pool.map(lambda place: visit(server, place), range(64)))
+    for place, numbers in enumerate(found):
+        latest = {}
+        for number in numbers:
+            client, turn = divmod(number, CALLS)
+            count.add(0 <= client < 64 and latest.get(client, 0) <= turn, f"client {place} read {number}")
+            latest[client] = turn
+    with server.connect() as stream:
+        last = number_in(call(stream, 1, "_get_visits"))
+    count.add(last % CALLS == CALLS - 1, f"{last} is the last of no client")
+    count.add(server.end() == (0, True), "after 64 clients")
+
+
+def breaking_off(table, count):
+    server = Server(table, 3, "--at-once", "3")
+    asked = request(1, "ping")
+    with server.connect() as first, server.connect() as second:
+        first.sendall(asked[:20])
+        # what is closed with octets unread is reset
+        second.sendall(asked * 200)
+    with server.connect() as stream:
+        count.add(call(stream, 1, "ping") == b"", "behind clients that broke off")
+    count.add(server.end() == (0, True), "after clients that broke off")
+
+
+def idle(table, count):
+    for words in (("--idle", "1"), ("--idle", "1", "--at-once", "2")):
+        server = Server(table, 2, *words)
+        with server.connect() as silent:
+            count.add(received(silent, 12) == CLOSE and silent.recv(1) == b"", "a silent client is let go of")
+        with server.connect() as stream:
+            count.add(call(stream, 1, "ping") == b"", "behind an idle client")
+        count.add(server.end() == (0, True), "after an idle client")
+
+
+def usage(table, count):
+    words = ["serve", table, "--port", "0", "--object", "K=Hello", "--connections", "0"]
+    for option in ("--at-once", "--idle"):
+        for value in ("x", "-1", "0", "65", "86401", ""):
+            done = subprocess.run([PROGRAM, *words, option, value], capture_output=True, text=True)
+            is_right = (option, value) in (("--idle", "0"), ("--idle", "65"))
+            wanted = (0, "serving 0\n", True) if is_right else (2, "", False)
+            count.add((done.returncode, done.stdout, not done.stderr) == wanted, f"{option} {value}: {done}")
+
+
+def run(test):
+    built = test.call([TOP / "idlc", "check", "builtin"])
+    if built.status:
+        return Count(0, [built.out + built.err])
+    count = Count(0, [])
+    table = test.room / "hello.table"
+    made = test.call([PROGRAM, "compile", TOP / "examples" / "idl" / "hello.idl", "-o", table])
+    count.add(made.status == 0, f"hello.idl: {made.err}")
+    for part in (one_silent, sixty_four, breaking_off, idle, usage):
+        part(table, count)
+    return count
