@@ -1,6 +1,6 @@
 -- What is shown of the line around a place, and the caret under that place.
 use Rattle.std.specs.Prelude.{◌≡◌, ◌≢◌, ℕ, ◌+◌, ◌-◌, ◌<◌, ◌≤◌, ◌⊎◌, ◌&&◌, ◌==◌, nat_le, nat_lt, min, List, ◌++◌, take, drop, length, slice_index, slice_range, if◌then◌else◌}
-use Rattle.shown_source.specs.Shown.{all_shown}
+use Rattle.shown_source.specs.Shown.{all_shown, shown}
 
 -- the line around an octet goes from `start` to `end`, where its line feed or the end of the source stands
 pub record IsLine (source : List ℕ) (octet start stop : ℕ) : Type 0 where
@@ -34,3 +34,9 @@ pub record IsWindow (source : List ℕ) (octet start stop : ℕ) (text : List �
   pub cut_is : cut_off ≡ cut (length (shown_before source octet start)) (length (shown_behind source octet stop))
   pub text_is : text ≡ take 120 (drop cut_off (shown_before source octet start ++ shown_behind source octet stop))
   pub caret_is : caret + cut_off ≡ length (shown_before source octet start)
+
+-- the caret is under the first character of the octet, if that belongs to its line's text
+pub record IsUnder (source : List ℕ) (octet stop : ℕ) (text : List ℕ) (caret : ℕ) : Type 0 where
+  pub within : caret ≤ length text
+  pub under : octet < without_return source octet stop
+      → (rest : List ℕ) × (drop caret text ≡ shown (slice_index source octet) ++ rest)

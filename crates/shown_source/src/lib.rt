@@ -7,4 +7,4 @@ mod shown;
 mod window;
 
 pub use shown::all_shown;
-pub use window::Window;
+pub use window::{Window, show_line};
