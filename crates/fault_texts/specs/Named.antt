@@ -25,12 +25,12 @@ pub record IsMeant (word : List ℕ) (n : ℕ) (text : List ℕ) : Type 0 where
   pub is : means word n ≡ true
   pub headed : heading n ≡ Some (first_line text)
 
--- one text of each refusal below the number that the word means, in order, and behind each a line feed
+-- one text of each refusal below the number that the word means, one behind another
 pub data AreTexts (word : List ℕ) : ℕ → List ℕ → Type 0 where
   none : AreTexts word zero []
   other : (n : ℕ) (texts : List ℕ) → AreTexts word n texts → means word n ≡ false → AreTexts word (suc n) texts
   one : (n : ℕ) (texts text : List ℕ) → AreTexts word n texts → IsMeant word n text
-      → AreTexts word (suc n) (texts ++ text ++ 10 ∷ [])
+      → AreTexts word (suc n) (texts ++ text)
 
 -- the lines of the headings of all refusals below the number, in order
 abbrev pub line_of : Option (List ℕ) → List ℕ

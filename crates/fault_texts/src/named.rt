@@ -50,20 +50,19 @@ fn meant(word: &str, number: u8) -> Option<&'static str>
     }
 }
 
-/// Adds the text of a refusal that the word means, and behind it a line feed.
+/// Adds the text of a refusal that the word means.
 fn push_meant(texts: &mut String, word: &str, number: u8) -> Result<(), AllocError>
     ensures { OnOk result (AreTexts word.now number (string_bytes texts.old)
         → AreTexts word.now (number + 1) (string_bytes texts.new)) }
 {
     if let Some(text) = meant(word, number) {
         texts.push_str(text)?;
-        texts.push_str("\n")?;
     }
     Ok(())
 }
 
-/// The texts of the refusals that a word means, by their number or their name in whatever case, each
-/// with a line feed behind it; several refusals have one name. Nothing where no refusal is meant.
+/// The texts of the refusals that a word means, by their number or their name in whatever case, one
+/// behind another; several refusals have one name. Nothing where no refusal is meant.
 pub fn explanations(alloc: Global, word: &str) -> Result<String, AllocError>
     ensures { IfOk result (λ texts. AreTexts word.now 256 (string_bytes texts)) }
 {
