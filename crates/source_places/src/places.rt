@@ -1,6 +1,6 @@
 //! Places of a source.
 
-ghost use Rattle.std.specs.Prelude.{◌≡◌, ◌≤◌, ◌+◌, ◌^◌, ◌==◌, ◌⊎◌, MatchOption, length, option_map};
+ghost use Rattle.std.specs.Prelude.{◌≡◌, ◌≤◌, ◌+◌, ◌^◌, ◌==◌, ◌⊎◌, IfSome, MatchOption, length, option_map};
 ghost use Rattle.std.specs.List.{position_or_len};
 ghost use Rattle.source_places.specs.Markers.{marker_of};
 ghost use Rattle.source_places.specs.PlaceViews.{place_parts};
@@ -72,4 +72,19 @@ pub fn place_at(source: &[u8], octet: usize) -> Place<'_>
         left = rest;
     }
     place
+}
+
+/// Where the line with this number begins, counted from 1 in the source itself. None where the source
+/// has no such line.
+pub fn line_start(source: &[u8], line: usize) -> Option<usize>
+    ensures { IfSome result (λ octet. octet ≤ length source.now) }
+{
+    if line == 0 {
+        return None;
+    }
+    let mut left = source;
+    for _ in 1..line {
+        left = cut_line(left)?.1;
+    }
+    Some(source.len().saturating_sub(left.len()))
 }
