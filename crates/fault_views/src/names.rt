@@ -2,7 +2,7 @@
 
 use crate::grammar::octet_at;
 use crate::facts::{Known, Note, Spot};
-use crate::words::name_at;
+use crate::words::{name_at, text_at};
 use idl_lexer::Token;
 use idl_tree::names::At;
 use scoped_names::{EntryKind, Flaw, NameFault, Unfit};
@@ -47,12 +47,7 @@ fn unfit_words(why: Unfit) -> &'static str {
 /// The number of a fault, and its sentence behind the name.
 fn behind_name(fault: NameFault) -> (u8, &'static str) {
     match fault {
-        NameFault::Unknown { .. } => {
-            (20, "isn't declared before it, or is declared ahead and never defined")
-        }
-        NameFault::Collides { other: Some(_), .. } => {
-            (21, "is declared already, in the same letters or another case")
-        }
+        NameFault::Unknown { .. } => (20, "isn't declared before it"),
         NameFault::Collides { .. } => (21, "is the name of the scope itself"),
         NameFault::CaseDiffers { .. } => (22, "is declared in letters of another case"),
         NameFault::Ambiguous { .. } => (23, "is declared by two bases, each as something else"),
@@ -60,6 +55,41 @@ fn behind_name(fault: NameFault) -> (u8, &'static str) {
         NameFault::PrefixDiffers { .. } => (29, "was declared ahead under another prefix"),
         _ => (24, "can't stand here"),
     }
+}
+
+/// Whether the identifier is that of a structure or a union that is declared ahead there: nothing else
+/// has a name behind one of these keywords.
+fn is_ahead(tokens: &[Token<'_>], at: At) -> bool {
+    let before = text_at(tokens, at.token.wrapping_sub(1));
+    before == "struct" || before == "union"
+}
+
+/// The sentences for names that are declared in other words too.
+fn known_twice(
+    alloc: Global,
+    tokens: &[Token<'_>],
+    fault: NameFault,
+    name: &str,
+) -> Result<Option<(u8, String)>, AllocError> {
+    let said = match fault {
+        NameFault::Unknown { at } if is_ahead(tokens, at) => {
+            (20, format!(in alloc; "'{name}' is declared ahead and never defined")?)
+        }
+        NameFault::Collides { other: Some(other), .. } => {
+            let other = text_at(tokens, other.token);
+            (21, format!(in alloc; "'{name}' is declared already, as '{other}'")?)
+        }
+        NameFault::CaseDiffers { other: Some(other), .. } => {
+            let other = text_at(tokens, other.token);
+            (22, format!(in alloc; "'{name}' is declared as '{other}'")?)
+        }
+        NameFault::NotAType { found: Some(kind), .. } => {
+            let kind = kind_words(kind);
+            (24, format!(in alloc; "'{name}' is {kind}, which can't stand here")?)
+        }
+        _ => return Ok(None),
+    };
+    Ok(Some(said))
 }
 
 /// The sentences that don't begin with a name.
@@ -86,9 +116,8 @@ fn sentence_of(
         return Ok((number, String::from_str(alloc, words)?));
     }
     let name = name_at(alloc, tokens, at.token)?;
-    if let NameFault::NotAType { found: Some(kind), .. } = fault {
-        let kind = kind_words(kind);
-        return Ok((24, format!(in alloc; "'{name}' is {kind}, which can't stand here")?));
+    if let Some(said) = known_twice(alloc, tokens, fault, name.as_str())? {
+        return Ok(said);
     }
     let (number, words) = behind_name(fault);
     Ok((number, format!(in alloc; "'{name}' {words}")?))
