@@ -1,12 +1,12 @@
 -- Which command asks for what.
 use Rattle.std.proofs.Common.{◌≡◌, ◌∙◌, refl, ℕ, List, Option, Some, IsSomeAnd, ap, codes, length, arith}
-use Rattle.clap.specs.Words.{Row}
+use Rattle.clap.specs.Words.{Row, Text}
 use Rattle.table_commands.specs.declared.values.Way.{Way}
 use Rattle.table_commands.specs.declared.values.Way.TheVariants.{Encode, Decode}
 use Rattle.command_words.specs.declared.task.Task.{Task}
 use Rattle.command_words.specs.Way.{name_of}
 use Rattle.command_words.specs.Ask.{Ask, Value, Reference, Explanation, ValueAsk, ReferenceAsk, ask_of, command_of}
-use Rattle.command_words.specs.Words.{Tells, TellsNumber, TellsReference, TellsValue}
+use Rattle.command_words.specs.Words.{Tells, TellsReference, TellsRefusal, TellsValue}
 use Rattle.command_words.proofs.Requests.{different, same_way}
 
 way_length : (way : Way) → length (name_of way) ≡ 6
@@ -22,19 +22,19 @@ pub by_value : (way : Way) (ask : Ask) (rows : List Row) (result : Option Task) 
 by_value way (Value value) rows result is tells then = then value (same_way way value.value.way is) tells
 by_value Encode (Reference reference) rows result is tells then = absurd (different 6 3 (ap length is) (omega arith))
 by_value Decode (Reference reference) rows result is tells then = absurd (different 6 3 (ap length is) (omega arith))
-by_value Encode (Explanation number) rows result is tells then = absurd (different 6 7 (ap length is) (omega arith))
-by_value Decode (Explanation number) rows result is tells then = absurd (different 6 7 (ap length is) (omega arith))
+by_value Encode (Explanation word) rows result is tells then = absurd (different 6 7 (ap length is) (omega arith))
+by_value Decode (Explanation word) rows result is tells then = absurd (different 6 7 (ap length is) (omega arith))
 
 pub by_reference : (ask : Ask) (rows : List Row) (result : Option Task) → codes "ior" ≡ command_of ask → Tells rows ask
     → ((reference : ReferenceAsk) → TellsReference rows reference → IsFor (Reference reference) result) → IsFor ask result
 by_reference (Value value) rows result is tells then =
     absurd (different 3 6 (ap length is ∙ way_length value.value.way) (omega arith))
 by_reference (Reference reference) rows result is tells then = then reference tells
-by_reference (Explanation number) rows result is tells then = absurd (different 3 7 (ap length is) (omega arith))
+by_reference (Explanation word) rows result is tells then = absurd (different 3 7 (ap length is) (omega arith))
 
 pub by_explanation : (ask : Ask) (rows : List Row) (result : Option Task) → codes "explain" ≡ command_of ask → Tells rows ask
-    → ((number : ℕ) → TellsNumber rows number → IsFor (Explanation number) result) → IsFor ask result
+    → ((word : Option Text) → TellsRefusal rows word → IsFor (Explanation word) result) → IsFor ask result
 by_explanation (Value value) rows result is tells then =
     absurd (different 7 6 (ap length is ∙ way_length value.value.way) (omega arith))
 by_explanation (Reference reference) rows result is tells then = absurd (different 7 3 (ap length is) (omega arith))
-by_explanation (Explanation number) rows result is tells then = then number tells
+by_explanation (Explanation word) rows result is tells then = then word tells

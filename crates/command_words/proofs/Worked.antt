@@ -96,10 +96,13 @@ reference_found = row (codes "T") (codes "builtin") ∷ row (codes "host") (code
     ∷ row (codes "object") (codes "K=P") ∷ []
 
 abbrev explain_words : List Text
-explain_words = codes "idlc" ∷ codes "explain" ∷ codes "54" ∷ []
+explain_words = codes "idlc" ∷ codes "explain" ∷ codes "Limit" ∷ []
 
 abbrev explain_found : List Row
-explain_found = row_by (Signed (pos 0) (pos 255)) (codes "NN") (codes "54") ∷ []
+explain_found = row (codes "REFUSAL") (codes "Limit") ∷ []
+
+abbrev list_words : List Text
+list_words = codes "idlc" ∷ codes "explain" ∷ []
 
 module _ (orders : Bor (List (Bor Text))) where
   reference_taken : takes (program_app (Names orders)) reference_words ≡ true
@@ -133,15 +136,21 @@ module _ (orders : Bor (List (Bor Text))) where
   unfolding clap_on_literals
   is_explain = refl
 
-  explain_tells : Tells explain_found (Explanation 54)
+  explain_tells : Tells explain_found (Explanation (Some (codes "Limit")))
   unfolding clap_on_literals
-  explain_tells = record {
-    digits = codes "54";
-    found = refl;
-    numeral = (omega arith, (omega arith, (omega arith, tt)));
-    is = refl;
-    fits = omega arith;
-  }
+  explain_tells = refl
+
+  list_taken : takes (program_app (Names orders)) list_words ≡ true
+  unfolding clap_on_literals
+  list_taken = refl
+
+  is_list : subcommand_of (program_app (Names orders)) list_words ≡ Some (codes "explain", [])
+  unfolding clap_on_literals
+  is_list = refl
+
+  list_tells : Tells [] (Explanation None)
+  unfolding clap_on_literals
+  list_tells = refl
 
   pub reference_read : IsReadAs (program_app (Names orders)) reference_words reference_ask
   reference_read = record {
@@ -151,7 +160,7 @@ module _ (orders : Bor (List (Bor Text))) where
     tells = reference_tells;
   }
 
-  pub explain_read : IsReadAs (program_app (Names orders)) explain_words (Explanation 54)
+  pub explain_read : IsReadAs (program_app (Names orders)) explain_words (Explanation (Some (codes "Limit")))
   explain_read = record {
     taken = explain_taken;
     rows = explain_found;
@@ -159,8 +168,19 @@ module _ (orders : Bor (List (Bor Text))) where
     tells = explain_tells;
   }
 
+  pub list_read : IsReadAs (program_app (Names orders)) list_words (Explanation None)
+  list_read = record {
+    taken = list_taken;
+    rows = [];
+    command = is_list;
+    tells = list_tells;
+  }
+
 pub reference_words_ask : AsksFor reference_words reference_ask
 reference_words_ask orders takes_orders = rw takes_orders.is_of_names (reference_read takes_orders.names)
 
-pub explain_words_ask : AsksFor explain_words (Explanation 54)
+pub explain_words_ask : AsksFor explain_words (Explanation (Some (codes "Limit")))
 explain_words_ask orders takes_orders = rw takes_orders.is_of_names (explain_read takes_orders.names)
+
+pub list_words_ask : AsksFor list_words (Explanation None)
+list_words_ask orders takes_orders = rw takes_orders.is_of_names (list_read takes_orders.names)

@@ -1,5 +1,5 @@
 -- What a run may be asked for.
-use Rattle.std.specs.Prelude.{ℕ, List, Option, Some, None, codes}
+use Rattle.std.specs.Prelude.{ℕ, List, Option, Some, None, codes, option_map}
 use Rattle.table_commands.specs.Answer.{Ask as Marshalling, ask_of as marshalling_of}
 use Rattle.table_commands.specs.References.{ReferenceParts, reference_parts_of}
 use Rattle.command_words.specs.declared.task.ValueTask.{ValueTask}
@@ -21,8 +21,8 @@ pub record ReferenceAsk : Type 0 where
 pub data Ask : Type 0 where
   Value : ValueAsk → Ask
   Reference : ReferenceAsk → Ask
-  -- what the refusal of a number means
-  Explanation : ℕ → Ask
+  -- what the refusals of a number or a name mean, or which there are
+  Explanation : Option (List ℕ) → Ask
 
 abbrev pub value_ask_of : ValueTask → ValueAsk
 value_ask_of asked = record { table = asked.table.now; value = marshalling_of asked.request }
@@ -34,11 +34,11 @@ reference_ask_of asked = record { table = asked.table.now; parts = reference_par
 abbrev pub ask_of : Task → Option Ask
 ask_of (tasks.Value asked) = Some (Value (value_ask_of asked))
 ask_of (tasks.Reference asked) = Some (Reference (reference_ask_of asked))
-ask_of (tasks.Explain number) = Some (Explanation number)
+ask_of (tasks.Explain word) = Some (Explanation (option_map (λ text. text.now) word))
 ask_of task = None
 
 -- the command that asks for it
 abbrev pub command_of : Ask → List ℕ
 command_of (Value ask) = name_of ask.value.way
 command_of (Reference ask) = codes "ior"
-command_of (Explanation number) = codes "explain"
+command_of (Explanation word) = codes "explain"

@@ -2,6 +2,7 @@
 use Rattle.std.specs.Prelude.{true, pos, Option, Some, None, codes}
 use Rattle.clap.specs.declared.builder.value_parser.ValueParser.{ValueParser}
 use Rattle.clap.specs.declared.builder.value_parser.ValueParser.TheVariants.{Signed, Unsigned}
+use Rattle.clap.specs.declared.builder.action.ArgAction.TheVariants.{SetTrue}
 use Rattle.clap.specs.Words.{App, Rule, Text, new_app, new_rule, with_rule, with_subcommand}
 use Rattle.table_commands.specs.declared.values.Way.{Way}
 use Rattle.table_commands.specs.declared.values.Way.TheVariants.{Encode, Decode}
@@ -34,14 +35,20 @@ output = record (new_rule (codes "o")) { short = Some 111; value_names = 1; requ
 abbrev pub upgrade_app : App
 upgrade_app = with_rule (table_app (codes "upgrade")) output
 
-abbrev pub compile_app : App
-compile_app = with_rule (with_rule (new_app (codes "compile")) (wanted (codes "F") None)) output
+-- the flag `--explain`
+abbrev pub explain_rule : Rule
+explain_rule = record (new_rule (codes "explain")) { long = Some (codes "explain"); action = Some SetTrue }
 
--- the command that makes tables; a run has to name a command
+abbrev pub compile_app : App
+compile_app =
+    with_rule (with_rule (with_rule (new_app (codes "compile")) (wanted (codes "F") None)) output) explain_rule
+
+-- the command that makes tables; a run has to name a command, or to ask for the version
 abbrev pub first_app : App
 first_app =
     let none = new_app (codes "idlc") in
-    with_subcommand (record none { top = record none.top { subcommand_required = true } }) compile_app.top
+    let top = record none.top { subcommand_required = true; has_version = true } in
+    with_subcommand (record none { top = top }) compile_app.top
 
 -- this and the commands that marshal a value
 abbrev pub value_app : ValueParser → App
@@ -98,7 +105,7 @@ serve_app = with_rule
 
 -- the command that says what refusals mean
 abbrev pub explain_app : App
-explain_app = with_rule (new_app (codes "explain")) (wanted (codes "NN") (Some (Signed (pos 0) (pos 255))))
+explain_app = with_rule (new_app (codes "explain")) (new_rule (codes "REFUSAL"))
 
 -- all commands of tables and of their objects
 abbrev pub served_app : ValueParser → App

@@ -1,5 +1,5 @@
 -- What the words of a run ask for, as clap reads them by the rules of the commands.
-use Rattle.std.specs.Prelude.{◌≡◌, ◌≢◌, ◌<◌, ◌^◌, ℕ, true, List, [], ◌∷◌, map, Some, codes}
+use Rattle.std.specs.Prelude.{◌≡◌, ◌≢◌, ◌<◌, ◌^◌, ℕ, true, List, [], ◌∷◌, map, Option, Some, codes}
 use Rattle.std.specs.Borrow.{Bor}
 use Rattle.std.specs.List.{All}
 use Rattle.std.specs.Str.Parse.{IsNumeral, digits_value, without_leading_plus}
@@ -50,13 +50,13 @@ pub record TellsReference (rows : List Row) (ask : ReferenceAsk) : Type 0 where
   pub port : TellsWhole (codes "port") 16 rows ask.parts.port
   pub object : first_of (codes "object") rows ≡ Some ask.parts.object
 
-abbrev pub TellsNumber : List Row → ℕ → Type 0
-TellsNumber rows number = TellsWhole (codes "NN") 8 rows number
+abbrev pub TellsRefusal : List Row → Option Text → Type 0
+TellsRefusal rows word = first_of (codes "REFUSAL") rows ≡ word
 
 abbrev pub Tells : List Row → Ask → Type 0
 Tells rows (Value ask) = TellsValue rows ask
 Tells rows (Reference ask) = TellsReference rows ask
-Tells rows (Explanation number) = TellsNumber rows number
+Tells rows (Explanation word) = TellsRefusal rows word
 
 pub record IsReadAs (app : App) (words : List Text) (ask : Ask) : Type 0 where
   pub taken : takes app words ≡ true

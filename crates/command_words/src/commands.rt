@@ -1,11 +1,11 @@
 //! The commands, as `clap` is told of them.
 
 ghost use Rattle.std.specs.Prelude.{◌≡◌, pos, codes, IfOk, Some, None, false};
-ghost use Rattle.clap.specs.Words.{app_of, rule_of};
+ghost use Rattle.clap.specs.Words.{app_of, new_rule, rule_of};
 ghost use Rattle.clap.specs.declared.builder.value_parser.ValueParser.TheVariants.{Names, Signed, Unsigned};
-ghost use Rattle.command_words.specs.Commands.{at_once_rule, command_app, compile_app, explain_app, first_app, idle_rule, option_rule, output, program_app, reference_app, serve_app, served_app, table_app, tables_app, upgrade_app, value_app, wanted};
+ghost use Rattle.command_words.specs.Commands.{at_once_rule, command_app, compile_app, explain_app, explain_rule, first_app, idle_rule, option_rule, output, program_app, reference_app, serve_app, served_app, table_app, tables_app, upgrade_app, value_app, wanted};
 
-use clap::{Arg, Command, value_parser};
+use clap::{Arg, ArgAction, Command, value_parser};
 use std::alloc::{AllocError, Global};
 
 /// A word that has to be there.
@@ -17,6 +17,9 @@ fn wanted<'a>(alloc: Global, id: &'a str, help: &'a str) -> Arg<'a>
 }
 
 const TABLE: &str = "A table file, or builtin, the sample table";
+
+/// The version, and the kit with which the program is proved.
+const VERSION: &str = "0.1.0, rattle-kit-13f";
 
 /// What `compile` serves of IDL, and what it doesn't.
 const SERVED: &str = "Served: modules, interfaces and their bases, operations, oneway ones too, \
@@ -84,12 +87,24 @@ fn upgrade_command<'a>(alloc: Global) -> Result<Command<'a>, AllocError>
     table_command(alloc, "upgrade")?.arg(output_option(alloc, "U"))
 }
 
+/// The flag for what else is known of a fault.
+fn explain_flag<'a>(alloc: Global) -> Arg<'a>
+    ensures rule { rule_of result ≡ explain_rule }
+    ensures local { result.global ≡ false }
+{
+    Arg::new(alloc, "explain")
+        .long("explain")
+        .help("Shows the line of a fault, and what is known of it")
+        .action(ArgAction::SetTrue)
+}
+
 fn compile_command<'a>(alloc: Global) -> Result<Command<'a>, AllocError>
     ensures { IfOk result (λ command. app_of command ≡ compile_app) }
 {
     Command::new(alloc, "compile")
         .arg(wanted(alloc, "F", "An IDL file, as a preprocessor leaves it"))?
-        .arg(output_option(alloc, "T"))
+        .arg(output_option(alloc, "T"))?
+        .arg(explain_flag(alloc))
 }
 
 /// The command that makes tables.
@@ -99,6 +114,7 @@ fn first_command<'a>(alloc: Global) -> Result<Command<'a>, AllocError>
     let compile = compile_command(alloc)?;
     Command::new(alloc, "idlc")
         .about("Compiles IDL files to tables, and marshals values in CDR by them")
+        .version(VERSION)
         .subcommand_required(true)
         .subcommand(
             compile
@@ -203,18 +219,18 @@ fn serve_command<'a>(alloc: Global) -> Result<Command<'a>, AllocError>
         .arg(idle_option(alloc))
 }
 
-/// The word for the number of a refusal.
-fn number_word<'a>(alloc: Global) -> Arg<'a>
-    ensures rule { rule_of result ≡ wanted (codes "NN") (Some (Signed (pos 0) (pos 255))) }
+/// The word for the number or the name of a refusal, which may be left out.
+fn refusal_word<'a>(alloc: Global) -> Arg<'a>
+    ensures rule { rule_of result ≡ new_rule (codes "REFUSAL") }
     ensures local { result.global ≡ false }
 {
-    wanted(alloc, "NN", "The number of the refusal").value_parser(value_parser!(u8))
+    Arg::new(alloc, "REFUSAL").help("The number of the refusal, or its name; all are listed without")
 }
 
 fn explain_command<'a>(alloc: Global) -> Result<Command<'a>, AllocError>
     ensures { IfOk result (λ command. app_of command ≡ explain_app) }
 {
-    Command::new(alloc, "explain").arg(number_word(alloc))
+    Command::new(alloc, "explain").arg(refusal_word(alloc))
 }
 
 /// The commands that marshal a value, and those that ask of a table alone.

@@ -1,11 +1,11 @@
 //! What `clap` found for the words of a command.
 
-ghost use Rattle.std.specs.Prelude.{◌≡◌, ◌<◌, ◌^◌, ◌↔◌, IsSome, IsSomeAnd, ℕ, List, codes, IfSome, Some};
+ghost use Rattle.std.specs.Prelude.{◌≡◌, ◌<◌, ◌^◌, ◌↔◌, IsSome, IsSomeAnd, ℕ, List, Option, codes, IfSome, Some};
 ghost use Rattle.std.specs.Str.Parse.{IsNumeral, digits_value, without_leading_plus};
 ghost use Rattle.clap.specs.Words.{rows_of, Row, subcommand_rows_of};
 ghost use Rattle.clap.specs.Matches.{found_of, first_value, one_text};
 ghost use Rattle.command_words.specs.Ask.{Ask, Explanation, Reference, ReferenceAsk, Value, ValueAsk, ask_of, command_of};
-ghost use Rattle.command_words.specs.Words.{Tells, TellsNumber, TellsReference, TellsValue};
+ghost use Rattle.command_words.specs.Words.{Tells, TellsReference, TellsRefusal, TellsValue};
 
 use crate::task::{ReferenceTask, Service, Task, ValueTask};
 use clap::ArgMatches;
@@ -96,13 +96,12 @@ fn reference<'a>(words: &ArgMatches<'a>) -> Option<Task<'a>>
     }
 }
 
-fn explain<'a>(words: &ArgMatches<'a>) -> Option<Task<'a>>
-    ensures { (number : ℕ) → TellsNumber (rows_of (found_of words.now)) number
-        → IsSomeAnd result (λ task. ask_of task ≡ Some (Explanation number)) }
+fn explain<'a>(words: &ArgMatches<'a>) -> Task<'a>
+    ensures { (word : Option (List ℕ)) → TellsRefusal (rows_of (found_of words.now)) word
+        → ask_of result ≡ Some (Explanation word) }
 {
-    match words.get_one::<u8>("NN") {
-        Some(number) => Some(Task::Explain { number }),
-        None => None,
+    Task::Explain {
+        word: words.get_str("REFUSAL"),
     }
 }
 
@@ -117,6 +116,7 @@ fn compile<'a>(matches: &ArgMatches<'a>) -> Option<Task<'a>> {
     Some(Task::Compile {
         source: matches.get_str("F")?,
         output: matches.get_str("o")?,
+        explains: matches.get_flag("explain"),
     })
 }
 
@@ -138,7 +138,7 @@ pub(crate) fn task_in<'a>(matches: &ArgMatches<'a>) -> Option<Task<'a>>
         "upgrade" => upgrade(words),
         "compile" => compile(words),
         "ior" => reference(words),
-        "explain" => explain(words),
+        "explain" => Some(explain(words)),
         _ => None,
     }
 }

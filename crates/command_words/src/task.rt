@@ -39,13 +39,18 @@ pub struct Service<'a> {
 pub enum Task<'a> {
     Value(ValueTask<'a>),
     Reference(ReferenceTask<'a>),
-    /// What the refusal of a number means.
-    Explain { number: u8 },
+    /// What the refusals of a number or a name mean, or which there are.
+    Explain { word: Option<&'a str> },
     Check { table: &'a str },
     Show { table: &'a str },
     Upgrade { table: &'a str, output: &'a str },
     /// The table of an IDL file, in another file.
-    Compile { source: &'a str, output: &'a str },
+    Compile {
+        source: &'a str,
+        output: &'a str,
+        /// Whether a fault is told with all that is known of it.
+        explains: bool,
+    },
 }
 
 /// What the words say.

@@ -1,10 +1,10 @@
 -- The numbers of refusals, and the first lines of their texts: a number and a name.
 use Rattle.std.specs.Prelude.{ℕ, Bool, ◌&&◌, ◌||◌, nat_le, nat_lt, ◌==◌, List, [], ◌∷◌, Option, Some, None, codes, if◌then◌else◌}
+use Rattle.std.specs.List.{before_first}
 
 -- what stands before the first line feed
 abbrev pub first_line : List ℕ → List ℕ
-first_line [] = []
-first_line (c ∷ rest) = if c == 10 then [] else (c ∷ first_line rest)
+first_line text = before_first (λ c. c == 10) text
 
 abbrev pub is_within : ℕ → ℕ → ℕ → Bool
 is_within low high n = nat_le low n && nat_le n high

@@ -10,6 +10,9 @@ Input, a file of these octets, whose routine takes a boolean for an octet:
     49444c54010000000101000000010000000153000000000000000000000000000000000000000100000000ffff
     ffffffffffffff00000000000000010300000001
 To mend it: write the table again; idlc show lists the routines of one that is right.
+Mended, a file of these octets:
+    49444c54010000000101000000010000000153000000000000000000000000000000000000000100000000ffff
+    ffffffffffffff00000000000000010100000001
 ";
 
 const WRONG_PADDING: &str = "81 WrongPadding
@@ -19,6 +22,9 @@ Input, a file of these octets, whose routine takes an unsigned long without a ga
     49444c540100000001000400000000010000000153000000000000000000000000000000000000000100000000
     ffffffffffffffffff0000000000000001020400000001
 To mend it: put Align before the work, or let the routine start at multiples alone.
+Mended, a file of these octets:
+    49444c540100000001000400000000010000000153000000000000000000000000000000000000000100000000
+    ffffffffffffffffff00000000000000020004020400000001
 ";
 
 const ENTRY_OUTSIDE: &str = "82 EntryOutside
@@ -28,6 +34,10 @@ Input, a file of these octets, whose second routine calls the first at every pos
     000000000000000000000000000001010000000100000001ffffffffffffffffff00000001000000010b000000
     00
 To mend it: give the routine more entries, or put a gap before the call.
+Mended, a file of these octets:
+    49444c54010000000201080000000100000000000000000000000000000000000000000000000200000000ffff
+    ffffffffffffff0000000000000001010000000100000001ffffffffffffffffff00000001000000010b000000
+    00
 ";
 
 const EXITS_TOO_SMALL: &str = "83 ExitsTooSmall
@@ -36,6 +46,9 @@ Input, a file of these octets, whose routine is to end where it starts:
     49444c54010000000101000000000000000000000000000000000000000100000000ff01020408102040800000
     0000000000010100000001
 To mend it: add the position, counted modulo 8, to the exits for that entry.
+Mended, a file of these octets:
+    49444c54010000000101000000000000000000000000000000000000000100000000ff02040810204080010000
+    0000000000010100000001
 ";
 
 const NO_ROUTINE: &str = "84 NoRoutine
@@ -43,6 +56,9 @@ A type that has a name has no routine in the program that the name uses.
 Input, a file of these octets, with a name and no routine:
     49444c540100000001010000000100000001530000000000000000000000000000000000000000
 To mend it: write the table again; a routine of the type has to be there.
+Mended, a file of these octets:
+    49444c54010000000101000000010000000153000000000000000000000000000000000000000100000000ffff
+    ffffffffffffff00000000000000010100000001
 ";
 
 const NAMED_ENTRY_NOT_FULL: &str = "85 NamedEntryNotFull
@@ -51,6 +67,9 @@ Input, a file of these octets, whose routine starts at multiples of 8 alone:
     49444c540100000001010000000100000001530000000000000000000000000000000000000001000000000102
     0000000000000000000000000000010100000001
 To mend it: give one routine of the type the entries FF, with the gaps that it needs then.
+Mended, a file of these octets:
+    49444c54010000000101000000010000000153000000000000000000000000000000000000000100000000ffff
+    ffffffffffffff00000000000000010100000001
 ";
 
 /// Those with the numbers 80 to 85.

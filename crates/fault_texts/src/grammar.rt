@@ -8,6 +8,8 @@ A token can't stand where it does.
 Input:
     struct Point { long; };
 To mend it: write what the grammar of IDL has there, here the name of the member.
+Mended:
+    struct Point { long x; };
 ";
 
 const END_OF_FILE: &str = "11 EndOfFile
@@ -15,6 +17,8 @@ The file ends inside a definition. The line is the last token's.
 Input:
     struct Point { long x;
 To mend it: close what is open, and put a semicolon behind each definition.
+Mended:
+    struct Point { long x; };
 ";
 
 const LEFT_OUT: &str = "12 LeftOut
@@ -23,6 +27,9 @@ floating-point numbers, wide characters, abstract and local interfaces, componen
 Input:
     struct Point { double x; };
 To mend it: use a type that is served, as a structure of two integers, or take the part out.
+Mended:
+    struct Decimal { long digits; short scale; };
+    struct Point { Decimal x; };
 ";
 
 const TOO_DEEP: &str = "13 TooDeep
@@ -30,6 +37,7 @@ More than 64 modules, structures, unions, enumerations, sequences and parenthese
 inside another.
 Input: a number in 65 pairs of parentheses.
 To mend it: give the inner types names of their own, by typedef.
+Mended: the number without parentheses.
 ";
 
 /// Those with the numbers 10 to 13.

@@ -8,12 +8,15 @@ mod checks;
 mod connections;
 mod grammar;
 mod messages;
+mod named;
 mod names;
 mod runs;
 mod tables;
 mod tokens;
 mod types;
 mod values;
+
+pub use named::{explanations, heading, headings};
 
 /// What the refusal of this number means, an input that gets it and how to mend that, in lines each
 /// with its end; the first line is the number and the name. None where no refusal has the number.

@@ -8,6 +8,8 @@ The octets don't begin with the letters GIOP, so they are no message.
 Input, a message of these octets:
     47455420 2f204854 54502f31
 To mend it: send messages of GIOP; where a browser calls, this isn't its server.
+Mended, a message of these octets:
+    47494f50 01020005 00000000
 ";
 
 const GIOP_VERSION: &str = "91 Version
@@ -15,6 +17,8 @@ A message is of another version of GIOP than 1.2.
 Input, a message of these octets:
     47494f50 01000000 00000000
 To mend it: have the peer speak GIOP 1.2, which the profile of the reference says.
+Mended, a message of these octets:
+    47494f50 01020005 00000000
 ";
 
 const TOO_LONG: &str = "92 TooLong
@@ -22,6 +26,8 @@ A message has more than 1,048,576 octets behind its head, one in fragments when 
 Input, a message of these octets:
     47494f50 01020000 00100001
 To mend it: send less at a time.
+Mended, a message of these octets:
+    47494f50 01020005 00000000
 ";
 
 const BAD_HEAD: &str = "93 BadHead
@@ -30,6 +36,8 @@ the header behind its head isn't that of its type.
 Input, a message of these octets:
     47494f50 01020008 00000000
 To mend it: look at the type, the flags and the lengths in the header.
+Mended, a message of these octets:
+    47494f50 01020005 00000000
 ";
 
 const BAD_IOR: &str = "94 BadIor
@@ -38,6 +46,8 @@ host or an id, or a part is too long for its count.
 Input, a text:
     IOR:0
 To mend it: copy the whole text, IOR: and an even number of hexadecimal digits.
+Mended, a text:
+    IOR:00000000000000010000000000000000
 ";
 
 const BUILT_IN: &str = "95 BuiltIn
@@ -45,12 +55,14 @@ The checker refused the program's own table of the types of GIOP. This is proved
 the number is kept free for it.
 Input: none gets it.
 To mend it: nothing has to be.
+Mended: none has to be.
 ";
 
 const BAD_BODY: &str = "96 BadBody
 The body that is to be written isn't a value of the type that was named for it.
 Input: the tape 02 for the reply of an operation whose result is a boolean.
 To mend it: give the whole tape of a value of that type.
+Mended: the tape 01 for that reply.
 ";
 
 const BAD_FRAGMENT: &str = "97 BadFragment
@@ -60,6 +72,8 @@ length, its head counted, is no multiple of 8.
 Input, a message of these octets:
     47494f50 01020007 00000004 00000001
 To mend it: send the pieces of one request in order, with whole messages alone between.
+Mended, a message of these octets:
+    47494f50 01020002 00000004 00000001
 ";
 
 /// Those with the numbers 90 to 97.

@@ -8,6 +8,9 @@ Nothing of the name is declared before it, or a type that was declared ahead is 
 Input:
     struct Line { Point from; };
 To mend it: declare the name earlier in the file, or write the scopes that it stands in.
+Mended:
+    struct Point { long x; };
+    struct Line { Point from; };
 ";
 
 const COLLIDES: &str = "21 Collides
@@ -16,6 +19,8 @@ that of the scope itself, of another member, or of an inherited operation or att
 Input:
     interface Shape {}; interface shape {};
 To mend it: give one of the two another name.
+Mended:
+    interface Shape {}; interface Square {};
 ";
 
 const CASE_DIFFERS: &str = "22 CaseDiffers
@@ -24,6 +29,9 @@ Input:
     struct Point { long x; };
     struct Line { point from; };
 To mend it: write the name as it is declared.
+Mended:
+    struct Point { long x; };
+    struct Line { Point from; };
 ";
 
 const AMBIGUOUS: &str = "23 Ambiguous
@@ -32,6 +40,9 @@ Input:
     interface A { typedef long T; }; interface B { typedef long T; };
     interface C : A, B { typedef T U; };
 To mend it: say which is meant, as in A::T
+Mended:
+    interface A { typedef long T; }; interface B { typedef long T; };
+    interface C : A, B { typedef A::T U; };
 ";
 
 const NOT_A_TYPE: &str = "24 NotAType
@@ -41,6 +52,9 @@ Input:
     const long SIZE = 1;
     struct Point { SIZE x; };
 To mend it: name a type, or an exception where one has to stand.
+Mended:
+    const long SIZE = 1;
+    struct Point { long x; };
 ";
 
 const ID_TWICE: &str = "25 IdTwice
@@ -50,6 +64,9 @@ Input:
     #pragma version Point 1.1
     #pragma version Point 1.2
 To mend it: take one of the two pragmas out.
+Mended:
+    struct Point { long x; };
+    #pragma version Point 1.1
 ";
 
 const BAD_CONSTANT: &str = "26 BadConstant
@@ -58,6 +75,8 @@ zero, shifts by more than 63, is of another kind of type, or is a bound or a siz
 Input:
     const long X = 1 << 40;
 To mend it: write a value of the type, or a wider type.
+Mended:
+    const long long X = 1 << 40;
 ";
 
 const BAD_BASE: &str = "27 BadBase
@@ -67,6 +86,9 @@ Input:
     interface Shape;
     interface Circle : Shape {};
 To mend it: define the base before it is used, and list it once.
+Mended:
+    interface Shape {};
+    interface Circle : Shape {};
 ";
 
 const PREFIX_IN_SCOPE: &str = "28 PrefixInScope
@@ -76,6 +98,9 @@ Input:
     #pragma prefix \"acme.org\"
     };
 To mend it: put the pragma before the module.
+Mended:
+    #pragma prefix \"acme.org\"
+    module M { interface Shape {}; };
 ";
 
 const PREFIX_DIFFERS: &str = "29 PrefixDiffers
@@ -85,6 +110,10 @@ Input:
     #pragma prefix \"acme.org\"
     interface Shape {};
 To mend it: put the pragma before the first declaration.
+Mended:
+    #pragma prefix \"acme.org\"
+    interface Shape;
+    interface Shape {};
 ";
 
 /// Those with the numbers 20 to 29.

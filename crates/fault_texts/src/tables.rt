@@ -9,6 +9,8 @@ an end inside.
 Input, a file of these octets:
     49444c
 To mend it: give a file that a compiler of tables wrote, whole.
+Mended, a file of these octets:
+    49444c5401000000000000000000000000000000000000000000000000
 ";
 
 const VERSION: &str = "51 Version
@@ -16,6 +18,8 @@ The table file is of a version that isn't known, which its fifth octet says; 1 a
 Input, a file of these octets:
     49444c5403
 To mend it: write the table again with this program, or read it with a newer one.
+Mended, a file of these octets:
+    49444c5401000000000000000000000000000000000000000000000000
 ";
 
 const TABLE_NUMBER: &str = "52 BadNumber
@@ -24,6 +28,8 @@ or its types or names keep no rule.
 Input, a file of these octets, an enumeration without enumerators:
     49444c54010000000104000000000000000000000000000000000000000000000000
 To mend it: write the table again; where it is made by hand, look at its numbers of nodes.
+Mended, a file of these octets:
+    49444c54010000000104000000010000000000000000000000000000000000000000
 ";
 
 const RANK_RISES: &str = "53 RankRises
@@ -32,6 +38,9 @@ Input, a file of these octets, a routine that calls itself:
     49444c54010000000101000000000000000000000000000000000000000100000000ffffffffffffffffff0000
     0000000000010b00000000
 To mend it: give the called routine a lower rank, or call it for the elements of a sequence.
+Mended, a file of these octets:
+    49444c54010000000101000000000000000000000000000000000000000100000000ffffffffffffffffff0000
+    0000000000010100000001
 ";
 
 const TRAILING: &str = "54 Trailing
@@ -39,6 +48,8 @@ Octets stand behind the table's end.
 Input, a file of these octets, the empty table and one octet more:
     49444c540100000000000000000000000000000000000000000000000000
 To mend it: cut the file off behind the table.
+Mended, a file of these octets:
+    49444c5401000000000000000000000000000000000000000000000000
 ";
 
 const EMPTY_ROUTINE: &str = "55 EmptyRoutine
@@ -47,12 +58,16 @@ Input, a file of these octets, the second routine of which calls the first:
     49444c54010000000101000000000000000000000000000000000000000200000000ffffffffffffffffff0000
     00000000000000000000ffffffffffffffffff00000001000000010b00000000
 To mend it: give the called routine its instructions, or take the call out.
+Mended, a file of these octets:
+    49444c54010000000101000000000000000000000000000000000000000200000000ffffffffffffffffff0000
+    000000000001010000000100000000ffffffffffffffffff00000001000000010b00000000
 ";
 
 const PLAN_LIMIT: &str = "70 Limit
 The faster program of a model would pass a limit: 8,192 routines, 65,536 instructions.
 Input: a model whose structures are repeated so often, each for other positions.
 To mend it: nothing has to be, as the plain program serves the model; or use fewer types.
+Mended: the same model: the plain program serves it.
 ";
 
 /// Those with the numbers 50 to 55.

@@ -9,6 +9,8 @@ UTF-8 gets this with line 0.
 Input:
     struct Point { long x; } @;
 To mend it: take the character out, or put it into a comment.
+Mended:
+    struct Point { long x; };
 ";
 
 const OPEN_COMMENT: &str = "2 OpenComment
@@ -16,6 +18,8 @@ A comment that begins with /* has no */ behind it. The line is the one where it 
 Input:
     struct Point { long x; }; /* a point
 To mend it: close the comment. Comments don't nest, so the first */ ends one.
+Mended:
+    struct Point { long x; }; /* a point */
 ";
 
 const OPEN_LITERAL: &str = "3 OpenLiteral
@@ -23,6 +27,8 @@ A literal isn't closed on its line, or a character literal has none or several c
 Input:
     const char LETTER = 'ab';
 To mend it: close the literal, or write a text between double quotes.
+Mended:
+    const char LETTER = 'a';
 ";
 
 const BAD_NUMBER: &str = "4 BadNumber
@@ -31,6 +37,8 @@ a word behind it. A number that begins with 0 is octal; numbers with a point are
 Input:
     const long COUNT = 09;
 To mend it: write it in decimal without a 0 in front, or in hexadecimal behind 0x.
+Mended:
+    const long COUNT = 9;
 ";
 
 const BAD_ESCAPE: &str = "5 BadEscape
@@ -39,6 +47,8 @@ octet in it.
 Input:
     const char MARK = '\\q';
 To mend it: write one of \\n \\t \\v \\b \\r \\f \\a \\\\ \\? \\' \\\", or an octet as \\x and two digits.
+Mended:
+    const char MARK = '\\n';
 ";
 
 const BAD_DIRECTIVE: &str = "6 BadDirective
@@ -47,6 +57,9 @@ or a pragma prefix, ID or version of a wrong form.
 Input:
     #include \"point.idl\"
 To mend it: run the preprocessor first, as in cpp point.idl > point.i
+Mended:
+    # 1 \"point.idl\"
+    struct Point { long x; };
 ";
 
 const KEYWORD_CASE: &str = "7 KeywordCase
@@ -54,6 +67,8 @@ A word differs from a keyword only in the case of its letters.
 Input:
     struct Home { long x; };
 To mend it: write the keyword as it is, or put an underscore before a name: _Home is Home.
+Mended:
+    struct _Home { long x; };
 ";
 
 /// Those with the numbers 1 to 7.

@@ -9,6 +9,8 @@ the member that closes the circle.
 Input:
     struct Node { long value; Node next; };
 To mend it: put a sequence between, as in sequence<Node> next.
+Mended:
+    struct Node { long value; sequence<Node> next; };
 ";
 
 const LABEL_TWICE: &str = "31 LabelTwice
@@ -16,6 +18,8 @@ A label stands twice in a union, or default does.
 Input:
     union U switch(long) { case 1: long a; case 1: short b; };
 To mend it: take one of the two labels out.
+Mended:
+    union U switch(long) { case 1: long a; case 2: short b; };
 ";
 
 const LABEL_RANGE: &str = "32 LabelRange
@@ -23,6 +27,8 @@ A label is no value of the type in the union's switch.
 Input:
     union U switch(short) { case 40000: long a; };
 To mend it: write a label of the type, or switch on a wider one.
+Mended:
+    union U switch(long) { case 40000: long a; };
 ";
 
 const DEFAULT_NEEDLESS: &str = "33 DefaultNeedless
@@ -30,6 +36,8 @@ A union has a default although its labels are all values of the type in its swit
 Input:
     union U switch(boolean) { case TRUE: long a; case FALSE: long b; default: long c; };
 To mend it: take the default out.
+Mended:
+    union U switch(boolean) { case TRUE: long a; case FALSE: long b; };
 ";
 
 const BAD_SWITCH: &str = "34 BadSwitch
@@ -39,6 +47,8 @@ Input:
     typedef string Word;
     union U switch(Word) { default: long a; };
 To mend it: switch on a type that has labels.
+Mended:
+    union U switch(long) { default: long a; };
 ";
 
 const TYPE_LIMIT: &str = "35 Limit
@@ -48,6 +58,8 @@ of an array; a bound of 4,294,967,295.
 Input:
     typedef long Row[1048577];
 To mend it: use a smaller type, a sequence in place of an array, or two files.
+Mended:
+    typedef sequence<long> Row;
 ";
 
 const BAD_ONEWAY: &str = "36 BadOneway
@@ -55,6 +67,8 @@ A oneway operation has something to answer: a result, an out or inout parameter,
 Input:
     interface Counter { oneway long next(); };
 To mend it: make the result void and all parameters in, or take oneway out.
+Mended:
+    interface Counter { oneway void next(); };
 ";
 
 const BAD_NODE: &str = "37 BadNode
@@ -62,6 +76,7 @@ The types or the parts of a model that a program put together by itself keep no 
 out of range, an empty structure, labels that don't rise, a name twice. No IDL file gets this.
 Input: a list of nodes with an array of the node 7 and no node 7, given to Graph::from_nodes.
 To mend it: number the nodes from 0, and refer to nodes of the list.
+Mended: the same list with the node 7, or an array of a node that is there.
 ";
 
 /// Those with the numbers 30 to 37.

@@ -1,5 +1,5 @@
 -- What a task answers is what was asked for.
-use Rattle.std.proofs.Common.{◌≡◌, refl, sym, ℕ, subst, Some, Result}
+use Rattle.std.proofs.Common.{◌≡◌, refl, sym, ℕ, List, Option, option_map, subst, Bor, Some, Result}
 use Rattle.idlc_main.specs.declared.fault.Fault.{Fault}
 use Rattle.command_words.specs.declared.task.ValueTask.{ValueTask}
 use Rattle.command_words.specs.declared.task.ReferenceTask.{ReferenceTask}
@@ -21,11 +21,11 @@ module _ (Reads : Passing) (ask : Ask) (result : Result Answer Fault) where
   pub answers : (task : Task) → ask_of task ≡ Some ask
       → ((asked : ValueTask) → task ≡ tasks.Value asked → IsAnswer Reads (Value (value_ask_of asked)) result)
       → ((asked : ReferenceTask) → task ≡ tasks.Reference asked → IsAnswer Reads (Reference (reference_ask_of asked)) result)
-      → ((number : ℕ) → task ≡ tasks.Explain number → IsAnswer Reads (Explanation number) result) → IsAnswer Reads ask result
+      → ((word : Option (Bor (List ℕ))) → task ≡ tasks.Explain word → IsAnswer Reads (Explanation (option_map (λ text. text.now) word)) result) → IsAnswer Reads ask result
   answers (tasks.Value asked) is value reference explanation = of_same _ is (value asked refl)
   answers (tasks.Reference asked) is value reference explanation = of_same _ is (reference asked refl)
-  answers (tasks.Explain number) is value reference explanation = of_same _ is (explanation number refl)
+  answers (tasks.Explain word) is value reference explanation = of_same _ is (explanation word refl)
   answers (tasks.Check table) is value reference explanation = absurd cc
   answers (tasks.Show table) is value reference explanation = absurd cc
   answers (tasks.Upgrade table output) is value reference explanation = absurd cc
-  answers (tasks.Compile source output) is value reference explanation = absurd cc
+  answers (tasks.Compile source output explains) is value reference explanation = absurd cc

@@ -1,9 +1,9 @@
 -- How a run ends, on an answer or a fault.
-use Rattle.std.proofs.Common.{◌≡◌, refl, sym, ◌∙◌, subst, ℕ, ◌≤◌, ◌⊎◌, inl, inr, List, Option, Ok, string_bytes, arith}
+use Rattle.std.proofs.Common.{◌≡◌, refl, sym, ◌∙◌, subst, ℕ, ◌≤◌, ◌⊎◌, inl, inr, List, Option, Ok, Bor, string_bytes, arith}
 use Rattle.std.specs.Io.KnownBytes.{Appends}
 use Rattle.idlc_main.specs.declared.told.Answer.{Answer}
 use Rattle.idlc_main.specs.declared.fault.Fault.{Fault}
-use Rattle.idlc_main.specs.declared.fault.Fault.TheVariants.{Words, NotText, Refused, NotCompiled, NotServed, Socket, NoRefusal, Unwritten, NoMemory}
+use Rattle.idlc_main.specs.declared.fault.Fault.TheVariants.{Words, NotText, Refused, NotCompiled, Explained, NotServed, Socket, NoRefusal, Unwritten, NoMemory}
 use Rattle.command_words.specs.declared.mistake.Mistake.{Mistake}
 use Rattle.command_words.specs.declared.mistake.Mistake.TheVariants as mistakes
 use Rattle.idlc_main.specs.Fault.{fault_of_words, status_of, status_of_refusal}
@@ -16,15 +16,15 @@ use Rattle.idlc_main.specs.Answer.{IsAnswer, IsEndOf, IsExplanationFault, IsFaul
 -- a fault that answers nothing, whatever is asked for
 never : (Reads : Passing) (ask : Ask) (fault : Fault) → ((value : ValueAsk) → IsValueFault Reads value fault → ⊥)
     → ((reference : ReferenceAsk) → IsReferenceFault Reads reference fault → ⊥)
-    → ((number : ℕ) → IsExplanationFault number fault → ⊥) → IsFaultOf Reads ask fault → ⊥
+    → ((word : Option (List ℕ)) → IsExplanationFault word fault → ⊥) → IsFaultOf Reads ask fault → ⊥
 never Reads (Value value) fault v r e is = v value is
 never Reads (Reference reference) fault v r e is = r reference is
-never Reads (Explanation number) fault v r e is = e number is
+never Reads (Explanation word) fault v r e is = e word is
 
-strange : (Reads : Passing) (ask : Ask) (number : ℕ) → IsFaultOf Reads ask (NoRefusal number) → IsStrange ask
-strange Reads (Value value) number is = absurd is
-strange Reads (Reference reference) number is = absurd is
-strange Reads (Explanation n) number is = is.1
+strange : (Reads : Passing) (ask : Ask) (word : Bor (List ℕ)) → IsFaultOf Reads ask (NoRefusal word) → IsStrange ask
+strange Reads (Value value) word is = absurd is
+strange Reads (Reference reference) word is = absurd is
+strange Reads (Explanation asked) word is = is.1
 
 -- a refusal is of the input, or of files or memory
 statuses : (refusal : Refusal) → (status_of_refusal refusal ≡ 1) ⊎ (3 ≤ status_of_refusal refusal)
@@ -42,7 +42,7 @@ module _ (Reads : Passing) (ask : Ask) (old new : Option (List ℕ)) where
     understood = λ is_2. absurd (omega arith);
   }
 
-  -- no refusal has the number
+  -- no refusal has the number or the name
   ends_strange : (status : ℕ) → status ≡ 2 → IsStrange ask → IsEndOf Reads ask status old new
   ends_strange status is_2 why = record {
     done = λ is_0. absurd (omega arith);
@@ -85,8 +85,9 @@ module _ (Reads : Passing) (ask : Ask) (old new : Option (List ℕ)) where
     by_refusal (inl one) = ends_refused (Refused refusal) status (is ∙ one) one told
     by_refusal (inr above) = ends_else status (subst (λ (n : ℕ). 3 ≤ n) (sym is) above)
   ends (NotCompiled refusal) status is told = absurd (never Reads ask (NotCompiled refusal) (λ _ h. h) (λ _ h. h) (λ _ h. h) told)
+  ends (Explained refusal view) status is told = absurd (never Reads ask (Explained refusal view) (λ _ h. h) (λ _ h. h) (λ _ h. h) told)
   ends (NotServed fault) status is told = absurd (never Reads ask (NotServed fault) (λ _ h. h) (λ _ h. h) (λ _ h. h) told)
   ends Socket status is told = absurd (never Reads ask Socket (λ _ h. h) (λ _ h. h) (λ _ h. h) told)
-  ends (NoRefusal number) status is told = ends_strange status is (strange Reads ask number told)
+  ends (NoRefusal word) status is told = ends_strange status is (strange Reads ask word told)
   ends Unwritten status is told = ends_else status (omega arith)
   ends NoMemory status is told = ends_else status (omega arith)

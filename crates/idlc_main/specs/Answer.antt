@@ -1,8 +1,8 @@
 -- What a run answers, by what it is asked for.
-use Rattle.std.specs.Prelude.{◌≡◌, ◌⊎◌, ℕ, List, Option, Some, Result, Ok, Err, true, false, IfOk, IfErr}
+use Rattle.std.specs.Prelude.{◌≡◌, ◌≢◌, ◌⊎◌, ℕ, List, [], Option, Some, None, Result, Ok, Err, IfOk, IfErr}
 use Rattle.std.specs.String.{string_bytes}
 use Rattle.std.specs.Io.KnownBytes.{Appends, Keeps}
-use Rattle.fault_texts.specs.Headings.{first_line, heading, is_refusal}
+use Rattle.fault_texts.specs.Named.{AreTexts, lines_below}
 use Rattle.socket_server.specs.Lines.{serving}
 use Rattle.table_commands.specs.declared.refusal.Refusal.{Refusal}
 use Rattle.table_commands.specs.Named.{Passing, IsNoReference, IsReferenceOf, IsValueLine, IsValueRefusal}
@@ -18,16 +18,21 @@ IsLined text_of (Ok line) (Ok answer) = string_bytes answer.text ≡ text_of lin
 IsLined text_of (Err refusal) (Err fault) = fault ≡ Refused refusal
 IsLined text_of line result = ⊥
 
--- the lines of an explanation
-pub record Explains (number : ℕ) (lines : List ℕ) : Type 0 where
-  pub refusal : is_refusal number ≡ true
-  pub headed : heading number ≡ Some (first_line lines)
+-- texts of the refusals that the word means, of one at least
+pub record AreExplained (word lines : List ℕ) : Type 0 where
+  pub texts : AreTexts word 256 lines
+  pub some : lines ≢ []
+
+-- the lines of an explanation, or those of all numbers and names
+abbrev pub Explains : Option (List ℕ) → List ℕ → Type 0
+Explains (Some word) lines = AreExplained word lines
+Explains None lines = lines ≡ lines_below 256
 
 -- the line that answers
 abbrev pub IsLine : Passing → Ask → List ℕ → Type 0
 IsLine Reads (Value ask) line = IsValueLine Reads ask.table ask.value line
 IsLine Reads (Reference ask) line = IsReferenceOf Reads ask.table ask.parts line
-IsLine Reads (Explanation number) lines = Explains number lines
+IsLine Reads (Explanation word) lines = Explains word lines
 
 -- the fault that answers
 abbrev pub IsValueFault : Passing → ValueAsk → Fault → Type 0
@@ -38,15 +43,20 @@ abbrev pub IsReferenceFault : Passing → ReferenceAsk → Fault → Type 0
 IsReferenceFault Reads ask (Refused refusal) = IsNoReference Reads ask.table ask.parts refusal
 IsReferenceFault Reads ask fault = ⊥
 
-abbrev pub IsExplanationFault : ℕ → Fault → Type 0
-IsExplanationFault number (NoRefusal n) = (n ≡ number) × (is_refusal number ≡ false)
-IsExplanationFault number NoMemory = Unit {0}
-IsExplanationFault number fault = ⊥
+-- the number or the name of no refusal
+abbrev pub IsStrangeWord : Option (List ℕ) → Type 0
+IsStrangeWord None = ⊥
+IsStrangeWord (Some word) = AreTexts word 256 []
+
+abbrev pub IsExplanationFault : Option (List ℕ) → Fault → Type 0
+IsExplanationFault word (NoRefusal other) = (word ≡ Some other.now) × IsStrangeWord word
+IsExplanationFault word NoMemory = Unit {0}
+IsExplanationFault word fault = ⊥
 
 abbrev pub IsFaultOf : Passing → Ask → Fault → Type 0
 IsFaultOf Reads (Value ask) fault = IsValueFault Reads ask fault
 IsFaultOf Reads (Reference ask) fault = IsReferenceFault Reads ask fault
-IsFaultOf Reads (Explanation number) fault = IsExplanationFault number fault
+IsFaultOf Reads (Explanation word) fault = IsExplanationFault word fault
 
 pub record IsAnswer (Reads : Passing) (ask : Ask) (result : Result Answer Fault) : Type 0 where
   pub line : IfOk result (λ answer. IsLine Reads ask (string_bytes answer.text))
@@ -63,9 +73,8 @@ pub record IsPrinted (Reads : Passing) (ask : Ask) (old new : Option (List ℕ))
 abbrev pub IsRefusedAsk : Passing → Ask → Type 0
 IsRefusedAsk Reads ask = (fault : Fault) × (status_of fault ≡ 1) × IsFaultOf Reads ask fault
 
--- the number of no refusal
 abbrev pub IsStrange : Ask → Type 0
-IsStrange (Explanation number) = is_refusal number ≡ false
+IsStrange (Explanation word) = IsStrangeWord word
 IsStrange ask = ⊥
 
 -- how a run ends that asks for something, by its status and what standard output held before and

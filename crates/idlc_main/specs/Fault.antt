@@ -9,7 +9,7 @@ use Rattle.table_commands.specs.declared.refusal.Refusal.TheVariants as refusals
 use Rattle.socket_server.specs.declared.fault.ServeFault.{ServeFault}
 use Rattle.socket_server.specs.declared.fault.ServeFault.TheVariants as serve_faults
 use Rattle.idlc_main.specs.declared.fault.Fault.{Fault}
-use Rattle.idlc_main.specs.declared.fault.Fault.TheVariants.{Words, NotText, Refused, NotCompiled, NotServed, Socket, NoRefusal, Unwritten, NoMemory}
+use Rattle.idlc_main.specs.declared.fault.Fault.TheVariants.{Words, NotText, Refused, NotCompiled, Explained, NotServed, Socket, NoRefusal, Unwritten, NoMemory}
 
 abbrev pub status_of_refusal : Refusal → ℕ
 status_of_refusal (refusals.Unread file) = 3
@@ -23,9 +23,10 @@ status_of (Words mistake) = 2
 status_of NotText = 2
 status_of (Refused refusal) = status_of_refusal refusal
 status_of (NotCompiled refusal) = 1
+status_of (Explained refusal view) = 1
 status_of (NotServed fault) = 1
 status_of Socket = 3
-status_of (NoRefusal number) = 2
+status_of (NoRefusal word) = 2
 status_of Unwritten = 3
 status_of NoMemory = 4
 

@@ -8,8 +8,31 @@ use command_words::Mistake;
 use idl_compiler::CompileRefusal;
 use socket_server::ServeFault;
 use std::alloc::AllocError;
+use std::fmt;
 use table_commands::Refusal;
 use thiserror::Error;
+
+/// A word for a refusal, a number where it begins with a digit. Control characters are escaped.
+#[derive(Clone, Copy)]
+struct Meant<'a>(&'a str);
+
+impl<'a> fmt::Display for Meant<'a> {
+    fn fmt<W: fmt::Write>(&self, f: &mut fmt::Formatter<W>) -> fmt::Result {
+        f.write_str(if self.0.starts_with(|c: char| c.is_ascii_digit()) {
+            "number "
+        } else {
+            "name "
+        })?;
+        for c in self.0.chars() {
+            if c.is_control() {
+                write!(f, "\\x{:02x}", c as u32)?;
+            } else {
+                write!(f, "{c}")?;
+            }
+        }
+        Ok(())
+    }
+}
 
 /// A fault has as its text the line that stands behind `idlc: ` on standard error, but for words.
 #[derive(Debug, Drop, Error)]
@@ -25,15 +48,21 @@ pub enum Fault<'a> {
     /// The IDL file has no table.
     #[error(transparent)]
     NotCompiled(CompileRefusal),
+    /// The same, with the lines of what else is known.
+    #[error("{refusal}\n{view}")]
+    Explained {
+        refusal: CompileRefusal,
+        view: String,
+    },
     /// There is no such object to serve.
     #[error(transparent)]
     NotServed(ServeFault<'a>),
     /// The port can't be listened on, or a connection can't be accepted.
     #[error("socket")]
     Socket,
-    /// No refusal has the number whose meaning is asked for.
-    #[error("no refusal has the number {number}")]
-    NoRefusal { number: u8 },
+    /// No refusal has the number or the name whose meaning is asked for.
+    #[error("no refusal has the {}", Meant(.word))]
+    NoRefusal { word: &'a str },
     /// Standard output can't be written, of which no line tells.
     #[error("cannot write")]
     Unwritten,
@@ -64,7 +93,7 @@ impl<'a> Fault<'a> {
     {
         match self {
             Fault::Refused(refusal) => refused_status(refusal),
-            Fault::NotCompiled(_) | Fault::NotServed(_) => 1,
+            Fault::NotCompiled(_) | Fault::Explained { .. } | Fault::NotServed(_) => 1,
             Fault::Words(_) | Fault::NotText | Fault::NoRefusal { .. } => 2,
             Fault::Socket | Fault::Unwritten => 3,
             Fault::NoMemory => 4,

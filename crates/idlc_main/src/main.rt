@@ -23,6 +23,7 @@ use crate::tasks::done;
 use crate::told::Answer;
 use command_words::{Said, parse};
 use std::alloc::AllocError;
+use std::io::IsTerminal;
 use std::net::Net;
 use std::process::ExitCode;
 use std::rt::Env;
@@ -63,6 +64,40 @@ fn say<O: io::Write, E: io::Write>(out: &mut O, err: &mut E, answer: &Answer) ->
 /// Runs the program on words, of which the first is its name, and gives its status: 0 where it did
 /// what was asked for, 1 for refused input, 2 for usage, 3 for files and standard output, 4 for
 /// want of memory. Standard output has the answer or nothing, where calls are served the line that
+/// says so; a fault is told on standard error, for a
+/// person with all that is known of it.
+fn run_for<R: WholeFiles + Net + AllocGlobal, O: io::Write, E: io::Write>(
+    rt: &R,
+    words: &[&str],
+    out: &mut O,
+    err: &mut E,
+    is_for_person: bool,
+) -> u8
+    ensures range { result ≤ 4 }
+    ensures asked { (ask : Ask) → AsksFor (texts words.now) ask
+        → IsEndOf (R.reads rt.now) ask result (O.contents out.old) (O.contents out.new) }
+    ensures kept { (ask : Ask) → AsksFor (texts words.now) ask → result ≢ 0 → result ≢ 3 → out.new ≡ out.old }
+    ensures mistaken { IsMistaken (texts words.now) → ((result ≡ 2) ⊎ (result ≡ 4)) × (out.new ≡ out.old) }
+    ensures silent { result ≢ 0 → result < 3 → out.new ≡ out.old }
+    ensures memory { result ≡ 4 → MayServe (O.contents out.old) (O.contents out.new) }
+{
+    match parse(rt.alloc(), words) {
+        Ok(Said::Help(text)) => say(out, err, &Answer::plain(text)),
+        Ok(Said::Do(task)) => match done(rt, &task, is_for_person) {
+            Ok(answer) => say(out, err, &answer),
+            Err(fault) => failed(err, &fault),
+        },
+        Ok(Said::Serve(service)) => match served(rt, out, &service) {
+            Ok(()) => DONE,
+            Err(fault) => failed(err, &fault),
+        },
+        Err(mistake) => failed(err, &Fault::from(mistake)),
+    }
+}
+
+/// Runs the program on words, of which the first is its name, and gives its status: 0 where it did
+/// what was asked for, 1 for refused input, 2 for usage, 3 for files and standard output, 4 for
+/// want of memory. Standard output has the answer or nothing, where calls are served the line that
 /// says so; a fault is told on standard error.
 pub fn run<R: WholeFiles + Net + Clock + Eprint + AllocGlobal, O: io::Write, E: io::Write>(
     rt: &R,
@@ -78,18 +113,7 @@ pub fn run<R: WholeFiles + Net + Clock + Eprint + AllocGlobal, O: io::Write, E: 
     ensures silent { result ≢ 0 → result < 3 → out.new ≡ out.old }
     ensures memory { result ≡ 4 → MayServe (O.contents out.old) (O.contents out.new) }
 {
-    match parse(rt.alloc(), words) {
-        Ok(Said::Help(text)) => say(out, err, &Answer::plain(text)),
-        Ok(Said::Do(task)) => match done(rt, &task) {
-            Ok(answer) => say(out, err, &answer),
-            Err(fault) => failed(err, &fault),
-        },
-        Ok(Said::Serve(service)) => match served(rt, out, &service) {
-            Ok(()) => DONE,
-            Err(fault) => failed(err, &fault),
-        },
-        Err(mistake) => failed(err, &Fault::from(mistake)),
-    }
+    run_for(rt, words, out, err, false)
 }
 
 /// Why the program's own words can't be had.
@@ -117,7 +141,10 @@ fn main(rt: HostRuntime) -> ExitCode {
         .map(|word| word.as_str())
         .collect(rt.alloc());
     let status = match texts {
-        Ok(texts) => run(&rt, texts.as_slice(), &mut out, &mut err),
+        Ok(texts) => {
+            let is_for_person = err.is_terminal();
+            run_for(&rt, texts.as_slice(), &mut out, &mut err, is_for_person)
+        }
         Err(_) => failed(&mut err, &Fault::NoMemory),
     };
     ExitCode::from(status)

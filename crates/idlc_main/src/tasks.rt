@@ -1,6 +1,7 @@
 //! What the commands do.
 
-ghost use Rattle.std.specs.Prelude.{◌≡◌, ℕ, IfErr, IfOk, OnOk};
+ghost use Rattle.std.specs.Prelude.{◌≡◌, ℕ, IfErr, IfOk, List, OnOk, Option, None, Some, option_map};
+ghost use Rattle.std.specs.Borrow.{Bor};
 ghost use Rattle.std.specs.String.{string_bytes};
 ghost use Rattle.command_words.specs.Ask.{Explanation, Reference, Value, reference_ask_of, value_ask_of};
 ghost use Rattle.command_words.specs.declared.task.ValueTask.{ValueTask};
@@ -13,8 +14,10 @@ ghost use Rattle.idlc_main.specs.Files.{IsCompiledTo, IsDone};
 use crate::fault::Fault;
 use crate::told::{Answer, Notice};
 use command_words::Task;
-use fault_texts::explanation;
-use idl_compiler::{CompiledFile, compile_file};
+use fault_texts::{explanations, headings};
+use fault_views::view;
+use idl_compiler::{CompileRefusal, CompiledFile, compile_file};
+use std::alloc::Global;
 use table_commands::{
     Refusal, WholeFiles, accepted_of, listing_of, marshal_by, read_file, reference_by, upgrade,
     write_file,
@@ -30,14 +33,24 @@ fn lined<'a>(line: Result<String, Refusal<'a>>) -> Result<Answer, Fault<'a>>
     }
 }
 
-fn explained<'a, R: WholeFiles + AllocGlobal>(rt: &R, number: u8) -> Result<Answer, Fault<'a>>
-    ensures answers { IsAnswer (R.reads rt.now) (Explanation number) result }
+/// The texts of the refusals that a word means.
+fn explained<'a, R: WholeFiles + AllocGlobal>(rt: &R, word: &'a str) -> Result<Answer, Fault<'a>>
+    ensures answers { IsAnswer (R.reads rt.now) (Explanation (Some word.now)) result }
     ensures told { IfErr result IsTold }
 {
-    match explanation(number) {
-        Some(text) => Ok(Answer::plain(String::from_str(rt.alloc(), text)?)),
-        None => Err(Fault::NoRefusal { number }),
+    let texts = explanations(rt.alloc(), word)?;
+    if texts.is_empty() {
+        return Err(Fault::NoRefusal { word });
     }
+    Ok(Answer::plain(texts))
+}
+
+/// The numbers and names of all refusals.
+fn listed<'a, R: WholeFiles + AllocGlobal>(rt: &R) -> Result<Answer, Fault<'a>>
+    ensures answers { IsAnswer (R.reads rt.now) (Explanation None) result }
+    ensures told { IfErr result IsTold }
+{
+    Ok(Answer::plain(headings(rt.alloc())?))
 }
 
 /// Writes the table file of an IDL file. It is handed no other octets.
@@ -54,21 +67,45 @@ fn put_compiled<'a, R: WholeFiles>(
     Ok(write_file(rt, output, file.octets.as_slice())?)
 }
 
+/// The fault of an IDL file, with what else is known of it where there is memory for that.
+fn told_whole<'a>(
+    alloc: Global,
+    name: &str,
+    source: &[u8],
+    refusal: CompileRefusal,
+) -> Fault<'a>
+    ensures { IsTold result }
+{
+    if let CompileRefusal::Fault { .. } = refusal
+        && let Ok(Some(view)) = view(alloc, name, source)
+    {
+        return Fault::Explained { refusal, view };
+    }
+    Fault::from(refusal)
+}
+
 /// The table of an IDL file, in another file; then how many routines it has.
 fn compile<'a, R: WholeFiles + AllocGlobal>(
     rt: &R,
-    source: &'a str,
+    name: &'a str,
     output: &'a str,
+    explains: bool,
 ) -> Result<Answer, Fault<'a>>
     ensures compiled { IfOk result (λ answer.
-        IsCompiledTo (R.reads rt.now) (R.takes rt.now) source.now output.now (string_bytes answer.text)) }
+        IsCompiledTo (R.reads rt.now) (R.takes rt.now) name.now output.now (string_bytes answer.text)) }
     ensures told { IfErr result IsTold }
 {
-    let source = match read_file(rt, source) {
+    let source = match read_file(rt, name) {
         Ok(octets) => octets,
         Err(refusal) => return Err(Fault::from(refusal)),
     };
-    let file = compile_file(rt.alloc(), source.as_slice())?;
+    let file = match compile_file(rt.alloc(), source.as_slice()) {
+        Ok(file) => file,
+        Err(refusal) if explains => {
+            return Err(told_whole(rt.alloc(), name, source.as_slice(), refusal));
+        }
+        Err(refusal) => return Err(Fault::from(refusal)),
+    };
     put_compiled(rt, output, source.as_slice(), &file)?;
     Ok(Answer {
         text: file.line,
@@ -80,14 +117,19 @@ fn compile<'a, R: WholeFiles + AllocGlobal>(
     })
 }
 
-/// Does what is asked for, and gives the text for standard output.
-pub fn done<'a, R: WholeFiles + AllocGlobal>(rt: &R, task: &Task<'a>) -> Result<Answer, Fault<'a>>
+/// Does what is asked for, and gives the text for standard output. For a person a fault of an IDL file
+/// is told with all that is known of it, whatever the words say.
+pub fn done<'a, R: WholeFiles + AllocGlobal>(
+    rt: &R,
+    task: &Task<'a>,
+    is_for_person: bool,
+) -> Result<Answer, Fault<'a>>
     ensures value { (asked : ValueTask) → task.now ≡ Task.Value asked
         → IsAnswer (R.reads rt.now) (Value (value_ask_of asked)) result }
     ensures reference { (asked : ReferenceTask) → task.now ≡ Task.Reference asked
         → IsAnswer (R.reads rt.now) (Reference (reference_ask_of asked)) result }
-    ensures explanation { (number : ℕ) → task.now ≡ Task.Explain number
-        → IsAnswer (R.reads rt.now) (Explanation number) result }
+    ensures explanation { (word : Option (Bor (List ℕ))) → task.now ≡ Task.Explain word
+        → IsAnswer (R.reads rt.now) (Explanation (option_map (λ text. text.now) word)) result }
     ensures tables { IfOk result (λ answer.
         IsDone (R.reads rt.now) (R.takes rt.now) task.now (string_bytes answer.text)) }
     ensures told { IfErr result IsTold }
@@ -95,10 +137,15 @@ pub fn done<'a, R: WholeFiles + AllocGlobal>(rt: &R, task: &Task<'a>) -> Result<
     match task {
         Task::Value(asked) => lined(marshal_by(rt, asked.table, &asked.request)),
         Task::Reference(asked) => lined(reference_by(rt, asked.table, &asked.wanted)),
-        Task::Explain { number } => explained(rt, *number),
+        Task::Explain { word: Some(word) } => explained(rt, word),
+        Task::Explain { word: None } => listed(rt),
         Task::Check { table } => lined(accepted_of(rt, table)),
         Task::Show { table } => lined(listing_of(rt, table)),
         Task::Upgrade { table, output } => lined(upgrade(rt, table, output)),
-        Task::Compile { source, output } => compile(rt, source, output),
+        Task::Compile {
+            source,
+            output,
+            explains,
+        } => compile(rt, source, output, *explains || is_for_person),
     }
 }

@@ -192,12 +192,19 @@ fn refers_and_explains(rt: HostRuntime) {
     let unread = "ior --object P none.table --port 1 --host h";
     refuse(&rt, unread, 3, "cannot read none.table");
     refuse(&rt, "explain 8", 2, "no refusal has the number 8");
+    refuse(&rt, "explain 256", 2, "no refusal has the number 256");
+    refuse(&rt, "explain Limits", 2, "no refusal has the name Limits");
     let text = "54 Trailing\n\
         Octets stand behind the table's end.\n\
         Input, a file of these octets, the empty table and one octet more:\n\
         \x20   49444c540100000000000000000000000000000000000000000000000000\n\
-        To mend it: cut the file off behind the table.\n";
+        To mend it: cut the file off behind the table.\n\
+        Mended, a file of these octets:\n\
+        \x20   49444c5401000000000000000000000000000000000000000000000000\n";
     expect(&rt, "idlc explain 54", 0, text, "");
+    expect(&rt, "idlc explain trailing", 0, text, "");
+    let version = "idlc 0.1.0, rattle-kit-13f\n";
+    expect(&rt, "idlc --version", 0, version, "");
 }
 
 /// The words behind the first, and the fault behind the name of the program.
@@ -230,7 +237,8 @@ fn refuses_other_words(rt: HostRuntime) {
         ("idlc upgrade builtin -o a -o b", false),
         ("idlc ior builtin --host h --port 1", false),
         ("idlc ior builtin --host h --port 65536 --object K=P", false),
-        ("idlc explain 256", false),
+        ("idlc explain 54 55", false),
+        ("idlc compile a.idl -o b.table --explain --explain", false),
         ("idlc compile a.idl", false),
         ("idlc serve builtin --port 1 --object K=P", false),
     ];

@@ -5,5 +5,5 @@ use Rattle.command_words.proofs.commands.explain_command.Goals as goal
 
 pub returns : goal.returns
 returns c =
-    IfOk-weaker c.arg.result _ _ (λ command h. h.shape c.number_word.ensures.local
-    ∙ ap₂ with_rule c.new.ensures.app c.number_word.ensures.rule) c.arg.ensures
+    IfOk-weaker c.arg.result _ _ (λ command h. h.shape c.refusal_word.ensures.local
+    ∙ ap₂ with_rule c.new.ensures.app c.refusal_word.ensures.rule) c.arg.ensures

@@ -38,4 +38,4 @@ returns-in-explain c ask rows command tells =
     let command_is = sym c.in-explain.is ∙ same_some _ _ _ (sym c.in_ok-name.ensures.name) (sym (first_of_pair _ _) ∙ ap (option_map (λ (p : Text × List Row). p.0)) command) in
     let rows_are : rows_of (found_of c.in_ok-name.words.now) ≡ rows =
     let both : Some (rows_of (found_of c.in_ok-name.words.now)) ≡ Some rows = c.in_ok-name.ensures.rows ∙ ap second command in cc in
-    by_explanation ask _ c.explain.result command_is (rw rows_are tells) c.explain.ensures
+    by_explanation ask (rows_of (found_of c.in_ok-name.words.now)) (Some c.explain.result) command_is (rw rows_are tells) (λ word told. c.explain.ensures word told)

@@ -1,7 +1,7 @@
 use Rattle.std.proofs.Common.{◌≡◌}
 use Rattle.idlc_main.proofs.Answers.{answers, same_task}
 use Rattle.idlc_main.proofs.Ends.{ends, ends_said, ends_unread}
-use Rattle.idlc_main.proofs.run.Goals as goal
+use Rattle.idlc_main.proofs.run_for.Goals as goal
 
 pub returns-in-Ok-clause-asked : goal.returns-in-Ok-clause-asked
 returns-in-Ok-clause-asked g c ask asks =

@@ -1,0 +1,4 @@
+pub mod MarkerViews
+pub mod Markers
+pub mod PlaceViews
+pub mod Places
