@@ -1,3 +1,4 @@
 -- What the crate's own code and proofs name, and no public contract does.
 pub mod Writing
+pub mod Slots
 pub mod Reading

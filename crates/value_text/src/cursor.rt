@@ -1,8 +1,9 @@
 //! A text that is being read.
 
 ghost use Rattle.std.specs.Prelude.{◌≡◌, ◌≢◌, [], ◌∷◌, IfSome, IfNone, IfOk, OnOk, MatchOption};
-ghost use Rattle.json.specs.Token.{end_array, end_object, key, bad};
+ghost use Rattle.json.specs.Token.{end_array, end_object, key};
 ghost use Rattle.json.specs.Reads.{token_of};
+ghost use Rattle.value_text.specs.inner.Reading.{Next};
 
 use crate::fault::Wanted;
 use json::{Reader, Token};
@@ -66,7 +67,7 @@ impl<'a> Cursor<'a> {
 
     /// The next token; behind the last there is a bad one.
     pub fn next(&mut self) -> Token<'a>
-        ensures { token_of result ≢ bad → self.old ≡ token_of result ∷ self.new }
+        ensures { Next self.old (token_of result) self.new }
     {
         self.at = self.reader.offset();
         self.reader.next().unwrap_or(Token::Bad)
@@ -86,7 +87,7 @@ impl<'a> Cursor<'a> {
 
     /// The first token of the next element of a list, None at the list's end.
     pub fn next_element(&mut self) -> Option<Token<'a>>
-        ensures some { IfSome result (λ token. token_of token ≢ bad → self.old ≡ token_of token ∷ self.new) }
+        ensures some { IfSome result (λ token. Next self.old (token_of token) self.new × (token_of token ≢ end_array)) }
         ensures none { IfNone result (self.old ≡ end_array ∷ self.new) }
     {
         match self.next() {
@@ -97,7 +98,7 @@ impl<'a> Cursor<'a> {
 
     /// The first token of a part that a list has to have.
     pub fn next_part(&mut self) -> Result<Token<'a>, Stop>
-        ensures { IfOk result (λ token. token_of token ≢ bad → self.old ≡ token_of token ∷ self.new) }
+        ensures { IfOk result (λ token. Next self.old (token_of token) self.new) }
     {
         match self.next() {
             Token::EndArray => Err(self.refuse(Token::EndArray, Wanted::Count)),

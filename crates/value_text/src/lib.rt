@@ -71,7 +71,9 @@ fn read_whole(
     alloc: Global,
     types: &Sought<'_>,
     node: u32,
-) -> Result<Value, Stop> {
+) -> Result<Value, Stop>
+    ensures { IfOk result (λ value. StandsFor types.now.names.now types.now.graph.now node (tree_of value) cursor.old) }
+{
     let token = cursor.next();
     let value = read_value(cursor, token, alloc, types, node, MAX_DEPTH)?;
     cursor.end()?;

@@ -1,14 +1,14 @@
 //! The values of texts.
 
-ghost use Rattle.std.specs.Prelude.{◌≡◌, ◌≤◌, ◌↔◌, ◌∷◌, ℕ, ℤ, List, length, replicate, IfOk, IsTrue};
+ghost use Rattle.std.specs.Prelude.{◌≡◌, ◌<◌, ◌≤◌, ◌↔◌, [], ◌∷◌, ℕ, ℤ, List, Some, None, length, map, replicate, slice_get, slice_set, option_to_list, IfOk, OnOk, IsTrue};
 ghost use Rattle.type_graph.specs.declared.node.Node.TheVariants.{Union};
 ghost use Rattle.type_graph.specs.Value.{Trees, Number, Items, node_at, IsCount, IsNumber};
-ghost use Rattle.idl_value.specs.View.{tree_of, trees_of};
-ghost use Rattle.json.specs.Token.{Token as SpecToken};
+ghost use Rattle.idl_value.specs.View.{tree_of, trees_of, member_of};
+ghost use Rattle.json.specs.Token.{Token as SpecToken, string};
 ghost use Rattle.json.specs.Reads.{token_of};
 ghost use Rattle.part_names.specs.Names.{names_at};
-ghost use Rattle.value_text.specs.Says.{SaysNumber};
-ghost use Rattle.value_text.specs.inner.Reading.{Reads, ReadsAs, ReadsElements, ReadsList, ReadsMembers, ReadsObject};
+ghost use Rattle.value_text.specs.Says.{SaysNumber, SaysTogether};
+ghost use Rattle.value_text.specs.inner.Reading.{IsOctets, Reads, ReadsAs, ReadsItems, ReadsElements, ReadsParts, ReadsList, ReadsMembers, ReadsObject};
 
 use crate::cursor::{Cursor, Stop};
 use crate::fault::Wanted;
@@ -16,7 +16,7 @@ use crate::lookup::Lookup;
 use crate::words::{read_chars, read_number, read_octets, read_text};
 use idl_value::Value;
 use json::Token;
-use part_names::PartNames;
+use part_names::{NodeNames, PartNames};
 use std::alloc::{AllocError, Global};
 use type_graph::{Arms, Graph, Node};
 
@@ -127,7 +127,7 @@ fn read_whole(
     Ok(Value::Integer(n))
 }
 
-/// The elements of a sequence or an array: together, or as a list.
+/// The elements of a sequence or an array, as many as there have to be.
 #[cycle(reading)]
 fn read_elements(
     cursor: &mut Cursor<'_>,
@@ -140,16 +140,49 @@ fn read_elements(
 ) -> Result<Value, Stop>
     ensures { IfOk result (λ value. (values : Trees) × (tree_of value ≡ Items values) × ReadsElements types.now.names.now types.now.graph.now elem counts.least counts.most depth (token_of token.entry) cursor.old values cursor.new) }
 {
-    let values = match (types.graph.nodes().get(elem as usize), token) {
-        (Some(Node::Octet), Token::String(digits)) => read_octets(cursor, token, alloc, digits)?,
-        (Some(Node::Char), Token::String(text)) => read_chars(cursor, token, alloc, text)?,
-        (_, Token::BeginArray) => read_list(cursor, alloc, types, elem, counts.most, depth)?,
-        _ => return Err(cursor.refuse(token, Wanted::List)),
-    };
+    let values = read_items(cursor, token, alloc, types, elem, counts.most, depth)?;
     if !counts.allow(values.len()) {
         return Err(cursor.refuse(token, Wanted::Count));
     }
     Ok(Value::Items(values))
+}
+
+/// Elements together, or as a list; those over the most are refused at once.
+#[cycle(reading)]
+fn read_items(
+    cursor: &mut Cursor<'_>,
+    token: Token<'_>,
+    alloc: Global,
+    types: &Sought<'_>,
+    elem: u32,
+    most: usize,
+    depth: u32,
+) -> Result<Vec<Value>, Stop>
+    ensures { IfOk result (λ values. ReadsItems types.now.names.now types.now.graph.now elem depth (token_of token.entry) cursor.old (trees_of values.items) cursor.new) }
+{
+    match token {
+        Token::BeginArray => read_list(cursor, alloc, types, elem, most, depth),
+        Token::String(text) => read_together(cursor, token, alloc, types, elem, text),
+        _ => Err(cursor.refuse(token, Wanted::List)),
+    }
+}
+
+/// Octets by their digits, characters by a string.
+fn read_together(
+    cursor: &Cursor<'_>,
+    token: Token<'_>,
+    alloc: Global,
+    types: &Sought<'_>,
+    elem: u32,
+    text: &str,
+) -> Result<Vec<Value>, Stop>
+    ensures { IfOk result (λ values. (octets : List ℕ) × SaysTogether (node_at types.now.graph.now elem) octets (string text.now ∷ []) × IsOctets octets values.items) }
+{
+    match types.graph.nodes().get(elem as usize) {
+        Some(Node::Octet) => read_octets(cursor, token, alloc, text),
+        Some(Node::Char) => read_chars(cursor, token, alloc, text),
+        _ => Err(cursor.refuse(token, Wanted::List)),
+    }
 }
 
 /// The elements of a list that is open, and its end; those over the most are refused at once.
@@ -189,14 +222,17 @@ fn read_members(
     ensures { IfOk result (λ value. (values : Trees) × (tree_of value ≡ Items values) × ReadsMembers types.now.names.now types.now.graph.now (names_at types.now.names.now number) members.now depth (token_of token.entry) cursor.old values cursor.new) }
 {
     let are_named = types.names.of(number).len() == members.len();
-    let values = match token {
+    match token {
         Token::BeginObject if are_named => {
-            read_object(cursor, alloc, types, number, members, depth)?
+            let values = read_object(cursor, alloc, types, number, members, depth)?;
+            Ok(Value::Items(values))
         }
-        Token::BeginArray => read_row(cursor, alloc, types, members, depth)?,
-        _ => return Err(cursor.refuse(token, Wanted::Members)),
-    };
-    Ok(Value::Items(values))
+        Token::BeginArray => {
+            let values = read_row(cursor, alloc, types, members, depth)?;
+            Ok(Value::Items(values))
+        }
+        _ => Err(cursor.refuse(token, Wanted::Members)),
+    }
 }
 
 /// The members of a list that is open, and its end.
@@ -219,7 +255,10 @@ fn read_row(
     Ok(values)
 }
 
-fn empty_slots(alloc: Global, count: usize) -> Result<Vec<Option<Value>>, AllocError> {
+/// A place for each member, none filled yet.
+fn empty_slots(alloc: Global, count: usize) -> Result<Vec<Option<Value>>, AllocError>
+    ensures { IfOk result (λ slots. slots.items ≡ replicate count None) }
+{
     let mut slots = Vec::with_capacity(alloc, count)?;
     for _ in 0..count {
         slots.push(None)?;
@@ -240,37 +279,56 @@ fn read_object(
     ensures { IfOk result (λ values. ReadsObject types.now.names.now types.now.graph.now (names_at types.now.names.now number) members.now depth cursor.old (trees_of values.items) cursor.new) }
 {
     let mut slots = empty_slots(alloc, members.len())?;
-    while let Some(label) = cursor.next_key()? {
-        let place = types.lookup.place_of(types.names.of(number), number, label);
-        read_slot(cursor, alloc, types, members, &mut slots, place, depth)?;
+    'each: while let Some(label) = cursor.next_key()? {
+        let labels = types.names.of(number);
+        let place = place_of(cursor, types.lookup, labels, number, label)?;
+        let member = free_member(cursor, members, &slots, place)?;
+        let token = cursor.next();
+        let value = read_value(cursor, token, alloc, types, member, depth)?;
+        fill(&mut slots, place, value);
     }
     values_of_slots(cursor, alloc, slots)
 }
 
-/// The member at a place, which has to be free.
-#[cycle(reading)]
-fn read_slot(
-    cursor: &mut Cursor<'_>,
-    alloc: Global,
-    types: &Sought<'_>,
-    members: &[u32],
-    slots: &mut [Option<Value>],
-    place: Option<u32>,
-    depth: u32,
-) -> Result<(), Stop> {
-    let Some(place) = place else {
-        return Err(cursor.refuse(Token::EndObject, Wanted::Member));
-    };
-    let (Some(member), Some(slot)) = (members.get(place as usize), slots.get_mut(place as usize))
-    else {
-        return Err(cursor.refuse(Token::EndObject, Wanted::Member));
-    };
-    if slot.is_some() {
-        return Err(cursor.refuse(Token::EndObject, Wanted::OtherMember));
+/// The place of the member of this name.
+fn place_of(
+    cursor: &Cursor<'_>,
+    lookup: &Lookup,
+    labels: &NodeNames,
+    number: u32,
+    label: &str,
+) -> Result<usize, Stop>
+    ensures { IfOk result (λ place. slice_get labels.now place ≡ Some label.now) }
+{
+    match lookup.place_of(labels, number, label) {
+        Some(place) => Ok(place as usize),
+        None => Err(cursor.refuse(Token::EndObject, Wanted::Member)),
     }
-    let token = cursor.next();
-    *slot = Some(read_value(cursor, token, alloc, types, *member, depth)?);
-    Ok(())
+}
+
+/// The member at a place, which has to be free.
+fn free_member(
+    cursor: &Cursor<'_>,
+    members: &[u32],
+    slots: &[Option<Value>],
+    place: usize,
+) -> Result<u32, Stop>
+    ensures member { IfOk result (λ member. slice_get members.now place ≡ Some member) }
+    ensures free { OnOk result (slice_get slots.now place ≡ Some None) }
+{
+    match (members.get(place), slots.get(place)) {
+        (Some(member), Some(None)) => Ok(*member),
+        (Some(_), Some(Some(_))) => Err(cursor.refuse(Token::EndObject, Wanted::OtherMember)),
+        _ => Err(cursor.refuse(Token::EndObject, Wanted::Member)),
+    }
+}
+
+/// Puts a value at a place.
+fn fill(slots: &mut Vec<Option<Value>>, place: usize, value: Value)
+    requires { place < length slots.old.items }
+    ensures { slots.new.items ≡ slice_set slots.old.items place (Some value) }
+{
+    slots[place] = Some(value);
 }
 
 /// The members in order, if each is there.
@@ -278,13 +336,15 @@ fn values_of_slots(
     cursor: &Cursor<'_>,
     alloc: Global,
     slots: Vec<Option<Value>>,
-) -> Result<Vec<Value>, Stop> {
+) -> Result<Vec<Value>, Stop>
+    ensures { IfOk result (λ values. slots.items ≡ map Some values.items) }
+{
     let mut values = Vec::with_capacity(alloc, slots.len())?;
     for slot in slots {
-        match slot {
-            Some(value) => values.push(value)?,
-            None => return Err(cursor.refuse(Token::EndObject, Wanted::AllMembers)),
-        }
+        let Some(value) = slot else {
+            return Err(cursor.refuse(Token::EndObject, Wanted::AllMembers));
+        };
+        values.push(value)?;
     }
     Ok(values)
 }
@@ -307,16 +367,30 @@ fn read_choice(
         return Err(cursor.refuse(token, Wanted::List));
     };
     let disc = read_label(cursor, alloc, types, switch)?;
-    let member = match arms.chosen(default, disc) {
-        Some(number) => {
-            let token = cursor.next_part()?;
-            let value = read_value(cursor, token, alloc, types, number, depth)?;
-            Some(Box::new(alloc, value)?)
-        }
-        None => None,
-    };
+    let chosen = arms.chosen(default, disc);
+    let member = read_chosen(cursor, alloc, types, chosen, depth)?;
     cursor.end_list()?;
     Ok(Value::Choice { disc, member })
+}
+
+/// The member of a union, if its label chooses one.
+#[cycle(reading)]
+fn read_chosen(
+    cursor: &mut Cursor<'_>,
+    alloc: Global,
+    types: &Sought<'_>,
+    chosen: Option<u32>,
+    depth: u32,
+) -> Result<Option<Box<Value>>, Stop>
+    ensures { IfOk result (λ member. ReadsParts types.now.names.now types.now.graph.now (option_to_list chosen) depth cursor.old (member_of member) cursor.new) }
+{
+    let Some(number) = chosen else {
+        return Ok(None);
+    };
+    let token = cursor.next_part()?;
+    let value = read_value(cursor, token, alloc, types, number, depth)?;
+    let member = Box::new(alloc, value)?;
+    Ok(Some(member))
 }
 
 /// The label of a union, with which its list begins.
