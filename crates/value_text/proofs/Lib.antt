@@ -7,3 +7,4 @@ pub mod Slots
 pub mod ReadLaws
 pub mod OneNumber
 pub mod OneObject
+pub mod OneValue

@@ -3,12 +3,14 @@ use Rattle.std.proofs.Common.{◌≡◌, ◌≢◌, ◌⊎◌, inl, inr, ℕ, ze
 use Rattle.std.specs.Prelude.{decimal, nat_lt, if◌then◌else◌, bytes_eq}
 use Rattle.std.specs.List.{AllByRecursion}
 use Rattle.std.specs.Fmt.{signed_decimal}
+use Rattle.std.specs.Char.{to_ascii_lowercase}
 use Rattle.std.proofs.lemmas.Bool.{false≢true, lt-ltb}
 use Rattle.std.proofs.lemmas.Fmt.{decimal_is_IsNumeral_wide}
 use Rattle.std.proofs.lemmas.Str.Parse.{digit_at}
 use Rattle.std.proofs.lemmas.Str.{encodes_same}
 use Rattle.std.proofs.lemmas.Slice.Eq.{bytes_eq-Decides}
 use Rattle.std.proofs.lemmas.Option.{same_Some}
+use Rattle.std.proofs.lemmas.Map.Keys.{IsDistinct-head, IsDistinct-tail}
 use Rattle.std.specs.Str.Parse.{digits_value}
 use lib.Signed.{mag}
 use Rattle.json.specs.Token.{Token, string, number, boolean, key}
@@ -49,18 +51,18 @@ not_minus m n low e =
     let digit = digit_at (decimal m) 0 (decimal_is_IsNumeral_wide m low).0.1 (omega (arith, long)) in
     omega (arith, digit.0, first)
 
-digits_one : (m n : ℤ) → mag m < 10 ^ 64 → mag n < 10 ^ 64 → signed_decimal m ≡ signed_decimal n → m ≡ n
-digits_one (pos m) (pos n) low also e = ap pos (decimal_one m n low also e)
-digits_one (pos m) (negsuc n) low also e = absurd (not_minus m n low e)
-digits_one (negsuc m) (pos n) low also e = absurd (not_minus n m also (sym e))
-digits_one (negsuc m) (negsuc n) low also e = let same = decimal_one (suc m) (suc n) low also (ap (drop 1) e) in ap negsuc (omega (arith, same))
+digits_one : (m n : ℤ) → mag m < 2 ^ 128 → mag n < 2 ^ 128 → signed_decimal m ≡ signed_decimal n → m ≡ n
+digits_one (pos m) (pos n) low also e = ap pos (decimal_one m n (omega arith) (omega arith) e)
+digits_one (pos m) (negsuc n) low also e = absurd (not_minus m n (omega arith) e)
+digits_one (negsuc m) (pos n) low also e = absurd (not_minus n m (omega arith) (sym e))
+digits_one (negsuc m) (negsuc n) low also e = let same = decimal_one (suc m) (suc n) (omega arith) (omega arith) (ap (drop 1) e) in ap negsuc (omega (arith, same))
 
 -- an enumeration isn't too long
 abbrev pub IsLow : Node → Type 0
 IsLow (Enum limit) = limit ≤ 65536
 IsLow node = Unit {0}
 
-is_short : (node : Node) (n : ℤ) → IsLow node → IsNumber node n → mag n < 10 ^ 64
+is_short : (node : Node) (n : ℤ) → IsLow node → IsNumber node n → mag n < 2 ^ 128
 is_short (Integer One true) (pos n) low h = omega (arith, h)
 is_short (Integer Two true) (pos n) low h = omega (arith, h)
 is_short (Integer Four true) (pos n) low h = omega (arith, h)
@@ -85,8 +87,8 @@ is_short (Enum limit) (negsuc n) low h = absurd h
 is_short node n low h = absurd h
 
 -- a name stands at one place
-same_itself : (name : List ℕ) → same_but_for_case name name ≡ true
-same_itself name = (bytes_eq-Decides _ _).1 refl
+pub same_itself : (name : List ℕ) → same_but_for_case name name ≡ true
+same_itself name = (bytes_eq-Decides (map to_ascii_lowercase name) (map to_ascii_lowercase name)).1 refl
 
 all_at : {X : Type 0} (P : X → Type 0) (xs : List X) (i : ℕ) (x : X) → AllByRecursion P xs → slice_get xs i ≡ Some x → P x
 all_at P [] i x h e = absurd (subst none_there e tt)
@@ -106,9 +108,9 @@ two_places first names i name h e f =
 pub one_place : (names : List (List ℕ)) (i j : ℕ) (name : List ℕ) → AreApart names → slice_get names i ≡ Some name → slice_get names j ≡ Some name → i ≡ j
 one_place [] i j name apart e f = absurd (all_at (λ x. ⊥) [] i name tt e)
 one_place (first ∷ names) zero zero name apart e f = refl
-one_place (first ∷ names) zero (suc j) name apart e f = absurd (two_places first names j name apart.0 e f)
-one_place (first ∷ names) (suc i) zero name apart e f = absurd (two_places first names i name apart.0 f e)
-one_place (first ∷ names) (suc i) (suc j) name apart e f = ap suc (one_place names i j name apart.1 e f)
+one_place (first ∷ names) zero (suc j) name apart e f = absurd (two_places first names j name (IsDistinct-head same_but_for_case first names apart) e f)
+one_place (first ∷ names) (suc i) zero name apart e f = absurd (two_places first names i name (IsDistinct-head same_but_for_case first names apart) f e)
+one_place (first ∷ names) (suc i) (suc j) name apart e f = ap suc (one_place names i j name (IsDistinct-tail same_but_for_case first names apart) e f)
 
 label_one : (labels : List (List ℕ)) (m n : ℤ) (label : List ℕ) → AreApart labels → label_of labels m ≡ Some label → label_of labels n ≡ Some label → m ≡ n
 label_one labels (pos m) (pos n) label apart e f = ap pos (one_place labels m n label apart e f)

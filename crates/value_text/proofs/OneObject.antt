@@ -4,6 +4,7 @@ use Rattle.std.specs.Prelude.{IsPermutation}
 use Rattle.std.specs.List.{AllByRecursion}
 use Rattle.std.proofs.lemmas.Bool.{false≢true}
 use Rattle.std.proofs.lemmas.List.Sorted.{IsPermutation-sym, All-permutation}
+use Rattle.std.proofs.lemmas.Map.Keys.{IsDistinct-head, IsDistinct-tail}
 use Rattle.std.proofs.lemmas.List.Elements.{All-from_recursion, recursion_from_All}
 use Rattle.json.specs.Token.{Token, key, end_object, bad}
 use Rattle.idl_lexer.specs.Words.{same_but_for_case}
@@ -61,20 +62,18 @@ second_of part = (part.label, part.second)
 abbrev pub IsSame : Part → Type 0
 IsSame part = part.value ≡ part.other
 
+elsewhere : (p : Part) (parts : List Part) (b : Part) → AllByRecursion (λ name. same_but_for_case p.label name ≡ false) (map label_of_part parts) → In b parts → p.label ≡ b.label → ⊥
+elsewhere p parts b apart j e =
+    false≢true (sym (in_all label_of_part (λ name. same_but_for_case p.label name ≡ false) parts b apart j) ∙ ap (λ l. same_but_for_case l b.label) e ∙ same_itself b.label)
+
 distinct : (parts : List Part) → AreApart (map label_of_part parts) → (a b : Part) → In a parts → In b parts → a.label ≡ b.label → a ≡ b
 distinct [] apart a b i j e = absurd i
 distinct (p ∷ parts) apart a b (inl h) (inl k) e = h ∙ sym k
-distinct (p ∷ parts) apart a b (inl h) (inr j) e = absurd (elsewhere p parts b apart.0 j (ap label_of_part (sym h) ∙ e))
-  where
-    elsewhere : (p : Part) (parts : List Part) (b : Part) → AllByRecursion (λ name. same_but_for_case p.label name ≡ false) (map label_of_part parts) → In b parts → p.label ≡ b.label → ⊥
-    elsewhere p parts b apart j e =
-        false≢true (sym (in_all label_of_part (λ name. same_but_for_case p.label name ≡ false) parts b apart j) ∙ ap (λ l. same_but_for_case l b.label) e ∙ same_itself b.label)
-distinct (p ∷ parts) apart a b (inr i) (inl k) e = absurd (elsewhere p parts a apart.0 i (ap label_of_part (sym k) ∙ sym e))
-  where
-    elsewhere : (p : Part) (parts : List Part) (b : Part) → AllByRecursion (λ name. same_but_for_case p.label name ≡ false) (map label_of_part parts) → In b parts → p.label ≡ b.label → ⊥
-    elsewhere p parts b apart j e =
-        false≢true (sym (in_all label_of_part (λ name. same_but_for_case p.label name ≡ false) parts b apart j) ∙ ap (λ l. same_but_for_case l b.label) e ∙ same_itself b.label)
-distinct (p ∷ parts) apart a b (inr i) (inr j) e = distinct parts apart.1 a b i j e
+distinct (p ∷ parts) apart a b (inl h) (inr j) e =
+    absurd (elsewhere p parts b (IsDistinct-head same_but_for_case p.label (map label_of_part parts) apart) j (ap label_of_part (sym h) ∙ e))
+distinct (p ∷ parts) apart a b (inr i) (inl k) e =
+    absurd (elsewhere p parts a (IsDistinct-head same_but_for_case p.label (map label_of_part parts) apart) i (ap label_of_part (sym k) ∙ sym e))
+distinct (p ∷ parts) apart a b (inr i) (inr j) e = distinct parts (IsDistinct-tail same_but_for_case p.label (map label_of_part parts) apart) a b i j e
 
 module _ (all : List Part) (apart : AreApart (map label_of_part all)) where
   -- a pair is that of one of the parts

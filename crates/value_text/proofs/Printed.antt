@@ -44,7 +44,7 @@ are_octets (AndTree value more) zero = an_octet value
 are_octets (AndTree value more) (suc i) = are_octets more i
 
 -- so many elements are as many
-fit_count : (graph : List Node) (n elem depth : ℕ) (values : Trees) → FitAll graph (replicate n elem) values depth → count values ≡ n
+pub fit_count : (graph : List Node) (n elem depth : ℕ) (values : Trees) → FitAll graph (replicate n elem) values depth → count values ≡ n
 fit_count graph zero elem depth NoTree h = refl
 fit_count graph zero elem depth (AndTree value more) h = absurd h
 fit_count graph (suc n) elem depth NoTree h = absurd h
