@@ -141,7 +141,12 @@ by_digits node m n token low h k e f = digits_one m n (is_short node m low h) (i
 not_both : (n : ℤ) (label : List ℕ) (token : Token) → token ≡ digits n → token ≡ string label → ⊥
 not_both n label token e f = subst Is_string (sym f ∙ e) tt
 
-pub number_one : (labels : List (List ℕ)) (node : Node) (m n : ℤ) (token : Token) → IsLow node → AreApart labels → IsNumber node m → IsNumber node n
+-- no two names of the node are equal; an octet's names mean nothing
+abbrev pub IsNamed : Node → List (List ℕ) → Type 0
+IsNamed Octet labels = Unit {0}
+IsNamed node labels = AreApart labels
+
+pub number_one : (labels : List (List ℕ)) (node : Node) (m n : ℤ) (token : Token) → IsLow node → IsNamed node labels → IsNumber node m → IsNumber node n
     → SaysNumber labels node m token → SaysNumber labels node n token → m ≡ n
 number_one labels Boolean m n token low apart h k e f = truth_one m n h k (ap truth_in (sym e ∙ f))
 number_one labels Char m n token low apart h k e f =

