@@ -18,8 +18,6 @@ mod place;
 mod printing;
 mod reading;
 mod scalars;
-#[cfg(test)]
-mod tests;
 mod words;
 
 use crate::cursor::{Cursor, Stop};
