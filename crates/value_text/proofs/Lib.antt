@@ -8,3 +8,4 @@ pub mod ReadLaws
 pub mod OneNumber
 pub mod OneObject
 pub mod OneValue
+pub mod Refusals

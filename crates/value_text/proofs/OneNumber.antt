@@ -24,6 +24,7 @@ use Rattle.type_graph.specs.Value.{IsNumber}
 use Rattle.value_text.specs.Pieces.{characters, digits, octet_of}
 use Rattle.value_text.specs.Texts.{truth_of, label_of}
 use Rattle.value_text.specs.Says.{SaysNumber}
+use Rattle.value_text.specs.inner.Refusing.{IsShort, IsLow, IsNamed}
 
 -- what a token has
 abbrev pub text_in : Token → List ℕ
@@ -51,18 +52,17 @@ not_minus m n low e =
     let digit = digit_at (decimal m) 0 (decimal_is_IsNumeral_wide m low).0.1 (omega (arith, long)) in
     omega (arith, digit.0, first)
 
-digits_one : (m n : ℤ) → mag m < 2 ^ 128 → mag n < 2 ^ 128 → signed_decimal m ≡ signed_decimal n → m ≡ n
+pub digits_one : (m n : ℤ) → mag m < 2 ^ 128 → mag n < 2 ^ 128 → signed_decimal m ≡ signed_decimal n → m ≡ n
 digits_one (pos m) (pos n) low also e = ap pos (decimal_one m n (omega arith) (omega arith) e)
 digits_one (pos m) (negsuc n) low also e = absurd (not_minus m n (omega arith) e)
 digits_one (negsuc m) (pos n) low also e = absurd (not_minus n m (omega arith) (sym e))
 digits_one (negsuc m) (negsuc n) low also e = let same = decimal_one (suc m) (suc n) (omega arith) (omega arith) (ap (drop 1) e) in ap negsuc (omega (arith, same))
 
--- an enumeration isn't too long
-abbrev pub IsLow : Node → Type 0
-IsLow (Enum limit) = limit ≤ 65536
-IsLow node = Unit {0}
+pub is_wide : (n : ℤ) → IsShort n → mag n < 2 ^ 128
+is_wide (pos n) h = omega arith
+is_wide (negsuc n) h = omega arith
 
-is_short : (node : Node) (n : ℤ) → IsLow node → IsNumber node n → mag n < 2 ^ 128
+pub is_short : (node : Node) (n : ℤ) → IsLow node → IsNumber node n → IsShort n
 is_short (Integer One true) (pos n) low h = omega (arith, h)
 is_short (Integer Two true) (pos n) low h = omega (arith, h)
 is_short (Integer Four true) (pos n) low h = omega (arith, h)
@@ -90,7 +90,7 @@ is_short node n low h = absurd h
 pub same_itself : (name : List ℕ) → same_but_for_case name name ≡ true
 same_itself name = (bytes_eq-Decides (map to_ascii_lowercase name) (map to_ascii_lowercase name)).1 refl
 
-all_at : {X : Type 0} (P : X → Type 0) (xs : List X) (i : ℕ) (x : X) → AllByRecursion P xs → slice_get xs i ≡ Some x → P x
+pub all_at : {X : Type 0} (P : X → Type 0) (xs : List X) (i : ℕ) (x : X) → AllByRecursion P xs → slice_get xs i ≡ Some x → P x
 all_at P [] i x h e = absurd (subst none_there e tt)
   where
     none_there : {X : Type 0} → Option X → Type 0
@@ -112,16 +112,20 @@ one_place (first ∷ names) zero (suc j) name apart e f = absurd (two_places fir
 one_place (first ∷ names) (suc i) zero name apart e f = absurd (two_places first names i name (IsDistinct-head same_but_for_case first names apart) f e)
 one_place (first ∷ names) (suc i) (suc j) name apart e f = ap suc (one_place names i j name (IsDistinct-tail same_but_for_case first names apart) e f)
 
-label_one : (labels : List (List ℕ)) (m n : ℤ) (label : List ℕ) → AreApart labels → label_of labels m ≡ Some label → label_of labels n ≡ Some label → m ≡ n
+pub label_one : (labels : List (List ℕ)) (m n : ℤ) (label : List ℕ) → AreApart labels → label_of labels m ≡ Some label → label_of labels n ≡ Some label → m ≡ n
 label_one labels (pos m) (pos n) label apart e f = ap pos (one_place labels m n label apart e f)
 label_one labels (negsuc m) n label apart e f = absurd (all_at (λ x. ⊥) [] 0 label tt e)
 label_one labels (pos m) (negsuc n) label apart e f = absurd (all_at (λ x. ⊥) [] 0 label tt f)
 
 -- an octet is itself
-octet_is : (n : ℕ) → n < 256 → octet_of (pos n) ≡ n
+pub octet_is : (n : ℕ) → n < 256 → octet_of (pos n) ≡ n
 octet_is n low = ap (λ b. if b then n else 0) (lt-ltb n 256 low)
 
-truth_one : (m n : ℤ) → IsNumber Boolean m → IsNumber Boolean n → truth_of m ≡ truth_of n → m ≡ n
+pub octet_low : (n : ℤ) → IsNumber Char n → octet_of n < 256
+octet_low (pos n) low = let same = octet_is n low in omega (arith, low, same)
+octet_low (negsuc n) low = absurd low
+
+pub truth_one : (m n : ℤ) → IsNumber Boolean m → IsNumber Boolean n → truth_of m ≡ truth_of n → m ≡ n
 truth_one (pos zero) (pos zero) low also e = refl
 truth_one (pos zero) (pos (suc n)) low also e = absurd (false≢true e)
 truth_one (pos (suc m)) (pos zero) low also e = absurd (false≢true (sym e))
@@ -136,15 +140,10 @@ char_one (pos m) (negsuc n) low also e = absurd also
 
 -- by digits
 by_digits : (node : Node) (m n : ℤ) (token : Token) → IsLow node → IsNumber node m → IsNumber node n → token ≡ digits m → token ≡ digits n → m ≡ n
-by_digits node m n token low h k e f = digits_one m n (is_short node m low h) (is_short node n low k) (ap text_in (sym e ∙ f))
+by_digits node m n token low h k e f = digits_one m n (is_wide m (is_short node m low h)) (is_wide n (is_short node n low k)) (ap text_in (sym e ∙ f))
 
 not_both : (n : ℤ) (label : List ℕ) (token : Token) → token ≡ digits n → token ≡ string label → ⊥
 not_both n label token e f = subst Is_string (sym f ∙ e) tt
-
--- no two names of the node are equal; an octet's names mean nothing
-abbrev pub IsNamed : Node → List (List ℕ) → Type 0
-IsNamed Octet labels = Unit {0}
-IsNamed node labels = AreApart labels
 
 pub number_one : (labels : List (List ℕ)) (node : Node) (m n : ℤ) (token : Token) → IsLow node → IsNamed node labels → IsNumber node m → IsNumber node n
     → SaysNumber labels node m token → SaysNumber labels node n token → m ≡ n

@@ -14,10 +14,11 @@ use Rattle.type_graph.specs.Value.{Tree, Number, Bytes, Items, Choice, Trees, No
 use Rattle.type_graph.specs.GraphRules.{IsNode, IsGraph}
 use Rattle.value_text.specs.Pieces.{octets_of, joined, paired}
 use Rattle.value_text.specs.Says.{SaysNumber, SaysTogether, IsObject, IsList, Says, SayAll, StandsFor}
+use Rattle.value_text.specs.inner.Refusing.{IsLow, IsNamed, AreSound}
 use Rattle.value_text.proofs.Printed.{fit_count}
 use Rattle.value_text.proofs.Firsts.{IsFirst, says_begun}
 use Rattle.value_text.proofs.ReadLaws.{IsByte, together_byte}
-use Rattle.value_text.proofs.OneNumber.{text_in, IsLow, IsNamed, number_one, char_one}
+use Rattle.value_text.proofs.OneNumber.{text_in, number_one, char_one}
 use Rattle.value_text.proofs.OneObject.{first_of_tokens, Part, label_of_part, pair_of, second_of, IsSame, objects_one}
 
 -- the octets of a result
@@ -120,7 +121,7 @@ module _ (names : List (List (List ℕ))) (graph : List Node) where
   are_bytes elem (suc n) depth (AndTree v vs) is_byte h = byte_fits (node_at graph elem) v vs depth is_byte h.0 (are_bytes elem n depth vs is_byte h.1)
 
   -- no text begins with the end of a list
-  not_end : (labels : List (List ℕ)) (node : Node) (w : Tree) (u r s : List Token) → Says names graph labels node w u → end_array ∷ r ≡ u ++ s → ⊥
+  pub not_end : (labels : List (List ℕ)) (node : Node) (w : Tree) (u r s : List Token) → Says names graph labels node w u → end_array ∷ r ≡ u ++ s → ⊥
   not_end labels node w u r s h e =
       let begun = says_begun names graph labels node w u h in
       subst IsFirst (sym (ap first_of_tokens (e ∙ ap (λ l. l ++ s) begun.is))) begun.first
@@ -172,7 +173,7 @@ module _ (names : List (List (List ℕ))) (graph : List Node) where
         let rest = elements_one elem depth other vs ws ts us r s one.1 f.1 g.1 h.1 k.1 first.1 in
         (ap₂ AndTree first.0 rest.0, rest.1)
 
-    together_or_list : (elem depth other : ℕ) (vs ws : Trees) (t u r s : List Token) → AreOne vs
+    pub together_or_list : (elem depth other : ℕ) (vs ws : Trees) (t u r s : List Token) → AreOne vs
         → FitAll graph (replicate (count vs) elem) vs depth → FitAll graph (replicate (count ws) elem) ws other
         → Elements elem (count vs) vs t → Elements elem (count ws) ws u → t ++ r ≡ u ++ s → (vs ≡ ws) × (r ≡ s)
     together_or_list elem depth other vs ws t u r s one f g (inl h) (inl k) e =

@@ -34,6 +34,9 @@ abbrev Is_none : {X : Type 0} → Option X → Type 0
 Is_none None = Unit {0}
 Is_none (Some x) = ⊥
 
+pub not_none : {X : Type 0} (o : Option X) (x : X) → o ≡ None → o ≡ Some x → ⊥
+not_none o x e f = subst Is_none (sym e ∙ f) tt
+
 -- one copy more
 pub one_more : (n number : ℕ) → replicate n number ++ number ∷ [] ≡ replicate (n + 1) number
 one_more zero number = refl

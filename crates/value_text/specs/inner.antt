@@ -2,3 +2,4 @@
 pub mod Writing
 pub mod Slots
 pub mod Reading
+pub mod Refusing

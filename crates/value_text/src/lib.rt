@@ -92,7 +92,7 @@ pub fn read(
     requires { node < length graph.now }
     ensures { IfOk result (λ value. StandsFor names.now graph.now node (tree_of value) (tokens text.now)) }
 {
-    let lookup = Lookup::new(alloc, names, graph.nodes().len())?;
+    let lookup = Lookup::new(alloc, names, graph.nodes().len() as u32)?;
     let mut scratch = Scratch::new(alloc);
     let mut cursor = Cursor::new(Reader::new(text, &mut scratch)?);
     let types = Sought {

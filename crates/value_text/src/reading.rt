@@ -1,6 +1,6 @@
 //! The values of texts.
 
-ghost use Rattle.std.specs.Prelude.{◌≡◌, ◌<◌, ◌≤◌, ◌↔◌, [], ◌∷◌, ℕ, ℤ, List, Some, None, length, map, replicate, slice_get, slice_set, option_to_list, IfOk, OnOk, IsTrue};
+ghost use Rattle.std.specs.Prelude.{◌≡◌, ◌<◌, ◌≤◌, ◌↔◌, [], ◌∷◌, ℕ, ℤ, List, Some, None, length, map, replicate, slice_get, slice_set, option_to_list, IfOk, OnOk, OnErr, IsTrue};
 ghost use Rattle.type_graph.specs.declared.node.Node.TheVariants.{Union};
 ghost use Rattle.type_graph.specs.Value.{Trees, Number, Items, node_at, IsCount, IsNumber};
 ghost use Rattle.idl_value.specs.View.{tree_of, trees_of, member_of};
@@ -298,10 +298,11 @@ fn place_of(
     number: u32,
     label: &str,
 ) -> Result<usize, Stop>
-    ensures { IfOk result (λ place. slice_get labels.now place ≡ Some label.now) }
+    ensures named { IfOk result (λ place. slice_get labels.now place ≡ Some label.now) }
+    ensures refused { OnErr result ((place : ℕ) → slice_get labels.now place ≡ Some label.now → ⊥) }
 {
     match lookup.place_of(labels, number, label) {
-        Some(place) => Ok(place as usize),
+        Some(place) => Ok(place),
         None => Err(cursor.refuse(Token::EndObject, Wanted::Member)),
     }
 }
@@ -315,6 +316,7 @@ fn free_member(
 ) -> Result<u32, Stop>
     ensures member { IfOk result (λ member. slice_get members.now place ≡ Some member) }
     ensures free { OnOk result (slice_get slots.now place ≡ Some None) }
+    ensures refused { OnErr result ((number : ℕ) → slice_get members.now place ≡ Some number → slice_get slots.now place ≡ Some None → ⊥) }
 {
     match (members.get(place), slots.get(place)) {
         (Some(member), Some(None)) => Ok(*member),

@@ -1,17 +1,20 @@
 //! What single tokens say.
 
-ghost use Rattle.std.specs.Prelude.{◌≡◌, ◌↔◌, ℕ, List, [], Some, Ok, IfSome, IfOk, IsTrue};
+ghost use Rattle.std.specs.Prelude.{◌≡◌, ◌↔◌, ◌<◌, ◌^◌, ℕ, ℤ, pos, List, [], ◌∷◌, Some, Ok, IfSome, IfNone, IfOk, IfErr, IsTrue, decimal};
 ghost use Rattle.std.specs.Fmt.{signed_decimal};
+ghost use lib.Signed.{mag};
+ghost use Rattle.part_names.specs.Names.{AreApart};
 ghost use Rattle.hex.specs.Hex.{decode_of};
 ghost use Rattle.json.specs.Token.{string};
 ghost use Rattle.json.specs.Reads.{token_of};
 ghost use Rattle.type_graph.specs.declared.node.Node.TheVariants.{Boolean, Char, Enum};
-ghost use Rattle.type_graph.specs.Value.{IsNumber, IsText};
+ghost use Rattle.type_graph.specs.Value.{Tree, IsNumber, IsText};
 ghost use Rattle.idl_value.specs.View.{tree_of};
-ghost use Rattle.value_text.specs.Pieces.{characters, digits, octet_of_tree};
+ghost use Rattle.value_text.specs.Pieces.{characters, digits, octet_of, octet_of_tree};
 ghost use Rattle.value_text.specs.Texts.{label_of};
 ghost use Rattle.value_text.specs.Says.{SaysNumber};
 ghost use Rattle.value_text.specs.inner.Reading.{IsOctet, IsOctets, IsString};
+ghost use Rattle.value_text.specs.inner.Refusing.{RefusesAs, IsShort, IsLow, IsNamed, AreOctets};
 
 use crate::cursor::{Cursor, Stop};
 use crate::fault::Wanted;
@@ -22,35 +25,65 @@ use part_names::NodeNames;
 use std::alloc::{AllocError, Global};
 use type_graph::Node;
 
-/// The number of which these are the digits: no fraction, no exponent, no needless sign.
-fn whole_of(digits: &str) -> Option<i128>
-    ensures { IfSome result (λ n. digits.now ≡ signed_decimal n) }
+/// The number below 2^64 of which these are the digits.
+fn plain_of(digits: &str) -> Option<i128>
+    ensures some { IfSome result (λ n. digits.now ≡ signed_decimal n) }
+    ensures short { IfSome result IsShort }
+    ensures complete { (n : ℕ) → n < 2 ^ 64 → digits.now ≡ decimal n → result ≡ Some (pos n) }
 {
-    let n = digits.parse::<i128>().ok()?;
+    let n = digits.parse::<u64>().ok()?;
     let mut buffer = itoa::Buffer::new();
     if buffer.format(n) != digits {
         return None;
     }
-    Some(n)
+    Some(i128::from(n))
+}
+
+/// The number between -2^63 and 2^63 of which these are the digits.
+fn signed_of(digits: &str) -> Option<i128>
+    ensures some { IfSome result (λ n. digits.now ≡ signed_decimal n) }
+    ensures short { IfSome result IsShort }
+    ensures complete { (n : ℤ) → mag n < 2 ^ 63 → digits.now ≡ signed_decimal n → result ≡ Some n }
+{
+    let n = digits.parse::<i64>().ok()?;
+    let mut buffer = itoa::Buffer::new();
+    if buffer.format(n) != digits {
+        return None;
+    }
+    Some(i128::from(n))
+}
+
+/// The number of which these are the digits: no fraction, no exponent, no needless sign.
+fn whole_of(digits: &str) -> Option<i128>
+    ensures some { IfSome result (λ n. digits.now ≡ signed_decimal n) }
+    ensures complete { (n : ℤ) → IsShort n → digits.now ≡ signed_decimal n → result ≡ Some n }
+{
+    match plain_of(digits) {
+        Some(n) => Some(n),
+        None => signed_of(digits),
+    }
 }
 
 /// The octets of characters, None where one has none.
 fn octets_of_text(alloc: Global, text: &str) -> Result<Option<Vec<u8>>, AllocError>
-    ensures { IfOk result (λ found. IfSome found (λ octets. text.now ≡ characters octets.items)) }
+    ensures some { IfOk result (λ found. IfSome found (λ octets. text.now ≡ characters octets.items)) }
+    ensures none { IfOk result (λ found. IfNone found ((octets : List ℕ) → AreOctets octets → text.now ≡ characters octets → ⊥)) }
 {
     let mut octets = Vec::new(alloc);
     for character in text.chars() {
-        let Ok(octet) = u8::try_from(u32::from(character)) else {
+        let code = u32::from(character);
+        if code > 0xFF {
             return Ok(None);
-        };
-        octets.push(octet)?;
+        }
+        octets.push(code as u8)?;
     }
     Ok(Some(octets))
 }
 
 /// The octets of hexadecimal digits, None where they are none.
 fn octets_of_digits(alloc: Global, digits: &str) -> Result<Option<Vec<u8>>, AllocError>
-    ensures { IfOk result (λ found. IfSome found (λ octets. decode_of digits.now ≡ Ok octets.items)) }
+    ensures some { IfOk result (λ found. IfSome found (λ octets. decode_of digits.now ≡ Ok octets.items)) }
+    ensures none { IfOk result (λ found. IfNone found ((octets : List ℕ) → decode_of digits.now ≡ Ok octets → ⊥)) }
 {
     match hex::decode(alloc, digits) {
         Ok(octets) => Ok(Some(octets)),
@@ -59,27 +92,42 @@ fn octets_of_digits(alloc: Global, digits: &str) -> Result<Option<Vec<u8>>, Allo
     }
 }
 
+/// The only octet.
+fn single(octets: &[u8]) -> Option<i128>
+    ensures some { IfSome result (λ n. octets.now ≡ octet_of n ∷ []) }
+    ensures number { IfSome result (λ n. IsNumber Char n) }
+    ensures complete { (n : ℤ) → IsNumber Char n → octets.now ≡ octet_of n ∷ [] → result ≡ Some n }
+{
+    match octets {
+        [octet] => Some(i128::from(*octet)),
+        _ => None,
+    }
+}
+
 /// The octet of a text of one character.
 fn char_of(alloc: Global, text: &str) -> Result<Option<i128>, AllocError>
-    ensures { IfOk result (λ found. IfSome found (λ n. SaysNumber [] Char n (string text.now))) }
+    ensures some { IfOk result (λ found. IfSome found (λ n. SaysNumber [] Char n (string text.now))) }
+    ensures complete { IfOk result (λ found. (n : ℤ) → IsNumber Char n → SaysNumber [] Char n (string text.now) → found ≡ Some n) }
 {
     match octets_of_text(alloc, text)? {
-        Some(octets) if octets.len() == 1 => Ok(Some(i128::from(octets[0]))),
-        _ => Ok(None),
+        Some(octets) => Ok(single(octets.as_slice())),
+        None => Ok(None),
     }
 }
 
 /// The place of an enumerator's name.
 fn place_of(lookup: &Lookup, labels: &NodeNames, number: u32, label: &str) -> Option<i128>
-    ensures { IfSome result (λ n. label_of labels.now n ≡ Some label.now) }
+    ensures some { IfSome result (λ n. label_of labels.now n ≡ Some label.now) }
+    ensures complete { AreApart labels.now → (n : ℤ) → label_of labels.now n ≡ Some label.now → result ≡ Some n }
 {
     let place = lookup.place_of(labels, number, label)?;
-    Some(i128::from(place))
+    Some(place as i128)
 }
 
 /// What a token says as a boolean.
 fn boolean_said(token: Token<'_>) -> Option<i128>
-    ensures { IfSome result (λ n. SaysNumber [] Boolean n (token_of token.entry)) }
+    ensures some { IfSome result (λ n. SaysNumber [] Boolean n (token_of token.entry)) }
+    ensures complete { (n : ℤ) → IsNumber Boolean n → SaysNumber [] Boolean n (token_of token.entry) → result ≡ Some n }
 {
     match token {
         Token::Bool(truth) => Some(i128::from(truth)),
@@ -89,7 +137,8 @@ fn boolean_said(token: Token<'_>) -> Option<i128>
 
 /// What a token says as a character.
 fn char_said(alloc: Global, token: Token<'_>) -> Result<Option<i128>, AllocError>
-    ensures { IfOk result (λ found. IfSome found (λ n. SaysNumber [] Char n (token_of token.entry))) }
+    ensures some { IfOk result (λ found. IfSome found (λ n. SaysNumber [] Char n (token_of token.entry))) }
+    ensures complete { IfOk result (λ found. (n : ℤ) → IsNumber Char n → SaysNumber [] Char n (token_of token.entry) → found ≡ Some n) }
 {
     match token {
         Token::String(text) => char_of(alloc, text),
@@ -104,7 +153,8 @@ fn enumerator_said(
     number: u32,
     token: Token<'_>,
 ) -> Option<i128>
-    ensures { (limit : ℕ) → IfSome result (λ n. SaysNumber labels.now (Enum limit) n (token_of token.entry)) }
+    ensures some { (limit : ℕ) → IfSome result (λ n. SaysNumber labels.now (Enum limit) n (token_of token.entry)) }
+    ensures complete { AreApart labels.now → (limit : ℕ) (n : ℤ) → IsShort n → SaysNumber labels.now (Enum limit) n (token_of token.entry) → result ≡ Some n }
 {
     match token {
         Token::String(label) => place_of(lookup, labels, number, label),
@@ -115,7 +165,8 @@ fn enumerator_said(
 
 /// What a token says by digits.
 fn whole_said(token: Token<'_>) -> Option<i128>
-    ensures { IfSome result (λ n. token_of token.entry ≡ digits n) }
+    ensures some { IfSome result (λ n. token_of token.entry ≡ digits n) }
+    ensures complete { (n : ℤ) → IsShort n → token_of token.entry ≡ digits n → result ≡ Some n }
 {
     match token {
         Token::Number(digits) => whole_of(digits),
@@ -132,7 +183,8 @@ fn number_of(
     node: &Node,
     token: Token<'_>,
 ) -> Result<Option<i128>, AllocError>
-    ensures { IfOk result (λ found. IfSome found (λ n. SaysNumber labels.now node.now n (token_of token.entry))) }
+    ensures some { IfOk result (λ found. IfSome found (λ n. SaysNumber labels.now node.now n (token_of token.entry))) }
+    ensures complete { IfOk result (λ found. IsLow node.now → IsNamed node.now labels.now → (n : ℤ) → IsNumber node.now n → SaysNumber labels.now node.now n (token_of token.entry) → found ≡ Some n) }
 {
     match node {
         Node::Boolean => Ok(boolean_said(token)),
@@ -163,6 +215,7 @@ pub fn read_number(
 ) -> Result<i128, Stop>
     ensures value { IfOk result (λ n. IsNumber node.now n) }
     ensures says { IfOk result (λ n. SaysNumber labels.now node.now n (token_of token.entry)) }
+    ensures refused { IfErr result (λ stop. RefusesAs stop (IsLow node.now → IsNamed node.now labels.now → (n : ℤ) → IsNumber node.now n → SaysNumber labels.now node.now n (token_of token.entry) → ⊥)) }
 {
     match number_of(alloc, lookup, labels, number, node, token)? {
         Some(n) if node.has_number(n) => Ok(n),
@@ -186,15 +239,19 @@ pub fn read_text(
     alloc: Global,
     bound: u32,
 ) -> Result<Value, Stop>
-    ensures { IfOk result (λ value. IsString bound (tree_of value) (token_of token.entry)) }
+    ensures said { IfOk result (λ value. IsString bound (tree_of value) (token_of token.entry)) }
+    ensures refused { IfErr result (λ stop. RefusesAs stop ((value : Tree) → IsString bound value (token_of token.entry) → ⊥)) }
 {
     let Token::String(text) = token else {
         return Err(cursor.refuse(token, Wanted::Text));
     };
-    match octets_of_text(alloc, text)? {
-        Some(octets) if is_text(bound, octets.as_slice()) => Ok(Value::Text(octets)),
-        _ => Err(cursor.refuse(token, Wanted::Text)),
+    let Some(octets) = octets_of_text(alloc, text)? else {
+        return Err(cursor.refuse(token, Wanted::Text));
+    };
+    if !is_text(bound, octets.as_slice()) {
+        return Err(cursor.refuse(token, Wanted::Text));
     }
+    Ok(Value::Text(octets))
 }
 
 fn value_of(octet: u8) -> Value
@@ -221,7 +278,8 @@ pub fn read_octets(
     alloc: Global,
     digits: &str,
 ) -> Result<Vec<Value>, Stop>
-    ensures { IfOk result (λ values. (octets : List ℕ) × (decode_of digits.now ≡ Ok octets) × IsOctets octets values.items) }
+    ensures said { IfOk result (λ values. (octets : List ℕ) × (decode_of digits.now ≡ Ok octets) × IsOctets octets values.items) }
+    ensures refused { IfErr result (λ stop. RefusesAs stop ((octets : List ℕ) → decode_of digits.now ≡ Ok octets → ⊥)) }
 {
     match octets_of_digits(alloc, digits)? {
         Some(octets) => Ok(values_of(alloc, octets.as_slice())?),
@@ -236,7 +294,8 @@ pub fn read_chars(
     alloc: Global,
     text: &str,
 ) -> Result<Vec<Value>, Stop>
-    ensures { IfOk result (λ values. (octets : List ℕ) × (text.now ≡ characters octets) × IsOctets octets values.items) }
+    ensures said { IfOk result (λ values. (octets : List ℕ) × (text.now ≡ characters octets) × IsOctets octets values.items) }
+    ensures refused { IfErr result (λ stop. RefusesAs stop ((octets : List ℕ) → AreOctets octets → text.now ≡ characters octets → ⊥)) }
 {
     match octets_of_text(alloc, text)? {
         Some(octets) => Ok(values_of(alloc, octets.as_slice())?),

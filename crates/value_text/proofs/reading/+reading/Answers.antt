@@ -174,7 +174,7 @@ read_value-returns-in-Text t c =
     let is = sym (sym node ∙ c.in-Text.is) in
     IfOk-weaker c.read_text.result _ _ (λ value h.
     subst (λ at. ReadsAs names graph (names_at names number) at c.args.depth token c.args.cursor.now (tree_of value) c.args.cursor.now) is
-    (text_read names graph (names_at names number) c.in-Text.bound c.args.depth token c.args.cursor.now (tree_of value) h)) c.read_text.ensures
+    (text_read names graph (names_at names number) c.in-Text.bound c.args.depth token c.args.cursor.now (tree_of value) h)) c.read_text.ensures.said
 
 pub read_value-returns-in_default-node : goal.read_value-returns-in_default-node
 read_value-returns-in_default-node t c =
