@@ -108,7 +108,8 @@ impl<'a> Cursor<'a> {
 
     /// The name of the next member of an object, None at the object's end.
     pub fn next_key(&mut self) -> Result<Option<&'a str>, Stop>
-        ensures { IfOk result (λ label. MatchOption label (self.old ≡ end_object ∷ self.new) (λ name. self.old ≡ key name.now ∷ self.new)) }
+        ensures { IfOk result (λ label. MatchOption label (self.old ≡ end_object ∷ self.new)
+            (λ name. self.old ≡ key name.now ∷ self.new)) }
     {
         match self.next() {
             Token::Key(key) => Ok(Some(key)),

@@ -49,9 +49,12 @@ pub fn print(
 ) -> Result<String, PrintFault>
     requires { node < length graph.now }
     ensures fits { OnOk result (Fits graph.now (node_at graph.now node) (tree_of value.now) 64) }
-    ensures text { IfOk result (λ text. string_bytes text ≡ json_text.print (text_at names.now graph.now node (tree_of value.now))) }
-    ensures says { IfOk result (λ text. StandsFor names.now graph.now node (tree_of value.now) (tokens (string_bytes text))) }
-    ensures not_of_type { IsErrOf result PrintFault.NotOfType ↔ ¬ Fits graph.now (node_at graph.now node) (tree_of value.now) 64 }
+    ensures text { IfOk result (λ text. string_bytes text ≡ json_text.print (text_at names.now graph.now node
+        (tree_of value.now))) }
+    ensures says { IfOk result (λ text. StandsFor names.now graph.now node (tree_of value.now) (tokens
+        (string_bytes text))) }
+    ensures not_of_type { IsErrOf result PrintFault.NotOfType ↔ ¬ Fits graph.now (node_at graph.now node)
+        (tree_of value.now) 64 }
 {
     if !conforms(graph, node, value) {
         return Err(PrintFault::NotOfType);

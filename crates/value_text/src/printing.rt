@@ -74,7 +74,8 @@ fn write_items(
     node: &Node,
     values: &[Value],
 ) -> Result<(), AllocError>
-    ensures { OnOk result (Adds out.old out.new (text_of names.now graph.now labels.now node.now (Items (trees_of values.now)))) }
+    ensures { OnOk result (Adds out.old out.new (text_of names.now graph.now labels.now node.now (Items
+        (trees_of values.now)))) }
 {
     match node {
         Node::Seq { elem, .. } | Node::Array { elem, .. } => {
@@ -97,7 +98,8 @@ fn write_elements(
     elem: u32,
     values: &[Value],
 ) -> Result<(), AllocError>
-    ensures { OnOk result (Adds out.old out.new (elements_text (node_at graph.now elem) (octets_of (trees_of values.now))
+    ensures { OnOk result (Adds out.old out.new (elements_text (node_at graph.now elem) (octets_of
+        (trees_of values.now))
         (texts_of names.now graph.now (replicate (count (trees_of values.now)) elem) (trees_of values.now)))) }
 {
     match graph.nodes().get(elem as usize) {
@@ -186,7 +188,8 @@ fn write_member(
     member: Option<u32>,
     value: &Value,
 ) -> Result<(), AllocError>
-    ensures { OnOk result (Adds out.old out.new (paired (member_at names.now graph.now (option_map (λ label. label.now) label.entry) member (tree_of value.now)))) }
+    ensures { OnOk result (Adds out.old out.new (paired (member_at names.now graph.now (option_map
+        (λ label. label.now) label.entry) member (tree_of value.now)))) }
 {
     let (Some(label), Some(member)) = (label, member) else {
         return Ok(());
@@ -204,7 +207,8 @@ fn write_row(
     members: &[u32],
     values: &[Value],
 ) -> Result<(), AllocError>
-    ensures { OnOk result (Adds out.old out.new (listed (texts_of names.now graph.now members.now (trees_of values.now)))) }
+    ensures { OnOk result (Adds out.old out.new (listed (texts_of names.now graph.now members.now
+        (trees_of values.now)))) }
 {
     out.begin_array()?;
     for place in 0..values.len() {
@@ -243,7 +247,8 @@ fn write_choice(
     disc: i128,
     member: &Option<Box<Value>>,
 ) -> Result<(), AllocError>
-    ensures { OnOk result (Adds out.old out.new (text_of names.now graph.now [] node.now (Choice disc (member_of member.now)))) }
+    ensures { OnOk result (Adds out.old out.new (text_of names.now graph.now [] node.now (Choice disc
+        (member_of member.now)))) }
 {
     let Node::Union {
         switch,
@@ -275,7 +280,8 @@ fn write_label(
     switch: u32,
     disc: i128,
 ) -> Result<(), AllocError>
-    ensures { OnOk result (Adds out.old out.new (number_text (names_at names.now switch) (node_at graph.now switch) disc ∷ [])) }
+    ensures { OnOk result (Adds out.old out.new (number_text (names_at names.now switch)
+        (node_at graph.now switch) disc ∷ [])) }
 {
     let labels = names.of(switch);
     match graph.nodes().get(switch as usize) {
@@ -294,7 +300,8 @@ fn write_chosen(
     number: Option<u32>,
     member: &Option<Box<Value>>,
 ) -> Result<(), AllocError>
-    ensures { OnOk result (Adds out.old out.new (joined (texts_of names.now graph.now (option_to_list number) (member_of member.now)))) }
+    ensures { OnOk result (Adds out.old out.new (joined (texts_of names.now graph.now (option_to_list number)
+        (member_of member.now)))) }
 {
     match member {
         Some(value) => write_part(out, alloc, graph, names, number, value),

@@ -73,7 +73,8 @@ pub fn read_value(
     number: u32,
     depth: u32,
 ) -> Result<Value, Stop>
-    ensures { IfOk result (λ value. Reads types.now.names.now types.now.graph.now number depth (token_of token.entry) cursor.old (tree_of value) cursor.new) }
+    ensures { IfOk result (λ value. Reads types.now.names.now types.now.graph.now number depth
+        (token_of token.entry) cursor.old (tree_of value) cursor.new) }
 {
     let Some(node) = types.graph.nodes().get(number as usize) else {
         return Err(cursor.refuse(token, Wanted::Whole));
@@ -120,7 +121,8 @@ fn read_whole(
     number: u32,
     node: &Node,
 ) -> Result<Value, Stop>
-    ensures { IfOk result (λ value. (n : ℤ) × (tree_of value ≡ Number n) × IsNumber node.now n × SaysNumber (names_at types.now.names.now number) node.now n (token_of token.entry)) }
+    ensures { IfOk result (λ value. (n : ℤ) × (tree_of value ≡ Number n) × IsNumber node.now n
+        × SaysNumber (names_at types.now.names.now number) node.now n (token_of token.entry)) }
 {
     let labels = types.names.of(number);
     let n = read_number(cursor, token, alloc, types.lookup, labels, number, node)?;
@@ -138,7 +140,9 @@ fn read_elements(
     counts: Counts,
     depth: u32,
 ) -> Result<Value, Stop>
-    ensures { IfOk result (λ value. (values : Trees) × (tree_of value ≡ Items values) × ReadsElements types.now.names.now types.now.graph.now elem counts.least counts.most depth (token_of token.entry) cursor.old values cursor.new) }
+    ensures { IfOk result (λ value. (values : Trees) × (tree_of value ≡ Items values)
+        × ReadsElements types.now.names.now types.now.graph.now elem counts.least counts.most depth
+        (token_of token.entry) cursor.old values cursor.new) }
 {
     let values = read_items(cursor, token, alloc, types, elem, counts.most, depth)?;
     if !counts.allow(values.len()) {
@@ -158,7 +162,8 @@ fn read_items(
     most: usize,
     depth: u32,
 ) -> Result<Vec<Value>, Stop>
-    ensures { IfOk result (λ values. ReadsItems types.now.names.now types.now.graph.now elem depth (token_of token.entry) cursor.old (trees_of values.items) cursor.new) }
+    ensures { IfOk result (λ values. ReadsItems types.now.names.now types.now.graph.now elem depth
+        (token_of token.entry) cursor.old (trees_of values.items) cursor.new) }
 {
     match token {
         Token::BeginArray => read_list(cursor, alloc, types, elem, most, depth),
@@ -176,7 +181,8 @@ fn read_together(
     elem: u32,
     text: &str,
 ) -> Result<Vec<Value>, Stop>
-    ensures { IfOk result (λ values. (octets : List ℕ) × SaysTogether (node_at types.now.graph.now elem) octets (string text.now ∷ []) × IsOctets octets values.items) }
+    ensures { IfOk result (λ values. (octets : List ℕ) × SaysTogether (node_at types.now.graph.now elem) octets
+        (string text.now ∷ []) × IsOctets octets values.items) }
 {
     match types.graph.nodes().get(elem as usize) {
         Some(Node::Octet) => read_octets(cursor, token, alloc, text),
@@ -195,7 +201,8 @@ fn read_list(
     most: usize,
     depth: u32,
 ) -> Result<Vec<Value>, Stop>
-    ensures listed { IfOk result (λ values. ReadsList types.now.names.now types.now.graph.now (replicate (length values.items) elem) depth cursor.old (trees_of values.items) cursor.new) }
+    ensures listed { IfOk result (λ values. ReadsList types.now.names.now types.now.graph.now (replicate
+        (length values.items) elem) depth cursor.old (trees_of values.items) cursor.new) }
     ensures counted { IfOk result (λ values. length values.items ≤ most) }
 {
     let mut values = Vec::new(alloc);
@@ -219,7 +226,9 @@ fn read_members(
     members: &[u32],
     depth: u32,
 ) -> Result<Value, Stop>
-    ensures { IfOk result (λ value. (values : Trees) × (tree_of value ≡ Items values) × ReadsMembers types.now.names.now types.now.graph.now (names_at types.now.names.now number) members.now depth (token_of token.entry) cursor.old values cursor.new) }
+    ensures { IfOk result (λ value. (values : Trees) × (tree_of value ≡ Items values)
+        × ReadsMembers types.now.names.now types.now.graph.now (names_at types.now.names.now number) members.now depth
+        (token_of token.entry) cursor.old values cursor.new) }
 {
     let are_named = types.names.of(number).len() == members.len();
     match token {
@@ -244,7 +253,8 @@ fn read_row(
     members: &[u32],
     depth: u32,
 ) -> Result<Vec<Value>, Stop>
-    ensures { IfOk result (λ values. ReadsList types.now.names.now types.now.graph.now members.now depth cursor.old (trees_of values.items) cursor.new) }
+    ensures { IfOk result (λ values. ReadsList types.now.names.now types.now.graph.now members.now depth cursor.old
+        (trees_of values.items) cursor.new) }
 {
     let mut values = Vec::new(alloc);
     for member in members {
@@ -276,7 +286,8 @@ fn read_object(
     members: &[u32],
     depth: u32,
 ) -> Result<Vec<Value>, Stop>
-    ensures { IfOk result (λ values. ReadsObject types.now.names.now types.now.graph.now (names_at types.now.names.now number) members.now depth cursor.old (trees_of values.items) cursor.new) }
+    ensures { IfOk result (λ values. ReadsObject types.now.names.now types.now.graph.now
+        (names_at types.now.names.now number) members.now depth cursor.old (trees_of values.items) cursor.new) }
 {
     let mut slots = empty_slots(alloc, members.len())?;
     'each: while let Some(label) = cursor.next_key()? {
@@ -316,7 +327,8 @@ fn free_member(
 ) -> Result<u32, Stop>
     ensures member { IfOk result (λ member. slice_get members.now place ≡ Some member) }
     ensures free { OnOk result (slice_get slots.now place ≡ Some None) }
-    ensures refused { OnErr result ((number : ℕ) → slice_get members.now place ≡ Some number → slice_get slots.now place ≡ Some None → ⊥) }
+    ensures refused { OnErr result ((number : ℕ) → slice_get members.now place ≡ Some number
+        → slice_get slots.now place ≡ Some None → ⊥) }
 {
     match (members.get(place), slots.get(place)) {
         (Some(member), Some(None)) => Ok(*member),
@@ -363,7 +375,9 @@ fn read_choice(
     default: Option<u32>,
     depth: u32,
 ) -> Result<Value, Stop>
-    ensures { IfOk result (λ value. (labels : List (List ℕ)) → ReadsAs types.now.names.now types.now.graph.now labels (Union switch arms.now default) depth (token_of token.entry) cursor.old (tree_of value) cursor.new) }
+    ensures { IfOk result (λ value. (labels : List (List ℕ))
+        → ReadsAs types.now.names.now types.now.graph.now labels (Union switch arms.now default) depth
+        (token_of token.entry) cursor.old (tree_of value) cursor.new) }
 {
     let Token::BeginArray = token else {
         return Err(cursor.refuse(token, Wanted::List));
@@ -384,7 +398,8 @@ fn read_chosen(
     chosen: Option<u32>,
     depth: u32,
 ) -> Result<Option<Box<Value>>, Stop>
-    ensures { IfOk result (λ member. ReadsParts types.now.names.now types.now.graph.now (option_to_list chosen) depth cursor.old (member_of member) cursor.new) }
+    ensures { IfOk result (λ member. ReadsParts types.now.names.now types.now.graph.now
+        (option_to_list chosen) depth cursor.old (member_of member) cursor.new) }
 {
     let Some(number) = chosen else {
         return Ok(None);
@@ -403,7 +418,9 @@ fn read_label(
     switch: u32,
 ) -> Result<i128, Stop>
     ensures number { IfOk result (λ n. IsNumber (node_at types.now.graph.now switch) n) }
-    ensures says { IfOk result (λ n. (said : SpecToken) × SaysNumber (names_at types.now.names.now switch) (node_at types.now.graph.now switch) n said × (cursor.old ≡ said ∷ cursor.new)) }
+    ensures says { IfOk result (λ n. (said : SpecToken)
+        × SaysNumber (names_at types.now.names.now switch) (node_at types.now.graph.now switch) n said
+        × (cursor.old ≡ said ∷ cursor.new)) }
 {
     let token = cursor.next_part()?;
     let Some(node) = types.graph.nodes().get(switch as usize) else {

@@ -67,7 +67,8 @@ fn whole_of(digits: &str) -> Option<i128>
 /// The octets of characters, None where one has none.
 fn octets_of_text(alloc: Global, text: &str) -> Result<Option<Vec<u8>>, AllocError>
     ensures some { IfOk result (λ found. IfSome found (λ octets. text.now ≡ characters octets.items)) }
-    ensures none { IfOk result (λ found. IfNone found ((octets : List ℕ) → AreOctets octets → text.now ≡ characters octets → ⊥)) }
+    ensures none { IfOk result (λ found. IfNone found ((octets : List ℕ) → AreOctets octets
+        → text.now ≡ characters octets → ⊥)) }
 {
     let mut octets = Vec::new(alloc);
     for character in text.chars() {
@@ -107,7 +108,8 @@ fn single(octets: &[u8]) -> Option<i128>
 /// The octet of a text of one character.
 fn char_of(alloc: Global, text: &str) -> Result<Option<i128>, AllocError>
     ensures some { IfOk result (λ found. IfSome found (λ n. SaysNumber [] Char n (string text.now))) }
-    ensures complete { IfOk result (λ found. (n : ℤ) → IsNumber Char n → SaysNumber [] Char n (string text.now) → found ≡ Some n) }
+    ensures complete { IfOk result (λ found. (n : ℤ) → IsNumber Char n → SaysNumber [] Char n (string text.now)
+        → found ≡ Some n) }
 {
     match octets_of_text(alloc, text)? {
         Some(octets) => Ok(single(octets.as_slice())),
@@ -138,7 +140,8 @@ fn boolean_said(token: Token<'_>) -> Option<i128>
 /// What a token says as a character.
 fn char_said(alloc: Global, token: Token<'_>) -> Result<Option<i128>, AllocError>
     ensures some { IfOk result (λ found. IfSome found (λ n. SaysNumber [] Char n (token_of token.entry))) }
-    ensures complete { IfOk result (λ found. (n : ℤ) → IsNumber Char n → SaysNumber [] Char n (token_of token.entry) → found ≡ Some n) }
+    ensures complete { IfOk result (λ found. (n : ℤ) → IsNumber Char n → SaysNumber [] Char n (token_of token.entry)
+        → found ≡ Some n) }
 {
     match token {
         Token::String(text) => char_of(alloc, text),
@@ -154,7 +157,8 @@ fn enumerator_said(
     token: Token<'_>,
 ) -> Option<i128>
     ensures some { (limit : ℕ) → IfSome result (λ n. SaysNumber labels.now (Enum limit) n (token_of token.entry)) }
-    ensures complete { AreApart labels.now → (limit : ℕ) (n : ℤ) → IsShort n → SaysNumber labels.now (Enum limit) n (token_of token.entry) → result ≡ Some n }
+    ensures complete { AreApart labels.now → (limit : ℕ) (n : ℤ) → IsShort n
+        → SaysNumber labels.now (Enum limit) n (token_of token.entry) → result ≡ Some n }
 {
     match token {
         Token::String(label) => place_of(lookup, labels, number, label),
@@ -184,7 +188,8 @@ fn number_of(
     token: Token<'_>,
 ) -> Result<Option<i128>, AllocError>
     ensures some { IfOk result (λ found. IfSome found (λ n. SaysNumber labels.now node.now n (token_of token.entry))) }
-    ensures complete { IfOk result (λ found. IsLow node.now → IsNamed node.now labels.now → (n : ℤ) → IsNumber node.now n → SaysNumber labels.now node.now n (token_of token.entry) → found ≡ Some n) }
+    ensures complete { IfOk result (λ found. IsLow node.now → IsNamed node.now labels.now → (n : ℤ)
+        → IsNumber node.now n → SaysNumber labels.now node.now n (token_of token.entry) → found ≡ Some n) }
 {
     match node {
         Node::Boolean => Ok(boolean_said(token)),
@@ -215,7 +220,8 @@ pub fn read_number(
 ) -> Result<i128, Stop>
     ensures value { IfOk result (λ n. IsNumber node.now n) }
     ensures says { IfOk result (λ n. SaysNumber labels.now node.now n (token_of token.entry)) }
-    ensures refused { IfErr result (λ stop. RefusesAs stop (IsLow node.now → IsNamed node.now labels.now → (n : ℤ) → IsNumber node.now n → SaysNumber labels.now node.now n (token_of token.entry) → ⊥)) }
+    ensures refused { IfErr result (λ stop. RefusesAs stop (IsLow node.now → IsNamed node.now labels.now → (n : ℤ)
+        → IsNumber node.now n → SaysNumber labels.now node.now n (token_of token.entry) → ⊥)) }
 {
     match number_of(alloc, lookup, labels, number, node, token)? {
         Some(n) if node.has_number(n) => Ok(n),
@@ -240,7 +246,8 @@ pub fn read_text(
     bound: u32,
 ) -> Result<Value, Stop>
     ensures said { IfOk result (λ value. IsString bound (tree_of value) (token_of token.entry)) }
-    ensures refused { IfErr result (λ stop. RefusesAs stop ((value : Tree) → IsString bound value (token_of token.entry) → ⊥)) }
+    ensures refused { IfErr result (λ stop. RefusesAs stop ((value : Tree) → IsString bound value (token_of token.entry)
+        → ⊥)) }
 {
     let Token::String(text) = token else {
         return Err(cursor.refuse(token, Wanted::Text));
@@ -278,7 +285,8 @@ pub fn read_octets(
     alloc: Global,
     digits: &str,
 ) -> Result<Vec<Value>, Stop>
-    ensures said { IfOk result (λ values. (octets : List ℕ) × (decode_of digits.now ≡ Ok octets) × IsOctets octets values.items) }
+    ensures said { IfOk result (λ values. (octets : List ℕ) × (decode_of digits.now ≡ Ok octets)
+        × IsOctets octets values.items) }
     ensures refused { IfErr result (λ stop. RefusesAs stop ((octets : List ℕ) → decode_of digits.now ≡ Ok octets → ⊥)) }
 {
     match octets_of_digits(alloc, digits)? {
@@ -294,8 +302,10 @@ pub fn read_chars(
     alloc: Global,
     text: &str,
 ) -> Result<Vec<Value>, Stop>
-    ensures said { IfOk result (λ values. (octets : List ℕ) × (text.now ≡ characters octets) × IsOctets octets values.items) }
-    ensures refused { IfErr result (λ stop. RefusesAs stop ((octets : List ℕ) → AreOctets octets → text.now ≡ characters octets → ⊥)) }
+    ensures said { IfOk result (λ values. (octets : List ℕ) × (text.now ≡ characters octets)
+        × IsOctets octets values.items) }
+    ensures refused { IfErr result (λ stop. RefusesAs stop ((octets : List ℕ) → AreOctets octets
+        → text.now ≡ characters octets → ⊥)) }
 {
     match octets_of_text(alloc, text)? {
         Some(octets) => Ok(values_of(alloc, octets.as_slice())?),

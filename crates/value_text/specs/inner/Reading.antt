@@ -62,7 +62,8 @@ SaysMember names graph depth number value text =
     × Says names graph (names_at names number) (node_at graph number) (tree_of value) text
 
 -- members with names, in some order, those that have a value
-pub record ReadsSlots (names : List (List (List ℕ))) (graph : List Node) (labels : List (List ℕ)) (numbers : List ℕ) (depth : ℕ)
+pub record ReadsSlots (names : List (List (List ℕ))) (graph : List Node) (labels : List (List ℕ)) (numbers : List ℕ)
+    (depth : ℕ)
     (old : List Token) (slots : List (Option Value)) (new : List Token) : Type 0 where
   pub texts : List (Option (List Token))
   pub are_slots : AreSlots (SaysMember names graph depth) numbers slots texts
@@ -71,7 +72,8 @@ pub record ReadsSlots (names : List (List (List ℕ))) (graph : List Node) (labe
   pub cut : old ≡ paired pairs ++ new
 
 -- values of these nodes as members with names, in some order, and the end of their object
-pub record ReadsObject (names : List (List (List ℕ))) (graph : List Node) (labels : List (List ℕ)) (numbers : List ℕ) (depth : ℕ)
+pub record ReadsObject (names : List (List (List ℕ))) (graph : List Node) (labels : List (List ℕ)) (numbers : List ℕ)
+    (depth : ℕ)
     (old : List Token) (values : Trees) (new : List Token) : Type 0 where
   pub texts : List (List Token)
   pub pairs : List (List ℕ × List Token)
@@ -81,7 +83,8 @@ pub record ReadsObject (names : List (List (List ℕ))) (graph : List Node) (lab
   pub say : SayAll names graph numbers values texts
 
 -- members as an object or as a list, which begins with the token
-pub record ReadsMembers (names : List (List (List ℕ))) (graph : List Node) (labels : List (List ℕ)) (numbers : List ℕ) (depth : ℕ)
+pub record ReadsMembers (names : List (List (List ℕ))) (graph : List Node) (labels : List (List ℕ)) (numbers : List ℕ)
+    (depth : ℕ)
     (token : Token) (old : List Token) (values : Trees) (new : List Token) : Type 0 where
   pub good : token ≢ bad
   pub more : List Token
@@ -99,9 +102,11 @@ pub record ReadsItems (names : List (List (List ℕ))) (graph : List Node) (elem
   pub cut : old ≡ more ++ new
   pub fit : FitAll graph (replicate (count values) elem) values depth
   pub whole : SaysTogether (node_at graph elem) (octets_of values) (token ∷ more)
-      ⊎ ((texts : List (List Token)) × SayAll names graph (replicate (count values) elem) values texts × IsList texts (token ∷ more))
+      ⊎ ((texts : List (List Token)) × SayAll names graph (replicate (count values) elem) values texts
+      × IsList texts (token ∷ more))
 
 -- the same, at least and at most so many
-abbrev pub ReadsElements : List (List (List ℕ)) → List Node → ℕ → ℕ → ℕ → ℕ → Token → List Token → Trees → List Token → Type 0
+abbrev pub ReadsElements : List (List (List ℕ)) → List Node → ℕ → ℕ → ℕ → ℕ → Token → List Token → Trees → List Token
+    → Type 0
 ReadsElements names graph elem least most depth token old values new =
     (least ≤ count values) × (count values ≤ most) × ReadsItems names graph elem depth token old values new
