@@ -201,8 +201,8 @@ fn read_list(
     most: usize,
     depth: u32,
 ) -> Result<Vec<Value>, Stop>
-    ensures listed { IfOk result (λ values. ReadsList types.now.names.now types.now.graph.now (replicate
-        (length values.items) elem) depth cursor.old (trees_of values.items) cursor.new) }
+    ensures listed { IfOk result (λ values. ReadsList types.now.names.now types.now.graph.now
+        (replicate (length values.items) elem) depth cursor.old (trees_of values.items) cursor.new) }
     ensures counted { IfOk result (λ values. length values.items ≤ most) }
 {
     let mut values = Vec::new(alloc);
