@@ -1,0 +1,11 @@
+pub mod Numerals
+pub mod Pieces
+pub mod Writing
+pub mod Printed
+pub mod Firsts
+pub mod Slots
+pub mod ReadLaws
+pub mod OneNumber
+pub mod OneObject
+pub mod OneValue
+pub mod Refusals

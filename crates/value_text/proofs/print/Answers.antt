@@ -1,0 +1,28 @@
+use Rattle.std.proofs.Common.{◌≡◌, ◌∙◌, ap, sym, subst, rules}
+use Rattle.std.specs.String.{string_bytes}
+use Rattle.json.specs.Lex.{tokens}
+use Rattle.json.specs.Print as json_text
+use Rattle.part_names.specs.Names.{names_at}
+use Rattle.type_graph.specs.Value.{node_at, Fits}
+use Rattle.idl_value.specs.View.{tree_of}
+use Rattle.value_text.specs.Texts.{text_at}
+use Rattle.value_text.specs.Says.{Says}
+use Rattle.value_text.proofs.Printed.{says}
+use Rattle.value_text.proofs.print.Goals as goal
+
+pub returns-in-Ok-clause-says : goal.returns-in-Ok-clause-says
+returns-in-Ok-clause-says c =
+    let names = c.args.names.now in
+    let graph = c.args.graph.now in
+    let number = c.args.node in
+    let value = tree_of c.args.value.now in
+    let own = text_at names graph number value in
+    let fit : Fits graph (node_at graph number) value 64 = search rules in
+    let text : string_bytes c.in-Ok.text ≡ json_text.print own = search rules in
+    let written : c.write_value.new.out.tokens ≡ own = search rules in
+    let back = ap (λ l. tokens (json_text.print l)) (sym written) ∙ c.into_inner.ensures.reads_back ∙ written in
+    record {
+      fits = fit;
+      says = subst (Says names graph (names_at names number) (node_at graph number) value) (sym (ap tokens text ∙ back))
+          (says names graph (names_at names number) (node_at graph number) value 64 fit);
+    }

@@ -1,0 +1,34 @@
+use Rattle.std.proofs.Common.{◌≡◌, ◌<◌, ◌^◌, ℕ, ℤ, pos, Some, None, Option, sym, ap, ◌∙◌, subst, arith, rules}
+use Rattle.std.specs.Prelude.{decimal}
+use Rattle.std.specs.Fmt.{signed_decimal}
+use Rattle.std.specs.Result.{result_ok}
+use Rattle.std.proofs.lemmas.Fmt.{parse-decimal, parse-signed_decimal}
+use Rattle.std.proofs.lemmas.Option.{same_Some}
+use lib.Signed.{mag}
+use mir.Syntax.{w64, w128}
+use mir.Val.{SFits, to_z, of_z}
+use Rattle.value_text.specs.inner.Refusing.{IsShort}
+use Rattle.value_text.proofs.OneNumber.{digits_one, is_wide}
+use Rattle.value_text.proofs.ReadLaws.{not_none}
+use Rattle.value_text.proofs.words.plain_of.Goals as goal
+
+pub returns-in_err-n-clause-complete : goal.returns-in_err-n-clause-complete
+returns-in_err-n-clause-complete c = λ n low e.
+    let parsed = parse-decimal 64 n c.args.digits.now c.parse.result low low e c.parse.ensures.value.0 in
+    let none : c.ok.result ≡ None = search rules in
+    absurd (not_none _ _ none (c.ok.ensures.value ∙ ap result_ok parsed))
+
+pub returns-then-ne-clause-complete : goal.returns-then-ne-clause-complete
+returns-then-ne-clause-complete c = λ n low e.
+    let parsed = parse-decimal 64 n c.args.digits.now c.parse.result low low e c.parse.ensures.value.0 in
+    let got : c.ok.result ≡ Some c.in_ok-n.n = search rules in
+    let same = same_Some _ _ (sym got ∙ c.ok.ensures.value ∙ ap result_ok parsed) in
+    let text : c.format.result.now ≡ c.args.digits.now = c.format.ensures.text ∙ ap decimal same ∙ sym e in
+    absurd (search rules)
+
+pub returns-clause-complete : goal.returns-clause-complete
+returns-clause-complete c = λ n low e.
+    let v = to_z w128 (of_z w128 c.from.result) in
+    let some : c.args.digits.now ≡ signed_decimal v = search rules in
+    let short : IsShort v = search rules in
+    ap Some (digits_one v (pos n) (is_wide v short) (omega arith) (sym some ∙ e))

@@ -1,0 +1,5 @@
+pub mod Pieces
+pub mod Texts
+pub mod Says
+pub mod Refusal
+pub mod inner

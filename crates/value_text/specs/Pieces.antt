@@ -1,0 +1,51 @@
+-- Pieces of the texts of values. A text is JSON (RFC 8259), seen as the tokens of the crate json of the kit.
+use Rattle.std.specs.Prelude.{ℕ, zero, suc, ℤ, pos, negsuc, nat_lt, Bool, true, false, ◌==◌, if◌then◌else◌}
+use Rattle.std.specs.Prelude.{List, [], ◌∷◌, ◌++◌, length, encode_utf8_all}
+use Rattle.std.specs.Fmt.{signed_decimal}
+use Rattle.json.specs.Token.{Token, begin_object, end_object, begin_array, end_array, key, string, number}
+use Rattle.type_graph.specs.Value.{Tree, Number, Trees, NoTree, AndTree}
+
+-- octet n as the character U+00nn: every octet has one, and no two have the same
+abbrev pub characters : List ℕ → List ℕ
+characters octets = encode_utf8_all octets
+
+-- a number without a fraction, an exponent or a needless sign
+abbrev pub digits : ℤ → Token
+digits n = number (signed_decimal n)
+
+-- the octet that a number is; what is none counts as 0
+abbrev pub octet_of : ℤ → ℕ
+octet_of (pos n) = if nat_lt n 256 then n else 0
+octet_of (negsuc n) = 0
+
+abbrev pub octet_of_tree : Tree → ℕ
+octet_of_tree (Number n) = octet_of n
+octet_of_tree value = 0
+
+-- those of elements, in order
+abbrev pub octets_of : Trees → List ℕ
+octets_of NoTree = []
+octets_of (AndTree value more) = octet_of_tree value ∷ octets_of more
+
+-- one text behind the other
+abbrev pub joined : List (List Token) → List Token
+joined [] = []
+joined (text ∷ texts) = text ++ joined texts
+
+-- a list of these texts
+abbrev pub listed : List (List Token) → List Token
+listed texts = begin_array ∷ (joined texts ++ end_array ∷ [])
+
+-- texts with their names
+abbrev pub paired : List (List ℕ × List Token) → List Token
+paired [] = []
+paired (pair ∷ pairs) = key pair.0 ∷ (pair.1 ++ paired pairs)
+
+-- an object of these members
+abbrev pub object_of : List (List ℕ × List Token) → List Token
+object_of pairs = begin_object ∷ (paired pairs ++ end_object ∷ [])
+
+-- there are names, one for each of so many parts
+abbrev pub are_named : List (List ℕ) → ℕ → Bool
+are_named [] n = false
+are_named (label ∷ labels) n = suc (length labels) == n

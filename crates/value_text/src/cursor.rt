@@ -1,0 +1,141 @@
+//! A text that is being read.
+
+ghost use Rattle.std.specs.Prelude.{◌≡◌, ◌≢◌, [], ◌∷◌, IfSome, IfNone, IfOk, OnOk, MatchOption};
+ghost use Rattle.json.specs.Token.{end_array, end_object, key};
+ghost use Rattle.json.specs.Reads.{token_of};
+ghost use Rattle.value_text.specs.inner.Reading.{Next};
+
+use crate::fault::Wanted;
+use json::{Reader, Token};
+use std::alloc::{AllocError, AllocFailed};
+use std::marker::Model;
+
+/// Why reading stops.
+#[derive(Clone, Copy, Debug, Drop)]
+pub enum Stop {
+    /// At the token that begins at this octet something else was wanted.
+    Refused { wanted: Wanted, at: usize },
+    NoMemory,
+}
+
+impl From<AllocError> for Stop {
+    ghost use Rattle.std.specs.Prelude.{◌≡◌};
+    ghost use Rattle.value_text.specs.declared.cursor.Stop.TheVariants.{NoMemory};
+
+    ghost from_gives = { λ _ stop. stop ≡ NoMemory };
+
+    fn from(_error: AllocError) -> Stop {
+        Stop::NoMemory
+    }
+}
+
+impl<T: Drop> From<AllocFailed<T>> for Stop {
+    ghost use Rattle.std.specs.Prelude.{◌≡◌};
+    ghost use Rattle.value_text.specs.declared.cursor.Stop.TheVariants.{NoMemory};
+
+    ghost from_gives = { λ _ stop. stop ≡ NoMemory };
+
+    fn from(_error: AllocFailed<T>) -> Stop {
+        Stop::NoMemory
+    }
+}
+
+/// The tokens that are still to come, and where the last one began.
+#[derive(Drop)]
+pub struct Cursor<'a> {
+    reader: Reader<'a>,
+    at: usize,
+}
+
+impl<'a> Model for Cursor<'a> {
+    ghost use Rattle.std.specs.Prelude.{List};
+    ghost use Rattle.json.specs.Token.{Token as SpecToken, tokens_code};
+
+    ghost Value = { List SpecToken };
+
+    ghost coded = { tokens_code };
+
+    ghost view = { λ c. c.reader };
+}
+
+impl<'a> Cursor<'a> {
+    pub fn new(reader: Reader<'a>) -> Cursor<'a>
+        ensures { result ≡ reader.entry }
+    {
+        Cursor { reader, at: 0 }
+    }
+
+    /// The next token; behind the last there is a bad one.
+    pub fn next(&mut self) -> Token<'a>
+        ensures { Next self.old (token_of result) self.new }
+    {
+        self.at = self.reader.offset();
+        self.reader.next().unwrap_or(Token::Bad)
+    }
+
+    /// The refusal of the last token: something else was wanted.
+    pub fn refuse(&self, token: Token<'_>, wanted: Wanted) -> Stop {
+        let wanted = match token {
+            Token::Bad => Wanted::Json,
+            _ => wanted,
+        };
+        Stop::Refused {
+            wanted,
+            at: self.at,
+        }
+    }
+
+    /// The first token of the next element of a list, None at the list's end.
+    pub fn next_element(&mut self) -> Option<Token<'a>>
+        ensures some { IfSome result (λ token. Next self.old (token_of token) self.new × (token_of token ≢ end_array)) }
+        ensures none { IfNone result (self.old ≡ end_array ∷ self.new) }
+    {
+        match self.next() {
+            Token::EndArray => None,
+            token => Some(token),
+        }
+    }
+
+    /// The first token of a part that a list has to have.
+    pub fn next_part(&mut self) -> Result<Token<'a>, Stop>
+        ensures { IfOk result (λ token. Next self.old (token_of token) self.new) }
+    {
+        match self.next() {
+            Token::EndArray => Err(self.refuse(Token::EndArray, Wanted::Count)),
+            token => Ok(token),
+        }
+    }
+
+    /// The name of the next member of an object, None at the object's end.
+    pub fn next_key(&mut self) -> Result<Option<&'a str>, Stop>
+        ensures { IfOk result (λ label. MatchOption label (self.old ≡ end_object ∷ self.new)
+            (λ name. self.old ≡ key name.now ∷ self.new)) }
+    {
+        match self.next() {
+            Token::Key(key) => Ok(Some(key)),
+            Token::EndObject => Ok(None),
+            token => Err(self.refuse(token, Wanted::Json)),
+        }
+    }
+
+    /// Passes the end of a list.
+    pub fn end_list(&mut self) -> Result<(), Stop>
+        ensures { OnOk result (self.old ≡ end_array ∷ self.new) }
+    {
+        match self.next() {
+            Token::EndArray => Ok(()),
+            token => Err(self.refuse(token, Wanted::Count)),
+        }
+    }
+
+    /// The text has to end here.
+    pub fn end(&mut self) -> Result<(), Stop>
+        ensures { OnOk result (self.old ≡ []) }
+    {
+        self.at = self.reader.offset();
+        match self.reader.next() {
+            None => Ok(()),
+            Some(token) => Err(self.refuse(token, Wanted::End)),
+        }
+    }
+}

@@ -1,0 +1,111 @@
+//! Values of IDL types as readable text.
+#![tactic(auto)]
+
+ghost use Rattle.std.specs.Prelude.{◌≡◌, ◌<◌, ◌↔◌, length, IfOk, IfErr, OnOk, IsErrOf};
+ghost use Rattle.std.specs.String.{string_bytes};
+ghost use Rattle.json.specs.Lex.{tokens};
+ghost use Rattle.json.specs.Print as json_text;
+ghost use Rattle.type_graph.specs.Value.{Tree, node_at, Fits};
+ghost use Rattle.idl_value.specs.View.{tree_of};
+ghost use Rattle.value_text.specs.Texts.{text_at};
+ghost use Rattle.value_text.specs.Says.{StandsFor};
+
+mod cursor;
+pub mod fault;
+pub mod laws;
+mod lookup;
+mod place;
+mod printing;
+mod reading;
+mod scalars;
+mod words;
+
+use crate::cursor::{Cursor, Stop};
+use crate::lookup::Lookup;
+use crate::place::refused_at;
+use crate::printing::write_value;
+use crate::reading::{Sought, read_value};
+pub use fault::{PrintFault, ReadFault, Refusal, TextPlace, Wanted};
+use idl_value::{Value, conforms};
+use json::{Reader, Scratch, Writer};
+use part_names::PartNames;
+use std::alloc::Global;
+use type_graph::Graph;
+
+/// How many sequences may stand one inside another.
+const MAX_DEPTH: u32 = 64;
+
+/// The text of a value of a node. Members, enumerators and labels are written by their names where
+/// these are known, else by their places.
+///
+/// # Errors
+/// `NotOfType` exactly where the value isn't one of the node, or want of memory.
+pub fn print(
+    alloc: Global,
+    graph: &Graph,
+    names: &PartNames,
+    node: u32,
+    value: &Value,
+) -> Result<String, PrintFault>
+    requires { node < length graph.now }
+    ensures fits { OnOk result (Fits graph.now (node_at graph.now node) (tree_of value.now) 64) }
+    ensures text { IfOk result (λ text. string_bytes text ≡ json_text.print (text_at names.now graph.now node
+        (tree_of value.now))) }
+    ensures says { IfOk result (λ text. StandsFor names.now graph.now node (tree_of value.now) (tokens
+        (string_bytes text))) }
+    ensures not_of_type { IsErrOf result PrintFault.NotOfType ↔ ¬ Fits graph.now (node_at graph.now node)
+        (tree_of value.now) 64 }
+{
+    if !conforms(graph, node, value) {
+        return Err(PrintFault::NotOfType);
+    }
+    let mut out = Writer::new(Vec::new(alloc));
+    write_value(&mut out, alloc, graph, names, node, value)?;
+    match String::from_utf8(out.into_inner()) {
+        Ok(text) => Ok(text),
+        Err(_) => Err(PrintFault::NotOfType),
+    }
+}
+
+fn read_whole(
+    cursor: &mut Cursor<'_>,
+    alloc: Global,
+    types: &Sought<'_>,
+    node: u32,
+) -> Result<Value, Stop>
+    ensures { IfOk result (λ value. StandsFor types.now.names.now types.now.graph.now node (tree_of value) cursor.old) }
+{
+    let token = cursor.next();
+    let value = read_value(cursor, token, alloc, types, node, MAX_DEPTH)?;
+    cursor.end()?;
+    Ok(value)
+}
+
+/// The value of a node that a text says.
+///
+/// # Errors
+/// `Refused`: what was wanted, and where; or want of memory.
+pub fn read(
+    alloc: Global,
+    graph: &Graph,
+    names: &PartNames,
+    node: u32,
+    text: &str,
+) -> Result<Value, ReadFault>
+    requires { node < length graph.now }
+    ensures { IfOk result (λ value. StandsFor names.now graph.now node (tree_of value) (tokens text.now)) }
+{
+    let lookup = Lookup::new(alloc, names, graph.nodes().len() as u32)?;
+    let mut scratch = Scratch::new(alloc);
+    let mut cursor = Cursor::new(Reader::new(text, &mut scratch)?);
+    let types = Sought {
+        graph,
+        names,
+        lookup: &lookup,
+    };
+    match read_whole(&mut cursor, alloc, &types, node) {
+        Ok(value) => Ok(value),
+        Err(Stop::NoMemory) => Err(ReadFault::NoMemory),
+        Err(Stop::Refused { wanted, at }) => Err(ReadFault::Refused(refused_at(text, wanted, at))),
+    }
+}
