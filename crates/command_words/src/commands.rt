@@ -224,7 +224,9 @@ fn refusal_word<'a>(alloc: Global) -> Arg<'a>
     ensures rule { rule_of result ≡ new_rule (codes "REFUSAL") }
     ensures local { result.global ≡ false }
 {
-    Arg::new(alloc, "REFUSAL").help("The number of the refusal, or its name; all are listed without")
+    Arg::new(alloc, "REFUSAL").help(
+        "The number of the refusal, or its name; all are listed without",
+    )
 }
 
 fn explain_command<'a>(alloc: Global) -> Result<Command<'a>, AllocError>

@@ -40,10 +40,19 @@ pub enum Task<'a> {
     Value(ValueTask<'a>),
     Reference(ReferenceTask<'a>),
     /// What the refusals of a number or a name mean, or which there are.
-    Explain { word: Option<&'a str> },
-    Check { table: &'a str },
-    Show { table: &'a str },
-    Upgrade { table: &'a str, output: &'a str },
+    Explain {
+        word: Option<&'a str>,
+    },
+    Check {
+        table: &'a str,
+    },
+    Show {
+        table: &'a str,
+    },
+    Upgrade {
+        table: &'a str,
+        output: &'a str,
+    },
     /// The table of an IDL file, in another file.
     Compile {
         source: &'a str,

@@ -59,11 +59,7 @@ fn not_text(alloc: Global, octet: usize) -> Result<Known, AllocError> {
 }
 
 /// What is known of a fault that isn't one of tokens.
-fn of_fault(
-    alloc: Global,
-    text: &str,
-    fault: &CompileFault,
-) -> Result<Option<Known>, AllocError> {
+fn of_fault(alloc: Global, text: &str, fault: &CompileFault) -> Result<Option<Known>, AllocError> {
     let Ok(tokens) = lex(alloc, text) else {
         return Ok(None);
     };

@@ -59,7 +59,10 @@ pub(crate) fn of_grammar(
         ParseFault::TooDeep { line } => (
             13,
             Spot::Line(line),
-            String::from_str(alloc, "more than 64 modules, types and parentheses one inside another")?,
+            String::from_str(
+                alloc,
+                "more than 64 modules, types and parentheses one inside another",
+            )?,
         ),
         ParseFault::NoMemory => return Ok(None),
     };

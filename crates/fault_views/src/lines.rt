@@ -91,12 +91,7 @@ fn push_fault(
 }
 
 /// The lines of what is known, the last without its end.
-fn lines_of(
-    alloc: Global,
-    file: &str,
-    source: &[u8],
-    known: &Known,
-) -> Result<String, AllocError> {
+fn lines_of(alloc: Global, file: &str, source: &[u8], known: &Known) -> Result<String, AllocError> {
     let mut lines = String::new(alloc);
     push_fault(&mut lines, alloc, file, source, known)?;
     push_note(&mut lines, alloc, file, source, known.first)?;

@@ -1,7 +1,7 @@
 //! Faults of names, constants and repository ids.
 
-use crate::grammar::octet_at;
 use crate::facts::{Known, Note, Spot};
+use crate::grammar::octet_at;
 use crate::words::{name_at, text_at};
 use idl_lexer::Token;
 use idl_tree::names::At;
@@ -73,19 +73,37 @@ fn known_twice(
 ) -> Result<Option<(u8, String)>, AllocError> {
     let said = match fault {
         NameFault::Unknown { at } if is_ahead(tokens, at) => {
-            (20, format!(in alloc; "'{name}' is declared ahead and never defined")?)
+            (
+                20,
+                format!(in alloc; "'{name}' is declared ahead and never defined")?,
+            )
         }
-        NameFault::Collides { other: Some(other), .. } => {
+        NameFault::Collides {
+            other: Some(other),
+            ..
+        } => {
             let other = text_at(tokens, other.token);
-            (21, format!(in alloc; "'{name}' is declared already, as '{other}'")?)
+            (
+                21,
+                format!(in alloc; "'{name}' is declared already, as '{other}'")?,
+            )
         }
-        NameFault::CaseDiffers { other: Some(other), .. } => {
+        NameFault::CaseDiffers {
+            other: Some(other),
+            ..
+        } => {
             let other = text_at(tokens, other.token);
             (22, format!(in alloc; "'{name}' is declared as '{other}'")?)
         }
-        NameFault::NotAType { found: Some(kind), .. } => {
+        NameFault::NotAType {
+            found: Some(kind),
+            ..
+        } => {
             let kind = kind_words(kind);
-            (24, format!(in alloc; "'{name}' is {kind}, which can't stand here")?)
+            (
+                24,
+                format!(in alloc; "'{name}' is {kind}, which can't stand here")?,
+            )
         }
         _ => return Ok(None),
     };
@@ -100,7 +118,10 @@ fn own_words(fault: NameFault) -> Option<(u8, &'static str)> {
         }
         NameFault::BadConstant { why, .. } => Some((26, flaw_words(why))),
         NameFault::PrefixInScope { .. } => {
-            Some((28, "a pragma prefix can't stand inside a module or an interface"))
+            Some((
+                28,
+                "a pragma prefix can't stand inside a module or an interface",
+            ))
         }
         _ => None,
     }

@@ -1,7 +1,7 @@
 //! Faults of types.
 
-use crate::grammar::octet_at;
 use crate::facts::{Known, Note, Spot};
+use crate::grammar::octet_at;
 use crate::words::text_at;
 use idl_lexer::Token;
 use model_builder::{Answer, LabelWorth, TypeFault, TypeKind};
@@ -77,7 +77,9 @@ fn oneway_sentence(
         Answer::Result => String::from_str(alloc, "a oneway operation can't have a result"),
         Answer::Parameter(at) => {
             let name = text_at(tokens, at.token);
-            format!(in alloc; "a oneway operation can't have the parameter '{name}', which isn't in")
+            format!(in alloc;
+                "a oneway operation can't have the parameter '{name}', which isn't in"
+            )
         }
         Answer::Exceptions => String::from_str(alloc, "a oneway operation can't raise exceptions"),
     }
@@ -100,7 +102,10 @@ fn sentence_of(
             let name = text_at(tokens, at.token);
             format!(in alloc; "by '{name}' the type holds itself without a sequence between")
         }
-        TypeFault::LabelTwice { .. } => String::from_str(alloc, "the label stands twice in the union"),
+        TypeFault::LabelTwice { .. } => String::from_str(
+            alloc,
+            "the label stands twice in the union",
+        ),
         TypeFault::LabelRange {
             found,
             kind,
@@ -108,7 +113,10 @@ fn sentence_of(
             ..
         } => label_sentence(alloc, found, kind, values),
         TypeFault::DefaultNeedless { .. } => {
-            String::from_str(alloc, "the labels are all values of the switch without default")
+            String::from_str(
+                alloc,
+                "the labels are all values of the switch without default",
+            )
         }
         TypeFault::BadSwitch { found, .. } => switch_sentence(alloc, found),
         TypeFault::Limit { which, most, .. } => {

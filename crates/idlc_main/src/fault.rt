@@ -62,7 +62,9 @@ pub enum Fault<'a> {
     Socket,
     /// No refusal has the number or the name whose meaning is asked for.
     #[error("no refusal has the {}", Meant(.word))]
-    NoRefusal { word: &'a str },
+    NoRefusal {
+        word: &'a str,
+    },
     /// Standard output can't be written, of which no line tells.
     #[error("cannot write")]
     Unwritten,

@@ -68,12 +68,7 @@ fn put_compiled<'a, R: WholeFiles>(
 }
 
 /// The fault of an IDL file, with what else is known of it where there is memory for that.
-fn told_whole<'a>(
-    alloc: Global,
-    name: &str,
-    source: &[u8],
-    refusal: CompileRefusal,
-) -> Fault<'a>
+fn told_whole<'a>(alloc: Global, name: &str, source: &[u8], refusal: CompileRefusal) -> Fault<'a>
     ensures { IsTold result }
 {
     if let CompileRefusal::Fault { .. } = refusal

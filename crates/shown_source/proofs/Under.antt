@@ -37,10 +37,11 @@ first_shown : (source : List ℕ) (octet stop : ℕ) → octet < stop → stop �
     → (rest : List ℕ) × (all_shown (slice_range source octet stop) ≡ shown (slice_index source octet) ++ rest)
 first_shown source octet stop below within =
     let n = stop - octet - 1 in
-    let more : stop - octet ≡ suc n = omega arith in
-    (all_shown (take n (drop (suc octet) source)),
-    ap (λ (m : ℕ). all_shown (take m (drop octet source))) more
-    ∙ ap (λ (l : List ℕ). all_shown (take (suc n) l)) (drop-cons source octet 0 (omega arith)))
+    let more : stop - octet ≡ suc n = omega arith in (
+      all_shown (take n (drop (suc octet) source)),
+      ap (λ (m : ℕ). all_shown (take m (drop octet source))) more
+          ∙ ap (λ (l : List ℕ). all_shown (take (suc n) l)) (drop-cons source octet 0 (omega arith)),
+    )
 
 -- the first characters stay where there is room for them
 kept : (own rest : List ℕ) (n : ℕ) → length own ≤ n → (left : List ℕ) × (take n (own ++ rest) ≡ own ++ left)
@@ -76,7 +77,6 @@ under source octet start stop text caret is = record {
       let shorter = less (nat_lt octet stop && slice_index source (stop - 1) == 13) stop in
       let end : without_return source octet stop ≤ length source = omega arith in
       let begun = first_shown source octet (without_return source octet stop) below end in
-
       rw is.text_is (at_caret (shown_before source octet start) (shown_behind source octet stop) (shown (slice_index source octet)) begun.0
       caret is.cut_off is.cut_is is.caret_is (shown_length (slice_index source octet)) begun.1);
 }

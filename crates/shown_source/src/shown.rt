@@ -16,7 +16,11 @@ fn digit(number: u8) -> u8
     requires { number < 16 }
     ensures { result ≡ digit number }
 {
-    if number < 10 { 48 + number } else { 55 + number }
+    if number < 10 {
+        48 + number
+    } else {
+        55 + number
+    }
 }
 
 fn push_shown(text: &mut Vec<u8>, octet: u8) -> Result<(), AllocError>

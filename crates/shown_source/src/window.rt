@@ -32,7 +32,9 @@ fn cut(before: usize, behind: usize) -> usize
     if before + behind <= WIDTH {
         0
     } else {
-        before.saturating_sub(WIDTH / 2).min(before + behind - WIDTH)
+        before
+            .saturating_sub(WIDTH / 2)
+            .min(before + behind - WIDTH)
     }
 }
 

@@ -2,7 +2,6 @@ use Rattle.std.proofs.Common.{rules, tests, ◌≡◌, ◌==◌, ◌∙◌, ap, 
 use Rattle.std.specs.List.{position}
 use Rattle.std.proofs.lemmas.Iterator.{YieldsList-from_slice}
 use Rattle.std.proofs.lemmas.Iterator.Search.{position_from_yields_List}
-
 use Rattle.source_places.proofs.Firsts.{first_or_end}
 use Rattle.source_places.proofs.marker.name_len.Goals as goal
 
