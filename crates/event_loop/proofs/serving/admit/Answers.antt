@@ -23,8 +23,8 @@ returns-in-Err-NoMemory-clause-going g c = λ idle before going.
     (g.L.Listener.came c.args.listener.now) c.args.broker.now.world c.args.slots.now.items c.args.number told quiet c.requires.number c.accept.ensures.ended
     c.hand_back.ensures.ended going))
 
-pub let_go-requires : goal.let_go-requires
-let_go-requires g c =
+pub let_go-requires-clause-known : goal.let_go-requires-clause-known
+let_go-requires-clause-known g c =
     let is : c.in-Err-push.error.value.number ≡ c.args.number = search rules in
     let opens = c.in-Ok.ensures.answered in
     subst (λ (n : ℕ). IsThere n c.step.new.self.world.there) (sym is)

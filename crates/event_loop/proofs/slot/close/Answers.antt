@@ -1,14 +1,14 @@
-use Rattle.std.proofs.Common.{rules, take, [], refl, sym, ap, ◌∙◌}
+use Rattle.std.proofs.Common.{rules, ◌≡◌, take, [], sym, ap, ◌∙◌}
 use Rattle.giop_messages.specs.Messages.{Closes, Says}
 use Rattle.iiop_broker.proofs.Written.{written_nothing}
-use Rattle.event_loop.specs.inner.Turns.{HasClosed}
+use Rattle.event_loop.specs.Telling.{HasWritten}
 use Rattle.event_loop.proofs.Turns.{farewell, no_farewell}
 use Rattle.event_loop.proofs.slot.close.Goals as goal
 
 pub returns-in-Ok-Some-clause-closed : goal.returns-in-Ok-Some-clause-closed
 returns-in-Ok-Some-clause-closed g c =
     let says : Says c.as_slice.result.now Closes = search rules in
-    let h = c.in-Ok-Some.ensures.written in
+    let h : HasWritten (g.C.Connection.told c.args.connection.now) c.as_slice.result.now c.in-Ok-Some.field-0-0 (g.C.Connection.told c.write.new.self) = search rules in
     record {
       last = take c.in-Ok-Some.field-0-0 c.as_slice.result.now;
       is = farewell c.as_slice.result.now c.in-Ok-Some.field-0-0 says;
@@ -19,7 +19,7 @@ returns-in-Ok-Some-clause-closed g c =
 pub returns-in-Ok-None-clause-closed : goal.returns-in-Ok-None-clause-closed
 returns-in-Ok-None-clause-closed g c =
     let told = g.C.Connection.told c.args.connection.now in
-    let same = c.in-Ok-None.ensures.not_now in
+    let same : g.C.Connection.told c.write.new.self ≡ told = search rules in
     record {
       last = [];
       is = no_farewell c.close_connection-message.result c.close_connection-message.ensures;

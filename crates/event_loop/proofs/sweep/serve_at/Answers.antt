@@ -18,8 +18,8 @@ serve-course-requires-clause-there g c =
     (g.L.Listener.came c.args.listener.now) c.args.broker.now.world c.args.slots.now.items c.args.at c.index_mut.result.now
     c.requires.there c.index_mut.ensures.value u.goes
 
-pub let_go-requires : goal.let_go-requires
-let_go-requires g c =
+pub let_go-requires-clause-known : goal.let_go-requires-clause-known
+let_go-requires-clause-known g c =
     let u = c.requires.under_way in
     let items = c.args.slots.now.items in
     let acting = acts g.S.Servant.says g.S.Servant.after in
