@@ -27,9 +27,8 @@ fn serve_next<S: Servant, L: Listener>(
     ensures same { broker.new.served ≡ broker.old.served }
     ensures port { L.port listener.new ≡ L.port listener.old }
 {
-    let (mut reader, mut writer) = match listener.accept() {
-        Ok(ends) => ends,
-        Err(failed) => return Err(failed),
+    let Ok((mut reader, mut writer)) = listener.accept() else {
+        return Err(Failed);
     };
     let end = serve_stream(broker, CONNECTION, &mut reader, &mut writer);
     listener.hand_back(reader, writer, end);

@@ -1,6 +1,6 @@
 //! A connection by TCP on which no call waits.
 
-ghost use Rattle.std.specs.Prelude.{◌≡◌, None, false};
+ghost use Rattle.std.specs.Prelude.{◌≡◌, ◌≤◌, length, None, false, IfOk, IfSome};
 ghost use Rattle.iiop_broker.specs.Outcomes.{ends};
 
 use event_loop::Connection;
@@ -60,48 +60,71 @@ impl<'r, R: Clock> PolledStream<'r, R> {
     }
 }
 
+/// Reads what is there now.
+fn read_now(stream: &mut TcpStream, buffer: &mut [u8]) -> Result<Option<usize>, Failed>
+    ensures room { length buffer.new ≡ length buffer.old }
+    ensures within { IfOk result (λ got. IfSome got (λ n. n ≤ length buffer.old)) }
+{
+    for _ in 0..TRIES {
+        match stream.read(buffer) {
+            Ok(n) => return Ok(Some(n)),
+            Err(error) if error.kind() == ErrorKind::Interrupted => {}
+            Err(error) if error.kind() == ErrorKind::WouldBlock => return Ok(None),
+            Err(_) => return Err(Failed),
+        }
+    }
+    Ok(None)
+}
+
+/// Writes what is taken now.
+fn write_now(stream: &mut TcpStream, octets: &[u8]) -> Result<Option<usize>, Failed>
+    ensures within { IfOk result (λ got. IfSome got (λ n. n ≤ length octets.now)) }
+{
+    for _ in 0..TRIES {
+        match stream.write(octets) {
+            Ok(n) => return Ok(Some(n)),
+            Err(error) if error.kind() == ErrorKind::Interrupted => {}
+            Err(error) if error.kind() == ErrorKind::WouldBlock => return Ok(None),
+            Err(_) => return Err(Failed),
+        }
+    }
+    Ok(None)
+}
+
 impl<'r, R: Clock> Connection for PolledStream<'r, R> {
     ghost told = { λ one. ends None None one.unread one.unwritten };
 
     ghost quiet = { λ one. one.quiet };
 
     fn read(&mut self, buffer: &mut [u8]) -> Result<Option<usize>, Failed> {
-        for _ in 0..TRIES {
-            match self.stream.read(buffer) {
-                Ok(n) => {
-                    self.since = None;
-                    return Ok(Some(n));
-                }
-                Err(error) if error.kind() == ErrorKind::Interrupted => {}
-                Err(error) if error.kind() == ErrorKind::WouldBlock => return Ok(None),
-                Err(_) => {
-                    self.unread = true;
-                    return Err(Failed);
-                }
+        match read_now(&mut self.stream, buffer) {
+            Ok(Some(n)) => {
+                self.since = None;
+                Ok(Some(n))
+            }
+            Ok(None) => Ok(None),
+            Err(Failed) => {
+                self.unread = true;
+                Err(Failed)
             }
         }
-        Ok(None)
     }
 
     fn write(&mut self, octets: &[u8]) -> Result<Option<usize>, Failed> {
-        for _ in 0..TRIES {
-            match self.stream.write(octets) {
-                Ok(n) => {
-                    self.since = None;
-                    if n == 0 && !octets.is_empty() {
-                        self.unwritten = true;
-                    }
-                    return Ok(Some(n));
-                }
-                Err(error) if error.kind() == ErrorKind::Interrupted => {}
-                Err(error) if error.kind() == ErrorKind::WouldBlock => return Ok(None),
-                Err(_) => {
+        match write_now(&mut self.stream, octets) {
+            Ok(Some(n)) => {
+                self.since = None;
+                if n == 0 && !octets.is_empty() {
                     self.unwritten = true;
-                    return Err(Failed);
                 }
+                Ok(Some(n))
+            }
+            Ok(None) => Ok(None),
+            Err(Failed) => {
+                self.unwritten = true;
+                Err(Failed)
             }
         }
-        Ok(None)
     }
 
     fn is_quiet(&mut self, least: u64) -> bool {
