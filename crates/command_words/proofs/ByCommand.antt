@@ -1,5 +1,5 @@
 -- Which command asks for what.
-use Rattle.std.proofs.Common.{◌≡◌, ◌∙◌, refl, ℕ, List, Option, Some, IsSomeAnd, ap, codes, length, arith}
+use Rattle.std.proofs.Common.{◌≡◌, ◌∙◌, refl, List, Option, Some, IsSomeAnd, ap, codes, length, arith}
 use Rattle.clap.specs.Words.{Row, Text}
 use Rattle.table_commands.specs.declared.values.Way.{Way}
 use Rattle.table_commands.specs.declared.values.Way.TheVariants.{Encode, Decode}

@@ -1,11 +1,11 @@
 -- How many connections came that told nothing.
-use Rattle.std.proofs.Common.{◌≡◌, ⊤, ℕ, List, [], length, replicate, Result, Ok, Err, OnOk, sym, ap, ◌∙◌, subst}
+use Rattle.std.specs.Bool.{⊤}
+use Rattle.std.proofs.Common.{◌≡◌, ℕ, List, [], length, replicate, Result, Ok, Err, OnOk, sym, ap, ◌∙◌, subst}
 use Rattle.std.proofs.lemmas.List.{length-replicate}
 use Rattle.type_model.specs.ModelRules.{Parts}
-use Rattle.event_loop.specs.Visits.{Gone}
 use Rattle.socket_server.specs.declared.fault.ServeFault.{ServeFault}
 use Rattle.socket_server.specs.Serving.{IsDone, IsDoneTogether}
-use Rattle.socket_server.specs.Visits.{Went, untold}
+use Rattle.socket_server.specs.Visits.{untold}
 
 module _ (model : Parts) (word : List ℕ) (count : ℕ) where
   just_served : (came : ℕ) → IsDone (λ gone. ⊤) model word count [] (replicate came untold)

@@ -1,4 +1,4 @@
-use Rattle.std.proofs.Common.{◌≡◌, ◌∙◌, ap, codes, List, ℕ, Option, Some}
+use Rattle.std.proofs.Common.{◌∙◌, ap, codes, List, ℕ, Option, Some}
 use Rattle.clap.specs.Words.{found_of}
 use Rattle.clap.proofs.WalkLemmas.{first_value-rows}
 use Rattle.command_words.specs.Ask.{Explanation}

@@ -1,7 +1,7 @@
 use Rattle.std.proofs.Common.{refl, ◌∙◌, subst}
 use Rattle.broker_answers.specs.Servants.{acts}
 use Rattle.socket_server.specs.Visits.{IsOneMore}
-use Rattle.socket_server.proofs.Visits.{cut_off, none_served, one_more_served}
+use Rattle.socket_server.proofs.Visits.{none_served, one_more_served}
 use Rattle.socket_server.proofs.connections.serve_connections.Goals as goal
 
 pub loop-init : goal.loop-init

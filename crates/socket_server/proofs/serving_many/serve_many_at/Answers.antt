@@ -1,10 +1,16 @@
+use Rattle.std.proofs.Common.{◌*◌, ℕ, OnOk, subst}
+use Rattle.socket_server.specs.Serving.{IsDoneTogether}
 use Rattle.socket_server.proofs.Sessions.{faults_have_causes, has_object, none_of_object, together_on_ok}
 use Rattle.socket_server.proofs.serving_many.serve_many_at.Goals as goal
 
 pub returns-clause-done : goal.returns-clause-done
 returns-clause-done g c =
-    together_on_ok c.args.table.model c.args.options.now.object.now _ c.serve_by.result c.in-Ok.broker _
-    _ _ c.in-Ok.ensures.made c.serve_by.ensures.done
+    let told = g.L.Listener.ended c.serve_by.new.listener in
+    let came = g.L.Listener.came c.serve_by.new.listener in
+    let word = c.args.options.now.object.now in
+    subst (λ (n : ℕ). OnOk c.serve_by.result (IsDoneTogether told c.args.table.model word (n * 1000) came)) c.from-idle.ensures
+    (together_on_ok c.args.table.model word told c.serve_by.result c.in-Ok.broker (c.from-idle.result * 1000) came
+    c.serve_by.new.broker.world.servant c.in-Ok.ensures.made c.serve_by.ensures.done)
 
 pub returns-clause-refused : goal.returns-clause-refused
 returns-clause-refused g c =
