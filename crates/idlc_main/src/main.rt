@@ -64,9 +64,8 @@ fn say<O: io::Write, E: io::Write>(out: &mut O, err: &mut E, answer: &Answer) ->
 /// Runs the program on words, of which the first is its name, and gives its status: 0 where it did
 /// what was asked for, 1 for refused input, 2 for usage, 3 for files and standard output, 4 for
 /// want of memory. Standard output has the answer or nothing, where calls are served the line that
-/// says so; a fault is told on standard error, for a
-/// person with all that is known of it.
-fn run_for<R: WholeFiles + Net + AllocGlobal, O: io::Write, E: io::Write>(
+/// says so; a fault is told on standard error, for a person with all that is known of it.
+fn run_for<R: WholeFiles + Net + Clock + Eprint + AllocGlobal, O: io::Write, E: io::Write>(
     rt: &R,
     words: &[&str],
     out: &mut O,
