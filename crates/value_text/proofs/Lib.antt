@@ -9,3 +9,4 @@ pub mod OneNumber
 pub mod OneObject
 pub mod OneValue
 pub mod Refusals
+pub mod ObjectRefusals
