@@ -9,4 +9,3 @@ pub mod OneNumber
 pub mod OneObject
 pub mod OneValue
 pub mod Refusals
-pub mod ObjectRefusals

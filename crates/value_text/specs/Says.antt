@@ -11,8 +11,8 @@ use Rattle.type_graph.specs.Value.{Tree, Number, Bytes, Items, Choice, Trees, No
 use Rattle.value_text.specs.Pieces.{characters, digits, octet_of, octets_of, listed, object_of}
 use Rattle.value_text.specs.Texts.{truth_of, label_of}
 
--- An integer and an octet by its digits (not `-0`, `1.0`, `1e3` or "1"), a boolean by its word (not 0), a character by a
--- string of it alone (not "ab"), an enumerator by its name or its number (not another name).
+-- An integer and an octet by its digits (not `-0`, `1.0`, `1e3` or "1"), a boolean by its word (not 0), a character
+-- by a string of it alone (not "ab"), an enumerator by its name or its number (not another name).
 abbrev pub SaysNumber : List (List ℕ) → Node → ℤ → Token → Type 0
 SaysNumber labels Boolean n token = token ≡ boolean (truth_of n)
 SaysNumber labels Char n token = token ≡ string (characters (octet_of n ∷ []))
@@ -47,16 +47,16 @@ abbrev mutual
   Says names graph labels (Seq elem bound) (Items values) tokens =
       SaysTogether (node_at graph elem) (octets_of values) tokens
       ⊎ ((texts : List (List Token)) × SayAll names graph (replicate (count values) elem) values texts
-          × IsList texts tokens)
+      × IsList texts tokens)
   Says names graph labels (Array elem n) (Items values) tokens =
       SaysTogether (node_at graph elem) (octets_of values) tokens
       ⊎ ((texts : List (List Token)) × SayAll names graph (replicate n elem) values texts × IsList texts tokens)
   Says names graph labels (Struct members) (Items values) tokens =
       (texts : List (List Token)) × SayAll names graph members values texts × (IsObject labels texts tokens
-          ⊎ IsList texts tokens)
+      ⊎ IsList texts tokens)
   Says names graph labels (Frame members) (Items values) tokens =
       (texts : List (List Token)) × SayAll names graph members values texts × (IsObject labels texts tokens
-          ⊎ IsList texts tokens)
+      ⊎ IsList texts tokens)
   Says names graph labels (Union switch arms default) (Choice label values) tokens =
       (token : Token) × SaysNumber (names_at names switch) (node_at graph switch) label token
       × (texts : List (List Token)) × SayAll names graph (arm_of arms default label) values texts
@@ -68,7 +68,7 @@ abbrev mutual
   SayAll names graph [] NoTree [] = Unit {0}
   SayAll names graph (number ∷ numbers) (AndTree value values) (text ∷ texts) =
       Says names graph (names_at names number) (node_at graph number) value text
-          × SayAll names graph numbers values texts
+      × SayAll names graph numbers values texts
   SayAll names graph numbers values texts = ⊥
 
 -- The text stands for a value of the node of a number: the value is one of it, and the text says it.

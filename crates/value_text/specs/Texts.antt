@@ -47,11 +47,11 @@ abbrev mutual
   text_of names graph labels node (Number n) = number_text labels node n ∷ []
   text_of names graph labels node (Bytes text) = string (characters text) ∷ []
   text_of names graph labels (Seq elem bound) (Items values) =
-      elements_text (node_at graph elem) (octets_of values) (texts_of names graph (replicate
-          (count values) elem) values)
+      elements_text (node_at graph elem) (octets_of values)
+      (texts_of names graph (replicate (count values) elem) values)
   text_of names graph labels (Array elem n) (Items values) =
-      elements_text (node_at graph elem) (octets_of values) (texts_of names graph (replicate
-          (count values) elem) values)
+      elements_text (node_at graph elem) (octets_of values)
+      (texts_of names graph (replicate (count values) elem) values)
   text_of names graph labels (Struct members) (Items values) =
       members_text labels (length members) (texts_of names graph members values)
   text_of names graph labels (Frame members) (Items values) =

@@ -1,16 +1,14 @@
 //! The values of texts.
 
-ghost use Rattle.std.specs.Prelude.{◌≡◌, ◌<◌, ◌≤◌, ◌↔◌, [], ◌∷◌, ℕ, ℤ, List, Some, None, length, map, replicate, slice_get, slice_set, option_to_list, IfOk, IfErr, OnOk, OnErr, IsTrue};
+ghost use Rattle.std.specs.Prelude.{◌≡◌, ◌<◌, ◌≤◌, ◌↔◌, [], ◌∷◌, ℕ, ℤ, List, Some, None, length, map, replicate, slice_get, slice_set, option_to_list, IfOk, OnOk, OnErr, IsTrue};
 ghost use Rattle.type_graph.specs.declared.node.Node.TheVariants.{Union};
-ghost use Rattle.type_graph.specs.Value.{Tree, Trees, Number, Items, count, node_at, IsCount, IsNumber};
+ghost use Rattle.type_graph.specs.Value.{Trees, Number, Items, node_at, IsCount, IsNumber};
 ghost use Rattle.idl_value.specs.View.{tree_of, trees_of, member_of};
 ghost use Rattle.json.specs.Token.{Token as SpecToken, string};
 ghost use Rattle.json.specs.Reads.{token_of};
-ghost use Rattle.part_names.specs.Names.{AreApart, names_at};
+ghost use Rattle.part_names.specs.Names.{names_at};
 ghost use Rattle.value_text.specs.Says.{SaysNumber, SaysTogether};
 ghost use Rattle.value_text.specs.inner.Reading.{IsOctets, Reads, ReadsAs, ReadsItems, ReadsElements, ReadsParts, ReadsList, ReadsMembers, ReadsObject};
-ghost use Rattle.idl_value.specs.declared.value.Value.{Value as SpecValue};
-ghost use Rattle.value_text.specs.inner.Refusing.{RefusesAs, IsLow, IsNamed, AreOctets, AreSound};
 
 use crate::cursor::{Cursor, Stop};
 use crate::fault::Wanted;
@@ -75,11 +73,8 @@ pub fn read_value(
     number: u32,
     depth: u32,
 ) -> Result<Value, Stop>
-    ensures read { IfOk result (λ value. Reads types.now.names.now types.now.graph.now number depth
+    ensures { IfOk result (λ value. Reads types.now.names.now types.now.graph.now number depth
         (token_of token.entry) cursor.old (tree_of value) cursor.new) }
-    ensures refused { IfErr result (λ stop. RefusesAs stop (AreSound types.now.names.now types.now.graph.now
-        → (value : Tree) (new : List SpecToken) → Reads types.now.names.now types.now.graph.now number depth
-        (token_of token.entry) cursor.old value new → ⊥)) }
 {
     let Some(node) = types.graph.nodes().get(number as usize) else {
         return Err(cursor.refuse(token, Wanted::Whole));
@@ -126,11 +121,8 @@ fn read_whole(
     number: u32,
     node: &Node,
 ) -> Result<Value, Stop>
-    ensures read { IfOk result (λ value. (n : ℤ) × (tree_of value ≡ Number n) × IsNumber node.now n
+    ensures { IfOk result (λ value. (n : ℤ) × (tree_of value ≡ Number n) × IsNumber node.now n
         × SaysNumber (names_at types.now.names.now number) node.now n (token_of token.entry)) }
-    ensures refused { IfErr result (λ stop. RefusesAs stop (IsLow node.now
-        → IsNamed node.now (names_at types.now.names.now number) → (n : ℤ) → IsNumber node.now n
-        → SaysNumber (names_at types.now.names.now number) node.now n (token_of token.entry) → ⊥)) }
 {
     let labels = types.names.of(number);
     let n = read_number(cursor, token, alloc, types.lookup, labels, number, node)?;
@@ -148,12 +140,9 @@ fn read_elements(
     counts: Counts,
     depth: u32,
 ) -> Result<Value, Stop>
-    ensures read { IfOk result (λ value. (values : Trees) × (tree_of value ≡ Items values)
+    ensures { IfOk result (λ value. (values : Trees) × (tree_of value ≡ Items values)
         × ReadsElements types.now.names.now types.now.graph.now elem counts.least counts.most depth
         (token_of token.entry) cursor.old values cursor.new) }
-    ensures refused { IfErr result (λ stop. RefusesAs stop (AreSound types.now.names.now types.now.graph.now
-        → (values : Trees) (new : List SpecToken) → ReadsElements types.now.names.now types.now.graph.now elem
-        counts.least counts.most depth (token_of token.entry) cursor.old values new → ⊥)) }
 {
     let values = read_items(cursor, token, alloc, types, elem, counts.most, depth)?;
     if !counts.allow(values.len()) {
@@ -173,12 +162,8 @@ fn read_items(
     most: usize,
     depth: u32,
 ) -> Result<Vec<Value>, Stop>
-    ensures read { IfOk result (λ values. ReadsItems types.now.names.now types.now.graph.now elem depth
+    ensures { IfOk result (λ values. ReadsItems types.now.names.now types.now.graph.now elem depth
         (token_of token.entry) cursor.old (trees_of values.items) cursor.new) }
-    ensures refused { IfErr result (λ stop. RefusesAs stop (AreSound types.now.names.now types.now.graph.now
-        → (values : Trees) (new : List SpecToken) → count values ≤ most
-        → ReadsItems types.now.names.now types.now.graph.now elem depth (token_of token.entry) cursor.old values new
-        → ⊥)) }
 {
     match token {
         Token::BeginArray => read_list(cursor, alloc, types, elem, most, depth),
@@ -196,11 +181,8 @@ fn read_together(
     elem: u32,
     text: &str,
 ) -> Result<Vec<Value>, Stop>
-    ensures read { IfOk result (λ values. (octets : List ℕ)
-        × SaysTogether (node_at types.now.graph.now elem) octets (string text.now ∷ [])
-        × IsOctets octets values.items) }
-    ensures refused { IfErr result (λ stop. RefusesAs stop ((octets : List ℕ) → AreOctets octets
-        → SaysTogether (node_at types.now.graph.now elem) octets (string text.now ∷ []) → ⊥)) }
+    ensures { IfOk result (λ values. (octets : List ℕ) × SaysTogether (node_at types.now.graph.now elem) octets
+        (string text.now ∷ []) × IsOctets octets values.items) }
 {
     match types.graph.nodes().get(elem as usize) {
         Some(Node::Octet) => read_octets(cursor, token, alloc, text),
@@ -219,12 +201,8 @@ fn read_list(
     most: usize,
     depth: u32,
 ) -> Result<Vec<Value>, Stop>
-    ensures listed { IfOk result (λ values. ReadsList types.now.names.now types.now.graph.now (replicate
-        (length values.items) elem) depth cursor.old (trees_of values.items) cursor.new) }
-    ensures refused { IfErr result (λ stop. RefusesAs stop (AreSound types.now.names.now types.now.graph.now
-        → (values : Trees) (new : List SpecToken) → count values ≤ most
-        → ReadsList types.now.names.now types.now.graph.now (replicate (count values) elem) depth cursor.old values new
-        → ⊥)) }
+    ensures listed { IfOk result (λ values. ReadsList types.now.names.now types.now.graph.now
+        (replicate (length values.items) elem) depth cursor.old (trees_of values.items) cursor.new) }
     ensures counted { IfOk result (λ values. length values.items ≤ most) }
 {
     let mut values = Vec::new(alloc);
@@ -248,12 +226,9 @@ fn read_members(
     members: &[u32],
     depth: u32,
 ) -> Result<Value, Stop>
-    ensures read { IfOk result (λ value. (values : Trees) × (tree_of value ≡ Items values)
+    ensures { IfOk result (λ value. (values : Trees) × (tree_of value ≡ Items values)
         × ReadsMembers types.now.names.now types.now.graph.now (names_at types.now.names.now number) members.now depth
         (token_of token.entry) cursor.old values cursor.new) }
-    ensures refused { IfErr result (λ stop. RefusesAs stop (AreSound types.now.names.now types.now.graph.now
-        → (values : Trees) (new : List SpecToken) → ReadsMembers types.now.names.now types.now.graph.now
-        (names_at types.now.names.now number) members.now depth (token_of token.entry) cursor.old values new → ⊥)) }
 {
     let are_named = types.names.of(number).len() == members.len();
     match token {
@@ -278,11 +253,8 @@ fn read_row(
     members: &[u32],
     depth: u32,
 ) -> Result<Vec<Value>, Stop>
-    ensures read { IfOk result (λ values. ReadsList types.now.names.now types.now.graph.now members.now depth cursor.old
+    ensures { IfOk result (λ values. ReadsList types.now.names.now types.now.graph.now members.now depth cursor.old
         (trees_of values.items) cursor.new) }
-    ensures refused { IfErr result (λ stop. RefusesAs stop (AreSound types.now.names.now types.now.graph.now
-        → (values : Trees) (new : List SpecToken) → ReadsList types.now.names.now types.now.graph.now members.now depth
-        cursor.old values new → ⊥)) }
 {
     let mut values = Vec::new(alloc);
     for member in members {
@@ -314,13 +286,8 @@ fn read_object(
     members: &[u32],
     depth: u32,
 ) -> Result<Vec<Value>, Stop>
-    ensures read { IfOk result (λ values. ReadsObject types.now.names.now types.now.graph.now
+    ensures { IfOk result (λ values. ReadsObject types.now.names.now types.now.graph.now
         (names_at types.now.names.now number) members.now depth cursor.old (trees_of values.items) cursor.new) }
-    ensures refused { IfErr result (λ stop. RefusesAs stop (AreSound types.now.names.now types.now.graph.now
-        → AreApart (names_at types.now.names.now number)
-        → length (names_at types.now.names.now number) ≡ length members.now → (values : Trees) (new : List SpecToken)
-        → ReadsObject types.now.names.now types.now.graph.now (names_at types.now.names.now number) members.now depth
-        cursor.old values new → ⊥)) }
 {
     let mut slots = empty_slots(alloc, members.len())?;
     'each: while let Some(label) = cursor.next_key()? {
@@ -384,9 +351,7 @@ fn values_of_slots(
     alloc: Global,
     slots: Vec<Option<Value>>,
 ) -> Result<Vec<Value>, Stop>
-    ensures read { IfOk result (λ values. slots.items ≡ map Some values.items) }
-    ensures refused { IfErr result (λ stop. RefusesAs stop ((values : List SpecValue) → slots.items ≡ map Some values
-        → ⊥)) }
+    ensures { IfOk result (λ values. slots.items ≡ map Some values.items) }
 {
     let mut values = Vec::with_capacity(alloc, slots.len())?;
     for slot in slots {
@@ -410,13 +375,9 @@ fn read_choice(
     default: Option<u32>,
     depth: u32,
 ) -> Result<Value, Stop>
-    ensures read { IfOk result (λ value. (labels : List (List ℕ))
+    ensures { IfOk result (λ value. (labels : List (List ℕ))
         → ReadsAs types.now.names.now types.now.graph.now labels (Union switch arms.now default) depth
         (token_of token.entry) cursor.old (tree_of value) cursor.new) }
-    ensures refused { IfErr result (λ stop. RefusesAs stop (AreSound types.now.names.now types.now.graph.now
-        → (labels : List (List ℕ)) (value : Tree) (new : List SpecToken)
-        → ReadsAs types.now.names.now types.now.graph.now labels (Union switch arms.now default) depth
-        (token_of token.entry) cursor.old value new → ⊥)) }
 {
     let Token::BeginArray = token else {
         return Err(cursor.refuse(token, Wanted::List));
@@ -437,11 +398,8 @@ fn read_chosen(
     chosen: Option<u32>,
     depth: u32,
 ) -> Result<Option<Box<Value>>, Stop>
-    ensures read { IfOk result (λ member. ReadsParts types.now.names.now types.now.graph.now
+    ensures { IfOk result (λ member. ReadsParts types.now.names.now types.now.graph.now
         (option_to_list chosen) depth cursor.old (member_of member) cursor.new) }
-    ensures refused { IfErr result (λ stop. RefusesAs stop (AreSound types.now.names.now types.now.graph.now
-        → (values : Trees) (new : List SpecToken) → ReadsParts types.now.names.now types.now.graph.now
-        (option_to_list chosen) depth cursor.old values new → ⊥)) }
 {
     let Some(number) = chosen else {
         return Ok(None);
@@ -463,10 +421,6 @@ fn read_label(
     ensures says { IfOk result (λ n. (said : SpecToken)
         × SaysNumber (names_at types.now.names.now switch) (node_at types.now.graph.now switch) n said
         × (cursor.old ≡ said ∷ cursor.new)) }
-    ensures refused { IfErr result (λ stop. RefusesAs stop (AreSound types.now.names.now types.now.graph.now
-        → (n : ℤ) (said : SpecToken) (more : List SpecToken) → IsNumber (node_at types.now.graph.now switch) n
-        → SaysNumber (names_at types.now.names.now switch) (node_at types.now.graph.now switch) n said
-        → cursor.old ≡ said ∷ more → ⊥)) }
 {
     let token = cursor.next_part()?;
     let Some(node) = types.graph.nodes().get(switch as usize) else {

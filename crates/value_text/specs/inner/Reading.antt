@@ -103,7 +103,7 @@ pub record ReadsItems (names : List (List (List ℕ))) (graph : List Node) (elem
   pub fit : FitAll graph (replicate (count values) elem) values depth
   pub whole : SaysTogether (node_at graph elem) (octets_of values) (token ∷ more)
       ⊎ ((texts : List (List Token)) × SayAll names graph (replicate (count values) elem) values texts
-          × IsList texts (token ∷ more))
+      × IsList texts (token ∷ more))
 
 -- the same, at least and at most so many
 abbrev pub ReadsElements : List (List (List ℕ)) → List Node → ℕ → ℕ → ℕ → ℕ → Token → List Token → Trees → List Token

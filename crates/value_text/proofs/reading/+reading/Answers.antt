@@ -95,7 +95,7 @@ read_row-loop-member-preserved t c =
     subst (λ l. ReadsParts names graph (take (i + 1) members) c.args.depth c.args.cursor.now (trees_of l) new) (sym pushed)
     (subst (λ l. ReadsParts names graph l c.args.depth c.args.cursor.now (trees_of (values ++ value ∷ [])) new) (take_more members i c.loop-member-test.true)
     (parts_more names graph (take i members) (get_or members i 0) c.args.depth c.args.cursor.now values c.loop-member.cursor token behind value new
-    c.loop-member.invariant (next_good c.loop-member.cursor token behind c.in_ok-token.ensures.some) c.in_ok-read_value.ensures.read))
+    c.loop-member.invariant (next_good c.loop-member.cursor token behind c.in_ok-token.ensures) c.in_ok-read_value.ensures))
 
 pub read_list-loop-token-preserved : goal.read_list-loop-token-preserved
 read_list-loop-token-preserved t c =
@@ -114,7 +114,7 @@ read_list-loop-token-preserved t c =
       subst (λ l. ReadsParts names graph (replicate (length c.push.new.self.items) elem) c.args.depth c.args.cursor.now (trees_of l) new) (sym pushed)
           (subst (λ l. ReadsParts names graph l c.args.depth c.args.cursor.now (trees_of (values ++ value ∷ [])) new) copies
           (parts_more names graph (replicate (length values) elem) elem c.args.depth c.args.cursor.now values c.loop-token.cursor token behind value new
-          c.loop-token.invariant.0 (next_good c.loop-token.cursor token behind c.in-Some.ensures.some.0) c.in_ok-read_value.ensures.read)),
+          c.loop-token.invariant.0 (next_good c.loop-token.cursor token behind c.in-Some.ensures.some.0) c.in_ok-read_value.ensures)),
       omega (arith, long, c.if-len-most.false, c.len.ensures),
     )
 
@@ -148,11 +148,11 @@ read_object-each-preserved t c =
       ap length c.fill.ensures ∙ length-set slots place (Some value) ∙ c.each.invariant.0,
       subst (λ l. ReadsSlots names graph (names_at names number) members c.args.depth c.args.cursor.now l new) (sym c.fill.ensures)
           (slots_more names graph (names_at names number) members c.args.depth c.args.cursor.now slots c.each.cursor c.in-Some.label.now place c.in_ok-member.member first token behind value new
-          c.each.invariant.1 named (next_good first token behind c.next-token.ensures) at free c.in_ok-member.ensures.member c.in_ok-value.ensures.read),
+          c.each.invariant.1 named (next_good first token behind c.next-token.ensures) at free c.in_ok-member.ensures.member c.in_ok-value.ensures),
     )
 
-pub read_object-returns-clause-read : goal.read_object-returns-clause-read
-read_object-returns-clause-read t c =
+pub read_object-returns : goal.read_object-returns
+read_object-returns t c =
     let names = c.args.types.now.names.now in
     let graph = c.args.types.now.graph.now in
     let members = c.args.members.now in
@@ -162,10 +162,10 @@ read_object-returns-clause-read t c =
     IfOk-weaker c.values_of_slots.result _ _ (λ values full.
     slots_all names graph labels members c.args.depth c.args.cursor.now values.items new
     (subst (λ l. ReadsSlots names graph labels members c.args.depth c.args.cursor.now (map Some values.items) l) ended
-    (subst (λ l. ReadsSlots names graph labels members c.args.depth c.args.cursor.now l c.each.cursor) full c.each.invariant.1))) c.values_of_slots.ensures.read
+    (subst (λ l. ReadsSlots names graph labels members c.args.depth c.args.cursor.now l c.each.cursor) full c.each.invariant.1))) c.values_of_slots.ensures
 
-pub read_value-returns-in-Text-clause-read : goal.read_value-returns-in-Text-clause-read
-read_value-returns-in-Text-clause-read t c =
+pub read_value-returns-in-Text : goal.read_value-returns-in-Text
+read_value-returns-in-Text t c =
     let names = c.args.types.now.names.now in
     let graph = c.args.types.now.graph.now in
     let number = c.args.number in
@@ -176,8 +176,8 @@ read_value-returns-in-Text-clause-read t c =
     subst (λ at. ReadsAs names graph (names_at names number) at c.args.depth token c.args.cursor.now (tree_of value) c.args.cursor.now) is
     (text_read names graph (names_at names number) c.in-Text.bound c.args.depth token c.args.cursor.now (tree_of value) h)) c.read_text.ensures.said
 
-pub read_value-returns-in_default-node-clause-read : goal.read_value-returns-in_default-node-clause-read
-read_value-returns-in_default-node-clause-read t c =
+pub read_value-returns-in_default-node : goal.read_value-returns-in_default-node
+read_value-returns-in_default-node t c =
     let names = c.args.types.now.names.now in
     let graph = c.args.types.now.graph.now in
     let number = c.args.number in
@@ -185,10 +185,10 @@ read_value-returns-in_default-node-clause-read t c =
     let node : c.in-Some.node.now ≡ node_at graph number = search rules in
     IfOk-weaker c.read_whole.result _ _ (λ value h.
     subst (λ at. ReadsAs names graph (names_at names number) at c.args.depth token c.args.cursor.now (tree_of value) c.args.cursor.now) node
-    (number_read names graph (names_at names number) c.in-Some.node.now c.args.depth token c.args.cursor.now (tree_of value) h.0 h.1 h.2 h.3)) c.read_whole.ensures.read
+    (number_read names graph (names_at names number) c.in-Some.node.now c.args.depth token c.args.cursor.now (tree_of value) h.0 h.1 h.2 h.3)) c.read_whole.ensures
 
-pub read_value-returns-in-Array-clause-read : goal.read_value-returns-in-Array-clause-read
-read_value-returns-in-Array-clause-read t c =
+pub read_value-returns-in-Array : goal.read_value-returns-in-Array
+read_value-returns-in-Array t c =
     let names = c.args.types.now.names.now in
     let graph = c.args.types.now.graph.now in
     let number = c.args.number in
@@ -200,34 +200,34 @@ read_value-returns-in-Array-clause-read t c =
     IfOk-weaker c.read_elements-in-Array.result _ _ (λ value h.
     let counted : count h.0 ≡ c.in-Array.n = omega (arith, counts.0, counts.1, h.2.0, h.2.1) in
     subst (λ at. ReadsAs names graph (names_at names number) at c.args.depth token c.args.cursor.now (tree_of value) new) is
-    (array_read names graph (names_at names number) c.in-Array.elem c.in-Array.n c.args.depth token c.args.cursor.now (tree_of value) h.0 new counted h.1 h.2.2)) c.read_elements-in-Array.ensures.read
+    (array_read names graph (names_at names number) c.in-Array.elem c.in-Array.n c.args.depth token c.args.cursor.now (tree_of value) h.0 new counted h.1 h.2.2)) c.read_elements-in-Array.ensures
 
-pub read_items-returns-in-BeginArray-clause-read : goal.read_items-returns-in-BeginArray-clause-read
-read_items-returns-in-BeginArray-clause-read t c =
+pub read_items-returns-in-BeginArray : goal.read_items-returns-in-BeginArray
+read_items-returns-in-BeginArray t c =
     let names = c.args.types.now.names.now in
     let graph = c.args.types.now.graph.now in
     let new = c.read_list.new.cursor in
     IfOk-weaker c.read_list.result _ _ (λ values h.
     list_read names graph c.args.elem c.args.depth (token_of c.args.token) c.args.cursor.now values.items new (ap token_of c.in-BeginArray.is) h) c.read_list.ensures.listed
 
-pub read_items-returns-in-String-clause-read : goal.read_items-returns-in-String-clause-read
-read_items-returns-in-String-clause-read t c =
+pub read_items-returns-in-String : goal.read_items-returns-in-String
+read_items-returns-in-String t c =
     let names = c.args.types.now.names.now in
     let graph = c.args.types.now.graph.now in
     IfOk-weaker c.read_together.result _ _ (λ values h.
-    together_read names graph c.args.elem c.args.depth c.in-String.text.now (token_of c.args.token) c.args.cursor.now h.0 values.items (ap token_of c.in-String.is) h.1 h.2) c.read_together.ensures.read
+    together_read names graph c.args.elem c.args.depth c.in-String.text.now (token_of c.args.token) c.args.cursor.now h.0 values.items (ap token_of c.in-String.is) h.1 h.2) c.read_together.ensures
 
-pub read_elements-returns-clause-read : goal.read_elements-returns-clause-read
-read_elements-returns-clause-read t c =
+pub read_elements-returns : goal.read_elements-returns
+read_elements-returns t c =
     let names = c.args.types.now.names.now in
     let graph = c.args.types.now.graph.now in
     let values = c.in_ok-values.values in
     let allowed : (c.args.counts.least ≤ length values.items) × (length values.items ≤ c.args.counts.most) = search rules in
     let counted = count_trees names graph values.items in
-    (trees_of values.items, tree_of-items values, (omega (arith, allowed.0, counted), omega (arith, allowed.1, counted), c.in_ok-values.ensures.read))
+    (trees_of values.items, tree_of-items values, (omega (arith, allowed.0, counted), omega (arith, allowed.1, counted), c.in_ok-values.ensures))
 
-pub read_members-returns-in_ok-values-in-BeginObject-clause-read : goal.read_members-returns-in_ok-values-in-BeginObject-clause-read
-read_members-returns-in_ok-values-in-BeginObject-clause-read t c =
+pub read_members-returns-in_ok-values-in-BeginObject : goal.read_members-returns-in_ok-values-in-BeginObject
+read_members-returns-in_ok-values-in-BeginObject t c =
     let names = c.args.types.now.names.now in
     let graph = c.args.types.now.graph.now in
     let labels = names_at names c.args.number in
@@ -237,11 +237,11 @@ read_members-returns-in_ok-values-in-BeginObject-clause-read t c =
       trees_of values.items,
       tree_of-items values,
       object_read names graph labels members c.args.depth (token_of c.args.token) c.args.cursor.now (trees_of values.items) c.read_object.new.cursor
-          (ap token_of c.in-BeginObject.is) named c.in_ok-values-in-BeginObject.ensures.read,
+          (ap token_of c.in-BeginObject.is) named c.in_ok-values-in-BeginObject.ensures,
     )
 
-pub read_members-returns-in_ok-values-in-BeginArray-clause-read : goal.read_members-returns-in_ok-values-in-BeginArray-clause-read
-read_members-returns-in_ok-values-in-BeginArray-clause-read t c =
+pub read_members-returns-in_ok-values-in-BeginArray : goal.read_members-returns-in_ok-values-in-BeginArray
+read_members-returns-in_ok-values-in-BeginArray t c =
     let names = c.args.types.now.names.now in
     let graph = c.args.types.now.graph.now in
     let labels = names_at names c.args.number in
@@ -250,11 +250,11 @@ read_members-returns-in_ok-values-in-BeginArray-clause-read t c =
       trees_of values.items,
       tree_of-items values,
       row_read names graph labels members c.args.depth (token_of c.args.token) c.args.cursor.now (trees_of values.items) c.read_row.new.cursor
-          (ap token_of c.in-BeginArray.is) c.in_ok-values-in-BeginArray.ensures.read,
+          (ap token_of c.in-BeginArray.is) c.in_ok-values-in-BeginArray.ensures,
     )
 
-pub read_choice-returns-clause-read : goal.read_choice-returns-clause-read
-read_choice-returns-clause-read t c = λ labels.
+pub read_choice-returns : goal.read_choice-returns
+read_choice-returns t c = λ labels.
     let names = c.args.types.now.names.now in
     let graph = c.args.types.now.graph.now in
     let switch = c.args.switch in
@@ -271,15 +271,15 @@ read_choice-returns-clause-read t c = λ labels.
     let fits : SFits w128 disc = search rules in
     let disc_is = to_z-of_z w128 disc fits in
     let chosen = c.chosen-chosen.ensures ∙ ap (arm_of arms default) disc_is in
-    let parts = subst (λ l. ReadsParts names graph l depth first (member_of member) mid) chosen c.in_ok-member.ensures.read in
+    let parts = subst (λ l. ReadsParts names graph l depth first (member_of member) mid) chosen c.in_ok-member.ensures in
     let says = c.in_ok-disc.ensures.says in
     let read = choice_read names graph labels switch arms default depth disc says.0 token old first mid new (member_of member) (ap token_of c.in-BeginArray.is) c.in_ok-disc.ensures.number says.1 says.2
-    parts c.in_ok-end_list.ensures.ended in
+    parts c.in_ok-end_list.ensures in
     let tree = tree_of-choice (to_z w128 (of_z w128 disc)) member ∙ ap (λ n. Choice n (member_of member)) disc_is in
     subst (λ v. ReadsAs names graph labels (Union switch arms default) depth token old v new) (sym tree) read
 
-pub read_chosen-returns-clause-read : goal.read_chosen-returns-clause-read
-read_chosen-returns-clause-read t c =
+pub read_chosen-returns : goal.read_chosen-returns
+read_chosen-returns t c =
     let names = c.args.types.now.names.now in
     let graph = c.args.types.now.graph.now in
     let number = c.in-Some.number in
@@ -290,6 +290,6 @@ read_chosen-returns-clause-read t c =
     let value = c.in_ok-value.value in
     let new = c.read_value.new.cursor in
     let same : c.in_ok-member.member.value ≡ value = search rules in
-    let one = parts_more names graph [] number depth old [] old token behind value new (parts_none names graph depth old) (next_good old token behind c.in_ok-token.ensures.some) c.in_ok-value.ensures.read in
+    let one = parts_more names graph [] number depth old [] old token behind value new (parts_none names graph depth old) (next_good old token behind c.in_ok-token.ensures) c.in_ok-value.ensures in
     subst (λ l. ReadsParts names graph (option_to_list l) depth old (member_of (Some c.in_ok-member.member)) new) (sym c.in-Some.is)
     (subst (λ v. ReadsParts names graph (number ∷ []) depth old (AndTree (tree_of v) NoTree) new) (sym same) one)
