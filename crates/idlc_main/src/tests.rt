@@ -2,10 +2,11 @@ use crate::run;
 use std::io;
 use std::net::Net;
 use std::process::Abort;
+use std::time::Clock;
 use table_commands::WholeFiles;
 
 /// Runs the program over memory with the words of a line, which blanks part.
-fn run_line<R: WholeFiles + Net + AllocGlobal, O: io::Write, E: io::Write>(
+fn run_line<R: WholeFiles + Net + Clock + Eprint + AllocGlobal, O: io::Write, E: io::Write>(
     rt: &R,
     line: &str,
     out: &mut O,
@@ -21,7 +22,7 @@ fn run_line<R: WholeFiles + Net + AllocGlobal, O: io::Write, E: io::Write>(
 }
 
 /// Holds the status and the streams of a run to what is wanted.
-fn expect<R: WholeFiles + Net + AllocGlobal + Abort>(
+fn expect<R: WholeFiles + Net + Clock + Eprint + AllocGlobal + Abort>(
     rt: &R,
     line: &str,
     status: u8,
@@ -208,7 +209,12 @@ fn refers_and_explains(rt: HostRuntime) {
 }
 
 /// The words behind the first, and the fault behind the name of the program.
-fn refuse<R: WholeFiles + Net + AllocGlobal + Abort>(rt: &R, words: &str, status: u8, fault: &str) {
+fn refuse<R: WholeFiles + Net + Clock + Eprint + AllocGlobal + Abort>(
+    rt: &R,
+    words: &str,
+    status: u8,
+    fault: &str,
+) {
     let line = format!(in rt.alloc(); "idlc {words}");
     let told = format!(in rt.alloc(); "idlc: {fault}\n");
     match (line, told) {
