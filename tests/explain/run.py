@@ -1,6 +1,6 @@
 """Runs the proved program: `explain`, `--version`, and `compile` of a faulty file on a pipe and on a pseudo terminal.
 
-The texts of faults in the crates are held to the table of numbers and names, which `explain` lists.
+The texts of faults in the program's crates are held to the table of numbers and names, which `explain` lists.
 """
 import os
 import pty
@@ -9,7 +9,7 @@ import shutil
 import subprocess
 
 from driver.suite import Count
-from driver.workspace import TOP
+from driver.workspace import TOP, crates_below, listed_crates
 
 PROGRAM = TOP / "crates" / "idlc_main" / "out" / "idlc_main"
 
@@ -74,12 +74,19 @@ def names(test, count):
         text = test.call([PROGRAM, "explain", number]).out
         named = test.call([PROGRAM, "explain", name.lower()]).out
         count.add(text.startswith(f"{line}\n") and text in named, f"explain {line}: {text}{named}")
-    for source in sorted(TOP.glob("crates/*/src/**/*.rt")):
+    for source in sources():
         for told in TOLD.findall(source.read_text()):
             count.add(told in lines, f"{source.relative_to(TOP)}: {told} is no number with its name")
     done = test.call([PROGRAM, "explain", "Nothing"])
     wanted = (2, "", "idlc: no refusal has the name Nothing\n")
     count.add((done.status, done.out, done.err) == wanted, f"explain Nothing: {done.status} {done.out}{done.err}")
+
+
+
+def sources():
+    """The sources of the crates on which the program stands."""
+    crates = [*crates_below(listed_crates(), ["idlc_main"])]
+    return sorted(path for crate in crates for path in (TOP / "crates" / crate / "src").rglob("*.rt"))
 
 
 def run(test):

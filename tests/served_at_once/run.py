@@ -59,6 +59,14 @@ class Server:
     """The program, which serves the object of `hello.idl`."""
 
     def __init__(self, table, connections, *words):
+        # another process may take the port that was free a moment ago
+        for _ in range(9):
+            self.start(table, connections, words)
+            if self.line:
+                return
+            self.process.communicate(timeout=60)
+
+    def start(self, table, connections, words):
         with socket.socket() as probe:
             probe.bind(("127.0.0.1", 0))
             self.port = probe.getsockname()[1]
