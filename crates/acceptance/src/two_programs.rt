@@ -75,9 +75,8 @@ fn octets_of_a_value(alloc: Global, table: &Accepted) -> Result<String, Fail> {
         name: "S",
         order: Order::Little,
         pos: 3,
-        hex: "0700000001000000026869",
     };
-    Ok(marshal(alloc, table, &request)?)
+    Ok(marshal(alloc, table, &request, "0700000001000000026869")?)
 }
 
 /// All that a table tells: its listing, what it answers of names, which nodes are named and which not served, a value.

@@ -1,5 +1,5 @@
 -- Which command asks for what.
-use Rattle.std.proofs.Common.{◌≡◌, ◌∙◌, refl, List, Option, Some, IsSomeAnd, ap, codes, length, arith}
+use Rattle.std.proofs.Common.{◌≡◌, ◌∙◌, refl, sym, List, Option, Some, IsSomeAnd, ap, codes, length, arith}
 use Rattle.clap.specs.Words.{Row, Text}
 use Rattle.table_commands.specs.declared.values.Way.{Way}
 use Rattle.table_commands.specs.declared.values.Way.TheVariants.{Encode, Decode}
@@ -18,8 +18,8 @@ abbrev pub IsFor : Ask → Option Task → Type 0
 IsFor ask result = IsSomeAnd result (λ task. ask_of task ≡ Some ask)
 
 pub by_value : (way : Way) (ask : Ask) (rows : List Row) (result : Option Task) → name_of way ≡ command_of ask → Tells rows ask
-    → ((value : ValueAsk) → way ≡ value.value.way → TellsValue rows value → IsFor (Value value) result) → IsFor ask result
-by_value way (Value value) rows result is tells then = then value (same_way way value.value.way is) tells
+    → ((value : ValueAsk) → value.value.way ≡ way → TellsValue rows value → IsFor (Value value) result) → IsFor ask result
+by_value way (Value value) rows result is tells then = then value (sym (same_way way value.value.way is)) tells
 by_value Encode (Reference reference) rows result is tells then = absurd (different 6 3 (ap length is) (omega arith))
 by_value Decode (Reference reference) rows result is tells then = absurd (different 6 3 (ap length is) (omega arith))
 by_value Encode (Explanation word) rows result is tells then = absurd (different 6 7 (ap length is) (omega arith))

@@ -1,5 +1,6 @@
 pub mod ByCommand
 pub mod Globals
+pub mod Inputs
 pub mod Mistakes
 pub mod References
 pub mod Requests

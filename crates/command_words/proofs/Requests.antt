@@ -11,7 +11,8 @@ use Rattle.table_commands.specs.declared.values.Way.TheVariants.{Encode, Decode}
 use Rattle.command_words.specs.Way.{name_of}
 use Rattle.command_words.specs.declared.task.ValueTask.{ValueTask}
 use Rattle.command_words.specs.Ask.{Value, ValueAsk, value_ask_of}
-use Rattle.command_words.specs.Words.{TellsValue, word_of}
+use Rattle.command_words.specs.declared.task.Form.{Form}
+use Rattle.command_words.specs.Words.{TellsPlace, word_of}
 
 pub same_some : (found : Option Text) (a b : Text) → found ≡ Some a → found ≡ Some b → a ≡ b
 same_some found a b first second = let both : Some a ≡ Some b = sym first ∙ second in cc
@@ -28,65 +29,53 @@ order_of found Big Big is little = refl
 order_of found Little Big is little =
     absurd (different 6 3 (ap length (same_some found (codes "little") (codes "big") (little.0 refl) is)) (omega arith))
 
-module _ (found : Found) (way : Way) where
+module _ (found : Found) (way : Way) (form : Form) (input : Text) where
   -- the request has what was found for each word
   pub record IsRequest (asked : ValueTask) : Type 0 where
     pub way_is : asked.request.way ≡ way
+    pub form_is : asked.form ≡ form
+    pub input_is : asked.input.now ≡ input
     pub table : first_value found (codes "T") ≡ Some asked.table.now
     pub name : first_value found (codes "NAME") ≡ Some asked.request.name.now
     pub order : (asked.request.order ≡ Little) ↔ (first_value found (codes "ORDER") ≡ Some (codes "little"))
     pub pos : (text : Text) → one_text found (codes "POS") ≡ Some text → digits_value 10 (without_leading_plus text) ≡ asked.request.pos
-    pub hex : first_value found (codes "HEX") ≡ Some asked.request.hex.now
 
   -- nothing is missing where each word was found
   abbrev pub IsWhole : Option ValueTask → Type 0
   IsWhole result = IsSome (first_value found (codes "T"))
       → IsSome (first_value found (codes "NAME"))
       → IsSome (first_value found (codes "ORDER"))
-      → IsSome (first_value found (codes "HEX"))
       → (text : Text) → one_text found (codes "POS") ≡ Some text
       → IsNumeral 10 (without_leading_plus text)
       → digits_value 10 (without_leading_plus text) < 2 ^ 64 → IsSome result
 
-  module _ (ask : ValueAsk) (tells : TellsValue (rows_of found) ask) where
+  module _ (ask : ValueAsk) (tells : TellsPlace (rows_of found) ask) where
     found_first : (id text : Text) → first_of id (rows_of found) ≡ Some text → first_value found id ≡ Some text
     found_first id text is = first_value-rows found id ∙ is
 
     digits_are : one_text found (codes "POS") ≡ Some tells.pos.digits
     digits_are = one_text-rows found (codes "POS") ∙ tells.pos.found
 
-    pub is_asked : (asked : ValueTask) → way ≡ ask.value.way → IsRequest asked → value_ask_of asked ≡ ask
-    is_asked asked way_is is =
+    pub is_asked : (asked : ValueTask) → way ≡ ask.value.way → form ≡ ask.form → input ≡ ask.value.input → IsRequest asked
+        → value_ask_of asked ≡ ask
+    is_asked asked way_is form_is input_is is =
         let table : asked.table.now ≡ ask.table = same_some _ _ _ is.table (found_first _ _ tells.table) in
         let name : asked.request.name.now ≡ ask.value.name = same_some _ _ _ is.name (found_first _ _ tells.name) in
         let order : asked.request.order ≡ ask.value.order = order_of _ _ _ (found_first _ _ tells.order) is.order in
         let pos : asked.request.pos ≡ ask.value.pos = sym (is.pos tells.pos.digits digits_are) ∙ tells.pos.is in
-        let hex : asked.request.hex.now ≡ ask.value.hex = same_some _ _ _ is.hex (found_first _ _ tells.hex) in
-        rw (is.way_is ∙ way_is, table, name, order, pos, hex) refl
+        rw (is.way_is ∙ way_is, is.form_is ∙ form_is, is.input_is ∙ input_is, table, name, order, pos) refl
 
     pub some_asked : (result : Option ValueTask) → IsWhole result → IsSome result
     some_asked result whole = whole (some_since _ _ (found_first _ _ tells.table)) (some_since _ _ (found_first _ _ tells.name))
-        (some_since _ _ (found_first _ _ tells.order)) (some_since _ _ (found_first _ _ tells.hex))
+        (some_since _ _ (found_first _ _ tells.order))
         tells.pos.digits digits_are tells.pos.numeral (rw tells.pos.is tells.pos.fits)
 
-    pub asked : (result : Option ValueTask) → way ≡ ask.value.way → IsWhole result
-        → IfSome result (λ asked. asked.request.way ≡ way)
-        → IfSome result (λ asked. first_value found (codes "T") ≡ Some asked.table.now)
-        → IfSome result (λ asked. first_value found (codes "NAME") ≡ Some asked.request.name.now)
-        → IfSome result (λ asked. (asked.request.order ≡ Little) ↔ (first_value found (codes "ORDER") ≡ Some (codes "little")))
-        → IfSome result (λ asked. (text : Text) → one_text found (codes "POS") ≡ Some text → digits_value 10 (without_leading_plus text) ≡ asked.request.pos)
-        → IfSome result (λ asked. first_value found (codes "HEX") ≡ Some asked.request.hex.now)
+    pub asked : (result : Option ValueTask) → way ≡ ask.value.way → form ≡ ask.form → input ≡ ask.value.input → IsWhole result
+        → IfSome result IsRequest
         → IsSomeAnd result (λ asked. Some (Value (value_ask_of asked)) ≡ Some (Value ask))
-    asked None way_is whole way table name order pos hex =
+    asked None way_is form_is input_is whole is =
         let bad : false ≡ true = some_asked None whole in absurd cc
-    asked (Some it) way_is whole way table name order pos hex = ap (λ a. Some (Value a)) (is_asked it way_is (record {
-      way_is = way;
-      table = table;
-      name = name;
-      order = order;
-      pos = pos;
-      hex = hex;
-    }))
+    asked (Some it) way_is form_is input_is whole is = ap (λ a. Some (Value a)) (is_asked it way_is form_is input_is is)
 
 pub same_way : (a b : Way) → name_of a ≡ name_of b → a ≡ b
 same_way Encode Encode same = refl

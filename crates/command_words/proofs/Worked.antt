@@ -10,6 +10,7 @@ use Rattle.clap.proofs.OnLiterals.{clap_on_literals}
 use Rattle.type_graph.specs.declared.width.Order.TheVariants.{Big}
 use Rattle.table_commands.specs.declared.values.Way.TheVariants.{Encode}
 use Rattle.command_words.specs.Ask.{Ask, Explanation, Reference, Value}
+use Rattle.command_words.specs.declared.task.Form.TheVariants.{Hex}
 use Rattle.command_words.specs.Commands.{program_app}
 use Rattle.command_words.specs.Words.{AsksFor, IsReadAs, Tells, texts}
 
@@ -19,7 +20,8 @@ words = codes "idlc" ∷ codes "encode" ∷ codes "builtin" ∷ codes "S" ∷ co
 abbrev ask : Ask
 ask = Value (record {
   table = codes "builtin";
-  value = record { way = Encode; name = codes "S"; order = Big; pos = 12; hex = codes "07" };
+  form = Hex;
+  value = record { way = Encode; name = codes "S"; order = Big; pos = 12; input = codes "07" };
 })
 
 -- what clap keeps of a word
@@ -56,17 +58,19 @@ module _ (orders : Bor (List (Bor Text))) (are : texts orders.now ≡ codes "big
   tells : Tells found ask
   unfolding clap_on_literals
   tells = record {
-    table = refl;
-    name = refl;
-    order = refl;
-    pos = record {
-      digits = codes "12";
-      found = refl;
-      numeral = (omega arith, (omega arith, (omega arith, tt)));
-      is = refl;
-      fits = omega arith;
+    place = record {
+      table = refl;
+      name = refl;
+      order = refl;
+      pos = record {
+        digits = codes "12";
+        found = refl;
+        numeral = (omega arith, (omega arith, (omega arith, tt)));
+        is = refl;
+        fits = omega arith;
+      };
     };
-    hex = refl;
+    input = (refl, refl);
   }
 
   pub is_read : IsReadAs (program_app (Names orders)) words ask

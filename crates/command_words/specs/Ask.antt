@@ -2,15 +2,17 @@
 use Rattle.std.specs.Prelude.{ℕ, List, Option, Some, None, codes, option_map}
 use Rattle.table_commands.specs.Answer.{Ask as Marshalling, ask_of as marshalling_of}
 use Rattle.table_commands.specs.References.{ReferenceParts, reference_parts_of}
+use Rattle.command_words.specs.declared.task.Form.{Form}
 use Rattle.command_words.specs.declared.task.ValueTask.{ValueTask}
 use Rattle.command_words.specs.declared.task.ReferenceTask.{ReferenceTask}
 use Rattle.command_words.specs.declared.task.Task.{Task}
 use Rattle.command_words.specs.declared.task.Task.TheVariants as tasks
 use Rattle.command_words.specs.Way.{name_of}
 
--- a value of a table
+-- a value of a table, in a form
 pub record ValueAsk : Type 0 where
   pub table : List ℕ
+  pub form : Form
   pub value : Marshalling
 
 -- a reference to an object of a table's interface
@@ -25,7 +27,11 @@ pub data Ask : Type 0 where
   Explanation : Option (List ℕ) → Ask
 
 abbrev pub value_ask_of : ValueTask → ValueAsk
-value_ask_of asked = record { table = asked.table.now; value = marshalling_of asked.request }
+value_ask_of asked = record {
+  table = asked.table.now;
+  form = asked.form;
+  value = marshalling_of asked.request asked.input.now;
+}
 
 abbrev pub reference_ask_of : ReferenceTask → ReferenceAsk
 reference_ask_of asked = record { table = asked.table.now; parts = reference_parts_of asked.wanted }

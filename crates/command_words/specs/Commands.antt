@@ -4,25 +4,31 @@ use Rattle.clap.specs.declared.builder.value_parser.ValueParser.{ValueParser}
 use Rattle.clap.specs.declared.builder.value_parser.ValueParser.TheVariants.{Signed, Unsigned}
 use Rattle.clap.specs.declared.builder.action.ArgAction.TheVariants.{SetTrue}
 use Rattle.clap.specs.Words.{App, Rule, Text, new_app, new_rule, with_rule, with_subcommand}
-use Rattle.table_commands.specs.declared.values.Way.{Way}
-use Rattle.table_commands.specs.declared.values.Way.TheVariants.{Encode, Decode}
-use Rattle.command_words.specs.Way.{name_of}
 
 -- a word that has to be there, of the form that the parser takes
 abbrev pub wanted : Text → Option ValueParser → Rule
 wanted id parser = record (new_rule id) { parser = parser; required = true }
 
--- the words of a command
-abbrev pub command_app : ValueParser → Text → App
-command_app orders name = with_rule
-    (with_rule
+-- the words of a command for the type, the byte order and the position of a value
+abbrev pub place_app : ValueParser → Text → App
+place_app orders name = with_rule
     (with_rule (with_rule (with_rule (new_app name) (wanted (codes "T") None)) (wanted (codes "NAME") None))
     (wanted (codes "ORDER") (Some orders)))
-    (wanted (codes "POS") (Some (Unsigned 0 18446744073709551615))))
-    (wanted (codes "HEX") None)
+    (wanted (codes "POS") (Some (Unsigned 0 18446744073709551615)))
 
-abbrev pub with_command : ValueParser → App → Way → App
-with_command orders app way = with_subcommand app (command_app orders (name_of way)).top
+-- the option `--text`, by which a value is text
+abbrev pub text_rule : Rule
+text_rule = record (new_rule (codes "text")) { long = Some (codes "text"); value_names = 1 }
+
+-- the flag `--text`, by which text is printed
+abbrev pub text_flag : Rule
+text_flag = record (new_rule (codes "text")) { long = Some (codes "text"); action = Some SetTrue }
+
+abbrev pub encode_app : ValueParser → App
+encode_app orders = with_rule (with_rule (place_app orders (codes "encode")) (new_rule (codes "HEX"))) text_rule
+
+abbrev pub decode_app : ValueParser → App
+decode_app orders = with_rule (with_rule (place_app orders (codes "decode")) (wanted (codes "HEX") None)) text_flag
 
 -- the words of a command that asks of a table alone
 abbrev pub table_app : Text → App
@@ -31,6 +37,13 @@ table_app name = with_rule (new_app name) (wanted (codes "T") None)
 -- the option `-o`, which has to be there
 abbrev pub output : Rule
 output = record (new_rule (codes "o")) { short = Some 111; value_names = 1; required = true }
+
+-- the flag `--types`
+abbrev pub types_rule : Rule
+types_rule = record (new_rule (codes "types")) { long = Some (codes "types"); action = Some SetTrue }
+
+abbrev pub show_app : App
+show_app = with_rule (table_app (codes "show")) types_rule
 
 abbrev pub upgrade_app : App
 upgrade_app = with_rule (table_app (codes "upgrade")) output
@@ -52,14 +65,14 @@ first_app =
 
 -- this and the commands that marshal a value
 abbrev pub value_app : ValueParser → App
-value_app orders = with_command orders (with_command orders first_app Encode) Decode
+value_app orders = with_subcommand (with_subcommand first_app (encode_app orders).top) (decode_app orders).top
 
 -- these and the commands that ask of a table alone
 abbrev pub tables_app : ValueParser → App
 tables_app orders =
     with_subcommand
     (with_subcommand (with_subcommand (value_app orders) (table_app (codes "check")).top)
-    (table_app (codes "show")).top) upgrade_app.top
+    show_app.top) upgrade_app.top
 
 -- an option that has to be there, of the form that the parser takes
 abbrev pub option_rule : Text → Option ValueParser → Rule

@@ -1,5 +1,5 @@
 -- What the words of a run ask for, as clap reads them by the rules of the commands.
-use Rattle.std.specs.Prelude.{◌≡◌, ◌≢◌, ◌<◌, ◌^◌, ℕ, true, List, [], ◌∷◌, map, Option, Some, codes}
+use Rattle.std.specs.Prelude.{◌≡◌, ◌≢◌, ◌<◌, ◌^◌, ◌⊎◌, ℕ, true, List, [], ◌∷◌, map, Option, Some, None, is_some, codes}
 use Rattle.std.specs.Borrow.{Bor}
 use Rattle.std.specs.List.{All}
 use Rattle.std.specs.Str.Parse.{IsNumeral, digits_value, without_leading_plus}
@@ -10,6 +10,10 @@ use Rattle.clap.specs.declared.error.kind.ErrorKind.{ErrorKind}
 use Rattle.clap.specs.declared.error.kind.ErrorKind.TheVariants.{DisplayHelp, DisplayVersion}
 use Rattle.type_graph.specs.declared.width.Order.{Order}
 use Rattle.type_graph.specs.declared.width.Order.TheVariants.{Big, Little}
+use Rattle.table_commands.specs.declared.values.Way.{Way}
+use Rattle.table_commands.specs.declared.values.Way.TheVariants.{Encode, Decode}
+use Rattle.command_words.specs.declared.task.Form.{Form}
+use Rattle.command_words.specs.declared.task.Form.TheVariants as forms
 use Rattle.command_words.specs.Ask.{Ask, Explanation, Reference, ReferenceAsk, Value, ValueAsk, command_of}
 use Rattle.command_words.specs.Commands.{program_app}
 
@@ -37,12 +41,29 @@ pub record TellsWhole (id : Text) (bits : ℕ) (rows : List Row) (number : ℕ) 
   pub fits : number < 2 ^ bits
 
 -- what clap found for the words of a command tells what is asked for
-pub record TellsValue (rows : List Row) (ask : ValueAsk) : Type 0 where
+pub record TellsPlace (rows : List Row) (ask : ValueAsk) : Type 0 where
   pub table : first_of (codes "T") rows ≡ Some ask.table
   pub name : first_of (codes "NAME") rows ≡ Some ask.value.name
   pub order : first_of (codes "ORDER") rows ≡ Some (word_of ask.value.order)
   pub pos : TellsWhole (codes "POS") 64 rows ask.value.pos
-  pub hex : first_of (codes "HEX") rows ≡ Some ask.value.hex
+
+-- HEX or `--text TEXT`, not both, for a value to encode; HEX for octets to decode, with the flag `--text` where their
+-- value is to be text
+abbrev pub TellsInput : Way → Form → List Row → Text → Type 0
+TellsInput Encode forms.Hex rows input = (first_of (codes "HEX") rows ≡ Some input) × (first_of (codes "text") rows ≡ None)
+TellsInput Encode forms.Text rows input = (first_of (codes "HEX") rows ≡ None) × (first_of (codes "text") rows ≡ Some input)
+TellsInput Decode forms.Hex rows input =
+    (first_of (codes "HEX") rows ≡ Some input) × (one_of (codes "text") rows ≡ Some (codes "false"))
+TellsInput Decode forms.Text rows input =
+    (first_of (codes "HEX") rows ≡ Some input) × (one_of (codes "text") rows ≡ Some (codes "true"))
+
+pub record TellsValue (rows : List Row) (ask : ValueAsk) : Type 0 where
+  pub place : TellsPlace rows ask
+  pub input : TellsInput ask.value.way ask.form rows ask.value.input
+
+-- a value to encode is named in both forms, or in none
+abbrev pub IsUnclear : List Row → Type 0
+IsUnclear rows = is_some (first_of (codes "HEX") rows) ≡ is_some (first_of (codes "text") rows)
 
 pub record TellsReference (rows : List Row) (ask : ReferenceAsk) : Type 0 where
   pub table : first_of (codes "T") rows ≡ Some ask.table
@@ -76,6 +97,14 @@ abbrev pub AreMistakes : Kinds → Type 0
 AreMistakes [] = ⊥
 AreMistakes (kind ∷ rest) = IsMistake kind × All IsMistake rest
 
--- clap refuses the words, and not because they ask for help
+-- clap takes the words, which name no one value to encode
+pub record AreUnclear (app : App) (words : List Text) : Type 0 where
+  pub taken : takes app words ≡ true
+  pub rows : List Row
+  pub command : subcommand_of app words ≡ Some (codes "encode", rows)
+  pub unclear : IsUnclear rows
+
+-- clap refuses the words, and not because they ask for help, or they name no one value to encode
 abbrev pub IsMistaken : List Text → Type 0
-IsMistaken words = (orders : ValueParser) → TakesOrders orders → AreMistakes (fault_of (program_app orders) words)
+IsMistaken words = (orders : ValueParser) → TakesOrders orders
+    → AreMistakes (fault_of (program_app orders) words) ⊎ AreUnclear (program_app orders) words

@@ -3,7 +3,7 @@
 ghost use Rattle.std.specs.Prelude.{◌≡◌, pos, codes, IfOk, Some, None, false};
 ghost use Rattle.clap.specs.Words.{app_of, new_rule, rule_of};
 ghost use Rattle.clap.specs.declared.builder.value_parser.ValueParser.TheVariants.{Names, Signed, Unsigned};
-ghost use Rattle.command_words.specs.Commands.{at_once_rule, command_app, compile_app, explain_app, explain_rule, first_app, idle_rule, option_rule, output, program_app, reference_app, serve_app, served_app, table_app, tables_app, upgrade_app, value_app, wanted};
+ghost use Rattle.command_words.specs.Commands.{at_once_rule, compile_app, decode_app, encode_app, explain_app, explain_rule, first_app, idle_rule, option_rule, output, place_app, program_app, reference_app, serve_app, served_app, show_app, table_app, tables_app, text_flag as flag_of_text, text_rule, types_rule, upgrade_app, value_app, wanted};
 
 use clap::{Arg, ArgAction, Command, value_parser};
 use std::alloc::{AllocError, Global};
@@ -45,21 +45,64 @@ fn pos_word<'a>(alloc: Global) -> Arg<'a>
     wanted(alloc, "POS", "The position of the first octet").value_parser(value_parser!(u64))
 }
 
-/// The commands that marshal a value take the same words.
-fn command<'a>(
+/// The commands that marshal a value take the same words for its type and its place.
+fn value_command<'a>(
     alloc: Global,
     orders: &'a [&'a str],
     name: &'a str,
-    hex: &'a str,
 ) -> Result<Command<'a>, AllocError>
-    ensures { IfOk result (λ command. app_of command ≡ command_app (Names orders.entry) name.entry.now) }
+    ensures { IfOk result (λ command. app_of command ≡ place_app (Names orders.entry) name.entry.now) }
 {
     Command::new(alloc, name)
         .arg(wanted(alloc, "T", TABLE))?
         .arg(wanted(alloc, "NAME", "The name of a type of the table"))?
         .arg(order_word(alloc, orders))?
-        .arg(pos_word(alloc))?
-        .arg(wanted(alloc, "HEX", hex))
+        .arg(pos_word(alloc))
+}
+
+/// The word for a tape, in place of which a text may stand.
+fn tape_word<'a>(alloc: Global) -> Arg<'a>
+    ensures rule { rule_of result ≡ new_rule (codes "HEX") }
+    ensures local { result.global ≡ false }
+{
+    Arg::new(alloc, "HEX").help("The value's tape; or else --text")
+}
+
+/// The option for the text of a value.
+fn text_option<'a>(alloc: Global) -> Arg<'a>
+    ensures rule { rule_of result ≡ text_rule }
+    ensures local { result.global ≡ false }
+{
+    Arg::new(alloc, "text").long("text").value_name("TEXT").help(
+        "The value as text; @FILE: that of a file; -: that of standard input",
+    )
+}
+
+/// The flag for a text in place of a tape.
+fn text_flag<'a>(alloc: Global) -> Arg<'a>
+    ensures rule { rule_of result ≡ flag_of_text }
+    ensures local { result.global ≡ false }
+{
+    Arg::new(alloc, "text")
+        .long("text")
+        .help("Prints the value as text")
+        .action(ArgAction::SetTrue)
+}
+
+fn encode_command<'a>(alloc: Global, orders: &'a [&'a str]) -> Result<Command<'a>, AllocError>
+    ensures { IfOk result (λ command. app_of command ≡ encode_app (Names orders.entry)) }
+{
+    value_command(alloc, orders, "encode")?
+        .arg(tape_word(alloc))?
+        .arg(text_option(alloc))
+}
+
+fn decode_command<'a>(alloc: Global, orders: &'a [&'a str]) -> Result<Command<'a>, AllocError>
+    ensures { IfOk result (λ command. app_of command ≡ decode_app (Names orders.entry)) }
+{
+    value_command(alloc, orders, "decode")?
+        .arg(wanted(alloc, "HEX", "The octets"))?
+        .arg(text_flag(alloc))
 }
 
 /// A command that asks of a table alone.
@@ -79,6 +122,23 @@ fn output_option<'a>(alloc: Global, value: &'a str) -> Arg<'a>
         .value_name(value)
         .help("The file for the table")
         .required(true)
+}
+
+/// The flag for what the texts of values look like.
+fn types_flag<'a>(alloc: Global) -> Arg<'a>
+    ensures rule { rule_of result ≡ types_rule }
+    ensures local { result.global ≡ false }
+{
+    Arg::new(alloc, "types")
+        .long("types")
+        .help("Shows too what the text of a value of each type looks like")
+        .action(ArgAction::SetTrue)
+}
+
+fn show_command<'a>(alloc: Global) -> Result<Command<'a>, AllocError>
+    ensures { IfOk result (λ command. app_of command ≡ show_app) }
+{
+    table_command(alloc, "show")?.arg(types_flag(alloc))
 }
 
 fn upgrade_command<'a>(alloc: Global) -> Result<Command<'a>, AllocError>
@@ -128,8 +188,8 @@ fn value_commands<'a>(alloc: Global, orders: &'a [&'a str]) -> Result<Command<'a
     ensures { IfOk result (λ program. app_of program ≡ value_app (Names orders.entry)) }
 {
     let first = first_command(alloc)?;
-    let encode = command(alloc, orders, "encode", "The value's tape")?;
-    let decode = command(alloc, orders, "decode", "The octets")?;
+    let encode = encode_command(alloc, orders)?;
+    let decode = decode_command(alloc, orders)?;
     first
         .subcommand(encode.about("Writes the octets of a value"))?
         .subcommand(decode.about("Reads a value from octets"))
@@ -242,7 +302,7 @@ fn commands_of_tables<'a>(alloc: Global, orders: &'a [&'a str]) -> Result<Comman
     let marshals = value_commands(alloc, orders)?;
     let check = table_command(alloc, "check")?;
     let checks = marshals.subcommand(check.about("Checks a table"))?;
-    let show = table_command(alloc, "show")?;
+    let show = show_command(alloc)?;
     let lists = checks.subcommand(show.about("Lists the routines of a table"))?;
     let upgrade = upgrade_command(alloc)?;
     lists.subcommand(upgrade.about("Writes a table in the newest version"))

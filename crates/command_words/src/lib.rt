@@ -9,4 +9,4 @@ mod task;
 
 pub use line::parse;
 pub use mistake::Mistake;
-pub use task::{ReferenceTask, Said, Service, Task, ValueTask};
+pub use task::{Form, ReferenceTask, Said, Service, Task, ValueTask};

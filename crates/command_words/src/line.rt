@@ -1,7 +1,7 @@
 //! The words of a command line.
 
-ghost use Rattle.std.specs.Prelude.{◌≡◌, ◌≢◌, codes, IsErr, IsErrAnd, IfErr, MatchResult, Err, Some, true};
-ghost use Rattle.clap.specs.Words.{kind_of};
+ghost use Rattle.std.specs.Prelude.{◌≡◌, ◌≢◌, codes, IsErr, IsErrAnd, IfErr, List, MatchResult, Err, Some, true};
+ghost use Rattle.clap.specs.Words.{kind_of, Row, subcommand_rows_of};
 ghost use Rattle.command_words.specs.Ask.{Ask, ask_of};
 ghost use Rattle.command_words.specs.Mistake.{IsOfWords};
 ghost use Rattle.command_words.specs.Words.{AsksFor, IsMistaken, texts};
@@ -48,18 +48,33 @@ fn help_or_fault<'a>(
     }
 }
 
+/// What is wrong with words that ask for nothing: of a value to encode that it is there twice, or not
+/// at all.
+fn unclear(matches: &ArgMatches<'_>) -> Mistake
+    ensures { (rows : List Row) → subcommand_rows_of matches.now ≡ Some (codes "encode", rows)
+        → result ≡ Mistake.HexOrText }
+{
+    match matches.subcommand() {
+        Some(("encode", _)) => Mistake::HexOrText,
+        _ => Mistake::NoWord,
+    }
+}
+
 /// Words that ask for no answer ask to serve calls.
-fn served<'a>(matches: &ArgMatches<'a>) -> Result<Said<'a>, Mistake> {
+fn served<'a>(matches: &ArgMatches<'a>) -> Result<Said<'a>, Mistake>
+    ensures { (rows : List Row) → subcommand_rows_of matches.now ≡ Some (codes "encode", rows)
+        → result ≡ Err Mistake.HexOrText }
+{
     match service_in(matches) {
         Some(service) => Ok(Said::Serve(service)),
-        None => Err(Mistake::NoWord),
+        None => Err(unclear(matches)),
     }
 }
 
 /// What the words of a run say.
 ///
 /// # Errors
-/// What `clap` says of words that aren't those of a command. Want of memory.
+/// What `clap` says of words that aren't those of a command; `HexOrText`. Want of memory.
 pub fn parse<'a>(alloc: Global, words: &'a [&'a str]) -> Result<Said<'a>, Mistake>
     ensures asked { (ask : Ask) → AsksFor (texts words.now) ask → MatchResult result
         (λ said. (task : Task) × (said ≡ Said.Do task) × (ask_of task ≡ Some ask))

@@ -1,19 +1,26 @@
 //! What `clap` found for the words of a command.
 
-ghost use Rattle.std.specs.Prelude.{◌≡◌, ◌<◌, ◌^◌, ◌↔◌, IsSome, IsSomeAnd, ℕ, List, Option, codes, IfSome, Some};
+ghost use Rattle.std.specs.Prelude.{◌≡◌, ◌<◌, ◌^◌, ◌↔◌, IsSome, IsSomeAnd, ℕ, List, Option, codes, IfSome, Some, None};
 ghost use Rattle.std.specs.Str.Parse.{IsNumeral, digits_value, without_leading_plus};
 ghost use Rattle.clap.specs.Words.{rows_of, Row, subcommand_rows_of};
 ghost use Rattle.clap.specs.Matches.{found_of, first_value, one_text};
 ghost use Rattle.command_words.specs.Ask.{Ask, Explanation, Reference, ReferenceAsk, Value, ValueAsk, ask_of, command_of};
-ghost use Rattle.command_words.specs.Words.{Tells, TellsReference, TellsRefusal, TellsValue};
+ghost use Rattle.command_words.specs.Words.{IsUnclear, Tells, TellsPlace, TellsReference, TellsRefusal, TellsValue};
 
-use crate::task::{ReferenceTask, Service, Task, ValueTask};
+use crate::task::{Form, ReferenceTask, Service, Task, ValueTask};
 use clap::ArgMatches;
 use table_commands::{ReferenceRequest, ValueRequest, Way};
 use type_graph::Order;
 
-fn asked_in<'a>(way: Way, matches: &ArgMatches<'a>) -> Option<ValueTask<'a>>
+fn asked_in<'a>(
+    way: Way,
+    form: Form,
+    matches: &ArgMatches<'a>,
+    input: &'a str,
+) -> Option<ValueTask<'a>>
     ensures way { IfSome result (λ asked. asked.request.way ≡ way) }
+    ensures form { IfSome result (λ asked. asked.form ≡ form) }
+    ensures input { IfSome result (λ asked. asked.input.now ≡ input.entry.now) }
     ensures table { IfSome result (λ asked.
         first_value (found_of matches.now) (codes "T") ≡ Some asked.table.now) }
     ensures name { IfSome result (λ asked.
@@ -23,12 +30,9 @@ fn asked_in<'a>(way: Way, matches: &ArgMatches<'a>) -> Option<ValueTask<'a>>
     ensures pos { IfSome result (λ asked. (text : List ℕ)
         → one_text (found_of matches.now) (codes "POS") ≡ Some text
         → digits_value 10 (without_leading_plus text) ≡ asked.request.pos) }
-    ensures hex { IfSome result (λ asked.
-        first_value (found_of matches.now) (codes "HEX") ≡ Some asked.request.hex.now) }
     ensures whole { IsSome (first_value (found_of matches.now) (codes "T"))
         → IsSome (first_value (found_of matches.now) (codes "NAME"))
         → IsSome (first_value (found_of matches.now) (codes "ORDER"))
-        → IsSome (first_value (found_of matches.now) (codes "HEX"))
         → (text : List ℕ) → one_text (found_of matches.now) (codes "POS") ≡ Some text
         → IsNumeral 10 (without_leading_plus text)
         → digits_value 10 (without_leading_plus text) < 2 ^ 64 → IsSome result }
@@ -39,23 +43,52 @@ fn asked_in<'a>(way: Way, matches: &ArgMatches<'a>) -> Option<ValueTask<'a>>
     };
     Some(ValueTask {
         table: matches.get_str("T")?,
+        form,
         request: ValueRequest {
             way,
             name: matches.get_str("NAME")?,
             order,
             pos: matches.get_one::<u64>("POS")?,
-            hex: matches.get_str("HEX")?,
         },
+        input,
     })
 }
 
-fn value<'a>(way: Way, words: &ArgMatches<'a>) -> Option<Task<'a>>
-    ensures { (ask : ValueAsk) → way ≡ ask.value.way → TellsValue (rows_of (found_of words.now)) ask
+fn value<'a>(way: Way, form: Form, words: &ArgMatches<'a>, input: &'a str) -> Option<Task<'a>>
+    ensures { (ask : ValueAsk) → way ≡ ask.value.way → form ≡ ask.form → input.entry.now ≡ ask.value.input
+        → TellsPlace (rows_of (found_of words.now)) ask
         → IsSomeAnd result (λ task. ask_of task ≡ Some (Value ask)) }
 {
-    match asked_in(way, words) {
+    match asked_in(way, form, words, input) {
         Some(asked) => Some(Task::Value(asked)),
         None => None,
+    }
+}
+
+/// A value to encode, by its tape or its text: by one of them.
+fn to_encode<'a>(words: &ArgMatches<'a>) -> Option<Task<'a>>
+    ensures asked { (ask : ValueAsk) → ask.value.way ≡ Way.Encode → TellsValue (rows_of (found_of words.now)) ask
+        → IsSomeAnd result (λ task. ask_of task ≡ Some (Value ask)) }
+    ensures unclear { IsUnclear (rows_of (found_of words.now)) → result ≡ None }
+{
+    match (words.get_str("HEX"), words.get_str("text")) {
+        (Some(hex), None) => value(Way::Encode, Form::Hex, words, hex),
+        (None, Some(text)) => value(Way::Encode, Form::Text, words, text),
+        (Some(_), Some(_)) => None,
+        (None, None) => None,
+    }
+}
+
+/// Octets to decode, to a tape or to text.
+fn to_decode<'a>(words: &ArgMatches<'a>) -> Option<Task<'a>>
+    ensures { (ask : ValueAsk) → ask.value.way ≡ Way.Decode → TellsValue (rows_of (found_of words.now)) ask
+        → IsSomeAnd result (λ task. ask_of task ≡ Some (Value ask)) }
+{
+    let hex = words.get_str("HEX")?;
+    if words.get_flag("text") {
+        value(Way::Decode, Form::Text, words, hex)
+    } else {
+        value(Way::Decode, Form::Hex, words, hex)
     }
 }
 
@@ -122,18 +155,21 @@ fn compile<'a>(matches: &ArgMatches<'a>) -> Option<Task<'a>> {
 
 /// What the words ask for, but for calls to serve. `clap` has seen to it that none is missing.
 pub(crate) fn task_in<'a>(matches: &ArgMatches<'a>) -> Option<Task<'a>>
-    ensures { (ask : Ask) (rows : List Row) → subcommand_rows_of matches.now ≡ Some (command_of ask, rows)
+    ensures asked { (ask : Ask) (rows : List Row) → subcommand_rows_of matches.now ≡ Some (command_of ask, rows)
         → Tells rows ask → IsSomeAnd result (λ task. ask_of task ≡ Some ask) }
+    ensures unclear { (rows : List Row) → subcommand_rows_of matches.now ≡ Some (codes "encode", rows)
+        → IsUnclear rows → result ≡ None }
 {
     let (name, words) = matches.subcommand()?;
     match name {
-        "encode" => value(Way::Encode, words),
-        "decode" => value(Way::Decode, words),
+        "encode" => to_encode(words),
+        "decode" => to_decode(words),
         "check" => Some(Task::Check {
             table: words.get_str("T")?,
         }),
         "show" => Some(Task::Show {
             table: words.get_str("T")?,
+            types: words.get_flag("types"),
         }),
         "upgrade" => upgrade(words),
         "compile" => compile(words),
@@ -144,7 +180,9 @@ pub(crate) fn task_in<'a>(matches: &ArgMatches<'a>) -> Option<Task<'a>>
 }
 
 /// The calls that the words ask to serve.
-pub(crate) fn service_in<'a>(matches: &ArgMatches<'a>) -> Option<Service<'a>> {
+pub(crate) fn service_in<'a>(matches: &ArgMatches<'a>) -> Option<Service<'a>>
+    ensures { (rows : List Row) → subcommand_rows_of matches.now ≡ Some (codes "encode", rows) → result ≡ None }
+{
     let (name, words) = matches.subcommand()?;
     if name != "serve" {
         return None;

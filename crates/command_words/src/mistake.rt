@@ -15,6 +15,9 @@ pub enum Mistake {
     /// The word for the byte order is neither of the two.
     #[error("{0}idlc: order is big or little\n")]
     BadOrder(clap::Error),
+    /// A value to encode is named twice, or not at all.
+    #[error("idlc: a value is HEX or --text TEXT\n")]
+    HexOrText,
     /// `clap` passed words that ask for nothing, which its contract doesn't rule out.
     #[error("idlc: a word is missing\n")]
     NoWord,

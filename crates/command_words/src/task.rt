@@ -2,12 +2,25 @@
 
 use table_commands::{ReferenceRequest, ValueRequest};
 
+/// How a value stands in words and lines.
+#[derive(Clone, Copy, Debug, PartialEq, Eq)]
+pub enum Form {
+    /// As the hexadecimal digits of its tape.
+    Hex,
+    /// As text.
+    Text,
+}
+
 /// A value of a table.
 #[derive(Clone, Copy)]
 pub struct ValueTask<'a> {
     /// The name of the table.
     pub table: &'a str,
+    pub form: Form,
     pub request: ValueRequest<'a>,
+    /// The value to encode in its form, or where that is text what it is had from; else the octets to
+    /// decode, in hexadecimal.
+    pub input: &'a str,
 }
 
 /// A reference to an object of a table's interface.
@@ -48,6 +61,8 @@ pub enum Task<'a> {
     },
     Show {
         table: &'a str,
+        /// Whether it is told too what the texts of values look like.
+        types: bool,
     },
     Upgrade {
         table: &'a str,

@@ -13,7 +13,7 @@ is_within low high n = nat_le low n && nat_le n high
 abbrev pub is_refusal : ℕ → Bool
 is_refusal n = is_within 1 7 n || is_within 10 13 n || is_within 20 29 n || is_within 30 37 n || is_within 40 41 n
     || is_within 50 55 n || is_within 60 68 n || is_within 70 70 n || is_within 80 85 n || is_within 90 97 n
-    || is_within 100 106 n
+    || is_within 100 106 n || is_within 110 124 n
 
 -- refusals of tokens
 abbrev pub token_heading : ℕ → Option (List ℕ)
@@ -138,6 +138,26 @@ connection_heading n =
     if n == 106 then Some (codes "106 TooMany") else (
     None)))))))
 
+-- refusals of the texts of values
+abbrev pub text_heading : ℕ → Option (List ℕ)
+text_heading n =
+    if n == 110 then Some (codes "110 NotJson") else (
+    if n == 111 then Some (codes "111 NotWhole") else (
+    if n == 112 then Some (codes "112 NotBoolean") else (
+    if n == 113 then Some (codes "113 NotChar") else (
+    if n == 114 then Some (codes "114 NotText") else (
+    if n == 115 then Some (codes "115 NotEnumerator") else (
+    if n == 116 then Some (codes "116 NotDigits") else (
+    if n == 117 then Some (codes "117 NotAList") else (
+    if n == 118 then Some (codes "118 NotMembers") else (
+    if n == 119 then Some (codes "119 NoSuchMember") else (
+    if n == 120 then Some (codes "120 MemberTwice") else (
+    if n == 121 then Some (codes "121 MemberMissing") else (
+    if n == 122 then Some (codes "122 WrongCount") else (
+    if n == 123 then Some (codes "123 TooDeep") else (
+    if n == 124 then Some (codes "124 TextBehind") else (
+    None)))))))))))))))
+
 -- all of them
 abbrev pub heading : ℕ → Option (List ℕ)
 heading n =
@@ -151,4 +171,5 @@ heading n =
     if nat_lt n 80 then plan_heading n else (
     if nat_lt n 90 then check_heading n else (
     if nat_lt n 100 then message_heading n else (
-    connection_heading n))))))))))
+    if nat_lt n 110 then connection_heading n else (
+    text_heading n)))))))))))

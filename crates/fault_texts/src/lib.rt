@@ -12,6 +12,7 @@ mod named;
 mod names;
 mod runs;
 mod tables;
+mod texts;
 mod tokens;
 mod types;
 mod values;
@@ -35,6 +36,7 @@ pub fn explanation(number: u8) -> Option<&'static str>
         70..=79 => tables::of_plans(number),
         80..=89 => checks::of_checks(number),
         90..=99 => messages::of_messages(number),
-        _ => connections::of_connections(number),
+        100..=109 => connections::of_connections(number),
+        _ => texts::of_texts(number),
     }
 }

@@ -12,7 +12,8 @@ use Rattle.marshal_program.specs.declared.fault.GenFault.{GenFault}
 use Rattle.marshal_program.specs.declared.instr.Routine.{Routine}
 use Rattle.idl_compiler.specs.Settlement.{IsSettled}
 use Rattle.idl_compiler.specs.declared.choice.Settled.{Settled}
-use Rattle.model_builder.specs.Shown.{Shows}
+use Rattle.idl_compiler.specs.declared.steps.NamedTable.{NamedTable}
+use Rattle.model_builder.specs.Shown.{AreParts, Shows}
 
 -- the tokens of which the text consists spell the definitions, which stand at most 64 levels one inside another
 pub record IsTextOf (source : List ℕ) (definitions : List Definition) : Type 0 where
@@ -43,3 +44,16 @@ pub record IsCompiled (source : List ℕ) (settled : Settled) : Type 0 where
   pub definitions : List Definition
   pub text : IsTextOf source definitions
   pub table : HasTable (IsModelOf definitions) settled
+
+-- by the numbers of nodes, the names of parts are those that the definitions declare
+pub record ArePartsOf (definitions : List Definition) (nodes : List (List (List ℕ))) : Type 0 where
+  pub names : FileNames
+  pub named : AreNames definitions names
+  pub parts : AreParts definitions names nodes
+
+-- the table is that of the definitions in the text, and the names of parts are theirs
+pub record IsNamedTable (source : List ℕ) (whole : NamedTable) : Type 0 where
+  pub definitions : List Definition
+  pub text : IsTextOf source definitions
+  pub table : HasTable (IsModelOf definitions) whole.settled
+  pub names : ArePartsOf definitions whole.names

@@ -4,10 +4,11 @@ use Rattle.std.specs.Str.{IsUtf8}
 use Rattle.std.specs.String.{string_bytes}
 use Rattle.idl_compiler.specs.declared.fault.CompileFault.{CompileFault}
 use Rattle.idl_compiler.specs.declared.fault.CompileFault.TheVariants as Compiling
-use Rattle.idl_compiler.specs.Compiled.{IsCompiled}
+use Rattle.idl_compiler.specs.Compiled.{IsCompiled, IsNamedTable}
 use Rattle.idl_compiler.specs.Refused.{IsRefused}
 use Rattle.position_checker.specs.Acceptance.{IsRight}
 use Rattle.idl_compiler.specs.declared.choice.Settled.{Settled}
+use Rattle.idl_compiler.specs.declared.steps.NamedTable.{NamedTable}
 use Rattle.table_file.specs.Table.{TableParts}
 use Rattle.table_file.specs.TableSpelling.{Spells}
 use Rattle.table_commands.specs.Lines.{accepted}
@@ -26,6 +27,11 @@ pub record IsCompiledFile (source : List ℕ) (file : CompiledFile) : Type 0 whe
   pub within : length file.octets.items ≤ 16777216
   pub line : string_bytes file.line ≡ accepted settled.table
   pub planned : file.is_planned ≡ settled.is_planned
+
+-- the octets are a text that has that table and those names of parts
+pub record IsNamedText (source : List ℕ) (whole : NamedTable) : Type 0 where
+  pub text : IsUtf8 source
+  pub is : IsNamedTable source whole
 
 -- ---- refusals
 
@@ -58,6 +64,12 @@ abbrev pub IsRefusedFile : List ℕ → CompileRefusal → Type 0
 IsRefusedFile source (Fault text) = IsNoText source ⊎ IsRefusedText source
 IsRefusedFile source TooLong = HasLongTable source
 IsRefusedFile source NoMemory = Unit {0}
+
+-- the octets are no text, or a step refuses it
+abbrev pub IsRefusedSource : List ℕ → CompileRefusal → Type 0
+IsRefusedSource source (Fault text) = IsNoText source ⊎ IsRefusedText source
+IsRefusedSource source TooLong = ⊥
+IsRefusedSource source NoMemory = Unit {0}
 
 -- what is told of a fault
 abbrev pub IsTold : CompileRefusal → Type 0

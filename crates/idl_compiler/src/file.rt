@@ -3,14 +3,14 @@
 ghost use Rattle.std.specs.Prelude.{◌≡◌, ◌≤◌, length, IfErr, IfOk};
 ghost use Rattle.std.specs.String.{string_bytes};
 ghost use Rattle.table_commands.specs.Lines.{accepted};
-ghost use Rattle.idl_compiler.specs.Files.{IsCompiledFile, IsRefusedFile, RefusesTable};
+ghost use Rattle.idl_compiler.specs.Files.{IsCompiledFile, IsNamedText, IsRefusedFile, IsRefusedSource, RefusesTable};
 ghost use Rattle.position_checker.specs.Acceptance.{IsRight};
 ghost use Rattle.table_file.specs.TableSpelling.{Spells};
 
 use crate::choice::Settled;
 use crate::fault::CompileFault;
 use crate::refusal::{CompileRefusal, told, unwritten};
-use crate::steps::compile;
+use crate::steps::{NamedTable, compile, compile_named};
 use idl_lexer::LexFault;
 use position_checker::Accepted;
 use std::alloc::Global;
@@ -73,6 +73,25 @@ pub fn compile_file(alloc: Global, source: &[u8]) -> Result<CompiledFile, Compil
     };
     match compile(alloc, text) {
         Ok(settled) => file_of(alloc, &settled),
+        Err(CompileFault::NoMemory) => Err(CompileRefusal::NoMemory),
+        Err(fault) => Err(told(alloc, &fault)),
+    }
+}
+
+/// The table of an IDL file (ISO/IEC 19500-1), as a preprocessor leaves it, with the names of the
+/// parts of its types.
+///
+/// # Errors
+/// Those of `compile_file`, but for `TooLong`.
+pub fn compile_source(alloc: Global, source: &[u8]) -> Result<NamedTable, CompileRefusal>
+    ensures compiled { IfOk result (IsNamedText source.now) }
+    ensures refused { IfErr result (IsRefusedSource source.now) }
+{
+    let Ok(text) = str::from_utf8(source) else {
+        return Err(told(alloc, &LexFault::BadChar { line: 0 }));
+    };
+    match compile_named(alloc, text) {
+        Ok(named) => Ok(named),
         Err(CompileFault::NoMemory) => Err(CompileRefusal::NoMemory),
         Err(fault) => Err(told(alloc, &fault)),
     }

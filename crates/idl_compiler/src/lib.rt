@@ -11,6 +11,6 @@ mod steps;
 
 pub use choice::{Settled, settle};
 pub use fault::CompileFault;
-pub use file::{CompiledFile, compile_file};
+pub use file::{CompiledFile, compile_file, compile_source};
 pub use refusal::CompileRefusal;
-pub use steps::compile;
+pub use steps::{NamedTable, compile, compile_named};

@@ -1,7 +1,7 @@
 //! The steps from a text to its table.
 
 ghost use Rattle.std.specs.Prelude.{◌≡◌, ◌⊎◌, IfErr, IfOk};
-ghost use Rattle.idl_compiler.specs.Compiled.{HasTable, IsCompiled, IsModelOf, IsTableOf};
+ghost use Rattle.idl_compiler.specs.Compiled.{ArePartsOf, HasTable, IsCompiled, IsModelOf, IsNamedTable, IsTableOf};
 ghost use Rattle.idl_compiler.specs.Refused.{IsFaultOf, IsRefused};
 ghost use Rattle.idl_compiler.specs.declared.fault.CompileFault.TheVariants.{NoMemory};
 
@@ -11,36 +11,49 @@ use generator::plain;
 use idl_lexer::lex;
 use idl_parser::parse;
 use idl_tree::spec::Spec;
-use model_builder::build;
+use model_builder::{Built, build};
 use optimiser::planned;
+use part_names::PartNames;
 use scoped_names::bind;
 use std::alloc::Global;
 use type_model::Model;
 
+/// A table, and the names of the parts of its types by the numbers of their nodes.
+#[derive(Drop)]
+pub struct NamedTable {
+    pub settled: Settled,
+    pub names: PartNames,
+}
+
 /// What has a model. A tree is one. (A borrow of a tree that a function has itself costs the borrow
 /// checker more steps than it may take; one of a value of any type doesn't.)
 trait HasModel {
+    ghost use Rattle.std.specs.Prelude.{ℕ, List};
     ghost use Rattle.type_model.specs.ModelRules.{Parts};
     ghost use Rattle.idl_compiler.specs.declared.fault.CompileFault.{CompileFault};
 
     ghost shows: { Self → Parts → Type 0 };
 
+    ghost names: { Self → List (List (List ℕ)) → Type 0 };
+
     ghost lacks: { Self → CompileFault → Type 0 };
 
-    fn model(&self, alloc: Global) -> Result<Model, CompileFault>
-        ensures shown { IfOk result (shows self.now) }
+    fn built(&self, alloc: Global) -> Result<Built, CompileFault>
+        ensures shown { IfOk result (λ built. shows self.now built.model) }
+        ensures named { IfOk result (λ built. names self.now built.parts) }
         ensures faults { IfErr result (lacks self.now) };
 }
 
 impl<'a> HasModel for Spec<'a> {
     ghost shows = { λ spec. IsModelOf spec.definitions.items };
 
+    ghost names = { λ spec. ArePartsOf spec.definitions.items };
+
     ghost lacks = { λ spec. IsFaultOf spec.definitions.items };
 
-    fn model(&self, alloc: Global) -> Result<Model, CompileFault> {
+    fn built(&self, alloc: Global) -> Result<Built, CompileFault> {
         let names = bind(alloc, self)?;
-        let built = build(alloc, self, &names)?;
-        Ok(built.model)
+        Ok(build(alloc, self, &names)?)
     }
 }
 
@@ -55,18 +68,36 @@ fn table_of_model(alloc: Global, model: Model) -> Result<Settled, CompileFault>
     Ok(settle(alloc, model, first, second)?)
 }
 
-/// The table of what has a model.
-fn table_of<T: HasModel + Drop>(alloc: Global, whole: T) -> Result<Settled, CompileFault>
-    ensures table { IfOk result (HasTable (T.shows whole)) }
+/// The table of what has a model, with the names of the parts of its types.
+fn table_of<T: HasModel + Drop>(alloc: Global, whole: T) -> Result<NamedTable, CompileFault>
+    ensures table { IfOk result (λ named. HasTable (T.shows whole) named.settled) }
+    ensures names { IfOk result (λ named. T.names whole named.names) }
     ensures faults { IfErr result (λ fault. (fault ≡ NoMemory) ⊎ T.lacks whole fault) }
 {
-    let model = whole.model(alloc)?;
-    table_of_model(alloc, model)
+    let Built { model, parts } = whole.built(alloc)?;
+    let settled = table_of_model(alloc, model)?;
+    Ok(NamedTable {
+        settled,
+        names: parts,
+    })
 }
 
 /// The table of an IDL file (ISO/IEC 19500-1), as a preprocessor leaves it, that the checker
 /// accepted: its types with their names, its interfaces, operations and exceptions, and the
-/// programs that marshal its values.
+/// programs that marshal its values; with the names of members, enumerators, parameters and results.
+///
+/// # Errors
+/// Those of `compile`.
+pub fn compile_named(alloc: Global, source: &str) -> Result<NamedTable, CompileFault>
+    ensures compiled { IfOk result (IsNamedTable source.now) }
+    ensures refused { IfErr result (IsRefused source.now) }
+{
+    let tokens = lex(alloc, source)?;
+    let spec = parse(alloc, &tokens)?;
+    table_of(alloc, spec)
+}
+
+/// The table of an IDL file, without the names of the parts of its types.
 ///
 /// # Errors
 /// The first fault with its line, tokens before grammar, grammar before names, names before types;
@@ -75,7 +106,8 @@ pub fn compile(alloc: Global, source: &str) -> Result<Settled, CompileFault>
     ensures compiled { IfOk result (IsCompiled source.now) }
     ensures refused { IfErr result (IsRefused source.now) }
 {
-    let tokens = lex(alloc, source)?;
-    let spec = parse(alloc, &tokens)?;
-    table_of(alloc, spec)
+    match compile_named(alloc, source) {
+        Ok(named) => Ok(named.settled),
+        Err(fault) => Err(fault),
+    }
 }

@@ -26,6 +26,6 @@ module _ (Reads : Passing) (ask : Ask) (result : Result Answer Fault) where
   answers (tasks.Reference asked) is value reference explanation = of_same _ is (reference asked refl)
   answers (tasks.Explain word) is value reference explanation = of_same _ is (explanation word refl)
   answers (tasks.Check table) is value reference explanation = absurd cc
-  answers (tasks.Show table) is value reference explanation = absurd cc
+  answers (tasks.Show table types) is value reference explanation = absurd cc
   answers (tasks.Upgrade table output) is value reference explanation = absurd cc
   answers (tasks.Compile source output explains) is value reference explanation = absurd cc

@@ -1,5 +1,5 @@
 -- The status with which the program ends on a fault.
-use Rattle.std.specs.Prelude.{ℕ}
+use Rattle.std.specs.Prelude.{◌≡◌, ℕ}
 use Rattle.command_words.specs.declared.mistake.Mistake.{Mistake}
 use Rattle.command_words.specs.declared.mistake.Mistake.TheVariants as mistakes
 use Rattle.idl_compiler.specs.declared.refusal.CompileRefusal.{CompileRefusal}
@@ -8,8 +8,10 @@ use Rattle.table_commands.specs.declared.refusal.Refusal.{Refusal}
 use Rattle.table_commands.specs.declared.refusal.Refusal.TheVariants as refusals
 use Rattle.socket_server.specs.declared.fault.ServeFault.{ServeFault}
 use Rattle.socket_server.specs.declared.fault.ServeFault.TheVariants as serve_faults
+use Rattle.text_commands.specs.declared.refusal.TextRefusal.{TextRefusal}
+use Rattle.text_commands.specs.declared.refusal.TextRefusal.TheVariants as texts
 use Rattle.idlc_main.specs.declared.fault.Fault.{Fault}
-use Rattle.idlc_main.specs.declared.fault.Fault.TheVariants.{Words, NotText, Refused, NotCompiled, Explained, NotServed, Socket, NoRefusal, Unwritten, NoMemory}
+use Rattle.idlc_main.specs.declared.fault.Fault.TheVariants.{Words, NotText, Refused, Unsaid, NotCompiled, Explained, NotServed, Socket, NoRefusal, Unwritten, NoMemory}
 
 abbrev pub status_of_refusal : Refusal → ℕ
 status_of_refusal (refusals.Unread file) = 3
@@ -22,6 +24,7 @@ abbrev pub status_of : Fault → ℕ
 status_of (Words mistake) = 2
 status_of NotText = 2
 status_of (Refused refusal) = status_of_refusal refusal
+status_of (Unsaid fault) = 1
 status_of (NotCompiled refusal) = 1
 status_of (Explained refusal view) = 1
 status_of (NotServed fault) = 1
@@ -44,6 +47,16 @@ fault_of_service fault = NotServed fault
 abbrev pub fault_of_words : Mistake → Fault
 fault_of_words mistakes.NoMemory = NoMemory
 fault_of_words mistake = Words mistake
+
+-- the program's fault of an IDL file, with or without what else is known
+abbrev pub IsOfSource : CompileRefusal → Fault → Type 0
+IsOfSource refusal (Explained same view) = same ≡ refusal
+IsOfSource refusal fault = fault ≡ fault_of_source refusal
+
+-- what the refusal of a value's text is to the program
+abbrev pub fault_of_text : TextRefusal → Fault
+fault_of_text (texts.Unsaid fault) = Unsaid fault
+fault_of_text (texts.Other refusal) = Refused refusal
 
 -- a fault that standard error tells of
 abbrev pub IsTold : Fault → Type 0

@@ -2,12 +2,15 @@
 use Rattle.command_words.specs.declared.task.Service.{Service}
 use Rattle.socket_server.specs.Serving.{IsServed as IsServedBy, places_of}
 use Rattle.table_file.specs.Table.{TableParts}
-use Rattle.table_commands.specs.Named.{Passing, IsTableOf}
+use Rattle.table_commands.specs.Named.{Passing}
+use Rattle.text_commands.specs.Lines.{Labels}
+use Rattle.idlc_main.specs.Loaded.{IsLoaded}
 
 -- just so many connections came as the words say, and the object that they name was served to each, by the table
 -- that they name, one after the other or at the same time
 pub record IsServed (Reads : Passing) (service : Service) : Type 0 where
   pub table : TableParts
-  pub is : IsTableOf Reads service.table.now table
+  pub labels : Labels
+  pub is : IsLoaded Reads service.table.now table labels
   pub done : IsServedBy table.model service.object.now (places_of service.at_once service.idle)
       service.idle service.connections

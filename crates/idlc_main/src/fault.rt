@@ -1,7 +1,7 @@
 //! Why a run of the program didn't do what was asked for.
 
 ghost use Rattle.std.specs.Prelude.{◌≡◌, ◌≤◌};
-ghost use Rattle.idlc_main.specs.Fault.{fault_of_service, fault_of_source, fault_of_words, status_of_refusal};
+ghost use Rattle.idlc_main.specs.Fault.{fault_of_service, fault_of_source, fault_of_text, fault_of_words, status_of_refusal};
 ghost use Rattle.idlc_main.specs.declared.fault.Fault.TheVariants.{NoMemory, Refused};
 
 use command_words::Mistake;
@@ -10,7 +10,9 @@ use socket_server::ServeFault;
 use std::alloc::AllocError;
 use std::fmt;
 use table_commands::Refusal;
+use text_commands::TextRefusal;
 use thiserror::Error;
+use value_text::Refusal as TextFault;
 
 /// A word for a refusal, a number where it begins with a digit. Control characters are escaped.
 #[derive(Clone, Copy)]
@@ -45,6 +47,9 @@ pub enum Fault<'a> {
     /// A file, a table or what was asked of it.
     #[error(transparent)]
     Refused(Refusal<'a>),
+    /// A text says no value of its type.
+    #[error("{} line {} column {}", .0.wanted, .0.place.line, .0.place.column)]
+    Unsaid(TextFault),
     /// The IDL file has no table.
     #[error(transparent)]
     NotCompiled(CompileRefusal),
@@ -95,7 +100,10 @@ impl<'a> Fault<'a> {
     {
         match self {
             Fault::Refused(refusal) => refused_status(refusal),
-            Fault::NotCompiled(_) | Fault::Explained { .. } | Fault::NotServed(_) => 1,
+            Fault::Unsaid(_)
+            | Fault::NotCompiled(_)
+            | Fault::Explained { .. }
+            | Fault::NotServed(_) => 1,
             Fault::Words(_) | Fault::NotText | Fault::NoRefusal { .. } => 2,
             Fault::Socket | Fault::Unwritten => 3,
             Fault::NoMemory => 4,
@@ -127,6 +135,17 @@ impl<'a> From<Refusal<'a>> for Fault<'a> {
 
     fn from(refusal: Refusal<'a>) -> Fault<'a> {
         Fault::Refused(refusal)
+    }
+}
+
+impl<'a> From<TextRefusal<'a>> for Fault<'a> {
+    ghost from_gives = { λ refusal fault. fault ≡ fault_of_text refusal };
+
+    fn from(refusal: TextRefusal<'a>) -> Fault<'a> {
+        match refusal {
+            TextRefusal::Unsaid(fault) => Fault::Unsaid(fault),
+            TextRefusal::Other(refusal) => Fault::Refused(refusal),
+        }
     }
 }
 

@@ -11,11 +11,13 @@ ghost use Rattle.command_words.specs.Words.{AsksFor, IsMistaken, texts};
 ghost use Rattle.idlc_main.specs.Answer.{IsEndOf, MayServe};
 
 mod fault;
+mod loaded;
 mod service;
 mod tasks;
 #[cfg(test)]
 mod tests;
 mod told;
+mod values;
 
 use crate::fault::Fault;
 use crate::service::served;
@@ -86,7 +88,7 @@ fn run_for<R: WholeFiles + Net + Clock + Eprint + AllocGlobal, O: io::Write, E: 
             Ok(answer) => say(out, err, &answer),
             Err(fault) => failed(err, &fault),
         },
-        Ok(Said::Serve(service)) => match served(rt, out, &service) {
+        Ok(Said::Serve(service)) => match served(rt, out, &service, is_for_person) {
             Ok(()) => DONE,
             Err(fault) => failed(err, &fault),
         },

@@ -8,18 +8,20 @@ ghost use Rattle.idlc_main.specs.Fault.{status_of};
 ghost use Rattle.idlc_main.specs.Service.{IsServed};
 
 use crate::fault::Fault;
+use crate::loaded::loaded;
 use command_words::Service;
 use socket_server::{ServeOptions, serve};
 use std::io::Write;
 use std::net::Net;
 use std::time::Clock;
-use table_commands::{WholeFiles, table_of};
+use table_commands::WholeFiles;
 
 /// Serves calls by a table, which is checked before anything listens.
 pub fn served<'a, R: WholeFiles + Net + Clock + Eprint + AllocGlobal, O: Write>(
     rt: &R,
     out: &mut O,
     service: &Service<'a>,
+    is_for_person: bool,
 ) -> Result<(), Fault<'a>>
     ensures done { OnOk result (IsServed (R.reads rt.now) service.now) }
     ensures printed { OnOk result
@@ -27,9 +29,9 @@ pub fn served<'a, R: WholeFiles + Net + Clock + Eprint + AllocGlobal, O: Write>(
     ensures silent { IfErr result (λ fault. status_of fault < 3 → out.new ≡ out.old) }
     ensures memory { IfErr result (λ fault. status_of fault ≡ 4 → MayServe (O.contents out.old) (O.contents out.new)) }
 {
-    let table = match table_of(rt, service.table) {
-        Ok(table) => table,
-        Err(refusal) => return Err(Fault::from(refusal)),
+    let loaded = match loaded(rt, service.table, is_for_person) {
+        Ok(loaded) => loaded,
+        Err(fault) => return Err(fault),
     };
     let options = ServeOptions {
         port: service.port,
@@ -38,7 +40,7 @@ pub fn served<'a, R: WholeFiles + Net + Clock + Eprint + AllocGlobal, O: Write>(
         at_once: service.at_once,
         idle: service.idle,
     };
-    match serve(rt, out, table, &options) {
+    match serve(rt, out, loaded.table, &options) {
         Ok(()) => Ok(()),
         Err(fault) => Err(Fault::from(fault)),
     }

@@ -1,7 +1,12 @@
-//! What a run tells when it did what was asked for.
+//! What a run tells when it did what was asked for, and of the fault of an IDL file.
 
 ghost use Rattle.std.specs.Prelude.{◌≡◌};
+ghost use Rattle.idlc_main.specs.Fault.{IsOfSource};
 
+use crate::fault::Fault;
+use fault_views::view;
+use idl_compiler::CompileRefusal;
+use std::alloc::Global;
 use std::fmt::{self, Formatter};
 
 /// What else is told on standard error, as the line behind `idlc: `.
@@ -33,4 +38,24 @@ impl Answer {
     {
         Answer { text, notice: None }
     }
+}
+
+/// The fault of an IDL file; for a person with what else is known of it, where there is memory for
+/// that.
+pub fn source_fault<'a>(
+    alloc: Global,
+    name: &str,
+    source: &[u8],
+    refusal: CompileRefusal,
+    is_for_person: bool,
+) -> Fault<'a>
+    ensures { IsOfSource refusal result }
+{
+    if is_for_person
+        && let CompileRefusal::Fault { .. } = refusal
+        && let Ok(Some(view)) = view(alloc, name, source)
+    {
+        return Fault::Explained { refusal, view };
+    }
+    Fault::from(refusal)
 }

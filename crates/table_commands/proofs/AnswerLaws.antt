@@ -10,7 +10,7 @@ use Rattle.table_commands.specs.Refusal.{OnlyIf, IsOfRun}
 
 module _ (table : TableParts) (ask : Ask) (node : ℕ) (named : Contains table.model.names (ask.name, node)) where
   -- the digits are none
-  pub bad_digits : (refusal : Refusal) → OnlyIf refusal ((refusal ≡ BadHex) × IsErr (decode_of ask.hex)) → IsRefusalOf table ask refusal
+  pub bad_digits : (refusal : Refusal) → OnlyIf refusal ((refusal ≡ BadHex) × IsErr (decode_of ask.input)) → IsRefusalOf table ask refusal
   bad_digits NoMemory h = tt
   bad_digits BadHex h = record { node = node; named = named; bad = h.1 }
   bad_digits (NoTable fault) h = absurd cc
@@ -24,7 +24,7 @@ module _ (table : TableParts) (ask : Ask) (node : ℕ) (named : Contains table.m
   bad_digits (NoInterface name) h = absurd cc
   bad_digits (NoReference fault) h = absurd cc
 
-  module _ (input : List ℕ) (digits_are : decode_of ask.hex ≡ Ok input) where
+  module _ (input : List ℕ) (digits_are : decode_of ask.input ≡ Ok input) where
     pub line_of : {A : Type 0} (text_of : A → List ℕ) (r : Result A Refusal)
         → IfOk r (λ line. Prints table.model.graph node ask.way ask.order ask.pos input (text_of line))
         → IfOk r (λ line. IsLine table ask (text_of line))

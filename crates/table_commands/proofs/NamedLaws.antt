@@ -1,10 +1,8 @@
 -- What is told of the table of a name.
 use Rattle.std.proofs.Common.{◌≡◌, ◌≢◌, ◌⊎◌, inr, ℕ, List, codes, Result, Ok, Err, IfOk, IfErr, OnOk}
 use Rattle.table_file.specs.Table.{TableParts}
-use Rattle.table_commands.specs.Answer.{Ask, IsLine}
 use Rattle.table_commands.specs.Lines.{accepted}
-use Rattle.table_commands.specs.Named.{Passing, IsNoTable, IsNoUpgrade, IsReferenceOf, IsTableOf, IsUnwritten, IsUpgraded, IsValueLine, IsWritten}
-use Rattle.table_commands.specs.References.{ReferenceParts, IsReferenceLine}
+use Rattle.table_commands.specs.Named.{Passing, IsNoTable, IsNoUpgrade, IsTableOf, IsUnwritten, IsUpgraded, IsWritten}
 use Rattle.table_commands.specs.Files.{RefusesFile, RefusesTable}
 use Rattle.table_commands.specs.Refusal.{IsOfTable}
 use Rattle.table_commands.specs.declared.refusal.Refusal.{Refusal}
@@ -12,17 +10,6 @@ use Rattle.table_commands.specs.declared.refusal.Refusal.TheVariants.{Unread, Un
 
 module _ (Reads : Passing) (name : List ℕ) (table : TableParts) (is : IsTableOf Reads name table)
     {A : Type 0} (text_of : A → List ℕ) where
-  pub value_line : (ask : Ask) (r : Result A Refusal) → IfOk r (λ line. IsLine table ask (text_of line))
-      → IfOk r (λ line. IsValueLine Reads name ask (text_of line))
-  value_line ask (Ok line) answers = record { table = table; is = is; answers = answers }
-  value_line ask (Err refusal) answers = tt
-
-  pub reference_of : (ask : ReferenceParts) (r : Result A Refusal)
-      → IfOk r (λ line. IsReferenceLine table.model ask (text_of line))
-      → IfOk r (λ line. IsReferenceOf Reads name ask (text_of line))
-  reference_of ask (Ok line) answers = record { table = table; is = is; answers = answers }
-  reference_of ask (Err refusal) answers = tt
-
   -- it was written, and the line tells how many routines it has
   pub upgraded_is : (Takes : Passing) (output : List ℕ) (r : Result A Refusal) → OnOk r (IsWritten Takes output table)
       → IfOk r (λ line. text_of line ≡ accepted table)

@@ -9,41 +9,41 @@ use Rattle.table_commands.specs.declared.refusal.Refusal.{Refusal}
 use Rattle.table_commands.specs.declared.refusal.Refusal.TheVariants.{NoType, BadHex, Refused, NoMemory}
 use Rattle.table_commands.specs.Lines.{Answers, HasNoAnswer}
 
--- one value to marshal
+-- one value to marshal: its tape or octets in hexadecimal, or its text
 pub record Ask : Type 0 where
   pub way : Way
   pub name : List ℕ
   pub order : Order
   pub pos : ℕ
-  pub hex : List ℕ
+  pub input : List ℕ
 
-abbrev pub ask_of : ValueRequest → Ask
-ask_of request = record {
+abbrev pub ask_of : ValueRequest → List ℕ → Ask
+ask_of request input = record {
   way = request.way;
   name = request.name.now;
   order = request.order;
   pos = request.pos;
-  hex = request.hex.now;
+  input = input;
 }
 
 -- the line that answers
 pub record IsLine (table : TableParts) (ask : Ask) (line : List ℕ) : Type 0 where
   pub node : ℕ
   pub named : Contains table.model.names (ask.name, node)
-  pub answers : Answers table.model.graph node ask.way ask.order ask.pos ask.hex line
+  pub answers : Answers table.model.graph node ask.way ask.order ask.pos ask.input line
 
 -- the name is there, but its digits are none
 pub record HasBadDigits (table : TableParts) (ask : Ask) : Type 0 where
   pub node : ℕ
   pub named : Contains table.model.names (ask.name, node)
-  pub bad : IsErr (decode_of ask.hex)
+  pub bad : IsErr (decode_of ask.input)
 
 -- the value that is asked for isn't there
 pub record IsEmptyAsk (table : TableParts) (ask : Ask) : Type 0 where
   pub node : ℕ
   pub named : Contains table.model.names (ask.name, node)
   pub input : List ℕ
-  pub digits_are : decode_of ask.hex ≡ Ok input
+  pub digits_are : decode_of ask.input ≡ Ok input
   pub none : HasNoAnswer table.model.graph node ask.way ask.order ask.pos input
 
 -- the refusal that answers

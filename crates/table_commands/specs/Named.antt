@@ -1,11 +1,8 @@
 -- Tables by their names: the sample, or files.
 use Rattle.std.specs.Prelude.{◌≡◌, ◌≢◌, ◌⊎◌, ℕ, List, codes}
 use Rattle.position_checker.specs.Acceptance.{IsRight}
-use Rattle.table_commands.specs.Answer.{Ask, IsLine, IsRefusalOf}
 use Rattle.table_commands.specs.Files.{RefusesFile, RefusesTable}
 use Rattle.table_commands.specs.Lines.{accepted}
-use Rattle.table_commands.specs.NoReference.{IsReferenceRefusal}
-use Rattle.table_commands.specs.References.{ReferenceParts, IsReferenceLine}
 use Rattle.table_commands.specs.declared.refusal.Refusal.{Refusal}
 use Rattle.table_commands.specs.declared.refusal.Refusal.TheVariants.{Unread, Unwritten, NoTable, NotRight, TooLong, NoMemory}
 use Rattle.table_commands.specs.Sample.{sample_table}
@@ -28,12 +25,6 @@ pub record IsTableOf (Reads : Passing) (name : List ℕ) (table : TableParts) : 
   pub sample : name ≡ codes "builtin" → table ≡ sample_table
   pub file : name ≢ codes "builtin" → IsReadAs Reads name table
 
--- the line tells of the table of a name how many routines it has
-pub record IsCounted (Reads : Passing) (name line : List ℕ) : Type 0 where
-  pub table : TableParts
-  pub is : IsTableOf Reads name table
-  pub line_is : line ≡ accepted table
-
 -- a file was written as octets that spell a table in the newest version, all of them
 pub record IsWritten (Takes : Passing) (output : List ℕ) (table : TableParts) : Type 0 where
   pub octets : List ℕ
@@ -46,18 +37,6 @@ pub record IsUpgraded (Reads Takes : Passing) (name output line : List ℕ) : Ty
   pub is : IsTableOf Reads name table
   pub written : IsWritten Takes output table
   pub line_is : line ≡ accepted table
-
--- the line that answers for a value, by the table of a name
-pub record IsValueLine (Reads : Passing) (name : List ℕ) (ask : Ask) (line : List ℕ) : Type 0 where
-  pub table : TableParts
-  pub is : IsTableOf Reads name table
-  pub answers : IsLine table ask line
-
--- the line of a reference, by the table of a name
-pub record IsReferenceOf (Reads : Passing) (name : List ℕ) (ask : ReferenceParts) (line : List ℕ) : Type 0 where
-  pub table : TableParts
-  pub is : IsTableOf Reads name table
-  pub answers : IsReferenceLine table.model ask line
 
 -- ---- refusals
 
@@ -98,21 +77,3 @@ pub record IsNotWritten (Reads : Passing) (name output : List ℕ) (refusal : Re
 
 abbrev pub IsNoUpgrade : Passing → List ℕ → List ℕ → Refusal → Type 0
 IsNoUpgrade Reads name output refusal = IsNoTable Reads name refusal ⊎ IsNotWritten Reads name output refusal
-
--- the table of a name has no answer
-pub record HasNoValue (Reads : Passing) (name : List ℕ) (ask : Ask) (refusal : Refusal) : Type 0 where
-  pub table : TableParts
-  pub is : IsTableOf Reads name table
-  pub refused : IsRefusalOf table ask refusal
-
-pub record HasNoReference (Reads : Passing) (name : List ℕ) (ask : ReferenceParts) (refusal : Refusal) : Type 0 where
-  pub table : TableParts
-  pub is : IsTableOf Reads name table
-  pub refused : IsReferenceRefusal table.model ask refusal
-
--- the refusal that answers
-abbrev pub IsValueRefusal : Passing → List ℕ → Ask → Refusal → Type 0
-IsValueRefusal Reads name ask refusal = IsNoTable Reads name refusal ⊎ HasNoValue Reads name ask refusal
-
-abbrev pub IsNoReference : Passing → List ℕ → ReferenceParts → Refusal → Type 0
-IsNoReference Reads name ask refusal = IsNoTable Reads name refusal ⊎ HasNoReference Reads name ask refusal

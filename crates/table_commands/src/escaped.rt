@@ -5,7 +5,7 @@ use std::fmt;
 /// A text with an escape for each control character and each backslash, so that it forges no line
 /// of a listing and says nothing to a terminal.
 #[derive(Clone, Copy)]
-pub(crate) struct Escaped<'t>(pub(crate) &'t str);
+pub struct Escaped<'t>(pub &'t str);
 
 /// A character of it.
 #[derive(Clone, Copy)]

@@ -20,10 +20,8 @@ mod whole_read;
 mod whole_write;
 
 pub use builtin::sample;
-pub use named::{
-    SAMPLE, accepted_of, listing_of, marshal_by, read_file, reference_by, table_of, upgrade,
-    write_file,
-};
+pub use escaped::Escaped;
+pub use named::{SAMPLE, read_file, table_of, upgrade, write_file};
 pub use object::{interface_place, object_in};
 pub use reference::{ReferenceRequest, reference_line};
 pub use refusal::Refusal;
@@ -31,7 +29,7 @@ pub use shown_instr::ShownInstr;
 pub use shown_table::listing;
 pub use source::{MAX_LEN, accepted, upgraded};
 pub use summary::accepted_line;
-pub use values::{ValueRequest, Way, marshal};
+pub use values::{ValueRequest, Way, marshal, octets_line, octets_of};
 pub use whole_files::WholeFiles;
 pub use whole_read::ReadFault;
 pub use whole_write::WriteFault;

@@ -2,19 +2,14 @@
 
 ghost use Rattle.std.specs.Prelude.{◌≡◌, ◌≤◌, ◌⊎◌, length, IfOk, IfErr, OnOk};
 ghost use Rattle.std.specs.String.{string_bytes};
-ghost use Rattle.table_commands.specs.Answer.{ask_of};
 ghost use Rattle.table_commands.specs.Files.{RefusesTable};
 ghost use Rattle.table_commands.specs.Lines.{accepted as accepted_routines};
-ghost use Rattle.table_commands.specs.Named.{IsCounted, IsNoReference, IsNoTable, IsNoUpgrade, IsReferenceOf, IsTableOf, IsUnread, IsUnwritten, IsUpgraded, IsValueLine, IsValueRefusal, IsWritten};
-ghost use Rattle.table_commands.specs.References.{reference_parts_of};
+ghost use Rattle.table_commands.specs.Named.{IsNoTable, IsNoUpgrade, IsTableOf, IsUnread, IsUnwritten, IsUpgraded, IsWritten};
 
 use crate::builtin::sample;
-use crate::reference::{ReferenceRequest, reference_line};
 use crate::refusal::Refusal;
-use crate::shown_table::listing;
 use crate::source::{MAX_LEN, accepted, upgraded};
 use crate::summary::accepted_line;
-use crate::values::{ValueRequest, marshal};
 use crate::whole_files::WholeFiles;
 use crate::whole_read::ReadFault;
 use crate::whole_write::WriteFault;
@@ -81,87 +76,6 @@ pub fn table_of<'a, R: WholeFiles + AllocGlobal>(
         Err(refusal) => return Err(refusal),
     };
     accepted(rt.alloc(), octets.as_slice())
-}
-
-/// How many routines the table of a name has, as a line.
-///
-/// # Errors
-/// Those of `table_of`.
-pub fn accepted_of<'a, R: WholeFiles + AllocGlobal>(
-    rt: &R,
-    name: &'a str,
-) -> Result<String, Refusal<'a>>
-    ensures counted { IfOk result (λ line. IsCounted (R.reads rt.now) name.now (string_bytes line)) }
-    ensures refused { IfErr result (IsNoTable (R.reads rt.now) name.now) }
-{
-    let table = match table_of(rt, name) {
-        Ok(table) => table,
-        Err(refusal) => return Err(refusal),
-    };
-    match accepted_line(rt.alloc(), &table) {
-        Ok(line) => Ok(line),
-        Err(_) => Err(Refusal::NoMemory),
-    }
-}
-
-/// What is in the table of a name.
-///
-/// # Errors
-/// Those of `table_of`.
-pub fn listing_of<'a, R: WholeFiles + AllocGlobal>(
-    rt: &R,
-    name: &'a str,
-) -> Result<String, Refusal<'a>>
-    ensures refused { IfErr result (IsNoTable (R.reads rt.now) name.now) }
-{
-    let table = match table_of(rt, name) {
-        Ok(table) => table,
-        Err(refusal) => return Err(refusal),
-    };
-    match listing(rt.alloc(), &table) {
-        Ok(text) => Ok(text),
-        Err(_) => Err(Refusal::NoMemory),
-    }
-}
-
-/// The line that answers a request, by the table of a name.
-///
-/// # Errors
-/// Those of `table_of`, then those of `marshal`.
-pub fn marshal_by<'a, R: WholeFiles + AllocGlobal>(
-    rt: &R,
-    name: &'a str,
-    request: &ValueRequest<'a>,
-) -> Result<String, Refusal<'a>>
-    ensures line { IfOk result (λ line.
-        IsValueLine (R.reads rt.now) name.now (ask_of request.now) (string_bytes line)) }
-    ensures refused { IfErr result (IsValueRefusal (R.reads rt.now) name.now (ask_of request.now)) }
-{
-    let table = match table_of(rt, name) {
-        Ok(table) => table,
-        Err(refusal) => return Err(refusal),
-    };
-    marshal(rt.alloc(), &table, request)
-}
-
-/// The line of a reference, by the table of a name.
-///
-/// # Errors
-/// Those of `table_of`, then those of `reference_line`.
-pub fn reference_by<'a, R: WholeFiles + AllocGlobal>(
-    rt: &R,
-    name: &'a str,
-    wanted: &ReferenceRequest<'a>,
-) -> Result<String, Refusal<'a>>
-    ensures line { IfOk result (λ line.
-        IsReferenceOf (R.reads rt.now) name.now (reference_parts_of wanted.now) (string_bytes line)) }
-    ensures refused { IfErr result (IsNoReference (R.reads rt.now) name.now (reference_parts_of wanted.now)) }
-{
-    let table = match table_of(rt, name) {
-        Ok(table) => table,
-        Err(refusal) => return Err(refusal),
-    };
-    reference_line(rt.alloc(), &table, wanted)
 }
 
 /// What is done with the table stands apart from the function that owns it, of which the prover would list all parts at each

@@ -31,11 +31,13 @@ pub struct ValueRequest<'a> {
     pub order: Order,
     /// The position of the first octet.
     pub pos: u64,
-    /// The tape or the octets, in hexadecimal.
-    pub hex: &'a str,
 }
 
-fn octets_of<'a>(alloc: Global, text: &str) -> Result<Vec<u8>, Refusal<'a>>
+/// The octets that hexadecimal digits are, in letters of either case.
+///
+/// # Errors
+/// `BadHex` where they are none, or want of memory.
+pub fn octets_of<'a>(alloc: Global, text: &str) -> Result<Vec<u8>, Refusal<'a>>
     ensures ok { IfOk result (λ octets. decode_of text.now ≡ Ok octets.items) }
     ensures err { IfErr result (λ refusal.
         OnlyIf refusal ((refusal ≡ Refusal.BadHex) × IsErr (decode_of text.now))) }
@@ -47,8 +49,8 @@ fn octets_of<'a>(alloc: Global, text: &str) -> Result<Vec<u8>, Refusal<'a>>
     }
 }
 
-/// A line of octets in lower case.
-fn octets_line(alloc: Global, octets: &[u8]) -> Result<String, AllocError>
+/// A line of octets, as hexadecimal digits in lower case.
+pub fn octets_line(alloc: Global, octets: &[u8]) -> Result<String, AllocError>
     ensures { IfOk result (λ line. string_bytes line ≡ encode_lower octets.now ++ 10 ∷ []) }
 {
     let mut line = hex::encode(alloc, octets)?;
@@ -119,8 +121,8 @@ fn answer<'a>(
     }
 }
 
-/// The line that answers a request: the octets of a tape, or how many octets were taken and the
-/// tape, in lower case hexadecimal.
+/// The line that answers a request for hexadecimal digits: the octets of a tape, or how many octets
+/// were taken and the tape, in lower case.
 ///
 /// # Errors
 /// The first in the order of the words: no such type, bad hexadecimal digits, a refusal of the run.
@@ -129,14 +131,15 @@ pub fn marshal<'a>(
     alloc: Global,
     table: &Accepted,
     request: &ValueRequest<'a>,
+    hex: &str,
 ) -> Result<String, Refusal<'a>>
-    ensures line { IfOk result (λ line. IsLine table.now (ask_of request.now) (string_bytes line)) }
-    ensures refused { IfErr result (IsRefusalOf table.now (ask_of request.now)) }
+    ensures line { IfOk result (λ line. IsLine table.now (ask_of request.now hex.now) (string_bytes line)) }
+    ensures refused { IfErr result (IsRefusalOf table.now (ask_of request.now hex.now)) }
 {
     let Some(node) = table.node_of(request.name) else {
         return Err(Refusal::NoType { name: request.name });
     };
-    match octets_of(alloc, request.hex) {
+    match octets_of(alloc, hex) {
         Ok(input) => answer(alloc, table, node, request, input.as_slice()),
         Err(refusal) => Err(refusal),
     }

@@ -12,29 +12,29 @@ first_of_pair f (Some x) = refl
 abbrev second : Option (Text × List Row) → Option (List Row)
 second = option_map (λ p. p.1)
 
-pub returns-in-encode : goal.returns-in-encode
-returns-in-encode c ask rows command tells =
+pub returns-in-encode-clause-asked : goal.returns-in-encode-clause-asked
+returns-in-encode-clause-asked c ask rows command tells =
     let command_is = sym c.in-encode.is ∙ same_some _ _ _ (sym c.in_ok-name.ensures.name) (sym (first_of_pair _ _) ∙ ap (option_map (λ (p : Text × List Row). p.0)) command) in
     let rows_are : rows_of (found_of c.in_ok-name.words.now) ≡ rows =
     let both : Some (rows_of (found_of c.in_ok-name.words.now)) ≡ Some rows = c.in_ok-name.ensures.rows ∙ ap second command in cc in
-    by_value Encode ask _ c.value.result command_is (rw rows_are tells) c.value.ensures
+    by_value Encode ask _ c.to_encode.result command_is (rw rows_are tells) c.to_encode.ensures.asked
 
-pub returns-in-decode : goal.returns-in-decode
-returns-in-decode c ask rows command tells =
+pub returns-in-decode-clause-asked : goal.returns-in-decode-clause-asked
+returns-in-decode-clause-asked c ask rows command tells =
     let command_is = sym c.in-decode.is ∙ same_some _ _ _ (sym c.in_ok-name.ensures.name) (sym (first_of_pair _ _) ∙ ap (option_map (λ (p : Text × List Row). p.0)) command) in
     let rows_are : rows_of (found_of c.in_ok-name.words.now) ≡ rows =
     let both : Some (rows_of (found_of c.in_ok-name.words.now)) ≡ Some rows = c.in_ok-name.ensures.rows ∙ ap second command in cc in
-    by_value Decode ask _ c.value-in-decode.result command_is (rw rows_are tells) c.value-in-decode.ensures
+    by_value Decode ask _ c.to_decode.result command_is (rw rows_are tells) c.to_decode.ensures
 
-pub returns-in-ior : goal.returns-in-ior
-returns-in-ior c ask rows command tells =
+pub returns-in-ior-clause-asked : goal.returns-in-ior-clause-asked
+returns-in-ior-clause-asked c ask rows command tells =
     let command_is = sym c.in-ior.is ∙ same_some _ _ _ (sym c.in_ok-name.ensures.name) (sym (first_of_pair _ _) ∙ ap (option_map (λ (p : Text × List Row). p.0)) command) in
     let rows_are : rows_of (found_of c.in_ok-name.words.now) ≡ rows =
     let both : Some (rows_of (found_of c.in_ok-name.words.now)) ≡ Some rows = c.in_ok-name.ensures.rows ∙ ap second command in cc in
     by_reference ask _ c.reference.result command_is (rw rows_are tells) c.reference.ensures
 
-pub returns-in-explain : goal.returns-in-explain
-returns-in-explain c ask rows command tells =
+pub returns-in-explain-clause-asked : goal.returns-in-explain-clause-asked
+returns-in-explain-clause-asked c ask rows command tells =
     let command_is = sym c.in-explain.is ∙ same_some _ _ _ (sym c.in_ok-name.ensures.name) (sym (first_of_pair _ _) ∙ ap (option_map (λ (p : Text × List Row). p.0)) command) in
     let rows_are : rows_of (found_of c.in_ok-name.words.now) ≡ rows =
     let both : Some (rows_of (found_of c.in_ok-name.words.now)) ≡ Some rows = c.in_ok-name.ensures.rows ∙ ap second command in cc in

@@ -4,11 +4,19 @@ use Rattle.command_words.proofs.Requests.{asked}
 use Rattle.command_words.proofs.matches.value.Goals as goal
 
 pub returns-in-Some : goal.returns-in-Some
-returns-in-Some c ask way_is tells =
+returns-in-Some c ask way_is form_is input_is tells =
     let e = c.in-Some.ensures in
-    asked (found_of c.args.words.now) c.args.way ask tells (Some c.in-Some.asked) way_is e.whole e.way e.table e.name e.order e.pos e.hex
+    asked (found_of c.args.words.now) c.args.way c.args.form c.args.input.now ask tells (Some c.in-Some.asked) way_is form_is input_is e.whole
+    (record {
+      way_is = e.way;
+      form_is = e.form;
+      input_is = e.input;
+      table = e.table;
+      name = e.name;
+      order = e.order;
+      pos = e.pos;
+    })
 
 pub returns-in-None : goal.returns-in-None
-returns-in-None c ask way_is tells =
-    let e = c.in-None.ensures in
-    asked (found_of c.args.words.now) c.args.way ask tells None way_is e.whole e.way e.table e.name e.order e.pos e.hex
+returns-in-None c ask way_is form_is input_is tells =
+    asked (found_of c.args.words.now) c.args.way c.args.form c.args.input.now ask tells None way_is form_is input_is c.in-None.ensures.whole tt

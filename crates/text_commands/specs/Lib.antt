@@ -1,0 +1,4 @@
+-- Values as text, by the types of a table.
+pub mod Lines
+pub mod Refusal
+pub mod inner

@@ -1,0 +1,12 @@
+//! What the commands do with values as text: the octets of a value that a text says, and the text
+//! of a value that octets encode, by the types of a table; and what these texts look like.
+#![tactic(auto)]
+
+mod marshal;
+mod outline;
+mod parts;
+mod refusal;
+
+pub use marshal::marshal_text;
+pub use outline::outlines;
+pub use refusal::TextRefusal;

@@ -1,0 +1,296 @@
+//! What the text of a value of each type looks like.
+
+use part_names::{NodeNames, PartNames};
+use position_checker::Accepted;
+use std::alloc::{AllocError, Global};
+use std::fmt;
+use table_commands::Escaped;
+use type_graph::{Graph, Node, Width};
+
+/// The types of a table: their names, by the numbers of their nodes, and those of their parts.
+struct Types<'t> {
+    graph: &'t Graph,
+    parts: &'t PartNames,
+    names: Vec<Option<&'t str>>,
+}
+
+/// A type where another one names it: by its name, by its number where it has none.
+#[derive(Clone, Copy)]
+struct Referred<'t> {
+    types: &'t Types<'t>,
+    node: u32,
+}
+
+/// What the text of a value of a type looks like.
+#[derive(Clone, Copy)]
+struct Outline<'t> {
+    types: &'t Types<'t>,
+    node: u32,
+}
+
+/// The members of a structure or a frame.
+#[derive(Clone, Copy)]
+struct Members<'t> {
+    types: &'t Types<'t>,
+    names: &'t NodeNames,
+    members: &'t [u32],
+}
+
+/// The label of a union's arm.
+#[derive(Clone, Copy)]
+struct Label<'t> {
+    types: &'t Types<'t>,
+    switch: u32,
+    label: i128,
+}
+
+/// The keyword of an integer type (ISO/IEC 19500-1, integer types).
+fn keyword(width: Width, signed: bool) -> &'static str {
+    match (width, signed) {
+        (Width::One, true) => "int8",
+        (Width::One, false) => "uint8",
+        (Width::Two, true) => "short",
+        (Width::Two, false) => "unsigned short",
+        (Width::Four, true) => "long",
+        (Width::Four, false) => "unsigned long",
+        (Width::Eight, true) => "long long",
+        (Width::Eight, false) => "unsigned long long",
+    }
+}
+
+/// The keyword of a type without parts.
+fn simple(node: &Node) -> Option<&'static str> {
+    match node {
+        Node::Integer { width, signed } => Some(keyword(*width, *signed)),
+        Node::Octet => Some("octet"),
+        Node::Char => Some("char"),
+        Node::Boolean => Some("boolean"),
+        Node::Text { bound: 0 } => Some("string"),
+        _ => None,
+    }
+}
+
+impl fmt::Display for Referred<'_> {
+    fn fmt<W: fmt::Write>(&self, f: &mut fmt::Formatter<W>) -> fmt::Result {
+        let Some(node) = self.types.graph.nodes().get(self.node as usize) else {
+            return Ok(());
+        };
+        if let Some(word) = simple(node) {
+            return f.write_str(word);
+        }
+        if let Node::Text { bound } = node {
+            return write!(f, "string<{bound}>");
+        }
+        match self.types.names.get(self.node as usize) {
+            Some(Some(name)) => write!(f, "{}", Escaped(name)),
+            _ => write!(f, "#{}", self.node),
+        }
+    }
+}
+
+impl fmt::Display for Members<'_> {
+    fn fmt<W: fmt::Write>(&self, f: &mut fmt::Formatter<W>) -> fmt::Result {
+        let is_named = !self.members.is_empty() && self.names.len() == self.members.len();
+        f.write_str(if is_named { "{" } else { "[" })?;
+        for place in 0..self.members.len() {
+            if place > 0 {
+                f.write_str(", ")?;
+            }
+            if is_named && let Some(name) = self.names.get(place) {
+                write!(f, "\"{}\": ", Escaped(name))?;
+            }
+            let node = self.members[place];
+            let types = self.types;
+            write!(f, "{}", Referred { types, node })?;
+        }
+        f.write_str(if is_named { "}" } else { "]" })
+    }
+}
+
+impl fmt::Display for Label<'_> {
+    fn fmt<W: fmt::Write>(&self, f: &mut fmt::Formatter<W>) -> fmt::Result {
+        let names = self.types.parts.of(self.switch);
+        if 0 <= self.label
+            && self.label < 4_294_967_296
+            && let Some(name) = names.get(self.label as usize)
+        {
+            return write!(f, "\"{}\"", Escaped(name));
+        }
+        match self.types.graph.nodes().get(self.switch as usize) {
+            Some(Node::Boolean) if self.label == 0 => f.write_str("false"),
+            Some(Node::Boolean) => f.write_str("true"),
+            Some(Node::Char) => write!(f, "\"\\u{:04x}\"", self.label as u8),
+            _ => write!(f, "{}", self.label),
+        }
+    }
+}
+
+impl<'t> Types<'t> {
+    /// The enumerators, by name or by number.
+    fn write_enumerators<W: fmt::Write>(
+        &self,
+        f: &mut fmt::Formatter<W>,
+        node: u32,
+        n: u32,
+    ) -> fmt::Result {
+        let names = self.parts.of(node);
+        if names.is_empty() {
+            return write!(f, "0 to {}", n.saturating_sub(1));
+        }
+        for place in 0..names.len() {
+            if place > 0 {
+                f.write_str(" | ")?;
+            }
+            if let Some(name) = names.get(place) {
+                write!(f, "\"{}\"", Escaped(name))?;
+            }
+        }
+        Ok(())
+    }
+
+    /// Elements: octets are digits, characters a string, all others a list.
+    fn write_elements<W: fmt::Write>(&self, f: &mut fmt::Formatter<W>, elem: u32) -> fmt::Result {
+        match self.graph.nodes().get(elem as usize) {
+            Some(Node::Octet) => f.write_str("\"two digits an octet\""),
+            Some(Node::Char) => f.write_str("\"characters\""),
+            _ => write!(
+                f,
+                "[{}, ..]",
+                Referred {
+                    types: self,
+                    node: elem
+                }
+            ),
+        }
+    }
+
+    /// The arms of a union: a label and its member.
+    fn write_arms<W: fmt::Write>(
+        &self,
+        f: &mut fmt::Formatter<W>,
+        switch: u32,
+        arms: &[(i128, u32)],
+        default: Option<u32>,
+    ) -> fmt::Result {
+        for (label, node) in arms {
+            let label = Label {
+                types: self,
+                switch,
+                label: *label,
+            };
+            let member = Referred {
+                types: self,
+                node: *node,
+            };
+            write!(f, "[{label}, {member}] | ")?;
+        }
+        match default {
+            Some(node) => write!(f, "[another label, {}]", Referred { types: self, node }),
+            None => f.write_str("[another label]"),
+        }
+    }
+}
+
+impl fmt::Display for Outline<'_> {
+    fn fmt<W: fmt::Write>(&self, f: &mut fmt::Formatter<W>) -> fmt::Result {
+        let types = self.types;
+        match types.graph.nodes().get(self.node as usize) {
+            Some(Node::Enum { n }) => types.write_enumerators(f, self.node, *n),
+            Some(Node::Seq { elem, bound }) => {
+                types.write_elements(f, *elem)?;
+                match *bound {
+                    0 => Ok(()),
+                    bound => write!(f, " of at most {bound}"),
+                }
+            }
+            Some(Node::Array { elem, n }) => {
+                types.write_elements(f, *elem)?;
+                write!(f, " of {n}")
+            }
+            Some(Node::Struct { members }) | Some(Node::Frame { members }) => {
+                let names = types.parts.of(self.node);
+                let members = members.as_slice();
+                write!(
+                    f,
+                    "{}",
+                    Members {
+                        types,
+                        names,
+                        members
+                    }
+                )
+            }
+            Some(
+                Node::Union {
+                    switch,
+                    arms,
+                    default,
+                },
+            ) => types.write_arms(f, *switch, arms.as_slice(), *default),
+            _ => write!(
+                f,
+                "{}",
+                Referred {
+                    types,
+                    node: self.node
+                }
+            ),
+        }
+    }
+}
+
+/// Whether the text of a value of the type looks like more than a keyword.
+fn has_outline(node: &Node) -> bool {
+    !matches!(node, Node::Text { .. }) && simple(node).is_none()
+}
+
+impl fmt::Display for Types<'_> {
+    fn fmt<W: fmt::Write>(&self, f: &mut fmt::Formatter<W>) -> fmt::Result {
+        let nodes = self.graph.nodes();
+        for number in 0..nodes.len() {
+            if has_outline(&nodes[number]) && self.names.get(number) == Some(&None) {
+                let node = number as u32;
+                let types = self;
+                writeln!(f, "#{node} = {}", Outline { types, node })?;
+            }
+        }
+        Ok(())
+    }
+}
+
+/// The first name of each node.
+fn names_of<'t>(alloc: Global, table: &'t Accepted) -> Result<Vec<Option<&'t str>>, AllocError> {
+    let model = table.table().model();
+    let mut first = vec![in alloc; None; model.graph().nodes().len()]?;
+    let names = model.names();
+    for place in 0..names.len() {
+        let (name, node) = names.pair(place);
+        if let Some(known) = first.get_mut(node as usize)
+            && known.is_none()
+        {
+            *known = Some(name);
+        }
+    }
+    Ok(first)
+}
+
+/// For each name of a table what the text of a value of its type looks like, as a line; then the
+/// same of types without a name, by the numbers of their nodes.
+pub fn outlines(alloc: Global, table: &Accepted, parts: &PartNames) -> Result<String, AllocError> {
+    let model = table.table().model();
+    let types = Types {
+        graph: model.graph(),
+        parts,
+        names: names_of(alloc, table)?,
+    };
+    let names = model.names();
+    let mut text = String::new(alloc);
+    for place in 0..names.len() {
+        let (name, node) = names.pair(place);
+        let types = &types;
+        let outline = Outline { types, node };
+        text.push_str(format!(in alloc; "{} = {outline}\n", Escaped(name))?.as_str())?;
+    }
+    text.push_str(format!(in alloc; "{types}")?.as_str())?;
+    Ok(text)
+}
