@@ -31,8 +31,8 @@ fn encode_value<'a>(
     request: &ValueRequest<'a>,
     value: &Value,
 ) -> Result<String, TextRefusal<'a>>
-    requires { IsNamed table.now.model.names node }
-    requires { Fits table.now.model.graph (node_at table.now.model.graph node) (tree_of value.now) 64 }
+    requires named { IsNamed table.now.model.names node }
+    requires fits { Fits table.now.model.graph (node_at table.now.model.graph node) (tree_of value.now) 64 }
     ensures ok { IfOk result (λ line. PrintsOctets table.now.model.graph request.now.order node request.now.pos
         (tape_of table.now.model.graph (node_at table.now.model.graph node) (tree_of value.now)) (string_bytes line)) }
     ensures err { IfErr result (λ refusal. IsOfRun refusal (HasNoOctets table.now.model.graph request.now.order node
@@ -52,7 +52,7 @@ fn encode<'a>(
     request: &ValueRequest<'a>,
     text: &str,
 ) -> Result<String, TextRefusal<'a>>
-    requires { IsNamed table.now.model.names node }
+    requires named { IsNamed table.now.model.names node }
     ensures ok { IfOk result (λ line. PrintsSaid names.now table.now.model.graph node (ask_of request.now text.now)
         (string_bytes line)) }
     ensures err { IfErr result (IsRefusalAt Encode names.now table.now.model.graph node
@@ -60,6 +60,13 @@ fn encode<'a>(
 {
     let value = read(alloc, table.table().model().graph(), names, node, text)?;
     encode_value(alloc, table, node, request, &value)
+}
+
+/// A text behind a count.
+fn counted(alloc: Global, taken: usize, text: &str) -> Result<String, AllocError>
+    ensures { IfOk result (λ line. string_bytes line ≡ decimal taken ++ 32 ∷ text.now) }
+{
+    format!(in alloc; "{taken} {text}")
 }
 
 /// A line of how many octets were taken and the text of the value of their tape.
@@ -71,13 +78,14 @@ fn text_line(
     taken: usize,
     tape: &[u8],
 ) -> Result<String, AllocError>
-    requires { node < length graph.now }
-    requires { IsTape graph.now node tape.now }
+    requires there { node < length graph.now }
+    requires tape { IsTape graph.now node tape.now }
     ensures { IfOk result (λ line. IsTextOf names.now graph.now node taken tape.now (string_bytes line)) }
 {
     let value = unpacked(alloc, graph, node, tape)?;
-    let text = printed(alloc, graph, names, node, &value)?;
-    format!(in alloc; "{taken} {text}\n")
+    let mut text = printed(alloc, graph, names, node, &value)?;
+    text.push_str("\n")?;
+    counted(alloc, taken, text.as_str())
 }
 
 /// How many octets encode a value, and its text, as a line.
@@ -89,7 +97,7 @@ fn decode<'a>(
     request: &ValueRequest<'a>,
     octets: &[u8],
 ) -> Result<String, TextRefusal<'a>>
-    requires { IsNamed table.now.model.names node }
+    requires named { IsNamed table.now.model.names node }
     ensures ok { IfOk result (λ line. PrintsTextOf names.now table.now.model.graph node request.now.order
         request.now.pos octets.now (string_bytes line)) }
     ensures err { IfErr result (λ refusal. IsOfRun refusal
@@ -109,7 +117,7 @@ fn answer<'a>(
     request: &ValueRequest<'a>,
     input: &str,
 ) -> Result<String, TextRefusal<'a>>
-    requires { IsNamed table.now.model.names node }
+    requires named { IsNamed table.now.model.names node }
     ensures ok { IfOk result (λ line. Prints request.now.way names.now table.now.model.graph node
         (ask_of request.now input.now) (string_bytes line)) }
     ensures err { IfErr result (IsRefusalAt request.now.way names.now table.now.model.graph node

@@ -6,9 +6,12 @@ use std::alloc::{AllocError, Global};
 use std::fmt;
 use table_commands::Escaped;
 use type_graph::{Graph, Node, Width};
+use type_model::Model;
 
 /// The types of a table: their names, by the numbers of their nodes, and those of their parts.
+#[derive(Drop)]
 struct Types<'t> {
+    model: &'t Model,
     graph: &'t Graph,
     parts: &'t PartNames,
     names: Vec<Option<&'t str>>,
@@ -42,6 +45,15 @@ struct Label<'t> {
     types: &'t Types<'t>,
     switch: u32,
     label: i128,
+}
+
+/// An arm of a union.
+#[derive(Clone, Copy)]
+struct Arm<'t> {
+    types: &'t Types<'t>,
+    switch: u32,
+    label: i128,
+    node: u32,
 }
 
 /// The keyword of an integer type (ISO/IEC 19500-1, integer types).
@@ -119,9 +131,22 @@ impl fmt::Display for Label<'_> {
         match self.types.graph.nodes().get(self.switch as usize) {
             Some(Node::Boolean) if self.label == 0 => f.write_str("false"),
             Some(Node::Boolean) => f.write_str("true"),
-            Some(Node::Char) => write!(f, "\"\\u{:04x}\"", self.label as u8),
+            Some(Node::Char) => write!(f, "\"\\u{:04x}\"", self.label),
             _ => write!(f, "{}", self.label),
         }
+    }
+}
+
+impl fmt::Display for Arm<'_> {
+    fn fmt<W: fmt::Write>(&self, f: &mut fmt::Formatter<W>) -> fmt::Result {
+        let types = self.types;
+        let label = Label {
+            types,
+            switch: self.switch,
+            label: self.label,
+        };
+        let node = self.node;
+        write!(f, "[{label}, {}]", Referred { types, node })
     }
 }
 
@@ -173,16 +198,13 @@ impl<'t> Types<'t> {
         default: Option<u32>,
     ) -> fmt::Result {
         for (label, node) in arms {
-            let label = Label {
-                types: self,
+            let arm = Arm {
+                types: &*self,
                 switch,
                 label: *label,
-            };
-            let member = Referred {
-                types: self,
                 node: *node,
             };
-            write!(f, "[{label}, {member}] | ")?;
+            write!(f, "{arm} | ")?;
         }
         match default {
             Some(node) => write!(f, "[another label, {}]", Referred { types: self, node }),
@@ -244,13 +266,49 @@ fn has_outline(node: &Node) -> bool {
     !matches!(node, Node::Text { .. }) && simple(node).is_none()
 }
 
-impl fmt::Display for Types<'_> {
+/// The line of a name.
+#[derive(Clone, Copy)]
+struct Named<'t> {
+    types: &'t Types<'t>,
+    name: &'t str,
+    node: u32,
+}
+
+impl fmt::Display for Named<'_> {
     fn fmt<W: fmt::Write>(&self, f: &mut fmt::Formatter<W>) -> fmt::Result {
-        let nodes = self.graph.nodes();
+        let types = self.types;
+        let node = self.node;
+        writeln!(f, "{} = {}", Escaped(self.name), Outline { types, node })
+    }
+}
+
+/// The lines of all types.
+#[derive(Clone, Copy)]
+struct AllLines<'t>(&'t Types<'t>);
+
+impl fmt::Display for AllLines<'_> {
+    fn fmt<W: fmt::Write>(&self, f: &mut fmt::Formatter<W>) -> fmt::Result {
+        let types = self.0;
+        let names = types.model.names();
+        for place in 0..names.len() {
+            let (name, node) = names.pair(place);
+            write!(f, "{}", Named { types, name, node })?;
+        }
+        write!(f, "{}", Nameless(types))
+    }
+}
+
+/// The types without a name, by their numbers.
+#[derive(Clone, Copy)]
+struct Nameless<'t>(&'t Types<'t>);
+
+impl fmt::Display for Nameless<'_> {
+    fn fmt<W: fmt::Write>(&self, f: &mut fmt::Formatter<W>) -> fmt::Result {
+        let types = self.0;
+        let nodes = types.graph.nodes();
         for number in 0..nodes.len() {
-            if has_outline(&nodes[number]) && self.names.get(number) == Some(&None) {
+            if has_outline(&nodes[number]) && types.names.get(number) == Some(&None) {
                 let node = number as u32;
-                let types = self;
                 writeln!(f, "#{node} = {}", Outline { types, node })?;
             }
         }
@@ -259,8 +317,7 @@ impl fmt::Display for Types<'_> {
 }
 
 /// The first name of each node.
-fn names_of<'t>(alloc: Global, table: &'t Accepted) -> Result<Vec<Option<&'t str>>, AllocError> {
-    let model = table.table().model();
+fn names_of<'t>(alloc: Global, model: &'t Model) -> Result<Vec<Option<&'t str>>, AllocError> {
     let mut first = vec![in alloc; None; model.graph().nodes().len()]?;
     let names = model.names();
     for place in 0..names.len() {
@@ -274,23 +331,21 @@ fn names_of<'t>(alloc: Global, table: &'t Accepted) -> Result<Vec<Option<&'t str
     Ok(first)
 }
 
+fn lines(alloc: Global, types: &Types<'_>) -> Result<String, AllocError> {
+    format!(in alloc; "{}", AllLines(types))
+}
+
 /// For each name of a table what the text of a value of its type looks like, as a line; then the
 /// same of types without a name, by the numbers of their nodes.
 pub fn outlines(alloc: Global, table: &Accepted, parts: &PartNames) -> Result<String, AllocError> {
     let model = table.table().model();
+    let names = names_of(alloc, model)?;
+    let graph = model.graph();
     let types = Types {
-        graph: model.graph(),
+        model,
+        graph,
         parts,
-        names: names_of(alloc, table)?,
+        names,
     };
-    let names = model.names();
-    let mut text = String::new(alloc);
-    for place in 0..names.len() {
-        let (name, node) = names.pair(place);
-        let types = &types;
-        let outline = Outline { types, node };
-        text.push_str(format!(in alloc; "{} = {outline}\n", Escaped(name))?.as_str())?;
-    }
-    text.push_str(format!(in alloc; "{types}")?.as_str())?;
-    Ok(text)
+    lines(alloc, &types)
 }

@@ -16,8 +16,8 @@ use value_text::{PrintFault, print};
 
 /// The tape of a value of a node.
 pub fn packed(alloc: Global, graph: &Graph, node: u32, value: &Value) -> Result<Vec<u8>, AllocError>
-    requires { node < length graph.now }
-    requires { Fits graph.now (node_at graph.now node) (tree_of value.now) 64 }
+    requires there { node < length graph.now }
+    requires fits { Fits graph.now (node_at graph.now node) (tree_of value.now) 64 }
     ensures { IfOk result (λ tape. tape.items ≡ tape_of graph.now (node_at graph.now node) (tree_of value.now)) }
 {
     match pack(alloc, graph, node, value) {
@@ -29,8 +29,8 @@ pub fn packed(alloc: Global, graph: &Graph, node: u32, value: &Value) -> Result<
 
 /// The value of a node that has the tape.
 pub fn unpacked(alloc: Global, graph: &Graph, node: u32, tape: &[u8]) -> Result<Value, AllocError>
-    requires { node < length graph.now }
-    requires { IsTape graph.now node tape.now }
+    requires there { node < length graph.now }
+    requires tape { IsTape graph.now node tape.now }
     ensures fits { IfOk result (λ value. Fits graph.now (node_at graph.now node) (tree_of value) 64) }
     ensures tape { IfOk result (λ value. tape_of graph.now (node_at graph.now node) (tree_of value) ≡ tape.now) }
 {
@@ -49,8 +49,8 @@ pub fn printed(
     node: u32,
     value: &Value,
 ) -> Result<String, AllocError>
-    requires { node < length graph.now }
-    requires { Fits graph.now (node_at graph.now node) (tree_of value.now) 64 }
+    requires there { node < length graph.now }
+    requires fits { Fits graph.now (node_at graph.now node) (tree_of value.now) 64 }
     ensures { IfOk result (λ text. string_bytes text ≡ json_text.print (text_at names.now graph.now node
         (tree_of value.now))) }
 {

@@ -1,6 +1,6 @@
 use Rattle.std.proofs.lemmas.Result.{err_from_is_err_and}
 use Rattle.idl_compiler.proofs.Refusals.{told}
-use Rattle.idl_compiler.proofs.steps.SpecHasModel.model.Goals as goal
+use Rattle.idl_compiler.proofs.steps.SpecHasModel.built.Goals as goal
 
 pub returns-in_err-built-clause-faults : goal.returns-in_err-built-clause-faults
 returns-in_err-built-clause-faults c =

@@ -1,0 +1,14 @@
+use Rattle.std.proofs.Common.{rules}
+use Rattle.std.proofs.lemmas.Result.{err_from_is_err_and}
+use Rattle.table_commands.specs.Answer.{ask_of}
+use Rattle.text_commands.proofs.Facts.{in_lent, unsaid}
+use Rattle.text_commands.proofs.marshal.encode.Goals as goal
+
+pub read-requires : goal.read-requires
+read-requires c =
+    in_lent c.args.table.now.model c.model.result.now c.graph.result.now c.args.node (search rules) (search rules) c.graph.ensures.rules c.requires.named
+
+pub returns-in_err-value-clause-err : goal.returns-in_err-value-clause-err
+returns-in_err-value-clause-err c =
+    let p = err_from_is_err_and c.from_residual.result c.from_residual.ensures.1 in
+    rw (p.1, p.2) (unsaid c.args.names.now c.args.table.now.model.graph c.args.node (ask_of c.args.request.now c.args.text.now) c.in_err-value.field-0.0 ?)
