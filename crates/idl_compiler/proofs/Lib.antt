@@ -1,3 +1,2 @@
 pub mod FileFacts
-pub mod Refusals
 pub mod TableFacts

@@ -3,28 +3,19 @@ use Rattle.std.proofs.Common.{◌≡◌, refl, sym, ◌∙◌, subst, ℕ, ◌�
 use Rattle.std.specs.Io.KnownBytes.{Appends}
 use Rattle.idlc_main.specs.declared.told.Answer.{Answer}
 use Rattle.idlc_main.specs.declared.fault.Fault.{Fault}
-use Rattle.idlc_main.specs.declared.fault.Fault.TheVariants.{Words, NotText, Refused, NotCompiled, Explained, NotServed, Socket, NoRefusal, Unwritten, NoMemory}
+use Rattle.idlc_main.specs.declared.fault.Fault.TheVariants.{Words, NotText, Refused, Unsaid, NotCompiled, Explained, NotServed, Socket, NoRefusal, Unwritten, NoMemory}
 use Rattle.command_words.specs.declared.mistake.Mistake.{Mistake}
 use Rattle.command_words.specs.declared.mistake.Mistake.TheVariants as mistakes
-use Rattle.idlc_main.specs.Fault.{fault_of_words, status_of, status_of_refusal}
+use Rattle.idl_compiler.specs.declared.refusal.CompileRefusal.{CompileRefusal}
+use Rattle.idl_compiler.specs.declared.refusal.CompileRefusal.TheVariants as sources
+use Rattle.named_tables.specs.declared.fault.NamedFault.{NamedFault}
+use Rattle.named_tables.specs.declared.fault.NamedFault.TheVariants as tables
+use Rattle.idlc_main.specs.Fault.{IsOfNamed, fault_of_source, fault_of_words, status_of, status_of_refusal}
 use Rattle.table_commands.specs.Named.{Passing}
 use Rattle.table_commands.specs.declared.refusal.Refusal.{Refusal}
 use Rattle.table_commands.specs.declared.refusal.Refusal.TheVariants as refusals
-use Rattle.command_words.specs.Ask.{Ask, Explanation, Reference, ReferenceAsk, Value, ValueAsk}
-use Rattle.idlc_main.specs.Answer.{IsAnswer, IsEndOf, IsExplanationFault, IsFaultOf, IsReferenceFault, IsStrange, IsValueFault}
-
--- a fault that answers nothing, whatever is asked for
-never : (Reads : Passing) (ask : Ask) (fault : Fault) → ((value : ValueAsk) → IsValueFault Reads value fault → ⊥)
-    → ((reference : ReferenceAsk) → IsReferenceFault Reads reference fault → ⊥)
-    → ((word : Option (List ℕ)) → IsExplanationFault word fault → ⊥) → IsFaultOf Reads ask fault → ⊥
-never Reads (Value value) fault v r e is = v value is
-never Reads (Reference reference) fault v r e is = r reference is
-never Reads (Explanation word) fault v r e is = e word is
-
-strange : (Reads : Passing) (ask : Ask) (word : Bor (List ℕ)) → IsFaultOf Reads ask (NoRefusal word) → IsStrange ask
-strange Reads (Value value) word is = absurd is
-strange Reads (Reference reference) word is = absurd is
-strange Reads (Explanation asked) word is = is.1
+use Rattle.command_words.specs.Ask.{Ask, Explanation, Reference, Value}
+use Rattle.idlc_main.specs.Answer.{IsAnswer, IsEndOf, IsExplanationFault, IsFaultOf, IsStrange}
 
 -- a refusal is of the input, or of files or memory
 statuses : (refusal : Refusal) → (status_of_refusal refusal ≡ 1) ⊎ (3 ≤ status_of_refusal refusal)
@@ -32,6 +23,21 @@ statuses (refusals.Unread file) = inr (omega arith)
 statuses (refusals.Unwritten file) = inr (omega arith)
 statuses refusals.NoMemory = inr (omega arith)
 statuses refusal = inl refl
+
+source_statuses : (refusal : CompileRefusal) → (status_of (fault_of_source refusal) ≡ 1) ⊎ (3 ≤ status_of (fault_of_source refusal))
+source_statuses (sources.Fault text) = inl refl
+source_statuses sources.TooLong = inl refl
+source_statuses sources.NoMemory = inr (omega arith)
+
+-- so is the fault of a table that a word names
+named_statuses : (named : NamedFault) (fault : Fault) → IsOfNamed named fault → (status_of fault ≡ 1) ⊎ (3 ≤ status_of fault)
+named_statuses (tables.Refused refusal) fault is =
+    subst (λ (f : Fault). (status_of f ≡ 1) ⊎ (3 ≤ status_of f)) (sym is) (statuses refusal)
+named_statuses (tables.Unsaid text) fault is =
+    subst (λ (f : Fault). (status_of f ≡ 1) ⊎ (3 ≤ status_of f)) (sym is) (inl refl)
+named_statuses (tables.NotCompiled refusal) (Explained same view) is = inl refl
+named_statuses (tables.NotCompiled refusal) fault is =
+    subst (λ (f : Fault). (status_of f ≡ 1) ⊎ (3 ≤ status_of f)) (sym is) (source_statuses refusal)
 
 module _ (Reads : Passing) (ask : Ask) (old new : Option (List ℕ)) where
   -- the input was refused
@@ -76,18 +82,32 @@ module _ (Reads : Passing) (ask : Ask) (old new : Option (List ℕ)) where
       let four : status ≡ 4 = subst (λ (f : Fault). status ≡ status_of f) same is in
       ends_else status (omega arith)
 
-  -- there was a fault
-  pub ends : (fault : Fault) (status : ℕ) → status ≡ status_of fault → IsFaultOf Reads ask fault → IsEndOf Reads ask status old new
-  ends (Words mistake) status is told = absurd (never Reads ask (Words mistake) (λ _ h. h) (λ _ h. h) (λ _ h. h) told)
-  ends NotText status is told = absurd (never Reads ask NotText (λ _ h. h) (λ _ h. h) (λ _ h. h) told)
-  ends (Refused refusal) status is told = by_refusal (statuses refusal) where
-    by_refusal : (status_of_refusal refusal ≡ 1) ⊎ (3 ≤ status_of_refusal refusal) → IsEndOf Reads ask status old new
-    by_refusal (inl one) = ends_refused (Refused refusal) status (is ∙ one) one told
-    by_refusal (inr above) = ends_else status (subst (λ (n : ℕ). 3 ≤ n) (sym is) above)
-  ends (NotCompiled refusal) status is told = absurd (never Reads ask (NotCompiled refusal) (λ _ h. h) (λ _ h. h) (λ _ h. h) told)
-  ends (Explained refusal view) status is told = absurd (never Reads ask (Explained refusal view) (λ _ h. h) (λ _ h. h) (λ _ h. h) told)
-  ends (NotServed fault) status is told = absurd (never Reads ask (NotServed fault) (λ _ h. h) (λ _ h. h) (λ _ h. h) told)
-  ends Socket status is told = absurd (never Reads ask Socket (λ _ h. h) (λ _ h. h) (λ _ h. h) told)
-  ends (NoRefusal word) status is told = ends_strange status is (strange Reads ask word told)
-  ends Unwritten status is told = ends_else status (omega arith)
-  ends NoMemory status is told = ends_else status (omega arith)
+  -- there was a fault of the table, or of what was asked of it
+  ends_named : (fault : Fault) (status : ℕ) → status ≡ status_of fault → (status_of fault ≡ 1) ⊎ (3 ≤ status_of fault) → IsFaultOf Reads ask fault
+      → IsEndOf Reads ask status old new
+  ends_named fault status is (inl one) why = ends_refused fault status (is ∙ one) one why
+  ends_named fault status is (inr above) why = ends_else status (subst (λ (n : ℕ). 3 ≤ n) (sym is) above)
+
+-- no refusal is meant, or memory was wanted
+ends_meant : (Reads : Passing) (word : Option (List ℕ)) (old new : Option (List ℕ)) (fault : Fault) (status : ℕ) → status ≡ status_of fault
+    → IsExplanationFault word fault → IsEndOf Reads (Explanation word) status old new
+ends_meant Reads word old new (NoRefusal other) status is told = ends_strange Reads (Explanation word) old new status is told.1
+ends_meant Reads word old new NoMemory status is told = ends_else Reads (Explanation word) old new status (omega arith)
+ends_meant Reads word old new (Words mistake) status is told = absurd told
+ends_meant Reads word old new NotText status is told = absurd told
+ends_meant Reads word old new (Refused refusal) status is told = absurd told
+ends_meant Reads word old new (Unsaid text) status is told = absurd told
+ends_meant Reads word old new (NotCompiled refusal) status is told = absurd told
+ends_meant Reads word old new (Explained refusal view) status is told = absurd told
+ends_meant Reads word old new (NotServed other) status is told = absurd told
+ends_meant Reads word old new Socket status is told = absurd told
+ends_meant Reads word old new Unwritten status is told = absurd told
+
+-- there was a fault
+pub ends : (Reads : Passing) (ask : Ask) (old new : Option (List ℕ)) (fault : Fault) (status : ℕ) → status ≡ status_of fault → IsFaultOf Reads ask fault
+    → IsEndOf Reads ask status old new
+ends Reads (Value value) old new fault status is told =
+    ends_named Reads (Value value) old new fault status is (named_statuses told.named fault told.is) told
+ends Reads (Reference reference) old new fault status is told =
+    ends_named Reads (Reference reference) old new fault status is (named_statuses told.named fault told.is) told
+ends Reads (Explanation word) old new fault status is told = ends_meant Reads word old new fault status is told

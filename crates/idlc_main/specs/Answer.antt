@@ -4,24 +4,20 @@ use Rattle.std.specs.String.{string_bytes}
 use Rattle.std.specs.Io.KnownBytes.{Appends, Keeps}
 use Rattle.fault_texts.specs.Named.{AreTexts, lines_below}
 use Rattle.socket_server.specs.Lines.{serving}
-use Rattle.table_commands.specs.declared.refusal.Refusal.{Refusal}
 use Rattle.table_commands.specs.Named.{Passing}
-use Rattle.table_commands.specs.NoReference.{IsReferenceRefusal}
-use Rattle.table_commands.specs.References.{IsReferenceLine}
-use Rattle.table_file.specs.Table.{TableParts}
-use Rattle.text_commands.specs.Lines.{Labels}
+use Rattle.named_tables.specs.Answers.{IsReferenceFault, IsReferenceOf}
+use Rattle.named_tables.specs.Values.{IsValueFault, IsValueLine}
+use Rattle.named_tables.specs.declared.fault.NamedFault.{NamedFault}
 use Rattle.idlc_main.specs.declared.fault.Fault.{Fault}
-use Rattle.idlc_main.specs.declared.fault.Fault.TheVariants.{Refused, NoRefusal, NoMemory}
-use Rattle.idlc_main.specs.Fault.{status_of}
-use Rattle.idlc_main.specs.Loaded.{IsLoaded, IsNotLoaded}
-use Rattle.idlc_main.specs.Values.{IsValueFault, IsValueLine}
+use Rattle.idlc_main.specs.declared.fault.Fault.TheVariants.{NoRefusal, NoMemory}
+use Rattle.idlc_main.specs.Fault.{IsOfNamed, status_of}
 use Rattle.command_words.specs.Ask.{Ask, Explanation, Reference, ReferenceAsk, Value, ValueAsk}
 use Rattle.idlc_main.specs.declared.told.Answer.{Answer}
 
 -- the answer has a line's text, or the fault is that of the line
-abbrev pub IsLined : {A : Type 0} → (A → List ℕ) → Result A Fault → Result Answer Fault → Type 0
+abbrev pub IsLined : {A : Type 0} → (A → List ℕ) → Result A NamedFault → Result Answer Fault → Type 0
 IsLined text_of (Ok line) (Ok answer) = string_bytes answer.text ≡ text_of line
-IsLined text_of (Err other) (Err fault) = fault ≡ other
+IsLined text_of (Err named) (Err fault) = IsOfNamed named fault
 IsLined text_of line result = ⊥
 
 -- texts of the refusals that the word means, of one at least
@@ -34,33 +30,17 @@ abbrev pub Explains : Option (List ℕ) → List ℕ → Type 0
 Explains (Some word) lines = AreExplained word lines
 Explains None lines = lines ≡ lines_below 256
 
--- the line of a reference, by the table of a name
-pub record IsReferenceOf (Reads : Passing) (ask : ReferenceAsk) (line : List ℕ) : Type 0 where
-  pub table : TableParts
-  pub labels : Labels
-  pub is : IsLoaded Reads ask.table table labels
-  pub answers : IsReferenceLine table.model ask.parts line
-
 -- the line that answers
 abbrev pub IsLine : Passing → Ask → List ℕ → Type 0
 IsLine Reads (Value ask) line = IsValueLine Reads ask line
 IsLine Reads (Reference ask) line = IsReferenceOf Reads ask line
 IsLine Reads (Explanation word) lines = Explains word lines
 
--- the table of a name has no such reference
-pub record HasNoReference (Reads : Passing) (ask : ReferenceAsk) (refusal : Refusal) : Type 0 where
-  pub table : TableParts
-  pub labels : Labels
-  pub is : IsLoaded Reads ask.table table labels
-  pub refused : IsReferenceRefusal table.model ask.parts refusal
-
-abbrev pub IsUnreferred : Passing → ReferenceAsk → Fault → Type 0
-IsUnreferred Reads ask (Refused refusal) = HasNoReference Reads ask refusal
-IsUnreferred Reads ask fault = ⊥
-
--- the fault that answers: of the table, or of the reference
-abbrev pub IsReferenceFault : Passing → ReferenceAsk → Fault → Type 0
-IsReferenceFault Reads ask fault = IsNotLoaded Reads ask.table fault ⊎ IsUnreferred Reads ask fault
+-- the fault that answers for a value or a reference, by what the table of a name tells
+pub record IsNamedFault (Tells : NamedFault → Type 0) (fault : Fault) : Type 0 where
+  pub named : NamedFault
+  pub tells : Tells named
+  pub is : IsOfNamed named fault
 
 -- the number or the name of no refusal
 abbrev pub IsStrangeWord : Option (List ℕ) → Type 0
@@ -73,8 +53,8 @@ IsExplanationFault word NoMemory = Unit {0}
 IsExplanationFault word fault = ⊥
 
 abbrev pub IsFaultOf : Passing → Ask → Fault → Type 0
-IsFaultOf Reads (Value ask) fault = IsValueFault Reads ask fault
-IsFaultOf Reads (Reference ask) fault = IsReferenceFault Reads ask fault
+IsFaultOf Reads (Value ask) fault = IsNamedFault (IsValueFault Reads ask) fault
+IsFaultOf Reads (Reference ask) fault = IsNamedFault (IsReferenceFault Reads ask) fault
 IsFaultOf Reads (Explanation word) fault = IsExplanationFault word fault
 
 pub record IsAnswer (Reads : Passing) (ask : Ask) (result : Result Answer Fault) : Type 0 where

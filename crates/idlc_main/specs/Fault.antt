@@ -8,8 +8,8 @@ use Rattle.table_commands.specs.declared.refusal.Refusal.{Refusal}
 use Rattle.table_commands.specs.declared.refusal.Refusal.TheVariants as refusals
 use Rattle.socket_server.specs.declared.fault.ServeFault.{ServeFault}
 use Rattle.socket_server.specs.declared.fault.ServeFault.TheVariants as serve_faults
-use Rattle.text_commands.specs.declared.refusal.TextRefusal.{TextRefusal}
-use Rattle.text_commands.specs.declared.refusal.TextRefusal.TheVariants as texts
+use Rattle.named_tables.specs.declared.fault.NamedFault.{NamedFault}
+use Rattle.named_tables.specs.declared.fault.NamedFault.TheVariants as named
 use Rattle.idlc_main.specs.declared.fault.Fault.{Fault}
 use Rattle.idlc_main.specs.declared.fault.Fault.TheVariants.{Words, NotText, Refused, Unsaid, NotCompiled, Explained, NotServed, Socket, NoRefusal, Unwritten, NoMemory}
 
@@ -53,10 +53,16 @@ abbrev pub IsOfSource : CompileRefusal → Fault → Type 0
 IsOfSource refusal (Explained same view) = same ≡ refusal
 IsOfSource refusal fault = fault ≡ fault_of_source refusal
 
--- what the refusal of a value's text is to the program
-abbrev pub fault_of_text : TextRefusal → Fault
-fault_of_text (texts.Unsaid fault) = Unsaid fault
-fault_of_text (texts.Other refusal) = Refused refusal
+-- what the fault of a table that a word names is to the program
+abbrev pub fault_of_named : NamedFault → Fault
+fault_of_named (named.Refused refusal) = Refused refusal
+fault_of_named (named.Unsaid fault) = Unsaid fault
+fault_of_named (named.NotCompiled refusal) = fault_of_source refusal
+
+-- the same, with or without what else is known of an IDL file
+abbrev pub IsOfNamed : NamedFault → Fault → Type 0
+IsOfNamed (named.NotCompiled refusal) fault = IsOfSource refusal fault
+IsOfNamed other fault = fault ≡ fault_of_named other
 
 -- a fault that standard error tells of
 abbrev pub IsTold : Fault → Type 0

@@ -5,18 +5,8 @@ use Rattle.command_words.specs.declared.task.Task.{Task}
 use Rattle.command_words.specs.declared.task.Task.TheVariants.{Check, Upgrade, Compile}
 use Rattle.idl_compiler.specs.Files.{IsCompiledFile}
 use Rattle.idl_compiler.specs.declared.file.CompiledFile.{CompiledFile}
-use Rattle.table_file.specs.Table.{TableParts}
-use Rattle.table_commands.specs.Lines.{accepted}
 use Rattle.table_commands.specs.Named.{Passing, IsUpgraded}
-use Rattle.text_commands.specs.Lines.{Labels}
-use Rattle.idlc_main.specs.Loaded.{IsLoaded}
-
--- the line tells of the table of a name how many routines it has
-pub record IsCounted (Reads : Passing) (name line : List ℕ) : Type 0 where
-  pub table : TableParts
-  pub labels : Labels
-  pub is : IsLoaded Reads name table labels
-  pub line_is : line ≡ accepted table
+use Rattle.named_tables.specs.Answers.{IsCounted}
 
 -- an IDL file was read, its table was written to another file, and the line tells of it
 pub record IsCompiledTo (Reads Takes : Passing) (source output line : List ℕ) : Type 0 where

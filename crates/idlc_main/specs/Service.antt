@@ -4,7 +4,7 @@ use Rattle.socket_server.specs.Serving.{IsServed as IsServedBy, places_of}
 use Rattle.table_file.specs.Table.{TableParts}
 use Rattle.table_commands.specs.Named.{Passing}
 use Rattle.text_commands.specs.Lines.{Labels}
-use Rattle.idlc_main.specs.Loaded.{IsLoaded}
+use Rattle.named_tables.specs.Loaded.{IsLoaded}
 
 -- just so many connections came as the words say, and the object that they name was served to each, by the table
 -- that they name, one after the other or at the same time

@@ -1,16 +1,16 @@
 //! Why a run of the program didn't do what was asked for.
 
 ghost use Rattle.std.specs.Prelude.{◌≡◌, ◌≤◌};
-ghost use Rattle.idlc_main.specs.Fault.{fault_of_service, fault_of_source, fault_of_text, fault_of_words, status_of_refusal};
+ghost use Rattle.idlc_main.specs.Fault.{fault_of_named, fault_of_service, fault_of_source, fault_of_words, status_of_refusal};
 ghost use Rattle.idlc_main.specs.declared.fault.Fault.TheVariants.{NoMemory, Refused};
 
 use command_words::Mistake;
 use idl_compiler::CompileRefusal;
+use named_tables::NamedFault;
 use socket_server::ServeFault;
 use std::alloc::AllocError;
 use std::fmt;
 use table_commands::Refusal;
-use text_commands::TextRefusal;
 use thiserror::Error;
 use value_text::Refusal as TextFault;
 
@@ -138,13 +138,14 @@ impl<'a> From<Refusal<'a>> for Fault<'a> {
     }
 }
 
-impl<'a> From<TextRefusal<'a>> for Fault<'a> {
-    ghost from_gives = { λ refusal fault. fault ≡ fault_of_text refusal };
+impl<'a> From<NamedFault<'a>> for Fault<'a> {
+    ghost from_gives = { λ named fault. fault ≡ fault_of_named named };
 
-    fn from(refusal: TextRefusal<'a>) -> Fault<'a> {
-        match refusal {
-            TextRefusal::Unsaid(fault) => Fault::Unsaid(fault),
-            TextRefusal::Other(refusal) => Fault::Refused(refusal),
+    fn from(fault: NamedFault<'a>) -> Fault<'a> {
+        match fault {
+            NamedFault::Refused(refusal) => Fault::Refused(refusal),
+            NamedFault::Unsaid(fault) => Fault::Unsaid(fault),
+            NamedFault::NotCompiled(refusal) => Fault::from(refusal),
         }
     }
 }

@@ -11,13 +11,11 @@ ghost use Rattle.command_words.specs.Words.{AsksFor, IsMistaken, texts};
 ghost use Rattle.idlc_main.specs.Answer.{IsEndOf, MayServe};
 
 mod fault;
-mod loaded;
 mod service;
 mod tasks;
 #[cfg(test)]
 mod tests;
 mod told;
-mod values;
 
 use crate::fault::Fault;
 use crate::service::served;

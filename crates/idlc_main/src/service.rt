@@ -8,8 +8,9 @@ ghost use Rattle.idlc_main.specs.Fault.{status_of};
 ghost use Rattle.idlc_main.specs.Service.{IsServed};
 
 use crate::fault::Fault;
-use crate::loaded::loaded;
+use crate::told::named_fault;
 use command_words::Service;
+use named_tables::load;
 use socket_server::{ServeOptions, serve};
 use std::io::Write;
 use std::net::Net;
@@ -29,9 +30,9 @@ pub fn served<'a, R: WholeFiles + Net + Clock + Eprint + AllocGlobal, O: Write>(
     ensures silent { IfErr result (λ fault. status_of fault < 3 → out.new ≡ out.old) }
     ensures memory { IfErr result (λ fault. status_of fault ≡ 4 → MayServe (O.contents out.old) (O.contents out.new)) }
 {
-    let loaded = match loaded(rt, service.table, is_for_person) {
+    let loaded = match load(rt, service.table) {
         Ok(loaded) => loaded,
-        Err(fault) => return Err(fault),
+        Err(fault) => return Err(named_fault(rt, service.table, fault, is_for_person)),
     };
     let options = ServeOptions {
         port: service.port,

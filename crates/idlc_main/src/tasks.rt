@@ -8,112 +8,45 @@ ghost use Rattle.command_words.specs.declared.task.ValueTask.{ValueTask};
 ghost use Rattle.command_words.specs.declared.task.ReferenceTask.{ReferenceTask};
 ghost use Rattle.idl_compiler.specs.Files.{IsCompiledFile};
 ghost use Rattle.table_commands.specs.Named.{IsUpgraded};
-ghost use Rattle.idlc_main.specs.Answer.{IsAnswer, IsLined, IsReferenceFault, IsReferenceOf};
+ghost use Rattle.idlc_main.specs.Answer.{IsAnswer, IsLined};
 ghost use Rattle.idlc_main.specs.Fault.{IsTold};
-ghost use Rattle.idlc_main.specs.Files.{IsCompiledTo, IsCounted, IsDone};
-ghost use Rattle.idlc_main.specs.Loaded.{IsNotLoaded};
+ghost use Rattle.idlc_main.specs.Files.{IsCompiledTo, IsDone};
 
 use crate::fault::Fault;
-use crate::loaded::{Loaded, loaded};
-use crate::told::{Answer, Notice, source_fault};
-use crate::values::value_line;
-use command_words::{ReferenceTask, Task};
+use crate::told::{Answer, Notice, named_fault, source_fault};
+use command_words::Task;
 use fault_texts::{explanations, headings};
 use idl_compiler::{CompiledFile, compile_file};
-use std::alloc::{AllocError, Global};
-use table_commands::{
-    WholeFiles, accepted_line, listing, read_file, reference_line, upgrade, write_file,
-};
-use text_commands::outlines;
+use named_tables::{NamedFault, accepted_of, listing_of, reference_of, value_line};
+use table_commands::{WholeFiles, read_file, upgrade, write_file};
 
-/// The answer that is a line.
-fn lined<'a>(line: Result<String, Fault<'a>>) -> Result<Answer, Fault<'a>>
+/// The answer that is a line of the table of a name.
+fn lined<'a, R: WholeFiles + AllocGlobal>(
+    rt: &R,
+    name: &str,
+    line: Result<String, NamedFault<'a>>,
+    is_for_person: bool,
+) -> Result<Answer, Fault<'a>>
     ensures { IsLined string_bytes line.entry result }
 {
     match line {
         Ok(line) => Ok(Answer::plain(line)),
-        Err(fault) => Err(fault),
-    }
-}
-
-/// The line of a reference.
-fn reference_of<'a, R: WholeFiles + AllocGlobal>(
-    rt: &R,
-    asked: &ReferenceTask<'a>,
-    is_for_person: bool,
-) -> Result<String, Fault<'a>>
-    ensures line { IfOk result (λ line.
-        IsReferenceOf (R.reads rt.now) (reference_ask_of asked.now) (string_bytes line)) }
-    ensures refused { IfErr result (IsReferenceFault (R.reads rt.now) (reference_ask_of asked.now)) }
-{
-    let loaded = match loaded(rt, asked.table, is_for_person) {
-        Ok(loaded) => loaded,
-        Err(fault) => return Err(fault),
-    };
-    match reference_line(rt.alloc(), &loaded.table, &asked.wanted) {
-        Ok(line) => Ok(line),
-        Err(refusal) => Err(Fault::from(refusal)),
-    }
-}
-
-/// How many routines the table of a name has, as a line.
-fn accepted_of<'a, R: WholeFiles + AllocGlobal>(
-    rt: &R,
-    name: &'a str,
-    is_for_person: bool,
-) -> Result<String, Fault<'a>>
-    ensures counted { IfOk result (λ line. IsCounted (R.reads rt.now) name.now (string_bytes line)) }
-    ensures refused { IfErr result (IsNotLoaded (R.reads rt.now) name.now) }
-{
-    let loaded = match loaded(rt, name, is_for_person) {
-        Ok(loaded) => loaded,
-        Err(fault) => return Err(fault),
-    };
-    match accepted_line(rt.alloc(), &loaded.table) {
-        Ok(line) => Ok(line),
-        Err(_) => Err(Fault::NoMemory),
-    }
-}
-
-/// What is in a table, and where that is asked for what the texts of its values look like.
-fn shown(alloc: Global, loaded: &Loaded, types: bool) -> Result<String, AllocError> {
-    let mut text = listing(alloc, &loaded.table)?;
-    if types {
-        text.push_str(outlines(alloc, &loaded.table, &loaded.names)?.as_str())?;
-    }
-    Ok(text)
-}
-
-/// What is in the table of a name.
-fn listing_of<'a, R: WholeFiles + AllocGlobal>(
-    rt: &R,
-    name: &'a str,
-    types: bool,
-    is_for_person: bool,
-) -> Result<String, Fault<'a>>
-    ensures refused { IfErr result (IsNotLoaded (R.reads rt.now) name.now) }
-{
-    let loaded = match loaded(rt, name, is_for_person) {
-        Ok(loaded) => loaded,
-        Err(fault) => return Err(fault),
-    };
-    match shown(rt.alloc(), &loaded, types) {
-        Ok(text) => Ok(text),
-        Err(_) => Err(Fault::NoMemory),
+        Err(fault) => Err(named_fault(rt, name, fault, is_for_person)),
     }
 }
 
 /// The line of a table that was written anew.
-fn upgraded_of<'a, R: WholeFiles + AllocGlobal>(
+fn upgraded<'a, R: WholeFiles + AllocGlobal>(
     rt: &R,
     name: &'a str,
     output: &'a str,
-) -> Result<String, Fault<'a>>
-    ensures written { IfOk result (λ line.
-        IsUpgraded (R.reads rt.now) (R.takes rt.now) name.now output.now (string_bytes line)) }
+) -> Result<Answer, Fault<'a>>
+    ensures written { IfOk result (λ answer.
+        IsUpgraded (R.reads rt.now) (R.takes rt.now) name.now output.now (string_bytes answer.text)) }
+    ensures told { IfErr result IsTold }
 {
     match upgrade(rt, name, output) {
-        Ok(line) => Ok(line),
+        Ok(line) => Ok(Answer::plain(line)),
         Err(refusal) => Err(Fault::from(refusal)),
     }
 }
@@ -202,13 +135,18 @@ pub fn done<'a, R: WholeFiles + AllocGlobal>(
     ensures told { IfErr result IsTold }
 {
     match task {
-        Task::Value(asked) => lined(value_line(rt, asked, is_for_person)),
-        Task::Reference(asked) => lined(reference_of(rt, asked, is_for_person)),
+        Task::Value(asked) => lined(rt, asked.table, value_line(rt, asked), is_for_person),
+        Task::Reference(asked) => lined(rt, asked.table, reference_of(rt, asked), is_for_person),
         Task::Explain { word: Some(word) } => explained(rt, word),
         Task::Explain { word: None } => listed(rt),
-        Task::Check { table } => lined(accepted_of(rt, table, is_for_person)),
-        Task::Show { table, types } => lined(listing_of(rt, table, *types, is_for_person)),
-        Task::Upgrade { table, output } => lined(upgraded_of(rt, table, output)),
+        Task::Check { table } => lined(rt, table, accepted_of(rt, table), is_for_person),
+        Task::Show { table, types } => lined(
+            rt,
+            table,
+            listing_of(rt, table, *types),
+            is_for_person,
+        ),
+        Task::Upgrade { table, output } => upgraded(rt, table, output),
         Task::Compile {
             source,
             output,

@@ -1,13 +1,15 @@
 //! What a run tells when it did what was asked for, and of the fault of an IDL file.
 
 ghost use Rattle.std.specs.Prelude.{◌≡◌};
-ghost use Rattle.idlc_main.specs.Fault.{IsOfSource};
+ghost use Rattle.idlc_main.specs.Fault.{IsOfNamed, IsOfSource};
 
 use crate::fault::Fault;
 use fault_views::view;
 use idl_compiler::CompileRefusal;
+use named_tables::NamedFault;
 use std::alloc::Global;
 use std::fmt::{self, Formatter};
+use table_commands::{WholeFiles, read_file};
 
 /// What else is told on standard error, as the line behind `idlc: `.
 #[derive(Clone, Copy)]
@@ -58,4 +60,37 @@ pub fn source_fault<'a>(
         return Fault::Explained { refusal, view };
     }
     Fault::from(refusal)
+}
+
+/// The fault of an IDL file that is named as a table. For a person it is read once more.
+fn source_fault_of<'a, R: WholeFiles + AllocGlobal>(
+    rt: &R,
+    name: &str,
+    refusal: CompileRefusal,
+    is_for_person: bool,
+) -> Fault<'a>
+    ensures { IsOfSource refusal result }
+{
+    if !is_for_person {
+        return Fault::from(refusal);
+    }
+    match read_file(rt, name) {
+        Ok(source) => source_fault(rt.alloc(), name, source.as_slice(), refusal, true),
+        Err(_) => Fault::from(refusal),
+    }
+}
+
+/// The fault of a table that a word names.
+pub fn named_fault<'a, R: WholeFiles + AllocGlobal>(
+    rt: &R,
+    name: &str,
+    fault: NamedFault<'a>,
+    is_for_person: bool,
+) -> Fault<'a>
+    ensures { IsOfNamed fault.entry result }
+{
+    match fault {
+        NamedFault::NotCompiled(refusal) => source_fault_of(rt, name, refusal, is_for_person),
+        fault => Fault::from(fault),
+    }
 }

@@ -11,4 +11,4 @@ read-requires c =
 pub returns-in_err-value-clause-err : goal.returns-in_err-value-clause-err
 returns-in_err-value-clause-err c =
     let p = err_from_is_err_and c.from_residual.result c.from_residual.ensures.1 in
-    rw (p.1, p.2) (unsaid c.args.names.now c.args.table.now.model.graph c.args.node (ask_of c.args.request.now c.args.text.now) c.in_err-value.field-0.0 ?)
+    rw (p.1, p.2) (unsaid c.args.names.now c.args.table.now.model.graph c.args.node (ask_of c.args.request.now c.args.text.now) c.in_err-value.field-0.0)

@@ -11,9 +11,9 @@ use Rattle.table_commands.specs.declared.values.Way.{Way}
 use Rattle.table_commands.specs.declared.values.Way.TheVariants.{Encode}
 use Rattle.text_commands.specs.Lines.{IsTextLine, IsTextRefusal, Labels}
 use Rattle.text_commands.specs.declared.refusal.TextRefusal.TheVariants as texts
-use Rattle.idlc_main.specs.Loaded.{IsLoaded, IsNotLoaded}
-use Rattle.idlc_main.specs.declared.fault.Fault.{Fault}
-use Rattle.idlc_main.specs.declared.fault.Fault.TheVariants.{Refused, Unsaid}
+use Rattle.named_tables.specs.Loaded.{IsLoaded, IsNotLoaded}
+use Rattle.named_tables.specs.declared.fault.NamedFault.{NamedFault}
+use Rattle.named_tables.specs.declared.fault.NamedFault.TheVariants.{Refused, Unsaid}
 
 -- where a word for a text has it from: standard input for `-`, the file behind `@`, or else none but itself
 pub record IsSource (word : List ℕ) (source : Option (List ℕ)) : Type 0 where
@@ -62,46 +62,46 @@ pub record IsValueLine (Reads : Passing) (ask : ValueAsk) (line : List ℕ) : Ty
 -- ---- faults
 
 -- the file can't be read, or is no text
-abbrev pub IsNoTextIn : Passing → List ℕ → Fault → Type 0
+abbrev pub IsNoTextIn : Passing → List ℕ → NamedFault → Type 0
 IsNoTextIn Reads file (Refused refusal) = IsUnread file refusal
 IsNoTextIn Reads file (Unsaid fault) = (octets : List ℕ) × Reads file octets × (IsUtf8 octets → ⊥)
 IsNoTextIn Reads file fault = ⊥
 
 -- the word for a text stands for none
-pub record HasNoInput (Reads : Passing) (word : List ℕ) (fault : Fault) : Type 0 where
+pub record HasNoInput (Reads : Passing) (word : List ℕ) (fault : NamedFault) : Type 0 where
   pub file : List ℕ
   pub from : IsSource word (Some file)
   pub none : IsNoTextIn Reads file fault
 
-abbrev pub IsInputFault : Passing → Form → Way → List ℕ → Fault → Type 0
+abbrev pub IsInputFault : Passing → Form → Way → List ℕ → NamedFault → Type 0
 IsInputFault Reads Text Encode word fault = HasNoInput Reads word fault
 IsInputFault Reads form way word fault = ⊥
 
 -- the table refuses what is asked, in the form
-abbrev pub IsRefusedIn : Form → TableParts → Labels → Ask → Fault → Type 0
+abbrev pub IsRefusedIn : Form → TableParts → Labels → Ask → NamedFault → Type 0
 IsRefusedIn Hex table labels ask (Refused refusal) = IsRefusalOf table ask refusal
 IsRefusedIn Text table labels ask (Refused refusal) = IsTextRefusal table labels ask (texts.Other refusal)
 IsRefusedIn Text table labels ask (Unsaid fault) = IsTextRefusal table labels ask (texts.Unsaid fault)
 IsRefusedIn form table labels ask fault = ⊥
 
 -- a table refuses what the word stands for
-pub record RefusesInput (Reads : Passing) (table : TableParts) (labels : Labels) (ask : ValueAsk) (fault : Fault) : Type 0
+pub record RefusesInput (Reads : Passing) (table : TableParts) (labels : Labels) (ask : ValueAsk) (fault : NamedFault) : Type 0
   where
     pub input : List ℕ
     pub stands : IsInput Reads ask.form ask.value.way ask.value.input input
     pub refused : IsRefusedIn ask.form table labels (with_input ask.value input) fault
 
 -- a fault of the text's file, or of the value
-abbrev pub RefusesBy : Passing → TableParts → Labels → ValueAsk → Fault → Type 0
+abbrev pub RefusesBy : Passing → TableParts → Labels → ValueAsk → NamedFault → Type 0
 RefusesBy Reads table labels ask fault =
     IsInputFault Reads ask.form ask.value.way ask.value.input fault ⊎ RefusesInput Reads table labels ask fault
 
-pub record IsUnanswered (Reads : Passing) (ask : ValueAsk) (fault : Fault) : Type 0 where
+pub record IsUnanswered (Reads : Passing) (ask : ValueAsk) (fault : NamedFault) : Type 0 where
   pub table : TableParts
   pub labels : Labels
   pub is : IsLoaded Reads ask.table table labels
   pub refused : RefusesBy Reads table labels ask fault
 
 -- the fault that answers: of the table, of the text's file, or of the value
-abbrev pub IsValueFault : Passing → ValueAsk → Fault → Type 0
+abbrev pub IsValueFault : Passing → ValueAsk → NamedFault → Type 0
 IsValueFault Reads ask fault = IsNotLoaded Reads ask.table fault ⊎ IsUnanswered Reads ask fault

@@ -6,11 +6,11 @@ ghost use Rattle.command_words.specs.Ask.{value_ask_of};
 ghost use Rattle.table_commands.specs.Answer.{IsRefusalOf, ask_of};
 ghost use Rattle.table_commands.specs.Answer.{IsLine};
 ghost use Rattle.text_commands.specs.Lines.{IsTextLine};
-ghost use Rattle.idlc_main.specs.Values.{AnswersBy, IsLineOf, IsNoTextIn, IsRefusedIn, IsSource, RefusesBy, IsValueFault, IsValueLine};
+ghost use Rattle.named_tables.specs.Values.{AnswersBy, IsLineOf, IsNoTextIn, IsRefusedIn, IsSource, RefusesBy, IsValueFault, IsValueLine};
 ghost use Rattle.command_words.specs.declared.task.Form.TheVariants.{Hex, Text};
 
-use crate::fault::Fault;
-use crate::loaded::{Loaded, loaded};
+use crate::fault::NamedFault;
+use crate::loaded::{Loaded, load};
 use command_words::{Form, ValueTask};
 use std::alloc::Global;
 use table_commands::{ValueRequest, Way, WholeFiles, marshal, read_file};
@@ -28,17 +28,17 @@ fn source_in(word: &str) -> Option<&str>
 }
 
 /// The text of a file. JSON is UTF-8 (RFC 8259, 8.1).
-fn text_in<'a, R: WholeFiles>(rt: &R, file: &'a str) -> Result<String, Fault<'a>>
+fn text_in<'a, R: WholeFiles>(rt: &R, file: &'a str) -> Result<String, NamedFault<'a>>
     ensures read { IfOk result (λ text. R.reads rt.now file.now (string_bytes text)) }
     ensures refused { IfErr result (IsNoTextIn (R.reads rt.now) file.now) }
 {
     let octets = match read_file(rt, file) {
         Ok(octets) => octets,
-        Err(refusal) => return Err(Fault::from(refusal)),
+        Err(refusal) => return Err(NamedFault::from(refusal)),
     };
     match String::from_utf8(octets) {
         Ok(text) => Ok(text),
-        Err(_) => Err(Fault::Unsaid(TextFault {
+        Err(_) => Err(NamedFault::Unsaid(TextFault {
             wanted: Wanted::Json,
             place: TextPlace { line: 0, column: 0 },
         })),
@@ -51,14 +51,14 @@ fn by_digits<'a>(
     loaded: &Loaded,
     request: &ValueRequest<'a>,
     digits: &str,
-) -> Result<String, Fault<'a>>
+) -> Result<String, NamedFault<'a>>
     ensures line { IfOk result (λ line. IsLineOf Hex loaded.now.table loaded.now.names
         (ask_of request.now digits.now) (string_bytes line)) }
     ensures refused { IfErr result (IsRefusedIn Hex loaded.now.table loaded.now.names (ask_of request.now digits.now)) }
 {
     match marshal(alloc, &loaded.table, request, digits) {
         Ok(line) => Ok(line),
-        Err(refusal) => Err(Fault::from(refusal)),
+        Err(refusal) => Err(NamedFault::from(refusal)),
     }
 }
 
@@ -68,14 +68,14 @@ fn by_text<'a>(
     loaded: &Loaded,
     request: &ValueRequest<'a>,
     input: &str,
-) -> Result<String, Fault<'a>>
+) -> Result<String, NamedFault<'a>>
     ensures line { IfOk result (λ line. IsLineOf Text loaded.now.table loaded.now.names
         (ask_of request.now input.now) (string_bytes line)) }
     ensures refused { IfErr result (IsRefusedIn Text loaded.now.table loaded.now.names (ask_of request.now input.now)) }
 {
     match marshal_text(alloc, &loaded.table, &loaded.names, request, input) {
         Ok(line) => Ok(line),
-        Err(refusal) => Err(Fault::from(refusal)),
+        Err(refusal) => Err(NamedFault::from(refusal)),
     }
 }
 
@@ -84,9 +84,9 @@ fn from_text<'a, R: WholeFiles + AllocGlobal>(
     rt: &R,
     loaded: &Loaded,
     asked: &ValueTask<'a>,
-) -> Result<String, Fault<'a>>
-    requires { asked.now.form ≡ Text }
-    requires { asked.now.request.way ≡ Way.Encode }
+) -> Result<String, NamedFault<'a>>
+    requires form { asked.now.form ≡ Text }
+    requires way { asked.now.request.way ≡ Way.Encode }
     ensures line { IfOk result (λ line. AnswersBy (R.reads rt.now) loaded.now.table loaded.now.names
         (value_ask_of asked.now) (string_bytes line)) }
     ensures refused { IfErr result (RefusesBy (R.reads rt.now) loaded.now.table loaded.now.names
@@ -106,7 +106,7 @@ fn line_by<'a, R: WholeFiles + AllocGlobal>(
     rt: &R,
     loaded: &Loaded,
     asked: &ValueTask<'a>,
-) -> Result<String, Fault<'a>>
+) -> Result<String, NamedFault<'a>>
     ensures line { IfOk result (λ line. AnswersBy (R.reads rt.now) loaded.now.table loaded.now.names
         (value_ask_of asked.now) (string_bytes line)) }
     ensures refused { IfErr result (RefusesBy (R.reads rt.now) loaded.now.table loaded.now.names
@@ -122,17 +122,16 @@ fn line_by<'a, R: WholeFiles + AllocGlobal>(
 /// The line that answers for a value, by the table of a name.
 ///
 /// # Errors
-/// Those of `loaded`, then those of the text's file, then those of `marshal` and `marshal_text`.
+/// Those of `load`, then those of the text's file, then those of `marshal` and `marshal_text`.
 pub fn value_line<'a, R: WholeFiles + AllocGlobal>(
     rt: &R,
     asked: &ValueTask<'a>,
-    is_for_person: bool,
-) -> Result<String, Fault<'a>>
+) -> Result<String, NamedFault<'a>>
     ensures line { IfOk result (λ line.
         IsValueLine (R.reads rt.now) (value_ask_of asked.now) (string_bytes line)) }
     ensures refused { IfErr result (IsValueFault (R.reads rt.now) (value_ask_of asked.now)) }
 {
-    let loaded = match loaded(rt, asked.table, is_for_person) {
+    let loaded = match load(rt, asked.table) {
         Ok(loaded) => loaded,
         Err(fault) => return Err(fault),
     };

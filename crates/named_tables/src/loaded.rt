@@ -1,18 +1,18 @@
 //! The tables that words name: the sample, table files, and IDL files, which are compiled in memory.
 
-ghost use Rattle.std.specs.Prelude.{◌≡◌, ◌↔◌, ⊥, ◌⊎◌, [], codes, take, IsTrue, IfOk, IfErr};
+ghost use Rattle.std.specs.Prelude.{◌≡◌, ◌↔◌, ◌⊎◌, [], codes, take, IsTrue, IfOk, IfErr};
 ghost use Rattle.idl_compiler.specs.Files.{IsNamedText, IsRefusedSource};
 ghost use Rattle.position_checker.specs.Acceptance.{IsRight};
 ghost use Rattle.table_file.specs.TableSpelling.{Spells, SpellsOld};
 ghost use Rattle.table_commands.specs.Files.{RefusesFile};
-ghost use Rattle.idlc_main.specs.Loaded.{IsHeldBy, IsLoaded, IsNotHeld, IsNotLoaded, IsTableFile};
+ghost use Rattle.table_commands.specs.Sample.{sample_table};
+ghost use Rattle.named_tables.specs.Loaded.{IsHeldBy, IsLoaded, IsNotHeld, IsNotLoaded, IsTableFile};
 
-use crate::fault::Fault;
-use crate::told::source_fault;
+use crate::fault::NamedFault;
 use idl_compiler::compile_source;
 use part_names::PartNames;
 use position_checker::Accepted;
-use std::alloc::Global;
+use std::alloc::{AllocError, Global};
 use table_commands::{SAMPLE, WholeFiles, accepted, read_file, sample};
 
 /// A table, and the names of the parts of its types, where these are known.
@@ -37,10 +37,10 @@ fn nameless(alloc: Global, table: Accepted) -> Loaded
 fn is_table(octets: &[u8]) -> bool
     ensures { IsTrue result ↔ IsTableFile octets.now }
 {
-    octets.len() >= 4 && octets[..4] == *b"IDLT"
+    octets.len() >= 4 && &octets[..4] == b"IDLT".as_slice()
 }
 
-fn of_table<'a>(alloc: Global, octets: &[u8]) -> Result<Loaded, Fault<'a>>
+fn of_table<'a>(alloc: Global, octets: &[u8]) -> Result<Loaded, NamedFault<'a>>
     requires { IsTableFile octets.now }
     ensures held { IfOk result (λ loaded. IsHeldBy octets.now loaded.table loaded.names) }
     ensures right { IfOk result (λ loaded. IsRight loaded.table) }
@@ -48,16 +48,11 @@ fn of_table<'a>(alloc: Global, octets: &[u8]) -> Result<Loaded, Fault<'a>>
 {
     match accepted(alloc, octets) {
         Ok(table) => Ok(nameless(alloc, table)),
-        Err(refusal) => Err(Fault::from(refusal)),
+        Err(refusal) => Err(NamedFault::from(refusal)),
     }
 }
 
-fn of_source<'a>(
-    alloc: Global,
-    name: &str,
-    octets: &[u8],
-    is_for_person: bool,
-) -> Result<Loaded, Fault<'a>>
+fn of_source<'a>(alloc: Global, octets: &[u8]) -> Result<Loaded, NamedFault<'a>>
     requires { ¬ IsTableFile octets.now }
     ensures held { IfOk result (λ loaded. IsHeldBy octets.now loaded.table loaded.names) }
     ensures right { IfOk result (λ loaded. IsRight loaded.table) }
@@ -68,17 +63,12 @@ fn of_source<'a>(
             table: whole.settled.table,
             names: whole.names,
         }),
-        Err(refusal) => Err(source_fault(alloc, name, octets, refusal, is_for_person)),
+        Err(refusal) => Err(NamedFault::from(refusal)),
     }
 }
 
 /// The table that octets are, or that of the IDL that they are.
-fn held<'a>(
-    alloc: Global,
-    name: &str,
-    octets: &[u8],
-    is_for_person: bool,
-) -> Result<Loaded, Fault<'a>>
+fn held<'a>(alloc: Global, octets: &[u8]) -> Result<Loaded, NamedFault<'a>>
     ensures held { IfOk result (λ loaded. IsHeldBy octets.now loaded.table loaded.names) }
     ensures right { IfOk result (λ loaded. IsRight loaded.table) }
     ensures refused { IfErr result (IsNotHeld octets.now) }
@@ -86,16 +76,16 @@ fn held<'a>(
     if is_table(octets) {
         of_table(alloc, octets)
     } else {
-        of_source(alloc, name, octets, is_for_person)
+        of_source(alloc, octets)
     }
 }
 
 /// The sample.
-fn sampled<'a>(alloc: Global) -> Result<Loaded, Fault<'a>> {
-    match sample(alloc) {
-        Ok(table) => Ok(nameless(alloc, table)),
-        Err(_) => Err(Fault::NoMemory),
-    }
+fn sampled(alloc: Global) -> Result<Loaded, AllocError>
+    ensures table { IfOk result (λ loaded. loaded.table ≡ sample_table) }
+    ensures names { IfOk result (λ loaded. loaded.names ≡ []) }
+{
+    Ok(nameless(alloc, sample(alloc)?))
 }
 
 /// The table of a name: the sample, or that of a file, which was found right. A file that isn't a
@@ -103,20 +93,22 @@ fn sampled<'a>(alloc: Global) -> Result<Loaded, Fault<'a>> {
 ///
 /// # Errors
 /// Those of `read_file`, `accepted` and `compile_source`; of the sample want of memory alone.
-pub fn loaded<'a, R: WholeFiles + AllocGlobal>(
+pub fn load<'a, R: WholeFiles + AllocGlobal>(
     rt: &R,
     name: &'a str,
-    is_for_person: bool,
-) -> Result<Loaded, Fault<'a>>
+) -> Result<Loaded, NamedFault<'a>>
     ensures is { IfOk result (λ loaded. IsLoaded (R.reads rt.now) name.now loaded.table loaded.names) }
     ensures refused { IfErr result (IsNotLoaded (R.reads rt.now) name.now) }
 {
     if name == SAMPLE {
-        return sampled(rt.alloc());
+        return match sampled(rt.alloc()) {
+            Ok(loaded) => Ok(loaded),
+            Err(error) => Err(NamedFault::from(error)),
+        };
     }
     let octets = match read_file(rt, name) {
         Ok(octets) => octets,
-        Err(refusal) => return Err(Fault::from(refusal)),
+        Err(refusal) => return Err(NamedFault::from(refusal)),
     };
-    held(rt.alloc(), name, octets.as_slice(), is_for_person)
+    held(rt.alloc(), octets.as_slice())
 }

@@ -1,7 +1,6 @@
 -- The tables that words name: the sample, table files, and IDL files.
 use Rattle.std.specs.Prelude.{◌≡◌, ◌≢◌, ◌⊎◌, ℕ, List, [], take, codes}
 use Rattle.idl_compiler.specs.Files.{IsNamedText, IsRefusedSource}
-use Rattle.idl_compiler.specs.declared.refusal.CompileRefusal.{CompileRefusal}
 use Rattle.idl_compiler.specs.declared.steps.NamedTable.{NamedTable}
 use Rattle.position_checker.specs.Acceptance.{IsRight}
 use Rattle.table_file.specs.Table.{TableParts}
@@ -11,8 +10,8 @@ use Rattle.table_commands.specs.Named.{Passing}
 use Rattle.table_commands.specs.Sample.{sample_table}
 use Rattle.table_commands.specs.declared.refusal.Refusal.TheVariants as refusals
 use Rattle.text_commands.specs.Lines.{Labels}
-use Rattle.idlc_main.specs.declared.fault.Fault.{Fault}
-use Rattle.idlc_main.specs.declared.fault.Fault.TheVariants.{Refused, NotCompiled, Explained, NoMemory}
+use Rattle.named_tables.specs.declared.fault.NamedFault.{NamedFault}
+use Rattle.named_tables.specs.declared.fault.NamedFault.TheVariants.{Refused, NotCompiled}
 
 -- a table file, and not IDL
 abbrev pub IsTableFile : List ℕ → Type 0
@@ -45,28 +44,25 @@ pub record IsLoaded (Reads : Passing) (name : List ℕ) (table : TableParts) (la
 -- ---- refusals
 
 -- the octets hold no table: as a table file, or as IDL
-abbrev pub IsNotHeld : List ℕ → Fault → Type 0
+abbrev pub IsNotHeld : List ℕ → NamedFault → Type 0
 IsNotHeld octets (Refused (refusals.NoTable fault)) =
     IsTableFile octets × RefusesFile octets (refusals.NoTable fault)
 IsNotHeld octets (Refused (refusals.NotRight fault)) =
     IsTableFile octets × RefusesFile octets (refusals.NotRight fault)
 IsNotHeld octets (NotCompiled refusal) = (IsTableFile octets → ⊥) × IsRefusedSource octets refusal
-IsNotHeld octets (Explained refusal view) = (IsTableFile octets → ⊥) × IsRefusedSource octets refusal
 IsNotHeld octets (Refused refusals.NoMemory) = Unit {0}
-IsNotHeld octets NoMemory = Unit {0}
 IsNotHeld octets fault = ⊥
 
 -- the file of a name was read, and its octets are refused so
-pub record IsRefusedFile (Reads : Passing) (name : List ℕ) (fault : Fault) : Type 0 where
+pub record IsRefusedFile (Reads : Passing) (name : List ℕ) (fault : NamedFault) : Type 0 where
   pub other : name ≢ codes "builtin"
   pub octets : List ℕ
   pub read : Reads name octets
   pub refused : IsNotHeld octets fault
 
 -- a file can't be read, or holds no table; of the sample want of memory alone
-abbrev pub IsNotLoaded : Passing → List ℕ → Fault → Type 0
+abbrev pub IsNotLoaded : Passing → List ℕ → NamedFault → Type 0
 IsNotLoaded Reads name (Refused (refusals.Unread file)) = (name ≢ codes "builtin") × (file.now ≡ name)
 IsNotLoaded Reads name (Refused refusals.TooLong) = name ≢ codes "builtin"
 IsNotLoaded Reads name (Refused refusals.NoMemory) = Unit {0}
-IsNotLoaded Reads name NoMemory = Unit {0}
 IsNotLoaded Reads name fault = IsRefusedFile Reads name fault
