@@ -9,3 +9,5 @@ pub mod OneNumber
 pub mod OneObject
 pub mod OneValue
 pub mod Refusals
+pub mod KindRefusals
+pub mod ObjectRefusals

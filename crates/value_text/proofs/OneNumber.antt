@@ -37,7 +37,7 @@ abbrev truth_in : Token → Bool
 truth_in (boolean truth) = truth
 truth_in token = false
 
-abbrev Is_string : Token → Type 0
+abbrev pub Is_string : Token → Type 0
 Is_string (string s) = Unit {0}
 Is_string token = ⊥
 
@@ -99,7 +99,7 @@ all_at P [] i x h e = absurd (subst none_there e tt)
 all_at P (first ∷ xs) zero x h e = subst P (same_Some first x e) h.0
 all_at P (first ∷ xs) (suc i) x h e = all_at P xs i x h.1 e
 
-two_places : (first : List ℕ) (names : List (List ℕ)) (i : ℕ) (name : List ℕ) → AllByRecursion (λ other. same_but_for_case first other ≡ false) names
+pub two_places : (first : List ℕ) (names : List (List ℕ)) (i : ℕ) (name : List ℕ) → AllByRecursion (λ other. same_but_for_case first other ≡ false) names
     → Some first ≡ Some name → slice_get names i ≡ Some name → ⊥
 two_places first names i name h e f =
     false≢true (sym (all_at (λ other. same_but_for_case first other ≡ false) names i name h f)

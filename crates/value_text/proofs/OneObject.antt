@@ -18,7 +18,7 @@ abbrev pub first_of_tokens : List Token → Token
 first_of_tokens [] = bad
 first_of_tokens (token ∷ tokens) = token
 
-abbrev Is_key : Token → Type 0
+abbrev pub Is_key : Token → Type 0
 Is_key (key name) = Unit {0}
 Is_key token = ⊥
 
@@ -37,7 +37,7 @@ all_in : {X : Type 0} (P : X → Type 0) (xs : List X) → ((x : X) → In x xs 
 all_in P [] h = tt
 all_in P (x ∷ xs) h = (h x (inl refl), all_in P xs (λ y i. h y (inr i)))
 
-shuffled : {X : Type 0} (P : X → Type 0) (xs ys : List X) → IsPermutation xs ys → AllByRecursion P xs → AllByRecursion P ys
+pub shuffled : {X : Type 0} (P : X → Type 0) (xs ys : List X) → IsPermutation xs ys → AllByRecursion P xs → AllByRecursion P ys
 shuffled P xs ys order h = recursion_from_All P ys (All-permutation P xs ys order (All-from_recursion P xs h))
 
 -- ---- a member with its texts in two objects, which say the same

@@ -18,7 +18,7 @@ use Rattle.value_text.specs.inner.Refusing.{IsLow, IsNamed, AreSound}
 use Rattle.value_text.proofs.Printed.{fit_count}
 use Rattle.value_text.proofs.Firsts.{IsFirst, says_begun}
 use Rattle.value_text.proofs.ReadLaws.{IsByte, together_byte}
-use Rattle.value_text.proofs.OneNumber.{text_in, number_one, char_one}
+use Rattle.value_text.proofs.OneNumber.{text_in, Is_string, number_one, char_one}
 use Rattle.value_text.proofs.OneObject.{first_of_tokens, Part, label_of_part, pair_of, second_of, IsSame, objects_one}
 
 -- the octets of a result
@@ -27,11 +27,7 @@ octets_in (Ok octets) = octets
 octets_in result = []
 
 -- with which a token begins something
-abbrev Is_string : Token → Type 0
-Is_string (string s) = Unit {0}
-Is_string token = ⊥
-
-abbrev Is_list : Token → Type 0
+abbrev pub Is_list : Token → Type 0
 Is_list begin_array = Unit {0}
 Is_list token = ⊥
 
@@ -249,7 +245,7 @@ module _ (names : List (List (List ℕ))) (graph : List Node) where
     one_text text labels node depth other w t u r s short distinct f g h k e = absurd f
 
     -- where one value is a number, all are
-    only_numbers : (node : Node) (n : ℤ) (w : Tree) (depth : ℕ) → IsNumber node n → Fits graph node w depth → (m : ℤ) × (w ≡ Number m) × IsNumber node m
+    pub only_numbers : (node : Node) (n : ℤ) (w : Tree) (depth : ℕ) → IsNumber node n → Fits graph node w depth → (m : ℤ) × (w ≡ Number m) × IsNumber node m
     only_numbers node n (Number m) depth f g = (m, refl, g)
     only_numbers (Text bound) n w depth f g = absurd f
     only_numbers (Seq elem bound) n w depth f g = absurd f

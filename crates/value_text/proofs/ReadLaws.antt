@@ -272,7 +272,7 @@ module _ (names : List (List (List ℕ))) (graph : List Node) where
   }
 
   -- members
-  as_many : (numbers : List ℕ) (values : Trees) (texts : List (List Token)) → SayAll names graph numbers values texts → length texts ≡ length numbers
+  pub as_many : (numbers : List ℕ) (values : Trees) (texts : List (List Token)) → SayAll names graph numbers values texts → length texts ≡ length numbers
   as_many [] NoTree [] h = refl
   as_many (number ∷ numbers) (AndTree value values) (text ∷ texts) h = ap suc (as_many numbers values texts h.1)
   as_many numbers values texts h = absurd h

@@ -1,5 +1,5 @@
 -- A part more of an object, and all of them.
-use Rattle.std.proofs.Common.{◌≡◌, ℕ, zero, suc, List, [], ◌∷◌, ◌++◌, length, map, replicate, zip, Option, Some, None, slice_get, refl, sym, ap, ap₂, ◌∙◌, subst, arith}
+use Rattle.std.proofs.Common.{◌≡◌, ℕ, zero, suc, ◌<◌, List, [], ◌∷◌, ◌++◌, length, get_or, map, replicate, zip, Option, Some, None, slice_get, refl, sym, ap, ap₂, ◌∙◌, subst, arith}
 use Rattle.std.specs.Prelude.{set, IsPermutation}
 use Rattle.std.proofs.lemmas.List.Sorted.{IsPermutation-refl, IsPermutation-trans, IsPermutation-cons, IsPermutation-sym, IsPermutation-middle}
 use Rattle.value_text.specs.inner.Slots.{IsSlot, AreSlots, AreParts, given}
@@ -12,6 +12,17 @@ Is_there (Some x) = Unit {0}
 abbrev Is_free : {X : Type 0} → Option (Option X) → Type 0
 Is_free (Some None) = Unit {0}
 Is_free found = ⊥
+
+-- where every value is there, none is missing
+pub none_missing : {X : Type 0} (values : List X) (place : ℕ) (slot : Option X) → place < length (map Some values) → slot ≡ get_or (map Some values) place slot → slot ≡ None → ⊥
+none_missing [] place slot lt e none = omega (arith, lt)
+none_missing (value ∷ values) zero slot lt e none = subst Is_there (sym e ∙ none) tt
+none_missing (value ∷ values) (suc place) slot lt e none = none_missing values place slot (omega (arith, lt)) e none
+
+pub place_within : {X : Type 0} (xs : List X) (place : ℕ) (x : X) → slice_get xs place ≡ Some x → place < length xs
+place_within [] place x e = absurd (subst Is_there (sym e) tt)
+place_within (first ∷ xs) zero x e = omega arith
+place_within (first ∷ xs) (suc place) x e = let more = place_within xs place x e in omega (arith, more)
 
 pub exchanged : {X : Type 0} (a b : X) (xs : List X) → IsPermutation (a ∷ b ∷ xs) (b ∷ a ∷ xs)
 exchanged a b xs = IsPermutation-middle (a ∷ []) b xs

@@ -1,7 +1,7 @@
 //! A text that is being read.
 
-ghost use Rattle.std.specs.Prelude.{◌≡◌, ◌≢◌, [], ◌∷◌, IfSome, IfNone, IfOk, OnOk, MatchOption};
-ghost use Rattle.json.specs.Token.{end_array, end_object, key};
+ghost use Rattle.std.specs.Prelude.{◌≡◌, ◌≢◌, ℕ, List, [], ◌∷◌, IfSome, IfNone, IfOk, OnOk, OnErr, MatchOption};
+ghost use Rattle.json.specs.Token.{Token as SpecToken, end_array, end_object, key};
 ghost use Rattle.json.specs.Reads.{token_of};
 ghost use Rattle.value_text.specs.inner.Reading.{Next};
 
@@ -98,7 +98,8 @@ impl<'a> Cursor<'a> {
 
     /// The first token of a part that a list has to have.
     pub fn next_part(&mut self) -> Result<Token<'a>, Stop>
-        ensures { IfOk result (λ token. Next self.old (token_of token) self.new) }
+        ensures some { IfOk result (λ token. Next self.old (token_of token) self.new) }
+        ensures refused { OnErr result (self.old ≡ end_array ∷ self.new) }
     {
         match self.next() {
             Token::EndArray => Err(self.refuse(Token::EndArray, Wanted::Count)),
@@ -108,8 +109,10 @@ impl<'a> Cursor<'a> {
 
     /// The name of the next member of an object, None at the object's end.
     pub fn next_key(&mut self) -> Result<Option<&'a str>, Stop>
-        ensures { IfOk result (λ label. MatchOption label (self.old ≡ end_object ∷ self.new)
+        ensures found { IfOk result (λ label. MatchOption label (self.old ≡ end_object ∷ self.new)
             (λ name. self.old ≡ key name.now ∷ self.new)) }
+        ensures refused { OnErr result ((name : List ℕ) (more : List SpecToken) → self.old ≡ key name ∷ more → ⊥) }
+        ensures endless { OnErr result ((more : List SpecToken) → self.old ≡ end_object ∷ more → ⊥) }
     {
         match self.next() {
             Token::Key(key) => Ok(Some(key)),
@@ -120,7 +123,8 @@ impl<'a> Cursor<'a> {
 
     /// Passes the end of a list.
     pub fn end_list(&mut self) -> Result<(), Stop>
-        ensures { OnOk result (self.old ≡ end_array ∷ self.new) }
+        ensures ended { OnOk result (self.old ≡ end_array ∷ self.new) }
+        ensures refused { OnErr result ((more : List SpecToken) → self.old ≡ end_array ∷ more → ⊥) }
     {
         match self.next() {
             Token::EndArray => Ok(()),
@@ -130,7 +134,8 @@ impl<'a> Cursor<'a> {
 
     /// The text has to end here.
     pub fn end(&mut self) -> Result<(), Stop>
-        ensures { OnOk result (self.old ≡ []) }
+        ensures ended { OnOk result (self.old ≡ []) }
+        ensures refused { OnErr result (self.old ≢ []) }
     {
         self.at = self.reader.offset();
         match self.reader.next() {

@@ -8,7 +8,9 @@ ghost use Rattle.json.specs.Print as json_text;
 ghost use Rattle.type_graph.specs.Value.{Tree, node_at, Fits};
 ghost use Rattle.idl_value.specs.View.{tree_of};
 ghost use Rattle.value_text.specs.Texts.{text_at};
+ghost use Rattle.value_text.specs.Refusal.{RefusesText};
 ghost use Rattle.value_text.specs.Says.{StandsFor};
+ghost use Rattle.value_text.specs.inner.Refusing.{RefusesAs, AreSound};
 
 mod cursor;
 pub mod fault;
@@ -73,7 +75,10 @@ fn read_whole(
     types: &Sought<'_>,
     node: u32,
 ) -> Result<Value, Stop>
-    ensures { IfOk result (λ value. StandsFor types.now.names.now types.now.graph.now node (tree_of value) cursor.old) }
+    ensures read { IfOk result (λ value. StandsFor types.now.names.now types.now.graph.now node
+        (tree_of value) cursor.old) }
+    ensures refused { IfErr result (λ stop. RefusesAs stop (AreSound types.now.names.now types.now.graph.now
+        → (value : Tree) → StandsFor types.now.names.now types.now.graph.now node value cursor.old → ⊥)) }
 {
     let token = cursor.next();
     let value = read_value(cursor, token, alloc, types, node, MAX_DEPTH)?;
@@ -84,7 +89,8 @@ fn read_whole(
 /// The value of a node that a text says.
 ///
 /// # Errors
-/// `Refused`: what was wanted, and where; or want of memory.
+/// `Refused` only where the text stands for no value of the node: what was wanted, and where. Or
+/// want of memory.
 pub fn read(
     alloc: Global,
     graph: &Graph,
@@ -93,7 +99,9 @@ pub fn read(
     text: &str,
 ) -> Result<Value, ReadFault>
     requires { node < length graph.now }
-    ensures { IfOk result (λ value. StandsFor names.now graph.now node (tree_of value) (tokens text.now)) }
+    ensures says { IfOk result (λ value. StandsFor names.now graph.now node (tree_of value) (tokens text.now)) }
+    ensures refused { IfErr result (λ fault. RefusesText fault ((value : Tree)
+        → StandsFor names.now graph.now node value (tokens text.now) → ⊥)) }
 {
     let lookup = Lookup::new(alloc, names, graph.nodes().len() as u32)?;
     let mut scratch = Scratch::new(alloc);

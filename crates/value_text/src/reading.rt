@@ -1,14 +1,16 @@
 //! The values of texts.
 
-ghost use Rattle.std.specs.Prelude.{◌≡◌, ◌<◌, ◌≤◌, ◌↔◌, [], ◌∷◌, ℕ, ℤ, List, Some, None, length, map, replicate, slice_get, slice_set, option_to_list, IfOk, OnOk, OnErr, IsTrue};
+ghost use Rattle.std.specs.Prelude.{◌≡◌, ◌<◌, ◌≤◌, ◌↔◌, [], ◌∷◌, ℕ, ℤ, List, Some, None, length, map, replicate, slice_get, slice_set, option_to_list, IfOk, IfErr, OnOk, OnErr, IsTrue};
 ghost use Rattle.type_graph.specs.declared.node.Node.TheVariants.{Union};
 ghost use Rattle.type_graph.specs.Value.{Trees, Number, Items, node_at, IsCount, IsNumber};
 ghost use Rattle.idl_value.specs.View.{tree_of, trees_of, member_of};
 ghost use Rattle.json.specs.Token.{Token as SpecToken, string};
 ghost use Rattle.json.specs.Reads.{token_of};
-ghost use Rattle.part_names.specs.Names.{names_at};
+ghost use Rattle.part_names.specs.Names.{AreApart, names_at};
 ghost use Rattle.value_text.specs.Says.{SaysNumber, SaysTogether};
-ghost use Rattle.value_text.specs.inner.Reading.{IsOctets, Reads, ReadsAs, ReadsItems, ReadsElements, ReadsParts, ReadsList, ReadsMembers, ReadsObject};
+ghost use Rattle.value_text.specs.inner.Reading.{IsOctets, Reads, ReadsAs, ReadsItems, ReadsElements, ReadsParts, ReadsList, ReadsCopies, ReadsMembers, ReadsObject};
+ghost use Rattle.idl_value.specs.declared.value.Value.{Value as SpecValue};
+ghost use Rattle.value_text.specs.inner.Refusing.{RefusesAs, ReadsNone, IsLow, IsNamed, AreOctets, AreSound};
 
 use crate::cursor::{Cursor, Stop};
 use crate::fault::Wanted;
@@ -63,7 +65,7 @@ impl Counts {
 }
 
 /// The value of a node that begins with this token, with so many sequences still allowed one inside
-/// another.
+/// another. A number that is no node's counts as an octet's.
 #[cycle(reading)]
 pub fn read_value(
     cursor: &mut Cursor<'_>,
@@ -73,11 +75,13 @@ pub fn read_value(
     number: u32,
     depth: u32,
 ) -> Result<Value, Stop>
-    ensures { IfOk result (λ value. Reads types.now.names.now types.now.graph.now number depth
+    ensures read { IfOk result (λ value. Reads types.now.names.now types.now.graph.now number depth
         (token_of token.entry) cursor.old (tree_of value) cursor.new) }
+    ensures refused { IfErr result (λ stop. RefusesAs stop (ReadsNone types.now.names.now types.now.graph.now
+        (Reads types.now.names.now types.now.graph.now number depth (token_of token.entry) cursor.old))) }
 {
     let Some(node) = types.graph.nodes().get(number as usize) else {
-        return Err(cursor.refuse(token, Wanted::Whole));
+        return read_whole(cursor, token, alloc, types, number, &Node::Octet);
     };
     match node {
         Node::Text { bound } => read_text(cursor, token, alloc, *bound),
@@ -121,8 +125,11 @@ fn read_whole(
     number: u32,
     node: &Node,
 ) -> Result<Value, Stop>
-    ensures { IfOk result (λ value. (n : ℤ) × (tree_of value ≡ Number n) × IsNumber node.now n
+    ensures read { IfOk result (λ value. (n : ℤ) × (tree_of value ≡ Number n) × IsNumber node.now n
         × SaysNumber (names_at types.now.names.now number) node.now n (token_of token.entry)) }
+    ensures refused { IfErr result (λ stop. RefusesAs stop (IsLow node.now
+        → IsNamed node.now (names_at types.now.names.now number) → (n : ℤ) → IsNumber node.now n
+        → SaysNumber (names_at types.now.names.now number) node.now n (token_of token.entry) → ⊥)) }
 {
     let labels = types.names.of(number);
     let n = read_number(cursor, token, alloc, types.lookup, labels, number, node)?;
@@ -140,9 +147,12 @@ fn read_elements(
     counts: Counts,
     depth: u32,
 ) -> Result<Value, Stop>
-    ensures { IfOk result (λ value. (values : Trees) × (tree_of value ≡ Items values)
+    ensures read { IfOk result (λ value. (values : Trees) × (tree_of value ≡ Items values)
         × ReadsElements types.now.names.now types.now.graph.now elem counts.least counts.most depth
         (token_of token.entry) cursor.old values cursor.new) }
+    ensures refused { IfErr result (λ stop. RefusesAs stop (ReadsNone types.now.names.now types.now.graph.now
+        (ReadsElements types.now.names.now types.now.graph.now elem counts.least counts.most depth
+        (token_of token.entry) cursor.old))) }
 {
     let values = read_items(cursor, token, alloc, types, elem, counts.most, depth)?;
     if !counts.allow(values.len()) {
@@ -162,8 +172,10 @@ fn read_items(
     most: usize,
     depth: u32,
 ) -> Result<Vec<Value>, Stop>
-    ensures { IfOk result (λ values. ReadsItems types.now.names.now types.now.graph.now elem depth
+    ensures read { IfOk result (λ values. ReadsItems types.now.names.now types.now.graph.now elem depth
         (token_of token.entry) cursor.old (trees_of values.items) cursor.new) }
+    ensures refused { IfErr result (λ stop. RefusesAs stop (ReadsNone types.now.names.now types.now.graph.now
+        (ReadsElements types.now.names.now types.now.graph.now elem 0 most depth (token_of token.entry) cursor.old))) }
 {
     match token {
         Token::BeginArray => read_list(cursor, alloc, types, elem, most, depth),
@@ -181,11 +193,14 @@ fn read_together(
     elem: u32,
     text: &str,
 ) -> Result<Vec<Value>, Stop>
-    ensures { IfOk result (λ values. (octets : List ℕ) × SaysTogether (node_at types.now.graph.now elem) octets
-        (string text.now ∷ []) × IsOctets octets values.items) }
+    ensures read { IfOk result (λ values. (octets : List ℕ)
+        × SaysTogether (node_at types.now.graph.now elem) octets (string text.now ∷ [])
+        × IsOctets octets values.items) }
+    ensures refused { IfErr result (λ stop. RefusesAs stop ((octets : List ℕ) → AreOctets octets
+        → SaysTogether (node_at types.now.graph.now elem) octets (string text.now ∷ []) → ⊥)) }
 {
     match types.graph.nodes().get(elem as usize) {
-        Some(Node::Octet) => read_octets(cursor, token, alloc, text),
+        None | Some(Node::Octet) => read_octets(cursor, token, alloc, text),
         Some(Node::Char) => read_chars(cursor, token, alloc, text),
         _ => Err(cursor.refuse(token, Wanted::List)),
     }
@@ -201,8 +216,10 @@ fn read_list(
     most: usize,
     depth: u32,
 ) -> Result<Vec<Value>, Stop>
-    ensures listed { IfOk result (λ values. ReadsList types.now.names.now types.now.graph.now
-        (replicate (length values.items) elem) depth cursor.old (trees_of values.items) cursor.new) }
+    ensures listed { IfOk result (λ values. ReadsList types.now.names.now types.now.graph.now (replicate
+        (length values.items) elem) depth cursor.old (trees_of values.items) cursor.new) }
+    ensures refused { IfErr result (λ stop. RefusesAs stop (ReadsNone types.now.names.now types.now.graph.now
+        (ReadsCopies types.now.names.now types.now.graph.now elem most depth cursor.old))) }
     ensures counted { IfOk result (λ values. length values.items ≤ most) }
 {
     let mut values = Vec::new(alloc);
@@ -226,13 +243,18 @@ fn read_members(
     members: &[u32],
     depth: u32,
 ) -> Result<Value, Stop>
-    ensures { IfOk result (λ value. (values : Trees) × (tree_of value ≡ Items values)
+    ensures read { IfOk result (λ value. (values : Trees) × (tree_of value ≡ Items values)
         × ReadsMembers types.now.names.now types.now.graph.now (names_at types.now.names.now number) members.now depth
         (token_of token.entry) cursor.old values cursor.new) }
+    ensures refused { IfErr result (λ stop. RefusesAs stop (AreApart (names_at types.now.names.now number)
+        → ReadsNone types.now.names.now types.now.graph.now (ReadsMembers types.now.names.now types.now.graph.now
+        (names_at types.now.names.now number) members.now depth (token_of token.entry) cursor.old))) }
 {
-    let are_named = types.names.of(number).len() == members.len();
     match token {
-        Token::BeginObject if are_named => {
+        Token::BeginObject => {
+            if types.names.of(number).len() != members.len() {
+                return Err(cursor.refuse(token, Wanted::Members));
+            }
             let values = read_object(cursor, alloc, types, number, members, depth)?;
             Ok(Value::Items(values))
         }
@@ -253,8 +275,10 @@ fn read_row(
     members: &[u32],
     depth: u32,
 ) -> Result<Vec<Value>, Stop>
-    ensures { IfOk result (λ values. ReadsList types.now.names.now types.now.graph.now members.now depth cursor.old
+    ensures read { IfOk result (λ values. ReadsList types.now.names.now types.now.graph.now members.now depth cursor.old
         (trees_of values.items) cursor.new) }
+    ensures refused { IfErr result (λ stop. RefusesAs stop (ReadsNone types.now.names.now types.now.graph.now
+        (ReadsList types.now.names.now types.now.graph.now members.now depth cursor.old))) }
 {
     let mut values = Vec::new(alloc);
     for member in members {
@@ -286,8 +310,12 @@ fn read_object(
     members: &[u32],
     depth: u32,
 ) -> Result<Vec<Value>, Stop>
-    ensures { IfOk result (λ values. ReadsObject types.now.names.now types.now.graph.now
+    ensures read { IfOk result (λ values. ReadsObject types.now.names.now types.now.graph.now
         (names_at types.now.names.now number) members.now depth cursor.old (trees_of values.items) cursor.new) }
+    ensures refused { IfErr result (λ stop. RefusesAs stop (AreApart (names_at types.now.names.now number)
+        → length (names_at types.now.names.now number) ≡ length members.now
+        → ReadsNone types.now.names.now types.now.graph.now (ReadsObject types.now.names.now types.now.graph.now
+        (names_at types.now.names.now number) members.now depth cursor.old))) }
 {
     let mut slots = empty_slots(alloc, members.len())?;
     'each: while let Some(label) = cursor.next_key()? {
@@ -351,7 +379,9 @@ fn values_of_slots(
     alloc: Global,
     slots: Vec<Option<Value>>,
 ) -> Result<Vec<Value>, Stop>
-    ensures { IfOk result (λ values. slots.items ≡ map Some values.items) }
+    ensures read { IfOk result (λ values. slots.items ≡ map Some values.items) }
+    ensures refused { IfErr result (λ stop. RefusesAs stop ((values : List SpecValue) → slots.items ≡ map Some values
+        → ⊥)) }
 {
     let mut values = Vec::with_capacity(alloc, slots.len())?;
     for slot in slots {
@@ -375,9 +405,12 @@ fn read_choice(
     default: Option<u32>,
     depth: u32,
 ) -> Result<Value, Stop>
-    ensures { IfOk result (λ value. (labels : List (List ℕ))
+    ensures read { IfOk result (λ value. (labels : List (List ℕ))
         → ReadsAs types.now.names.now types.now.graph.now labels (Union switch arms.now default) depth
         (token_of token.entry) cursor.old (tree_of value) cursor.new) }
+    ensures refused { IfErr result (λ stop. RefusesAs stop ((labels : List (List ℕ))
+        → ReadsNone types.now.names.now types.now.graph.now (ReadsAs types.now.names.now types.now.graph.now labels
+        (Union switch arms.now default) depth (token_of token.entry) cursor.old))) }
 {
     let Token::BeginArray = token else {
         return Err(cursor.refuse(token, Wanted::List));
@@ -398,8 +431,10 @@ fn read_chosen(
     chosen: Option<u32>,
     depth: u32,
 ) -> Result<Option<Box<Value>>, Stop>
-    ensures { IfOk result (λ member. ReadsParts types.now.names.now types.now.graph.now
+    ensures read { IfOk result (λ member. ReadsParts types.now.names.now types.now.graph.now
         (option_to_list chosen) depth cursor.old (member_of member) cursor.new) }
+    ensures refused { IfErr result (λ stop. RefusesAs stop (ReadsNone types.now.names.now types.now.graph.now
+        (ReadsParts types.now.names.now types.now.graph.now (option_to_list chosen) depth cursor.old))) }
 {
     let Some(number) = chosen else {
         return Ok(None);
@@ -421,11 +456,23 @@ fn read_label(
     ensures says { IfOk result (λ n. (said : SpecToken)
         × SaysNumber (names_at types.now.names.now switch) (node_at types.now.graph.now switch) n said
         × (cursor.old ≡ said ∷ cursor.new)) }
+    ensures refused { IfErr result (λ stop. RefusesAs stop (AreSound types.now.names.now types.now.graph.now
+        → (n : ℤ) (said : SpecToken) (more : List SpecToken) → IsNumber (node_at types.now.graph.now switch) n
+        → SaysNumber (names_at types.now.names.now switch) (node_at types.now.graph.now switch) n said
+        → cursor.old ≡ said ∷ more → ⊥)) }
 {
     let token = cursor.next_part()?;
-    let Some(node) = types.graph.nodes().get(switch as usize) else {
-        return Err(cursor.refuse(token, Wanted::Whole));
-    };
     let labels = types.names.of(switch);
-    read_number(cursor, token, alloc, types.lookup, labels, switch, node)
+    match types.graph.nodes().get(switch as usize) {
+        Some(node) => read_number(cursor, token, alloc, types.lookup, labels, switch, node),
+        None => read_number(
+            cursor,
+            token,
+            alloc,
+            types.lookup,
+            labels,
+            switch,
+            &Node::Octet,
+        ),
+    }
 }

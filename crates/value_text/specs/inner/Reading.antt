@@ -110,3 +110,8 @@ abbrev pub ReadsElements : List (List (List ℕ)) → List Node → ℕ → ℕ 
     → Type 0
 ReadsElements names graph elem least most depth token old values new =
     (least ≤ count values) × (count values ≤ most) × ReadsItems names graph elem depth token old values new
+
+-- elements as a list, at most so many, and the end of their list
+abbrev pub ReadsCopies : List (List (List ℕ)) → List Node → ℕ → ℕ → ℕ → List Token → Trees → List Token → Type 0
+ReadsCopies names graph elem most depth old values new =
+    (count values ≤ most) × ReadsList names graph (replicate (count values) elem) depth old values new

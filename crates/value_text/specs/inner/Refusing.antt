@@ -3,6 +3,7 @@ use Rattle.std.specs.Prelude.{ℕ, ◌<◌, ◌≤◌, ◌^◌, ℤ, pos, negsuc
 use Rattle.std.specs.List.{AllByRecursion}
 use Rattle.part_names.specs.Names.{AreApart, names_at}
 use Rattle.type_graph.specs.declared.node.Node.{Node}
+use Rattle.json.specs.Token.{Token}
 use Rattle.type_graph.specs.declared.node.Node.TheVariants.{Octet, Enum}
 use Rattle.type_graph.specs.GraphRules.{IsGraph}
 use Rattle.value_text.specs.declared.cursor.Stop.{Stop}
@@ -35,3 +36,7 @@ IsNamed node labels = AreApart labels
 pub record AreSound (names : List (List (List ℕ))) (graph : List Node) : Type 0 where
   pub rules : IsGraph graph
   pub apart : (number : ℕ) → number < length graph → AreApart (names_at names number)
+
+-- where they are, nothing is read like this
+abbrev pub ReadsNone : {V : Type 0} → List (List (List ℕ)) → List Node → (V → List Token → Type 0) → Type 0
+ReadsNone {V} names graph ReadsLike = AreSound names graph → (value : V) (new : List Token) → ReadsLike value new → ⊥
