@@ -1,10 +1,9 @@
 -- With which tokens the texts of values begin.
-use Rattle.std.proofs.Common.{◌≡◌, ◌⊎◌, inl, inr, ℕ, ℤ, List, [], ◌∷◌, ◌++◌, refl, sym, ap, ◌∙◌, subst}
-use Rattle.json.specs.Token.{Token, begin_object, end_object, begin_array, end_array, key, string, number, boolean, null, bad}
-use Rattle.part_names.specs.Names.{names_at}
+use Rattle.std.proofs.Common.{◌≡◌, ◌⊎◌, inl, inr, ℕ, ℤ, List, [], ◌∷◌, sym, subst}
+use Rattle.json.specs.Token.{Token, begin_object, end_object, begin_array, end_array, key, string, bad}
 use Rattle.type_graph.specs.declared.node.Node.{Node}
-use Rattle.type_graph.specs.declared.node.Node.TheVariants.{Integer, Octet, Char, Boolean, Enum, Text, Seq, Array, Struct, Union, Frame}
-use Rattle.type_graph.specs.Value.{Tree, Number, Bytes, Items, Choice, Trees, node_at}
+use Rattle.type_graph.specs.declared.node.Node.TheVariants.{Octet, Char, Boolean, Enum, Text, Seq, Array, Struct, Union, Frame}
+use Rattle.type_graph.specs.Value.{Tree, Number, Bytes, Items, Choice, node_at}
 use Rattle.value_text.specs.Says.{SaysNumber, SaysTogether, IsObject, IsList, Says}
 
 -- a text may begin with it

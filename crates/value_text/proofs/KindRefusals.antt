@@ -1,17 +1,17 @@
 -- What a value of each kind is read as, and so what is refused with it.
-use Rattle.std.proofs.Common.{◌≡◌, ◌≢◌, ◌⊎◌, inl, inr, ℕ, zero, suc, ◌+◌, ◌-◌, ◌<◌, ◌≤◌, ℤ, pos, negsuc, Bool, true, false, List, [], ◌∷◌, ◌++◌, length, drop, replicate, Option, refl, sym, ap, ◌∙◌, subst, append_assoc, arith}
-use Rattle.std.specs.Prelude.{◌↔◌, Ok, nat_lt, if◌then◌else◌, option_to_list}
+use Rattle.std.proofs.Common.{◌≡◌, ◌≢◌, ◌⊎◌, inl, inr, ℕ, ◌-◌, ◌<◌, ◌≤◌, ℤ, pos, negsuc, Bool, true, false, List, [], ◌∷◌, ◌++◌, length, drop, replicate, Option, refl, sym, ap, ◌∙◌, subst, append_assoc, arith}
+use Rattle.std.specs.Prelude.{◌↔◌, Ok, nat_lt, if◌then◌else◌}
 use Rattle.std.proofs.lemmas.Bool.{ltb-true}
 use Rattle.hex.specs.Hex.{decode_of}
 use Rattle.json.specs.Token.{Token, string, begin_object, end_object, begin_array, end_array}
 use Rattle.part_names.specs.Names.{names_at, AreApart}
 use Rattle.type_graph.specs.declared.node.Node.{Node}
-use Rattle.type_graph.specs.declared.node.Node.TheVariants.{Integer, Octet, Char, Boolean, Enum, Text, Seq, Array, Struct, Union, Frame}
+use Rattle.type_graph.specs.declared.node.Node.TheVariants.{Octet, Char, Text, Seq, Array, Struct, Union, Frame}
 use Rattle.type_graph.specs.Value.{Tree, Number, Bytes, Items, Choice, Trees, NoTree, AndTree, count, node_at, arm_of, IsNumber, IsNumeric, IsCount, Fits, FitAll}
 use Rattle.idl_value.specs.declared.value.Value.{Value}
 use Rattle.idl_value.specs.View.{trees_of}
 use Rattle.value_text.specs.Pieces.{characters, octet_of, octets_of, joined, paired}
-use Rattle.value_text.specs.Says.{SaysNumber, SaysTogether, IsObject, IsList, Says, SayAll}
+use Rattle.value_text.specs.Says.{SaysNumber, SaysTogether, IsList, Says, SayAll}
 use Rattle.value_text.specs.inner.Reading.{Next, IsString, Reads, ReadsAs, ReadsItems, ReadsElements, ReadsParts, ReadsList, ReadsCopies, ReadsMembers, ReadsObject}
 use Rattle.value_text.specs.inner.Refusing.{IsLow, IsNamed, AreOctets, AreSound, ReadsNone}
 use Rattle.value_text.proofs.Printed.{fit_count}

@@ -1,6 +1,6 @@
 -- A token says at most one number of a node.
-use Rattle.std.proofs.Common.{◌≡◌, ◌≢◌, ◌⊎◌, inl, inr, ℕ, zero, suc, ◌<◌, ◌≤◌, ◌^◌, ℤ, pos, negsuc, Bool, true, false, cond, List, [], ◌∷◌, drop, length, get_or, map, Option, Some, None, slice_get, refl, sym, ap, ◌∙◌, subst, arith}
-use Rattle.std.specs.Prelude.{decimal, nat_lt, if◌then◌else◌, bytes_eq}
+use Rattle.std.proofs.Common.{◌≡◌, inl, inr, ℕ, zero, suc, ◌<◌, ◌^◌, ℤ, pos, negsuc, Bool, true, false, List, [], ◌∷◌, drop, length, get_or, map, Option, Some, None, slice_get, refl, sym, ap, ◌∙◌, subst, arith}
+use Rattle.std.specs.Prelude.{decimal, if◌then◌else◌}
 use Rattle.std.specs.List.{AllByRecursion}
 use Rattle.std.specs.Fmt.{signed_decimal}
 use Rattle.std.specs.Char.{to_ascii_lowercase}
@@ -16,12 +16,11 @@ use lib.Signed.{mag}
 use Rattle.json.specs.Token.{Token, string, number, boolean, key}
 use Rattle.idl_lexer.specs.Words.{same_but_for_case}
 use Rattle.part_names.specs.Names.{AreApart}
-use Rattle.type_graph.specs.declared.width.Width.{Width}
 use Rattle.type_graph.specs.declared.width.Width.TheVariants.{One, Two, Four, Eight}
 use Rattle.type_graph.specs.declared.node.Node.{Node}
-use Rattle.type_graph.specs.declared.node.Node.TheVariants.{Integer, Octet, Char, Boolean, Enum, Text, Seq, Array, Struct, Union, Frame}
+use Rattle.type_graph.specs.declared.node.Node.TheVariants.{Integer, Octet, Char, Boolean, Enum}
 use Rattle.type_graph.specs.Value.{IsNumber}
-use Rattle.value_text.specs.Pieces.{characters, digits, octet_of}
+use Rattle.value_text.specs.Pieces.{digits, octet_of}
 use Rattle.value_text.specs.Texts.{truth_of, label_of}
 use Rattle.value_text.specs.Says.{SaysNumber}
 use Rattle.value_text.specs.inner.Refusing.{IsShort, IsLow, IsNamed}

@@ -1,5 +1,5 @@
 -- The pieces of texts, by the lists of which they are made.
-use Rattle.std.proofs.Common.{◌≡◌, ℕ, List, [], ◌∷◌, map, refl, ap}
+use Rattle.std.proofs.Common.{◌≡◌, List, [], ◌∷◌, map, refl, ap}
 use Rattle.idl_value.specs.declared.value.Value.{Value}
 use Rattle.idl_value.specs.View.{tree_of, trees_of}
 use Rattle.value_text.specs.Pieces.{octet_of_tree, octets_of}

@@ -1,16 +1,16 @@
 -- The text that is printed of a value says it.
-use Rattle.std.proofs.Common.{◌≡◌, ◌⊎◌, inl, inr, ℕ, zero, suc, ℤ, pos, negsuc, List, [], ◌∷◌, ◌++◌, length, replicate, zip, Option, Some, None, true, false, Bool, ◌-◌, ◌<◌, ◌==◌, refl, sym, ap, ap₂, ◌∙◌, subst, arith}
+use Rattle.std.proofs.Common.{◌≡◌, ◌⊎◌, inl, inr, ℕ, zero, suc, ℤ, pos, negsuc, List, [], ◌∷◌, length, replicate, zip, Option, Some, None, true, false, Bool, ◌-◌, ◌<◌, refl, sym, ap, ◌∙◌, subst, arith}
 use Rattle.std.proofs.lemmas.Bool.{false≢true, ltb-true, eqb-true}
-use Rattle.std.specs.Prelude.{IsPermutation, if◌then◌else◌, nat_lt}
-use Rattle.json.specs.Token.{Token, string}
-use Rattle.hex.specs.Hex.{encode_lower, decode_of, IsBytes}
+use Rattle.std.specs.Prelude.{if◌then◌else◌, nat_lt}
+use Rattle.json.specs.Token.{Token}
+use Rattle.hex.specs.Hex.{encode_lower, IsBytes}
 use Rattle.std.proofs.lemmas.List.Sorted.{IsPermutation-refl}
 use Rattle.hex.proofs.HexLemmas.{decode_of-encode_lower}
 use Rattle.part_names.specs.Names.{names_at}
 use Rattle.type_graph.specs.declared.node.Node.{Node}
-use Rattle.type_graph.specs.declared.node.Node.TheVariants.{Integer, Octet, Char, Boolean, Enum, Text, Seq, Array, Struct, Union, Frame}
-use Rattle.type_graph.specs.Value.{Tree, Number, Bytes, Items, Choice, Trees, NoTree, AndTree, count, node_at, arm_of, IsNumber, Fits, FitAll}
-use Rattle.value_text.specs.Pieces.{characters, digits, octet_of, octet_of_tree, octets_of, listed, object_of, are_named}
+use Rattle.type_graph.specs.declared.node.Node.TheVariants.{Octet, Char, Boolean, Enum, Text, Seq, Array, Struct, Union, Frame}
+use Rattle.type_graph.specs.Value.{Tree, Number, Bytes, Items, Choice, Trees, NoTree, AndTree, count, node_at, arm_of, Fits, FitAll}
+use Rattle.value_text.specs.Pieces.{octet_of, octet_of_tree, octets_of, listed, object_of, are_named}
 use Rattle.value_text.specs.Texts.{label_of, enumerator_of, number_text, elements_text, members_text, text_of, texts_of}
 use Rattle.value_text.specs.Says.{SaysNumber, SaysTogether, IsObject, IsList, Says, SayAll}
 

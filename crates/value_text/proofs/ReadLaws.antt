@@ -1,5 +1,5 @@
 -- What is read, part by part.
-use Rattle.std.proofs.Common.{◌≡◌, ◌≢◌, ◌⊎◌, inl, inr, ◌+◌, ◌-◌, ◌<◌, ◌≤◌, ℕ, zero, suc, ℤ, List, [], ◌∷◌, ◌++◌, length, map, replicate, take, zip, get_or, Option, Some, None, slice_get, refl, sym, ap, ap₂, ◌∙◌, subst, add-one, append_assoc, arith}
+use Rattle.std.proofs.Common.{◌≡◌, ◌≢◌, ◌⊎◌, inl, inr, ◌+◌, ◌<◌, ◌≤◌, ℕ, zero, suc, ℤ, List, [], ◌∷◌, ◌++◌, length, map, replicate, take, get_or, Option, Some, None, slice_get, refl, sym, ap, ◌∙◌, subst, add-one, append_assoc, arith}
 use Rattle.std.specs.Prelude.{set, IsPermutation, option_to_list}
 use Rattle.std.specs.List.{AllByRecursion}
 use Rattle.std.proofs.lemmas.List.{append-nil}
@@ -10,8 +10,8 @@ use Rattle.std.proofs.Math.Seq.{take-suc}
 use Rattle.json.specs.Token.{Token, key, string, begin_object, begin_array, end_object, end_array, bad}
 use Rattle.part_names.specs.Names.{names_at}
 use Rattle.type_graph.specs.declared.node.Node.{Node}
-use Rattle.type_graph.specs.declared.node.Node.TheVariants.{Octet, Char, Text, Seq, Array, Union}
-use Rattle.type_graph.specs.Value.{Tree, Number, Bytes, Items, Choice, Trees, NoTree, AndTree, count, node_at, arm_of, IsNumber, IsCount, Fits, FitAll}
+use Rattle.type_graph.specs.declared.node.Node.TheVariants.{Octet, Char, Text, Array, Union}
+use Rattle.type_graph.specs.Value.{Tree, Number, Items, Choice, Trees, NoTree, AndTree, count, node_at, arm_of, IsNumber, Fits, FitAll}
 use Rattle.type_graph.specs.GraphRules.{held_by}
 use Rattle.type_graph.specs.Walks.{above}
 use Rattle.type_graph.proofs.HeightLaws.{above_arm}
@@ -19,11 +19,11 @@ use Rattle.idl_value.specs.declared.value.Value.{Value}
 use Rattle.idl_value.specs.View.{tree_of, trees_of}
 use Rattle.value_text.specs.Pieces.{octets_of, joined, paired}
 use Rattle.value_text.specs.Says.{SaysNumber, SaysTogether, IsList, Says, SayAll}
-use Rattle.value_text.specs.inner.Slots.{AreSlots, AreParts, given}
+use Rattle.value_text.specs.inner.Slots.{AreParts, given}
 use Rattle.value_text.specs.inner.Reading.{Next, IsOctet, IsOctets, IsString, Reads, ReadsAs, ReadsItems, ReadsParts, ReadsList, ReadsMembers, ReadsSlots, ReadsObject, SaysMember}
 use Rattle.value_text.proofs.Pieces.{octets_of-trees}
 use Rattle.value_text.proofs.Firsts.{IsFirst, number_first}
-use Rattle.value_text.proofs.Slots.{slots_empty, slot_free, slot_filled, Whole, slots_whole, given_none, given_more}
+use Rattle.value_text.proofs.Slots.{slots_empty, slot_free, slot_filled, slots_whole, given_none, given_more}
 
 -- a value behind the others
 abbrev pub with_last : Trees → Tree → Trees

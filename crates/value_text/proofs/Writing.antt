@@ -5,7 +5,7 @@ use Rattle.std.proofs.lemmas.Option.{slice_get_cases}
 use Rattle.std.specs.Prelude.{IfSome, IfNone, option_map}
 use Rattle.json.specs.Token.{Token, key}
 use Rattle.type_graph.specs.declared.node.Node.{Node}
-use Rattle.type_graph.specs.Value.{Tree, Trees, NoTree, AndTree, count}
+use Rattle.type_graph.specs.Value.{Trees, NoTree, AndTree, count}
 use Rattle.idl_value.specs.declared.value.Value.{Value}
 use Rattle.idl_value.specs.View.{tree_of, trees_of}
 use Rattle.idl_value.proofs.PackLaws.{trees_of-drop}

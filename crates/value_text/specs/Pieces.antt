@@ -1,8 +1,8 @@
 -- Pieces of the texts of values. A text is JSON (RFC 8259), seen as the tokens of the crate json of the kit.
-use Rattle.std.specs.Prelude.{ℕ, zero, suc, ℤ, pos, negsuc, nat_lt, Bool, true, false, ◌==◌, if◌then◌else◌}
+use Rattle.std.specs.Prelude.{ℕ, suc, ℤ, pos, negsuc, nat_lt, Bool, false, ◌==◌, if◌then◌else◌}
 use Rattle.std.specs.Prelude.{List, [], ◌∷◌, ◌++◌, length, encode_utf8_all}
 use Rattle.std.specs.Fmt.{signed_decimal}
-use Rattle.json.specs.Token.{Token, begin_object, end_object, begin_array, end_array, key, string, number}
+use Rattle.json.specs.Token.{Token, begin_object, end_object, begin_array, end_array, key, number}
 use Rattle.type_graph.specs.Value.{Tree, Number, Trees, NoTree, AndTree}
 
 -- octet n as the character U+00nn: every octet has one, and no two have the same

@@ -1,6 +1,6 @@
 -- What a text says: a relation, since a value has more texts than the one that is printed. Each rule has the texts that
 -- it refuses beside it.
-use Rattle.std.specs.Prelude.{◌≡◌, ◌⊎◌, ℕ, zero, suc, ℤ, List, [], ◌∷◌, length, replicate, zip, Some, IsPermutation}
+use Rattle.std.specs.Prelude.{◌≡◌, ◌⊎◌, ℕ, ℤ, List, [], ◌∷◌, length, replicate, zip, Some, IsPermutation}
 use Rattle.std.specs.Prelude.{Ok}
 use Rattle.json.specs.Token.{Token, string, boolean}
 use Rattle.hex.specs.Hex.{decode_of}

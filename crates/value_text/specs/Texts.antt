@@ -1,13 +1,13 @@
 -- The text of a value, a function of it. The labels of a node are the names of its parts, none where they aren't known;
 -- `names` has those of all nodes.
-use Rattle.std.specs.Prelude.{ℕ, zero, suc, ℤ, pos, negsuc, Bool, true, false, if◌then◌else◌}
+use Rattle.std.specs.Prelude.{ℕ, zero, ℤ, pos, negsuc, Bool, true, false, if◌then◌else◌}
 use Rattle.std.specs.Prelude.{List, [], ◌∷◌, replicate, zip, length, Option, Some, None, slice_get}
 use Rattle.json.specs.Token.{Token, string, boolean}
 use Rattle.hex.specs.Hex.{encode_lower}
 use Rattle.part_names.specs.Names.{names_at}
 use Rattle.type_graph.specs.declared.node.Node.{Node}
 use Rattle.type_graph.specs.declared.node.Node.TheVariants.{Octet, Char, Boolean, Enum, Seq, Array, Struct, Union, Frame}
-use Rattle.type_graph.specs.Value.{Tree, Number, Bytes, Items, Choice, Trees, NoTree, AndTree, count, node_at, arm_of}
+use Rattle.type_graph.specs.Value.{Tree, Number, Bytes, Items, Choice, Trees, AndTree, count, node_at, arm_of}
 use Rattle.value_text.specs.Pieces.{characters, digits, octet_of, octets_of, listed, object_of, are_named}
 
 -- every number but 0 is true

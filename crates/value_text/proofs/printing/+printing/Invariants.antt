@@ -1,4 +1,4 @@
-use Rattle.std.proofs.Common.{◌≡◌, ℕ, ◌+◌, ◌*◌, [], ◌∷◌, ◌++◌, length, drop}
+use Rattle.std.proofs.Common.{◌≡◌, [], ◌∷◌, ◌++◌, drop}
 use Rattle.json.specs.Token.{begin_array, begin_object}
 use Rattle.idl_value.specs.View.{trees_of}
 use Rattle.value_text.specs.Pieces.{joined}

@@ -1,4 +1,4 @@
-use Rattle.std.proofs.Common.{◌≡◌, ◌≢◌, ◌-◌, ◌+◌, ℕ, ◌≤◌, List, ◌∷◌, [], ◌++◌, length, map, take, get_or, replicate, Some, None, Option, slice_get, inl, inr, refl, sym, ap, ap₂, ◌∙◌, subst, length-append, length-set, arith, rules}
+use Rattle.std.proofs.Common.{◌≡◌, ◌≢◌, ◌+◌, ℕ, ◌≤◌, List, ◌∷◌, [], ◌++◌, length, map, take, get_or, replicate, Some, None, slice_get, inl, inr, sym, ap, ◌∙◌, subst, length-append, length-set, arith, rules}
 use Rattle.std.proofs.lemmas.List.{length-replicate}
 use Rattle.std.proofs.lemmas.Option.{slice_get-get_or}
 use Rattle.std.proofs.lemmas.Result.{IfOk-weaker, IfErr-weaker, err_from_is_err_and}
@@ -9,7 +9,7 @@ use mir.Val.{SFits, to_z, of_z}
 use Rattle.json.specs.Token.{key, string, begin_object, begin_array, end_object}
 use Rattle.json.specs.Reads.{token_of}
 use Rattle.part_names.specs.Names.{names_at}
-use Rattle.type_graph.specs.declared.node.Node.TheVariants.{Octet, Seq, Array, Struct, Union, Frame}
+use Rattle.type_graph.specs.declared.node.Node.TheVariants.{Octet, Union}
 use Rattle.type_graph.specs.Value.{node_at, arm_of, count, NoTree, AndTree, Choice, IsNumeric}
 use Rattle.type_graph.specs.GraphRules.{held_by}
 use Rattle.type_graph.specs.Walks.{above, height_of}

@@ -1,4 +1,4 @@
-use Rattle.std.proofs.Common.{◌≡◌, ℕ, ◌+◌, ◌*◌, ◌≤◌, List, length, take, replicate, option_to_list}
+use Rattle.std.proofs.Common.{◌≡◌, ◌+◌, ◌*◌, ◌≤◌, length, take, replicate, option_to_list}
 use Rattle.part_names.specs.Names.{names_at}
 use Rattle.idl_value.specs.View.{trees_of}
 use Rattle.type_graph.specs.declared.node.Node.TheVariants.{Union}

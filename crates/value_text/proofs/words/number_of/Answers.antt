@@ -1,4 +1,4 @@
-use Rattle.std.proofs.Common.{◌≡◌, ℤ, IfSome, Some, sym, subst, rules}
+use Rattle.std.proofs.Common.{◌≡◌, ℤ, IfSome, Some, sym, subst}
 use Rattle.json.specs.Reads.{token_of}
 use Rattle.type_graph.specs.declared.node.Node.TheVariants.{Enum}
 use Rattle.type_graph.specs.Value.{IsNumber}

@@ -1,12 +1,11 @@
-use Rattle.std.proofs.Common.{◌≡◌, ◌<◌, ◌^◌, ℕ, ℤ, pos, Some, None, Option, sym, ap, ◌∙◌, subst, arith, rules}
+use Rattle.std.proofs.Common.{◌≡◌, pos, Some, None, sym, ap, ◌∙◌, arith, rules}
 use Rattle.std.specs.Prelude.{decimal}
 use Rattle.std.specs.Fmt.{signed_decimal}
 use Rattle.std.specs.Result.{result_ok}
-use Rattle.std.proofs.lemmas.Fmt.{parse-decimal, parse-signed_decimal}
+use Rattle.std.proofs.lemmas.Fmt.{parse-decimal}
 use Rattle.std.proofs.lemmas.Option.{same_Some}
-use lib.Signed.{mag}
-use mir.Syntax.{w64, w128}
-use mir.Val.{SFits, to_z, of_z}
+use mir.Syntax.{w128}
+use mir.Val.{to_z, of_z}
 use Rattle.value_text.specs.inner.Refusing.{IsShort}
 use Rattle.value_text.proofs.OneNumber.{digits_one, is_wide}
 use Rattle.value_text.proofs.ReadLaws.{not_none}

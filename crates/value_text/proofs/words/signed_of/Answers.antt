@@ -1,11 +1,9 @@
-use Rattle.std.proofs.Common.{◌≡◌, ◌<◌, ◌^◌, ℕ, ℤ, pos, Some, None, Option, sym, ap, ◌∙◌, subst, arith, rules}
-use Rattle.std.specs.Prelude.{decimal}
+use Rattle.std.proofs.Common.{◌≡◌, Some, None, sym, ap, ◌∙◌, subst, arith, rules}
 use Rattle.std.specs.Fmt.{signed_decimal}
 use Rattle.std.specs.Result.{result_ok}
-use Rattle.std.proofs.lemmas.Fmt.{parse-decimal, parse-signed_decimal}
+use Rattle.std.proofs.lemmas.Fmt.{parse-signed_decimal}
 use Rattle.std.proofs.lemmas.Option.{same_Some}
 use Rattle.std.proofs.lemmas.Int.{to_z-of_z}
-use lib.Signed.{mag}
 use mir.Syntax.{w64, w128}
 use mir.Val.{SFits, to_z, of_z}
 use Rattle.value_text.specs.inner.Refusing.{IsShort}
