@@ -71,9 +71,10 @@ of_run fault fact h = h
 
 module _ (labels : Labels) (graph : List Node) (node : ℕ) (ask : Ask) where
   -- the text says no value
-  pub unsaid : (fault : ReadFault) → IsRefusalAt Encode labels graph node ask (refusal_of_read fault)
-  unsaid texts.NoMemory = tt
-  unsaid (texts.Refused fault) = tt
+  pub unsaid : (fault : ReadFault) → RefusesText fault (SaysNone labels graph node ask)
+      → IsRefusalAt Encode labels graph node ask (refusal_of_read fault)
+  unsaid texts.NoMemory h = tt
+  unsaid (texts.Refused fault) h = h
 
   -- the run was refused
   pub refused_run : (way : Way) (fact : Type 0) → (fact → HasNone way labels graph node ask) → (refusal : TextRefusal) → IsOfRun refusal fact

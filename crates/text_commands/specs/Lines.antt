@@ -82,7 +82,7 @@ HasNone Decode labels graph node ask = HasNoText graph node ask
 
 -- why a value of a node isn't answered
 abbrev pub IsRefusalAt : Way → Labels → List Node → ℕ → Ask → TextRefusal → Type 0
-IsRefusalAt Encode labels graph node ask (Unsaid fault) = Unit {0}
+IsRefusalAt Encode labels graph node ask (Unsaid fault) = SaysNone labels graph node ask
 IsRefusalAt Decode labels graph node ask (Other commands.BadHex) = IsErr (decode_of ask.input)
 IsRefusalAt way labels graph node ask (Other (commands.Refused fault)) = HasNone way labels graph node ask
 IsRefusalAt way labels graph node ask (Other commands.NoMemory) = Unit {0}
