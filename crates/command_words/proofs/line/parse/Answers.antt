@@ -44,6 +44,7 @@ returns-in-Some-clause-mistaken c mistaken =
     by_cause (mistaken (Names c.as_slice.result) orders) where
       app_is : app_of c.in_ok-program.field-0 ≡ program_app (Names c.as_slice.result)
       app_is = c.in_ok-program.ensures
+
       by_cause : AreMistakes (fault_of (program_app (Names c.as_slice.result)) (texts c.args.words.now))
           ⊎ AreUnclear (program_app (Names c.as_slice.result)) (texts c.args.words.now) → ⊥
       by_cause (inl wrong) =
@@ -68,6 +69,7 @@ returns-clause-mistaken c mistaken =
     by_cause (mistaken (Names c.as_slice.result) orders) where
       app_is : app_of c.in_ok-program.field-0 ≡ program_app (Names c.as_slice.result)
       app_is = c.in_ok-program.ensures
+
       by_cause : AreMistakes (fault_of (program_app (Names c.as_slice.result)) (texts c.args.words.now))
           ⊎ AreUnclear (program_app (Names c.as_slice.result)) (texts c.args.words.now) → IsErrAnd c.served.result IsOfWords
       by_cause (inl wrong) =
