@@ -1,0 +1,130 @@
+/* Accepted tables for C: values to CDR octets and back.
+ *
+ *     struct idlc_table table = {0};
+ *     struct idlc_refusal refusal;
+ *     uint32_t node;
+ *     size_t len = 0;
+ *     const uint8_t tape[] = {7, 0, 0, 0, 1, 0, 0, 0, 2, 'h', 'i'};
+ *     uint32_t number = idlc_load(&table, file, file_len, &refusal);
+ *     if (number != IDLC_DONE) {
+ *         fprintf(stderr, "%u, routine %u, place %u\n", number, refusal.routine, refusal.place);
+ *         return 1;
+ *     }
+ *     if (idlc_find(&table, (const uint8_t *)"S", 1, &node) != IDLC_DONE)
+ *         return 1;
+ *     uint8_t none[1];
+ *     number = idlc_encode(&table, node, false, 0, tape, sizeof tape, none, 0, &len);   // asks for the length
+ *     if (number != IDLC_DONE && number != IDLC_NO_ROOM)
+ *         return 1;
+ *     uint8_t *octets = malloc(len + 1);
+ *     if (octets && idlc_encode(&table, node, false, 0, tape, sizeof tape, octets, len, &len) == IDLC_DONE)
+ *         fwrite(octets, 1, len, stdout);
+ *     free(octets);
+ *     idlc_free(&table);
+ *
+ * What each call answers is proved, whatever octets it is given. This is what the caller owes:
+ *
+ * - A table begins with zeros. It isn't copied while it is loaded, nor are its members changed.
+ * - No pointer is null, also where a length is 0, and each points to as much as its length says.
+ *   What one call is given lies apart: a buffer isn't the octets that are read, nor the length.
+ * - A `bool` is 0 or 1.
+ * - One call at a time has a table. A table may be handed to another thread by a lock, or by a thread's start or end.
+ * - malloc, realloc and free are those of one allocator. No call is made from a signal handler, or from the forked
+ *   child of a process with threads.
+ * - There is stack enough. 64 KiB were, with 64 sequences and 64 levels of structures one inside another.
+ */
+#ifndef IDLC_H
+#define IDLC_H
+
+#include <stdbool.h>
+#include <stddef.h>
+#include <stdint.h>
+
+#ifdef __cplusplus
+extern "C" {
+#endif
+
+/* What calls answer. `idlc explain NN` tells of 50 and more what it means, and how to mend it. */
+enum {
+    IDLC_DONE = 0,
+    IDLC_NO_MEMORY = 1,  /* malloc or realloc gave none */
+    IDLC_NO_TABLE = 2,   /* no table is loaded */
+    IDLC_NO_NAME = 3,    /* no type has this name, or node; no name stands at this place */
+    IDLC_NO_ROOM = 4,    /* the buffer is too small; the length that is needed is told */
+    IDLC_TOO_LONG = 5,   /* a table file has 16,777,216 octets at most */
+
+    /* the octets are no table's */
+    IDLC_NOT_A_TABLE = 50,
+    IDLC_VERSION = 51,
+    IDLC_BAD_NUMBER = 52,
+    IDLC_RANK_RISES = 53,
+    IDLC_TRAILING = 54,
+    IDLC_EMPTY_ROUTINE = 55,
+
+    /* the tape or the octets are no value's */
+    IDLC_SHORT = 60,
+    IDLC_BAD_BOOL = 61,
+    IDLC_BAD_ENUM = 62,
+    IDLC_BAD_LENGTH = 63,
+    IDLC_NO_TERMINATOR = 64,
+    IDLC_ZERO_INSIDE = 65,
+    IDLC_OVER_BOUND = 66,
+    IDLC_TOO_DEEP = 67,
+    IDLC_TAPE_LEFT = 68,
+
+    /* the table isn't right */
+    IDLC_WRONG_WORK = 80,
+    IDLC_WRONG_PADDING = 81,
+    IDLC_ENTRY_OUTSIDE = 82,
+    IDLC_EXITS_TOO_SMALL = 83,
+    IDLC_NO_ROUTINE = 84,
+    IDLC_NAMED_ENTRY_NOT_FULL = 85
+};
+
+/* A table, or none where all is zero. */
+struct idlc_table {
+    unsigned char *at;
+    bool loaded;
+};
+
+/* Why a table was refused. Of 80 to 83 `place` is an instruction (83: an entry) of a routine of the first program (0) or
+ * the second (1); of 84 and 85 `node` is the node of a name. What doesn't belong to a number is 0. */
+struct idlc_refusal {
+    uint32_t number;
+    uint32_t program;
+    uint32_t routine;
+    uint32_t place;
+    uint32_t node;
+};
+
+/* Loads the table of a file's octets, if it is right, and lets go of the one that was there. Answers 0, 1, 5, 50 to 55,
+ * or 80 to 85. Where it isn't 0 the table is as it was, and `refusal` is told. */
+uint32_t idlc_load(struct idlc_table *table, const uint8_t *octets, size_t octets_len, struct idlc_refusal *refusal);
+
+/* Lets go of the table, and may be called again. */
+void idlc_free(struct idlc_table *table);
+
+/* The node of a type's name, as "M::S". Answers 0, 2 or 3. */
+uint32_t idlc_find(struct idlc_table *table, const uint8_t *name, size_t name_len, uint32_t *node);
+
+/* The name at a place, from 0 on, and its node. Answers 0, 2, 3 behind the last, or 4. */
+uint32_t idlc_name(struct idlc_table *table, size_t place, uint8_t *out, size_t out_len, size_t *len, uint32_t *node);
+
+/* The octets of the value that the whole tape is, the first of them at a position, with zeros in the gaps. Answers 0 to 4,
+ * or 60 to 68: the tape is no value's. */
+uint32_t idlc_encode(struct idlc_table *table, uint32_t node, bool little, uint64_t pos, const uint8_t *tape,
+                     size_t tape_len, uint8_t *out, size_t out_len, size_t *len);
+
+/* The tape of the value that a front of the octets encodes, whatever stands in the gaps, and how many octets that front
+ * has. Answers 0 to 4, or 60 to 68: no front encodes a value. */
+uint32_t idlc_decode(struct idlc_table *table, uint32_t node, bool little, uint64_t pos, const uint8_t *octets,
+                     size_t octets_len, size_t *taken, uint8_t *out, size_t out_len, size_t *len);
+
+/* Of all four calls that hand something over: with 0 its first `*len` octets are written, and those behind them are as
+ * they were; with 4 `*len` is what is needed, so a call with length 0 asks for it; but with 0 the buffer is as it was. */
+
+#ifdef __cplusplus
+}
+#endif
+
+#endif

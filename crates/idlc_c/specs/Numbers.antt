@@ -1,0 +1,73 @@
+-- The numbers that C has of answers.
+use Rattle.std.specs.Prelude.{ℕ, Result, Ok, Err}
+use Rattle.marshal_program.specs.declared.fault.TableFault.{TableFault}
+use Rattle.marshal_program.specs.declared.fault.TableFault.TheVariants as files
+use Rattle.program_runner.specs.declared.fault.RunFault.{RunFault}
+use Rattle.program_runner.specs.declared.fault.RunFault.TheVariants as runs
+use Rattle.routine_checker.specs.declared.fault.RoutinePlace.{RoutinePlace}
+use Rattle.routine_checker.specs.declared.fault.CheckFault.{CheckFault}
+use Rattle.routine_checker.specs.declared.fault.CheckFault.TheVariants as checks
+use Rattle.idlc_c.specs.declared.refusal.RefusalPlace.{RefusalPlace}
+use Rattle.idlc_c.specs.declared.refusal.Refusal.{Refusal}
+use Rattle.idlc_c.specs.declared.refusal.Refusal.TheVariants.{NoMemory, NotLoaded, NotNamed, NoRoom, TooLong, NoTable, NotRight, NoValue}
+
+abbrev pub number_of_file : TableFault → ℕ
+number_of_file files.NotATable = 50
+number_of_file files.Version = 51
+number_of_file files.BadNumber = 52
+number_of_file files.RankRises = 53
+number_of_file files.Trailing = 54
+number_of_file files.EmptyRoutine = 55
+number_of_file files.NoMemory = 1
+
+abbrev pub number_of_run : RunFault → ℕ
+number_of_run runs.Short = 60
+number_of_run runs.BadBool = 61
+number_of_run runs.BadEnum = 62
+number_of_run runs.BadLength = 63
+number_of_run runs.NoTerminator = 64
+number_of_run runs.ZeroInside = 65
+number_of_run runs.OverBound = 66
+number_of_run runs.TooDeep = 67
+number_of_run runs.TapeLeft = 68
+number_of_run runs.NoMemory = 1
+
+abbrev pub place_in_routine : ℕ → RoutinePlace → ℕ → RefusalPlace
+place_in_routine number at place =
+    record { number = number; program = at.program; routine = at.routine; place = place; node = 0 }
+
+abbrev pub place_of_node : ℕ → ℕ → RefusalPlace
+place_of_node number node = record { number = number; program = 0; routine = 0; place = 0; node = node }
+
+abbrev pub place_of_check : CheckFault → RefusalPlace
+place_of_check (checks.WrongWork at instr) = place_in_routine 80 at instr
+place_of_check (checks.WrongPadding at instr) = place_in_routine 81 at instr
+place_of_check (checks.EntryOutside at instr) = place_in_routine 82 at instr
+place_of_check (checks.ExitsTooSmall at entry) = place_in_routine 83 at entry
+place_of_check (checks.NoRoutine node) = place_of_node 84 node
+place_of_check (checks.NamedEntryNotFull node) = place_of_node 85 node
+place_of_check checks.NoMemory = place_of_node 1 0
+
+abbrev pub number_of : Refusal → ℕ
+number_of NoMemory = 1
+number_of NotLoaded = 2
+number_of NotNamed = 3
+number_of (NoRoom needed) = 4
+number_of TooLong = 5
+number_of (NoTable fault) = number_of_file fault
+number_of (NotRight fault) = (place_of_check fault).number
+number_of (NoValue fault) = number_of_run fault
+
+abbrev pub place_of : Refusal → RefusalPlace
+place_of (NotRight fault) = place_of_check fault
+place_of refusal = place_of_node (number_of refusal) 0
+
+abbrev pub number_of_answer : Result ℕ Refusal → ℕ
+number_of_answer (Ok len) = 0
+number_of_answer (Err refusal) = number_of refusal
+
+-- what was handed over is so long, or would have been
+abbrev pub length_of : Result ℕ Refusal → ℕ → ℕ
+length_of (Ok len) old = len
+length_of (Err (NoRoom needed)) old = needed
+length_of (Err refusal) old = old

@@ -1,0 +1,207 @@
+/* The calls of a table, with each allocation refused in turn: calls FILE NAME TAPE-HEX OCTETS-HEX
+ *
+ * Linked with --wrap for malloc, realloc and free. It prints a line for each step, and ends with 0 where what must hold
+ * held. */
+#include <idlc.h>
+
+#include <stdio.h>
+#include <stdlib.h>
+#include <string.h>
+
+void *__real_malloc(size_t size);
+void *__real_realloc(void *at, size_t size);
+void __real_free(void *at);
+
+static long asked, refused_at, held;
+
+void *__wrap_malloc(size_t size)
+{
+    if (++asked == refused_at)
+        return NULL;
+    void *at = __real_malloc(size);
+    held += at != NULL;
+    return at;
+}
+
+void *__wrap_realloc(void *at, size_t size)
+{
+    if (++asked == refused_at)
+        return NULL;
+    void *moved = __real_realloc(at, size);
+    held += !at && moved;
+    return moved;
+}
+
+void __wrap_free(void *at)
+{
+    held -= at != NULL;
+    __real_free(at);
+}
+
+static uint8_t file[1 << 20], tape[1 << 10], octets[1 << 10], out[1 << 10], as_it_was[1 << 10];
+
+static void must(int holds, const char *what)
+{
+    if (!holds) {
+        printf("not so: %s\n", what);
+        exit(1);
+    }
+}
+
+static size_t of_hex(const char *digits, uint8_t *to)
+{
+    size_t len = strlen(digits) / 2;
+    for (size_t i = 0; i < len; i++) {
+        unsigned octet = 0;
+        sscanf(digits + 2 * i, "%2x", &octet);
+        to[i] = (uint8_t)octet;
+    }
+    return len;
+}
+
+static void begin(long refuse)
+{
+    memset(out, 0xa5, sizeof out);
+    asked = 0;
+    refused_at = refuse;
+}
+
+static int is_untouched(void)
+{
+    return memcmp(out, as_it_was, sizeof out) == 0;
+}
+
+static struct idlc_table table;
+static struct idlc_refusal refusal;
+static uint32_t node;
+
+/* Loads with each allocation refused in turn. */
+static long load(size_t file_len)
+{
+    for (long n = 1;; n++) {
+        begin(n);
+        uint32_t number = idlc_load(&table, file, file_len, &refusal);
+        if (asked < n) {
+            must(number == IDLC_DONE && table.loaded, "loads");
+            return n - 1;
+        }
+        must(number == IDLC_NO_MEMORY && refusal.number == number && !table.loaded, "no memory to load");
+        must(held == 0, "no memory to load leaks nothing");
+    }
+}
+
+static long encode(size_t tape_len, size_t octets_len)
+{
+    size_t len = 99;
+    begin(0);
+    must(idlc_encode(&table, node, false, 0, tape, tape_len, out, 0, &len) == IDLC_NO_ROOM, "length of octets");
+    must(len == octets_len && is_untouched(), "tells the length of octets");
+    must(idlc_encode(&table, node, false, 0, tape, tape_len, out, len - 1, &len) == IDLC_NO_ROOM, "one too few");
+    must(len == octets_len && is_untouched(), "one too few is told");
+    for (long n = 1;; n++) {
+        begin(n);
+        long before = held;
+        uint32_t number = idlc_encode(&table, node, false, 0, tape, tape_len, out, octets_len, &len);
+        must(held == before && table.loaded, "encode leaks nothing");
+        if (asked < n) {
+            must(number == IDLC_DONE && len == octets_len && memcmp(out, octets, len) == 0, "encodes");
+            must(memcmp(out + len, as_it_was + len, sizeof out - len) == 0, "what is behind stays");
+            return n - 1;
+        }
+        must(number == IDLC_NO_MEMORY && is_untouched(), "no memory to encode");
+    }
+}
+
+static long decode(size_t tape_len, size_t octets_len)
+{
+    size_t len = 99, taken = 77;
+    begin(0);
+    must(idlc_decode(&table, node, false, 0, octets, octets_len + 3, &taken, out, 0, &len) == IDLC_NO_ROOM, "length");
+    must(len == tape_len && taken == 77 && is_untouched(), "tells the length of the tape");
+    for (long n = 1;; n++) {
+        begin(n);
+        long before = held;
+        uint32_t number = idlc_decode(&table, node, false, 0, octets, octets_len + 3, &taken, out, tape_len, &len);
+        must(held == before && table.loaded, "decode leaks nothing");
+        if (asked < n) {
+            must(number == IDLC_DONE && len == tape_len && taken == octets_len, "decodes");
+            must(memcmp(out, tape, len) == 0, "the tape");
+            must(memcmp(out + len, as_it_was + len, sizeof out - len) == 0, "what is behind stays");
+            return n - 1;
+        }
+        must(number == IDLC_NO_MEMORY && taken == 77 && is_untouched(), "no memory to decode");
+    }
+}
+
+static void names(void)
+{
+    size_t len = 0;
+    uint32_t at = 0, found = 0;
+    for (size_t place = 0;; place++) {
+        begin(0);
+        uint32_t number = idlc_name(&table, place, out, sizeof out, &len, &at);
+        if (number == IDLC_NO_NAME)
+            break;
+        must(number == IDLC_DONE, "a name");
+        printf("%.*s %u\n", (int)len, (const char *)out, at);
+        must(idlc_find(&table, out, len, &found) == IDLC_DONE && found == at, "finds it");
+        begin(0);
+        must(idlc_name(&table, place, out, len - 1, &len, &found) == IDLC_NO_ROOM && is_untouched(), "room for a name");
+    }
+    must(idlc_find(&table, (const uint8_t *)"no such", 7, &found) == IDLC_NO_NAME, "no such name");
+    must(idlc_find(&table, (const uint8_t *)"\xff", 1, &found) == IDLC_NO_NAME, "no text");
+    must(idlc_find(&table, out, 0, &found) == IDLC_NO_NAME, "no name");
+}
+
+static void refusals(size_t tape_len, size_t octets_len)
+{
+    size_t len = 99, taken = 77;
+    begin(0);
+    must(idlc_encode(&table, node, false, 0, tape, tape_len - 1, out, sizeof out, &len) == IDLC_SHORT, "short");
+    must(idlc_encode(&table, node, false, 0, tape, tape_len + 1, out, sizeof out, &len) == IDLC_TAPE_LEFT, "left");
+    must(idlc_encode(&table, 4000000000u, false, 0, tape, tape_len, out, sizeof out, &len) == IDLC_NO_NAME, "node");
+    must(idlc_decode(&table, node, false, 0, octets, octets_len - 1, &taken, out, sizeof out, &len) == IDLC_SHORT,
+         "short octets");
+    must(len == 99 && taken == 77 && is_untouched(), "refused calls tell nothing");
+    must(idlc_load(&table, octets, octets_len, &refusal) == IDLC_NOT_A_TABLE && table.loaded, "not a table");
+    must(refusal.number == IDLC_NOT_A_TABLE && refusal.node == 0, "its place");
+    static uint8_t long_file[16777217];
+    must(idlc_load(&table, long_file, sizeof long_file, &refusal) == IDLC_TOO_LONG && table.loaded, "too long");
+    must(idlc_encode(&table, node, false, 0, tape, tape_len, out, sizeof out, &len) == IDLC_DONE, "still loaded");
+}
+
+static void freed(size_t tape_len, size_t octets_len)
+{
+    size_t len = 99, taken = 77;
+    uint32_t found = 5;
+    idlc_free(&table);
+    must(held == 0 && !table.loaded, "frees all");
+    idlc_free(&table);
+    begin(0);
+    must(idlc_encode(&table, node, false, 0, tape, tape_len, out, sizeof out, &len) == IDLC_NO_TABLE, "freed: encode");
+    must(idlc_decode(&table, node, false, 0, octets, octets_len, &taken, out, sizeof out, &len) == IDLC_NO_TABLE, "decode");
+    must(idlc_find(&table, out, 1, &found) == IDLC_NO_TABLE && found == 5, "find");
+    must(idlc_name(&table, 0, out, sizeof out, &len, &found) == IDLC_NO_TABLE && found == 5, "name");
+    must(len == 99 && taken == 77 && is_untouched() && held == 0, "freed: untouched");
+}
+
+int main(int argc, char **argv)
+{
+    memset(as_it_was, 0xa5, sizeof as_it_was);
+    FILE *from = argc == 5 ? fopen(argv[1], "rb") : NULL;
+    if (!from)
+        return 2;
+    size_t file_len = fread(file, 1, sizeof file, from);
+    fclose(from);
+    held = 0;
+    size_t tape_len = of_hex(argv[3], tape), octets_len = of_hex(argv[4], octets);
+    long to_load = load(file_len);
+    must(idlc_find(&table, (const uint8_t *)argv[2], strlen(argv[2]), &node) == IDLC_DONE, "finds");
+    long to_encode = encode(tape_len, octets_len), to_decode = decode(tape_len, octets_len);
+    names();
+    refusals(tape_len, octets_len);
+    must(idlc_load(&table, file, file_len, &refusal) == IDLC_DONE, "loads in the place of another");
+    freed(tape_len, octets_len);
+    must(to_load > 0 && to_encode > 0 && to_decode > 0, "allocations were refused");
+    return 0;
+}
