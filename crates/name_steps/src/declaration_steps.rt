@@ -6,7 +6,7 @@ ghost use Rattle.idl_tree.specs.Lists.{parts};
 ghost use Rattle.name_steps.specs.StepsKept.{flat_steps, steps_in};
 ghost use Rattle.name_steps.specs.Steps.{attribute_steps, attributes_steps, const_steps, declaration_steps, except_steps, export_steps, interface_steps, operation_steps, optional_parts, param_steps, raises_steps, result_steps, type_dcl_steps, typedef_steps, Declares as DeclaresStep, DeclaresFeature as FeatureStep, IsUndefined as UndefinedStep, HasBase as BaseStep, Enters as EntersStep, Defines as DefinesStep, Leaves as LeavesStep};
 
-use crate::step::{LeafStep, NameStep, Steps};
+use crate::step::{Step, Steps};
 use idl_tree::definitions::{
     Attribute, Attributes, Const, Declaration, Definition, Except, Export, Interface, Operation,
     Param, TypeDcl,
@@ -24,7 +24,7 @@ impl<'a, 't> Steps<'a, 't> {
     ) -> Result<(), AllocError>
         ensures { OnOk result (steps_in self.new ≡ steps_in self.old ++ typedef_steps original.now declarator.now) }
     {
-        done!(self.declares_typedef(original, declarator));
+        self.push(Step::DeclaresTypedef(original, declarator))?;
         self.add_sizes(declarator.sizes.as_slice())
     }
 
@@ -36,10 +36,8 @@ impl<'a, 't> Steps<'a, 't> {
         ensures { OnOk result (steps_in self.new ≡
             steps_in self.old ++ flat_map (typedef_steps original.now) (parts declarators.now)) }
     {
-        done!(self.add_typedef(original, &declarators.first));
-        let rest = declarators.rest.as_slice();
-        for declarator in rest {
-            done!(self.add_typedef(original, declarator));
+        for declarator in declarators.iter() {
+            self.add_typedef(original, declarator)?;
         }
         Ok(())
     }
@@ -52,31 +50,31 @@ impl<'a, 't> Steps<'a, 't> {
                 original,
                 declarators,
             } => {
-                done!(self.add_type(original));
+                self.add_type(original)?;
                 self.add_typedefs(original, declarators)
             }
             TypeDcl::Struct(s) => self.add_struct(s),
             TypeDcl::Union(u) => self.add_union(u),
             TypeDcl::Enum(e) => self.add_enum(e),
-            TypeDcl::StructAhead(id) => self.asks(LeafStep::Declares(EntryKind::Struct), *id),
-            TypeDcl::UnionAhead(id) => self.asks(LeafStep::Declares(EntryKind::Union), *id),
+            TypeDcl::StructAhead(id) => self.declares(EntryKind::Struct, *id),
+            TypeDcl::UnionAhead(id) => self.declares(EntryKind::Union, *id),
         }
     }
 
     fn add_const(&mut self, c: &'t Const<'a>) -> Result<(), AllocError>
         ensures { OnOk result (steps_in self.new ≡ steps_in self.old ++ const_steps c.now) }
     {
-        done!(self.add_const_type(&c.const_type));
-        done!(self.asks(LeafStep::IsNew, c.identifier));
-        self.declares_const(c)
+        self.add_const_type(&c.const_type)?;
+        self.push(Step::IsNew(c.identifier))?;
+        self.push(Step::DeclaresConst(c))
     }
 
     fn add_except(&mut self, e: &'t Except<'a>) -> Result<(), AllocError>
         ensures { OnOk result (steps_in self.new ≡ steps_in self.old ++ except_steps e.now) }
     {
-        done!(self.asks(LeafStep::Declares(EntryKind::Exception), e.identifier));
-        done!(self.asks(LeafStep::Enters, e.identifier));
-        done!(self.add_members(e.members.as_slice()));
+        self.declares(EntryKind::Exception, e.identifier)?;
+        self.enters(e.identifier)?;
+        self.add_members(e.members.as_slice())?;
         self.leaves()
     }
 
@@ -93,10 +91,8 @@ impl<'a, 't> Steps<'a, 't> {
     fn add_raises(&mut self, names: &'t Listed<ScopedName<'a>>) -> Result<(), AllocError>
         ensures { OnOk result (steps_in self.new ≡ steps_in self.old ++ raises_steps (parts names.now)) }
     {
-        done!(self.asks_of_name(NameStep::IsException, &names.first));
-        let rest = names.rest.as_slice();
-        for name in rest {
-            done!(self.asks_of_name(NameStep::IsException, name));
+        for name in names.iter() {
+            self.push(Step::NamesException(name))?;
         }
         Ok(())
     }
@@ -118,13 +114,8 @@ impl<'a, 't> Steps<'a, 't> {
         ensures { OnOk result (steps_in self.new ≡
             steps_in self.old ++ map (FeatureStep EntryKind.Attribute) (parts identifiers.now)) }
     {
-        done!(self.asks(
-            LeafStep::DeclaresFeature(EntryKind::Attribute),
-            identifiers.first
-        ));
-        let rest = identifiers.rest.as_slice();
-        for identifier in rest {
-            done!(self.asks(LeafStep::DeclaresFeature(EntryKind::Attribute), *identifier));
+        for identifier in identifiers.iter() {
+            self.declares_feature(EntryKind::Attribute, *identifier)?;
         }
         Ok(())
     }
@@ -142,7 +133,7 @@ impl<'a, 't> Steps<'a, 't> {
                 identifier,
                 set: names,
             } => {
-                done!(self.asks(LeafStep::DeclaresFeature(EntryKind::Attribute), *identifier));
+                self.declares_feature(EntryKind::Attribute, *identifier)?;
                 self.add_raises(names)
             }
             Attributes::Get {
@@ -150,8 +141,8 @@ impl<'a, 't> Steps<'a, 't> {
                 get,
                 set,
             } => {
-                done!(self.asks(LeafStep::DeclaresFeature(EntryKind::Attribute), *identifier));
-                done!(self.add_raises(get));
+                self.declares_feature(EntryKind::Attribute, *identifier)?;
+                self.add_raises(get)?;
                 self.add_optional_raises(set)
             }
         }
@@ -160,7 +151,7 @@ impl<'a, 't> Steps<'a, 't> {
     fn add_attribute(&mut self, a: &'t Attribute<'a>) -> Result<(), AllocError>
         ensures { OnOk result (steps_in self.new ≡ steps_in self.old ++ attribute_steps a.now) }
     {
-        done!(self.add_param_type(&a.attribute_type));
+        self.add_param_type(&a.attribute_type)?;
         self.add_attributes(&a.declared)
     }
 
@@ -168,9 +159,9 @@ impl<'a, 't> Steps<'a, 't> {
     fn add_param(&mut self, identifier: Leaf<'a>, param: &'t Param<'a>) -> Result<(), AllocError>
         ensures { OnOk result (steps_in self.new ≡ steps_in self.old ++ param_steps identifier.entry param.now) }
     {
-        done!(self.add_param_type(&param.param_type));
-        done!(self.asks(LeafStep::Enters, identifier));
-        done!(self.asks(LeafStep::HasMember, param.identifier));
+        self.add_param_type(&param.param_type)?;
+        self.enters(identifier)?;
+        self.push(Step::HasMember(param.identifier))?;
         self.leaves()
     }
 
@@ -185,10 +176,8 @@ impl<'a, 't> Steps<'a, 't> {
         let Some(params) = params else {
             return Ok(());
         };
-        done!(self.add_param(identifier, &params.first));
-        let rest = params.rest.as_slice();
-        for param in rest {
-            done!(self.add_param(identifier, param));
+        for param in params.iter() {
+            self.add_param(identifier, param)?;
         }
         Ok(())
     }
@@ -205,12 +194,9 @@ impl<'a, 't> Steps<'a, 't> {
     fn add_operation(&mut self, o: &'t Operation<'a>) -> Result<(), AllocError>
         ensures { OnOk result (steps_in self.new ≡ steps_in self.old ++ operation_steps o.now) }
     {
-        done!(self.add_result(&o.result_type));
-        done!(self.asks(
-            LeafStep::DeclaresFeature(EntryKind::Operation),
-            o.identifier,
-        ));
-        done!(self.add_params(o.identifier, &o.params));
+        self.add_result(&o.result_type)?;
+        self.declares_feature(EntryKind::Operation, o.identifier)?;
+        self.add_params(o.identifier, &o.params)?;
         self.add_optional_raises(&o.raises)
     }
 
@@ -218,7 +204,7 @@ impl<'a, 't> Steps<'a, 't> {
         ensures { OnOk result (steps_in self.new ≡ steps_in self.old ++ export_steps export.now) }
     {
         match export {
-            Export::Pragma(leaf) => self.asks(LeafStep::Says, *leaf),
+            Export::Pragma(leaf) => self.push(Step::Says(*leaf)),
             Export::Declaration(d) => self.add_declaration(d),
             Export::Attribute(a) => self.add_attribute(a),
             Export::Operation(o) => self.add_operation(o),
@@ -237,10 +223,8 @@ impl<'a, 't> Steps<'a, 't> {
         let Some(names) = names else {
             return Ok(());
         };
-        done!(self.has_base(identifier, &names.first));
-        let rest = names.rest.as_slice();
-        for name in rest {
-            done!(self.has_base(identifier, name));
+        for name in names.iter() {
+            self.push(Step::HasBase(identifier, name))?;
         }
         Ok(())
     }
@@ -249,7 +233,7 @@ impl<'a, 't> Steps<'a, 't> {
         ensures { OnOk result (steps_in self.new ≡ steps_in self.old ++ flat_map export_steps exports.now) }
     {
         for export in exports {
-            done!(self.add_export(export));
+            self.add_export(export)?;
         }
         Ok(())
     }
@@ -264,8 +248,8 @@ impl<'a, 't> Steps<'a, 't> {
             steps_in self.old ++ DeclaresStep EntryKind.Interface identifier.entry
             ∷ UndefinedStep identifier.entry ∷ map (BaseStep identifier.entry) (optional_parts bases.now)) }
     {
-        done!(self.asks(LeafStep::Declares(EntryKind::Interface), identifier));
-        done!(self.asks(LeafStep::IsUndefined, identifier));
+        self.declares(EntryKind::Interface, identifier)?;
+        self.push(Step::IsUndefined(identifier))?;
         self.add_bases(identifier, bases)
     }
 
@@ -278,9 +262,9 @@ impl<'a, 't> Steps<'a, 't> {
         ensures { OnOk result (steps_in self.new ≡ steps_in self.old ++ EntersStep identifier.entry
             ∷ DefinesStep identifier.entry ∷ flat_map export_steps exports.now ++ LeavesStep ∷ []) }
     {
-        done!(self.asks(LeafStep::Enters, identifier));
-        done!(self.asks(LeafStep::Defines, identifier));
-        done!(self.add_exports(exports));
+        self.enters(identifier)?;
+        self.push(Step::Defines(identifier))?;
+        self.add_exports(exports)?;
         self.leaves()
     }
 
@@ -288,13 +272,13 @@ impl<'a, 't> Steps<'a, 't> {
         ensures { OnOk result (steps_in self.new ≡ steps_in self.old ++ interface_steps i.now) }
     {
         match i {
-            Interface::Ahead(id) => self.asks(LeafStep::Declares(EntryKind::Interface), *id),
+            Interface::Ahead(id) => self.declares(EntryKind::Interface, *id),
             Interface::Defined {
                 identifier,
                 bases,
                 exports,
             } => {
-                done!(self.add_head(*identifier, bases));
+                self.add_head(*identifier, bases)?;
                 self.add_body(*identifier, exports.as_slice())
             }
         }
@@ -305,7 +289,7 @@ impl<'a, 't> Steps<'a, 't> {
         ensures { OnOk result (steps_in self.new ≡ steps_in self.old ++ flat_steps d.now) }
     {
         match d {
-            Definition::Pragma(leaf) => self.asks(LeafStep::Says, *leaf),
+            Definition::Pragma(leaf) => self.push(Step::Says(*leaf)),
             Definition::Declaration(d) => self.add_declaration(d),
             Definition::Interface(i) => self.add_interface(i),
             Definition::Module(_) => Ok(()),
