@@ -68,7 +68,7 @@ def names(test, count):
     listed = test.call([PROGRAM, "explain"])
     lines = listed.out.splitlines()
     numbers = [int(line.split()[0]) for line in lines]
-    count.add(listed.status == 0 and numbers == sorted(set(numbers)) and len(lines) == 68, f"explain: {listed.out}")
+    count.add(listed.status == 0 and numbers == sorted(set(numbers)) and len(lines) == 83, f"explain: {listed.out}")
     for line in lines:
         number, name = line.split(" ")
         text = test.call([PROGRAM, "explain", number]).out
@@ -81,6 +81,23 @@ def names(test, count):
     wanted = (2, "", "idlc: no refusal has the name Nothing\n")
     count.add((done.status, done.out, done.err) == wanted, f"explain Nothing: {done.status} {done.out}{done.err}")
 
+
+
+def texts(test, count):
+    """The texts of values in explanations get their refusals, and the mended ones none. 123 has too long an input."""
+    folder = test.room / "texts"
+    folder.mkdir()
+    for number in (*range(110, 123), 124):
+        told = test.call([PROGRAM, "explain", number]).out
+        name, idl, mended = re.search(r"text for (\w+) of the IDL (.*)\n(?s:.*)\n    (.*)\n$", told).groups()
+        (folder / "t.idl").write_text(f"{idl}\n")
+        place = (PROGRAM, "encode", "t.idl", name, "big", "0")
+        done = test.call([*place, f"--text={mended}"], cwd=folder)
+        count.add(done.status == 0, f"{number}: {mended}: {done.err}")
+        wrong = re.search(r"\nInput, .*\n    (.*)\n", told)
+        if wrong:
+            done = test.call([*place, f"--text={wrong[1]}"], cwd=folder)
+            count.add(done.status == 1 and done.err.startswith(f"idlc: {number} "), f"{number}: {wrong[1]}: {done.err}")
 
 
 def sources():
@@ -96,6 +113,7 @@ def run(test):
     count = Count(0, [])
     views(test, count)
     names(test, count)
+    texts(test, count)
     version = (TOP / "VERSION").read_text().strip()
     done = test.call([PROGRAM, "--version"])
     is_right = done.out.startswith(f"idlc {version}, rattle-kit-") and done.status == 0

@@ -60,7 +60,7 @@ REFUSED = [
     ("Point", '{"x":3}', "121 MemberMissing line 1 column 7"),
     ("Flags", "[true,true,true]", "122 WrongCount line 1 column 12"),
     ("Pair", "[1]", "122 WrongCount line 1 column 3"),
-    ("Point", "[1,2] 3", "124 TextBehind line 1 column 7"),
+    ("Point", "[1,2] 3", "110 NotJson line 1 column 7"),
 ]
 
 OUTLINES = [
@@ -125,7 +125,7 @@ def sources(runs):
     runs.expect(0, made, "", "check", "s.idl")
     runs.expect(0, "0000000100000002", "", "encode", "s.table", "Point", "big", "0", "--text", "[1,2]")
     runs.expect(0, "8 [1,2]", "", "decode", "s.table", "Point", "big", "0", "0000000100000002", "--text")
-    runs.expect(1, "", "idlc: 119 NoSuchMember line 1 column 2", "encode", "s.table", "Point", "big", "0", '--text={"x":1,"y":2}')
+    runs.expect(1, "", "idlc: 118 NotMembers line 1 column 1", "encode", "s.table", "Point", "big", "0", '--text={"x":1,"y":2}')
     (runs.folder / "bad.idl").write_text("struct S {T t;};\n")
     runs.expect(1, "", "idlc: 20 Unknown line 1", "check", "bad.idl")
     status, listed, _ = runs.call("show", "s.idl", "--types")

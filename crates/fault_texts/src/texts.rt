@@ -77,7 +77,8 @@ Mended, a text for the same:
 ";
 
 const NOT_MEMBERS: &str = "118 NotMembers
-A structure is an object of its members, or the list of them in order.
+A structure is an object of its members, or the list of them in order. Where only a table is at
+hand no names are known, and it is the list.
 Input, a text for P of the IDL struct P {long x;};
     3
 To mend it: name the member.
@@ -86,7 +87,7 @@ Mended, a text for the same:
 ";
 
 const NO_SUCH_MEMBER: &str = "119 NoSuchMember
-A structure has no member of that name, in that case; where only a table is at hand, none has one.
+A structure has no member of that name, in that case.
 Input, a text for P of the IDL struct P {long x;};
     {\"y\":3}
 To mend it: write the name as the IDL has it, or the members as a list.
@@ -130,10 +131,9 @@ Mended: one that is 64 deep.
 
 const TEXT_BEHIND: &str = "124 TextBehind
 Something stands behind the value.
-Input, a text for P of the IDL struct P {long x;};
-    {\"x\":3} 4
+Input: none is known; what stands behind a value is told as 110 already.
 To mend it: write one value alone.
-Mended, a text for the same:
+Mended, a text for P of the IDL struct P {long x;};
     {\"x\":3}
 ";
 
