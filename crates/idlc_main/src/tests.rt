@@ -139,7 +139,7 @@ fn upgrades_to_devices(rt: HostRuntime) {
         3,
         "cannot write /dev/full",
     );
-    refuse(&rt, "check /dev/null", 1, "50 NotATable");
+    expect(&rt, "idlc check /dev/null", 0, "accepted 14\n", "");
     refuse(&rt, "check /dev", 3, "cannot read /dev");
     refuse(
         &rt,
@@ -148,6 +148,8 @@ fn upgrades_to_devices(rt: HostRuntime) {
         "cannot read none.table",
     );
     refuse(&rt, "show /dev/zero", 1, "too long");
+    let unnamed = "a value is HEX or --text TEXT";
+    refuse(&rt, "encode builtin S big 0", 2, unnamed);
 }
 
 #[test]
@@ -229,7 +231,7 @@ fn refuses_other_words(rt: HostRuntime) {
     let rows = [
         ("idlc", false),
         ("idlc recode builtin S big 0 00", false),
-        ("idlc encode builtin S big 0", false),
+        ("idlc decode builtin S big 0", false),
         ("idlc encode builtin S big 0 00 00", false),
         ("idlc decode builtin S big 18446744073709551616 00", false),
         ("idlc decode builtin S big -1 00", false),
