@@ -1,11 +1,23 @@
 """Runs the proved program on values as text."""
+import importlib.util
 import json
+import pathlib
 import random
 import subprocess
 
 from driver.suite import Count
 from driver.workspace import TOP
-from values import Elements, Octets, text, types
+
+
+def sibling(name):
+    """The module of that name in this folder."""
+    spec = importlib.util.spec_from_file_location(name, pathlib.Path(__file__).with_name(f"{name}.py"))
+    module = importlib.util.module_from_spec(spec)
+    spec.loader.exec_module(module)
+    return module
+
+
+VALUES = sibling("values")
 
 PROGRAM = TOP / "crates" / "idlc_main" / "out" / "idlc_main"
 
@@ -148,15 +160,15 @@ def hostile(runs):
 def random_values(runs, rng, rounds, kinds, values):
     """Each declared type's values in sequences of 50: their octets are those of plain CDR, and their text comes back."""
     for _ in range(rounds):
-        declared = types(rng, kinds)
-        lists = [Elements(f"L{number}", kind, 0) for number, kind in enumerate(declared)]
+        declared = VALUES.types(rng, kinds)
+        lists = [VALUES.Elements(f"L{number}", kind, 0) for number, kind in enumerate(declared)]
         (runs.folder / "random.idl").write_text("".join(f"{it.declared}\n" for it in [*declared, *lists]))
         for kind, many in zip(declared, lists):
             batch = [kind.random(rng) for _ in range(values)]
             order, position = rng.choice(["big", "little"]), rng.choice([0, 1, 3, 12, 2**40 + 5])
-            octets = Octets(order, position)
+            octets = VALUES.Octets(order, position)
             many.write(octets, batch)
-            (runs.folder / "value.json").write_text(text(rng, batch), encoding="utf-8")
+            (runs.folder / "value.json").write_text(VALUES.text(rng, batch), encoding="utf-8")
             place = ("random.idl", many.idl, order, str(position))
             wanted = (0, f"{octets.all.hex()}\n", "")
             told = runs.call("encode", *place, "--text", "@value.json")
