@@ -89,7 +89,7 @@ def texts(test, count):
     folder.mkdir()
     for number in (*range(110, 123), 124):
         told = test.call([PROGRAM, "explain", number]).out
-        name, idl, mended = re.search(r"text for (\w+) of the IDL (.*)\n(?s:.*)\n    (.*)\n$", told).groups()
+        name, idl, mended = re.search(r"text for (\w+) of the IDL (.*)\n(?s:.*)    (.*)\n$", told).groups()
         (folder / "t.idl").write_text(f"{idl}\n")
         place = (PROGRAM, "encode", "t.idl", name, "big", "0")
         done = test.call([*place, f"--text={mended}"], cwd=folder)
