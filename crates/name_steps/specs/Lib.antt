@@ -2,3 +2,4 @@
 pub mod Steps
 pub mod Asked
 pub mod StepsKept
+pub mod inner

@@ -6,7 +6,7 @@ ghost use Rattle.idl_tree.specs.Lists.{parts};
 ghost use Rattle.name_steps.specs.StepsKept.{flat_steps, steps_in};
 ghost use Rattle.name_steps.specs.Steps.{attribute_steps, attributes_steps, const_steps, declaration_steps, except_steps, export_steps, interface_steps, operation_steps, optional_parts, param_steps, raises_steps, result_steps, type_dcl_steps, typedef_steps, Declares as DeclaresStep, DeclaresFeature as FeatureStep, IsUndefined as UndefinedStep, HasBase as BaseStep, Enters as EntersStep, Defines as DefinesStep, Leaves as LeavesStep};
 
-use crate::step::{Step, Steps};
+use crate::step::{LeafStep, NameStep, Steps};
 use idl_tree::definitions::{
     Attribute, Attributes, Const, Declaration, Definition, Except, Export, Interface, Operation,
     Param, TypeDcl,
@@ -24,7 +24,7 @@ impl<'a, 't> Steps<'a, 't> {
     ) -> Result<(), AllocError>
         ensures { OnOk result (steps_in self.new ≡ steps_in self.old ++ typedef_steps original.now declarator.now) }
     {
-        self.push(Step::DeclaresTypedef(original, declarator))?;
+        done!(self.declares_typedef(original, declarator));
         self.add_sizes(declarator.sizes.as_slice())
     }
 
@@ -36,8 +36,10 @@ impl<'a, 't> Steps<'a, 't> {
         ensures { OnOk result (steps_in self.new ≡
             steps_in self.old ++ flat_map (typedef_steps original.now) (parts declarators.now)) }
     {
-        for declarator in declarators.iter() {
-            self.add_typedef(original, declarator)?;
+        done!(self.add_typedef(original, &declarators.first));
+        let rest = declarators.rest.as_slice();
+        for declarator in rest {
+            done!(self.add_typedef(original, declarator));
         }
         Ok(())
     }
@@ -50,31 +52,31 @@ impl<'a, 't> Steps<'a, 't> {
                 original,
                 declarators,
             } => {
-                self.add_type(original)?;
+                done!(self.add_type(original));
                 self.add_typedefs(original, declarators)
             }
             TypeDcl::Struct(s) => self.add_struct(s),
             TypeDcl::Union(u) => self.add_union(u),
             TypeDcl::Enum(e) => self.add_enum(e),
-            TypeDcl::StructAhead(id) => self.declares(EntryKind::Struct, *id),
-            TypeDcl::UnionAhead(id) => self.declares(EntryKind::Union, *id),
+            TypeDcl::StructAhead(id) => self.asks(LeafStep::Declares(EntryKind::Struct), *id),
+            TypeDcl::UnionAhead(id) => self.asks(LeafStep::Declares(EntryKind::Union), *id),
         }
     }
 
     fn add_const(&mut self, c: &'t Const<'a>) -> Result<(), AllocError>
         ensures { OnOk result (steps_in self.new ≡ steps_in self.old ++ const_steps c.now) }
     {
-        self.add_const_type(&c.const_type)?;
-        self.push(Step::IsNew(c.identifier))?;
-        self.push(Step::DeclaresConst(c))
+        done!(self.add_const_type(&c.const_type));
+        done!(self.asks(LeafStep::IsNew, c.identifier));
+        self.declares_const(c)
     }
 
     fn add_except(&mut self, e: &'t Except<'a>) -> Result<(), AllocError>
         ensures { OnOk result (steps_in self.new ≡ steps_in self.old ++ except_steps e.now) }
     {
-        self.declares(EntryKind::Exception, e.identifier)?;
-        self.enters(e.identifier)?;
-        self.add_members(e.members.as_slice())?;
+        done!(self.asks(LeafStep::Declares(EntryKind::Exception), e.identifier));
+        done!(self.asks(LeafStep::Enters, e.identifier));
+        done!(self.add_members(e.members.as_slice()));
         self.leaves()
     }
 
@@ -91,8 +93,10 @@ impl<'a, 't> Steps<'a, 't> {
     fn add_raises(&mut self, names: &'t Listed<ScopedName<'a>>) -> Result<(), AllocError>
         ensures { OnOk result (steps_in self.new ≡ steps_in self.old ++ raises_steps (parts names.now)) }
     {
-        for name in names.iter() {
-            self.push(Step::NamesException(name))?;
+        done!(self.asks_of_name(NameStep::IsException, &names.first));
+        let rest = names.rest.as_slice();
+        for name in rest {
+            done!(self.asks_of_name(NameStep::IsException, name));
         }
         Ok(())
     }
@@ -114,8 +118,13 @@ impl<'a, 't> Steps<'a, 't> {
         ensures { OnOk result (steps_in self.new ≡
             steps_in self.old ++ map (FeatureStep EntryKind.Attribute) (parts identifiers.now)) }
     {
-        for identifier in identifiers.iter() {
-            self.declares_feature(EntryKind::Attribute, *identifier)?;
+        done!(self.asks(
+            LeafStep::DeclaresFeature(EntryKind::Attribute),
+            identifiers.first
+        ));
+        let rest = identifiers.rest.as_slice();
+        for identifier in rest {
+            done!(self.asks(LeafStep::DeclaresFeature(EntryKind::Attribute), *identifier));
         }
         Ok(())
     }
@@ -133,7 +142,7 @@ impl<'a, 't> Steps<'a, 't> {
                 identifier,
                 set: names,
             } => {
-                self.declares_feature(EntryKind::Attribute, *identifier)?;
+                done!(self.asks(LeafStep::DeclaresFeature(EntryKind::Attribute), *identifier));
                 self.add_raises(names)
             }
             Attributes::Get {
@@ -141,8 +150,8 @@ impl<'a, 't> Steps<'a, 't> {
                 get,
                 set,
             } => {
-                self.declares_feature(EntryKind::Attribute, *identifier)?;
-                self.add_raises(get)?;
+                done!(self.asks(LeafStep::DeclaresFeature(EntryKind::Attribute), *identifier));
+                done!(self.add_raises(get));
                 self.add_optional_raises(set)
             }
         }
@@ -151,7 +160,7 @@ impl<'a, 't> Steps<'a, 't> {
     fn add_attribute(&mut self, a: &'t Attribute<'a>) -> Result<(), AllocError>
         ensures { OnOk result (steps_in self.new ≡ steps_in self.old ++ attribute_steps a.now) }
     {
-        self.add_param_type(&a.attribute_type)?;
+        done!(self.add_param_type(&a.attribute_type));
         self.add_attributes(&a.declared)
     }
 
@@ -159,9 +168,9 @@ impl<'a, 't> Steps<'a, 't> {
     fn add_param(&mut self, identifier: Leaf<'a>, param: &'t Param<'a>) -> Result<(), AllocError>
         ensures { OnOk result (steps_in self.new ≡ steps_in self.old ++ param_steps identifier.entry param.now) }
     {
-        self.add_param_type(&param.param_type)?;
-        self.enters(identifier)?;
-        self.push(Step::HasMember(param.identifier))?;
+        done!(self.add_param_type(&param.param_type));
+        done!(self.asks(LeafStep::Enters, identifier));
+        done!(self.asks(LeafStep::HasMember, param.identifier));
         self.leaves()
     }
 
@@ -176,8 +185,10 @@ impl<'a, 't> Steps<'a, 't> {
         let Some(params) = params else {
             return Ok(());
         };
-        for param in params.iter() {
-            self.add_param(identifier, param)?;
+        done!(self.add_param(identifier, &params.first));
+        let rest = params.rest.as_slice();
+        for param in rest {
+            done!(self.add_param(identifier, param));
         }
         Ok(())
     }
@@ -194,9 +205,12 @@ impl<'a, 't> Steps<'a, 't> {
     fn add_operation(&mut self, o: &'t Operation<'a>) -> Result<(), AllocError>
         ensures { OnOk result (steps_in self.new ≡ steps_in self.old ++ operation_steps o.now) }
     {
-        self.add_result(&o.result_type)?;
-        self.declares_feature(EntryKind::Operation, o.identifier)?;
-        self.add_params(o.identifier, &o.params)?;
+        done!(self.add_result(&o.result_type));
+        done!(self.asks(
+            LeafStep::DeclaresFeature(EntryKind::Operation),
+            o.identifier,
+        ));
+        done!(self.add_params(o.identifier, &o.params));
         self.add_optional_raises(&o.raises)
     }
 
@@ -204,7 +218,7 @@ impl<'a, 't> Steps<'a, 't> {
         ensures { OnOk result (steps_in self.new ≡ steps_in self.old ++ export_steps export.now) }
     {
         match export {
-            Export::Pragma(leaf) => self.push(Step::Says(*leaf)),
+            Export::Pragma(leaf) => self.asks(LeafStep::Says, *leaf),
             Export::Declaration(d) => self.add_declaration(d),
             Export::Attribute(a) => self.add_attribute(a),
             Export::Operation(o) => self.add_operation(o),
@@ -223,8 +237,10 @@ impl<'a, 't> Steps<'a, 't> {
         let Some(names) = names else {
             return Ok(());
         };
-        for name in names.iter() {
-            self.push(Step::HasBase(identifier, name))?;
+        done!(self.has_base(identifier, &names.first));
+        let rest = names.rest.as_slice();
+        for name in rest {
+            done!(self.has_base(identifier, name));
         }
         Ok(())
     }
@@ -233,7 +249,7 @@ impl<'a, 't> Steps<'a, 't> {
         ensures { OnOk result (steps_in self.new ≡ steps_in self.old ++ flat_map export_steps exports.now) }
     {
         for export in exports {
-            self.add_export(export)?;
+            done!(self.add_export(export));
         }
         Ok(())
     }
@@ -248,8 +264,8 @@ impl<'a, 't> Steps<'a, 't> {
             steps_in self.old ++ DeclaresStep EntryKind.Interface identifier.entry
             ∷ UndefinedStep identifier.entry ∷ map (BaseStep identifier.entry) (optional_parts bases.now)) }
     {
-        self.declares(EntryKind::Interface, identifier)?;
-        self.push(Step::IsUndefined(identifier))?;
+        done!(self.asks(LeafStep::Declares(EntryKind::Interface), identifier));
+        done!(self.asks(LeafStep::IsUndefined, identifier));
         self.add_bases(identifier, bases)
     }
 
@@ -262,9 +278,9 @@ impl<'a, 't> Steps<'a, 't> {
         ensures { OnOk result (steps_in self.new ≡ steps_in self.old ++ EntersStep identifier.entry
             ∷ DefinesStep identifier.entry ∷ flat_map export_steps exports.now ++ LeavesStep ∷ []) }
     {
-        self.enters(identifier)?;
-        self.push(Step::Defines(identifier))?;
-        self.add_exports(exports)?;
+        done!(self.asks(LeafStep::Enters, identifier));
+        done!(self.asks(LeafStep::Defines, identifier));
+        done!(self.add_exports(exports));
         self.leaves()
     }
 
@@ -272,13 +288,13 @@ impl<'a, 't> Steps<'a, 't> {
         ensures { OnOk result (steps_in self.new ≡ steps_in self.old ++ interface_steps i.now) }
     {
         match i {
-            Interface::Ahead(id) => self.declares(EntryKind::Interface, *id),
+            Interface::Ahead(id) => self.asks(LeafStep::Declares(EntryKind::Interface), *id),
             Interface::Defined {
                 identifier,
                 bases,
                 exports,
             } => {
-                self.add_head(*identifier, bases)?;
+                done!(self.add_head(*identifier, bases));
                 self.add_body(*identifier, exports.as_slice())
             }
         }
@@ -289,7 +305,7 @@ impl<'a, 't> Steps<'a, 't> {
         ensures { OnOk result (steps_in self.new ≡ steps_in self.old ++ flat_steps d.now) }
     {
         match d {
-            Definition::Pragma(leaf) => self.push(Step::Says(*leaf)),
+            Definition::Pragma(leaf) => self.asks(LeafStep::Says, *leaf),
             Definition::Declaration(d) => self.add_declaration(d),
             Definition::Interface(i) => self.add_interface(i),
             Definition::Module(_) => Ok(()),

@@ -2,6 +2,16 @@
 //! 19500-1, names and scoping).
 #![tactic(auto)]
 
+/// Where memory was refused, the function stops: the `match` that `?` is short for.
+macro_rules! done {
+    ($added:expr) => {
+        match $added {
+            Ok(()) => {}
+            Err(refused) => return Err(refused),
+        }
+    };
+}
+
 mod declaration_steps;
 pub mod laws;
 pub mod step;

@@ -1,8 +1,9 @@
 //! What a specification asks of its names, step by step.
 
 ghost use Rattle.std.specs.Prelude.{◌≡◌, ◌++◌, ◌∷◌, [], OnOk};
-ghost use Rattle.name_steps.specs.Steps.{Declares as DeclaresStep, DeclaresFeature as FeatureStep, Enters as EntersStep, Leaves as LeavesStep};
+ghost use Rattle.name_steps.specs.Steps.{DeclaresConst as ConstStep, DeclaresTypedef as TypedefStep, HasBase as BaseStep, Leaves as LeavesStep};
 ghost use Rattle.name_steps.specs.StepsKept.{step_of, steps_in};
+ghost use Rattle.name_steps.specs.inner.StepsAsked.{expr_step, leaf_step, name_step};
 
 use idl_tree::definitions::Const;
 use idl_tree::expression::Expr;
@@ -43,6 +44,38 @@ pub enum Step<'a, 't> {
     Says(Leaf<'a>),
 }
 
+/// What an identifier or a pragma asks alone.
+#[derive(Clone, Copy)]
+pub(crate) enum LeafStep {
+    Declares(EntryKind),
+    DeclaresEnum,
+    DeclaresEnumerator,
+    IsNew,
+    DeclaresFeature(EntryKind),
+    HasMember,
+    IsUndefined,
+    Enters,
+    Defines,
+    Says,
+}
+
+/// What a name asks.
+#[derive(Clone, Copy)]
+pub(crate) enum NameStep {
+    IsType,
+    IsException,
+}
+
+/// What an expression asks.
+#[derive(Clone, Copy)]
+pub(crate) enum ExprStep {
+    HasWorth,
+    IsSize,
+}
+
+// Few functions hold a `Step`: each that does takes the check seconds, since what is generated for it
+// lists the whole type at each of its places.
+
 // `'a` stands before `'t`, so that it is the second lifetime in each method, as in functions over a
 // part of the tree: a call whose sides count it differently takes the check up to twenty seconds.
 
@@ -75,7 +108,7 @@ impl<'a, 't> Steps<'a, 't> {
     }
 
     /// One step more.
-    pub(crate) fn push(&mut self, step: Step<'a, 't>) -> Result<(), AllocError>
+    fn push(&mut self, step: Step<'a, 't>) -> Result<(), AllocError>
         ensures { OnOk result (steps_in self.new ≡ steps_in self.old ++ step_of step.entry ∷ []) }
     {
         match self.list.push(step) {
@@ -84,33 +117,82 @@ impl<'a, 't> Steps<'a, 't> {
         }
     }
 
-    /// An identifier is declared as something of the kind.
-    pub(crate) fn declares(
-        &mut self,
-        kind: EntryKind,
-        identifier: Leaf<'a>,
-    ) -> Result<(), AllocError>
-        ensures { OnOk result (steps_in self.new ≡ steps_in self.old ++ DeclaresStep kind identifier.entry ∷ []) }
+    /// What an identifier or a pragma asks.
+    pub(crate) fn asks(&mut self, what: LeafStep, leaf: Leaf<'a>) -> Result<(), AllocError>
+        ensures { OnOk result (steps_in self.new ≡ steps_in self.old ++ leaf_step what leaf.entry ∷ []) }
     {
-        self.push(Step::Declares(kind, identifier))
+        let step = match what {
+            LeafStep::Declares(kind) => Step::Declares(kind, leaf),
+            LeafStep::DeclaresEnum => Step::DeclaresEnum(leaf),
+            LeafStep::DeclaresEnumerator => Step::DeclaresEnumerator(leaf),
+            LeafStep::IsNew => Step::IsNew(leaf),
+            LeafStep::DeclaresFeature(kind) => Step::DeclaresFeature(kind, leaf),
+            LeafStep::HasMember => Step::HasMember(leaf),
+            LeafStep::IsUndefined => Step::IsUndefined(leaf),
+            LeafStep::Enters => Step::Enters(leaf),
+            LeafStep::Defines => Step::Defines(leaf),
+            LeafStep::Says => Step::Says(leaf),
+        };
+        self.push(step)
     }
 
-    /// An operation or attribute is declared.
-    pub(crate) fn declares_feature(
+    /// What a name asks.
+    pub(crate) fn asks_of_name(
         &mut self,
-        kind: EntryKind,
-        identifier: Leaf<'a>,
+        what: NameStep,
+        name: &'t ScopedName<'a>,
     ) -> Result<(), AllocError>
-        ensures { OnOk result (steps_in self.new ≡ steps_in self.old ++ FeatureStep kind identifier.entry ∷ []) }
+        ensures { OnOk result (steps_in self.new ≡ steps_in self.old ++ name_step what name.now ∷ []) }
     {
-        self.push(Step::DeclaresFeature(kind, identifier))
+        let step = match what {
+            NameStep::IsType => Step::NamesType(name),
+            NameStep::IsException => Step::NamesException(name),
+        };
+        self.push(step)
     }
 
-    /// The scope of an identifier is entered.
-    pub(crate) fn enters(&mut self, identifier: Leaf<'a>) -> Result<(), AllocError>
-        ensures { OnOk result (steps_in self.new ≡ steps_in self.old ++ EntersStep identifier.entry ∷ []) }
+    /// What an expression asks.
+    pub(crate) fn asks_of_expr(
+        &mut self,
+        what: ExprStep,
+        expr: &'t Expr<'a>,
+    ) -> Result<(), AllocError>
+        ensures { OnOk result (steps_in self.new ≡ steps_in self.old ++ expr_step what expr.now ∷ []) }
     {
-        self.push(Step::Enters(identifier))
+        let step = match what {
+            ExprStep::HasWorth => Step::HasWorth(expr),
+            ExprStep::IsSize => Step::IsSize(expr),
+        };
+        self.push(step)
+    }
+
+    /// A name for a type, or for an array of it.
+    pub(crate) fn declares_typedef(
+        &mut self,
+        original: &'t TypeSpec<'a>,
+        declarator: &'t Declarator<'a>,
+    ) -> Result<(), AllocError>
+        ensures { OnOk result (steps_in self.new ≡
+            steps_in self.old ++ TypedefStep original.now declarator.now ∷ []) }
+    {
+        self.push(Step::DeclaresTypedef(original, declarator))
+    }
+
+    pub(crate) fn declares_const(&mut self, c: &'t Const<'a>) -> Result<(), AllocError>
+        ensures { OnOk result (steps_in self.new ≡ steps_in self.old ++ ConstStep c.now ∷ []) }
+    {
+        self.push(Step::DeclaresConst(c))
+    }
+
+    /// The interface of the identifier gets a base.
+    pub(crate) fn has_base(
+        &mut self,
+        identifier: Leaf<'a>,
+        name: &'t ScopedName<'a>,
+    ) -> Result<(), AllocError>
+        ensures { OnOk result (steps_in self.new ≡ steps_in self.old ++ BaseStep identifier.entry name.now ∷ []) }
+    {
+        self.push(Step::HasBase(identifier, name))
     }
 
     /// The scope is left.

@@ -6,7 +6,7 @@ ghost use Rattle.idl_tree.specs.Lists.{parts};
 ghost use Rattle.name_steps.specs.StepsKept.{steps_in};
 ghost use Rattle.name_steps.specs.Steps.{bound_steps, case_steps, const_type_steps, declarator_steps, enum_steps, label_steps, member_steps, opening, param_type_steps, simple_type_steps, size_step, struct_steps, switch_steps, type_steps, union_steps, DeclaresEnumerator as EnumeratorStep};
 
-use crate::step::{Step, Steps};
+use crate::step::{ExprStep, LeafStep, NameStep, Steps};
 use idl_tree::const_expr::{Bound, ConstExpr};
 use idl_tree::kinds::EntryKind;
 use idl_tree::names::{Leaf, Listed};
@@ -21,7 +21,7 @@ impl<'a, 't> Steps<'a, 't> {
         ensures { OnOk result (steps_in self.new ≡ steps_in self.old ++ bound_steps bound.now) }
     {
         match bound {
-            Some(bound) => self.push(Step::IsSize(&bound.expr)),
+            Some(bound) => self.asks_of_expr(ExprStep::IsSize, &bound.expr),
             None => Ok(()),
         }
     }
@@ -35,7 +35,7 @@ impl<'a, 't> Steps<'a, 't> {
                 Ok(())
             }
             ConstType::String(bound) => self.add_bound(bound),
-            ConstType::Name(name) => self.push(Step::NamesType(name)),
+            ConstType::Name(name) => self.asks_of_name(NameStep::IsType, name),
         }
     }
 
@@ -55,7 +55,7 @@ impl<'a, 't> Steps<'a, 't> {
         match t {
             SimpleType::Plain(plain) => self.add_param_type(plain),
             SimpleType::Sequence { element, bound } => {
-                self.add_simple_type(element)?;
+                done!(self.add_simple_type(element));
                 self.add_bound(bound)
             }
         }
@@ -66,7 +66,7 @@ impl<'a, 't> Steps<'a, 't> {
         ensures { OnOk result (steps_in self.new ≡ steps_in self.old ++ map size_step sizes.now) }
     {
         for size in sizes {
-            self.push(Step::IsSize(&size.expr))?;
+            done!(self.asks_of_expr(ExprStep::IsSize, &size.expr));
         }
         Ok(())
     }
@@ -75,15 +75,17 @@ impl<'a, 't> Steps<'a, 't> {
     fn add_declarator(&mut self, d: &'t Declarator<'a>) -> Result<(), AllocError>
         ensures { OnOk result (steps_in self.new ≡ steps_in self.old ++ declarator_steps d.now) }
     {
-        self.push(Step::HasMember(d.identifier))?;
+        done!(self.asks(LeafStep::HasMember, d.identifier));
         self.add_sizes(d.sizes.as_slice())
     }
 
     fn add_declarators(&mut self, list: &'t Listed<Declarator<'a>>) -> Result<(), AllocError>
         ensures { OnOk result (steps_in self.new ≡ steps_in self.old ++ flat_map declarator_steps (parts list.now)) }
     {
-        for declarator in list.iter() {
-            self.add_declarator(declarator)?;
+        done!(self.add_declarator(&list.first));
+        let rest = list.rest.as_slice();
+        for declarator in rest {
+            done!(self.add_declarator(declarator));
         }
         Ok(())
     }
@@ -92,7 +94,7 @@ impl<'a, 't> Steps<'a, 't> {
         ensures { OnOk result (steps_in self.new ≡ steps_in self.old ++ label_steps label.now) }
     {
         match label {
-            Label::Case(value) => self.push(Step::HasWorth(&value.expr)),
+            Label::Case(value) => self.asks_of_expr(ExprStep::HasWorth, &value.expr),
             Label::Default(_) => Ok(()),
         }
     }
@@ -100,8 +102,10 @@ impl<'a, 't> Steps<'a, 't> {
     fn add_labels(&mut self, labels: &'t Listed<Label<'a>>) -> Result<(), AllocError>
         ensures { OnOk result (steps_in self.new ≡ steps_in self.old ++ flat_map label_steps (parts labels.now)) }
     {
-        for label in labels.iter() {
-            self.add_label(label)?;
+        done!(self.add_label(&labels.first));
+        let rest = labels.rest.as_slice();
+        for label in rest {
+            done!(self.add_label(label));
         }
         Ok(())
     }
@@ -109,8 +113,10 @@ impl<'a, 't> Steps<'a, 't> {
     fn add_enumerators(&mut self, list: &'t Listed<Leaf<'a>>) -> Result<(), AllocError>
         ensures { OnOk result (steps_in self.new ≡ steps_in self.old ++ map EnumeratorStep (parts list.now)) }
     {
-        for identifier in list.iter() {
-            self.push(Step::DeclaresEnumerator(*identifier))?;
+        done!(self.asks(LeafStep::DeclaresEnumerator, list.first));
+        let rest = list.rest.as_slice();
+        for identifier in rest {
+            done!(self.asks(LeafStep::DeclaresEnumerator, *identifier));
         }
         Ok(())
     }
@@ -118,7 +124,7 @@ impl<'a, 't> Steps<'a, 't> {
     pub(crate) fn add_enum(&mut self, e: &'t EnumType<'a>) -> Result<(), AllocError>
         ensures { OnOk result (steps_in self.new ≡ steps_in self.old ++ enum_steps e.now) }
     {
-        self.push(Step::DeclaresEnum(e.identifier))?;
+        done!(self.asks(LeafStep::DeclaresEnum, e.identifier));
         self.add_enumerators(&e.enumerators)
     }
 
@@ -128,7 +134,7 @@ impl<'a, 't> Steps<'a, 't> {
         match switch {
             SwitchType::Enum(e) => self.add_enum(e),
             SwitchType::Integer(_) | SwitchType::Char | SwitchType::Boolean => Ok(()),
-            SwitchType::Name(name) => self.push(Step::NamesType(name)),
+            SwitchType::Name(name) => self.asks_of_name(NameStep::IsType, name),
         }
     }
 
@@ -136,9 +142,9 @@ impl<'a, 't> Steps<'a, 't> {
     fn open(&mut self, kind: EntryKind, identifier: Leaf<'a>) -> Result<(), AllocError>
         ensures { OnOk result (steps_in self.new ≡ steps_in self.old ++ opening kind identifier.entry) }
     {
-        self.declares(kind, identifier)?;
-        self.enters(identifier)?;
-        self.push(Step::Defines(identifier))
+        done!(self.asks(LeafStep::Declares(kind), identifier));
+        done!(self.asks(LeafStep::Enters, identifier));
+        self.asks(LeafStep::Defines, identifier)
     }
 
     #[cycle(types)]
@@ -158,7 +164,7 @@ impl<'a, 't> Steps<'a, 't> {
     pub(crate) fn add_member(&mut self, member: &'t Member<'a>) -> Result<(), AllocError>
         ensures { OnOk result (steps_in self.new ≡ steps_in self.old ++ member_steps member.now) }
     {
-        self.add_type(&member.member_type)?;
+        done!(self.add_type(&member.member_type));
         self.add_declarators(&member.declarators)
     }
 
@@ -166,9 +172,9 @@ impl<'a, 't> Steps<'a, 't> {
     pub(crate) fn add_struct(&mut self, s: &'t StructType<'a>) -> Result<(), AllocError>
         ensures { OnOk result (steps_in self.new ≡ steps_in self.old ++ struct_steps s.now) }
     {
-        self.open(EntryKind::Struct, s.identifier)?;
-        self.add_member(&s.first)?;
-        self.add_members(s.rest.as_slice())?;
+        done!(self.open(EntryKind::Struct, s.identifier));
+        done!(self.add_member(&s.first));
+        done!(self.add_members(s.rest.as_slice()));
         self.leaves()
     }
 
@@ -178,7 +184,7 @@ impl<'a, 't> Steps<'a, 't> {
         ensures { OnOk result (steps_in self.new ≡ steps_in self.old ++ flat_map member_steps members.now) }
     {
         for member in members {
-            self.add_member(member)?;
+            done!(self.add_member(member));
         }
         Ok(())
     }
@@ -187,8 +193,8 @@ impl<'a, 't> Steps<'a, 't> {
     fn add_case(&mut self, case: &'t Case<'a>) -> Result<(), AllocError>
         ensures { OnOk result (steps_in self.new ≡ steps_in self.old ++ case_steps case.now) }
     {
-        self.add_labels(&case.labels)?;
-        self.add_type(&case.member_type)?;
+        done!(self.add_labels(&case.labels));
+        done!(self.add_type(&case.member_type));
         self.add_declarator(&case.declarator)
     }
 
@@ -196,10 +202,10 @@ impl<'a, 't> Steps<'a, 't> {
     pub(crate) fn add_union(&mut self, u: &'t UnionType<'a>) -> Result<(), AllocError>
         ensures { OnOk result (steps_in self.new ≡ steps_in self.old ++ union_steps u.now) }
     {
-        self.open(EntryKind::Union, u.identifier)?;
-        self.add_switch(&u.switch)?;
-        self.add_case(&u.first)?;
-        self.add_cases(u.rest.as_slice())?;
+        done!(self.open(EntryKind::Union, u.identifier));
+        done!(self.add_switch(&u.switch));
+        done!(self.add_case(&u.first));
+        done!(self.add_cases(u.rest.as_slice()));
         self.leaves()
     }
 
@@ -209,7 +215,7 @@ impl<'a, 't> Steps<'a, 't> {
         ensures { OnOk result (steps_in self.new ≡ steps_in self.old ++ flat_map case_steps cases.now) }
     {
         for case in cases {
-            self.add_case(case)?;
+            done!(self.add_case(case));
         }
         Ok(())
     }

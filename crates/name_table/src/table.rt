@@ -1,13 +1,13 @@
 //! What a specification declares, and what names find.
 
-ghost use Rattle.std.specs.Prelude.{◌≡◌, ◌<◌, ◌≤◌, ◌^◌, ◌↔◌, ℕ, length, map, option_copied, IfOk, IfSome, OnOk, OnErr, IfErr, ◌≢◌, ◌+◌, ◌++◌, ◌∷◌, [], None, List, true, slice_get};
+ghost use Rattle.std.specs.Prelude.{◌≡◌, ◌<◌, ◌≤◌, ◌^◌, ◌↔◌, ℕ, length, map, option_copied, IfOk, IfSome, OnOk, OnErr, IfErr, ◌≢◌, ◌+◌, ◌++◌, ◌∷◌, [], None, Some, List, true, slice_get};
 ghost use Rattle.idl_tree.specs.Starts.{name_start, name_first, is_rooted};
 ghost use Rattle.name_table.specs.Search.{own as own_of, inherited as inherited_by, within as within_of, within_first, outwards as outwards_from, sought_in, sight as sight_of, sees, word, begins_at_root, identifiers_see};
 ghost use Rattle.name_table.specs.Entry.{AreDistinct, AreNested, bases_in, worth_in, meant_in, named, name_in, prefix_in};
 ghost use Rattle.name_table.specs.OwnNames.{is_own_name as own_name_of};
 ghost use Rattle.idl_lexer.specs.Identifiers.{words};
 ghost use Rattle.name_table.specs.Entries.{entry_declared, latest, scope_of, with_base};
-ghost use Rattle.name_table.specs.inner.Records.{heir_of as heir_in_records, words_at, HasWord, is_word};
+ghost use Rattle.name_table.specs.inner.Records.{entry_of, heir_of as heir_in_records, words_at, HasWord, is_word};
 
 use crate::entry::{Base, Meaning};
 use crate::key::{Key, Word};
@@ -214,12 +214,20 @@ impl<'a> Table<'a> {
         seen
     }
 
+    /// What is kept of an entry.
+    fn record(&self, entry: usize) -> &Record<'a>
+        requires { entry < length self.now }
+        ensures { slice_get self.now entry ≡ Some (entry_of result.now) }
+    {
+        &self.records[entry]
+    }
+
     /// What an entry was declared as.
     pub fn kind(&self, entry: usize) -> EntryKind
         requires { entry < length self.now }
         ensures { IfSome (slice_get self.now entry) (λ e. result ≡ e.kind) }
     {
-        self.records[entry].kind
+        self.record(entry).kind
     }
 
     /// What a constant or an enumerator is worth.
@@ -227,7 +235,7 @@ impl<'a> Table<'a> {
         requires { entry < length self.now }
         ensures { option_copied result ≡ worth_in (slice_get self.now entry) }
     {
-        self.records[entry].worth.as_ref()
+        self.record(entry).worth.as_ref()
     }
 
     /// The type of constants for which the name of a type stands in the end, if it does.
@@ -235,7 +243,7 @@ impl<'a> Table<'a> {
         requires { entry < length self.now }
         ensures { result ≡ meant_in (slice_get self.now entry) }
     {
-        self.records[entry].stands_for
+        self.record(entry).stands_for
     }
 
     /// The prefix of repository ids at an entry's first declaration.
@@ -243,7 +251,7 @@ impl<'a> Table<'a> {
         requires { entry < length self.now }
         ensures { result.now ≡ prefix_in (slice_get self.now entry) }
     {
-        self.records[entry].prefix
+        self.record(entry).prefix
     }
 
     /// Whether it is the name of the scope itself, which can't be declared in it. The scope of an
@@ -265,7 +273,7 @@ impl<'a> Table<'a> {
         requires { entry < length self.now }
         ensures { IfSome (slice_get self.now entry) (λ e. result ≡ e.line) }
     {
-        self.records[entry].line
+        self.record(entry).line
     }
 
     /// The number of the identifier of an entry's first declaration.
@@ -273,7 +281,7 @@ impl<'a> Table<'a> {
         requires { entry < length self.now }
         ensures { IfSome (slice_get self.now entry) (λ e. result ≡ e.identifier) }
     {
-        self.records[entry].identifier
+        self.record(entry).identifier
     }
 
     /// An entry's name, without the underscore that escapes it.
@@ -281,7 +289,7 @@ impl<'a> Table<'a> {
         requires { entry < length self.now }
         ensures { result.now ≡ name_in (slice_get self.now entry) }
     {
-        self.records[entry].key.word.text
+        self.record(entry).key.word.text
     }
 
     /// The scope that an entry is declared in.
@@ -289,7 +297,7 @@ impl<'a> Table<'a> {
         requires { entry < length self.now }
         ensures { IfSome (slice_get self.now entry) (λ e. result ≡ e.scope) }
     {
-        self.records[entry].key.scope
+        self.record(entry).key.scope
     }
 
     /// The token from which an entry is found.
@@ -297,7 +305,7 @@ impl<'a> Table<'a> {
         requires { entry < length self.now }
         ensures { IfSome (slice_get self.now entry) (λ e. result ≡ e.token) }
     {
-        self.records[entry].token
+        self.record(entry).token
     }
 
     /// How many bases an interface names.
@@ -305,7 +313,7 @@ impl<'a> Table<'a> {
         requires { entry < length self.now }
         ensures { result ≡ length (bases_in (slice_get self.now entry)) }
     {
-        match &self.records[entry].heir {
+        match &self.record(entry).heir {
             Some(heir) => heir.later.len() + 1,
             None => 0,
         }
@@ -316,7 +324,7 @@ impl<'a> Table<'a> {
         requires { entry < length self.now }
         ensures { result ≡ slice_get (bases_in (slice_get self.now entry)) place }
     {
-        let heir = self.records[entry].heir.as_deref()?;
+        let heir = self.record(entry).heir.as_deref()?;
         match place.checked_sub(1) {
             None => Some(heir.first),
             Some(behind) => heir.later.get(behind).copied(),

@@ -103,7 +103,7 @@ fn test_constant<'a>(
     requires { scope ≤ length table.now }
     ensures { Checks result (constant_test table.now scope name.now) }
 {
-    let entry = resolve(table, scope, name)?;
+    let entry = got!(resolve(table, scope, name));
     match table.constant(entry) {
         Some(_) => Ok(()),
         None => Err(NameFault::BadConstant {
@@ -196,8 +196,8 @@ pub(crate) fn value<'a>(
     requires { scope ≤ length table.now }
     ensures { Gives result (value_read table.now scope expr.now) }
 {
-    test_names(table, scope, expr)?;
-    match worth(table, alloc, scope, expr)? {
+    got!(test_names(table, scope, expr));
+    match room!(worth(table, alloc, scope, expr)) {
         Some(constant) => Ok(constant),
         None => Err(NameFault::BadConstant {
             at: expr.start().at(),
@@ -220,7 +220,7 @@ pub(crate) fn size<'a>(
     requires { scope ≤ length table.now }
     ensures { Gives result (size_read table.now scope expr.now) }
 {
-    match &value(table, alloc, scope, expr)? {
+    match &got!(value(table, alloc, scope, expr)) {
         Constant::Integer(value) if *value > 0 => Ok(value.unsigned_abs()),
         _ => Err(NameFault::BadConstant {
             at: expr.start().at(),
@@ -240,7 +240,7 @@ pub(crate) fn value_of_kind<'a>(
     requires { scope ≤ length table.now }
     ensures { Gives result (value_of_type kind table.now scope expr.now) }
 {
-    let constant = value(table, alloc, scope, expr)?;
+    let constant = got!(value(table, alloc, scope, expr));
     match kind {
         Some(kind) if kind.admits(&constant) => Ok(constant),
         _ => Err(NameFault::BadConstant {

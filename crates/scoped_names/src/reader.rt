@@ -263,7 +263,7 @@ impl<'a> Reader<'a> {
     pub fn is_new(&self, identifier: Leaf<'a>) -> Result<(), NameFault>
         ensures { Checks result (new_test self.now identifier.entry) }
     {
-        free(identifier, self.taken_by(Word::new(identifier.name())))?;
+        got!(free(identifier, self.taken_by(Word::new(identifier.name()))));
         match self.table().declared(self.scope, identifier) {
             Some(number) => free(identifier, declared_at(self.table(), number)),
             None => Ok(()),
@@ -330,7 +330,7 @@ impl<'a> Reader<'a> {
     {
         let scope = self.scope;
         self.is_undefined(scope, identifier)?;
-        self.defined.insert(scope)?;
+        room!(self.defined.insert(scope));
         Ok(())
     }
 
@@ -347,7 +347,7 @@ impl<'a> Reader<'a> {
             scope: self.scope,
             word: Word::new(identifier.name()),
         };
-        self.members.push(key, identifier.at())?;
+        room!(self.members.push(key, identifier.at()));
         Ok(())
     }
 
@@ -433,7 +433,7 @@ impl<'a> Reader<'a> {
         requires late { latest self.old.entries < base.token }
         ensures { Tells result self.new (with_base_at self.old inner base at) }
     {
-        self.may_be_base(alloc, inner, base, at)?;
+        got!(self.may_be_base(alloc, inner, base, at));
         match self.tables.add_base(alloc, inner, base) {
             Ok(()) => Ok(()),
             Err(_) => {

@@ -64,7 +64,7 @@ impl<'a> Reader<'a> {
             worth: None,
             stands_for: Some(ConstKind::Enum(number)),
         };
-        self.declare_as(alloc, identifier, meaning)?;
+        got!(self.declare_as(alloc, identifier, meaning));
         self.enumeration = number;
         Ok(())
     }
@@ -105,7 +105,7 @@ impl<'a> Reader<'a> {
         requires { latest self.old.entries ≤ declarator.now.identifier.number }
         ensures { Tells result self.new (typedef_declared self.old original.now declarator.now) }
     {
-        let kind = self.type_kind(alloc, original)?;
+        let kind = room!(self.type_kind(alloc, original));
         let is_array = declarator.sizes.len() > 0;
         let meaning = Meaning {
             token: declarator.identifier.number,
@@ -122,8 +122,8 @@ impl<'a> Reader<'a> {
         requires small { const_end c.now < 2 ^ 64 }
         ensures { Tells result self.new (const_declared self.old c.now) }
     {
-        let kind = const_type_kind(self.table(), alloc, self.scope(), &c.const_type)?;
-        let worth = value_of_kind(self.table(), alloc, self.scope(), kind, &c.value.expr)?;
+        let kind = room!(const_type_kind(self.table(), alloc, self.scope(), &c.const_type));
+        let worth = got!(value_of_kind(self.table(), alloc, self.scope(), kind, &c.value.expr));
         let meaning = Meaning {
             token: c.identifier.number + 2 + c.value.expr.token_count(),
             kind: EntryKind::Const,
@@ -143,7 +143,7 @@ impl<'a> Reader<'a> {
         requires { latest self.old.entries ≤ identifier.number }
         ensures { Tells result self.new (feature_declared kind self.old identifier.entry) }
     {
-        self.inherits_none(identifier)?;
+        got!(self.inherits_none(identifier));
         self.declare(alloc, identifier, kind)
     }
 
@@ -158,7 +158,7 @@ impl<'a> Reader<'a> {
         requires late { latest self.old.entries < (name_start name.now).number }
         ensures { Tells result self.new (base_added self.old inner name.now) }
     {
-        let entry = resolve(self.table(), self.scope(), name)?;
+        let entry = got!(resolve(self.table(), self.scope(), name));
         let start = name.start();
         let base = Base {
             token: start.number,
@@ -171,7 +171,7 @@ impl<'a> Reader<'a> {
     fn names_type(&self, name: &ScopedName<'a>) -> Result<(), NameFault>
         ensures { Checks result (type_name_test self.now.entries self.now.scope name.now) }
     {
-        let entry = resolve(self.table(), self.scope(), name)?;
+        let entry = got!(resolve(self.table(), self.scope(), name));
         let kind = self.table().kind(entry);
         if is_type(kind) {
             return Ok(());
@@ -186,7 +186,7 @@ impl<'a> Reader<'a> {
     fn names_exception(&self, name: &ScopedName<'a>) -> Result<(), NameFault>
         ensures { Checks result (raised_test self.now.entries self.now.scope name.now) }
     {
-        let entry = resolve(self.table(), self.scope(), name)?;
+        let entry = got!(resolve(self.table(), self.scope(), name));
         let kind = self.table().kind(entry);
         if is_exception(kind) {
             return Ok(());
@@ -242,11 +242,11 @@ impl<'a> Reader<'a> {
             Step::NamesType(name) => self.names_type(name),
             Step::NamesException(name) => self.names_exception(name),
             Step::HasWorth(expr) => {
-                value(table, alloc, scope, expr)?;
+                got!(value(table, alloc, scope, expr));
                 Ok(())
             }
             Step::IsSize(expr) => {
-                size(table, alloc, scope, expr)?;
+                got!(size(table, alloc, scope, expr));
                 Ok(())
             }
             _ => Ok(()),

@@ -81,10 +81,10 @@ fn push_path(out: &mut String, names: &[&str]) -> Result<(), AllocError>
     let Some((first, rest)) = names.split_first() else {
         return Ok(());
     };
-    out.push_str(first)?;
+    got!(out.push_str(first));
     for name in rest {
-        out.push_str(SEPARATOR)?;
-        out.push_str(name)?;
+        got!(out.push_str(SEPARATOR));
+        got!(out.push_str(name));
     }
     Ok(())
 }
@@ -94,14 +94,14 @@ fn id_text(alloc: Global, prefix: &str, names: &[&str], version: &str) -> Result
     ensures { IfOk result (λ t. string_bytes t ≡
         idl_format prefix.now (map (λ n. n.now) names.now) version.now) }
 {
-    let mut out = String::from_str(alloc, "IDL:")?;
+    let mut out = got!(String::from_str(alloc, "IDL:"));
     if !prefix.is_empty() {
-        out.push_str(prefix)?;
-        out.push_str(SEPARATOR)?;
+        got!(out.push_str(prefix));
+        got!(out.push_str(SEPARATOR));
     }
-    push_path(&mut out, names)?;
-    out.push_str(":")?;
-    out.push_str(version)?;
+    got!(push_path(&mut out, names));
+    got!(out.push_str(":"));
+    got!(out.push_str(version));
     Ok(out)
 }
 

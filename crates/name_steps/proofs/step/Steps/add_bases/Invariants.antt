@@ -1,8 +1,7 @@
-use Rattle.std.proofs.Common.{◌≡◌, ◌++◌, map}
-use Rattle.idl_tree.specs.PartsLeft.{parts_left}
+use Rattle.std.proofs.Common.{◌≡◌, ◌++◌, drop, map}
 use Rattle.name_steps.specs.Steps.{HasBase, optional_parts}
 use Rattle.name_steps.specs.StepsKept.{steps_in}
 use Rattle.name_steps.proofs.step.Steps.add_bases.Given as goal
 
 abbrev pub invariant-loop-name : goal.invariant-loop-name
-invariant-loop-name l = steps_in l.self ++ map (HasBase l.identifier) (parts_left l.name-iterator) ≡ steps_in l.fn.self ++ map (HasBase l.identifier) (optional_parts l.fn.names)
+invariant-loop-name l = steps_in l.self ++ map (HasBase l.identifier) (drop l.name-index l.rest) ≡ steps_in l.fn.self ++ map (HasBase l.identifier) (optional_parts l.fn.names)

@@ -1,9 +1,8 @@
-use Rattle.std.proofs.Common.{◌≡◌, ◌++◌, map}
+use Rattle.std.proofs.Common.{◌≡◌, ◌++◌, drop, map}
 use Rattle.idl_tree.specs.Lists.{parts}
-use Rattle.idl_tree.specs.PartsLeft.{parts_left}
 use Rattle.name_steps.specs.Steps.{NamesException}
 use Rattle.name_steps.specs.StepsKept.{steps_in}
 use Rattle.name_steps.proofs.step.Steps.add_raises.Given as goal
 
 abbrev pub invariant-loop-name : goal.invariant-loop-name
-invariant-loop-name l = steps_in l.self ++ map NamesException (parts_left l.name-iterator) ≡ steps_in l.fn.self ++ map NamesException (parts l.names)
+invariant-loop-name l = steps_in l.self ++ map NamesException (drop l.name-index l.rest) ≡ steps_in l.fn.self ++ map NamesException (parts l.names)

@@ -1,10 +1,9 @@
-use Rattle.std.proofs.Common.{◌≡◌, ◌++◌}
+use Rattle.std.proofs.Common.{◌≡◌, ◌++◌, drop}
 use Rattle.std.specs.List.{flat_map}
 use Rattle.idl_tree.specs.Lists.{parts}
-use Rattle.idl_tree.specs.PartsLeft.{parts_left}
 use Rattle.name_steps.specs.Steps.{typedef_steps}
 use Rattle.name_steps.specs.StepsKept.{steps_in}
 use Rattle.name_steps.proofs.step.Steps.add_typedefs.Given as goal
 
 abbrev pub invariant-loop-declarator : goal.invariant-loop-declarator
-invariant-loop-declarator l = steps_in l.self ++ flat_map (typedef_steps l.original) (parts_left l.declarator-iterator) ≡ steps_in l.fn.self ++ flat_map (typedef_steps l.original) (parts l.declarators)
+invariant-loop-declarator l = steps_in l.self ++ flat_map (typedef_steps l.original) (drop l.declarator-index l.rest) ≡ steps_in l.fn.self ++ flat_map (typedef_steps l.original) (parts l.declarators)
