@@ -5,6 +5,7 @@
     shows: what the test shows
     minutes: the processor time that it takes, in minutes
     seconds: how long one build of it may run, 300 where it isn't said
+    stack: the MiB of stack that its tests get, where the usual 8 aren't enough without the gate's optimised build
     wants: TOOL, TOOL       what it needs beside the toolchain and Python 3
     long: yes               it is run where it is named or asked for
 
@@ -65,6 +66,7 @@ class Test:
         self.shows = about["shows"]
         self.minutes = float(about["minutes"])
         self.seconds = int(about.get("seconds", 300))
+        self.stack = int(about.get("stack", 0))
         self.is_long = about.get("long") == "yes"
         self.wants = about.get("wants", "")
         self.lacking = missing_tools(about)
@@ -98,7 +100,10 @@ class Test:
 
     def try_tests(self, crate):
         """Builds a crate's tests without a proof and runs them."""
-        done = self.call(["rt", "try", "--test", "--seconds", self.seconds], cwd=crate)
+        words = ["rt", "try", "--test", "--seconds", self.seconds]
+        if self.stack:
+            words = ["prlimit", f"--stack={self.stack << 20}:", *words]
+        done = self.call(words, cwd=crate)
         passed = len(re.findall(r"^test .* \.\.\. ok$", done.out + done.err, re.MULTILINE))
         said = re.search(r"^test result: ok\. (\d+) passed; 0 failed", done.out + done.err, re.MULTILINE)
         if done.status == 0 and said and int(said[1]) == passed > 0:
