@@ -17,7 +17,7 @@ import dataclasses
 import re
 
 from driver.sources import Function, calls_that_take_memory, functions_of
-from driver.suite import TESTS, Count
+from driver.suite import TESTS, Count, read_about
 from driver.workspace import TOP, listed_crates
 
 PLANTED = TESTS / "no_memory" / "planted"
@@ -120,13 +120,9 @@ def repeat_tests(path, calls):
 
 
 def crate_of_tests(workspace, folder, calls):
-    """Makes the crate of a folder's tests, or of the tests of a crate with this name. Returns its folder."""
+    """Makes the crate of a folder's tests. Returns its folder."""
     sources = sorted((TESTS / folder).glob("*.rt.in"))
-    if sources:
-        crate = workspace.add_crate(f"test_{folder}", sources)
-    else:
-        workspace.copy_crates([folder])
-        crate = workspace.folder / "crates" / folder
+    crate = workspace.add_tests(folder, sources, read_about(TESTS / folder).get("within"))
     for path in (crate / "src").glob("*.rt"):
         module = "tests" if path.stem == "lib" else path.stem
         repeat_tests(path, [call for call in calls if call.module == module])

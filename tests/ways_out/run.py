@@ -136,8 +136,6 @@ def run(test):
     growths, count, seen = Growths(), Count(0, []), set()
     for crate in listed_crates():
         for path in sorted(source_folder(crate).rglob("*.rt")):
-            if crate.endswith("acceptance") or path.stem == "tests":
-                continue
             name = str(path.relative_to(TOP / "crates"))
             for place in places_of(path):
                 what = reason_wanted(place, growths)

@@ -4,6 +4,7 @@
 
     shows: what the test shows
     minutes: the processor time that it takes, in minutes
+    within: the crate whose modules its `*.rt.in` are, instead of a crate of their own
     seconds: how long one build of it may run, 300 where it isn't said
     stack: the MiB of stack that its tests get, where the usual 8 aren't enough without the gate's optimised build
     wants: TOOL, TOOL       what it needs beside the toolchain and Python 3
@@ -66,6 +67,7 @@ class Test:
         self.shows = about["shows"]
         self.minutes = float(about["minutes"])
         self.seconds = int(about.get("seconds", 300))
+        self.within = about.get("within")
         self.stack = int(about.get("stack", 0))
         self.is_long = about.get("long") == "yes"
         self.wants = about.get("wants", "")
@@ -92,7 +94,7 @@ class Test:
         self.room = room
         script = self.folder / "run.py"
         if not script.is_file():
-            return self.try_tests(self.workspace().add_crate(f"test_{self.name}", self.sources()))
+            return self.try_tests(self.workspace().add_tests(self.name, self.sources(), self.within))
         spec = importlib.util.spec_from_file_location(f"test_{self.name}", script)
         module = importlib.util.module_from_spec(spec)
         spec.loader.exec_module(module)

@@ -67,6 +67,22 @@ class Workspace:
         text = "".join(f"{name}: {' '.join(below)}\n" for name, below in self.rows.items())
         (self.folder / "crates.txt").write_text(text)
 
+    def add_tests(self, name, sources, within=None):
+        """Makes a crate of the sources of a test, or puts them into the copy of a crate. Returns its folder."""
+        return self.add_to_crate(within, sources) if within else self.add_crate(f"test_{name}", sources)
+
+    def add_to_crate(self, name, sources):
+        """Has the copy of a crate have files `NAME.rt.in` as modules of its tests. Returns its folder."""
+        self.copy_crates([name])
+        source_folder = self.folder / "crates" / name / "src"
+        root = next(path for path in (source_folder / "main.rt", source_folder / "lib.rt") if path.is_file())
+        modules = ""
+        for source in sources:
+            shutil.copy(source, source_folder / source.name.removesuffix(".in"))
+            modules += f"\n#[cfg(test)]\nmod {source.name.partition('.')[0]};\n"
+        root.write_text(root.read_text() + modules)
+        return self.folder / "crates" / name
+
     def add_crate(self, name, sources):
         """Makes a crate of files `NAME.rt.in`, with the crates that these name. Returns its folder."""
         folder = self.folder / "crates" / name

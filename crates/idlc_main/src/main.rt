@@ -13,8 +13,6 @@ ghost use Rattle.idlc_main.specs.Answer.{IsEndOf, MayServe};
 mod fault;
 mod service;
 mod tasks;
-#[cfg(test)]
-mod tests;
 mod told;
 
 use crate::fault::Fault;
