@@ -1,5 +1,6 @@
 -- Where a place of a preprocessed file stands in the files as they were written.
-use Rattle.std.specs.Prelude.{◌≡◌, ℕ, ◌+◌, ◌-◌, ◌≤◌, ◌<◌, ◌⊎◌, ◌==◌, List, [], ◌∷◌, take, slice_index, Option, Some, None, option_map, count_by, length}
+use Rattle.std.specs.Prelude.{◌≡◌, ℕ, ◌+◌, ◌-◌, ◌≤◌, ◌<◌, ◌⊎◌, ◌==◌, List, [], ◌∷◌, take, slice_index, Option, Some, None, count_by, length}
+use Rattle.std.specs.Option.{option_or}
 use Rattle.std.specs.List.{after_first, before_first, position_or_len, slice_split}
 use Rattle.source_places.specs.Markers.{MarkerParts, marker_of}
 
@@ -8,15 +9,11 @@ pub record PlaceParts : Type 0 where
   pub file : Option (List ℕ)
   pub line : ℕ
 
-abbrev pub or_else : Option (List ℕ) → Option (List ℕ) → Option (List ℕ)
-or_else (Some name) other = Some name
-or_else None other = other
-
 -- behind a line that is no marker comes the next one; behind a marker the one that it says, in the file that it names,
 -- else in the same
 abbrev pub following : PlaceParts → Option MarkerParts → PlaceParts
 following place None = record { file = place.file; line = place.line + 1 }
-following place (Some marker) = record { file = or_else marker.file place.file; line = marker.line }
+following place (Some marker) = record { file = option_or marker.file place.file; line = marker.line }
 
 -- behind all of the lines but the last, which isn't whole
 abbrev pub behind_all : PlaceParts → List (List ℕ) → PlaceParts

@@ -1,10 +1,10 @@
 //! Places of a source.
 
-ghost use Rattle.std.specs.Prelude.{◌≡◌, ◌≤◌, ◌+◌, ◌^◌, ◌==◌, ◌⊎◌, IfSome, MatchOption, length, option_map};
+ghost use Rattle.std.specs.Prelude.{◌≡◌, ◌≤◌, ◌+◌, ◌^◌, ◌==◌, ◌⊎◌, MatchOption, length, option_map};
 ghost use Rattle.std.specs.List.{position_or_len};
 ghost use Rattle.source_places.specs.Markers.{marker_of};
 ghost use Rattle.source_places.specs.PlaceViews.{place_parts};
-ghost use Rattle.source_places.specs.Places.{IsCut, following, place_of};
+ghost use Rattle.source_places.specs.Places.{IsCut, IsLineStart, IsNoLine, following, place_of};
 
 use crate::marker::read_marker;
 
@@ -77,14 +77,21 @@ pub fn place_at(source: &[u8], octet: usize) -> Place<'_>
 /// Where the line with this number begins, counted from 1 in the source itself. None where the source
 /// has no such line.
 pub fn line_start(source: &[u8], line: usize) -> Option<usize>
-    ensures { IfSome result (λ octet. octet ≤ length source.now) }
+    ensures { MatchOption result (IsNoLine source.now line) (IsLineStart source.now line) }
 {
     if line == 0 {
         return None;
     }
-    let mut left = source;
-    for _ in 1..line {
-        left = cut_line(left)?.1;
+    let mut start = 0;
+    let mut number = 1;
+    while number < line {
+        let left = source.split_at(start).1;
+        let end = line_len(left);
+        if end == left.len() {
+            return None;
+        }
+        start += end + 1;
+        number += 1;
     }
-    Some(source.len().saturating_sub(left.len()))
+    Some(start)
 }

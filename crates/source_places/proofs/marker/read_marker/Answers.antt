@@ -1,4 +1,4 @@
-use Rattle.std.proofs.Common.{◌≡◌, ◌∙◌, ap, sym, List, ℕ, Some}
+use Rattle.std.proofs.Common.{◌≡◌, ◌∙◌, ap, sym, Some}
 use Rattle.std.specs.Option.{option_and_then}
 use Rattle.source_places.specs.Markers.{behind, marker_of, numbered, past_blanks, past_word}
 use Rattle.source_places.proofs.marker.read_marker.Goals as goal

@@ -1,4 +1,4 @@
-use Rattle.std.proofs.Common.{◌≡◌, ◌==◌, ◌<◌, ◌∙◌, ℕ, Option, List, ap, sym, arith, inl, inr, length}
+use Rattle.std.proofs.Common.{◌==◌, ◌<◌, ◌∙◌, ℕ, Option, List, ap, sym, arith, inl, inr, length}
 use Rattle.std.specs.List.{slice_split}
 use Rattle.source_places.specs.PlaceViews.{place_parts}
 use Rattle.source_places.specs.Places.{PlaceParts, behind_all, place_of}
