@@ -143,8 +143,10 @@ def prove(out):
         if said is not None:
             return said
         PROGRAM.parent.mkdir(exist_ok=True)
-        shutil.copy(workspace.folder / "crates" / CRATE / "out" / CRATE, f"{PROGRAM}.new")
-    os.replace(f"{PROGRAM}.new", PROGRAM)
+        # a name of its own, since two runs may end at the same time
+        new = f"{PROGRAM}.{os.getpid()}"
+        shutil.copy(workspace.folder / "crates" / CRATE / "out" / CRATE, new)
+    os.replace(new, PROGRAM)
     note_current(sum_before)
     return None
 

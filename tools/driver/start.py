@@ -1,0 +1,30 @@
+"""What `./idlc` does where the program isn't there or a source is newer: it sees whether a source has changed, has the
+crates proved and the program built where one has, and runs it.
+
+On a terminal a line on standard error tells how far the proofs are, and is gone before the program starts. They can be
+stopped, and go on where they were. Where one fails, the text stands on standard error, and the status is 70.
+"""
+import os
+import pathlib
+import sys
+
+sys.dont_write_bytecode = True
+sys.path.insert(0, str(pathlib.Path(__file__).resolve().parents[1]))
+
+from driver.program import PROGRAM, is_current, prove  # noqa: E402
+
+
+def main():
+    if not is_current():
+        try:
+            said = prove(sys.stderr)
+        except KeyboardInterrupt:
+            print("idlc: stopped; what was proved is kept", file=sys.stderr)
+            return 130
+        if said is not None:
+            print(said, file=sys.stderr)
+            return 70
+    os.execv(PROGRAM, ["idlc", *sys.argv[1:]])
+
+
+sys.exit(main())
