@@ -7,10 +7,10 @@ use Rattle.broker_answers.specs.Talk.{Event, Begins, GivesUp, Ends as Leaving, W
 use Rattle.broker_answers.specs.Servants.{Acting}
 use Rattle.broker_answers.specs.Objects.{Served}
 use Rattle.broker_answers.specs.Serving.{Moves, Serves}
-use Rattle.iiop_broker.specs.Ends.{Gives, IsEmpty, written_with}
+use Rattle.iiop_broker.specs.Ends.{Adds, Gives, IsEmpty}
 use Rattle.iiop_broker.specs.Outcomes.{Ends}
 use Rattle.iiop_broker.proofs.Going.{gives_start}
-use Rattle.iiop_broker.proofs.Written.{written_nothing, written_then}
+use Rattle.iiop_broker.proofs.Written.{adds_nothing, adds_then}
 use Rattle.event_loop.specs.declared.slot.Course.TheVariants.{Over}
 use Rattle.event_loop.specs.Carried.{Log, answered, brought, connection_of}
 use Rattle.event_loop.specs.Visits.{IsShut, IsGivenUp, IsFinished, IsForsaken, HasEnded, IsIdle, IsLast, Gone, gone, IsCarried}
@@ -296,7 +296,7 @@ module _ {S : Type 0} (acting : Acting S) (served : Served) (idle : ℕ) (before
                 sent = [];
                 answer_is = silent;
                 read = subst (λ (o : List ℕ). Gives told.left o told.left) (sym none) (gives_start told.left);
-                wrote = sym (written_nothing told.written);
+                wrote = adds_nothing told.written;
               });
           gone = All-weaker (IsGone acting served idle before g.said came slots) (IsGone acting served idle before said came' (slots ++ s ∷ []))
               (λ one o.
@@ -361,7 +361,7 @@ module _ {S : Type 0} (acting : Acting S) (served : Served) (idle : ℕ) (before
                 last = [];
                 answer_is = answered_none (length came) c g.said (omega (arith, number)) g.known;
                 read = subst (λ (o : List ℕ). Gives told.left o told.left) (sym none) (gives_start told.left);
-                wrote = sym (written_nothing told.written);
+                wrote = adds_nothing told.written;
                 last_is = refl;
                 ended = record { sent = refl; wanted = inr none };
               };
@@ -386,7 +386,7 @@ module _ {S : Type 0} (acting : Acting S) (served : Served) (idle : ℕ) (before
 
   plain : (said : Log) (c : ℕ) (from : Ends) (sent : List ℕ) (s : Slotted) (end : End)
       → answered c said ≡ sent ++ s.waiting → Gives from.left (brought c said) s.told.left
-      → s.told.written ≡ written_with from.written sent
+      → Adds from.written sent s.told.written
       → HasEnded acting served idle before said c s.waiting s.told s.quiet end
       → IsLast end s.waiting [] → IsCarried acting served idle before said c from (gone s.told s.quiet end)
   plain said c from sent s end answer read wrote ended last_is = record {
@@ -395,7 +395,7 @@ module _ {S : Type 0} (acting : Acting S) (served : Served) (idle : ℕ) (before
     last = [];
     answer_is = answer;
     read = read;
-    wrote = wrote ∙ ap (λ (xs : List ℕ). written_with from.written xs) (sym (append-nil sent));
+    wrote = subst (λ (xs : List ℕ). Adds from.written xs s.told.written) (sym (append-nil sent)) wrote;
     last_is = last_is;
     ended = ended;
   }
@@ -403,7 +403,7 @@ module _ {S : Type 0} (acting : Acting S) (served : Served) (idle : ℕ) (before
   -- what is known of one that is let go of, by how it ended
   let_go : (said : Log) (c : ℕ) (from : Ends) (sent : List ℕ) (s : Slotted) (end : End) (to : Gone)
       → answered c said ≡ sent ++ s.waiting → Gives from.left (brought c said) s.told.left
-      → s.told.written ≡ written_with from.written sent
+      → Adds from.written sent s.told.written
       → HasEnded acting served idle before said c s.waiting s.told s.quiet end
       → IsLetGo s end to → IsCarried acting served idle before said c from to
   let_go said c from sent s Finished to answer read wrote ended is =
@@ -418,7 +418,7 @@ module _ {S : Type 0} (acting : Acting S) (served : Served) (idle : ℕ) (before
     last = is.last;
     answer_is = answer;
     read = subst (λ l. Gives from.left (brought c said) l) (sym is.left) read;
-    wrote = is.written ∙ ap (λ x. written_with x is.last) wrote ∙ written_then from.written sent is.last;
+    wrote = adds_then from.written s.told.written to.told.written sent is.last wrote is.written;
     last_is = subst (λ (e : End). IsLast e s.waiting is.last) (sym is.end_is) is.last_is;
     ended = subst (λ (e : End). HasEnded acting served idle before said c s.waiting to.told to.quiet e) (sym is.end_is)
         (subst (λ (q : ℕ). IsIdle idle q) (sym is.quiet) ended);

@@ -5,10 +5,10 @@ use Rattle.broker_answers.specs.Connections.{at}
 use Rattle.broker_answers.specs.Talk.{Event, Brings, GivesUp, World, rests, kept_or_shut}
 use Rattle.broker_answers.specs.Servants.{Acting}
 use Rattle.broker_answers.specs.Objects.{Served}
-use Rattle.iiop_broker.specs.Ends.{Gives, IsEmpty, written_with}
+use Rattle.iiop_broker.specs.Ends.{Adds, Gives, IsEmpty}
 use Rattle.iiop_broker.specs.Outcomes.{Ends}
 use Rattle.iiop_broker.proofs.Going.{gives_then}
-use Rattle.iiop_broker.proofs.Written.{written_then}
+use Rattle.iiop_broker.proofs.Written.{adds_then}
 use Rattle.event_loop.specs.declared.slot.Course.{Course}
 use Rattle.event_loop.specs.declared.slot.Course.TheVariants.{Moved, Still, Over}
 use Rattle.event_loop.specs.Carried.{Log, answered, brought}
@@ -45,7 +45,7 @@ module _ {S : Type 0} (acting : Acting S) (served : Served) (idle : ℕ) (before
             ∙ sym (append_assoc o.sent h.taken t.waiting);
         read = subst (λ (n : ℕ). Gives o.from.left (brought n g.said) t.told.left) (sym h.number)
             (subst (λ l. Gives o.from.left (brought s.number g.said) l) (sym h.left) o.read);
-        wrote = h.written ∙ ap (λ x. written_with x h.taken) o.wrote ∙ written_then o.from.written o.sent h.taken;
+        wrote = adds_then o.from.written s.told.written t.told.written o.sent h.taken o.wrote h.written;
       } in
       record {
         going = after.0;
@@ -84,7 +84,7 @@ module _ {S : Type 0} (acting : Acting S) (served : Served) (idle : ℕ) (before
     read = subst (λ (n : ℕ). Gives o.from.left (brought n later) t.told.left) (sym h.number)
         (subst (λ (xs : List ℕ). Gives o.from.left xs t.told.left) (sym more)
         (gives_then o.from.left s.told.left t.told.left (brought s.number said) octets o.read h.read));
-    wrote = h.written ∙ o.wrote;
+    wrote = subst (λ w. Adds o.from.written o.sent w) (sym h.written) o.wrote;
   }
 
   answered_on : (came : List Ends) (ended : List (ℕ × Gone)) (w w' : World S Stream) (front : List Slotted) (s t : Slotted)
@@ -166,7 +166,7 @@ module _ {S : Type 0} (acting : Acting S) (served : Served) (idle : ℕ) (before
     answer_is = ap (λ (n : ℕ). answered n said) h.number ∙ o.answer_is ∙ ap (λ (xs : List ℕ). o.sent ++ xs) (sym h.waiting);
     read = subst (λ (n : ℕ). Gives o.from.left (brought n said) t.told.left) (sym h.number)
         (subst (λ (e : Ends). Gives o.from.left (brought s.number said) e.left) (sym h.told) o.read);
-    wrote = ap (λ (e : Ends). e.written) h.told ∙ o.wrote;
+    wrote = subst (λ (e : Ends). Adds o.from.written o.sent e.written) (sym h.told) o.wrote;
   }
 
   pub waited_on : (came : List Ends) (ended : List (ℕ × Gone)) (w : World S Stream) (front : List Slotted) (s t : Slotted)

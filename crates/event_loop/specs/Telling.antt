@@ -1,6 +1,6 @@
 -- What a connection tells on which no call waits.
 use Rattle.std.specs.Prelude.{◌≡◌, ◌||◌, ℕ, true, List, take}
-use Rattle.iiop_broker.specs.Ends.{Gives, is_stuck, written_with}
+use Rattle.iiop_broker.specs.Ends.{Adds, Gives, is_stuck}
 use Rattle.iiop_broker.specs.Outcomes.{Ends}
 
 -- octets were read, and nothing else changed
@@ -13,7 +13,7 @@ pub record HasRead (before : Ends) (got : List ℕ) (after : Ends) : Type 0 wher
 -- so many of some octets were written, and nothing else changed; it fails too where it takes none of some
 pub record HasWritten (before : Ends) (octets : List ℕ) (n : ℕ) (after : Ends) : Type 0 where
   pub left : after.left ≡ before.left
-  pub written : after.written ≡ written_with before.written (take n octets)
+  pub written : Adds before.written (take n octets) after.written
   pub unread : after.unread ≡ before.unread
   pub unwritten : after.unwritten ≡ (before.unwritten || is_stuck octets n)
 

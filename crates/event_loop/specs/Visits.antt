@@ -7,7 +7,7 @@ use Rattle.broker_answers.specs.Servants.{Acting}
 use Rattle.broker_answers.specs.Objects.{Served}
 use Rattle.broker_answers.specs.Serving.{Moves, Serves}
 use Rattle.giop_messages.specs.Messages.{Closes, Says}
-use Rattle.iiop_broker.specs.Ends.{Gives, IsEmpty, written_with}
+use Rattle.iiop_broker.specs.Ends.{Adds, Gives, IsEmpty}
 use Rattle.iiop_broker.specs.Outcomes.{Ends}
 use Rattle.event_loop.specs.declared.listener.End.{End}
 use Rattle.event_loop.specs.declared.listener.End.TheVariants.{Finished, Failed, GivenUp, Idle}
@@ -86,7 +86,7 @@ pub record IsCarried {S : Type 0} (acting : Acting S) (served : Served) (idle : 
   pub last : List ℕ
   pub answer_is : answered c said ≡ sent ++ waiting
   pub read : Gives from.left (brought c said) to.told.left
-  pub wrote : to.told.written ≡ written_with from.written (sent ++ last)
+  pub wrote : Adds from.written (sent ++ last) to.told.written
   pub last_is : IsLast to.end waiting last
   pub ended : HasEnded acting served idle before said c waiting to.told to.quiet to.end
 

@@ -26,7 +26,7 @@ pub trait Connection {
         ensures given { IfOk result
             (λ got. IfSome got (λ n. HasRead (told self.old) (take n buffer.new) (told self.new))) }
         ensures end { IfOk result (λ got. IfSome got (λ n. n ≡ 0 → 0 < length buffer.old
-            → IsEmpty (told self.old).left)) }
+            → IsEmpty (told self.new).left)) }
         ensures not_now { IfOk result (λ got. IfNone got (told self.new ≡ told self.old)) }
         ensures failed { OnErr result (told self.new ≡ with_failed_read (told self.old)) }
         ensures quiet { quiet self.new ≡ quiet self.old };

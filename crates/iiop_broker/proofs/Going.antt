@@ -6,12 +6,12 @@ use Rattle.broker_answers.specs.Talk.{World, rests, kept_or_shut}
 use Rattle.broker_answers.specs.Servants.{Acting}
 use Rattle.broker_answers.specs.Objects.{Served}
 use Rattle.iiop_broker.specs.Listed.{IsThere}
-use Rattle.iiop_broker.specs.Ends.{Gives, IsEmpty, written_with}
+use Rattle.iiop_broker.specs.Ends.{Adds, Gives, IsEmpty}
 use Rattle.iiop_broker.specs.AnsweredStreams.{AnsweredStream, GivenUp}
 use Rattle.iiop_broker.specs.Outcomes.{Ends, Finished, Unread, Unended, Unwritten, Unserved}
 use Rattle.iiop_broker.specs.inner.StreamPieces.{IsSent, IsStuck, IsGivenUp}
 use Rattle.iiop_broker.proofs.AnsweredStreams.{stream_on, given_up, is_kept}
-use Rattle.iiop_broker.proofs.Written.{written_nothing, written_then}
+use Rattle.iiop_broker.proofs.Written.{adds_nothing, adds_then}
 
 -- ---- what is read
 
@@ -19,22 +19,15 @@ gives_from : (b : Option (List ℕ)) (rest y : List ℕ) (d : Option (List ℕ))
     → Gives (Some rest) y d
 gives_from b rest y d e g = subst (λ (t : Option (List ℕ)). Gives t y d) e g
 
-gives_untold : (b : Option (List ℕ)) (y : List ℕ) (d : Option (List ℕ)) → b ≡ None → Gives b y d → d ≡ None
-gives_untold b y d e g = subst (λ (t : Option (List ℕ)). Gives t y d) e g
-
 pub gives_then : (a b d : Option (List ℕ)) (x y : List ℕ) → Gives a x b → Gives b y d → Gives a (x ++ y) d
-gives_then None b d x y g h = gives_untold b y d g h
+gives_then None b d x y g h = tt
 gives_then (Some left) b d x y (rest, e, now) h =
     let k = gives_from b rest y d now h in
     (k.0, e ∙ ap (λ (r : List ℕ). x ++ r) k.1 ∙ sym (append_assoc x y k.0), k.2)
 
 pub gives_start : (a : Option (List ℕ)) → Gives a [] a
-gives_start None = refl
+gives_start None = tt
 gives_start (Some left) = (left, refl, refl)
-
-empty_still : (a b : Option (List ℕ)) → Gives a [] b → IsEmpty a → IsEmpty b
-empty_still None b g e = subst IsEmpty (sym g) tt
-empty_still (Some left) b (rest, is, now) e = subst IsEmpty (sym now) (sym is ∙ e)
 
 -- ---- so far
 
@@ -43,7 +36,7 @@ pub record Going {S : Type 0} (acting : Acting S) (served : Served) (c : ℕ) (o
   pub answer : List ℕ
   pub stream : AnsweredStream acting served c others before octets answer false w
   pub read : Gives start.left octets now.left
-  pub wrote : now.written ≡ written_with start.written answer
+  pub wrote : Adds start.written answer now.written
   pub sent_is : sent ≡ length answer
   pub many : count ≤ length octets
 
@@ -55,7 +48,7 @@ going_start acting served c others before start w stream = record {
   answer = [];
   stream = stream;
   read = gives_start start.left;
-  wrote = sym (written_nothing start.written);
+  wrote = adds_nothing start.written;
   sent_is = refl;
   many = omega arith;
 }
@@ -73,11 +66,6 @@ same_kept a b e = cc
 
 true_false : {A : Type 0} → true ≡ false → A
 true_false e = absurd (cc)
-
-wrote_then : (start now after : Option (List ℕ)) (answer more : List ℕ) → now ≡ written_with start answer
-    → after ≡ written_with now more → after ≡ written_with start (answer ++ more)
-wrote_then start now after answer more e f =
-    f ∙ ap (λ (w : Option (List ℕ)). written_with w more) e ∙ written_then start answer more
 
 -- the connection isn't closed, so no message closed it
 open_still : {S : Type 0} (acting : Acting S) (served : Served) (c : ℕ) (others : List (ℕ × Stream)) (before : S)
@@ -100,7 +88,7 @@ going_on acting served c others before start now after sent count w w' piece n s
       (stream_on acting served c others before going.octets going.answer piece is.answer w w' going.stream is.answers)
       is.closed.1 unshut;
   read = gives_then start.left now.left after.left going.octets piece going.read gives;
-  wrote = wrote_then start.written now.written after.written going.answer is.answer going.wrote is.wrote;
+  wrote = adds_then start.written now.written after.written going.answer is.answer going.wrote is.wrote;
   sent_is = let so_far = going.sent_is in let more = is.count in omega (arith, so_far, more, length-append going.answer is.answer);
   many = let m = going.many in omega (arith, m, some, length-append going.octets piece);
 }
@@ -108,7 +96,7 @@ going_on acting served c others before start now after sent count w w' piece n s
 pub all_read : {S : Type 0} (acting : Acting S) (served : Served) (c : ℕ) (others : List (ℕ × Stream)) (before : S)
     (start now after : Ends) (sent count : ℕ) (w : World S Stream) (got : List ℕ)
     → Going acting served c others before start now sent count w → Gives now.left got after.left → got ≡ []
-    → IsEmpty now.left → after.written ≡ now.written
+    → IsEmpty after.left → after.written ≡ now.written
     → Finished (λ o a k. AnsweredStream acting served c others before o a k w) start after
 all_read acting served c others before start now after sent count w got going gives none end same =
     let nothing : Gives now.left [] after.left = subst (λ (g : List ℕ). Gives now.left g after.left) none gives in
@@ -119,8 +107,8 @@ all_read acting served c others before start now after sent count w got going gi
       told = going.stream;
       read = subst (λ (o : List ℕ). Gives start.left o after.left) (append-nil going.octets)
           (gives_then start.left now.left after.left going.octets [] going.read nothing);
-      wrote = same ∙ going.wrote;
-      finished = inr (empty_still now.left after.left nothing end);
+      wrote = subst (Adds start.written going.answer) (sym same) going.wrote;
+      finished = inr end;
     }
 
 pub all_said : {S : Type 0} (acting : Acting S) (served : Served) (c : ℕ) (others : List (ℕ × Stream)) (before : S)
@@ -137,7 +125,7 @@ all_said acting served c others before start now after sent count w w' piece n c
       closes = is.answers.closes;
       told = stream;
       read = gives_then start.left now.left after.left going.octets piece going.read gives;
-      wrote = wrote_then start.written now.written after.written going.answer is.answer going.wrote is.wrote;
+      wrote = adds_then start.written now.written after.written going.answer is.answer going.wrote is.wrote;
       finished = inl
           (same_kept (kept_or_shut rests is.answers.closes (cut None (going.octets ++ piece)).left) Closed
           (sym (is_kept acting served c others before (going.octets ++ piece) (going.answer ++ is.answer) is.answers.closes w' stream)
@@ -165,9 +153,9 @@ stuck acting served c others before start now after sent count n w w' piece goin
       told = stream_on acting served c others before going.octets going.answer piece is.answer w w' going.stream is.answers;
       read = gives_then start.left now.left after.left going.octets piece going.read gives;
       within = let m = is.within in omega (arith, so_far, m, length-append going.answer is.answer);
-      wrote = wrote_then start.written now.written after.written going.answer (take n is.answer) going.wrote is.wrote
-          ∙ ap (written_with start.written)
-          (sym (seam going.answer is.answer n) ∙ ap (λ (k : ℕ). take k (going.answer ++ is.answer)) here);
+      wrote = subst (λ (xs : List ℕ). Adds start.written xs after.written)
+          (sym (seam going.answer is.answer n) ∙ ap (λ (k : ℕ). take k (going.answer ++ is.answer)) here)
+          (adds_then start.written now.written after.written going.answer (take n is.answer) going.wrote is.wrote);
       failed = is.failed;
     }
 
@@ -182,19 +170,20 @@ unserved acting served c others before start now after sent count w w' piece goi
   more = piece;
   told = given_up acting served c others before going.octets going.answer piece [] is.j w w' going.stream is.abandons;
   read = gives_then start.left now.left after.left going.octets piece going.read gives;
-  wrote = is.silent ∙ going.wrote;
+  wrote = subst (Adds start.written going.answer) (sym is.silent) going.wrote;
 }
 
 pub unread : {S : Type 0} (acting : Acting S) (served : Served) (c : ℕ) (others : List (ℕ × Stream)) (before : S)
     (start now after : Ends) (sent count : ℕ) (w : World S Stream)
-    → Going acting served c others before start now sent count w → after.left ≡ now.left → after.written ≡ now.written
+    → Going acting served c others before start now sent count w → Gives now.left [] after.left → after.written ≡ now.written
     → after.unread ≡ true → Unread (λ o a k. AnsweredStream acting served c others before o a k w) start after
 unread acting served c others before start now after sent count w going same kept failed = record {
   octets = going.octets;
   answer = going.answer;
   told = going.stream;
-  read = subst (λ (l : Option (List ℕ)). Gives start.left going.octets l) (sym same) going.read;
-  wrote = kept ∙ going.wrote;
+  read = subst (λ (o : List ℕ). Gives start.left o after.left) (append-nil going.octets)
+      (gives_then start.left now.left after.left going.octets [] going.read same);
+  wrote = subst (Adds start.written going.answer) (sym kept) going.wrote;
   failed = failed;
 }
 

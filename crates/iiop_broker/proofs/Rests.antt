@@ -1,8 +1,8 @@
 -- Rests and histories.
-use Rattle.std.proofs.Common.{◌≡◌, ℕ, List, [], ◌∷◌, map, refl, sym, ap, ap₂, ◌∙◌}
+use Rattle.std.proofs.Common.{◌≡◌, ℕ, List, [], ◌∷◌, map, refl, ap₂}
 use Rattle.broker_answers.specs.Streams.{Stream}
 use Rattle.broker_answers.specs.Talk.{Event, World, world, History, Since, Shut, Serving, Moving, Follows, rests, histories}
-use Rattle.broker_answers.proofs.SameTalk.{AreSame, IsLeft, Matches, follows_same, rests_alike}
+use Rattle.broker_answers.proofs.SameTalk.{AreSame, IsLeft, follows_same, rests_alike}
 use Rattle.iiop_broker.specs.Rests.{IsTalked, rest_of}
 
 left_is : (h : History) (stream : Stream) → IsLeft h stream → stream ≡ rest_of h

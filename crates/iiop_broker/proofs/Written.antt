@@ -1,7 +1,7 @@
 -- What is written part by part.
-use Rattle.std.proofs.Common.{◌≡◌, ℕ, zero, suc, ◌+◌, Bool, true, false, ◌||◌, ◌&&◌, List, [], ◌∷◌, ◌++◌, take, drop, length, nat_lt, nat_eq, Option, Some, None, refl, sym, ap, ◌∙◌, append_assoc, append-nil, arith}
+use Rattle.std.proofs.Common.{◌≡◌, ℕ, zero, suc, ◌+◌, Bool, true, false, ◌||◌, ◌&&◌, List, [], ◌∷◌, ◌++◌, take, drop, length, nat_lt, nat_eq, Option, Some, None, refl, sym, ap, subst, ◌∙◌, append_assoc, append-nil, arith}
 use Rattle.std.proofs.lemmas.Bool.{eqb-true}
-use Rattle.iiop_broker.specs.Ends.{is_stuck, written_with}
+use Rattle.iiop_broker.specs.Ends.{Adds, is_stuck}
 
 take_nil : (n : ℕ) → take {A = ℕ} n [] ≡ []
 take_nil zero = refl
@@ -14,22 +14,22 @@ taken_then (suc s) n (x ∷ xs) =
     let e : suc (s + n) ≡ suc s + n = omega arith in
     ap (λ (ys : List ℕ). x ∷ ys) (taken_then s n xs) ∙ ap (λ (k : ℕ). take k (x ∷ xs)) e
 
-pub written_then : (told : Option (List ℕ)) (a b : List ℕ) → written_with (written_with told a) b ≡ written_with told (a ++ b)
-written_then None a b = refl
-written_then (Some w) a b = ap Some (append_assoc w a b)
+pub adds_then : (told between after : Option (List ℕ)) (a b : List ℕ) → Adds told a between → Adds between b after → Adds told (a ++ b) after
+adds_then None between after a b e f = tt
+adds_then (Some w) between after a b e f =
+    let is : after ≡ Some ((w ++ a) ++ b) = subst (λ (t : Option (List ℕ)). Adds t b after) e f in
+    is ∙ ap Some (append_assoc w a b)
 
-pub written_nothing : (told : Option (List ℕ)) → written_with told [] ≡ told
-written_nothing None = refl
-written_nothing (Some w) = ap Some (append-nil w)
+pub adds_nothing : (told : Option (List ℕ)) → Adds told [] told
+adds_nothing None = tt
+adds_nothing (Some w) = ap Some (sym (append-nil w))
 
-pub written_more : (told after now : Option (List ℕ)) (s n : ℕ) (octets behind : List ℕ) → after ≡ written_with told (take s octets)
-    → behind ≡ drop s octets → now ≡ written_with after (take n behind) → now ≡ written_with told (take (s + n) octets)
+pub written_more : (told after now : Option (List ℕ)) (s n : ℕ) (octets behind : List ℕ) → Adds told (take s octets) after
+    → behind ≡ drop s octets → Adds after (take n behind) now → Adds told (take (s + n) octets) now
 written_more told after now s n octets behind e b f =
-    f
-    ∙ ap (λ (w : Option (List ℕ)). written_with w (take n behind)) e
-    ∙ ap (λ (xs : List ℕ). written_with (written_with told (take s octets)) (take n xs)) b
-    ∙ written_then told (take s octets) (take n (drop s octets))
-    ∙ ap (written_with told) (taken_then s n octets)
+    let parts : take s octets ++ take n behind ≡ take (s + n) octets =
+    ap (λ (xs : List ℕ). take s octets ++ take n xs) b ∙ taken_then s n octets in
+    subst (λ (xs : List ℕ). Adds told xs now) parts (adds_then told after now (take s octets) (take n behind) e f)
 
 or_false : (b c : Bool) → c ≡ false → (b || c) ≡ b
 or_false true c e = refl

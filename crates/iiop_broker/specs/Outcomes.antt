@@ -4,7 +4,7 @@ use Rattle.broker_answers.specs.Streams.{Closed, cut}
 use Rattle.broker_answers.specs.Talk.{rests, kept_or_shut}
 use Rattle.iiop_broker.specs.declared.stream_fault.StreamFault.{StreamFault}
 use Rattle.iiop_broker.specs.declared.stream_fault.StreamFault.TheVariants as faults
-use Rattle.iiop_broker.specs.Ends.{Gives, IsEmpty, written_with}
+use Rattle.iiop_broker.specs.Ends.{Adds, Gives, IsEmpty}
 
 -- what a reader and a writer tell: the octets left, the octets written, whether a call has failed
 pub record Ends : Type 0 where
@@ -35,7 +35,7 @@ pub record Finished (Told : Telling) (before after : Ends) : Type 0 where
   pub closes : Bool
   pub told : Told octets answer closes
   pub read : Gives before.left octets after.left
-  pub wrote : after.written ≡ written_with before.written answer
+  pub wrote : Adds before.written answer after.written
   pub finished : IsShut octets closes ⊎ IsEmpty after.left
 
 -- a read failed; the whole answer to what was read is written
@@ -44,7 +44,7 @@ pub record Unread (Told : Telling) (before after : Ends) : Type 0 where
   pub answer : List ℕ
   pub told : Told octets answer false
   pub read : Gives before.left octets after.left
-  pub wrote : after.written ≡ written_with before.written answer
+  pub wrote : Adds before.written answer after.written
   pub failed : after.unread ≡ true
 
 -- so many reads gave octets; the whole answer is written
@@ -53,7 +53,7 @@ pub record Unended (Told : Telling) (reads : ℕ) (before after : Ends) : Type 0
   pub answer : List ℕ
   pub told : Told octets answer false
   pub read : Gives before.left octets after.left
-  pub wrote : after.written ≡ written_with before.written answer
+  pub wrote : Adds before.written answer after.written
   pub many : reads ≤ length octets
 
 -- a write failed; just so many octets of the answer are written
@@ -64,7 +64,7 @@ pub record Unwritten (Told : Telling) (sent : ℕ) (before after : Ends) : Type 
   pub told : Told octets answer closes
   pub read : Gives before.left octets after.left
   pub within : sent ≤ length answer
-  pub wrote : after.written ≡ written_with before.written (take sent answer)
+  pub wrote : Adds before.written (take sent answer) after.written
   pub failed : after.unwritten ≡ true
 
 -- octets were given up for want of memory; the whole answer to those before is written
@@ -74,7 +74,7 @@ pub record Unserved (ToldInPart : TellingInPart) (before after : Ends) : Type 0 
   pub more : List ℕ
   pub told : ToldInPart octets answer more
   pub read : Gives before.left (octets ++ more) after.left
-  pub wrote : after.written ≡ written_with before.written answer
+  pub wrote : Adds before.written answer after.written
 
 -- how a stream ends that was begun
 abbrev pub IsOutcome : Telling → TellingInPart → ℕ → Ends → Result (Unit {0}) StreamFault → Ends → Type 0

@@ -1,5 +1,5 @@
 -- What is kept of connections, by their whole histories.
-use Rattle.std.specs.Prelude.{◌≡◌, ℕ, List, [], map, Some, None}
+use Rattle.std.specs.Prelude.{◌≡◌, ℕ, List, [], map, None}
 use Rattle.broker_answers.specs.Streams.{Stream, Closed, cut}
 use Rattle.broker_answers.specs.Talk.{Event, World, world, History, Since, Shut, Serving, Moving, Follows, histories}
 

@@ -1,7 +1,7 @@
 //! Where octets come from and go to.
 
-ghost use Rattle.std.specs.Prelude.{◌≡◌, ◌<◌, ◌≤◌, ◌||◌, ℕ, Bool, true, List, Option, length, take, IfOk, OnOk, OnErr};
-ghost use Rattle.iiop_broker.specs.Ends.{Gives, IsEmpty, is_stuck, written_with};
+ghost use Rattle.std.specs.Prelude.{◌≡◌, ◌<◌, ◌≤◌, ◌||◌, ℕ, Bool, true, List, [], Option, length, take, IfOk, OnOk, OnErr};
+ghost use Rattle.iiop_broker.specs.Ends.{Adds, Gives, IsEmpty, is_stuck};
 
 /// A call failed.
 #[derive(Clone, Copy, Debug, PartialEq, Eq)]
@@ -22,9 +22,9 @@ pub trait Input {
         ensures room { length buffer.new ≡ length buffer.old }
         ensures within { IfOk result (λ n. n ≤ length buffer.old) }
         ensures given { IfOk result (λ n. Gives (left self.old) (take n buffer.new) (left self.new)) }
-        ensures end { IfOk result (λ n. n ≡ 0 → 0 < length buffer.old → IsEmpty (left self.old)) }
+        ensures end { IfOk result (λ n. n ≡ 0 → 0 < length buffer.old → IsEmpty (left self.new)) }
         ensures sound { OnOk result (failure self.new ≡ failure self.old) }
-        ensures kept { OnErr result (left self.new ≡ left self.old) }
+        ensures kept { OnErr result (Gives (left self.old) [] (left self.new)) }
         ensures failed { OnErr result (failure self.new ≡ true) };
 }
 
@@ -41,8 +41,8 @@ pub trait Output {
     /// The call failed, and nothing was written.
     fn write(&mut self, octets: &[u8]) -> Result<usize, Failed>
         ensures within { IfOk result (λ n. n ≤ length octets.now) }
-        ensures written { IfOk result (λ n. written self.new ≡ written_with (written self.old) (take n octets.now)) }
+        ensures written { IfOk result (λ n. Adds (written self.old) (take n octets.now) (written self.new)) }
         ensures stuck { IfOk result (λ n. failure self.new ≡ (failure self.old || is_stuck octets.now n)) }
-        ensures kept { OnErr result (written self.new ≡ written self.old) }
+        ensures kept { OnErr result (Adds (written self.old) [] (written self.new)) }
         ensures failed { OnErr result (failure self.new ≡ true) };
 }

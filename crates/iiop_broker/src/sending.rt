@@ -1,7 +1,7 @@
 //! An answer written whole.
 
 ghost use Rattle.std.specs.Prelude.{◌≡◌, ◌≤◌, true, length, take, IfErr, OnOk};
-ghost use Rattle.iiop_broker.specs.Ends.{IsUnsent, written_with};
+ghost use Rattle.iiop_broker.specs.Ends.{Adds, IsUnsent};
 
 use crate::ends::Output;
 
@@ -10,7 +10,7 @@ use crate::ends::Output;
 /// # Errors
 /// How many were written before a write failed.
 pub(crate) fn send<O: Output>(writer: &mut O, octets: &[u8]) -> Result<(), usize>
-    ensures sent { OnOk result (O.written writer.new ≡ written_with (O.written writer.old) octets.now) }
+    ensures sent { OnOk result (Adds (O.written writer.old) octets.now (O.written writer.new)) }
     ensures sound { OnOk result (O.failure writer.new ≡ O.failure writer.old) }
     ensures unsent { IfErr result (λ n.
         IsUnsent (O.written writer.old) octets.now n (O.written writer.new) (O.failure writer.new)) }

@@ -1,11 +1,11 @@
 //! Streams of the standard library.
 
-ghost use Rattle.std.specs.Prelude.{◌≡◌, false, None};
+ghost use Rattle.std.specs.Prelude.{◌≡◌, false};
 
 use crate::ends::{Failed, Input, Output};
 use std::io::{Read, Write};
 
-/// A stream of the standard library, which tells no octets.
+/// A stream of the standard library. It tells what that tells; a socket tells nothing.
 #[derive(Drop)]
 pub struct Wire<T> {
     stream: T,
@@ -24,7 +24,7 @@ impl<T> Wire<T> {
 }
 
 impl<T: Read> Input for Wire<T> {
-    ghost left = { λ wire. None };
+    ghost left = { λ wire. T.remaining wire.stream };
 
     ghost failure = { λ wire. wire.failed };
 
@@ -40,7 +40,7 @@ impl<T: Read> Input for Wire<T> {
 }
 
 impl<T: Write> Output for Wire<T> {
-    ghost written = { λ wire. None };
+    ghost written = { λ wire. T.contents wire.stream };
 
     ghost failure = { λ wire. wire.failed };
 

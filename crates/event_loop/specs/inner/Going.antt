@@ -6,7 +6,7 @@ use Rattle.broker_answers.specs.Talk.{World, world, rests, Follows}
 use Rattle.broker_answers.specs.Servants.{Acting}
 use Rattle.broker_answers.specs.Objects.{Served}
 use Rattle.broker_answers.specs.Serving.{Moves, Serves}
-use Rattle.iiop_broker.specs.Ends.{Gives, written_with}
+use Rattle.iiop_broker.specs.Ends.{Adds, Gives}
 use Rattle.iiop_broker.specs.Outcomes.{Ends}
 use Rattle.event_loop.specs.declared.listener.End.{End}
 use Rattle.event_loop.specs.declared.slot.Course.{Course}
@@ -42,7 +42,7 @@ pub record IsOpen (said : Log) (came : List Ends) (one : Slotted) : Type 0 where
   pub sent : List ℕ
   pub answer_is : answered one.number said ≡ sent ++ one.waiting
   pub read : Gives from.left (brought one.number said) one.told.left
-  pub wrote : one.told.written ≡ written_with from.written sent
+  pub wrote : Adds from.written sent one.told.written
 
 -- one that went
 pub record IsGone {S : Type 0} (acting : Acting S) (served : Served) (idle : ℕ) (before : S) (said : Log)

@@ -5,7 +5,7 @@ use Rattle.broker_answers.specs.Talk.{World, rests, Answers, Abandons}
 use Rattle.broker_answers.specs.Servants.{Acting}
 use Rattle.broker_answers.specs.Objects.{Served}
 use Rattle.broker_answers.specs.Serving.{Moves, Serves}
-use Rattle.iiop_broker.specs.Ends.{Gives, IsEmpty, written_with}
+use Rattle.iiop_broker.specs.Ends.{Adds, Gives, IsEmpty}
 use Rattle.event_loop.specs.declared.listener.End.{End}
 use Rattle.event_loop.specs.declared.listener.End.TheVariants.{Finished, Failed, GivenUp, Idle}
 use Rattle.event_loop.specs.declared.slot.Course.{Course}
@@ -20,7 +20,7 @@ pub record HasSent (before : Slotted) (course : Course) (after : Slotted) : Type
   pub number : after.number ≡ before.number
   pub waiting : before.waiting ≡ taken ++ after.waiting
   pub left : after.told.left ≡ before.told.left
-  pub written : after.told.written ≡ written_with before.told.written taken
+  pub written : Adds before.told.written taken after.told.written
   pub failed : (end : End) → course ≡ Over end → (end ≡ Failed) × (after.told.unwritten ≡ true)
 
 -- octets came, and nothing else changed but what waits
@@ -72,14 +72,14 @@ pub record HasClosed (before after : Ends) : Type 0 where
   pub last : List ℕ
   pub is : IsFarewell last
   pub left : after.left ≡ before.left
-  pub written : after.written ≡ written_with before.written last
+  pub written : Adds before.written last after.written
 
 -- one that was idle was let go of
 pub record HasParted (before : Slotted) (to : Gone) : Type 0 where
   pub last : List ℕ
   pub last_is : IsLast Idle before.waiting last
   pub left : to.told.left ≡ before.told.left
-  pub written : to.told.written ≡ written_with before.told.written last
+  pub written : Adds before.told.written last to.told.written
   pub quiet : to.quiet ≡ before.quiet
   pub end_is : to.end ≡ Idle
 

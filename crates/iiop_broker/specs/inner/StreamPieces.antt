@@ -6,7 +6,7 @@ use Rattle.broker_answers.specs.Talk.{World, rests, Answers, Abandons}
 use Rattle.broker_answers.specs.Servants.{Acting}
 use Rattle.broker_answers.specs.Objects.{Served}
 use Rattle.broker_answers.specs.Serving.{Moves, Serves}
-use Rattle.iiop_broker.specs.Ends.{written_with}
+use Rattle.iiop_broker.specs.Ends.{Adds}
 
 -- its answer, of so many octets, is written; whether the connection is closed then
 pub record IsSent {S : Type 0} (acting : Acting S) (served : Served) (c : ℕ)
@@ -14,7 +14,7 @@ pub record IsSent {S : Type 0} (acting : Acting S) (served : Served) (c : ℕ)
     (n : ℕ) (shut : Bool) (after : World S Stream) (written' : Option (List ℕ)) : Type 0 where
   pub answer : List ℕ
   pub answers : Answers rests (Serves acting served) before c piece answer after
-  pub wrote : written' ≡ written_with written answer
+  pub wrote : Adds written answer written'
   pub count : n ≡ length answer
   pub closed : (shut ≡ true) ↔ (at c after.there ≡ Some Closed)
 
@@ -25,7 +25,7 @@ pub record IsStuck {S : Type 0} (acting : Acting S) (served : Served) (c : ℕ)
   pub answer : List ℕ
   pub answers : Answers rests (Serves acting served) before c piece answer after
   pub within : n ≤ length answer
-  pub wrote : written' ≡ written_with written (take n answer)
+  pub wrote : Adds written (take n answer) written'
   pub failed : failure ≡ true
 
 -- it was given up

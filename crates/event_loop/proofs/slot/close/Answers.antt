@@ -1,6 +1,7 @@
-use Rattle.std.proofs.Common.{rules, ◌≡◌, take, [], sym, ap, ◌∙◌}
+use Rattle.std.proofs.Common.{rules, ◌≡◌, take, [], sym, ap, subst, ◌∙◌}
 use Rattle.giop_messages.specs.Messages.{Closes, Says}
-use Rattle.iiop_broker.proofs.Written.{written_nothing}
+use Rattle.iiop_broker.specs.Ends.{Adds}
+use Rattle.iiop_broker.proofs.Written.{adds_nothing}
 use Rattle.event_loop.specs.Telling.{HasWritten}
 use Rattle.event_loop.proofs.Turns.{farewell, no_farewell}
 use Rattle.event_loop.proofs.slot.close.Goals as goal
@@ -24,7 +25,7 @@ returns-in-Ok-None-clause-closed g c =
       last = [];
       is = no_farewell c.close_connection-message.result c.close_connection-message.ensures;
       left = ap (λ e. e.left) same;
-      written = ap (λ e. e.written) same ∙ sym (written_nothing told.written);
+      written = subst (λ e. Adds told.written [] e.written) (sym same) (adds_nothing told.written);
     }
 
 pub returns-in-Err-clause-closed : goal.returns-in-Err-clause-closed
@@ -35,5 +36,5 @@ returns-in-Err-clause-closed g c =
       last = [];
       is = no_farewell c.close_connection-message.result c.close_connection-message.ensures;
       left = ap (λ e. e.left) same;
-      written = ap (λ e. e.written) same ∙ sym (written_nothing told.written);
+      written = subst (λ e. Adds told.written [] e.written) (sym same) (adds_nothing told.written);
     }

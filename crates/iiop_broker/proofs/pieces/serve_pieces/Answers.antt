@@ -2,7 +2,7 @@ use Rattle.std.proofs.Common.{rules, ◌≡◌, ◌∙◌, ◌+◌, ℕ, false, 
 use Rattle.broker_answers.specs.Servants.{acts}
 use Rattle.broker_answers.specs.Serving.{Serves}
 use Rattle.broker_answers.specs.Talk.{Answers, Brings, rests}
-use Rattle.iiop_broker.specs.Ends.{Gives, IsUnsent, written_with}
+use Rattle.iiop_broker.specs.Ends.{Adds, Gives, IsUnsent}
 use Rattle.iiop_broker.specs.Outcomes.{ends}
 use Rattle.iiop_broker.specs.World.{IsRefused}
 use Rattle.iiop_broker.specs.inner.StreamPieces.{IsSent}
@@ -120,7 +120,7 @@ returns-then-is_closed-clause-outcome g c = λ others before stream.
     let is : IsSent acting served c.args.c old piece now.written (length answer) c.is_closed.result new after.written = record {
       answer = answer;
       answers = answers;
-      wrote = c.in-Ok-send.ensures.sent ∙ ap (written_with now.written) c.as_slice-in-loop-count.ensures.value;
+      wrote = subst (λ (o : List ℕ). Adds now.written o after.written) c.as_slice-in-loop-count.ensures.value c.in-Ok-send.ensures.sent;
       count = refl;
       closed = c.is_closed.ensures;
     } in
@@ -147,7 +147,7 @@ loop-count-preserved g c =
     let is : IsSent acting served c.args.c old piece now.written c.len.result c.is_closed.result new after.written = record {
       answer = answer;
       answers = answers;
-      wrote = c.in-Ok-send.ensures.sent ∙ ap (written_with now.written) c.as_slice-in-loop-count.ensures.value;
+      wrote = subst (λ (o : List ℕ). Adds now.written o after.written) c.as_slice-in-loop-count.ensures.value c.in-Ok-send.ensures.sent;
       count = let len = c.len.ensures in let ok = c.in-Ok-hear_piece.answer.ok.0 in omega (arith, len, ok);
       closed = c.is_closed.ensures;
     } in

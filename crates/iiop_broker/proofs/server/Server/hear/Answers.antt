@@ -1,4 +1,4 @@
-use Rattle.std.proofs.Common.{◌≡◌, ◌≤◌, ◌+◌, ◌∙◌, ◌++◌, List, [], ℕ, length, drop, refl, sym, ap, subst, arith}
+use Rattle.std.proofs.Common.{◌≡◌, ◌≤◌, ◌+◌, ◌∙◌, ◌++◌, List, [], ℕ, length, drop, sym, ap, subst, arith}
 use Rattle.std.proofs.lemmas.List.{drop_all, length-drop}
 use Rattle.broker_answers.specs.Objects.{Served}
 use Rattle.broker_answers.specs.Streams.{Cut, Open, cut, cut_of}

@@ -1,4 +1,4 @@
-use Rattle.std.proofs.Common.{◌≡◌, List, ℕ, None, Option, Some, true, false, sym, ◌∙◌, subst, drop}
+use Rattle.std.proofs.Common.{List, ℕ, None, Some, true, false, subst, drop}
 use Rattle.broker_answers.specs.Servants.{acts}
 use Rattle.broker_answers.specs.Answering.{MayMoveRaw}
 use Rattle.broker_answers.specs.Serving.{ServesRaw}

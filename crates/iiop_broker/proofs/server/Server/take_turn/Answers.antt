@@ -1,4 +1,4 @@
-use Rattle.std.proofs.Common.{◌≡◌, List, ℕ, None, Some, false, refl, subst, sym, ◌∙◌, drop}
+use Rattle.std.proofs.Common.{◌≡◌, None, false, refl, subst, sym, ◌∙◌, drop}
 use Rattle.giop_messages.specs.Framing.{is_fragment}
 use Rattle.giop_messages.specs.Runs.{IsFrame}
 use Rattle.broker_answers.specs.Servants.{acts}
