@@ -4,6 +4,7 @@
 mod connection;
 pub mod laws;
 mod listener;
+mod reading;
 mod serving;
 mod slot;
 mod sweep;

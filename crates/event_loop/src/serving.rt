@@ -12,7 +12,7 @@ use crate::listener::{End, Listener};
 use crate::slot::Slot;
 use crate::sweep::{let_go, sweep};
 use iiop_broker::laws::steps_are_the_talk;
-use iiop_broker::{Broker, BrokerFault, Event, Servant};
+use iiop_broker::{Broker, BrokerFault, Event, MAX_ROOM, Servant};
 use std::alloc::Global;
 
 /// Why not all connections were served to their end.
@@ -160,7 +160,7 @@ pub fn serve_at_once<S: Servant, L: Listener>(
 {
     steps_are_the_talk::<S>();
     let mut slots = Vec::new(alloc);
-    let mut buffer = [0u8; 4096];
+    let mut buffer = [0u8; MAX_ROOM];
     let mut progress = Progress {
         begun: 0,
         count,

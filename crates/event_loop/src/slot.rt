@@ -14,6 +14,7 @@ ghost use Rattle.event_loop.specs.inner.Turns.{HasClosed, HasHeard, HasParted, H
 
 use crate::connection::Connection;
 use crate::listener::End;
+use crate::reading::read_within;
 use iiop_broker::{Broker, BrokerFault, Event, Servant};
 use std::alloc::Global;
 use std::marker::Model;
@@ -151,7 +152,8 @@ impl<C: Connection> Slot<C> {
         ensures same { broker.new.served ≡ broker.old.served }
         ensures as_long { length buffer.new ≡ length buffer.old }
     {
-        let n = match self.connection.read(buffer) {
+        let room = broker.room(self.number);
+        let n = match read_within(&mut self.connection, buffer, room) {
             Ok(None) => return Course::Still,
             Ok(Some(0)) => return Course::Over(End::Finished),
             Ok(Some(n)) => n,

@@ -2,6 +2,7 @@ pub mod Kept
 pub mod World
 pub mod Listed
 pub mod Rests
+pub mod Room
 pub mod Ends
 pub mod AnsweredStreams
 pub mod Outcomes

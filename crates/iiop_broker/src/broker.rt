@@ -1,16 +1,18 @@
 //! The broker.
 
-ghost use Rattle.std.specs.Prelude.{◌≡◌, ◌↔◌, [], IfOk, IfErr, IsTrue, Some, is_some};
+ghost use Rattle.std.specs.Prelude.{◌≡◌, ◌<◌, ◌↔◌, [], IfOk, IfErr, IsTrue, Some, is_some};
 ghost use Rattle.broker_answers.specs.Connections.{at};
 ghost use Rattle.broker_answers.specs.Streams.{Closed};
 ghost use Rattle.broker_answers.specs.Talk.{world};
 ghost use Rattle.broker_answers.specs.Objects.{AreServed, objects_of, served};
 ghost use Rattle.broker_answers.specs.Servants.{acts};
+ghost use Rattle.iiop_broker.specs.Room.{room_of};
 ghost use Rattle.iiop_broker.specs.World.{IsRefused, IsStep, broking, event_of};
 
 use crate::connections::{Connection, begin, end, is_closed, is_there};
 use crate::event::Event;
 use crate::fault::BrokerFault;
+use crate::room::room;
 use crate::server::Server;
 use broker_answers::{Servant, Service};
 use giop::Giop;
@@ -72,6 +74,15 @@ impl<S: Servant> Broker<S> {
         ensures { IsTrue result ↔ (at c self.now.world.there ≡ Some Closed) }
     {
         is_closed(self.connections.as_slice(), c)
+    }
+
+    /// How many octets of the connection of a number are to be read next at most: what the message at
+    /// its front still wants, but 4,096 at least and `MAX_ROOM` at most. Takes no memory.
+    pub fn room(&self, c: u32) -> usize
+        ensures value { result ≡ room_of (at c self.now.world.there) }
+        ensures some { 0 < result }
+    {
+        room(self.connections.as_slice(), c)
     }
 
     /// What an event is answered: octets for its connection. A piece is answered what the messages

@@ -18,7 +18,7 @@ pub(crate) type Connection = (u32, Kept);
 pub const MAX_CONNECTIONS: usize = 64;
 
 /// What is kept of the connection of a number.
-fn kept_of(connections: &[Connection], c: u32) -> Option<&Kept>
+pub(crate) fn kept_of(connections: &[Connection], c: u32) -> Option<&Kept>
     ensures { option_map (λ kept. stream_of kept.now) result ≡ at c (streams_of connections.now) }
 {
     for connection in connections {

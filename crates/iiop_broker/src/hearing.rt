@@ -1,6 +1,6 @@
 //! All messages of a stream that have come served.
 
-ghost use Rattle.std.specs.Prelude.{◌≡◌, ◌≤◌, length, drop, IfOk, OnErr};
+ghost use Rattle.std.specs.Prelude.{◌≡◌, ◌≤◌, ◌++◌, length, drop, IfOk, OnErr, OnOk};
 ghost use Rattle.broker_answers.specs.Streams.{Open, cut};
 ghost use Rattle.broker_answers.specs.Servants.{acts};
 ghost use Rattle.iiop_broker.specs.Kept.{stream_of};
@@ -42,6 +42,18 @@ fn kept_behind(run: Option<Run>, mut octets: Vec<u8>, seen: usize) -> Kept
     Kept::Open { run, rest: octets }
 }
 
+/// Adds an answer behind others. The first isn't copied.
+fn add_answer(answers: &mut Vec<u8>, more: Vec<u8>) -> Result<(), AllocError>
+    ensures { OnOk result (answers.new.items ≡ answers.old.items ++ more.items) }
+{
+    if answers.is_empty() {
+        *answers = more;
+        return Ok(());
+    }
+    answers.extend_from_slice(more.as_slice())?;
+    Ok(())
+}
+
 impl<S: Servant> Server<S> {
     /// Serves all messages at the front of a stream, and keeps what is behind them.
     ///
@@ -68,12 +80,12 @@ impl<S: Servant> Server<S> {
                     len,
                     answer: more,
                 } => {
-                    answer.extend_from_slice(more.as_slice())?;
+                    add_answer(&mut answer, more)?;
                     open = run;
                     at += len;
                 }
                 Turn::Ends(more) => {
-                    answer.extend_from_slice(more.as_slice())?;
+                    add_answer(&mut answer, more)?;
                     return Ok(Heard {
                         answer,
                         kept: Kept::Closed,

@@ -10,6 +10,8 @@ ghost use Rattle.iiop_broker.specs.inner.Running.{IsFresh, running, running_in_p
 use crate::broker::Broker;
 use crate::ends::{Input, Output};
 use crate::fault::BrokerFault;
+use crate::reading::read_within;
+use crate::room::MAX_ROOM;
 use crate::sending::send;
 use crate::stream_fault::StreamFault;
 use broker_answers::Servant;
@@ -31,11 +33,12 @@ pub(crate) fn serve_pieces<S: Servant, I: Input, O: Output>(
         (ends (I.left reader.new) (O.written writer.new) (I.failure reader.new) (O.failure writer.new)) }
     ensures served { broker.new.served ≡ broker.old.served }
 {
-    let mut buffer = [0u8; 4096];
+    let mut buffer = [0u8; MAX_ROOM];
     let mut sent: u128 = 0;
     let mut count: u64 = 0;
     while count < reads {
-        let n = match reader.read(&mut buffer) {
+        let room = broker.room(c);
+        let n = match read_within(reader, &mut buffer, room) {
             Ok(0) => return Ok(()),
             Ok(n) => n,
             Err(_) => return Err(StreamFault::ReadFailed),

@@ -14,6 +14,7 @@ mod polled_loopback;
 mod polled_stream;
 mod serving;
 mod serving_many;
+mod untold;
 
 pub use announcing::serving_line;
 pub use connections::serve_connections;
@@ -25,3 +26,4 @@ pub use polled_loopback::PolledLoopback;
 pub use polled_stream::PolledStream;
 pub use serving::{serve, serve_at};
 pub use serving_many::serve_many_at;
+pub use untold::Untold;

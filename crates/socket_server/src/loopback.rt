@@ -5,6 +5,7 @@ ghost use Rattle.socket_server.specs.Visits.{untold};
 
 use crate::listener::Listener;
 use crate::misses::{Misses, PAUSE, TRIES};
+use crate::untold::Untold;
 use iiop_broker::{Failed, StreamFault, Wire};
 use std::net::{Net, OpenListener, OpenStream, TcpListener};
 use std::thread;
@@ -40,7 +41,9 @@ impl<'r, R: Net + Clock + Eprint> Loopback<'r, R> {
 }
 
 /// The two ends of the next connection, of which small answers go out at once, where the system can.
-fn next<S: OpenStream + Drop, T: OpenListener<Stream = S>>(socket: &T) -> Option<(Wire<S>, Wire<S>)>
+fn next<S: OpenStream + Drop, T: OpenListener<Stream = S>>(
+    socket: &T,
+) -> Option<(Wire<Untold<S>>, Wire<Untold<S>>)>
     ensures reading { IfSome result (λ it. it.0.failed ≡ false) }
     ensures writing { IfSome result (λ it. it.1.failed ≡ false) }
 {
@@ -49,14 +52,17 @@ fn next<S: OpenStream + Drop, T: OpenListener<Stream = S>>(socket: &T) -> Option
     };
     let _ = stream.set_nodelay(true);
     match stream.try_clone() {
-        Ok(writer) => Some((Wire::new(stream), Wire::new(writer))),
+        Ok(writer) => Some((
+            Wire::new(Untold::new(stream)),
+            Wire::new(Untold::new(writer)),
+        )),
         Err(_) => None,
     }
 }
 
 impl<'r, R: Net + Clock + Eprint> Loopback<'r, R> {
     /// The two ends of the next connection, for which it is tried often enough.
-    fn wait(&mut self) -> Option<(Wire<R::Stream>, Wire<R::Stream>)>
+    fn wait(&mut self) -> Option<(Wire<Untold<R::Stream>>, Wire<Untold<R::Stream>>)>
         ensures reading { IfSome result (λ it. it.0.failed ≡ false) }
         ensures writing { IfSome result (λ it. it.1.failed ≡ false) }
         ensures port { self.new.port ≡ self.old.port }
@@ -80,9 +86,9 @@ impl<'r, R: Net + Clock + Eprint> Loopback<'r, R> {
 }
 
 impl<'r, R: Net + Clock + Eprint> Listener for Loopback<'r, R> {
-    type Reader = Wire<R::Stream>;
+    type Reader = Wire<Untold<R::Stream>>;
 
-    type Writer = Wire<R::Stream>;
+    type Writer = Wire<Untold<R::Stream>>;
 
     ghost came = { λ loopback. replicate loopback.count untold };
 
@@ -103,7 +109,7 @@ impl<'r, R: Net + Clock + Eprint> Listener for Loopback<'r, R> {
         }
     }
 
-    fn accept(&mut self) -> Result<(Wire<R::Stream>, Wire<R::Stream>), Failed> {
+    fn accept(&mut self) -> Result<(Wire<Untold<R::Stream>>, Wire<Untold<R::Stream>>), Failed> {
         match (self.wait(), self.count.checked_add(1)) {
             (Some(ends), Some(count)) => {
                 self.count = count;
@@ -118,8 +124,8 @@ impl<'r, R: Net + Clock + Eprint> Listener for Loopback<'r, R> {
 
     fn hand_back(
         &mut self,
-        _reader: Wire<R::Stream>,
-        _writer: Wire<R::Stream>,
+        _reader: Wire<Untold<R::Stream>>,
+        _writer: Wire<Untold<R::Stream>>,
         _end: Result<(), StreamFault>,
     ) {}
 }

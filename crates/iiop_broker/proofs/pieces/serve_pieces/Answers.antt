@@ -32,12 +32,12 @@ returns-in-Ok-eq0-clause-outcome g c = λ others before stream.
     let served = c.args.broker.now.served in
     let start = ends (g.I.Input.left c.args.reader.now) (g.O.Output.written c.args.writer.now) (g.I.Input.failure c.args.reader.now) (g.O.Output.failure c.args.writer.now) in
     let now = ends (g.I.Input.left c.loop-count.reader) (g.O.Output.written c.loop-count.writer) (g.I.Input.failure c.loop-count.reader) (g.O.Output.failure c.loop-count.writer) in
-    let after = ends (g.I.Input.left c.read.new.self) (g.O.Output.written c.loop-count.writer) (g.I.Input.failure c.read.new.self) (g.O.Output.failure c.loop-count.writer) in
+    let after = ends (g.I.Input.left c.read_within.new.reader) (g.O.Output.written c.loop-count.writer) (g.I.Input.failure c.read_within.new.reader) (g.O.Output.failure c.loop-count.writer) in
     let going = c.loop-count.invariant.going others before stream in
     all_read acting served c.args.c others before start now after c.loop-count.sent c.loop-count.count c.loop-count.broker.world
-    (take c.in-Ok-eq0.field-0 c.read.new.buffer) going c.in-Ok-eq0.ensures.given
-    (ap (λ (k : ℕ). take k c.read.new.buffer) c.in-Ok-eq0.field-0-test)
-    (c.in-Ok-eq0.ensures.end c.in-Ok-eq0.field-0-test c.loop-count.invariant.room) refl
+    (take c.in-Ok-eq0.field-0 c.read_within.new.buffer) going c.in-Ok-eq0.ensures.given
+    (ap (λ (k : ℕ). take k c.read_within.new.buffer) c.in-Ok-eq0.field-0-test)
+    (c.in-Ok-eq0.ensures.end c.in-Ok-eq0.field-0-test) refl
 
 pub returns-in-Err-clause-outcome : goal.returns-in-Err-clause-outcome
 returns-in-Err-clause-outcome g c = λ others before stream.
@@ -45,7 +45,7 @@ returns-in-Err-clause-outcome g c = λ others before stream.
     let served = c.args.broker.now.served in
     let start = ends (g.I.Input.left c.args.reader.now) (g.O.Output.written c.args.writer.now) (g.I.Input.failure c.args.reader.now) (g.O.Output.failure c.args.writer.now) in
     let now = ends (g.I.Input.left c.loop-count.reader) (g.O.Output.written c.loop-count.writer) (g.I.Input.failure c.loop-count.reader) (g.O.Output.failure c.loop-count.writer) in
-    let after = ends (g.I.Input.left c.read.new.self) (g.O.Output.written c.loop-count.writer) (g.I.Input.failure c.read.new.self) (g.O.Output.failure c.loop-count.writer) in
+    let after = ends (g.I.Input.left c.read_within.new.reader) (g.O.Output.written c.loop-count.writer) (g.I.Input.failure c.read_within.new.reader) (g.O.Output.failure c.loop-count.writer) in
     let going = c.loop-count.invariant.going others before stream in
     unread acting served c.args.c others before start now after c.loop-count.sent c.loop-count.count c.loop-count.broker.world going
     c.in-Err.ensures.kept refl c.in-Err.ensures.failed
@@ -62,9 +62,9 @@ returns-in-NoMemory-clause-outcome g c = λ others before stream.
     let served = c.args.broker.now.served in
     let start = ends (g.I.Input.left c.args.reader.now) (g.O.Output.written c.args.writer.now) (g.I.Input.failure c.args.reader.now) (g.O.Output.failure c.args.writer.now) in
     let now = ends (g.I.Input.left c.loop-count.reader) (g.O.Output.written c.loop-count.writer) (g.I.Input.failure c.loop-count.reader) (g.O.Output.failure c.loop-count.writer) in
-    let after = ends (g.I.Input.left c.read.new.self) (g.O.Output.written c.loop-count.writer) (g.I.Input.failure c.read.new.self) (g.O.Output.failure c.loop-count.writer) in
+    let after = ends (g.I.Input.left c.read_within.new.reader) (g.O.Output.written c.loop-count.writer) (g.I.Input.failure c.read_within.new.reader) (g.O.Output.failure c.loop-count.writer) in
     let piece = c.split_at.result.0.now in
-    let cut_is : take c.in-Ok.n c.read.new.buffer ≡ piece =
+    let cut_is : take c.in-Ok.n c.read_within.new.buffer ≡ piece =
     ap (take c.in-Ok.n) (sym c.as_slice.ensures) ∙ sym c.split_at.ensures.front in
     let gives : Gives now.left piece after.left = subst (λ (p : List ℕ). Gives now.left p after.left) cut_is c.in-Ok.ensures.given in
     let old = c.loop-count.broker.world in
@@ -82,9 +82,9 @@ returns-in-Err-send-clause-outcome g c = λ others before stream.
     let served = c.args.broker.now.served in
     let start = ends (g.I.Input.left c.args.reader.now) (g.O.Output.written c.args.writer.now) (g.I.Input.failure c.args.reader.now) (g.O.Output.failure c.args.writer.now) in
     let now = ends (g.I.Input.left c.loop-count.reader) (g.O.Output.written c.loop-count.writer) (g.I.Input.failure c.loop-count.reader) (g.O.Output.failure c.loop-count.writer) in
-    let after = ends (g.I.Input.left c.read.new.self) (g.O.Output.written c.send.new.writer) (g.I.Input.failure c.read.new.self) (g.O.Output.failure c.send.new.writer) in
+    let after = ends (g.I.Input.left c.read_within.new.reader) (g.O.Output.written c.send.new.writer) (g.I.Input.failure c.read_within.new.reader) (g.O.Output.failure c.send.new.writer) in
     let piece = c.split_at.result.0.now in
-    let cut_is : take c.in-Ok.n c.read.new.buffer ≡ piece =
+    let cut_is : take c.in-Ok.n c.read_within.new.buffer ≡ piece =
     ap (take c.in-Ok.n) (sym c.as_slice.ensures) ∙ sym c.split_at.ensures.front in
     let gives : Gives now.left piece after.left = subst (λ (p : List ℕ). Gives now.left p after.left) cut_is c.in-Ok.ensures.given in
     let old = c.loop-count.broker.world in
@@ -106,9 +106,9 @@ returns-then-is_closed-clause-outcome g c = λ others before stream.
     let served = c.args.broker.now.served in
     let start = ends (g.I.Input.left c.args.reader.now) (g.O.Output.written c.args.writer.now) (g.I.Input.failure c.args.reader.now) (g.O.Output.failure c.args.writer.now) in
     let now = ends (g.I.Input.left c.loop-count.reader) (g.O.Output.written c.loop-count.writer) (g.I.Input.failure c.loop-count.reader) (g.O.Output.failure c.loop-count.writer) in
-    let after = ends (g.I.Input.left c.read.new.self) (g.O.Output.written c.send.new.writer) (g.I.Input.failure c.read.new.self) (g.O.Output.failure c.send.new.writer) in
+    let after = ends (g.I.Input.left c.read_within.new.reader) (g.O.Output.written c.send.new.writer) (g.I.Input.failure c.read_within.new.reader) (g.O.Output.failure c.send.new.writer) in
     let piece = c.split_at.result.0.now in
-    let cut_is : take c.in-Ok.n c.read.new.buffer ≡ piece =
+    let cut_is : take c.in-Ok.n c.read_within.new.buffer ≡ piece =
     ap (take c.in-Ok.n) (sym c.as_slice.ensures) ∙ sym c.split_at.ensures.front in
     let gives : Gives now.left piece after.left = subst (λ (p : List ℕ). Gives now.left p after.left) cut_is c.in-Ok.ensures.given in
     let old = c.loop-count.broker.world in
@@ -133,9 +133,9 @@ loop-count-preserved g c =
     let served = c.args.broker.now.served in
     let start = ends (g.I.Input.left c.args.reader.now) (g.O.Output.written c.args.writer.now) (g.I.Input.failure c.args.reader.now) (g.O.Output.failure c.args.writer.now) in
     let now = ends (g.I.Input.left c.loop-count.reader) (g.O.Output.written c.loop-count.writer) (g.I.Input.failure c.loop-count.reader) (g.O.Output.failure c.loop-count.writer) in
-    let after = ends (g.I.Input.left c.read.new.self) (g.O.Output.written c.send.new.writer) (g.I.Input.failure c.read.new.self) (g.O.Output.failure c.send.new.writer) in
+    let after = ends (g.I.Input.left c.read_within.new.reader) (g.O.Output.written c.send.new.writer) (g.I.Input.failure c.read_within.new.reader) (g.O.Output.failure c.send.new.writer) in
     let piece = c.split_at.result.0.now in
-    let cut_is : take c.in-Ok.n c.read.new.buffer ≡ piece =
+    let cut_is : take c.in-Ok.n c.read_within.new.buffer ≡ piece =
     ap (take c.in-Ok.n) (sym c.as_slice.ensures) ∙ sym c.split_at.ensures.front in
     let gives : Gives now.left piece after.left = subst (λ (p : List ℕ). Gives now.left p after.left) cut_is c.in-Ok.ensures.given in
     let old = c.loop-count.broker.world in

@@ -27,9 +27,9 @@ returns-in_err-run-clause-given_up g c =
     on_err c.from_residual.result (Stopped acting service all.raws before after)
     (stopped_then acting service all mid before between after c.loop-at.answer.items c.loop-at.invariant.progress stopped)
 
-pub returns-in_err-extend_from_slice-in-Goes-clause-given_up :
-    goal.returns-in_err-extend_from_slice-in-Goes-clause-given_up
-returns-in_err-extend_from_slice-in-Goes-clause-given_up g c =
+pub returns-in_err-add_answer-in-Goes-clause-given_up :
+    goal.returns-in_err-add_answer-in-Goes-clause-given_up
+returns-in_err-add_answer-in-Goes-clause-given_up g c =
     let acting = acts g.S.Servant.says g.S.Servant.after in
     let service = c.args.self.now.service in
     let octets = c.args.octets.items in
@@ -44,7 +44,7 @@ returns-in_err-extend_from_slice-in-Goes-clause-given_up g c =
     let left = cut c.in-Goes.run' (drop c.in-Goes.len rest) in
     let turned = turned_here acting service c.loop-at.self.service c.loop-at.open rest c.split_at.result.1.now between
     c.in_ok-run.field-0 (turns.Goes c.in-Goes.run' c.in-Goes.len c.in-Goes.more) after c.loop-at.invariant.same rest_is c.in-Goes.is c.in_ok-run.ensures.turned in
-    on_err c.from_residual-in_err-extend_from_slice-in-Goes.result (Stopped acting service all.raws before after)
+    on_err c.from_residual-in_err-add_answer-in-Goes.result (Stopped acting service all.raws before after)
     (stopped_here acting service all left before after (c.loop-at.answer.items ++ more.items)
     (progress_then acting service all mid left before between after c.loop-at.answer.items more.items
     c.loop-at.invariant.progress turned.1))
@@ -69,8 +69,7 @@ loop-at-preserved g c =
     c.in_ok-run.field-0 (turns.Goes c.in-Goes.run' c.in-Goes.len c.in-Goes.more) after c.loop-at.invariant.same rest_is c.in-Goes.is c.in_ok-run.ensures.turned in
     let p = progress_then acting service all mid left before between after c.loop-at.answer.items more.items
     c.loop-at.invariant.progress turned.1 in
-    let answer = c.in_ok-extend_from_slice-in-Goes.ensures.items
-    ∙ ap (λ (r : List ℕ). c.loop-at.answer.items ++ r) c.as_slice-in-Goes.ensures.value in
+    let answer = c.in_ok-add_answer-in-Goes.ensures in
     record {
       within = omega (arith, turned.0.within, length-drop at octets, c.loop-at.invariant.within);
       same = c.take_turn.ensures.same ∙ c.loop-at.invariant.same;
@@ -80,9 +79,9 @@ loop-at-preserved g c =
           (dropped at len octets) p);
     }
 
-pub returns-in_err-extend_from_slice-in-Ends-clause-given_up :
-    goal.returns-in_err-extend_from_slice-in-Ends-clause-given_up
-returns-in_err-extend_from_slice-in-Ends-clause-given_up g c =
+pub returns-in_err-add_answer-in-Ends-clause-given_up :
+    goal.returns-in_err-add_answer-in-Ends-clause-given_up
+returns-in_err-add_answer-in-Ends-clause-given_up g c =
     let acting = acts g.S.Servant.says g.S.Servant.after in
     let service = c.args.self.now.service in
     let octets = c.args.octets.items in
@@ -96,7 +95,7 @@ returns-in_err-extend_from_slice-in-Ends-clause-given_up g c =
     let more = c.in-Ends.more in
     let turned = turned_here acting service c.loop-at.self.service c.loop-at.open rest c.split_at.result.1.now between
     c.in_ok-run.field-0 (turns.Ends c.in-Ends.more) after c.loop-at.invariant.same rest_is c.in-Ends.is c.in_ok-run.ensures.turned in
-    on_err c.from_residual-in_err-extend_from_slice-in-Ends.result (Stopped acting service all.raws before after)
+    on_err c.from_residual-in_err-add_answer-in-Ends.result (Stopped acting service all.raws before after)
     (stopped_ended acting service all.raws before after (c.loop-at.answer.items ++ more.items)
     (ended_then acting service all mid before between after c.loop-at.answer.items more.items
     c.loop-at.invariant.progress turned))
@@ -116,9 +115,8 @@ returns-in-Ends-clause-heard g c =
     let more = c.in-Ends.more in
     let turned = turned_here acting service c.loop-at.self.service c.loop-at.open rest c.split_at.result.1.now between
     c.in_ok-run.field-0 (turns.Ends c.in-Ends.more) after c.loop-at.invariant.same rest_is c.in-Ends.is c.in_ok-run.ensures.turned in
-    let answer = c.in_ok-extend_from_slice-in-Ends.ensures.items
-    ∙ ap (λ (r : List ℕ). c.loop-at.answer.items ++ r) c.as_slice-in-Ends.ensures.value in
-    heard_closed acting service all before after c.extend_from_slice-in-Ends.new.self.items
+    let answer = c.in_ok-add_answer-in-Ends.ensures in
+    heard_closed acting service all before after c.add_answer-in-Ends.new.answers.items
     (subst (λ (a : List ℕ). Ended acting service all.raws before a after) (sym answer)
     (ended_then acting service all mid before between after c.loop-at.answer.items more.items
     c.loop-at.invariant.progress turned))

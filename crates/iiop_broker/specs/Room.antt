@@ -1,0 +1,22 @@
+-- How much is read of a connection at a time (own).
+use Rattle.std.specs.Prelude.{ℕ, ◌+◌, ◌-◌, min, max, if◌then◌else◌, nat_lt, List, length, Option, Some, None, Result, Ok, Err}
+use Rattle.broker_answers.specs.Streams.{Stream, Open, Closed}
+use Rattle.giop_messages.specs.Heads.{head_in}
+use Rattle.giop_messages.specs.declared.fault.FramingFault.{FramingFault}
+use Rattle.giop_messages.specs.declared.head.Head.{Head}
+
+-- what the message of a head still wants behind so many octets of it
+abbrev pub wanted_by : Result Head FramingFault → ℕ → ℕ
+wanted_by (Ok head) n = head.size + 12 - n
+wanted_by (Err fault) n = 0
+
+-- what the message at the front of these still wants; nothing that is known where its head hasn't come or is none
+abbrev pub wanted : List ℕ → ℕ
+wanted rest = (if nat_lt (length rest) 12 then 0 else wanted_by (head_in rest) (length rest))
+
+-- As much as the message at the front wants, but 4,096 octets at least and 65,536 at most: no octet behind that message
+-- is read where more than 4,096 are.
+abbrev pub room_of : Option Stream → ℕ
+room_of (Some (Open run rest)) = min (max (wanted rest) 4096) 65536
+room_of (Some Closed) = 4096
+room_of None = 4096

@@ -1,0 +1,41 @@
+//! How much is read of a connection at a time.
+
+ghost use Rattle.std.specs.Prelude.{◌≡◌, ◌<◌};
+ghost use Rattle.broker_answers.specs.Connections.{at};
+ghost use Rattle.iiop_broker.specs.Kept.{streams_of};
+ghost use Rattle.iiop_broker.specs.Room.{room_of, wanted};
+
+use crate::connections::{Connection, kept_of};
+use crate::kept::Kept;
+use giop_messages::{HEAD_LEN, Head};
+
+/// So much is read where the message at the front doesn't want more.
+const LEAST: usize = 4_096;
+
+/// The most that is read at a time.
+pub const MAX_ROOM: usize = 65_536;
+
+/// What the message at the front still wants.
+fn wanted(rest: &[u8]) -> usize
+    ensures { result ≡ wanted rest.now }
+{
+    if rest.len() < HEAD_LEN {
+        return 0;
+    }
+    match Head::read(rest) {
+        Ok(head) => (head.size as usize + HEAD_LEN).saturating_sub(rest.len()),
+        Err(_) => 0,
+    }
+}
+
+/// How many octets of the connection of a number are read next at most.
+pub(crate) fn room(connections: &[Connection], c: u32) -> usize
+    ensures value { result ≡ room_of (at c (streams_of connections.now)) }
+    ensures some { 0 < result }
+{
+    match kept_of(connections, c) {
+        Some(Kept::Open { run: _, rest }) => wanted(rest.as_slice()).max(LEAST).min(MAX_ROOM),
+        Some(Kept::Closed) => LEAST,
+        None => LEAST,
+    }
+}
