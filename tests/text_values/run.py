@@ -47,6 +47,8 @@ ROWS = [
     ("Raw", '"00ABff"', "0000000300abff"),
     ("Raw", "[0,171,255]", "0000000300abff"),
     ("Letters", '"ab\\u0000"', "00000003616200"),
+    ("Letters", '"\\u007f\x80\\u009f\xa0\xff"', "000000057f809fa0ff"),
+    ("Label", '[0,"\x7f\x85",false,"\x9f"]', "00000000000000037f8500" "00" "9f"),
     ("Letters", '["a","b"]', "000000026162"),
     ("Flags", "[true,false]", "000000020100"),
     ("Pair", "[-2147483648,2147483647]", "800000007fffffff"),
@@ -72,7 +74,9 @@ REFUSED = [
     ("Point", '{"x":3}', "121 MemberMissing line 1 column 7"),
     ("Flags", "[true,true,true]", "122 WrongCount line 1 column 12"),
     ("Pair", "[1]", "122 WrongCount line 1 column 3"),
-    ("Point", "[1,2] 3", "110 NotJson line 1 column 7"),
+    ("Point", "[1,2] 3", "124 TextBehind line 1 column 7"),
+    ("Point", "[1,2]]", "124 TextBehind line 1 column 6"),
+    ("Point", "[1,2],", "124 TextBehind line 1 column 7"),
 ]
 
 OUTLINES = [
