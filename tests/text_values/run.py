@@ -114,10 +114,10 @@ def rows(runs):
         runs.expect(0, octets, "", "encode", "s.idl", name, "big", "0", "--text", words)
         status, out, _ = runs.call("decode", "s.idl", name, "big", "0", octets, "--text")
         taken, _, printed = out.partition(" ")
-        runs.expect(0, octets, "", "encode", "s.idl", name, "big", "0", f"--text={printed.strip()}")
+        runs.expect(0, octets, "", "encode", "s.idl", name, "big", "0", "--text", printed.strip())
         runs.count.add(status == 0 and 2 * int(taken) == len(octets), f"decode {name} {octets}: {out}")
     runs.expect(0, '8 {"x":3,"y":-4}', "", "decode", "s.idl", "Point", "big", "0", "--text", "00000003fffffffcff")
-    runs.expect(0, "fffffffb", "", "encode", "long.idl", "T", "big", "0", "--text=-5")
+    runs.expect(0, "fffffffb", "", "encode", "long.idl", "T", "big", "0", "--text", "-5")
     for name, words, line in REFUSED:
         runs.expect(1, "", f"idlc: {line}", "encode", "s.idl", name, "big", "0", "--text", words)
 
