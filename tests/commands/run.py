@@ -122,6 +122,29 @@ def explanations(runs):
     runs.count.add(texts == EXPLAINED, f"{texts} refusals have a text")
 
 
+def dashed_texts(runs):
+    """The word behind `--text` of `encode` is its value, also where it begins with a minus."""
+    runs.write("long.idl", b"typedef long T;\n")
+    place = ("encode", "long.idl", "T", "big", "0")
+    runs.expect(0, "fffffffb", "", *place, "--text", "-5")
+    runs.expect(0, "fffffffb", "", *place, "--text=-5")
+    runs.expect(0, "fffffffb", "", "encode", "--text", "-5", *place[1:])
+    for word in ("--order", "--help", "--", "-x"):
+        runs.expect(1, "", "idlc: 110 NotJson line 1 column 1", *place, "--text", word)
+    one = "idlc: a value is HEX or --text TEXT"
+    runs.expect(2, "", one, *place, "fffffffb", "--text", "-5")
+    for words in (
+        (*place, "--text"),
+        (*place, "--text", "-5", "--text", "-6"),
+        (*place, "--", "--text", "-5"),
+        ("decode", *place[1:], "fffffffb", "--text", "-5"),
+        ("check", "--text", "-5"),
+    ):
+        done = runs.run(*words)
+        is_usage = done.status == 2 and not done.out and done.err
+        runs.count.add(is_usage, f"{' '.join(words)}: status {done.status}, {done.out}{done.err}")
+
+
 def run(test):
     built = test.call([TOP / "idlc", "check", "builtin"])
     if built.status:
@@ -131,4 +154,5 @@ def run(test):
     compiled_files(runs)
     refusals(runs)
     explanations(runs)
+    dashed_texts(runs)
     return runs.count

@@ -47,6 +47,8 @@ ROWS = [
     ("Raw", '"00ABff"', "0000000300abff"),
     ("Raw", "[0,171,255]", "0000000300abff"),
     ("Letters", '"ab\\u0000"', "00000003616200"),
+    ("Letters", '"\\u007f\x80\\u009f\xa0\xff"', "000000057f809fa0ff"),
+    ("Label", '[0,"\x7f\x85",false,"\x9f"]', "00000000000000037f8500" "00" "9f"),
     ("Letters", '["a","b"]', "000000026162"),
     ("Flags", "[true,false]", "000000020100"),
     ("Pair", "[-2147483648,2147483647]", "800000007fffffff"),
@@ -72,7 +74,9 @@ REFUSED = [
     ("Point", '{"x":3}', "121 MemberMissing line 1 column 7"),
     ("Flags", "[true,true,true]", "122 WrongCount line 1 column 12"),
     ("Pair", "[1]", "122 WrongCount line 1 column 3"),
-    ("Point", "[1,2] 3", "110 NotJson line 1 column 7"),
+    ("Point", "[1,2] 3", "124 TextBehind line 1 column 7"),
+    ("Point", "[1,2]]", "124 TextBehind line 1 column 6"),
+    ("Point", "[1,2],", "124 TextBehind line 1 column 7"),
 ]
 
 OUTLINES = [
@@ -110,10 +114,10 @@ def rows(runs):
         runs.expect(0, octets, "", "encode", "s.idl", name, "big", "0", "--text", words)
         status, out, _ = runs.call("decode", "s.idl", name, "big", "0", octets, "--text")
         taken, _, printed = out.partition(" ")
-        runs.expect(0, octets, "", "encode", "s.idl", name, "big", "0", f"--text={printed.strip()}")
+        runs.expect(0, octets, "", "encode", "s.idl", name, "big", "0", "--text", printed.strip())
         runs.count.add(status == 0 and 2 * int(taken) == len(octets), f"decode {name} {octets}: {out}")
     runs.expect(0, '8 {"x":3,"y":-4}', "", "decode", "s.idl", "Point", "big", "0", "--text", "00000003fffffffcff")
-    runs.expect(0, "fffffffb", "", "encode", "long.idl", "T", "big", "0", "--text=-5")
+    runs.expect(0, "fffffffb", "", "encode", "long.idl", "T", "big", "0", "--text", "-5")
     for name, words, line in REFUSED:
         runs.expect(1, "", f"idlc: {line}", "encode", "s.idl", name, "big", "0", "--text", words)
 

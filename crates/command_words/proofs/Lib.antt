@@ -1,5 +1,6 @@
 pub mod ByCommand
 pub mod Globals
+pub mod Glued
 pub mod Inputs
 pub mod Mistakes
 pub mod References

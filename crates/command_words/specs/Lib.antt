@@ -1,5 +1,6 @@
 pub mod Ask
 pub mod Commands
 pub mod Mistake
+pub mod Spoken
 pub mod Way
 pub mod Words

@@ -16,6 +16,7 @@ use Rattle.command_words.specs.declared.task.Form.{Form}
 use Rattle.command_words.specs.declared.task.Form.TheVariants as forms
 use Rattle.command_words.specs.Ask.{Ask, Explanation, Reference, ReferenceAsk, Value, ValueAsk, command_of}
 use Rattle.command_words.specs.Commands.{program_app}
+use Rattle.command_words.specs.Spoken.{spoken}
 
 -- the texts behind references
 abbrev pub texts : List (Bor Text) → List Text
@@ -86,8 +87,12 @@ pub record IsReadAs (app : App) (words : List Text) (ask : Ask) : Type 0 where
   pub tells : Tells rows ask
 
 -- clap takes the words, and they ask for this
+abbrev pub AreReadAs : List Text → Ask → Type 0
+AreReadAs words ask = (orders : ValueParser) → TakesOrders orders → IsReadAs (program_app orders) words ask
+
+-- it takes the words of a run as they are spoken
 abbrev pub AsksFor : List Text → Ask → Type 0
-AsksFor words ask = (orders : ValueParser) → TakesOrders orders → IsReadAs (program_app orders) words ask
+AsksFor words ask = AreReadAs (spoken words) ask
 
 -- a kind of error that tells of wrong words
 abbrev pub IsMistake : ErrorKind → Type 0
@@ -105,6 +110,10 @@ pub record AreUnclear (app : App) (words : List Text) : Type 0 where
   pub unclear : IsUnclear rows
 
 -- clap refuses the words, and not because they ask for help, or they name no one value to encode
-abbrev pub IsMistaken : List Text → Type 0
-IsMistaken words = (orders : ValueParser) → TakesOrders orders
+abbrev pub AreRefused : List Text → Type 0
+AreRefused words = (orders : ValueParser) → TakesOrders orders
     → AreMistakes (fault_of (program_app orders) words) ⊎ AreUnclear (program_app orders) words
+
+-- so the words of a run as they are spoken
+abbrev pub IsMistaken : List Text → Type 0
+IsMistaken words = AreRefused (spoken words)

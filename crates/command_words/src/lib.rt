@@ -5,6 +5,7 @@ mod commands;
 mod line;
 mod matches;
 mod mistake;
+mod spoken;
 mod task;
 
 pub use line::parse;

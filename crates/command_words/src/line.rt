@@ -4,12 +4,13 @@ ghost use Rattle.std.specs.Prelude.{◌≡◌, ◌≢◌, codes, IsErr, IsErrAnd
 ghost use Rattle.clap.specs.Words.{kind_of, Row, subcommand_rows_of};
 ghost use Rattle.command_words.specs.Ask.{Ask, ask_of};
 ghost use Rattle.command_words.specs.Mistake.{IsOfWords};
-ghost use Rattle.command_words.specs.Words.{AsksFor, IsMistaken, texts};
+ghost use Rattle.command_words.specs.Words.{AreReadAs, AreRefused, AsksFor, IsMistaken, texts};
 ghost use Rattle.command_words.specs.declared.task.Task.{Task};
 
 use crate::commands::program;
 use crate::matches::{service_in, task_in};
 use crate::mistake::Mistake;
+use crate::spoken::spoken;
 use crate::task::Said;
 use clap::ArgMatches;
 use clap::error::ErrorKind;
@@ -71,7 +72,23 @@ fn served<'a>(matches: &ArgMatches<'a>) -> Result<Said<'a>, Mistake>
     }
 }
 
-/// What the words of a run say.
+/// What words say, as `clap` reads them.
+fn read<'a>(alloc: Global, words: &'a [&'a str]) -> Result<Said<'a>, Mistake>
+    ensures asked { (ask : Ask) → AreReadAs (texts words.now) ask → MatchResult result
+        (λ said. (task : Task) × (said ≡ Said.Do task) × (ask_of task ≡ Some ask))
+        (λ fault. fault ≡ Mistake.NoMemory) }
+    ensures mistaken { AreRefused (texts words.now) → IsErrAnd result IsOfWords }
+{
+    match program(alloc, ORDERS.as_slice())?.try_get_matches_from(words) {
+        Err(error) => help_or_fault(alloc, has_order(words), error),
+        Ok(matches) => match task_in(&matches) {
+            Some(task) => Ok(Said::Do(task)),
+            None => served(&matches),
+        },
+    }
+}
+
+/// What the words of a run say. A text that begins with a minus is a value to encode too.
 ///
 /// # Errors
 /// What `clap` says of words that aren't those of a command; `HexOrText`. Want of memory.
@@ -81,11 +98,6 @@ pub fn parse<'a>(alloc: Global, words: &'a [&'a str]) -> Result<Said<'a>, Mistak
         (λ fault. fault ≡ Mistake.NoMemory) }
     ensures mistaken { IsMistaken (texts words.now) → IsErrAnd result IsOfWords }
 {
-    match program(alloc, ORDERS.as_slice())?.try_get_matches_from(words) {
-        Err(error) => help_or_fault(alloc, has_order(words), error),
-        Ok(matches) => match task_in(&matches) {
-            Some(task) => Ok(Said::Do(task)),
-            None => served(&matches),
-        },
-    }
+    let said = spoken(alloc, words)?;
+    read(alloc, said)
 }

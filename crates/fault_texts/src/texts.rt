@@ -131,9 +131,10 @@ Mended: one that is 64 deep.
 
 const TEXT_BEHIND: &str = "124 TextBehind
 Something stands behind the value.
-Input: none is known; what stands behind a value is told as 110 already.
+Input, a text for P of the IDL struct P {long x;};
+    {\"x\":3} 4
 To mend it: write one value alone.
-Mended, a text for P of the IDL struct P {long x;};
+Mended, a text for the same:
     {\"x\":3}
 ";
 

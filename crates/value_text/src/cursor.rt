@@ -132,15 +132,18 @@ impl<'a> Cursor<'a> {
         }
     }
 
-    /// The text has to end here.
+    /// The text has to end here. Whatever stands behind is refused as such, also where it isn't JSON.
     pub fn end(&mut self) -> Result<(), Stop>
         ensures ended { OnOk result (self.old ≡ []) }
         ensures refused { OnErr result (self.old ≢ []) }
     {
-        self.at = self.reader.offset();
+        let at = self.reader.offset();
         match self.reader.next() {
             None => Ok(()),
-            Some(token) => Err(self.refuse(token, Wanted::End)),
+            Some(_) => Err(Stop::Refused {
+                wanted: Wanted::End,
+                at,
+            }),
         }
     }
 }

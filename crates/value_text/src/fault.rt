@@ -28,7 +28,8 @@ impl From<AllocError> for PrintFault {
 /// What a text would have to have where it is refused. Each has a number and a name.
 #[derive(Clone, Copy, Debug, Drop, PartialEq, Eq, Error)]
 pub enum Wanted {
-    /// JSON: a token, a comma, a colon or a closing bracket, and no number that has no end.
+    /// JSON: a token, a comma, a colon or a closing bracket, and no number that has no end. What
+    /// stands behind the value is `End`.
     #[error("110 NotJson")]
     Json,
     /// A whole number in range, without a fraction, an exponent or a sign before 0.

@@ -5,6 +5,7 @@ ghost use Rattle.std.specs.Prelude.{◌≡◌, ◌<◌, ◌↔◌, length, IfOk,
 ghost use Rattle.std.specs.String.{string_bytes};
 ghost use Rattle.json.specs.Lex.{tokens};
 ghost use Rattle.json.specs.Print as json_text;
+ghost use Rattle.escaped_json.specs.Escaped.{escaped};
 ghost use Rattle.type_graph.specs.Value.{Tree, node_at, Fits};
 ghost use Rattle.idl_value.specs.View.{tree_of};
 ghost use Rattle.value_text.specs.Texts.{text_at};
@@ -27,6 +28,7 @@ use crate::lookup::Lookup;
 use crate::place::refused_at;
 use crate::printing::write_value;
 use crate::reading::{Sought, read_value};
+use escaped_json::escape;
 pub use fault::{PrintFault, ReadFault, Refusal, TextPlace, Wanted};
 use idl_value::{Value, conforms};
 use json::{Reader, Scratch, Writer};
@@ -38,7 +40,7 @@ use type_graph::Graph;
 const MAX_DEPTH: u32 = 64;
 
 /// The text of a value of a node. Members, enumerators and labels are written by their names where
-/// these are known, else by their places.
+/// these are known, else by their places; control characters stand as escapes.
 ///
 /// # Errors
 /// `NotOfType` exactly where the value isn't one of the node, or want of memory.
@@ -51,8 +53,8 @@ pub fn print(
 ) -> Result<String, PrintFault>
     requires { node < length graph.now }
     ensures fits { OnOk result (Fits graph.now (node_at graph.now node) (tree_of value.now) 64) }
-    ensures text { IfOk result (λ text. string_bytes text ≡ json_text.print (text_at names.now graph.now node
-        (tree_of value.now))) }
+    ensures text { IfOk result (λ text. string_bytes text ≡ escaped (json_text.print (text_at names.now graph.now node
+        (tree_of value.now)))) }
     ensures says { IfOk result (λ text. StandsFor names.now graph.now node (tree_of value.now) (tokens
         (string_bytes text))) }
     ensures not_of_type { IsErrOf result PrintFault.NotOfType ↔ ¬ Fits graph.now (node_at graph.now node)
@@ -64,7 +66,7 @@ pub fn print(
     let mut out = Writer::new(Vec::new(alloc));
     write_value(&mut out, alloc, graph, names, node, value)?;
     match String::from_utf8(out.into_inner()) {
-        Ok(text) => Ok(text),
+        Ok(text) => Ok(escape(alloc, text)?),
         Err(_) => Err(PrintFault::NotOfType),
     }
 }

@@ -1,7 +1,10 @@
 use Rattle.std.proofs.Common.{◌≡◌, ◌∙◌, ap, sym, subst, rules}
+use Rattle.std.specs.Str.{IsUtf8}
 use Rattle.std.specs.String.{string_bytes}
 use Rattle.json.specs.Lex.{tokens}
 use Rattle.json.specs.Print as json_text
+use Rattle.escaped_json.specs.Escaped.{escaped}
+use Rattle.escaped_json.proofs.Said.{says_the_same}
 use Rattle.part_names.specs.Names.{names_at}
 use Rattle.type_graph.specs.Value.{node_at, Fits}
 use Rattle.idl_value.specs.View.{tree_of}
@@ -18,11 +21,14 @@ returns-in-Ok-clause-says c =
     let value = tree_of c.args.value.now in
     let own = text_at names graph number value in
     let fit : Fits graph (node_at graph number) value 64 = search rules in
-    let text : string_bytes c.in-Ok.text ≡ json_text.print own = search rules in
+    let plain : string_bytes c.in-Ok.text ≡ json_text.print own = search rules in
+    let shown : string_bytes c.in_ok-escape-in-Ok.field-0 ≡ escaped (string_bytes c.in-Ok.text) = search rules in
     let written : c.write_value.new.out.tokens ≡ own = search rules in
     let back = ap (λ l. tokens (json_text.print l)) (sym written) ∙ c.into_inner.ensures.reads_back ∙ written in
+    let utf8 = subst (λ l. IsUtf8 (json_text.print l)) written c.into_inner.ensures.utf8 in
+    let same = ap tokens (shown ∙ ap escaped plain) ∙ says_the_same own utf8 back in
     record {
       fits = fit;
-      says = subst (Says names graph (names_at names number) (node_at graph number) value) (sym (ap tokens text ∙ back))
+      says = subst (Says names graph (names_at names number) (node_at graph number) value) (sym same)
           (says names graph (names_at names number) (node_at graph number) value 64 fit);
     }

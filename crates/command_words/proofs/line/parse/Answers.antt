@@ -1,81 +1,9 @@
-use Rattle.std.proofs.Common.{rules, ap, refl, sym, subst, ◌≡◌, ◌∙◌, ◌⊎◌, inl, inr, Some, IsErrAnd}
-use Rattle.clap.specs.Words.{app_of, fault_of, is_simple, is_simple_and_free, subcommand_of, takes}
-use Rattle.clap.specs.declared.builder.value_parser.ValueParser.TheVariants.{Names}
-use Rattle.command_words.specs.Commands.{program_app}
-use Rattle.command_words.specs.Mistake.{IsOfWords}
-use Rattle.command_words.specs.Words.{AreMistakes, AreUnclear, TakesOrders, texts}
-use Rattle.command_words.proofs.Mistakes.{no_mistakes, refused_words}
+use Rattle.std.proofs.Common.{subst, sym}
+use Rattle.command_words.specs.Words.{AreReadAs, AreRefused}
 use Rattle.command_words.proofs.line.parse.Goals as goal
 
-pub returns-in-Err-clause-asked : goal.returns-in-Err-clause-asked
-returns-in-Err-clause-asked c ask asks =
-    let orders : TakesOrders (Names c.as_slice.result) = record { names = c.as_slice.result; is_of_names = refl; are_orders = search rules } in
-    let app_is : app_of c.in_ok-program.field-0 ≡ program_app (Names c.as_slice.result) = c.in_ok-program.ensures in
-    let read = asks (Names c.as_slice.result) orders in
-    let none = c.help_or_fault.ensures.memory (c.in-Err.ensures.passes (ap (λ app. takes app (texts c.args.words.now)) app_is ∙ read.taken)) in
-    rw none refl
-
-pub returns-in-Err-clause-mistaken : goal.returns-in-Err-clause-mistaken
-returns-in-Err-clause-mistaken c mistaken =
-    let orders : TakesOrders (Names c.as_slice.result) = record { names = c.as_slice.result; is_of_names = refl; are_orders = search rules } in
-    by_cause (mistaken (Names c.as_slice.result) orders) where
-      by_cause : AreMistakes (fault_of (program_app (Names c.as_slice.result)) (texts c.args.words.now)) ⊎ AreUnclear (program_app (Names c.as_slice.result)) (texts c.args.words.now) → IsErrAnd c.help_or_fault.result IsOfWords
-      by_cause (inl wrong) =
-          let app_is : app_of c.in_ok-program.field-0 ≡ program_app (Names c.as_slice.result) = c.in_ok-program.ensures in
-          let mistakes : AreMistakes (fault_of (app_of c.in_ok-program.field-0) (texts c.args.words.now)) =
-          subst (λ app. AreMistakes (fault_of app (texts c.args.words.now))) (sym app_is) wrong in
-          refused_words _ c.in-Err.error mistakes (c.in-Err.ensures.kinds (ap is_simple_and_free app_is)) _ c.help_or_fault.ensures.memory c.help_or_fault.ensures.usage c.help_or_fault.ensures.err
-      by_cause (inr unclear) =
-          let app_is : app_of c.in_ok-program.field-0 ≡ program_app (Names c.as_slice.result) = c.in_ok-program.ensures in
-          let none = c.help_or_fault.ensures.memory (c.in-Err.ensures.passes (ap (λ app. takes app (texts c.args.words.now)) app_is ∙ unclear.taken)) in
-          rw none tt
-
-pub returns-in-Some-clause-asked : goal.returns-in-Some-clause-asked
-returns-in-Some-clause-asked c ask asks =
-    let orders : TakesOrders (Names c.as_slice.result) = record { names = c.as_slice.result; is_of_names = refl; are_orders = search rules } in
-    let app_is : app_of c.in_ok-program.field-0 ≡ program_app (Names c.as_slice.result) = c.in_ok-program.ensures in
-    let read = asks (Names c.as_slice.result) orders in
-    let command = (c.in-Ok.ensures.matches (ap is_simple app_is)).1 ∙ ap (λ app. subcommand_of app (texts c.args.words.now)) app_is ∙ read.command in
-    (c.in-Some.task, refl, c.in-Some.ensures.asked ask read.rows command read.tells)
-
-pub returns-in-Some-clause-mistaken : goal.returns-in-Some-clause-mistaken
-returns-in-Some-clause-mistaken c mistaken =
-    let orders : TakesOrders (Names c.as_slice.result) = record { names = c.as_slice.result; is_of_names = refl; are_orders = search rules } in
-    by_cause (mistaken (Names c.as_slice.result) orders) where
-      app_is : app_of c.in_ok-program.field-0 ≡ program_app (Names c.as_slice.result)
-      app_is = c.in_ok-program.ensures
-
-      by_cause : AreMistakes (fault_of (program_app (Names c.as_slice.result)) (texts c.args.words.now))
-          ⊎ AreUnclear (program_app (Names c.as_slice.result)) (texts c.args.words.now) → ⊥
-      by_cause (inl wrong) =
-          let mistakes : AreMistakes (fault_of (app_of c.in_ok-program.field-0) (texts c.args.words.now)) =
-          subst (λ app. AreMistakes (fault_of app (texts c.args.words.now))) (sym app_is) wrong in
-          no_mistakes _ mistakes (c.in-Ok.ensures.kinds (ap is_simple_and_free app_is))
-      by_cause (inr are) =
-          let command = (c.in-Ok.ensures.matches (ap is_simple app_is)).1 ∙ ap (λ app. subcommand_of app (texts c.args.words.now)) app_is ∙ are.command in
-          let none = c.in-Some.ensures.unclear are.rows command are.unclear in absurd cc
-
 pub returns-clause-asked : goal.returns-clause-asked
-returns-clause-asked c ask asks =
-    let orders : TakesOrders (Names c.as_slice.result) = record { names = c.as_slice.result; is_of_names = refl; are_orders = search rules } in
-    let app_is : app_of c.in_ok-program.field-0 ≡ program_app (Names c.as_slice.result) = c.in_ok-program.ensures in
-    let read = asks (Names c.as_slice.result) orders in
-    let command = (c.in-Ok.ensures.matches (ap is_simple app_is)).1 ∙ ap (λ app. subcommand_of app (texts c.args.words.now)) app_is ∙ read.command in
-    absurd (c.in-None.ensures.asked ask read.rows command read.tells)
+returns-clause-asked c ask asks = c.read.ensures.asked ask (subst (λ words. AreReadAs words ask) (sym c.in_ok-said.ensures) asks)
 
 pub returns-clause-mistaken : goal.returns-clause-mistaken
-returns-clause-mistaken c mistaken =
-    let orders : TakesOrders (Names c.as_slice.result) = record { names = c.as_slice.result; is_of_names = refl; are_orders = search rules } in
-    by_cause (mistaken (Names c.as_slice.result) orders) where
-      app_is : app_of c.in_ok-program.field-0 ≡ program_app (Names c.as_slice.result)
-      app_is = c.in_ok-program.ensures
-
-      by_cause : AreMistakes (fault_of (program_app (Names c.as_slice.result)) (texts c.args.words.now))
-          ⊎ AreUnclear (program_app (Names c.as_slice.result)) (texts c.args.words.now) → IsErrAnd c.served.result IsOfWords
-      by_cause (inl wrong) =
-          let mistakes : AreMistakes (fault_of (app_of c.in_ok-program.field-0) (texts c.args.words.now)) =
-          subst (λ app. AreMistakes (fault_of app (texts c.args.words.now))) (sym app_is) wrong in
-          absurd (no_mistakes _ mistakes (c.in-Ok.ensures.kinds (ap is_simple_and_free app_is)))
-      by_cause (inr are) =
-          let command = (c.in-Ok.ensures.matches (ap is_simple app_is)).1 ∙ ap (λ app. subcommand_of app (texts c.args.words.now)) app_is ∙ are.command in
-          let told = c.served.ensures are.rows command in rw told tt
+returns-clause-mistaken c mistaken = c.read.ensures.mistaken (subst AreRefused (sym c.in_ok-said.ensures) mistaken)

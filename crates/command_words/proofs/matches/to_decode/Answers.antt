@@ -1,5 +1,5 @@
-use Rattle.std.proofs.Common.{◌≡◌, ◌∙◌, sym, ap, refl, codes, Option, Some, None, option_map}
-use Rattle.clap.specs.Words.{first_of, found_of, one_of, rows_of}
+use Rattle.std.proofs.Common.{◌∙◌, sym, codes}
+use Rattle.clap.specs.Words.{found_of, rows_of}
 use Rattle.clap.proofs.WalkLemmas.{first_value-rows, one_text-rows}
 use Rattle.command_words.proofs.Inputs.{by_flag, by_octets, not_none}
 use Rattle.command_words.proofs.Requests.{same_some}

@@ -1,9 +1,6 @@
-use Rattle.std.proofs.Common.{◌≡◌, ◌∙◌, sym, ap, refl, codes, Option, Some, None, Bor, is_some, List, ℕ, option_map}
-use Rattle.clap.specs.Words.{Text, first_of, found_of, rows_of}
+use Rattle.std.proofs.Common.{◌∙◌, sym, ap, codes, is_some}
+use Rattle.clap.specs.Words.{found_of, rows_of}
 use Rattle.clap.proofs.WalkLemmas.{first_value-rows}
-use Rattle.command_words.specs.Ask.{ValueAsk}
-use Rattle.command_words.specs.declared.task.Form.{Form}
-use Rattle.command_words.specs.declared.task.Form.TheVariants as forms
 use Rattle.command_words.proofs.Inputs.{by_tape, by_words, is_clear}
 use Rattle.command_words.proofs.matches.to_encode.Goals as goal
 

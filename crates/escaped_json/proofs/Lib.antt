@@ -1,0 +1,4 @@
+pub mod Passed
+pub mod Strings
+pub mod Numbers
+pub mod Said
