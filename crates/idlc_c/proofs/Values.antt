@@ -32,7 +32,7 @@ use Rattle.std_alloc.specs.Box.Ownership.{box_owns}
 use Rattle.std_alloc.proofs.ResultValues.{and_tt}
 use Rattle.table_file.specs.Table.{TableParts}
 use Rattle.idlc_c.specs.contracts.held.Held.{the_row}
-use Rattle.idlc_c.specs.declared.held.Held.{Held as Kept}
+use Rattle.idlc_c.specs.declared.held.Loaded.{Loaded as Kept}
 use Rattle.idlc_c.specs.Handle.{Labels, owns_table}
 use Rattle.idlc_c.specs.contracts.loose.Loose as loose
 use Rattle.idlc_c.specs.contracts.handle.Handle as handle

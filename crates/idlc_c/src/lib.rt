@@ -106,6 +106,33 @@ pub extern "C" fn idlc_free(alloc: Global, handle: &mut Handle)
     *handle = Handle::none(alloc);
 }
 
+/// Has another handle hold what is loaded, in the place of what is there. It isn't copied: each of the
+/// two may be used, and let go of, by a thread of its own.
+#[unsafe(no_mangle)]
+pub extern "C" fn idlc_share(alloc: Global, handle: &mut Handle, other: &mut Handle) -> u32
+    ensures kept { handle.new.table ≡ handle.old.table }
+    ensures names { handle.new.names ≡ handle.old.names }
+    ensures loaded { (result ≡ 2) ↔ (handle.old.table ≡ None) }
+    ensures shared { result ≡ 0 → other.new.table ≡ handle.old.table }
+    ensures shared_names { result ≡ 0 → other.new.names ≡ handle.old.names }
+    ensures untouched { result ≢ 0 → other.new.table ≡ other.old.table }
+    ensures same_names { result ≢ 0 → other.new.names ≡ other.old.names }
+    ensures numbers { result ≤ 2 }
+{
+    let Some(held) = mem::replace(handle, Handle::none(alloc)).into_box() else {
+        return Refusal::NotLoaded.number();
+    };
+    let another = held.another(alloc);
+    *handle = Handle::of(held);
+    match another {
+        Ok(another) => {
+            *other = Handle::of(another);
+            0
+        }
+        Err(_) => Refusal::NoMemory.number(),
+    }
+}
+
 /// The node of a type's name.
 #[unsafe(no_mangle)]
 pub extern "C" fn idlc_find(alloc: Global, handle: &mut Handle, name: &[u8], node: &mut u32) -> u32
@@ -122,7 +149,7 @@ pub extern "C" fn idlc_find(alloc: Global, handle: &mut Handle, name: &[u8], nod
     let Some(held) = mem::replace(handle, Handle::none(alloc)).into_box() else {
         return Refusal::NotLoaded.number();
     };
-    let found = names::find(&held.table, name);
+    let found = names::find(&held.loaded().table, name);
     *handle = Handle::of(held);
     match found {
         Some(found) => {
@@ -163,7 +190,7 @@ pub extern "C" fn idlc_name(
     let Some(held) = mem::replace(handle, Handle::none(alloc)).into_box() else {
         return Refusal::NotLoaded.number();
     };
-    let answer = names::name_at(&held.table, place, out, node);
+    let answer = names::name_at(&held.loaded().table, place, out, node);
     *handle = Handle::of(held);
     told(answer, len)
 }
@@ -199,7 +226,7 @@ pub extern "C" fn idlc_encode(
     let Some(held) = mem::replace(handle, Handle::none(alloc)).into_box() else {
         return Refusal::NotLoaded.number();
     };
-    let answer = marshal::encode(alloc, &held.table, node, order(little), pos, tape, out);
+    let answer = marshal::encode(alloc, &held.loaded().table, node, order(little), pos, tape, out);
     *handle = Handle::of(held);
     told(answer, len)
 }
@@ -239,7 +266,7 @@ pub extern "C" fn idlc_decode(
     let Some(held) = mem::replace(handle, Handle::none(alloc)).into_box() else {
         return Refusal::NotLoaded.number();
     };
-    let answer = marshal::decode(alloc, &held.table, node, order(little), pos, octets, taken, out);
+    let answer = marshal::decode(alloc, &held.loaded().table, node, order(little), pos, octets, taken, out);
     *handle = Handle::of(held);
     told(answer, len)
 }
@@ -281,7 +308,7 @@ pub extern "C" fn idlc_encode_text(
     let Some(held) = mem::replace(handle, Handle::none(alloc)).into_box() else {
         return Refusal::NotLoaded.number();
     };
-    let answer = text::encode_text(alloc, &held, node, order(little), pos, text, out);
+    let answer = text::encode_text(alloc, held.loaded(), node, order(little), pos, text, out);
     *handle = Handle::of(held);
     told_at(answer, len, place)
 }
@@ -321,7 +348,7 @@ pub extern "C" fn idlc_decode_text(
     let Some(held) = mem::replace(handle, Handle::none(alloc)).into_box() else {
         return Refusal::NotLoaded.number();
     };
-    let answer = text::decode_text(alloc, &held, node, order(little), pos, octets, taken, out);
+    let answer = text::decode_text(alloc, held.loaded(), node, order(little), pos, octets, taken, out);
     *handle = Handle::of(held);
     told(answer, len)
 }

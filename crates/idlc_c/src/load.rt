@@ -5,7 +5,7 @@ ghost use Rattle.position_checker.specs.Acceptance.{IsRight};
 ghost use Rattle.idlc_c.specs.Answers.{IsFile, RefusesFile};
 ghost use Rattle.idlc_c.specs.declared.refusal.Refusal.TheVariants.{TooLong};
 
-use crate::held::Held;
+use crate::held::{Held, Loaded};
 use crate::refusal::Refusal;
 use position_checker::{Accepted, check};
 use std::alloc::Global;
@@ -42,7 +42,7 @@ pub(crate) fn load(alloc: Global, octets: &[u8]) -> Result<Box<Held>, Refusal>
     ensures refused { IfErr result (RefusesFile octets.now) }
 {
     match accepted(alloc, octets) {
-        Ok(table) => match Box::new(alloc, Held::nameless(alloc, table)) {
+        Ok(table) => match Held::boxed(alloc, Loaded::nameless(alloc, table)) {
             Ok(held) => Ok(held),
             Err(_) => Err(Refusal::NoMemory),
         },

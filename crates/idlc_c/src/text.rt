@@ -11,7 +11,7 @@ ghost use Rattle.idlc_c.specs.Answers.{HasNoOctets, HasNoTape, RefusesValue, Tel
 ghost use Rattle.idlc_c.specs.TextAnswers.{HasNoOctetsOfText, HasOctetsOfText, HasTextOfOctets, IsOctetsOfText, IsTextOfOctets, RefusesSaid, SaysNone};
 ghost use Rattle.idlc_c.specs.inner.Prints.{RefusesRun};
 
-use crate::held::Held;
+use crate::held::Loaded;
 use crate::octets::put;
 use crate::parts::{packed, printed};
 use crate::refusal::Refusal;
@@ -58,22 +58,22 @@ fn written(
 /// The octets of the value that a text says.
 fn octets_said(
     alloc: Global,
-    held: &Held,
+    loaded: &Loaded,
     node: u32,
     order: Order,
     pos: u64,
     text: &str,
 ) -> Result<Vec<u8>, Refusal>
-    requires named { IsNamed held.now.table.model.names node }
+    requires named { IsNamed loaded.now.table.model.names node }
     ensures done { IfOk result (λ octets.
-        IsOctetsOfText held.now.names node order pos text.now octets.items held.now.table) }
+        IsOctetsOfText loaded.now.names node order pos text.now octets.items loaded.now.table) }
     ensures refused { IfErr result (RefusesSaid ⊥ (λ _. ⊥)
-        (HasNoOctetsOfText held.now.names node order pos text.now held.now.table)
-        (SaysNone held.now.names node text.now held.now.table)) }
+        (HasNoOctetsOfText loaded.now.names node order pos text.now loaded.now.table)
+        (SaysNone loaded.now.names node text.now loaded.now.table)) }
 {
-    let graph = held.table.table().model().graph();
-    match read(alloc, graph, &held.names, node, text) {
-        Ok(value) => written(alloc, &held.table, node, order, pos, &value),
+    let graph = loaded.table.table().model().graph();
+    match read(alloc, graph, &loaded.names, node, text) {
+        Ok(value) => written(alloc, &loaded.table, node, order, pos, &value),
         Err(ReadFault::NoMemory) => Err(Refusal::NoMemory),
         Err(ReadFault::Refused(unsaid)) => Err(Refusal::NoText(unsaid)),
     }
@@ -82,7 +82,7 @@ fn octets_said(
 /// Writes the octets of the value that a text says to the buffer, and tells how many they are.
 pub(crate) fn encode_text(
     alloc: Global,
-    held: &Held,
+    loaded: &Loaded,
     node: u32,
     order: Order,
     pos: u64,
@@ -90,23 +90,23 @@ pub(crate) fn encode_text(
     out: &mut [u8],
 ) -> Result<usize, Refusal>
     ensures done { IfOk result (λ len.
-        IsOctetsOfText held.now.names node order pos text.now (take len out.new) held.now.table) }
+        IsOctetsOfText loaded.now.names node order pos text.now (take len out.new) loaded.now.table) }
     ensures within { IfOk result (λ len. len ≤ length out.old) }
     ensures behind { IfOk result (λ len. drop len out.new ≡ drop len out.old) }
-    ensures refused { IfErr result (RefusesSaid (IsNamed held.now.table.model.names node → ⊥)
-        (TellsLength (λ len. HasOctetsOfText held.now.names node order pos text.now len held.now.table)
+    ensures refused { IfErr result (RefusesSaid (IsNamed loaded.now.table.model.names node → ⊥)
+        (TellsLength (λ len. HasOctetsOfText loaded.now.names node order pos text.now len loaded.now.table)
         (length out.old))
-        (HasNoOctetsOfText held.now.names node order pos text.now held.now.table)
-        (SaysNone held.now.names node text.now held.now.table)) }
+        (HasNoOctetsOfText loaded.now.names node order pos text.now loaded.now.table)
+        (SaysNone loaded.now.names node text.now loaded.now.table)) }
     ensures kept { OnErr result (out.new ≡ out.old) }
 {
-    if !held.table.is_named(node) {
+    if !loaded.table.is_named(node) {
         return Err(Refusal::NotNamed);
     }
     let Ok(text) = str::from_utf8(text) else {
         return Err(Refusal::NoText(not_utf8()));
     };
-    match octets_said(alloc, held, node, order, pos, text) {
+    match octets_said(alloc, loaded, node, order, pos, text) {
         Ok(octets) => put(octets.as_slice(), out),
         Err(refusal) => Err(refusal),
     }
@@ -115,23 +115,23 @@ pub(crate) fn encode_text(
 /// The text of the value that a front of the octets encodes, and how many octets that front has.
 fn text_of(
     alloc: Global,
-    held: &Held,
+    loaded: &Loaded,
     node: u32,
     order: Order,
     pos: u64,
     octets: &[u8],
 ) -> Result<(String, usize), Refusal>
-    requires named { IsNamed held.now.table.model.names node }
+    requires named { IsNamed loaded.now.table.model.names node }
     ensures done { IfOk result (λ told.
-        IsTextOfOctets held.now.names node order pos octets.now told.1 (string_bytes told.0) held.now.table) }
-    ensures refused { IfErr result (RefusesValue ⊥ (λ _. ⊥) (HasNoTape node order pos octets.now held.now.table)) }
+        IsTextOfOctets loaded.now.names node order pos octets.now told.1 (string_bytes told.0) loaded.now.table) }
+    ensures refused { IfErr result (RefusesValue ⊥ (λ _. ⊥) (HasNoTape node order pos octets.now loaded.now.table)) }
 {
-    let (tape, front) = match held.table.read(alloc, node, order, pos, octets) {
+    let (tape, front) = match loaded.table.read(alloc, node, order, pos, octets) {
         Ok(found) => found,
         Err(fault) => return Err(Refusal::NoValue(fault)),
     };
-    let graph = held.table.table().model().graph();
-    match printed(alloc, graph, &held.names, node, tape.as_slice()) {
+    let graph = loaded.table.table().model().graph();
+    match printed(alloc, graph, &loaded.names, node, tape.as_slice()) {
         Ok(text) => Ok((text, front)),
         Err(_) => Err(Refusal::NoMemory),
     }
@@ -141,7 +141,7 @@ fn text_of(
 /// long it is, and how many octets that front has.
 pub(crate) fn decode_text(
     alloc: Global,
-    held: &Held,
+    loaded: &Loaded,
     node: u32,
     order: Order,
     pos: u64,
@@ -150,20 +150,20 @@ pub(crate) fn decode_text(
     out: &mut [u8],
 ) -> Result<usize, Refusal>
     ensures done { IfOk result (λ len.
-        IsTextOfOctets held.now.names node order pos octets.now taken.new (take len out.new) held.now.table) }
+        IsTextOfOctets loaded.now.names node order pos octets.now taken.new (take len out.new) loaded.now.table) }
     ensures within { IfOk result (λ len. len ≤ length out.old) }
     ensures behind { IfOk result (λ len. drop len out.new ≡ drop len out.old) }
-    ensures refused { IfErr result (RefusesValue (IsNamed held.now.table.model.names node → ⊥)
-        (TellsLength (λ len. HasTextOfOctets held.now.names node order pos octets.now len held.now.table)
+    ensures refused { IfErr result (RefusesValue (IsNamed loaded.now.table.model.names node → ⊥)
+        (TellsLength (λ len. HasTextOfOctets loaded.now.names node order pos octets.now len loaded.now.table)
         (length out.old))
-        (HasNoTape node order pos octets.now held.now.table)) }
+        (HasNoTape node order pos octets.now loaded.now.table)) }
     ensures kept { OnErr result (out.new ≡ out.old) }
     ensures not_taken { OnErr result (taken.new ≡ taken.old) }
 {
-    if !held.table.is_named(node) {
+    if !loaded.table.is_named(node) {
         return Err(Refusal::NotNamed);
     }
-    match text_of(alloc, held, node, order, pos, octets) {
+    match text_of(alloc, loaded, node, order, pos, octets) {
         Ok((text, front)) => {
             let len = put(text.as_bytes(), out)?;
             *taken = front;

@@ -1,7 +1,7 @@
 use Rattle.std.proofs.Common.{◌≡◌, ◌∙◌, ap, ℕ, ◌<◌, ◌≤◌, Option, Some, IfSome, sym, subst, rules}
 use Rattle.type_graph.specs.declared.width.Order.{Order}
 use Rattle.table_file.specs.Table.{TableParts}
-use Rattle.idlc_c.specs.declared.held.Held.{Held}
+use Rattle.idlc_c.specs.declared.held.Loaded.{Loaded}
 use Rattle.idlc_c.specs.declared.source_place.SourcePlace.{SourcePlace}
 use Rattle.idlc_c.specs.Answers.{order_of}
 use Rattle.idlc_c.specs.Handle.{Labels}
@@ -16,8 +16,8 @@ returns-clause-refused c many most =
     let there : c.args.handle.now.table ≡ Some c.in-Some.held.value.table = search rules in
     let named : c.args.handle.now.names ≡ c.in-Some.held.value.names = search rules in
     let node = c.args.node in let pos = c.args.pos in let text = c.args.text.now in
-    let in_order = subst (λ (o : Order). HasNoOctetsOfText c.deref.result.now.names node o pos text c.deref.result.now.table) c.order.ensures none in
-    let of_held = subst (λ (h : Held). HasNoOctetsOfText h.names node (order_of c.args.little) pos text h.table) c.deref.ensures in_order in
+    let in_order = subst (λ (o : Order). HasNoOctetsOfText c.loaded.result.now.names node o pos text c.loaded.result.now.table) c.order.ensures none in
+    let of_held = subst (λ (h : Loaded). HasNoOctetsOfText h.names node (order_of c.args.little) pos text h.table) (c.loaded.ensures ∙ c.deref.ensures) in_order in
     let of_names = subst (λ (names : Labels). HasNoOctetsOfText names node (order_of c.args.little) pos text c.in-Some.held.value.table) (sym named) of_held in
     subst (λ (t : Option TableParts). IfSome t (HasNoOctetsOfText c.args.handle.now.names node (order_of c.args.little) pos text)) (sym there) of_names
 
@@ -27,7 +27,7 @@ returns-clause-unsaid c many =
     let none = (unsaid _ _ _ _ c.encode_text-answer.result c.args.place.now (subst (λ (n : ℕ). 110 ≤ n) is many) c.encode_text-answer.ensures.refused).0 in
     let there : c.args.handle.now.table ≡ Some c.in-Some.held.value.table = search rules in
     let named : c.args.handle.now.names ≡ c.in-Some.held.value.names = search rules in
-    let of_held = subst (λ (h : Held). SaysNone h.names c.args.node c.args.text.now h.table) c.deref.ensures none in
+    let of_held = subst (λ (h : Loaded). SaysNone h.names c.args.node c.args.text.now h.table) (c.loaded.ensures ∙ c.deref.ensures) none in
     let of_names = subst (λ (names : Labels). SaysNone names c.args.node c.args.text.now c.in-Some.held.value.table) (sym named) of_held in
     subst (λ (t : Option TableParts). IfSome t (SaysNone c.args.handle.now.names c.args.node c.args.text.now)) (sym there) of_names
 
