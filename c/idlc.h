@@ -22,11 +22,12 @@
  *
  * What each call answers is proved, whatever octets it is given. This is what the caller owes:
  *
- * - A table begins with zeros. It isn't copied while it is loaded, nor are its members changed.
+ * - A table begins with zeros. It isn't copied while it is loaded, nor are its members changed; idlc_share gives another.
  * - No pointer is null, also where a length is 0, and each points to as much as its length says.
  *   What one call is given lies apart: a buffer isn't the octets that are read, nor the length.
  * - A `bool` is 0 or 1.
  * - One call at a time has a table. A table may be handed to another thread by a lock, or by a thread's start or end.
+ *   Tables of idlc_share serve a thread each, at once.
  * - malloc, realloc and free are those of one allocator. No call is made from a signal handler, or from the forked
  *   child of a process with threads.
  * - There is stack enough. 64 KiB were, with 64 sequences and 64 levels of structures one inside another, for tapes;
@@ -161,6 +162,10 @@ uint32_t idlc_load(struct idlc_table *table, const uint8_t *octets, size_t octet
 /* Loads the table of an IDL text, as a preprocessor leaves it, with the names of members, enumerators and parameters, and
  * lets go of the one that was there. Answers 0, 1 or 6. Where it isn't 0 the table is as it was; with 6 `place` is told. */
 uint32_t idlc_compile(struct idlc_table *table, const uint8_t *source, size_t source_len, struct idlc_place *place);
+
+/* Has another table hold the same as this one, without a copy, and lets go of what was there. Each is let go of by itself.
+ * Answers 0 to 2. Where it isn't 0 the other is as it was. */
+uint32_t idlc_share(struct idlc_table *table, struct idlc_table *other);
 
 /* Lets go of the table, and may be called again. */
 void idlc_free(struct idlc_table *table);

@@ -63,6 +63,13 @@ class Table:
         _done(number)
         return table
 
+    def another(self):
+        """Another owner of the same table, which serves other threads at the same time."""
+        other = Table.__new__(Table)
+        other._begin(self._library._name)
+        _done(self._call("share", ctypes.byref(other._handle)))
+        return other
+
     def _begin(self, library):
         self._library, self._handle, self._lock = ctypes.CDLL(library), _Handle(), threading.Lock()
 

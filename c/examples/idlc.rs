@@ -22,6 +22,7 @@ pub struct Place {
 
 extern "C" {
     fn idlc_compile(table: *mut Handle, source: *const u8, len: usize, place: *mut Place) -> u32;
+    fn idlc_share(table: *mut Handle, other: *mut Handle) -> u32;
     fn idlc_free(table: *mut Handle);
     fn idlc_find(table: *mut Handle, name: *const u8, len: usize, node: *mut u32) -> u32;
     fn idlc_encode_text(
@@ -65,15 +66,26 @@ fn handed(mut call: impl FnMut(*mut u8, usize, &mut usize) -> u32) -> Result<Vec
 }
 
 impl Table {
+    fn none() -> Table {
+        Table(Handle { at: std::ptr::null_mut(), loaded: false })
+    }
+
     /// The table of an IDL text, as a preprocessor leaves it.
     pub fn compile(idl: &str) -> Result<Table, Place> {
-        let (mut table, mut place) = (Table(Handle { at: std::ptr::null_mut(), loaded: false }), Place::default());
+        let (mut table, mut place) = (Table::none(), Place::default());
         // SAFETY: a slice's pointer is never null, and what is handed in lies apart.
         match unsafe { idlc_compile(&mut table.0, idl.as_ptr(), idl.len(), &mut place) } {
             0 => Ok(table),
             FAULTY_IDL => Err(place),
             number => Err(Place { number, ..place }),
         }
+    }
+
+    /// Another owner of the same table, for a thread of its own; None for want of memory.
+    pub fn another(&mut self) -> Option<Table> {
+        let mut other = Table::none();
+        // SAFETY: as in `compile`.
+        (unsafe { idlc_share(&mut self.0, &mut other.0) } == 0).then_some(other)
     }
 
     /// The node of a type's name.
@@ -111,7 +123,10 @@ fn main() {
     let idl = std::fs::read_to_string(file).expect("a file");
     let mut table = Table::compile(&idl).unwrap_or_else(|place| panic!("{place:?}"));
     let node = table.find(name).expect("a name");
+    let (mut other, said) = (table.another().expect("memory"), text.clone());
+    let thread = std::thread::spawn(move || other.encode(node, false, 0, &said));
     let octets = table.encode(node, false, 0, text).unwrap_or_else(|place| panic!("{place:?}"));
+    assert_eq!(thread.join().expect("a thread").ok().as_ref(), Some(&octets));
     for octet in &octets {
         print!("{octet:02x}");
     }

@@ -18,6 +18,7 @@ public:
 
     uint32_t load(const Octets &file, idlc_refusal &refusal) { return idlc_load(&table, at(file), file.size(), &refusal); }
     uint32_t compile(std::string_view idl, idlc_place &place) { return idlc_compile(&table, at(idl), idl.size(), &place); }
+    uint32_t share(Table &other) { return idlc_share(&table, &other.table); }
     uint32_t find(std::string_view name, uint32_t &node) { return idlc_find(&table, at(name), name.size(), &node); }
 
     uint32_t encode(uint32_t node, const Octets &tape, Octets &out, bool little = false, uint64_t pos = 0)

@@ -113,6 +113,37 @@ static void refusals(size_t tape_len, size_t octets_len)
     must(idlc_encode(&table, node, false, 0, tape, tape_len, out, sizeof out, &len) == IDLC_DONE, "still loaded");
 }
 
+/* Another table holds the same, also after the first one is let go of. */
+static long share(size_t tape_len, size_t octets_len)
+{
+    static struct idlc_table other, third;
+    size_t len = 0;
+    long n = 1;
+    for (;; n++) {
+        begin(n);
+        long before = held;
+        uint32_t number = idlc_share(&table, &other);
+        must(table.loaded, "share keeps the first");
+        if (asked < n) {
+            must(number == IDLC_DONE && other.loaded, "shares");
+            break;
+        }
+        must(number == IDLC_NO_MEMORY && !other.loaded && held == before, "no memory to share");
+    }
+    begin(0);
+    must(idlc_share(&third, &other) == IDLC_NO_TABLE && other.loaded, "nothing to share");
+    must(idlc_share(&other, &third) == IDLC_DONE, "a third");
+    idlc_free(&other);
+    must(idlc_encode(&table, node, false, 0, tape, tape_len, out, octets_len, &len) == IDLC_DONE, "the first is there");
+    idlc_free(&table);
+    begin(0);
+    must(idlc_encode(&third, node, false, 0, tape, tape_len, out, octets_len, &len) == IDLC_DONE, "the third is there");
+    must(len == octets_len && is_written(octets, len), "and encodes");
+    must(idlc_share(&third, &table) == IDLC_DONE, "the first again");
+    idlc_free(&third);
+    return n - 1;
+}
+
 static void freed(size_t tape_len, size_t octets_len)
 {
     size_t len = 99, taken = 77;
@@ -141,9 +172,10 @@ int main(int argc, char **argv)
     must(idlc_find(&table, (const uint8_t *)argv[2], strlen(argv[2]), &node) == IDLC_DONE, "finds");
     long to_encode = encode(tape_len, octets_len), to_decode = decode(tape_len, octets_len);
     names();
+    long to_share = share(tape_len, octets_len);
     refusals(tape_len, octets_len);
     must(idlc_load(&table, file, file_len, &refusal) == IDLC_DONE, "loads in the place of another");
     freed(tape_len, octets_len);
-    must(to_load > 0 && to_encode > 0 && to_decode > 0, "allocations were refused");
+    must(to_load > 0 && to_encode > 0 && to_decode > 0 && to_share > 0, "allocations were refused");
     return 0;
 }

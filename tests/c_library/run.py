@@ -16,7 +16,7 @@ from driver.workspace import TOP
 PROGRAM = TOP / "crates" / "idlc_main" / "out" / "idlc_main"
 NAMES = [
     "idlc_compile", "idlc_decode", "idlc_decode_text", "idlc_encode", "idlc_encode_text", "idlc_find", "idlc_free",
-    "idlc_load", "idlc_name",
+    "idlc_load", "idlc_name", "idlc_share",
 ]
 SOURCE = "struct S { octet a; unsigned long b; string c; };\n"
 TAPE, OCTETS = "0700000001000000026869", "070000000000000100000003686900"
@@ -152,6 +152,10 @@ def check_python(library, api, table):
     library.count.add(loaded.decode("S", octets) == ([7, 1, "hi"], 15), "Python decodes by places")
     library.count.add(loaded.encode_tape("S", bytes.fromhex(TAPE)) == octets, "Python encodes a tape")
     library.count.add(loaded.decode_tape("S", octets) == (bytes.fromhex(TAPE), 15), "Python decodes a tape")
+    other = named.another()
+    del named
+    named = other
+    library.count.add(named.encode("S", value) == octets, "Python shares")
     rows = [
         (lambda: loaded.encode_tape("S", b""), (60, 0, 0)),
         (lambda: loaded.encode("T", 1), (3, 0, 0)),

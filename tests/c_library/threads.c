@@ -1,4 +1,5 @@
-/* Eight threads, each with a table of its own, which the main thread then uses and lets go of. */
+/* Eight threads, each with a table of its own, which the main thread then uses and lets go of. Every second table is one
+ * that all share. */
 #include <idlc.h>
 
 #include <pthread.h>
@@ -25,11 +26,16 @@ static int is_right(struct idlc_table *table)
         && taken == sizeof octets && len == sizeof text - 1 && !memcmp(out, text, len);
 }
 
+static int compile(struct idlc_table *table)
+{
+    struct idlc_place place;
+    return !idlc_compile(table, (const uint8_t *)idl, sizeof idl - 1, &place);
+}
+
 static void *work(void *at)
 {
     struct idlc_table *table = at;
-    struct idlc_place place;
-    if (idlc_compile(table, (const uint8_t *)idl, sizeof idl - 1, &place))
+    if (!table->loaded && !compile(table))
         return NULL;
     for (int round = 0; round < ROUNDS; round++)
         if (!is_right(table))
@@ -40,7 +46,11 @@ static void *work(void *at)
 int main(void)
 {
     pthread_t threads[THREADS];
-    int wrong = 0;
+    struct idlc_table shared = {0};
+    int wrong = !compile(&shared);
+    for (int n = 0; n < THREADS; n += 2)
+        wrong += idlc_share(&shared, &tables[n]) != IDLC_DONE;
+    idlc_free(&shared);
     for (int n = 0; n < THREADS; n++)
         if (pthread_create(&threads[n], NULL, work, &tables[n]))
             return 2;
