@@ -226,7 +226,15 @@ pub extern "C" fn idlc_encode(
     let Some(held) = mem::replace(handle, Handle::none(alloc)).into_box() else {
         return Refusal::NotLoaded.number();
     };
-    let answer = marshal::encode(alloc, &held.loaded().table, node, order(little), pos, tape, out);
+    let answer = marshal::encode(
+        alloc,
+        &held.loaded().table,
+        node,
+        order(little),
+        pos,
+        tape,
+        out,
+    );
     *handle = Handle::of(held);
     told(answer, len)
 }
@@ -266,7 +274,16 @@ pub extern "C" fn idlc_decode(
     let Some(held) = mem::replace(handle, Handle::none(alloc)).into_box() else {
         return Refusal::NotLoaded.number();
     };
-    let answer = marshal::decode(alloc, &held.loaded().table, node, order(little), pos, octets, taken, out);
+    let answer = marshal::decode(
+        alloc,
+        &held.loaded().table,
+        node,
+        order(little),
+        pos,
+        octets,
+        taken,
+        out,
+    );
     *handle = Handle::of(held);
     told(answer, len)
 }
@@ -348,7 +365,16 @@ pub extern "C" fn idlc_decode_text(
     let Some(held) = mem::replace(handle, Handle::none(alloc)).into_box() else {
         return Refusal::NotLoaded.number();
     };
-    let answer = text::decode_text(alloc, held.loaded(), node, order(little), pos, octets, taken, out);
+    let answer = text::decode_text(
+        alloc,
+        held.loaded(),
+        node,
+        order(little),
+        pos,
+        octets,
+        taken,
+        out,
+    );
     *handle = Handle::of(held);
     told(answer, len)
 }
