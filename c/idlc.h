@@ -1,37 +1,37 @@
-/* Accepted tables for C: values to CDR octets and back.
+/* Accepted tables for C: values to CDR octets and back, as tapes and as texts.
  *
  *     struct idlc_table table = {0};
- *     struct idlc_refusal refusal;
+ *     struct idlc_place place;
  *     uint32_t node;
  *     size_t len = 0;
- *     const uint8_t tape[] = {7, 0, 0, 0, 1, 0, 0, 0, 2, 'h', 'i'};
- *     uint32_t number = idlc_load(&table, file, file_len, &refusal);
- *     if (number != IDLC_DONE) {
- *         fprintf(stderr, "%u, routine %u, place %u\n", number, refusal.routine, refusal.place);
+ *     const char idl[] = "struct Point {long x; long y;};", text[] = "{\"x\":3,\"y\":-4}";
+ *     if (idlc_compile(&table, (const uint8_t *)idl, sizeof idl - 1, &place) != IDLC_DONE) {
+ *         fprintf(stderr, "%u, line %zu\n", place.number, place.line);
  *         return 1;
  *     }
- *     if (idlc_find(&table, (const uint8_t *)"S", 1, &node) != IDLC_DONE)
+ *     if (idlc_find(&table, (const uint8_t *)"Point", 5, &node) != IDLC_DONE)
  *         return 1;
- *     uint8_t none[1];
- *     number = idlc_encode(&table, node, false, 0, tape, sizeof tape, none, 0, &len);   // asks for the length
- *     if (number != IDLC_DONE && number != IDLC_NO_ROOM)
- *         return 1;
- *     uint8_t *octets = malloc(len + 1);
- *     if (octets && idlc_encode(&table, node, false, 0, tape, sizeof tape, octets, len, &len) == IDLC_DONE)
+ *     const uint8_t *said = (const uint8_t *)text;
+ *     uint8_t none[1];   // a call with length 0 asks for the length
+ *     uint32_t number = idlc_encode_text(&table, node, false, 0, said, sizeof text - 1, none, 0, &len, &place);
+ *     uint8_t *octets = number == IDLC_NO_ROOM ? malloc(len) : NULL;
+ *     if (octets && !idlc_encode_text(&table, node, false, 0, said, sizeof text - 1, octets, len, &len, &place))
  *         fwrite(octets, 1, len, stdout);
  *     free(octets);
  *     idlc_free(&table);
  *
  * What each call answers is proved, whatever octets it is given. This is what the caller owes:
  *
- * - A table begins with zeros. It isn't copied while it is loaded, nor are its members changed.
+ * - A table begins with zeros. It isn't copied while it is loaded, nor are its members changed; idlc_share gives another.
  * - No pointer is null, also where a length is 0, and each points to as much as its length says.
  *   What one call is given lies apart: a buffer isn't the octets that are read, nor the length.
  * - A `bool` is 0 or 1.
  * - One call at a time has a table. A table may be handed to another thread by a lock, or by a thread's start or end.
+ *   Tables of idlc_share serve a thread each, at once.
  * - malloc, realloc and free are those of one allocator. No call is made from a signal handler, or from the forked
  *   child of a process with threads.
- * - There is stack enough. 64 KiB were, with 64 sequences and 64 levels of structures one inside another.
+ * - There is stack enough. 64 KiB were, with 64 sequences and 64 levels of structures one inside another, for tapes;
+ *   for IDL and for texts 8 MiB, the usual stack of a main thread.
  */
 #ifndef IDLC_H
 #define IDLC_H
@@ -44,7 +44,8 @@
 extern "C" {
 #endif
 
-/* What calls answer. `idlc explain NN` tells of 50 and more what it means, and how to mend it. */
+/* What calls answer. `idlc explain NN` tells of 50 and more what it means, and how to mend it; those below are of this
+ * library alone, and `idlc explain` has other refusals by these numbers. */
 enum {
     IDLC_DONE = 0,
     IDLC_NO_MEMORY = 1,  /* malloc or realloc gave none */
@@ -52,6 +53,7 @@ enum {
     IDLC_NO_NAME = 3,    /* no type has this name, or node; no name stands at this place */
     IDLC_NO_ROOM = 4,    /* the buffer is too small; the length that is needed is told */
     IDLC_TOO_LONG = 5,   /* a table file has 16,777,216 octets at most */
+    IDLC_FAULTY_IDL = 6, /* the IDL has a fault; its place is told, with a number of 1 to 36, see below */
 
     /* the octets are no table's */
     IDLC_NOT_A_TABLE = 50,
@@ -72,6 +74,23 @@ enum {
     IDLC_TOO_DEEP = 67,
     IDLC_TAPE_LEFT = 68,
 
+    /* the text is no value's */
+    IDLC_NOT_JSON = 110, /* or isn't UTF-8: line 0 */
+    IDLC_NOT_WHOLE = 111,
+    IDLC_NOT_BOOLEAN = 112,
+    IDLC_NOT_CHAR = 113,
+    IDLC_NOT_TEXT = 114,
+    IDLC_NOT_ENUMERATOR = 115,
+    IDLC_NOT_DIGITS = 116,
+    IDLC_NOT_A_LIST = 117,
+    IDLC_NOT_MEMBERS = 118,
+    IDLC_NO_SUCH_MEMBER = 119,
+    IDLC_MEMBER_TWICE = 120,
+    IDLC_MEMBER_MISSING = 121,
+    IDLC_WRONG_COUNT = 122,
+    IDLC_TEXT_TOO_DEEP = 123,
+    IDLC_TEXT_BEHIND = 124,
+
     /* the table isn't right */
     IDLC_WRONG_WORK = 80,
     IDLC_WRONG_PADDING = 81,
@@ -79,6 +98,38 @@ enum {
     IDLC_EXITS_TOO_SMALL = 83,
     IDLC_NO_ROUTINE = 84,
     IDLC_NAMED_ENTRY_NOT_FULL = 85
+};
+
+/* The faults of IDL that a place tells; `idlc explain NN` tells of them too. */
+enum {
+    IDLC_BAD_CHAR = 1, /* or the text isn't UTF-8: line 0 */
+    IDLC_OPEN_COMMENT = 2,
+    IDLC_OPEN_LITERAL = 3,
+    IDLC_BAD_LITERAL = 4,
+    IDLC_BAD_ESCAPE = 5,
+    IDLC_BAD_DIRECTIVE = 6,
+    IDLC_KEYWORD_CASE = 7,
+    IDLC_UNEXPECTED = 10,
+    IDLC_END_OF_FILE = 11,
+    IDLC_LEFT_OUT = 12,
+    IDLC_LEVELS = 13,
+    IDLC_UNKNOWN = 20,
+    IDLC_COLLIDES = 21,
+    IDLC_CASE_DIFFERS = 22,
+    IDLC_AMBIGUOUS = 23,
+    IDLC_NOT_A_TYPE = 24,
+    IDLC_ID_TWICE = 25,
+    IDLC_BAD_CONSTANT = 26,
+    IDLC_BAD_BASE = 27,
+    IDLC_PREFIX_IN_SCOPE = 28,
+    IDLC_PREFIX_DIFFERS = 29,
+    IDLC_SELF_HELD = 30,
+    IDLC_LABEL_TWICE = 31,
+    IDLC_LABEL_RANGE = 32,
+    IDLC_DEFAULT_NEEDLESS = 33,
+    IDLC_BAD_SWITCH = 34,
+    IDLC_LIMIT = 35,
+    IDLC_BAD_ONEWAY = 36
 };
 
 /* A table, or none where all is zero. */
@@ -97,9 +148,24 @@ struct idlc_refusal {
     uint32_t node;
 };
 
+/* Where a text was refused, and the number. Lines and columns count from 1, columns in octets; of IDL the column is 0. */
+struct idlc_place {
+    uint32_t number;
+    size_t line;
+    size_t column;
+};
+
 /* Loads the table of a file's octets, if it is right, and lets go of the one that was there. Answers 0, 1, 5, 50 to 55,
  * or 80 to 85. Where it isn't 0 the table is as it was, and `refusal` is told. */
 uint32_t idlc_load(struct idlc_table *table, const uint8_t *octets, size_t octets_len, struct idlc_refusal *refusal);
+
+/* Loads the table of an IDL text, as a preprocessor leaves it, with the names of members, enumerators and parameters, and
+ * lets go of the one that was there. Answers 0, 1 or 6. Where it isn't 0 the table is as it was; with 6 `place` is told. */
+uint32_t idlc_compile(struct idlc_table *table, const uint8_t *source, size_t source_len, struct idlc_place *place);
+
+/* Has another table hold the same as this one, without a copy, and lets go of what was there. Each is let go of by itself.
+ * Answers 0 to 2. Where it isn't 0 the other is as it was. */
+uint32_t idlc_share(struct idlc_table *table, struct idlc_table *other);
 
 /* Lets go of the table, and may be called again. */
 void idlc_free(struct idlc_table *table);
@@ -120,7 +186,17 @@ uint32_t idlc_encode(struct idlc_table *table, uint32_t node, bool little, uint6
 uint32_t idlc_decode(struct idlc_table *table, uint32_t node, bool little, uint64_t pos, const uint8_t *octets,
                      size_t octets_len, size_t *taken, uint8_t *out, size_t out_len, size_t *len);
 
-/* Of all four calls that hand something over: with 0 its first `*len` octets are written, and those behind them are as
+/* The same of the value that a text says: JSON of the form that crates/value_text/README.md tells, members and enumerators
+ * by their names where the table was compiled, else by their places. Answers 0 to 4, 60 to 68: the value has no octets,
+ * or 110 to 124: the text says no value of the type, and `place` is told. */
+uint32_t idlc_encode_text(struct idlc_table *table, uint32_t node, bool little, uint64_t pos, const uint8_t *text,
+                          size_t text_len, uint8_t *out, size_t out_len, size_t *len, struct idlc_place *place);
+
+/* As idlc_decode, but what is handed over is the value's text, without a zero or a line feed at its end. */
+uint32_t idlc_decode_text(struct idlc_table *table, uint32_t node, bool little, uint64_t pos, const uint8_t *octets,
+                          size_t octets_len, size_t *taken, uint8_t *out, size_t out_len, size_t *len);
+
+/* Of all calls that hand octets over: with 0 its first `*len` octets are written, and those behind them are as
  * they were; with 4 `*len` is what is needed, so a call with length 0 asks for it; but with 0 the buffer is as it was. */
 
 #ifdef __cplusplus

@@ -1,52 +1,9 @@
 /* The calls of a table, with each allocation refused in turn: calls FILE NAME TAPE-HEX OCTETS-HEX
  *
- * Linked with --wrap for malloc, realloc and free. It prints a line for each step, and ends with 0 where what must hold
- * held. */
-#include <idlc.h>
+ * It prints a line for each name, and ends with 0 where what must hold held. */
+#include "refusing.h"
 
-#include <stdio.h>
-#include <stdlib.h>
-#include <string.h>
-
-void *__real_malloc(size_t size);
-void *__real_realloc(void *at, size_t size);
-void __real_free(void *at);
-
-static long asked, refused_at, held;
-
-void *__wrap_malloc(size_t size)
-{
-    if (++asked == refused_at)
-        return NULL;
-    void *at = __real_malloc(size);
-    held += at != NULL;
-    return at;
-}
-
-void *__wrap_realloc(void *at, size_t size)
-{
-    if (++asked == refused_at)
-        return NULL;
-    void *moved = __real_realloc(at, size);
-    held += !at && moved;
-    return moved;
-}
-
-void __wrap_free(void *at)
-{
-    held -= at != NULL;
-    __real_free(at);
-}
-
-static uint8_t file[1 << 20], tape[1 << 10], octets[1 << 10], out[1 << 10], as_it_was[1 << 10];
-
-static void must(int holds, const char *what)
-{
-    if (!holds) {
-        printf("not so: %s\n", what);
-        exit(1);
-    }
-}
+static uint8_t file[1 << 20], tape[1 << 10], octets[1 << 10];
 
 static size_t of_hex(const char *digits, uint8_t *to)
 {
@@ -57,18 +14,6 @@ static size_t of_hex(const char *digits, uint8_t *to)
         to[i] = (uint8_t)octet;
     }
     return len;
-}
-
-static void begin(long refuse)
-{
-    memset(out, 0xa5, sizeof out);
-    asked = 0;
-    refused_at = refuse;
-}
-
-static int is_untouched(void)
-{
-    return memcmp(out, as_it_was, sizeof out) == 0;
 }
 
 static struct idlc_table table;
@@ -104,8 +49,7 @@ static long encode(size_t tape_len, size_t octets_len)
         uint32_t number = idlc_encode(&table, node, false, 0, tape, tape_len, out, octets_len, &len);
         must(held == before && table.loaded, "encode leaks nothing");
         if (asked < n) {
-            must(number == IDLC_DONE && len == octets_len && memcmp(out, octets, len) == 0, "encodes");
-            must(memcmp(out + len, as_it_was + len, sizeof out - len) == 0, "what is behind stays");
+            must(number == IDLC_DONE && len == octets_len && is_written(octets, len), "encodes");
             return n - 1;
         }
         must(number == IDLC_NO_MEMORY && is_untouched(), "no memory to encode");
@@ -125,8 +69,7 @@ static long decode(size_t tape_len, size_t octets_len)
         must(held == before && table.loaded, "decode leaks nothing");
         if (asked < n) {
             must(number == IDLC_DONE && len == tape_len && taken == octets_len, "decodes");
-            must(memcmp(out, tape, len) == 0, "the tape");
-            must(memcmp(out + len, as_it_was + len, sizeof out - len) == 0, "what is behind stays");
+            must(is_written(tape, len), "the tape");
             return n - 1;
         }
         must(number == IDLC_NO_MEMORY && taken == 77 && is_untouched(), "no memory to decode");
@@ -170,6 +113,37 @@ static void refusals(size_t tape_len, size_t octets_len)
     must(idlc_encode(&table, node, false, 0, tape, tape_len, out, sizeof out, &len) == IDLC_DONE, "still loaded");
 }
 
+/* Another table holds the same, also after the first one is let go of. */
+static long share(size_t tape_len, size_t octets_len)
+{
+    static struct idlc_table other, third;
+    size_t len = 0;
+    long n = 1;
+    for (;; n++) {
+        begin(n);
+        long before = held;
+        uint32_t number = idlc_share(&table, &other);
+        must(table.loaded, "share keeps the first");
+        if (asked < n) {
+            must(number == IDLC_DONE && other.loaded, "shares");
+            break;
+        }
+        must(number == IDLC_NO_MEMORY && !other.loaded && held == before, "no memory to share");
+    }
+    begin(0);
+    must(idlc_share(&third, &other) == IDLC_NO_TABLE && other.loaded, "nothing to share");
+    must(idlc_share(&other, &third) == IDLC_DONE, "a third");
+    idlc_free(&other);
+    must(idlc_encode(&table, node, false, 0, tape, tape_len, out, octets_len, &len) == IDLC_DONE, "the first is there");
+    idlc_free(&table);
+    begin(0);
+    must(idlc_encode(&third, node, false, 0, tape, tape_len, out, octets_len, &len) == IDLC_DONE, "the third is there");
+    must(len == octets_len && is_written(octets, len), "and encodes");
+    must(idlc_share(&third, &table) == IDLC_DONE, "the first again");
+    idlc_free(&third);
+    return n - 1;
+}
+
 static void freed(size_t tape_len, size_t octets_len)
 {
     size_t len = 99, taken = 77;
@@ -187,7 +161,6 @@ static void freed(size_t tape_len, size_t octets_len)
 
 int main(int argc, char **argv)
 {
-    memset(as_it_was, 0xa5, sizeof as_it_was);
     FILE *from = argc == 5 ? fopen(argv[1], "rb") : NULL;
     if (!from)
         return 2;
@@ -199,9 +172,10 @@ int main(int argc, char **argv)
     must(idlc_find(&table, (const uint8_t *)argv[2], strlen(argv[2]), &node) == IDLC_DONE, "finds");
     long to_encode = encode(tape_len, octets_len), to_decode = decode(tape_len, octets_len);
     names();
+    long to_share = share(tape_len, octets_len);
     refusals(tape_len, octets_len);
     must(idlc_load(&table, file, file_len, &refusal) == IDLC_DONE, "loads in the place of another");
     freed(tape_len, octets_len);
-    must(to_load > 0 && to_encode > 0 && to_decode > 0, "allocations were refused");
+    must(to_load > 0 && to_encode > 0 && to_decode > 0 && to_share > 0, "allocations were refused");
     return 0;
 }

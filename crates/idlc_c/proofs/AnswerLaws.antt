@@ -5,11 +5,11 @@ use Rattle.program_runner.specs.declared.fault.RunFault.{RunFault}
 use Rattle.program_runner.specs.declared.fault.RunFault.TheVariants as runs
 use Rattle.program_runner.specs.Refusal.{OnlyIf}
 use Rattle.idlc_c.specs.declared.refusal.Refusal.{Refusal}
-use Rattle.idlc_c.specs.declared.refusal.Refusal.TheVariants.{NoMemory, NotLoaded, NotNamed, NoRoom, TooLong, NoTable, NotRight, NoValue}
+use Rattle.idlc_c.specs.declared.refusal.Refusal.TheVariants.{NoMemory, NotLoaded, NotNamed, NoRoom, TooLong, NoTable, NotRight, NoValue, NoText}
 use Rattle.idlc_c.specs.Numbers.{number_of_run, number_of_answer}
 use Rattle.idlc_c.specs.Answers.{RefusesValue}
 
-run_none : {V : Type 0} (fault : RunFault) → 60 ≤ number_of_run fault → OnlyIf fault V → V
+pub run_none : {V : Type 0} (fault : RunFault) → 60 ≤ number_of_run fault → OnlyIf fault V → V
 run_none runs.Short e s = s
 run_none runs.BadBool e s = s
 run_none runs.BadEnum e s = s
@@ -32,3 +32,4 @@ none_of U L V (Err NotLoaded) e s = absurd s
 none_of U L V (Err TooLong) e s = absurd s
 none_of U L V (Err (NoTable fault)) e s = absurd s
 none_of U L V (Err (NotRight fault)) e s = absurd s
+none_of U L V (Err (NoText unsaid)) e s = absurd s

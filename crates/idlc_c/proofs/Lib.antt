@@ -1,3 +1,5 @@
 mod AnswerLaws
 mod NameLaws
+mod TextLaws
+mod ValueLaws
 mod Values

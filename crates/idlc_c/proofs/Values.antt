@@ -31,8 +31,9 @@ use Rattle.std.specs.contracts.impls.GlobalAllocator.TheImpl.{ghosts}
 use Rattle.std_alloc.specs.Box.Ownership.{box_owns}
 use Rattle.std_alloc.proofs.ResultValues.{and_tt}
 use Rattle.table_file.specs.Table.{TableParts}
-use Rattle.position_checker.specs.contracts.accepted.Accepted.{the_row}
-use Rattle.idlc_c.specs.Handle.{owns_table}
+use Rattle.idlc_c.specs.contracts.held.Held.{the_row}
+use Rattle.idlc_c.specs.declared.held.Loaded.{Loaded as Kept}
+use Rattle.idlc_c.specs.Handle.{Labels, owns_table}
 use Rattle.idlc_c.specs.contracts.loose.Loose as loose
 use Rattle.idlc_c.specs.contracts.handle.Handle as handle
 
@@ -78,8 +79,8 @@ Table = Loose the_row Z LZ ghosts
 abbrev pub Held : RattleType
 Held = handle.the_row
 
-abbrev pub held : Ptr → Bool → Global → Option TableParts → Held.Denot
-held at loaded alloc table = record { at = at; loaded = loaded; alloc = alloc; table = table }
+abbrev pub held : Ptr → Bool → Global → Option TableParts → Labels → Held.Denot
+held at loaded alloc table names = record { at = at; loaded = loaded; alloc = alloc; table = table; names = names }
 
 abbrev pub three : Ptr → Bool → Val → Val
 three p loaded h = vstruct (vcons (ptr_val p) (vcons (vbool loaded) (vcons h vnil)))
@@ -90,7 +91,7 @@ held_good null_ptr loaded h fits = (and_tt (has_ty (layout Z) h) fits.0, (record
 
 module _ {M : Type 1} {𝓤 : Ura M} {𝓛 : Logic 𝓤} {K : Type 0} {Γ : List (Item 𝓤)} {G : Goal 𝓤 𝓛.H} where
   pub held_out : K → (d : Held.Denot) (vs : List Val)
-      → ((h : Val) → vs ≡ three d.at d.loaded h ∷ [] → Good (layout Z) h → Seq K 𝓛 (‵ (owns_table d.alloc d.at d.loaded d.table) ∷ ‵ (Z.own_val d.alloc (h ∷ [])) ∷ Γ) G)
+      → ((h : Val) → vs ≡ three d.at d.loaded h ∷ [] → Good (layout Z) h → Seq K 𝓛 (‵ (owns_table d.alloc d.at d.loaded d.table d.names) ∷ ‵ (Z.own_val d.alloc (h ∷ [])) ∷ Γ) G)
       → Seq K 𝓛 (‵ (Held.own_val d vs) ∷ Γ) G
   held_out t d vs k =
       fsplit t $ fpick t (λ vss. fsplit t $ feq_l t (λ ev. fsplit t $ feq_l t (λ ep. fsplit t $ feq_l t (λ el. fsplit t $ handle_tells (al the_row Z LZ ghosts) t d.alloc vss.1.1.0 (λ h ea fits. move t (1 ∷ []) $ drop t $ move t (1 ∷ []) $
@@ -99,18 +100,19 @@ module _ {M : Type 1} {𝓤 : Ura M} {𝓛 : Logic 𝓤} {K : Type 0} {Γ : List
       (subst (λ (ps : List Val). vs ≡ vstruct (of_list (ps ++ (vss.1.0 ++ (vss.1.1.0 ++ [])))) ∷ []) ep ev))) fits)))))
 
   pub held_in : K → (d : Held.Denot) (h : Val)
-      → Step K 𝓛 (‵ (Held.own_val d (three d.at d.loaded h ∷ [])) ∷ Γ) G (‵ (owns_table d.alloc d.at d.loaded d.table) ∷ ‵ (Z.own_val d.alloc (h ∷ [])) ∷ Γ) G
+      → Step K 𝓛 (‵ (Held.own_val d (three d.at d.loaded h ∷ [])) ∷ Γ) G (‵ (owns_table d.alloc d.at d.loaded d.table d.names) ∷ ‵ (Z.own_val d.alloc (h ∷ [])) ∷ Γ) G
   held_in t d h = step (λ s. let v : Val = three d.at d.loaded h in let p : List Val = ptr_val d.at ∷ [] in let l : List Val = vbool d.loaded ∷ [] in
       nothing t $ move t (2 ∷ 0 ∷ []) $ fjoin t $ feq_i t (List Val) l l refl $ fjoin t $ feq_i t (List Val) p p refl $ fjoin t $ feq_i t (List Val) (v ∷ []) (v ∷ []) refl $ fjoin t $
       fpack t (Valss (fields handle.the_type)) (within (shape handle.the_type) (to handle.the_type d) (v ∷ [])) (p, (l, (h ∷ [], tt))) $ fjoin t $ s)
 
   -- a handle is loaded just where it has a table
-  pub owned_cases : K → (alloc : Global) (at : Ptr) (loaded : Bool) (table : Option TableParts)
-      → (loaded ≡ false → table ≡ None → Seq K 𝓛 Γ G)
-      → ((b o : ℕ) (x : TableParts) → at ≡ block_ptr b o → loaded ≡ true → table ≡ Some x → Seq K 𝓛 (‵ (box_owns (ghosts.dealloc_token alloc) the_row (block_ptr b o) x) ∷ Γ) G)
-      → Seq K 𝓛 (‵ (owns_table alloc at loaded table) ∷ Γ) G
-  owned_cases t alloc at false None none some = drop t $ none refl refl
-  owned_cases t alloc at true (Some x) none some =
-      in_a_block t at (λ p. box_owns (ghosts.dealloc_token alloc) the_row p x) (fst∗ 𝓤 (never 𝓤) (sem 𝓛 (ghosts.dealloc_token alloc (bare (lone the_row.mir)) null_ptr))) (λ b o e. some b o x e refl refl)
-  owned_cases t alloc at false (Some x) none some = use1 𝓛 (given ⊥ (‵ ftrue)) (never_e 𝓤 _) $ learn t (λ z. absurd z)
-  owned_cases t alloc at true None none some = use1 𝓛 (given ⊥ (‵ ftrue)) (never_e 𝓤 _) $ learn t (λ z. absurd z)
+  pub owned_cases : K → (alloc : Global) (at : Ptr) (loaded : Bool) (table : Option TableParts) (names : Labels)
+      → (loaded ≡ false → table ≡ None → names ≡ [] → Seq K 𝓛 Γ G)
+      → ((b o : ℕ) (x : Kept) → at ≡ block_ptr b o → loaded ≡ true → table ≡ Some x.table → names ≡ x.names → Seq K 𝓛 (‵ (box_owns (ghosts.dealloc_token alloc) the_row (block_ptr b o) x) ∷ Γ) G)
+      → Seq K 𝓛 (‵ (owns_table alloc at loaded table names) ∷ Γ) G
+  owned_cases t alloc at false None [] none some = drop t $ none refl refl refl
+  owned_cases t alloc at true (Some table) names none some = let x : Kept = record { table = table; names = names } in
+      in_a_block t at (λ p. box_owns (ghosts.dealloc_token alloc) the_row p x) (fst∗ 𝓤 (never 𝓤) (sem 𝓛 (ghosts.dealloc_token alloc (bare (lone the_row.mir)) null_ptr))) (λ b o e. some b o x e refl refl refl)
+  owned_cases t alloc at false None (name ∷ names) none some = use1 𝓛 (given ⊥ (‵ ftrue)) (never_e 𝓤 _) $ learn t (λ z. absurd z)
+  owned_cases t alloc at false (Some x) names none some = use1 𝓛 (given ⊥ (‵ ftrue)) (never_e 𝓤 _) $ learn t (λ z. absurd z)
+  owned_cases t alloc at true None names none some = use1 𝓛 (given ⊥ (‵ ftrue)) (never_e 𝓤 _) $ learn t (λ z. absurd z)

@@ -1,3 +1,7 @@
 pub mod Answers
 pub mod Handle
 pub mod Numbers
+pub mod SourceAnswers
+pub mod SourceNumbers
+pub mod TextAnswers
+pub mod inner

@@ -7,9 +7,12 @@ use Rattle.program_runner.specs.declared.fault.RunFault.TheVariants as runs
 use Rattle.routine_checker.specs.declared.fault.RoutinePlace.{RoutinePlace}
 use Rattle.routine_checker.specs.declared.fault.CheckFault.{CheckFault}
 use Rattle.routine_checker.specs.declared.fault.CheckFault.TheVariants as checks
+use Rattle.value_text.specs.declared.fault.Wanted.{Wanted}
+use Rattle.value_text.specs.declared.fault.Wanted.TheVariants as wanted
 use Rattle.idlc_c.specs.declared.refusal.RefusalPlace.{RefusalPlace}
+use Rattle.idlc_c.specs.declared.source_place.SourcePlace.{SourcePlace}
 use Rattle.idlc_c.specs.declared.refusal.Refusal.{Refusal}
-use Rattle.idlc_c.specs.declared.refusal.Refusal.TheVariants.{NoMemory, NotLoaded, NotNamed, NoRoom, TooLong, NoTable, NotRight, NoValue}
+use Rattle.idlc_c.specs.declared.refusal.Refusal.TheVariants.{NoMemory, NotLoaded, NotNamed, NoRoom, TooLong, NoTable, NotRight, NoValue, NoText}
 
 abbrev pub number_of_file : TableFault → ℕ
 number_of_file files.NotATable = 50
@@ -31,6 +34,23 @@ number_of_run runs.OverBound = 66
 number_of_run runs.TooDeep = 67
 number_of_run runs.TapeLeft = 68
 number_of_run runs.NoMemory = 1
+
+abbrev pub number_of_text : Wanted → ℕ
+number_of_text wanted.Json = 110
+number_of_text wanted.Whole = 111
+number_of_text wanted.Boolean = 112
+number_of_text wanted.Char = 113
+number_of_text wanted.Text = 114
+number_of_text wanted.Enumerator = 115
+number_of_text wanted.Digits = 116
+number_of_text wanted.List = 117
+number_of_text wanted.Members = 118
+number_of_text wanted.Member = 119
+number_of_text wanted.OtherMember = 120
+number_of_text wanted.AllMembers = 121
+number_of_text wanted.Count = 122
+number_of_text wanted.Depth = 123
+number_of_text wanted.End = 124
 
 abbrev pub place_in_routine : ℕ → RoutinePlace → ℕ → RefusalPlace
 place_in_routine number at place =
@@ -57,6 +77,7 @@ number_of TooLong = 5
 number_of (NoTable fault) = number_of_file fault
 number_of (NotRight fault) = (place_of_check fault).number
 number_of (NoValue fault) = number_of_run fault
+number_of (NoText unsaid) = number_of_text unsaid.wanted
 
 abbrev pub place_of : Refusal → RefusalPlace
 place_of (NotRight fault) = place_of_check fault
@@ -71,3 +92,12 @@ abbrev pub length_of : Result ℕ Refusal → ℕ → ℕ
 length_of (Ok len) old = len
 length_of (Err (NoRoom needed)) old = needed
 length_of (Err refusal) old = old
+
+-- where a text was refused, if it was
+abbrev pub place_told : Result ℕ Refusal → SourcePlace → SourcePlace
+place_told (Err (NoText unsaid)) old = record {
+  number = number_of_text unsaid.wanted;
+  line = unsaid.place.line;
+  column = unsaid.place.column;
+}
+place_told answer old = old

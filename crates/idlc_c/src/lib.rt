@@ -1,25 +1,35 @@
 //! The calls of accepted tables, for C. No call requires anything, beside what C owes to the types.
 #![tactic(auto)]
 
-ghost use Rattle.std.specs.Prelude.{◌≡◌, ◌≢◌, ◌<◌, ◌≤◌, ◌↔◌, drop, length, slice_get, take, All, Contains, IfSome, IsSome, None, Some};
+ghost use Rattle.std.specs.Prelude.{◌≡◌, ◌≢◌, ◌<◌, ◌≤◌, ◌↔◌, [], drop, length, slice_get, take, All, Contains, IfSome, IsSome, None, Some};
 ghost use Rattle.type_graph.specs.Words.{reading, writing};
 ghost use Rattle.type_graph.specs.Encoding.{Means};
 ghost use Rattle.type_model.specs.Names.{IsNamed};
 ghost use Rattle.position_checker.specs.Acceptance.{IsRight};
 ghost use Rattle.idlc_c.specs.Answers.{HasName, HasNoOctets, HasNoTape, HasOctets, HasTape, IsFaultyAt, IsFile, IsNoFile, IsOfFile, IsOfValue, order_of};
+ghost use Rattle.idlc_c.specs.SourceAnswers.{IsFaultAt, IsIdlOf, IsOfSource};
+ghost use Rattle.idlc_c.specs.TextAnswers.{HasNoOctetsOfText, HasOctetsOfText, HasTextOfOctets, IsOctetsOfText, IsOfText, IsTextOfOctets, SaysNone};
 
+mod compile;
 mod handle;
+mod held;
 mod load;
 mod loose;
 mod marshal;
 mod names;
 mod octets;
+mod parts;
 mod refusal;
+mod source_fault;
+mod source_place;
+mod text;
 
 use crate::marshal::order;
-use crate::refusal::{Refusal, told};
+use crate::refusal::{Refusal, told, told_at};
+use crate::source_fault::SourceFault;
 pub use handle::Handle;
 pub use refusal::RefusalPlace;
+pub use source_place::SourcePlace;
 use std::alloc::Global;
 use std::mem;
 
@@ -34,7 +44,9 @@ pub extern "C" fn idlc_load(
     ensures done { result ≡ 0 → IsSome handle.new.table }
     ensures file { result ≡ 0 → IfSome handle.new.table (IsFile octets.now) }
     ensures right { result ≡ 0 → IfSome handle.new.table IsRight }
+    ensures nameless { result ≡ 0 → handle.new.names ≡ [] }
     ensures kept { result ≢ 0 → handle.new.table ≡ handle.old.table }
+    ensures names { result ≢ 0 → handle.new.names ≡ handle.old.names }
     ensures told { result ≢ 0 → refusal.new.number ≡ result }
     ensures untold { result ≡ 0 → refusal.new ≡ refusal.old }
     ensures long { (result ≡ 5) ↔ (16777216 < length octets.now) }
@@ -43,8 +55,8 @@ pub extern "C" fn idlc_load(
     ensures numbers { IsOfFile result }
 {
     match load::load(alloc, octets) {
-        Ok(table) => {
-            *handle = Handle::of(table);
+        Ok(held) => {
+            *handle = Handle::of(held);
             0
         }
         Err(refused) => {
@@ -54,18 +66,78 @@ pub extern "C" fn idlc_load(
     }
 }
 
+/// Loads the table of an IDL text, with the names of the parts of its types, in the place of the
+/// one that is there.
+#[unsafe(no_mangle)]
+pub extern "C" fn idlc_compile(
+    alloc: Global,
+    handle: &mut Handle,
+    source: &[u8],
+    place: &mut SourcePlace,
+) -> u32
+    ensures done { result ≡ 0 → IsSome handle.new.table }
+    ensures idl { result ≡ 0 → IfSome handle.new.table (IsIdlOf source.now handle.new.names) }
+    ensures right { result ≡ 0 → IfSome handle.new.table IsRight }
+    ensures kept { result ≢ 0 → handle.new.table ≡ handle.old.table }
+    ensures names { result ≢ 0 → handle.new.names ≡ handle.old.names }
+    ensures faulty { result ≡ 6 → IsFaultAt source.now place.new }
+    ensures untold { result ≢ 6 → place.new ≡ place.old }
+    ensures numbers { IsOfSource result }
+{
+    match compile::compile(alloc, source) {
+        Ok(held) => {
+            *handle = Handle::of(held);
+            0
+        }
+        Err(SourceFault::NoMemory) => 1,
+        Err(fault) => {
+            *place = fault.place();
+            6
+        }
+    }
+}
+
 /// Lets go of the table, if one is loaded.
 #[unsafe(no_mangle)]
 pub extern "C" fn idlc_free(alloc: Global, handle: &mut Handle)
-    ensures { handle.new.table ≡ None }
+    ensures table { handle.new.table ≡ None }
+    ensures names { handle.new.names ≡ [] }
 {
     *handle = Handle::none(alloc);
+}
+
+/// Has another handle hold what is loaded, in the place of what is there. It isn't copied: each of the
+/// two may be used, and let go of, by a thread of its own.
+#[unsafe(no_mangle)]
+pub extern "C" fn idlc_share(alloc: Global, handle: &mut Handle, other: &mut Handle) -> u32
+    ensures kept { handle.new.table ≡ handle.old.table }
+    ensures names { handle.new.names ≡ handle.old.names }
+    ensures loaded { (result ≡ 2) ↔ (handle.old.table ≡ None) }
+    ensures shared { result ≡ 0 → other.new.table ≡ handle.old.table }
+    ensures shared_names { result ≡ 0 → other.new.names ≡ handle.old.names }
+    ensures untouched { result ≢ 0 → other.new.table ≡ other.old.table }
+    ensures same_names { result ≢ 0 → other.new.names ≡ other.old.names }
+    ensures numbers { result ≤ 2 }
+{
+    let Some(held) = mem::replace(handle, Handle::none(alloc)).into_box() else {
+        return Refusal::NotLoaded.number();
+    };
+    let another = held.another(alloc);
+    *handle = Handle::of(held);
+    match another {
+        Ok(another) => {
+            *other = Handle::of(another);
+            0
+        }
+        Err(_) => Refusal::NoMemory.number(),
+    }
 }
 
 /// The node of a type's name.
 #[unsafe(no_mangle)]
 pub extern "C" fn idlc_find(alloc: Global, handle: &mut Handle, name: &[u8], node: &mut u32) -> u32
     ensures kept { handle.new.table ≡ handle.old.table }
+    ensures names { handle.new.names ≡ handle.old.names }
     ensures loaded { (result ≡ 2) ↔ (handle.old.table ≡ None) }
     ensures found { result ≡ 0 → IfSome handle.old.table (λ table. Contains table.model.names (name.now, node.new)) }
     ensures missing { result ≡ 3 → IfSome handle.old.table (λ table.
@@ -74,11 +146,11 @@ pub extern "C" fn idlc_find(alloc: Global, handle: &mut Handle, name: &[u8], nod
     ensures numbers { result ≤ 3 }
     ensures no_memory { result ≢ 1 }
 {
-    let Some(table) = mem::replace(handle, Handle::none(alloc)).into_box() else {
+    let Some(held) = mem::replace(handle, Handle::none(alloc)).into_box() else {
         return Refusal::NotLoaded.number();
     };
-    let found = names::find(&table, name);
-    *handle = Handle::of(table);
+    let found = names::find(&held.loaded().table, name);
+    *handle = Handle::of(held);
     match found {
         Some(found) => {
             *node = found;
@@ -100,6 +172,7 @@ pub extern "C" fn idlc_name(
     node: &mut u32,
 ) -> u32
     ensures kept { handle.new.table ≡ handle.old.table }
+    ensures names { handle.new.names ≡ handle.old.names }
     ensures loaded { (result ≡ 2) ↔ (handle.old.table ≡ None) }
     ensures done { result ≡ 0 → IfSome handle.old.table (λ table.
         slice_get table.model.names place ≡ Some (take len.new out.new, node.new)) }
@@ -114,11 +187,11 @@ pub extern "C" fn idlc_name(
     ensures numbers { result ≤ 4 }
     ensures no_memory { result ≢ 1 }
 {
-    let Some(table) = mem::replace(handle, Handle::none(alloc)).into_box() else {
+    let Some(held) = mem::replace(handle, Handle::none(alloc)).into_box() else {
         return Refusal::NotLoaded.number();
     };
-    let answer = names::name_at(&table, place, out, node);
-    *handle = Handle::of(table);
+    let answer = names::name_at(&held.loaded().table, place, out, node);
+    *handle = Handle::of(held);
     told(answer, len)
 }
 
@@ -136,6 +209,7 @@ pub extern "C" fn idlc_encode(
     len: &mut usize,
 ) -> u32
     ensures kept { handle.new.table ≡ handle.old.table }
+    ensures names { handle.new.names ≡ handle.old.names }
     ensures loaded { (result ≡ 2) ↔ (handle.old.table ≡ None) }
     ensures done { result ≡ 0 → IfSome handle.old.table (λ table.
         Means table.model.graph (writing (order_of little)) 64 node pos tape.now (take len.new out.new)) }
@@ -149,11 +223,19 @@ pub extern "C" fn idlc_encode(
     ensures same_length { result ≢ 0 → result ≢ 4 → len.new ≡ len.old }
     ensures numbers { IsOfValue result }
 {
-    let Some(table) = mem::replace(handle, Handle::none(alloc)).into_box() else {
+    let Some(held) = mem::replace(handle, Handle::none(alloc)).into_box() else {
         return Refusal::NotLoaded.number();
     };
-    let answer = marshal::encode(alloc, &table, node, order(little), pos, tape, out);
-    *handle = Handle::of(table);
+    let answer = marshal::encode(
+        alloc,
+        &held.loaded().table,
+        node,
+        order(little),
+        pos,
+        tape,
+        out,
+    );
+    *handle = Handle::of(held);
     told(answer, len)
 }
 
@@ -173,6 +255,7 @@ pub extern "C" fn idlc_decode(
     len: &mut usize,
 ) -> u32
     ensures kept { handle.new.table ≡ handle.old.table }
+    ensures names { handle.new.names ≡ handle.old.names }
     ensures loaded { (result ≡ 2) ↔ (handle.old.table ≡ None) }
     ensures done { result ≡ 0 → IfSome handle.old.table (λ table. Means table.model.graph
         (reading (order_of little)) 64 node pos (take len.new out.new) (take taken.new octets.now)) }
@@ -188,10 +271,110 @@ pub extern "C" fn idlc_decode(
     ensures same_length { result ≢ 0 → result ≢ 4 → len.new ≡ len.old }
     ensures numbers { IsOfValue result }
 {
-    let Some(table) = mem::replace(handle, Handle::none(alloc)).into_box() else {
+    let Some(held) = mem::replace(handle, Handle::none(alloc)).into_box() else {
         return Refusal::NotLoaded.number();
     };
-    let answer = marshal::decode(alloc, &table, node, order(little), pos, octets, taken, out);
-    *handle = Handle::of(table);
+    let answer = marshal::decode(
+        alloc,
+        &held.loaded().table,
+        node,
+        order(little),
+        pos,
+        octets,
+        taken,
+        out,
+    );
+    *handle = Handle::of(held);
+    told(answer, len)
+}
+
+/// Writes the octets of the value that a text says to the front of the buffer, with zeros in the
+/// gaps, and tells how many they are, or would be. Where the text says none, the place is told.
+#[unsafe(no_mangle)]
+pub extern "C" fn idlc_encode_text(
+    alloc: Global,
+    handle: &mut Handle,
+    node: u32,
+    little: bool,
+    pos: u64,
+    text: &[u8],
+    out: &mut [u8],
+    len: &mut usize,
+    place: &mut SourcePlace,
+) -> u32
+    ensures kept { handle.new.table ≡ handle.old.table }
+    ensures names { handle.new.names ≡ handle.old.names }
+    ensures loaded { (result ≡ 2) ↔ (handle.old.table ≡ None) }
+    ensures done { result ≡ 0 → IfSome handle.old.table
+        (IsOctetsOfText handle.old.names node (order_of little) pos text.now (take len.new out.new)) }
+    ensures within { result ≡ 0 → len.new ≤ length out.old }
+    ensures behind { result ≡ 0 → drop len.new out.new ≡ drop len.new out.old }
+    ensures unnamed { result ≡ 3 → IfSome handle.old.table (λ table. IsNamed table.model.names node → ⊥) }
+    ensures no_room { result ≡ 4 → length out.old < len.new }
+    ensures needed { result ≡ 4 → IfSome handle.old.table
+        (HasOctetsOfText handle.old.names node (order_of little) pos text.now len.new) }
+    ensures refused { 60 ≤ result → result ≤ 68 → IfSome handle.old.table
+        (HasNoOctetsOfText handle.old.names node (order_of little) pos text.now) }
+    ensures unsaid { 110 ≤ result → IfSome handle.old.table (SaysNone handle.old.names node text.now) }
+    ensures told { 110 ≤ result → place.new.number ≡ result }
+    ensures untold { result < 110 → place.new ≡ place.old }
+    ensures untouched { result ≢ 0 → out.new ≡ out.old }
+    ensures same_length { result ≢ 0 → result ≢ 4 → len.new ≡ len.old }
+    ensures numbers { IsOfText result }
+{
+    let Some(held) = mem::replace(handle, Handle::none(alloc)).into_box() else {
+        return Refusal::NotLoaded.number();
+    };
+    let answer = text::encode_text(alloc, held.loaded(), node, order(little), pos, text, out);
+    *handle = Handle::of(held);
+    told_at(answer, len, place)
+}
+
+/// Writes the text of the value that a front of the octets encodes, whatever stands in the gaps, to
+/// the front of the buffer, and tells how long it is, or would be, and how many octets that front
+/// has.
+#[unsafe(no_mangle)]
+pub extern "C" fn idlc_decode_text(
+    alloc: Global,
+    handle: &mut Handle,
+    node: u32,
+    little: bool,
+    pos: u64,
+    octets: &[u8],
+    taken: &mut usize,
+    out: &mut [u8],
+    len: &mut usize,
+) -> u32
+    ensures kept { handle.new.table ≡ handle.old.table }
+    ensures names { handle.new.names ≡ handle.old.names }
+    ensures loaded { (result ≡ 2) ↔ (handle.old.table ≡ None) }
+    ensures done { result ≡ 0 → IfSome handle.old.table
+        (IsTextOfOctets handle.old.names node (order_of little) pos octets.now taken.new (take len.new out.new)) }
+    ensures within { result ≡ 0 → len.new ≤ length out.old }
+    ensures behind { result ≡ 0 → drop len.new out.new ≡ drop len.new out.old }
+    ensures unnamed { result ≡ 3 → IfSome handle.old.table (λ table. IsNamed table.model.names node → ⊥) }
+    ensures no_room { result ≡ 4 → length out.old < len.new }
+    ensures needed { result ≡ 4 → IfSome handle.old.table
+        (HasTextOfOctets handle.old.names node (order_of little) pos octets.now len.new) }
+    ensures refused { 60 ≤ result → IfSome handle.old.table (HasNoTape node (order_of little) pos octets.now) }
+    ensures untouched { result ≢ 0 → out.new ≡ out.old }
+    ensures not_taken { result ≢ 0 → taken.new ≡ taken.old }
+    ensures same_length { result ≢ 0 → result ≢ 4 → len.new ≡ len.old }
+    ensures numbers { IsOfValue result }
+{
+    let Some(held) = mem::replace(handle, Handle::none(alloc)).into_box() else {
+        return Refusal::NotLoaded.number();
+    };
+    let answer = text::decode_text(
+        alloc,
+        held.loaded(),
+        node,
+        order(little),
+        pos,
+        octets,
+        taken,
+        out,
+    );
+    *handle = Handle::of(held);
     told(answer, len)
 }

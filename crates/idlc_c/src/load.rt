@@ -1,10 +1,11 @@
 //! Tables from the octets of a file.
 
-ghost use Rattle.std.specs.Prelude.{◌≡◌, ◌<◌, length, IfErr, IfOk, IsErrAnd};
+ghost use Rattle.std.specs.Prelude.{◌≡◌, ◌<◌, [], length, IfErr, IfOk, IsErrAnd};
 ghost use Rattle.position_checker.specs.Acceptance.{IsRight};
 ghost use Rattle.idlc_c.specs.Answers.{IsFile, RefusesFile};
 ghost use Rattle.idlc_c.specs.declared.refusal.Refusal.TheVariants.{TooLong};
 
+use crate::held::{Held, Loaded};
 use crate::refusal::Refusal;
 use position_checker::{Accepted, check};
 use std::alloc::Global;
@@ -33,15 +34,16 @@ fn accepted(alloc: Global, octets: &[u8]) -> Result<Accepted, Refusal>
 }
 
 /// The table of these octets, of version 1 or 2, which was found right.
-pub(crate) fn load(alloc: Global, octets: &[u8]) -> Result<Box<Accepted>, Refusal>
-    ensures file { IfOk result (λ table. IsFile octets.now table.value) }
-    ensures right { IfOk result (λ table. IsRight table.value) }
+pub(crate) fn load(alloc: Global, octets: &[u8]) -> Result<Box<Held>, Refusal>
+    ensures file { IfOk result (λ held. IsFile octets.now held.value.table) }
+    ensures right { IfOk result (λ held. IsRight held.value.table) }
+    ensures nameless { IfOk result (λ held. held.value.names ≡ []) }
     ensures long { 16777216 < length octets.now → IsErrAnd result (λ refusal. refusal ≡ TooLong) }
     ensures refused { IfErr result (RefusesFile octets.now) }
 {
     match accepted(alloc, octets) {
-        Ok(table) => match Box::new(alloc, table) {
-            Ok(table) => Ok(table),
+        Ok(table) => match Held::boxed(alloc, Loaded::nameless(alloc, table)) {
+            Ok(held) => Ok(held),
             Err(_) => Err(Refusal::NoMemory),
         },
         Err(refusal) => Err(refusal),

@@ -1,11 +1,13 @@
 //! Why a call is refused, and the numbers that C has of it.
 
 ghost use Rattle.std.specs.Prelude.{◌≡◌};
-ghost use Rattle.idlc_c.specs.Numbers.{length_of, number_of, number_of_answer, number_of_file, number_of_run, place_in_routine, place_of, place_of_check, place_of_node};
+ghost use Rattle.idlc_c.specs.Numbers.{length_of, number_of, number_of_answer, number_of_file, number_of_run, place_in_routine, place_of, place_of_check, place_of_node, place_told};
 
+use crate::source_place::{SourcePlace, text_number};
 use marshal_program::TableFault;
 use position_checker::{CheckFault, RoutinePlace};
 use program_runner::RunFault;
+use value_text::Refusal as Unsaid;
 
 #[derive(Drop)]
 pub(crate) enum Refusal {
@@ -24,6 +26,8 @@ pub(crate) enum Refusal {
     NotRight(CheckFault),
     /// The tape or the octets are no value's.
     NoValue(RunFault),
+    /// The text says no value.
+    NoText(Unsaid),
 }
 
 /// The number of a refusal, and where a table isn't right. What doesn't belong to a refusal is 0.
@@ -132,6 +136,7 @@ impl Refusal {
             Refusal::NoTable(fault) => file_number(fault),
             Refusal::NotRight(fault) => RefusalPlace::of_fault(fault).number,
             Refusal::NoValue(fault) => run_number(fault),
+            Refusal::NoText(unsaid) => text_number(unsaid.wanted),
         }
     }
 }
@@ -153,4 +158,20 @@ pub(crate) fn told(answer: Result<usize, Refusal>, len: &mut usize) -> u32
             refusal.number()
         }
     }
+}
+
+/// The same of an answer about a text, with the place where the text was refused.
+pub(crate) fn told_at(
+    answer: Result<usize, Refusal>,
+    len: &mut usize,
+    place: &mut SourcePlace,
+) -> u32
+    ensures number { result ≡ number_of_answer answer }
+    ensures length { len.new ≡ length_of answer len.old }
+    ensures place { place.new ≡ place_told answer place.old }
+{
+    if let Err(Refusal::NoText(unsaid)) = &answer {
+        *place = SourcePlace::of_text(*unsaid);
+    }
+    told(answer, len)
 }

@@ -19,7 +19,7 @@ use Rattle.core.proofs.alloc.Calls.{handle_tells}
 use Rattle.std.specs.declared.option.Option.TheVariants.{None}
 use Rattle.std.specs.contracts.impls.GlobalAllocator.TheImpl.{ghosts}
 use Rattle.std.proofs.raw_atomic.Walks.{proved_at}
-use Rattle.position_checker.specs.contracts.accepted.Accepted.{the_row}
+use Rattle.idlc_c.specs.contracts.held.Held.{the_row}
 use Rattle.idlc_c.proofs.Values.{Z, LZ, al, held, three, held_good, held_in}
 use Rattle.idlc_c.specs.contracts.handle.Handle.none as f
 use Rattle.idlc_c.proofs.handle.Handle.none.Statement.{statement}
@@ -38,5 +38,5 @@ none_spec 𝓤 𝓛 𝓜 𝓡 wired =
     handle_tells (al the_row Z LZ ghosts) ! d z.0.4.0 (λ h eh fits.
     suffices ! (Run (h ∷ [])) (runs h eh) $ enter ! 𝓣.C 𝓣.Λ fn (h ∷ []) Post $ alloc_all ! (λ l. pass_all ! refl (fits, tt) $
     sets ! (agg ! (and_then ! (lit ! tt) (and_then ! (false_lit !) (and_then ! (get ! refl) (no_more !))))) refl (held_good null_ptr false h fits) $
-    nothing ! $ held_in ! (held null_ptr false d None) h $ returns ! (look_at ! 0 refl) $ free_all ! refl $
-    suffices ! _ (ends_at 𝓛 f.ended stayed c z (three null_ptr false h) (held null_ptr false d None) (tt, tt) (tt, tt)) $ says ! refl $ nothing ! $ nothing ! $ fjoin ! $ join ! $ nothing ! $ join ! $ done !)))
+    nothing ! $ held_in ! (held null_ptr false d None []) h $ returns ! (look_at ! 0 refl) $ free_all ! refl $
+    suffices ! _ (ends_at 𝓛 f.ended stayed c z (three null_ptr false h) (held null_ptr false d None []) (tt, tt) (tt, tt)) $ says ! (refl, refl) $ nothing ! $ nothing ! $ fjoin ! $ join ! $ nothing ! $ join ! $ done !)))

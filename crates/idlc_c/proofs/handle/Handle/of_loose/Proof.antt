@@ -18,7 +18,7 @@ use denote.Triple.Walked.{says, Stays, stay_dropped, walk_of, ends_at, Goes-drop
 use Rattle.std.specs.declared.option.Option.TheVariants.{Some}
 use Rattle.std.specs.contracts.impls.GlobalAllocator.TheImpl.{ghosts}
 use Rattle.std.proofs.raw_atomic.Walks.{proved_at}
-use Rattle.position_checker.specs.contracts.accepted.Accepted.{the_row}
+use Rattle.idlc_c.specs.contracts.held.Held.{the_row}
 use Rattle.idlc_c.proofs.Values.{Z, LZ, Table, held, both, three, loose_good, loose_out, held_good, held_in}
 use Rattle.idlc_c.specs.contracts.handle.Handle.of_loose as f
 use Rattle.idlc_c.proofs.handle.Handle.of_loose.Statement.{statement}
@@ -40,5 +40,5 @@ of_loose_spec 𝓤 𝓛 𝓜 𝓡 wired =
     sets ! (of_opd ! (get_in ! (fld ! refl (stop !)) (sub ! 0 refl (whole !)))) refl (tt, tt) $ sets ! (of_opd ! (get_in ! (fld ! refl (stop !)) (sub ! 1 refl (whole !)))) refl fits $
     sets ! (of_opd ! (get ! refl)) refl (tt, tt) $
     sets ! (agg ! (and_then ! (get ! refl) (and_then ! (true_lit !) (and_then ! (get ! refl) (no_more !))))) refl (held_good (block_ptr b o) true h fits) $
-    held_in ! (held (block_ptr b o) true d.alloc (Some d.value)) h $ returns ! (look_at ! 0 refl) $ free_all ! refl $
-    suffices ! _ (ends_at 𝓛 f.ended stayed c z (three (block_ptr b o) true h) (held (block_ptr b o) true d.alloc (Some d.value)) (tt, tt) (tt, tt)) $ says ! refl $ nothing ! $ nothing ! $ fjoin ! $ join ! $ nothing ! $ join ! $ done !)))
+    held_in ! (held (block_ptr b o) true d.alloc (Some d.value.table) d.value.names) h $ returns ! (look_at ! 0 refl) $ free_all ! refl $
+    suffices ! _ (ends_at 𝓛 f.ended stayed c z (three (block_ptr b o) true h) (held (block_ptr b o) true d.alloc (Some d.value.table) d.value.names) (tt, tt) (tt, tt)) $ says ! (refl, refl) $ nothing ! $ nothing ! $ fjoin ! $ join ! $ nothing ! $ join ! $ done !)))

@@ -1,0 +1,89 @@
+//! What a handle holds: a table and names, which several handles may share.
+
+ghost use Rattle.std.specs.Prelude.{◌≡◌, [], IfOk};
+ghost use Rattle.std.specs.Arc.{arc_value};
+
+use part_names::PartNames;
+use position_checker::Accepted;
+use std::alloc::{AllocError, Global};
+use std::marker::Model;
+use std::sync::Arc;
+
+/// A table that was accepted, and the names of the parts of its types, where these are known.
+#[derive(Drop)]
+pub struct Loaded {
+    pub table: Accepted,
+    pub names: PartNames,
+}
+
+impl Loaded {
+    /// A table whose parts have no names. Takes no memory.
+    pub fn nameless(alloc: Global, table: Accepted) -> Loaded
+        ensures table { result.table ≡ table }
+        ensures names { result.names ≡ [] }
+    {
+        Loaded {
+            table,
+            names: PartNames::new(alloc, Vec::new(alloc)),
+        }
+    }
+}
+
+/// One owner of what is loaded.
+#[derive(Drop)]
+pub struct Held {
+    shared: Arc<Loaded>,
+}
+
+impl Model for Held {
+    ghost use Rattle.std.specs.Arc.{arc_value};
+    ghost use Rattle.idlc_c.specs.declared.held.Loaded.{Loaded};
+
+    ghost Value = { Loaded };
+
+    ghost view = { λ h. arc_value h.shared };
+}
+
+impl Held {
+    /// The first owner.
+    fn new(alloc: Global, loaded: Loaded) -> Result<Held, AllocError>
+        ensures { IfOk result (λ held. held ≡ loaded) }
+    {
+        match Arc::new(alloc, loaded) {
+            Ok(shared) => Ok(Held { shared }),
+            Err(_) => Err(AllocError),
+        }
+    }
+
+    /// The same in a box.
+    pub fn boxed(alloc: Global, loaded: Loaded) -> Result<Box<Held>, AllocError>
+        ensures { IfOk result (λ held. held.value ≡ loaded) }
+    {
+        match Held::new(alloc, loaded) {
+            Ok(held) => match Box::new(alloc, held) {
+                Ok(held) => Ok(held),
+                Err(_) => Err(AllocError),
+            },
+            Err(error) => Err(error),
+        }
+    }
+
+    pub fn loaded(&self) -> &Loaded
+        ensures { result.now ≡ self.now }
+    {
+        &self.shared
+    }
+
+    /// Another owner of the same, in a box.
+    pub fn another(&self, alloc: Global) -> Result<Box<Held>, AllocError>
+        ensures { IfOk result (λ held. held.value ≡ self.now) }
+    {
+        match Arc::try_clone(&self.shared) {
+            Ok(shared) => match Box::new(alloc, Held { shared }) {
+                Ok(held) => Ok(held),
+                Err(_) => Err(AllocError),
+            },
+            Err(error) => Err(error),
+        }
+    }
+}
