@@ -8,7 +8,9 @@ mod list;
 mod listing;
 mod names;
 mod tape;
+mod text;
 
 pub use list::{list_profile, list_reference};
 pub use listing::{IiopBody, IiopProfile, ListedProfile, Listing};
 pub use names::{component_name, profile_name};
+pub use text::reference_lines;
