@@ -1,0 +1,4 @@
+pub mod Shapes
+pub mod Splits
+pub mod Fronts
+pub mod Rows

@@ -1,0 +1,5 @@
+pub mod HeadFacts
+pub mod RunFacts
+pub mod TurnFacts
+pub mod Hearing
+pub mod Steps

@@ -1,0 +1,90 @@
+//! Heads of messages that a server sends.
+
+ghost use Rattle.std.specs.Prelude.{◌≡◌, ◌≤◌, length, Ok};
+ghost use Rattle.giop_messages.specs.Framing.{is_cut as is_cut_in, same_order as are_same};
+ghost use Rattle.giop_messages.specs.Heads.{max_size, number_in};
+ghost use Rattle.reply_streams.specs.Heads.{followed as followed_as, may_go_on, reply_head as reply_head_in};
+
+use byteorder::{BigEndian, ByteOrder, LittleEndian};
+use giop_messages::{FramingFault, HEAD_LEN, Head, MessageKind};
+use type_graph::Order;
+
+/// Whether fragments may follow.
+fn may_be_followed(kind: MessageKind) -> bool
+    ensures { result ≡ may_go_on kind }
+{
+    match kind {
+        MessageKind::Reply | MessageKind::LocateReply | MessageKind::Fragment => true,
+        MessageKind::Request
+        | MessageKind::CancelRequest
+        | MessageKind::LocateRequest
+        | MessageKind::CloseConnection
+        | MessageKind::MessageError => false,
+    }
+}
+
+/// The head of a message that fragments follow.
+fn followed(head: Head) -> Result<Head, FramingFault>
+    ensures { result ≡ followed_as (Ok head) }
+{
+    if may_be_followed(head.kind) {
+        Ok(Head {
+            kind: head.kind,
+            order: head.order,
+            goes_on: true,
+            size: head.size,
+        })
+    } else {
+        Err(FramingFault::BadHead)
+    }
+}
+
+/// What the 12 octets at the front say to a client.
+///
+/// # Errors
+/// What is wrong with them.
+pub(crate) fn reply_head(octets: &[u8]) -> Result<Head, FramingFault>
+    requires { 12 ≤ length octets.now }
+    ensures { result ≡ reply_head_in octets.now }
+{
+    if octets[6] / 2 % 2 != 1 {
+        return Head::read(octets);
+    }
+    let mut front = [0u8; HEAD_LEN];
+    front.copy_from_slice(&octets[..HEAD_LEN]);
+    front[6] -= 2;
+    match Head::read(front.as_slice()) {
+        Ok(head) => followed(head),
+        Err(fault) => Err(fault),
+    }
+}
+
+/// The unsigned number of four octets at the front.
+pub(crate) fn number(order: Order, octets: &[u8]) -> u32
+    requires { 4 ≤ length octets.now }
+    ensures { result ≡ number_in order 4 octets.now }
+{
+    match order {
+        Order::Big => BigEndian::read_u32(octets),
+        Order::Little => LittleEndian::read_u32(octets),
+    }
+}
+
+/// Whether there is no number, or more is to come at a place that is no multiple of 8.
+pub(crate) fn is_cut(head: &Head) -> bool
+    requires { head.now.size ≤ max_size }
+    ensures { result ≡ is_cut_in head.now }
+{
+    head.size < 4 || (head.goes_on && (HEAD_LEN as u32 + head.size) % 8 != 0)
+}
+
+/// Whether two byte orders are one.
+pub(crate) fn same_order(one: Order, other: Order) -> bool
+    ensures { result ≡ are_same one other }
+{
+    match (one, other) {
+        (Order::Big, Order::Big) => true,
+        (Order::Little, Order::Little) => true,
+        _ => false,
+    }
+}

@@ -1,0 +1,113 @@
+//! What a stream says.
+
+ghost use Rattle.std.specs.Prelude.{◌≡◌, ◌≤◌, [], length, drop, None, IfOk};
+ghost use Rattle.reply_streams.specs.Heard.{Waits, heard_from, heard_more};
+ghost use Rattle.reply_streams.specs.Told.{told};
+
+use crate::reply::SentReply;
+use crate::turn::{Turn, take_turn};
+use giop_messages::FramingFault;
+use std::alloc::{AllocError, Global};
+
+/// A stream that hasn't said its reply yet.
+#[derive(Drop)]
+pub struct ReplyStream {
+    /// The pieces of the reply that have come.
+    pub run: Option<SentReply>,
+    /// The octets behind the messages that have come.
+    pub rest: Vec<u8>,
+}
+
+/// What a stream says to a client that awaits the reply to a request.
+#[derive(Drop)]
+pub enum Heard {
+    /// Nothing yet.
+    Waits(ReplyStream),
+    /// The reply.
+    Replies(SentReply),
+    /// No message of GIOP stands where one should.
+    Breaks(FramingFault),
+    /// The server closes the connection (CloseConnection).
+    Ends,
+    /// A message that was sent was none to the server (MessageError).
+    Refuses,
+}
+
+impl ReplyStream {
+    /// A stream that has said nothing. Takes no memory.
+    pub fn new(alloc: Global) -> ReplyStream
+        ensures run { result.run ≡ None }
+        ensures rest { result.rest.items ≡ [] }
+    {
+        ReplyStream {
+            run: None,
+            rest: Vec::new(alloc),
+        }
+    }
+
+    /// What the stream says to a client that awaits the reply to the request of the number, when
+    /// these octets come behind those that came before.
+    ///
+    /// # Errors
+    /// Want of memory.
+    pub fn hear(self, alloc: Global, id: u32, octets: &[u8]) -> Result<Heard, AllocError>
+        ensures { IfOk result (λ h. told h ≡ heard_more id (Waits self.run self.rest.items) octets.now) }
+    {
+        let mut rest = self.rest;
+        rest.extend_from_slice(octets)?;
+        hear_all(alloc, id, self.run, rest)
+    }
+}
+
+/// Takes octets away at the front.
+fn remove_front(octets: &mut Vec<u8>, n: usize)
+    requires { n ≤ length octets.old.items }
+    ensures { octets.new.items ≡ drop n octets.old.items }
+{
+    let len = octets.len();
+    octets.as_mut_slice().copy_within(n..len, 0);
+    octets.truncate(len - n);
+}
+
+/// A stream so many octets of which are seen to.
+fn behind(run: Option<SentReply>, mut octets: Vec<u8>, seen: usize) -> ReplyStream
+    requires { seen ≤ length octets.items }
+    ensures run { result.run ≡ run }
+    ensures rest { result.rest.items ≡ drop seen octets.items }
+{
+    if seen > 0 {
+        remove_front(&mut octets, seen);
+    }
+    ReplyStream { run, rest: octets }
+}
+
+/// What all messages in the octets say while a run may be open.
+fn hear_all(
+    alloc: Global,
+    id: u32,
+    run: Option<SentReply>,
+    octets: Vec<u8>,
+) -> Result<Heard, AllocError>
+    ensures { IfOk result (λ h. told h ≡ heard_from id run octets.items) }
+{
+    let mut held = run;
+    let mut at = 0;
+    while at < octets.len() {
+        match take_turn(alloc, id, held, octets.as_slice().split_at(at).1)? {
+            Turn::Waits(run) => return Ok(Heard::Waits(behind(run, octets, at))),
+            Turn::Passes { run, len } => {
+                held = run;
+                at += len;
+            }
+            Turn::Goes { run, len } => {
+                held = Some(run);
+                at += len;
+            }
+            Turn::Replies(reply) => return Ok(Heard::Replies(reply)),
+            Turn::Breaks(fault) => return Ok(Heard::Breaks(fault)),
+            Turn::Ends => return Ok(Heard::Ends),
+            Turn::Refuses => return Ok(Heard::Refuses),
+        }
+    }
+    Ok(Heard::Waits(behind(held, octets, at)))
+}

@@ -1,0 +1,158 @@
+//! One message of a stream.
+
+ghost use Rattle.std.specs.Prelude.{◌≡◌, ◌≤◌, ◌+◌, ℕ, List, length, IfOk, nat_eq};
+ghost use Rattle.giop_messages.specs.declared.fault.FramingFault.TheVariants.{BadFragment, BadHead};
+ghost use Rattle.giop_messages.specs.declared.head.MessageKind.TheVariants.{Fragment, Reply};
+ghost use Rattle.giop_messages.specs.Framing.{id_in};
+ghost use Rattle.reply_streams.specs.Fronts.{begins, continues, front, placed};
+ghost use Rattle.reply_streams.specs.inner.Runs.{IsSent};
+ghost use Rattle.reply_streams.specs.inner.Turns.{IsTaken, IsTurn};
+
+use crate::head::{is_cut, number, reply_head};
+use crate::reply::SentReply;
+use giop_messages::{FramingFault, HEAD_LEN, Head, MessageKind};
+use std::alloc::{AllocError, Global};
+
+/// What becomes of a stream by what stands at its front.
+#[derive(Drop)]
+pub(crate) enum Turn {
+    /// Nothing: more octets have to come.
+    Waits(Option<SentReply>),
+    /// So many octets are no part of the reply.
+    Passes { run: Option<SentReply>, len: usize },
+    /// So many octets are a piece of the reply.
+    Goes { run: SentReply, len: usize },
+    /// The reply is whole.
+    Replies(SentReply),
+    /// No message stands there.
+    Breaks(FramingFault),
+    /// The server closes the connection.
+    Ends,
+    /// To the server a message was none.
+    Refuses,
+}
+
+/// Whether a message has the number.
+fn has_id(id: u32, head: &Head, message: &[u8]) -> bool
+    requires sent { IsSent head.now message.now }
+    requires numbered { 4 ≤ head.now.size }
+    ensures { result ≡ nat_eq (id_in message.now) id }
+{
+    number(head.order, message.split_at(HEAD_LEN).1) == id
+}
+
+/// Takes a reply, or the first piece of one.
+fn take_reply(
+    alloc: Global,
+    id: u32,
+    run: Option<SentReply>,
+    head: &Head,
+    message: &[u8],
+) -> Result<Turn, AllocError>
+    requires sent { IsSent head.now message.now }
+    requires reply { head.now.kind ≡ Reply }
+    ensures { IfOk result (λ turn.
+        IsTaken run (placed id run Reply head.now message.now) (length message.now) turn) }
+{
+    let len = message.len();
+    if head.size < 4 {
+        return Ok(Turn::Breaks(FramingFault::BadHead));
+    }
+    if !has_id(id, head, message) {
+        return Ok(Turn::Passes { run, len });
+    }
+    if run.is_some() || (head.goes_on && is_cut(head)) {
+        return Ok(Turn::Breaks(FramingFault::BadFragment));
+    }
+    let reply = SentReply::begin(alloc, message)?;
+    if head.goes_on {
+        Ok(Turn::Goes { run: reply, len })
+    } else {
+        Ok(Turn::Replies(reply))
+    }
+}
+
+/// Takes a later piece of a reply.
+fn take_fragment(
+    id: u32,
+    run: Option<SentReply>,
+    head: &Head,
+    message: &[u8],
+) -> Result<Turn, AllocError>
+    requires sent { IsSent head.now message.now }
+    ensures { IfOk result (λ turn.
+        IsTaken run (placed id run Fragment head.now message.now) (length message.now) turn) }
+{
+    let len = message.len();
+    if head.size < 4 {
+        return Ok(Turn::Breaks(FramingFault::BadFragment));
+    }
+    if !has_id(id, head, message) {
+        return Ok(Turn::Passes { run, len });
+    }
+    let Some(mut reply) = run else {
+        return Ok(Turn::Breaks(FramingFault::BadFragment));
+    };
+    if reply.is_broken_by(head) {
+        return Ok(Turn::Breaks(FramingFault::BadFragment));
+    }
+    reply.add(message)?;
+    if head.goes_on {
+        Ok(Turn::Goes { run: reply, len })
+    } else {
+        Ok(Turn::Replies(reply))
+    }
+}
+
+/// Takes a whole message.
+fn take_message(
+    alloc: Global,
+    id: u32,
+    run: Option<SentReply>,
+    head: &Head,
+    message: &[u8],
+) -> Result<Turn, AllocError>
+    requires { IsSent head.now message.now }
+    ensures { IfOk result (λ turn.
+        IsTaken run (placed id run head.now.kind head.now message.now) (length message.now) turn) }
+{
+    match head.kind {
+        MessageKind::Reply => take_reply(alloc, id, run, head, message),
+        MessageKind::Fragment => take_fragment(id, run, head, message),
+        MessageKind::LocateReply => Ok(Turn::Passes {
+            run,
+            len: message.len(),
+        }),
+        MessageKind::CloseConnection => Ok(Turn::Ends),
+        MessageKind::MessageError => Ok(Turn::Refuses),
+        MessageKind::Request | MessageKind::CancelRequest | MessageKind::LocateRequest => {
+            Ok(Turn::Breaks(FramingFault::BadHead))
+        }
+    }
+}
+
+/// Takes what stands at the front of a stream while a run may be open.
+///
+/// # Errors
+/// Want of memory.
+pub(crate) fn take_turn(
+    alloc: Global,
+    id: u32,
+    run: Option<SentReply>,
+    octets: &[u8],
+) -> Result<Turn, AllocError>
+    ensures { IfOk result (λ turn. IsTurn run (front id run octets.now) octets.now turn) }
+{
+    if octets.len() < HEAD_LEN {
+        return Ok(Turn::Waits(run));
+    }
+    let head = match reply_head(octets) {
+        Ok(head) => head,
+        Err(fault) => return Ok(Turn::Breaks(fault)),
+    };
+    let len = HEAD_LEN + head.size as usize;
+    if octets.len() < len {
+        return Ok(Turn::Waits(run));
+    }
+    take_message(alloc, id, run, &head, octets.split_at(len).0)
+}
