@@ -5,8 +5,8 @@ use Rattle.table_commands.specs.declared.values.Way.{Way}
 use Rattle.table_commands.specs.declared.values.Way.TheVariants.{Encode, Decode}
 use Rattle.command_words.specs.declared.task.Task.{Task}
 use Rattle.command_words.specs.Way.{name_of}
-use Rattle.command_words.specs.Ask.{Ask, Value, Reference, Explanation, ValueAsk, ReferenceAsk, ask_of, command_of}
-use Rattle.command_words.specs.Words.{Tells, TellsReference, TellsRefusal, TellsValue}
+use Rattle.command_words.specs.Ask.{Ask, Value, Reference, Explanation, Description, ValueAsk, ReferenceAsk, ask_of, command_of}
+use Rattle.command_words.specs.Words.{Tells, TellsDescription, TellsReference, TellsRefusal, TellsValue}
 use Rattle.command_words.proofs.Requests.{different, same_way}
 
 way_length : (way : Way) → length (name_of way) ≡ 6
@@ -24,6 +24,8 @@ by_value Encode (Reference reference) rows result is tells then = absurd (differ
 by_value Decode (Reference reference) rows result is tells then = absurd (different 6 3 (ap length is) (omega arith))
 by_value Encode (Explanation word) rows result is tells then = absurd (different 6 7 (ap length is) (omega arith))
 by_value Decode (Explanation word) rows result is tells then = absurd (different 6 7 (ap length is) (omega arith))
+by_value Encode (Description reference) rows result is tells then = absurd (different 6 9 (ap length is) (omega arith))
+by_value Decode (Description reference) rows result is tells then = absurd (different 6 9 (ap length is) (omega arith))
 
 pub by_reference : (ask : Ask) (rows : List Row) (result : Option Task) → codes "ior" ≡ command_of ask → Tells rows ask
     → ((reference : ReferenceAsk) → TellsReference rows reference → IsFor (Reference reference) result) → IsFor ask result
@@ -31,6 +33,7 @@ by_reference (Value value) rows result is tells then =
     absurd (different 3 6 (ap length is ∙ way_length value.value.way) (omega arith))
 by_reference (Reference reference) rows result is tells then = then reference tells
 by_reference (Explanation word) rows result is tells then = absurd (different 3 7 (ap length is) (omega arith))
+by_reference (Description reference) rows result is tells then = absurd (different 3 9 (ap length is) (omega arith))
 
 pub by_explanation : (ask : Ask) (rows : List Row) (result : Option Task) → codes "explain" ≡ command_of ask → Tells rows ask
     → ((word : Option Text) → TellsRefusal rows word → IsFor (Explanation word) result) → IsFor ask result
@@ -38,3 +41,12 @@ by_explanation (Value value) rows result is tells then =
     absurd (different 7 6 (ap length is ∙ way_length value.value.way) (omega arith))
 by_explanation (Reference reference) rows result is tells then = absurd (different 7 3 (ap length is) (omega arith))
 by_explanation (Explanation word) rows result is tells then = then word tells
+by_explanation (Description reference) rows result is tells then = absurd (different 7 9 (ap length is) (omega arith))
+
+pub by_description : (ask : Ask) (rows : List Row) (result : Option Task) → codes "reference" ≡ command_of ask → Tells rows ask
+    → ((reference : Text) → TellsDescription rows reference → IsFor (Description reference) result) → IsFor ask result
+by_description (Value value) rows result is tells then =
+    absurd (different 9 6 (ap length is ∙ way_length value.value.way) (omega arith))
+by_description (Reference reference) rows result is tells then = absurd (different 9 3 (ap length is) (omega arith))
+by_description (Explanation word) rows result is tells then = absurd (different 9 7 (ap length is) (omega arith))
+by_description (Description reference) rows result is tells then = then reference tells

@@ -25,6 +25,8 @@ pub data Ask : Type 0 where
   Reference : ReferenceAsk → Ask
   -- what the refusals of a number or a name mean, or which there are
   Explanation : Option (List ℕ) → Ask
+  -- what a reference says
+  Description : List ℕ → Ask
 
 abbrev pub value_ask_of : ValueTask → ValueAsk
 value_ask_of asked = record {
@@ -41,6 +43,7 @@ abbrev pub ask_of : Task → Option Ask
 ask_of (tasks.Value asked) = Some (Value (value_ask_of asked))
 ask_of (tasks.Reference asked) = Some (Reference (reference_ask_of asked))
 ask_of (tasks.Explain word) = Some (Explanation (option_map (λ text. text.now) word))
+ask_of (tasks.Describe reference) = Some (Description reference.now)
 ask_of task = None
 
 -- the command that asks for it
@@ -48,3 +51,4 @@ abbrev pub command_of : Ask → List ℕ
 command_of (Value ask) = name_of ask.value.way
 command_of (Reference ask) = codes "ior"
 command_of (Explanation word) = codes "explain"
+command_of (Description reference) = codes "reference"

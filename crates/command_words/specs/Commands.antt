@@ -124,6 +124,10 @@ explain_app = with_rule (new_app (codes "explain")) (new_rule (codes "REFUSAL"))
 abbrev pub served_app : ValueParser → App
 served_app orders = with_subcommand (with_subcommand (tables_app orders) reference_app.top) serve_app.top
 
+-- the command that says what a reference says
+abbrev pub describe_app : App
+describe_app = with_rule (new_app (codes "reference")) (wanted (codes "IOR") None)
+
 -- the commands, of which a run has to name one
 abbrev pub program_app : ValueParser → App
-program_app orders = with_subcommand (served_app orders) explain_app.top
+program_app orders = with_subcommand (with_subcommand (served_app orders) explain_app.top) describe_app.top

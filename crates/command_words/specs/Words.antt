@@ -14,7 +14,7 @@ use Rattle.table_commands.specs.declared.values.Way.{Way}
 use Rattle.table_commands.specs.declared.values.Way.TheVariants.{Encode, Decode}
 use Rattle.command_words.specs.declared.task.Form.{Form}
 use Rattle.command_words.specs.declared.task.Form.TheVariants as forms
-use Rattle.command_words.specs.Ask.{Ask, Explanation, Reference, ReferenceAsk, Value, ValueAsk, command_of}
+use Rattle.command_words.specs.Ask.{Ask, Description, Explanation, Reference, ReferenceAsk, Value, ValueAsk, command_of}
 use Rattle.command_words.specs.Commands.{program_app}
 use Rattle.command_words.specs.Spoken.{spoken}
 
@@ -75,10 +75,14 @@ pub record TellsReference (rows : List Row) (ask : ReferenceAsk) : Type 0 where
 abbrev pub TellsRefusal : List Row → Option Text → Type 0
 TellsRefusal rows word = first_of (codes "REFUSAL") rows ≡ word
 
+abbrev pub TellsDescription : List Row → Text → Type 0
+TellsDescription rows reference = first_of (codes "IOR") rows ≡ Some reference
+
 abbrev pub Tells : List Row → Ask → Type 0
 Tells rows (Value ask) = TellsValue rows ask
 Tells rows (Reference ask) = TellsReference rows ask
 Tells rows (Explanation word) = TellsRefusal rows word
+Tells rows (Description reference) = TellsDescription rows reference
 
 pub record IsReadAs (app : App) (words : List Text) (ask : Ask) : Type 0 where
   pub taken : takes app words ≡ true

@@ -3,7 +3,7 @@
 ghost use Rattle.std.specs.Prelude.{◌≡◌, pos, codes, IfOk, Some, None, false};
 ghost use Rattle.clap.specs.Words.{app_of, new_rule, rule_of};
 ghost use Rattle.clap.specs.declared.builder.value_parser.ValueParser.TheVariants.{Names, Signed, Unsigned};
-ghost use Rattle.command_words.specs.Commands.{at_once_rule, compile_app, decode_app, encode_app, explain_app, explain_rule, first_app, idle_rule, option_rule, output, place_app, program_app, reference_app, serve_app, served_app, show_app, table_app, tables_app, text_flag as flag_of_text, text_rule, types_rule, upgrade_app, value_app, wanted};
+ghost use Rattle.command_words.specs.Commands.{at_once_rule, compile_app, decode_app, describe_app, encode_app, explain_app, explain_rule, first_app, idle_rule, option_rule, output, place_app, program_app, reference_app, serve_app, served_app, show_app, table_app, tables_app, text_flag as flag_of_text, text_rule, types_rule, upgrade_app, value_app, wanted};
 
 use clap::{Arg, ArgAction, Command, value_parser};
 use std::alloc::{AllocError, Global};
@@ -319,11 +319,31 @@ fn commands_of_objects<'a>(alloc: Global, orders: &'a [&'a str]) -> Result<Comma
     refers.subcommand(serve.about("Serves calls to an object that keeps its attributes"))
 }
 
+/// The word for a reference.
+fn reference_word<'a>(alloc: Global) -> Arg<'a>
+    ensures rule { rule_of result ≡ wanted (codes "IOR") None }
+    ensures local { result.global ≡ false }
+{
+    wanted(
+        alloc,
+        "IOR",
+        "A reference; @FILE: that of a file; -: that of standard input",
+    )
+}
+
+fn describe_command<'a>(alloc: Global) -> Result<Command<'a>, AllocError>
+    ensures { IfOk result (λ command. app_of command ≡ describe_app) }
+{
+    Command::new(alloc, "reference").arg(reference_word(alloc))
+}
+
 /// The whole program.
 pub(crate) fn program<'a>(alloc: Global, orders: &'a [&'a str]) -> Result<Command<'a>, AllocError>
     ensures { IfOk result (λ program. app_of program ≡ program_app (Names orders.entry)) }
 {
     let objects = commands_of_objects(alloc, orders)?;
     let explain = explain_command(alloc)?;
-    objects.subcommand(explain.about("Says what a refusal means"))
+    let explains = objects.subcommand(explain.about("Says what a refusal means"))?;
+    let describe = describe_command(alloc)?;
+    explains.subcommand(describe.about("Says what a reference says"))
 }

@@ -4,8 +4,8 @@ ghost use Rattle.std.specs.Prelude.{◌≡◌, ◌<◌, ◌^◌, ◌↔◌, IsSo
 ghost use Rattle.std.specs.Str.Parse.{IsNumeral, digits_value, without_leading_plus};
 ghost use Rattle.clap.specs.Words.{rows_of, Row, subcommand_rows_of};
 ghost use Rattle.clap.specs.Matches.{found_of, first_value, one_text};
-ghost use Rattle.command_words.specs.Ask.{Ask, Explanation, Reference, ReferenceAsk, Value, ValueAsk, ask_of, command_of};
-ghost use Rattle.command_words.specs.Words.{IsUnclear, Tells, TellsPlace, TellsReference, TellsRefusal, TellsValue};
+ghost use Rattle.command_words.specs.Ask.{Ask, Description, Explanation, Reference, ReferenceAsk, Value, ValueAsk, ask_of, command_of};
+ghost use Rattle.command_words.specs.Words.{IsUnclear, Tells, TellsDescription, TellsPlace, TellsReference, TellsRefusal, TellsValue};
 
 use crate::task::{Form, ReferenceTask, Service, Task, ValueTask};
 use clap::ArgMatches;
@@ -138,6 +138,15 @@ fn explain<'a>(words: &ArgMatches<'a>) -> Task<'a>
     }
 }
 
+fn describe<'a>(words: &ArgMatches<'a>) -> Option<Task<'a>>
+    ensures { (reference : List ℕ) → TellsDescription (rows_of (found_of words.now)) reference
+        → IsSomeAnd result (λ task. ask_of task ≡ Some (Description reference)) }
+{
+    Some(Task::Describe {
+        reference: words.get_str("IOR")?,
+    })
+}
+
 fn upgrade<'a>(matches: &ArgMatches<'a>) -> Option<Task<'a>> {
     Some(Task::Upgrade {
         table: matches.get_str("T")?,
@@ -175,6 +184,7 @@ pub(crate) fn task_in<'a>(matches: &ArgMatches<'a>) -> Option<Task<'a>>
         "compile" => compile(words),
         "ior" => reference(words),
         "explain" => Some(explain(words)),
+        "reference" => describe(words),
         _ => None,
     }
 }

@@ -56,6 +56,10 @@ pub enum Task<'a> {
     Explain {
         word: Option<&'a str>,
     },
+    /// What a reference says.
+    Describe {
+        reference: &'a str,
+    },
     Check {
         table: &'a str,
     },

@@ -5,7 +5,7 @@ use Rattle.command_words.specs.declared.task.ValueTask.{ValueTask}
 use Rattle.command_words.specs.declared.task.ReferenceTask.{ReferenceTask}
 use Rattle.command_words.specs.declared.task.Task.{Task}
 use Rattle.command_words.specs.declared.task.Task.TheVariants as tasks
-use Rattle.command_words.specs.Ask.{Ask, Value, Reference, Explanation, ask_of, reference_ask_of, value_ask_of}
+use Rattle.command_words.specs.Ask.{Ask, Value, Reference, Explanation, Description, ask_of, reference_ask_of, value_ask_of}
 use Rattle.idlc_main.specs.Answer.{IsAnswer}
 use Rattle.table_commands.specs.Named.{Passing}
 use Rattle.idlc_main.specs.declared.told.Answer.{Answer}
@@ -21,11 +21,13 @@ module _ (Reads : Passing) (ask : Ask) (result : Result Answer Fault) where
   pub answers : (task : Task) → ask_of task ≡ Some ask
       → ((asked : ValueTask) → task ≡ tasks.Value asked → IsAnswer Reads (Value (value_ask_of asked)) result)
       → ((asked : ReferenceTask) → task ≡ tasks.Reference asked → IsAnswer Reads (Reference (reference_ask_of asked)) result)
-      → ((word : Option (Bor (List ℕ))) → task ≡ tasks.Explain word → IsAnswer Reads (Explanation (option_map (λ text. text.now) word)) result) → IsAnswer Reads ask result
-  answers (tasks.Value asked) is value reference explanation = of_same _ is (value asked refl)
-  answers (tasks.Reference asked) is value reference explanation = of_same _ is (reference asked refl)
-  answers (tasks.Explain word) is value reference explanation = of_same _ is (explanation word refl)
-  answers (tasks.Check table) is value reference explanation = absurd cc
-  answers (tasks.Show table types) is value reference explanation = absurd cc
-  answers (tasks.Upgrade table output) is value reference explanation = absurd cc
-  answers (tasks.Compile source output explains) is value reference explanation = absurd cc
+      → ((word : Option (Bor (List ℕ))) → task ≡ tasks.Explain word → IsAnswer Reads (Explanation (option_map (λ text. text.now) word)) result)
+      → ((word : Bor (List ℕ)) → task ≡ tasks.Describe word → IsAnswer Reads (Description word.now) result) → IsAnswer Reads ask result
+  answers (tasks.Value asked) is value reference explanation description = of_same _ is (value asked refl)
+  answers (tasks.Reference asked) is value reference explanation description = of_same _ is (reference asked refl)
+  answers (tasks.Explain word) is value reference explanation description = of_same _ is (explanation word refl)
+  answers (tasks.Describe word) is value reference explanation description = of_same _ is (description word refl)
+  answers (tasks.Check table) is value reference explanation description = absurd cc
+  answers (tasks.Show table types) is value reference explanation description = absurd cc
+  answers (tasks.Upgrade table output) is value reference explanation description = absurd cc
+  answers (tasks.Compile source output explains) is value reference explanation description = absurd cc

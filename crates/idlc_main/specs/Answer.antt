@@ -10,8 +10,9 @@ use Rattle.named_tables.specs.Values.{IsValueFault, IsValueLine}
 use Rattle.named_tables.specs.declared.fault.NamedFault.{NamedFault}
 use Rattle.idlc_main.specs.declared.fault.Fault.{Fault}
 use Rattle.idlc_main.specs.declared.fault.Fault.TheVariants.{NoRefusal, NoMemory}
+use Rattle.idlc_main.specs.Descriptions.{IsDescribed, IsDescriptionFault}
 use Rattle.idlc_main.specs.Fault.{IsOfNamed, status_of}
-use Rattle.command_words.specs.Ask.{Ask, Explanation, Reference, ReferenceAsk, Value, ValueAsk}
+use Rattle.command_words.specs.Ask.{Ask, Description, Explanation, Reference, ReferenceAsk, Value, ValueAsk}
 use Rattle.idlc_main.specs.declared.told.Answer.{Answer}
 
 -- the answer has a line's text, or the fault is that of the line
@@ -30,11 +31,12 @@ abbrev pub Explains : Option (List ℕ) → List ℕ → Type 0
 Explains (Some word) lines = AreExplained word lines
 Explains None lines = lines ≡ lines_below 256
 
--- the line that answers
+-- the line that answers; of a reference the lines are as its listing prints them
 abbrev pub IsLine : Passing → Ask → List ℕ → Type 0
 IsLine Reads (Value ask) line = IsValueLine Reads ask line
 IsLine Reads (Reference ask) line = IsReferenceOf Reads ask line
 IsLine Reads (Explanation word) lines = Explains word lines
+IsLine Reads (Description word) lines = IsDescribed Reads word
 
 -- the fault that answers for a value or a reference, by what the table of a name tells
 pub record IsNamedFault (Tells : NamedFault → Type 0) (fault : Fault) : Type 0 where
@@ -56,6 +58,7 @@ abbrev pub IsFaultOf : Passing → Ask → Fault → Type 0
 IsFaultOf Reads (Value ask) fault = IsNamedFault (IsValueFault Reads ask) fault
 IsFaultOf Reads (Reference ask) fault = IsNamedFault (IsReferenceFault Reads ask) fault
 IsFaultOf Reads (Explanation word) fault = IsExplanationFault word fault
+IsFaultOf Reads (Description word) fault = IsDescriptionFault Reads word fault
 
 pub record IsAnswer (Reads : Passing) (ask : Ask) (result : Result Answer Fault) : Type 0 where
   pub line : IfOk result (λ answer. IsLine Reads ask (string_bytes answer.text))

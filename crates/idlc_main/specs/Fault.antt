@@ -6,18 +6,24 @@ use Rattle.idl_compiler.specs.declared.refusal.CompileRefusal.{CompileRefusal}
 use Rattle.idl_compiler.specs.declared.refusal.CompileRefusal.TheVariants as compile_refusals
 use Rattle.table_commands.specs.declared.refusal.Refusal.{Refusal}
 use Rattle.table_commands.specs.declared.refusal.Refusal.TheVariants as refusals
+use Rattle.object_references.specs.declared.fault.ReferenceFault.{ReferenceFault}
+use Rattle.object_references.specs.declared.fault.ReferenceFault.TheVariants as references
 use Rattle.socket_server.specs.declared.fault.ServeFault.{ServeFault}
 use Rattle.socket_server.specs.declared.fault.ServeFault.TheVariants as serve_faults
 use Rattle.named_tables.specs.declared.fault.NamedFault.{NamedFault}
 use Rattle.named_tables.specs.declared.fault.NamedFault.TheVariants as named
 use Rattle.idlc_main.specs.declared.fault.Fault.{Fault}
-use Rattle.idlc_main.specs.declared.fault.Fault.TheVariants.{Words, NotText, Refused, Unsaid, NotCompiled, Explained, NotServed, Socket, NoRefusal, Unwritten, NoMemory}
+use Rattle.idlc_main.specs.declared.fault.Fault.TheVariants.{Words, NotText, Refused, Unsaid, NotCompiled, Explained, NotReference, NotServed, Socket, NoRefusal, Unwritten, NoMemory}
 
 abbrev pub status_of_refusal : Refusal → ℕ
 status_of_refusal (refusals.Unread file) = 3
 status_of_refusal (refusals.Unwritten file) = 3
 status_of_refusal refusals.NoMemory = 4
 status_of_refusal refusal = 1
+
+abbrev pub status_of_reference : ReferenceFault → ℕ
+status_of_reference references.BadIor = 1
+status_of_reference references.NoMemory = 4
 
 -- 1 for refused input, 2 for usage, 3 for files, sockets and standard output, 4 for want of memory
 abbrev pub status_of : Fault → ℕ
@@ -27,6 +33,7 @@ status_of (Refused refusal) = status_of_refusal refusal
 status_of (Unsaid fault) = 1
 status_of (NotCompiled refusal) = 1
 status_of (Explained refusal view) = 1
+status_of (NotReference fault) = status_of_reference fault
 status_of (NotServed fault) = 1
 status_of Socket = 3
 status_of (NoRefusal word) = 2

@@ -1,4 +1,5 @@
 pub mod Files
 pub mod Answer
+pub mod Descriptions
 pub mod Fault
 pub mod Service

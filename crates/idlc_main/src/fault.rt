@@ -1,12 +1,13 @@
 //! Why a run of the program didn't do what was asked for.
 
 ghost use Rattle.std.specs.Prelude.{◌≡◌, ◌≤◌};
-ghost use Rattle.idlc_main.specs.Fault.{fault_of_named, fault_of_service, fault_of_source, fault_of_words, status_of_refusal};
+ghost use Rattle.idlc_main.specs.Fault.{fault_of_named, fault_of_service, fault_of_source, fault_of_words, status_of_reference, status_of_refusal};
 ghost use Rattle.idlc_main.specs.declared.fault.Fault.TheVariants.{NoMemory, Refused};
 
 use command_words::Mistake;
 use idl_compiler::CompileRefusal;
 use named_tables::NamedFault;
+use object_references::ReferenceFault;
 use socket_server::ServeFault;
 use std::alloc::AllocError;
 use std::fmt;
@@ -59,6 +60,9 @@ pub enum Fault<'a> {
         refusal: CompileRefusal,
         view: String,
     },
+    /// A text spells no reference.
+    #[error(transparent)]
+    NotReference(ReferenceFault),
     /// There is no such object to serve.
     #[error(transparent)]
     NotServed(ServeFault<'a>),
@@ -89,6 +93,16 @@ fn refused_status(refusal: &Refusal<'_>) -> u8
     }
 }
 
+fn reference_status(fault: &ReferenceFault) -> u8
+    ensures status { result ≡ status_of_reference fault.now }
+    ensures range { (1 ≤ result) × (result ≤ 4) }
+{
+    match fault {
+        ReferenceFault::BadIor => 1,
+        ReferenceFault::NoMemory => 4,
+    }
+}
+
 impl<'a> Fault<'a> {
     ghost use Rattle.idlc_main.specs.Fault.{status_of};
 
@@ -100,6 +114,7 @@ impl<'a> Fault<'a> {
     {
         match self {
             Fault::Refused(refusal) => refused_status(refusal),
+            Fault::NotReference(fault) => reference_status(fault),
             Fault::Unsaid(_)
             | Fault::NotCompiled(_)
             | Fault::Explained { .. }

@@ -10,6 +10,7 @@ ghost use Rattle.command_words.specs.Ask.{Ask};
 ghost use Rattle.command_words.specs.Words.{AsksFor, IsMistaken, texts};
 ghost use Rattle.idlc_main.specs.Answer.{IsEndOf, MayServe};
 
+mod descriptions;
 mod fault;
 mod service;
 mod tasks;

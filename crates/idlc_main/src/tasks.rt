@@ -3,7 +3,7 @@
 ghost use Rattle.std.specs.Prelude.{◌≡◌, ℕ, IfErr, IfOk, List, OnOk, Option, None, Some, option_map};
 ghost use Rattle.std.specs.Borrow.{Bor};
 ghost use Rattle.std.specs.String.{string_bytes};
-ghost use Rattle.command_words.specs.Ask.{Explanation, Reference, Value, reference_ask_of, value_ask_of};
+ghost use Rattle.command_words.specs.Ask.{Description, Explanation, Reference, Value, reference_ask_of, value_ask_of};
 ghost use Rattle.command_words.specs.declared.task.ValueTask.{ValueTask};
 ghost use Rattle.command_words.specs.declared.task.ReferenceTask.{ReferenceTask};
 ghost use Rattle.idl_compiler.specs.Files.{IsCompiledFile};
@@ -12,6 +12,7 @@ ghost use Rattle.idlc_main.specs.Answer.{IsAnswer, IsLined};
 ghost use Rattle.idlc_main.specs.Fault.{IsTold};
 ghost use Rattle.idlc_main.specs.Files.{IsCompiledTo, IsDone};
 
+use crate::descriptions::described;
 use crate::fault::Fault;
 use crate::told::{Answer, Notice, named_fault, source_fault};
 use command_words::Task;
@@ -130,6 +131,8 @@ pub fn done<'a, R: WholeFiles + AllocGlobal>(
         → IsAnswer (R.reads rt.now) (Reference (reference_ask_of asked)) result }
     ensures explanation { (word : Option (Bor (List ℕ))) → task.now ≡ Task.Explain word
         → IsAnswer (R.reads rt.now) (Explanation (option_map (λ text. text.now) word)) result }
+    ensures description { (word : Bor (List ℕ)) → task.now ≡ Task.Describe word
+        → IsAnswer (R.reads rt.now) (Description word.now) result }
     ensures tables { IfOk result (λ answer.
         IsDone (R.reads rt.now) (R.takes rt.now) task.now (string_bytes answer.text)) }
     ensures told { IfErr result IsTold }
@@ -139,6 +142,7 @@ pub fn done<'a, R: WholeFiles + AllocGlobal>(
         Task::Reference(asked) => lined(rt, asked.table, reference_of(rt, asked), is_for_person),
         Task::Explain { word: Some(word) } => explained(rt, word),
         Task::Explain { word: None } => listed(rt),
+        Task::Describe { reference } => described(rt, reference),
         Task::Check { table } => lined(rt, table, accepted_of(rt, table), is_for_person),
         Task::Show { table, types } => lined(
             rt,

@@ -10,4 +10,4 @@ mod values;
 pub use answers::{accepted_of, listing_of, reference_of};
 pub use fault::NamedFault;
 pub use loaded::{Loaded, load};
-pub use values::value_line;
+pub use values::{source_in, text_in, value_line};

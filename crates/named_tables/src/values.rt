@@ -17,8 +17,9 @@ use table_commands::{ValueRequest, Way, WholeFiles, marshal, read_file};
 use text_commands::marshal_text;
 use value_text::{Refusal as TextFault, TextPlace, Wanted};
 
-/// Where the word for a text has it from, if not from itself.
-fn source_in(word: &str) -> Option<&str>
+/// Where the word for a text has it from, if not from itself: standard input for `-`, the file behind
+/// `@`.
+pub fn source_in(word: &str) -> Option<&str>
     ensures { IsSource word.now (option_map (λ file. file.now) result) }
 {
     if word == "-" {
@@ -28,7 +29,10 @@ fn source_in(word: &str) -> Option<&str>
 }
 
 /// The text of a file. JSON is UTF-8 (RFC 8259, 8.1).
-fn text_in<'a, R: WholeFiles>(rt: &R, file: &'a str) -> Result<String, NamedFault<'a>>
+///
+/// # Errors
+/// The file can't be read; `Unsaid` where it isn't UTF-8; want of memory.
+pub fn text_in<'a, R: WholeFiles>(rt: &R, file: &'a str) -> Result<String, NamedFault<'a>>
     ensures read { IfOk result (λ text. R.reads rt.now file.now (string_bytes text)) }
     ensures refused { IfErr result (IsNoTextIn (R.reads rt.now) file.now) }
 {

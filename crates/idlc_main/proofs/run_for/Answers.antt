@@ -11,7 +11,7 @@ returns-in-Ok-clause-asked g c ask asks =
     let is : c.in-Ok-Do.task ≡ found.0 = cc in
     let asked = same_task ask c.in-Ok-Do.task found.0 is found.2 in
     ends_said reads ask _ _ c.in-Ok.answer c.say-in-Ok.result c.say-in-Ok.ensures.range c.say-in-Ok.ensures.said
-    (answers reads ask _ c.in-Ok-Do.task asked c.in-Ok.ensures.value c.in-Ok.ensures.reference c.in-Ok.ensures.explanation)
+    (answers reads ask _ c.in-Ok-Do.task asked c.in-Ok.ensures.value c.in-Ok.ensures.reference c.in-Ok.ensures.explanation c.in-Ok.ensures.description)
 
 pub returns-in-Err-done-clause-asked : goal.returns-in-Err-done-clause-asked
 returns-in-Err-done-clause-asked g c ask asks =
@@ -21,7 +21,7 @@ returns-in-Err-done-clause-asked g c ask asks =
     let is : c.in-Ok-Do.task ≡ found.0 = cc in
     let asked = same_task ask c.in-Ok-Do.task found.0 is found.2 in
     ends reads ask _ _ c.in-Err-done.fault c.failed.result c.failed.ensures
-    (answers reads ask _ c.in-Ok-Do.task asked c.in-Err-done.ensures.value c.in-Err-done.ensures.reference c.in-Err-done.ensures.explanation).fault
+    (answers reads ask _ c.in-Ok-Do.task asked c.in-Err-done.ensures.value c.in-Err-done.ensures.reference c.in-Err-done.ensures.explanation c.in-Err-done.ensures.description).fault
 
 pub returns-in-Err-served-clause-asked : goal.returns-in-Err-served-clause-asked
 returns-in-Err-served-clause-asked g c ask asks =

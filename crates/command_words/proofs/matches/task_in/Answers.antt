@@ -1,7 +1,7 @@
 use Rattle.std.proofs.Common.{ap, sym, refl, Option, Some, None, List, option_map, ◌≡◌, ◌∙◌}
 use Rattle.clap.specs.Words.{Row, Text, found_of, rows_of}
 use Rattle.table_commands.specs.declared.values.Way.TheVariants.{Encode, Decode}
-use Rattle.command_words.proofs.ByCommand.{by_explanation, by_reference, by_value}
+use Rattle.command_words.proofs.ByCommand.{by_description, by_explanation, by_reference, by_value}
 use Rattle.command_words.proofs.Requests.{same_some}
 use Rattle.command_words.proofs.matches.task_in.Goals as goal
 
@@ -39,3 +39,10 @@ returns-in-explain-clause-asked c ask rows command tells =
     let rows_are : rows_of (found_of c.in_ok-name.words.now) ≡ rows =
     let both : Some (rows_of (found_of c.in_ok-name.words.now)) ≡ Some rows = c.in_ok-name.ensures.rows ∙ ap second command in cc in
     by_explanation ask (rows_of (found_of c.in_ok-name.words.now)) (Some c.explain.result) command_is (rw rows_are tells) (λ word told. c.explain.ensures word told)
+
+pub returns-in-reference-clause-asked : goal.returns-in-reference-clause-asked
+returns-in-reference-clause-asked c ask rows command tells =
+    let command_is = sym c.in-reference.is ∙ same_some _ _ _ (sym c.in_ok-name.ensures.name) (sym (first_of_pair _ _) ∙ ap (option_map (λ (p : Text × List Row). p.0)) command) in
+    let rows_are : rows_of (found_of c.in_ok-name.words.now) ≡ rows =
+    let both : Some (rows_of (found_of c.in_ok-name.words.now)) ≡ Some rows = c.in_ok-name.ensures.rows ∙ ap second command in cc in
+    by_description ask (rows_of (found_of c.in_ok-name.words.now)) c.describe.result command_is (rw rows_are tells) (λ reference told. c.describe.ensures reference told)

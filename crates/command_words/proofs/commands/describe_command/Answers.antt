@@ -1,0 +1,9 @@
+use Rattle.std.proofs.Common.{ap₂, ◌∙◌}
+use Rattle.std.proofs.lemmas.Result.{IfOk-weaker}
+use Rattle.clap.specs.Words.{with_rule}
+use Rattle.command_words.proofs.commands.describe_command.Goals as goal
+
+pub returns : goal.returns
+returns c =
+    IfOk-weaker c.arg.result _ _ (λ command h. h.shape c.reference_word.ensures.local
+    ∙ ap₂ with_rule c.new.ensures.app c.reference_word.ensures.rule) c.arg.ensures
