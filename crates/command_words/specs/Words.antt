@@ -51,8 +51,10 @@ pub record TellsPlace (rows : List Row) (ask : ValueAsk) : Type 0 where
 -- HEX or `--text TEXT`, not both, for a value to encode; HEX for octets to decode, with the flag `--text` where their
 -- value is to be text
 abbrev pub TellsInput : Way → Form → List Row → Text → Type 0
-TellsInput Encode forms.Hex rows input = (first_of (codes "HEX") rows ≡ Some input) × (first_of (codes "text") rows ≡ None)
-TellsInput Encode forms.Text rows input = (first_of (codes "HEX") rows ≡ None) × (first_of (codes "text") rows ≡ Some input)
+TellsInput Encode forms.Hex rows input =
+    (first_of (codes "HEX") rows ≡ Some input) × (first_of (codes "text") rows ≡ None)
+TellsInput Encode forms.Text rows input =
+    (first_of (codes "HEX") rows ≡ None) × (first_of (codes "text") rows ≡ Some input)
 TellsInput Decode forms.Hex rows input =
     (first_of (codes "HEX") rows ≡ Some input) × (one_of (codes "text") rows ≡ Some (codes "false"))
 TellsInput Decode forms.Text rows input =

@@ -85,11 +85,11 @@ IsRefusedIn Text table labels ask (Unsaid fault) = IsTextRefusal table labels as
 IsRefusedIn form table labels ask fault = ⊥
 
 -- a table refuses what the word stands for
-pub record RefusesInput (Reads : Passing) (table : TableParts) (labels : Labels) (ask : ValueAsk) (fault : NamedFault) : Type 0
-  where
-    pub input : List ℕ
-    pub stands : IsInput Reads ask.form ask.value.way ask.value.input input
-    pub refused : IsRefusedIn ask.form table labels (with_input ask.value input) fault
+pub record RefusesInput (Reads : Passing) (table : TableParts) (labels : Labels) (ask : ValueAsk)
+    (fault : NamedFault) : Type 0 where
+  pub input : List ℕ
+  pub stands : IsInput Reads ask.form ask.value.way ask.value.input input
+  pub refused : IsRefusedIn ask.form table labels (with_input ask.value input) fault
 
 -- a fault of the text's file, or of the value
 abbrev pub RefusesBy : Passing → TableParts → Labels → ValueAsk → NamedFault → Type 0

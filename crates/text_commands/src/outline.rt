@@ -189,6 +189,24 @@ impl<'t> Types<'t> {
         }
     }
 
+    /// The members of a structure or a frame, with their names.
+    fn write_members<W: fmt::Write>(
+        &self,
+        f: &mut fmt::Formatter<W>,
+        node: u32,
+        members: &[u32],
+    ) -> fmt::Result {
+        write!(
+            f,
+            "{}",
+            Members {
+                types: self,
+                names: self.parts.of(node),
+                members
+            }
+        )
+    }
+
     /// The arms of a union: a label and its member.
     fn write_arms<W: fmt::Write>(
         &self,
@@ -230,17 +248,7 @@ impl fmt::Display for Outline<'_> {
                 write!(f, " of {n}")
             }
             Some(Node::Struct { members }) | Some(Node::Frame { members }) => {
-                let names = types.parts.of(self.node);
-                let members = members.as_slice();
-                write!(
-                    f,
-                    "{}",
-                    Members {
-                        types,
-                        names,
-                        members
-                    }
-                )
+                types.write_members(f, self.node, members.as_slice())
             }
             Some(
                 Node::Union {

@@ -16,7 +16,8 @@ pub record IsTape (graph : List Node) (node : ℕ) (tape : List ℕ) : Type 0 wh
   pub tape_is : tape_of graph (node_at graph node) value ≡ tape
 
 -- the line has the text of a value with the tape behind the count
-pub record IsTextOf (labels : List (List (List ℕ))) (graph : List Node) (node taken : ℕ) (tape line : List ℕ) : Type 0 where
+pub record IsTextOf (labels : List (List (List ℕ))) (graph : List Node) (node taken : ℕ)
+    (tape line : List ℕ) : Type 0 where
   pub value : Tree
   pub fits : Fits graph (node_at graph node) value 64
   pub tape_is : tape_of graph (node_at graph node) value ≡ tape
