@@ -78,6 +78,28 @@ def references(runs):
     runs.expect(0, REFERENCE, "", "ior", "p2.table", *at, "K=P")
 
 
+LISTED = """type IDL:P:1.0
+profile 0 IIOP 1.2 order big
+  host 127.0.0.1
+  port 2809
+  key 4b
+  key as text K"""
+
+
+def listed_references(runs):
+    """What references say, of a word, of a file, and of standard input, which is empty here."""
+    runs.write("p.ior", REFERENCE.encode() + b"\r\n")
+    runs.write("none.ior", b"IOR:\xff")
+    runs.expect(0, LISTED, "", "reference", REFERENCE)
+    runs.expect(0, LISTED, "", "reference", REFERENCE.lower())
+    runs.expect(0, LISTED, "", "reference", "@p.ior")
+    runs.expect(1, "", "idlc: 94 BadIor", "reference", REFERENCE[:-2])
+    runs.expect(1, "", "idlc: 94 BadIor", "reference", "p.ior")
+    runs.expect(1, "", "idlc: 94 BadIor", "reference", "@none.ior")
+    runs.expect(1, "", "idlc: 94 BadIor", "reference", "-")
+    runs.expect(3, "", "idlc: cannot read missing.ior", "reference", "@missing.ior")
+
+
 def compiled_files(runs):
     """IDL files compiled, their tables checked, listed and upgraded, and a value both ways."""
     runs.write("s.idl", SAMPLE.encode())
@@ -151,6 +173,7 @@ def run(test):
         return Count(0, [built.out + built.err])
     runs = Runs(test)
     references(runs)
+    listed_references(runs)
     compiled_files(runs)
     refusals(runs)
     explanations(runs)
