@@ -10,8 +10,9 @@ use Rattle.clap.proofs.OnLiterals.{clap_on_literals}
 use Rattle.type_graph.specs.declared.width.Order.TheVariants.{Big}
 use Rattle.table_commands.specs.declared.values.Way.TheVariants.{Encode}
 use Rattle.command_words.specs.Ask.{Ask, Explanation, Reference, Value}
-use Rattle.command_words.specs.declared.task.Form.TheVariants.{Hex}
+use Rattle.command_words.specs.declared.task.Form.TheVariants.{Hex, Text as AsText}
 use Rattle.command_words.specs.Commands.{program_app}
+use Rattle.command_words.specs.Spoken.{spoken}
 use Rattle.command_words.specs.Words.{AsksFor, IsReadAs, Tells, texts}
 
 abbrev words : List Text
@@ -84,6 +85,59 @@ module _ (orders : Bor (List (Bor Text))) (are : texts orders.now ≡ codes "big
 -- so a clause that speaks of what words ask for speaks of these
 pub words_ask : AsksFor words ask
 words_ask orders takes_orders = rw takes_orders.is_of_names (is_read takes_orders.names takes_orders.are_orders)
+
+-- a text that begins with a minus
+abbrev dashed_words : List Text
+dashed_words = codes "idlc" ∷ codes "encode" ∷ codes "t.idl" ∷ codes "T" ∷ codes "big" ∷ codes "12" ∷ codes "--text" ∷ codes "-5" ∷ []
+
+abbrev dashed_ask : Ask
+dashed_ask = Value (record {
+  table = codes "t.idl";
+  form = AsText;
+  value = record { way = Encode; name = codes "T"; order = Big; pos = 12; input = codes "-5" };
+})
+
+abbrev dashed_found : List Row
+dashed_found = row (codes "T") (codes "t.idl") ∷ row (codes "NAME") (codes "T") ∷ row (codes "ORDER") (codes "big") ∷ row (codes "POS") (codes "12")
+    ∷ row (codes "text") (codes "-5") ∷ []
+
+module _ (orders : Bor (List (Bor Text))) (are : texts orders.now ≡ codes "big" ∷ codes "little" ∷ []) where
+  dashed_taken : takes (program_app (Names orders)) (spoken dashed_words) ≡ true
+  unfolding clap_on_literals
+  dashed_taken = ap (λ b. b && true && true && true && true) (any_big orders are orders.now are)
+
+  is_dashed_encode : subcommand_of (program_app (Names orders)) (spoken dashed_words) ≡ Some (codes "encode", dashed_found)
+  unfolding clap_on_literals
+  is_dashed_encode = refl
+
+  dashed_tells : Tells dashed_found dashed_ask
+  unfolding clap_on_literals
+  dashed_tells = record {
+    place = record {
+      table = refl;
+      name = refl;
+      order = refl;
+      pos = record {
+        digits = codes "12";
+        found = refl;
+        numeral = (omega arith, (omega arith, (omega arith, tt)));
+        is = refl;
+        fits = omega arith;
+      };
+    };
+    input = (refl, refl);
+  }
+
+  pub dashed_read : IsReadAs (program_app (Names orders)) (spoken dashed_words) dashed_ask
+  dashed_read = record {
+    taken = dashed_taken;
+    rows = dashed_found;
+    command = is_dashed_encode;
+    tells = dashed_tells;
+  }
+
+pub dashed_words_ask : AsksFor dashed_words dashed_ask
+dashed_words_ask orders takes_orders = rw takes_orders.is_of_names (dashed_read takes_orders.names takes_orders.are_orders)
 
 abbrev reference_words : List Text
 reference_words = codes "idlc" ∷ codes "ior" ∷ codes "builtin" ∷ codes "--host" ∷ codes "h" ∷ codes "--port" ∷ codes "99" ∷ codes "--object"

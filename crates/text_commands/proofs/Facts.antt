@@ -2,6 +2,7 @@
 use Rattle.std.proofs.Common.{◌≡◌, ◌<◌, ◌≤◌, ◌∙◌, ap, sym, subst, append_assoc, ℕ, List, [], ◌∷◌, ◌++◌, All, Contains, length, map, take, IfOk, IfErr, IsErr, Result, Ok, Err}
 use Rattle.std.specs.Fmt.{decimal}
 use Rattle.json.specs.Print.{print}
+use Rattle.escaped_json.specs.Escaped.{escaped}
 use Rattle.std.proofs.lemmas.List.Elements.{All-contains, All-map}
 use Rattle.hex.specs.Hex.{decode_of}
 use Rattle.type_graph.specs.declared.node.Node.{Node}
@@ -115,7 +116,7 @@ module _ {A : Type 0} (text_of : A → List ℕ) where
   -- the text of a value stands behind the count
   pub told : {E : Type 0} (labels : Labels) (graph : List Node) (node taken : ℕ) (tape : List ℕ) (value : Tree)
       → Fits graph (node_at graph node) value 64 → tape_of graph (node_at graph node) value ≡ tape → (r : Result A E)
-      → IfOk r (λ line. text_of line ≡ decimal taken ++ 32 ∷ print (text_at labels graph node value) ++ 10 ∷ [])
+      → IfOk r (λ line. text_of line ≡ decimal taken ++ 32 ∷ escaped (print (text_at labels graph node value)) ++ 10 ∷ [])
       → IfOk r (λ line. IsTextOf labels graph node taken tape (text_of line))
   told labels graph node taken tape value fits tape_is (Ok line) is = record { value = value; fits = fits; tape_is = tape_is; line_is = is }
   told labels graph node taken tape value fits tape_is (Err fault) is = tt

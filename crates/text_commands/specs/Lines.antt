@@ -4,6 +4,7 @@ use Rattle.std.specs.Fmt.{decimal}
 use Rattle.hex.specs.Hex.{decode_of}
 use Rattle.json.specs.Lex.{tokens}
 use Rattle.json.specs.Print.{print}
+use Rattle.escaped_json.specs.Escaped.{escaped}
 use Rattle.type_graph.specs.declared.node.Node.{Node}
 use Rattle.type_graph.specs.declared.width.Order.{Order}
 use Rattle.type_graph.specs.Words.{reading}
@@ -40,7 +41,7 @@ pub record PrintsTextOf (labels : Labels) (graph : List Node) (node : ℕ) (orde
   pub value : Tree
   pub fits : Fits graph (node_at graph node) value 64
   pub means : Means graph (reading order) 64 node pos (tape_of graph (node_at graph node) value) (take taken octets)
-  pub line_is : line ≡ decimal taken ++ 32 ∷ print (text_at labels graph node value) ++ 10 ∷ []
+  pub line_is : line ≡ decimal taken ++ 32 ∷ escaped (print (text_at labels graph node value)) ++ 10 ∷ []
 
 -- the same of octets that are written in hexadecimal
 pub record PrintsText (labels : Labels) (graph : List Node) (node : ℕ) (ask : Ask) (line : List ℕ) : Type 0 where

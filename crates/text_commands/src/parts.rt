@@ -2,6 +2,7 @@
 
 ghost use Rattle.std.specs.Prelude.{◌≡◌, ◌<◌, length, IfOk};
 ghost use Rattle.std.specs.String.{string_bytes};
+ghost use Rattle.escaped_json.specs.Escaped.{escaped};
 ghost use Rattle.json.specs.Print as json_text;
 ghost use Rattle.type_graph.specs.Value.{Fits, Tree, node_at, tape_of};
 ghost use Rattle.idl_value.specs.View.{tree_of};
@@ -51,8 +52,8 @@ pub fn printed(
 ) -> Result<String, AllocError>
     requires there { node < length graph.now }
     requires fits { Fits graph.now (node_at graph.now node) (tree_of value.now) 64 }
-    ensures { IfOk result (λ text. string_bytes text ≡ json_text.print (text_at names.now graph.now node
-        (tree_of value.now))) }
+    ensures { IfOk result (λ text. string_bytes text ≡ escaped (json_text.print (text_at names.now graph.now node
+        (tree_of value.now)))) }
 {
     match print(alloc, graph, names, node, value) {
         Ok(text) => Ok(text),

@@ -2,6 +2,7 @@
 use Rattle.std.specs.Prelude.{◌≡◌, ℕ, List, [], ◌∷◌, ◌++◌}
 use Rattle.std.specs.Fmt.{decimal}
 use Rattle.json.specs.Print.{print}
+use Rattle.escaped_json.specs.Escaped.{escaped}
 use Rattle.table_commands.specs.declared.refusal.Refusal.TheVariants.{NoMemory, Refused}
 use Rattle.text_commands.specs.declared.refusal.TextRefusal.{TextRefusal}
 use Rattle.text_commands.specs.declared.refusal.TextRefusal.TheVariants.{Other}
@@ -21,7 +22,7 @@ pub record IsTextOf (labels : List (List (List ℕ))) (graph : List Node) (node 
   pub value : Tree
   pub fits : Fits graph (node_at graph node) value 64
   pub tape_is : tape_of graph (node_at graph node) value ≡ tape
-  pub line_is : line ≡ decimal taken ++ 32 ∷ print (text_at labels graph node value) ++ 10 ∷ []
+  pub line_is : line ≡ decimal taken ++ 32 ∷ escaped (print (text_at labels graph node value)) ++ 10 ∷ []
 
 -- want of memory, or a run was refused, and then the fact holds
 abbrev pub IsOfRun : TextRefusal → Type 0 → Type 0
