@@ -76,6 +76,25 @@ def check_header(library):
     library.call("g++", "g++", *STRICT, "-x", "c++", f"-I{library.folder}", "-c", alone, "-o", library.room / "alone.o")
 
 
+def check_documents(library):
+    """The program at the head of the header, and the lines of Python in docs/EMBEDDING.md."""
+    comment = (TOP / "c" / "idlc.h").read_text().partition("*/")[0]
+    lines = [line[7:] for line in comment.splitlines() if line.startswith(" *     ")]
+    body = "".join(f"{line}\n" for line in lines)
+    head = "#include <idlc.h>\n#include <stdio.h>\n#include <stdlib.h>\nint main(void)\n{\n"
+    (library.room / "head.c").write_text(f"{head}{body}return 0;\n}}\n")
+    for cc in COMPILERS:
+        words = [flag for flag in STRICT if flag != "-pedantic"]
+        library.call(f"{cc} head", cc, *words, f"-I{library.folder}", "head.c", library.folder / "libidlc.a", "-o", "head")
+        library.expect(f"head {cc}", "00000003fffffffc\n", "sh", "-c", "./head | od -An -v -tx1 | tr -d ' '")
+    document = (TOP / "docs" / "EMBEDDING.md").read_text().partition("In Python:")[2].partition("##")[0]
+    session = "".join(f"{line.strip()}\n" for line in document.splitlines()).replace("dist/c", str(library.folder))
+    found = {}
+    exec(session, found)
+    value = {"x": 3, "y": -4}
+    library.count.add(found["octets"].hex() == "00000003fffffffc" and found["value"] == value, "Python of EMBEDDING.md")
+
+
 def check_names(library):
     """The shared object has these names and no others, and wants none but the C library's."""
     said = library.call("nm", "nm", "-D", "--defined-only", library.folder / "libidlc.so.0") or ""
@@ -246,6 +265,7 @@ def run(test):
     library.call("idlc", TOP / "idlc", "compile", test.room / "s.idl", "-o", table)
     api = module("idlc", TOP / "c" / "examples" / "idlc.py")
     check_header(library)
+    check_documents(library)
     check_names(library)
     check_numbers(library)
     check_calls(library, table)
