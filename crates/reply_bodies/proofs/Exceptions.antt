@@ -5,7 +5,7 @@ use Rattle.type_graph.specs.declared.width.Order.TheVariants.{Big}
 use Rattle.type_graph.specs.declared.width.Width.TheVariants.{Four}
 use Rattle.type_graph.specs.declared.node.Node.TheVariants as nodes
 use Rattle.type_graph.specs.Words.{word}
-use Rattle.type_graph.specs.Value.{Tree, Number, Bytes, Items, Choice, Trees, AndTree, node_at, Fits, FitAll, tape_of}
+use Rattle.type_graph.specs.Value.{Tree, Number, Bytes, Items, Choice, AndTree, node_at, Fits, tape_of}
 use Rattle.giop_types.specs.GiopNodes.{giop_nodes}
 use Rattle.giop_types.proofs.PartTrees.{OfStruct, long_shape, text_shape, text_counted}
 use Rattle.giop_types.specs.TapeParts.{counted, IsCounted}

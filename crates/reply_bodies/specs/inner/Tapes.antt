@@ -4,7 +4,7 @@ use Rattle.type_graph.specs.declared.width.Order.{Order}
 use Rattle.type_graph.specs.declared.width.Order.TheVariants.{Big}
 use Rattle.type_graph.specs.declared.width.Width.TheVariants.{Four}
 use Rattle.type_graph.specs.Words.{word}
-use Rattle.type_graph.specs.Value.{Tree, Fits, node_at, tape_of}
+use Rattle.type_graph.specs.Value.{Tree, node_at, tape_of}
 use Rattle.giop_types.specs.GiopNodes.{giop_nodes}
 use Rattle.giop_types.specs.TapeParts.{counted, IsCounted}
 use Rattle.reply_bodies.specs.Bodies.{BeginsWith}

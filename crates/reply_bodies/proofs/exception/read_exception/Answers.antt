@@ -1,4 +1,3 @@
-use Rattle.std.proofs.Common.{List, ℕ}
 use Rattle.type_graph.specs.Value.{Tree}
 use Rattle.reply_bodies.specs.Bodies.{BeginsWith, exception_tree}
 use Rattle.reply_bodies.specs.inner.Tapes.{HasTape}

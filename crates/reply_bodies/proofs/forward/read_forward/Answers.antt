@@ -1,4 +1,3 @@
-use Rattle.std.proofs.Common.{List, ℕ}
 use Rattle.type_graph.specs.Value.{Tree}
 use Rattle.object_references.specs.References.{reference_of, reference_tree}
 use Rattle.reply_bodies.specs.Bodies.{BeginsWith}
