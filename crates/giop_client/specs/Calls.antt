@@ -18,8 +18,8 @@ pub record IsAwaited (request : Request) (body : Option Given) (reads : ℕ) (be
   pub awaited : IsOutcome request.id reads before.left outcome after.left after.unread
 
 -- It wasn't sent, and nothing was read.
-pub record IsUnsaid (request : Request) (body : Option Given) (before : StreamEnds) (fault : SendFault) (after : StreamEnds)
-    : Type 0 where
+pub record IsUnsaid (request : Request) (body : Option Given) (before : StreamEnds) (fault : SendFault)
+    (after : StreamEnds) : Type 0 where
   pub sending : IsSending request body before.written (Err fault) after.written after.unwritten
   pub unread : after.left ≡ before.left
 
