@@ -1,5 +1,5 @@
 -- A reply says an answer or nothing.
-use Rattle.std.proofs.Common.{◌≡◌, ℕ, List, Option, Some, None, IfSome, IfNone, refl, sym, ap, subst, ◌∙◌}
+use Rattle.std.proofs.Common.{◌≡◌, ℕ, List, Option, Some, None, IfSome, IfNone, ap, subst}
 use Rattle.object_references.proofs.ProfileKeys.{profile_key_once}
 use Rattle.giop_messages.specs.Messages.{Answered, Answers, Asks, Cancels, Closes, Content, Fails, Says, Seeks}
 use Rattle.giop_messages.proofs.OneMessage.{says_once}

@@ -1,5 +1,5 @@
 -- A request that is sent, and its answer.
-use Rattle.std.specs.Prelude.{◌≡◌, ℕ, Bool, List, Option, Result, Ok, Err}
+use Rattle.std.specs.Prelude.{◌≡◌, ℕ, Option, Result, Ok, Err}
 use Rattle.giop_messages.specs.Written.{Given}
 use Rattle.iiop_broker.specs.Outcomes.{Ends as StreamEnds}
 use Rattle.giop_client.specs.declared.answer.Answer.{Answer}

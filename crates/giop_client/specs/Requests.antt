@@ -1,6 +1,5 @@
 -- Requests that are sent, and how it ends.
 use Rattle.std.specs.Prelude.{◌≡◌, ℕ, Bool, List, [], ◌∷◌, Option, Result, Ok, Err}
-use Rattle.type_graph.specs.declared.width.Order.{Order}
 use Rattle.type_graph.specs.Value.{Tree, NoTree}
 use Rattle.giop_types.specs.GiopNodes.{request_header_node}
 use Rattle.giop_types.specs.Fields.{octet_trees}

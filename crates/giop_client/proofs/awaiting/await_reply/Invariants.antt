@@ -1,4 +1,4 @@
-use Rattle.std.proofs.Common.{◌≡◌, ◌<◌, ◌-◌, length}
+use Rattle.std.proofs.Common.{◌<◌, ◌-◌, length}
 use Rattle.giop_client.proofs.Reading.{Going}
 use Rattle.giop_client.proofs.awaiting.await_reply.Given as goal
 
