@@ -5,7 +5,7 @@ use Rattle.std.specs.declared.alloc.AllocError.{AllocError}
 use Rattle.std.proofs.lemmas.List.{take-append-drop}
 use Rattle.type_graph.specs.declared.width.Order.{Order}
 use Rattle.type_graph.specs.Words.{reading}
-use Rattle.type_graph.specs.Value.{Tree, node_at, Fits, tape_of}
+use Rattle.type_graph.specs.Value.{Tree, node_at, tape_of}
 use Rattle.type_graph.specs.Encoding.{Means}
 use Rattle.type_graph.proofs.OneTape.{graph_fits_words}
 use Rattle.type_graph.proofs.OneReading.{one_reading}

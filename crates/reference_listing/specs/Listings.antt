@@ -11,8 +11,6 @@ use Rattle.reference_listing.specs.declared.listing.IiopProfile.{IiopProfile}
 use Rattle.reference_listing.specs.declared.listing.ListedProfile.{ListedProfile}
 use Rattle.reference_listing.specs.declared.listing.ListedProfile.TheVariants as listed
 use Rattle.reference_listing.specs.declared.listing.Listing.{Listing}
-use Rattle.std.specs.declared.vec.Vec.{Vec}
-use Rattle.std.specs.declared.alloc.Global.{Global}
 
 -- a profile of IIOP: the byte order of its encapsulation, its body, and the octets behind the body
 pub record Iiop : Type 0 where

@@ -7,8 +7,6 @@ use Rattle.type_graph.specs.Words.{reading, word}
 use Rattle.giop_types.specs.Fields.{Holds}
 use Rattle.giop_types.specs.TapeParts.{counted, IsCounted, tagged_list, AreTagged}
 use Rattle.object_references.specs.Profiles.{Body, body_node, body_tree}
-use Rattle.object_references.specs.Encapsulations.{flag_of}
-use Rattle.reference_listing.specs.Listings.{Iiop}
 
 -- a body of minor version 0 has no components, a later one has
 abbrev pub is_later : ℕ → Bool

@@ -1,0 +1,140 @@
+-- A stream that is read until it says its reply.
+use Rattle.std.proofs.Common.{◌≡◌, ℕ, ◌+◌, ◌<◌, ◌≤◌, Bool, true, List, [], ◌++◌, length, length-append, Option, Some, None, Result, Ok, Err, sym, ap, subst, ◌∙◌, arith}
+use Rattle.giop_messages.specs.declared.fault.FramingFault.{FramingFault}
+use Rattle.giop_messages.specs.Messages.{Answered, Answers, Says}
+use Rattle.iiop_broker.specs.Ends.{Gives, IsEmpty}
+use Rattle.iiop_broker.proofs.Going.{gives_start, gives_then}
+use Rattle.reply_streams.specs.Heard.{Breaks, Ends, Heard, Refuses, Replies, Waits, heard, heard_more}
+use Rattle.reply_streams.proofs.Hearing.{in_pieces}
+use Rattle.giop_client.specs.declared.answer.Answer.{Answer}
+use Rattle.giop_client.specs.declared.fault.AwaitFault.{AwaitFault}
+use Rattle.giop_client.specs.declared.fault.AwaitFault.TheVariants as faults
+use Rattle.giop_client.specs.Answers.{IsAnswered, IsUnreadable, answer_of}
+use Rattle.giop_client.specs.Outcomes.{AreRead, IsGivenUp, IsOutcome, IsUnanswered}
+use Rattle.giop_client.specs.inner.Replies.{IsAnswerIn}
+
+-- ---- what is read
+
+-- no octets were read
+gives_none : (a b : Option (List ℕ)) → Gives a [] b → b ≡ a
+gives_none None b g = g
+gives_none (Some left) b g = g.2 ∙ ap (λ (l : List ℕ). Some l) (sym g.1)
+
+-- ---- so far
+
+-- no answer has come in the octets that were read; so many reads gave some
+pub record Going (id : ℕ) (before : Option (List ℕ)) (run : Option (List ℕ)) (rest : List ℕ) (now : Option (List ℕ))
+    (count : ℕ) : Type 0 where
+  pub octets : List ℕ
+  pub read : Gives before octets now
+  pub waits : heard id octets ≡ Waits run rest
+  pub many : count ≤ length octets
+
+pub going_start : (id : ℕ) (before run : Option (List ℕ)) (rest : List ℕ) → run ≡ None → rest ≡ []
+    → Going id before run rest before 0
+going_start id before run rest e f = record {
+  octets = [];
+  read = gives_start before;
+  waits = ap (λ (o : Option (List ℕ)). Waits o []) (sym e) ∙ ap (λ (l : List ℕ). Waits run l) (sym f);
+  many = omega arith;
+}
+
+-- what the stream says with what was read next
+pub record ReadOn (id : ℕ) (before : Option (List ℕ)) (piece : List ℕ) (count : ℕ) (says : Heard) (after : Option (List ℕ))
+    : Type 0 where
+  pub octets : List ℕ
+  pub read : Gives before octets after
+  pub heard_is : heard id octets ≡ says
+  pub many : count + length piece ≤ length octets
+
+pub read_on : (id : ℕ) (before now after : Option (List ℕ)) (run : Option (List ℕ)) (rest piece : List ℕ) (count : ℕ)
+    (says : Heard) → Going id before run rest now count → Gives now piece after → says ≡ heard_more id (Waits run rest) piece
+    → ReadOn id before piece count says after
+read_on id before now after run rest piece count says g h e = record {
+  octets = g.octets ++ piece;
+  read = gives_then before now after g.octets piece g.read h;
+  heard_is = in_pieces id g.octets piece ∙ ap (λ (s : Heard). heard_more id s piece) g.waits ∙ sym e;
+  many = omega (arith, g.many, length-append g.octets piece);
+}
+
+pub goes_on : (id : ℕ) (before after : Option (List ℕ)) (run : Option (List ℕ)) (rest piece : List ℕ) (count : ℕ)
+    → ReadOn id before piece count (Waits run rest) after → 0 < length piece → Going id before run rest after (count + 1)
+goes_on id before after run rest piece count r some =
+    record { octets = r.octets; read = r.read; waits = r.heard_is; many = omega (arith, r.many, some) }
+
+-- ---- how it ends
+
+pub ended : (id : ℕ) (before now after : Option (List ℕ)) (run : Option (List ℕ)) (rest piece : List ℕ) (count : ℕ)
+    → Going id before run rest now count → Gives now piece after → piece ≡ [] → IsEmpty now
+    → AreRead before (IsGivenUp id (IsEmpty after)) after
+ended id before now after run rest piece count g h none empty =
+    let same = gives_none now after (subst (λ (p : List ℕ). Gives now p after) none h) in
+    record {
+      octets = g.octets;
+      read = subst (λ (o : Option (List ℕ)). Gives before g.octets o) (sym same) g.read;
+      so = record {
+        unanswered = record { run = run; rest = rest; waits = g.waits };
+        cause_is = subst IsEmpty (sym same) empty;
+      };
+    }
+
+pub failed : (id : ℕ) (before now after : Option (List ℕ)) (run : Option (List ℕ)) (rest : List ℕ) (count : ℕ) (failure : Bool)
+    → Going id before run rest now count → after ≡ now → failure ≡ true
+    → AreRead before (IsGivenUp id (failure ≡ true)) after
+failed id before now after run rest count failure g same e = record {
+  octets = g.octets;
+  read = subst (λ (o : Option (List ℕ)). Gives before g.octets o) (sym same) g.read;
+  so = record { unanswered = record { run = run; rest = rest; waits = g.waits }; cause_is = e };
+}
+
+pub limit : (id : ℕ) (before now : Option (List ℕ)) (run : Option (List ℕ)) (rest : List ℕ) (count reads : ℕ)
+    → Going id before run rest now count → reads ≤ count
+    → AreRead before (λ octets. IsUnanswered id octets × (reads ≤ length octets)) now
+limit id before now run rest count reads g past = record {
+  octets = g.octets;
+  read = g.read;
+  so = (record { run = run; rest = rest; waits = g.waits }, omega (arith, g.many, past));
+}
+
+pub broken : (id : ℕ) (before after : Option (List ℕ)) (piece : List ℕ) (count : ℕ) (fault : FramingFault)
+    → ReadOn id before piece count (Breaks fault) after → AreRead before (λ octets. heard id octets ≡ Breaks fault) after
+broken id before after piece count fault r = record { octets = r.octets; read = r.read; so = r.heard_is }
+
+pub closed : (id : ℕ) (before after : Option (List ℕ)) (piece : List ℕ) (count : ℕ)
+    → ReadOn id before piece count Ends after → AreRead before (λ octets. heard id octets ≡ Ends) after
+closed id before after piece count r = record { octets = r.octets; read = r.read; so = r.heard_is }
+
+pub refused : (id : ℕ) (before after : Option (List ℕ)) (piece : List ℕ) (count : ℕ)
+    → ReadOn id before piece count Refuses after → AreRead before (λ octets. heard id octets ≡ Refuses) after
+refused id before after piece count r = record { octets = r.octets; read = r.read; so = r.heard_is }
+
+pub answered : (id : ℕ) (before after : Option (List ℕ)) (piece message : List ℕ) (count : ℕ) (said : Answered)
+    → ReadOn id before piece count (Replies message) after → Says message (Answers said) → said.id ≡ id
+    → AreRead before (λ octets. IsAnswered id octets said) after
+answered id before after piece message count said r s e = record {
+  octets = r.octets;
+  read = r.read;
+  so = record { message = message; heard_is = r.heard_is; says = s; id_is = e };
+}
+
+pub unreadable : (id : ℕ) (before after : Option (List ℕ)) (piece message : List ℕ) (count : ℕ)
+    → ReadOn id before piece count (Replies message) after → ((said : Answered) → Says message (Answers said) → said.id ≡ id → ⊥)
+    → AreRead before (IsUnreadable id) after
+unreadable id before after piece message count r none =
+    record { octets = r.octets; read = r.read; so = record { message = message; heard_is = r.heard_is; none = none } }
+
+-- what the reply that came says
+pub outcome_in : (id reads : ℕ) (before after : Option (List ℕ)) (piece message : List ℕ) (count : ℕ)
+    (result : Result Answer AwaitFault) (failure : Bool) → ReadOn id before piece count (Replies message) after
+    → IsAnswerIn id message result → IsOutcome id reads before result after failure
+outcome_in id reads before after piece message count (Ok answer) failure r is =
+    answered id before after piece message count (answer_of answer) r is.0 is.1
+outcome_in id reads before after piece message count (Err (faults.BadMessage fault)) failure r is = absurd is
+outcome_in id reads before after piece message count (Err faults.BadReply) failure r is =
+    unreadable id before after piece message count r is
+outcome_in id reads before after piece message count (Err faults.MessageError) failure r is = absurd is
+outcome_in id reads before after piece message count (Err faults.CloseConnection) failure r is = absurd is
+outcome_in id reads before after piece message count (Err faults.ReadFailed) failure r is = absurd is
+outcome_in id reads before after piece message count (Err faults.EndOfStream) failure r is = absurd is
+outcome_in id reads before after piece message count (Err faults.ReadLimit) failure r is = absurd is
+outcome_in id reads before after piece message count (Err faults.NoMemory) failure r is = tt

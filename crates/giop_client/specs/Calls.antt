@@ -1,0 +1,31 @@
+-- A request that is sent, and its answer.
+use Rattle.std.specs.Prelude.{◌≡◌, ℕ, Option, Result, Ok, Err}
+use Rattle.giop_messages.specs.Written.{Given}
+use Rattle.iiop_broker.specs.Outcomes.{Ends as StreamEnds}
+use Rattle.giop_client.specs.declared.answer.Answer.{Answer}
+use Rattle.giop_client.specs.declared.request.Request.{Request}
+use Rattle.giop_client.specs.declared.fault.AwaitFault.{AwaitFault}
+use Rattle.giop_client.specs.declared.fault.SendFault.{SendFault}
+use Rattle.giop_client.specs.declared.fault.CallFault.{CallFault}
+use Rattle.giop_client.specs.declared.fault.CallFault.TheVariants as faults
+use Rattle.giop_client.specs.Outcomes.{IsOutcome}
+use Rattle.giop_client.specs.Requests.{IsSending, Sent}
+
+-- It was sent, and this became of awaiting its reply.
+pub record IsAwaited (request : Request) (body : Option Given) (reads : ℕ) (before : StreamEnds)
+    (outcome : Result Answer AwaitFault) (after : StreamEnds) : Type 0 where
+  pub sent : Sent request body before.written after.written
+  pub awaited : IsOutcome request.id reads before.left outcome after.left after.unread
+
+-- It wasn't sent, and nothing was read.
+pub record IsUnsaid (request : Request) (body : Option Given) (before : StreamEnds) (fault : SendFault)
+    (after : StreamEnds) : Type 0 where
+  pub sending : IsSending request body before.written (Err fault) after.written after.unwritten
+  pub unread : after.left ≡ before.left
+
+-- By what the reader and the writer tell before and after.
+abbrev pub IsCalled : Request → Option Given → ℕ → StreamEnds → Result Answer CallFault → StreamEnds → Type 0
+IsCalled request body reads before (Ok answer) after = IsAwaited request body reads before (Ok answer) after
+IsCalled request body reads before (Err (faults.Unsent fault)) after = IsUnsaid request body before fault after
+IsCalled request body reads before (Err (faults.Unanswered fault)) after =
+    IsAwaited request body reads before (Err fault) after

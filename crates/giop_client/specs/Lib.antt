@@ -1,0 +1,5 @@
+pub mod Answers
+pub mod Outcomes
+pub mod Requests
+pub mod Calls
+pub mod inner

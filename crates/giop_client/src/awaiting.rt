@@ -1,0 +1,61 @@
+//! Replies awaited.
+
+ghost use Rattle.giop_client.specs.Outcomes.{IsOutcome};
+ghost use Rattle.giop_client.specs.inner.Replies.{IsAnswerIn};
+
+use crate::answer::{Answer, read_answer};
+use crate::fault::AwaitFault;
+use giop::Giop;
+use iiop_broker::Input;
+use reply_streams::{Heard, ReplyStream, SentReply};
+use std::alloc::Global;
+
+/// The answer that a reply says.
+fn answer_in(giop: &Giop, alloc: Global, id: u32, reply: &SentReply) -> Result<Answer, AwaitFault>
+    ensures { IsAnswerIn id reply.now result }
+{
+    match read_answer(giop, alloc, id, reply) {
+        Ok(Some(answer)) => Ok(answer),
+        Ok(None) => Err(AwaitFault::BadReply),
+        Err(_) => Err(AwaitFault::NoMemory),
+    }
+}
+
+/// Reads until the reply to the request of the number has come, whatever comes before it: replies
+/// with other numbers are passed over, and the fragments of the reply joined. So many reads may
+/// give octets.
+///
+/// # Errors
+/// `BadMessage`, `BadReply`, `MessageError` and `CloseConnection` by what came before the reply, or
+/// instead of it. `ReadFailed` where a read failed, `EndOfStream` where all was read, `ReadLimit`
+/// where as many reads gave octets as may. Want of memory.
+pub fn await_reply<I: Input>(
+    giop: &Giop,
+    alloc: Global,
+    id: u32,
+    reader: &mut I,
+    reads: u64,
+) -> Result<Answer, AwaitFault>
+    ensures { IsOutcome id reads (I.left reader.old) result (I.left reader.new) (I.failure reader.new) }
+{
+    let mut buffer = [0u8; 4096];
+    let mut stream = ReplyStream::new(alloc);
+    let mut count: u64 = 0;
+    while count < reads {
+        let n = match reader.read(&mut buffer) {
+            Ok(0) => return Err(AwaitFault::EndOfStream),
+            Ok(n) => n,
+            Err(_) => return Err(AwaitFault::ReadFailed),
+        };
+        match stream.hear(alloc, id, buffer.as_slice().split_at(n).0) {
+            Ok(Heard::Waits(more)) => stream = more,
+            Ok(Heard::Replies(reply)) => return answer_in(giop, alloc, id, &reply),
+            Ok(Heard::Breaks(fault)) => return Err(AwaitFault::BadMessage(fault)),
+            Ok(Heard::Ends) => return Err(AwaitFault::CloseConnection),
+            Ok(Heard::Refuses) => return Err(AwaitFault::MessageError),
+            Err(_) => return Err(AwaitFault::NoMemory),
+        }
+        count += 1;
+    }
+    Err(AwaitFault::ReadLimit)
+}

@@ -1,0 +1,43 @@
+//! Calls.
+
+ghost use Rattle.std.specs.Option.{ForSome};
+ghost use Rattle.type_model.specs.Names.{IsNamed};
+ghost use Rattle.giop.specs.Made.{given_by};
+ghost use Rattle.iiop_broker.specs.Outcomes.{ends};
+ghost use Rattle.giop_client.specs.Calls.{IsCalled};
+
+use crate::answer::Answer;
+use crate::awaiting::await_reply;
+use crate::fault::CallFault;
+use crate::request::{Request, send_request};
+use giop::{Body, Giop};
+use iiop_broker::{Input, Output};
+use std::alloc::Global;
+
+/// Sends a request, and reads until its reply has come. So many reads may give octets.
+///
+/// # Errors
+/// `Unsent` as `send_request` says, `Unanswered` as `await_reply`.
+pub fn call<I: Input, O: Output>(
+    giop: &Giop,
+    alloc: Global,
+    reader: &mut I,
+    writer: &mut O,
+    request: &Request<'_>,
+    body: Option<Body<'_>>,
+    reads: u64,
+) -> Result<Answer, CallFault>
+    requires { ForSome body (λ b. IsNamed b.0.now.model.names b.1) }
+    ensures { IsCalled request.now (given_by body.entry) reads
+        (ends (I.left reader.old) (O.written writer.old) (I.failure reader.old) (O.failure writer.old)) result
+        (ends (I.left reader.new) (O.written writer.new) (I.failure reader.new) (O.failure writer.new)) }
+{
+    match send_request(giop, alloc, writer, request, body) {
+        Ok(()) => (),
+        Err(fault) => return Err(CallFault::Unsent(fault)),
+    }
+    match await_reply(giop, alloc, request.id, reader, reads) {
+        Ok(answer) => Ok(answer),
+        Err(fault) => Err(CallFault::Unanswered(fault)),
+    }
+}

@@ -1,0 +1,15 @@
+//! A client of GIOP 1.2 (ISO/IEC 19500-2): requests written to a stream, and their replies awaited
+//! on another.
+#![tactic(auto)]
+
+mod answer;
+mod awaiting;
+mod calling;
+mod fault;
+mod request;
+
+pub use answer::Answer;
+pub use awaiting::await_reply;
+pub use calling::call;
+pub use fault::{AwaitFault, CallFault, SendFault};
+pub use request::{Request, send_request};

@@ -1,0 +1,83 @@
+//! Requests.
+
+ghost use Rattle.std.specs.Prelude.{◌≡◌, ◌≤◌, true, length, take, IfErr, OnOk};
+ghost use Rattle.std.specs.Option.{ForSome};
+ghost use Rattle.type_model.specs.Names.{IsNamed};
+ghost use Rattle.giop.specs.Made.{given_by};
+ghost use Rattle.iiop_broker.specs.Ends.{IsUnsent, written_with};
+ghost use Rattle.giop_client.specs.Requests.{IsSending};
+
+use crate::fault::SendFault;
+use giop::{Body, Giop};
+use iiop_broker::Output;
+use std::alloc::Global;
+use type_graph::Order;
+
+/// What is asked of an object, but for the arguments.
+#[derive(Clone, Copy)]
+pub struct Request<'c> {
+    /// The byte order of the message.
+    pub order: Order,
+    /// The number by which its reply is known.
+    pub id: u32,
+    /// Which answers are wanted (response_flags): 3 is all, 0 none.
+    pub flags: u8,
+    /// The key of the object at its server.
+    pub key: &'c [u8],
+    pub operation: &'c [u8],
+}
+
+/// Writes octets.
+///
+/// # Errors
+/// How many were written before a write failed.
+fn send<O: Output>(writer: &mut O, octets: &[u8]) -> Result<(), usize>
+    ensures sent { OnOk result (O.written writer.new ≡ written_with (O.written writer.old) octets.now) }
+    ensures unsent { IfErr result (λ n.
+        IsUnsent (O.written writer.old) octets.now n (O.written writer.new) (O.failure writer.new)) }
+{
+    let mut sent = 0;
+    while sent < octets.len() {
+        match writer.write(octets.split_at(sent).1) {
+            Ok(0) => return Err(sent),
+            Ok(n) => sent += n,
+            Err(_) => return Err(sent),
+        }
+    }
+    Ok(())
+}
+
+/// Writes a request with the body of accepted types, the number of one of them that has a name, and
+/// a tape.
+///
+/// # Errors
+/// `NotARequest` where no octets are those of the request: as `write_request` of giop refuses it,
+/// want of memory included; then nothing is written. `WriteFailed` where a write failed.
+pub fn send_request<O: Output>(
+    giop: &Giop,
+    alloc: Global,
+    writer: &mut O,
+    request: &Request<'_>,
+    body: Option<Body<'_>>,
+) -> Result<(), SendFault>
+    requires { ForSome body (λ b. IsNamed b.0.now.model.names b.1) }
+    ensures { IsSending request.now (given_by body.entry) (O.written writer.old) result (O.written writer.new)
+        (O.failure writer.new) }
+{
+    let octets = match giop.write_request(
+        alloc,
+        request.order,
+        request.id,
+        request.flags,
+        request.key,
+        request.operation,
+        body,
+    ) {
+        Ok(octets) => octets,
+        Err(fault) => return Err(SendFault::NotARequest(fault)),
+    };
+    match send(writer, octets.as_slice()) {
+        Ok(()) => Ok(()),
+        Err(sent) => Err(SendFault::WriteFailed { sent }),
+    }
+}

@@ -1,0 +1,13 @@
+use Rattle.reply_bodies.proofs.Faults.{none_read, not_for_memory, tape_read}
+use Rattle.reply_bodies.proofs.tape.tape_at.Goals as goal
+
+pub returns-in-Ok-clause-found : goal.returns-in-Ok-clause-found
+returns-in-Ok-clause-found c =
+    tape_read c.args.octets.now c.args.order c.args.node c.args.place c.in-Ok.tape.items c.in-Ok.field-0-1 c.in-Ok.ensures.found
+
+pub returns-in_default : goal.returns-in_default
+returns-in_default c = record {
+  found = tt;
+  refused = none_read c.args.octets.now c.args.order c.args.node c.args.place
+      (not_for_memory c.in-Err.fault _ c.in_default.not-NoMemory c.in-Err.ensures.refused);
+}
