@@ -1,5 +1,5 @@
 -- A stream that is read until it says its reply.
-use Rattle.std.proofs.Common.{◌≡◌, ℕ, ◌+◌, ◌<◌, ◌≤◌, Bool, true, List, [], ◌++◌, length, length-append, Option, Some, None, Result, Ok, Err, sym, ap, subst, ◌∙◌, arith}
+use Rattle.std.proofs.Common.{◌≡◌, ℕ, ◌+◌, ◌<◌, ◌≤◌, Bool, true, List, [], ◌++◌, length, length-append, append-nil, Option, None, Result, Ok, Err, sym, ap, subst, ◌∙◌, arith}
 use Rattle.giop_messages.specs.declared.fault.FramingFault.{FramingFault}
 use Rattle.giop_messages.specs.Messages.{Answered, Answers, Says}
 use Rattle.iiop_broker.specs.Ends.{Gives, IsEmpty}
@@ -15,10 +15,9 @@ use Rattle.giop_client.specs.inner.Replies.{IsAnswerIn}
 
 -- ---- what is read
 
--- no octets were read
-gives_none : (a b : Option (List ℕ)) → Gives a [] b → b ≡ a
-gives_none None b g = g
-gives_none (Some left) b g = g.2 ∙ ap (λ (l : List ℕ). Some l) (sym g.1)
+-- octets were read, and then none
+gives_no_more : (a b d : Option (List ℕ)) (xs : List ℕ) → Gives a xs b → Gives b [] d → Gives a xs d
+gives_no_more a b d xs g h = subst (λ (o : List ℕ). Gives a o d) (append-nil xs) (gives_then a b d xs [] g h)
 
 -- ---- so far
 
@@ -65,25 +64,22 @@ goes_on id before after run rest piece count r some =
 -- ---- how it ends
 
 pub ended : (id : ℕ) (before now after : Option (List ℕ)) (run : Option (List ℕ)) (rest piece : List ℕ) (count : ℕ)
-    → Going id before run rest now count → Gives now piece after → piece ≡ [] → IsEmpty now
+    → Going id before run rest now count → Gives now piece after → piece ≡ [] → IsEmpty after
     → AreRead before (IsGivenUp id (IsEmpty after)) after
 ended id before now after run rest piece count g h none empty =
-    let same = gives_none now after (subst (λ (p : List ℕ). Gives now p after) none h) in
+    let nothing : Gives now [] after = subst (λ (p : List ℕ). Gives now p after) none h in
     record {
       octets = g.octets;
-      read = subst (λ (o : Option (List ℕ)). Gives before g.octets o) (sym same) g.read;
-      so = record {
-        unanswered = record { run = run; rest = rest; waits = g.waits };
-        cause_is = subst IsEmpty (sym same) empty;
-      };
+      read = gives_no_more before now after g.octets g.read nothing;
+      so = record { unanswered = record { run = run; rest = rest; waits = g.waits }; cause_is = empty };
     }
 
 pub failed : (id : ℕ) (before now after : Option (List ℕ)) (run : Option (List ℕ)) (rest : List ℕ) (count : ℕ) (failure : Bool)
-    → Going id before run rest now count → after ≡ now → failure ≡ true
+    → Going id before run rest now count → Gives now [] after → failure ≡ true
     → AreRead before (IsGivenUp id (failure ≡ true)) after
 failed id before now after run rest count failure g same e = record {
   octets = g.octets;
-  read = subst (λ (o : Option (List ℕ)). Gives before g.octets o) (sym same) g.read;
+  read = gives_no_more before now after g.octets g.read same;
   so = record { unanswered = record { run = run; rest = rest; waits = g.waits }; cause_is = e };
 }
 

@@ -8,7 +8,7 @@ use Rattle.giop_messages.specs.Heads.{request_type}
 use Rattle.giop_messages.specs.Headers.{key_target, request_tree}
 use Rattle.giop_messages.specs.Written.{Given, IsWritten}
 use Rattle.giop.specs.Refusal.{IsNotWritten}
-use Rattle.iiop_broker.specs.Ends.{IsUnsent, written_with}
+use Rattle.iiop_broker.specs.Ends.{Adds, IsUnsent}
 use Rattle.giop_client.specs.declared.request.Request.{Request}
 use Rattle.giop_client.specs.declared.fault.SendFault.{SendFault}
 use Rattle.giop_client.specs.declared.fault.SendFault.TheVariants as faults
@@ -33,7 +33,7 @@ IsNoRequest request body fault =
 pub record Sent (request : Request) (body : Option Given) (before after : Option (List ℕ)) : Type 0 where
   pub octets : List ℕ
   pub is : IsRequest request body octets
-  pub wrote : after ≡ written_with before octets
+  pub wrote : Adds before octets after
 
 -- just so many octets of it are written, and then a write failed
 pub record Unsent (request : Request) (body : Option Given) (sent : ℕ) (before after : Option (List ℕ)) (failure : Bool)

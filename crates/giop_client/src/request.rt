@@ -4,7 +4,7 @@ ghost use Rattle.std.specs.Prelude.{◌≡◌, ◌≤◌, true, length, take, If
 ghost use Rattle.std.specs.Option.{ForSome};
 ghost use Rattle.type_model.specs.Names.{IsNamed};
 ghost use Rattle.giop.specs.Made.{given_by};
-ghost use Rattle.iiop_broker.specs.Ends.{IsUnsent, written_with};
+ghost use Rattle.iiop_broker.specs.Ends.{Adds, IsUnsent};
 ghost use Rattle.giop_client.specs.Requests.{IsSending};
 
 use crate::fault::SendFault;
@@ -32,7 +32,7 @@ pub struct Request<'c> {
 /// # Errors
 /// How many were written before a write failed.
 fn send<O: Output>(writer: &mut O, octets: &[u8]) -> Result<(), usize>
-    ensures sent { OnOk result (O.written writer.new ≡ written_with (O.written writer.old) octets.now) }
+    ensures sent { OnOk result (Adds (O.written writer.old) octets.now (O.written writer.new)) }
     ensures unsent { IfErr result (λ n.
         IsUnsent (O.written writer.old) octets.now n (O.written writer.new) (O.failure writer.new)) }
 {
