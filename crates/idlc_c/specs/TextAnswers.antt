@@ -3,6 +3,7 @@ use Rattle.std.specs.Prelude.{◌≡◌, ℕ, ◌≤◌, ◌⊎◌, List, length
 use Rattle.std.specs.Str.{IsUtf8}
 use Rattle.json.specs.Lex.{tokens}
 use Rattle.json.specs.Print.{print}
+use Rattle.escaped_json.specs.Escaped.{escaped}
 use Rattle.type_graph.specs.declared.width.Order.{Order}
 use Rattle.type_graph.specs.Words.{reading, writing}
 use Rattle.type_graph.specs.Value.{Tree, Fits, node_at, tape_of}
@@ -52,7 +53,7 @@ pub record HasNoOctetsOfText (names : Labels) (node : ℕ) (order : Order) (pos 
     pub is_text : IsText names node text table value
     pub none : HasNoOctets node order pos (tape_at table node value) table
 
--- so many octets encode a value, whatever stands in the gaps, and the text is what is printed of it
+-- so many octets encode a value, whatever stands in the gaps, and the text is what is printed of it, with escapes
 pub record IsTextOfOctets (names : Labels) (node : ℕ) (order : Order) (pos : ℕ) (octets : List ℕ) (taken : ℕ)
     (text : List ℕ) (table : TableParts) : Type 0
   where
@@ -60,7 +61,7 @@ pub record IsTextOfOctets (names : Labels) (node : ℕ) (order : Order) (pos : �
     pub value : Tree
     pub fits : Fits table.model.graph (node_at table.model.graph node) value 64
     pub meant : Means table.model.graph (reading order) 64 node pos (tape_at table node value) (take taken octets)
-    pub text_is : text ≡ print (text_at names table.model.graph node value)
+    pub text_is : text ≡ escaped (print (text_at names table.model.graph node value))
 
 -- that text is so long
 pub record HasTextOfOctets (names : Labels) (node : ℕ) (order : Order) (pos : ℕ) (octets : List ℕ) (len : ℕ)

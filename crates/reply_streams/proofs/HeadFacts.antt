@@ -1,8 +1,8 @@
 -- What follows from what a head says to a client.
-use Rattle.std.proofs.Common.{◌≡◌, ℕ, ◌+◌, ◌-◌, ◌%◌, ◌/◌, ◌<◌, ◌≤◌, Bool, true, false, List, ◌++◌, length, take, drop, set, refl, sym, ap, ap₂, ◌∙◌, subst, arith}
-use Rattle.std.proofs.Common.{Result, Ok, Err, nat_eq, slice_index, if◌then◌else◌}
+use Rattle.std.proofs.Common.{◌≡◌, ℕ, ◌+◌, ◌-◌, ◌%◌, ◌/◌, ◌≤◌, Bool, true, false, List, ◌++◌, length, take, drop, set, refl, sym, ap, ap₂, ◌∙◌, arith}
+use Rattle.std.proofs.Common.{Result, Ok, Err, nat_eq, if◌then◌else◌}
 use Rattle.std.proofs.lemmas.Bool.{eqb-true, ne_eqb}
-use Rattle.std.proofs.lemmas.List.{get_or-set_other, get_or-set_same, get_or_append_left, length-take-le, set-append_left, take-append-drop}
+use Rattle.std.proofs.lemmas.List.{get_or-set_same, get_or_append_left, length-take-le, set-append_left, take-append-drop}
 use Rattle.std.proofs.Math.ListN.{length-set}
 use Rattle.std.proofs.Math.Seq.{take-set-lt}
 use Rattle.type_graph.specs.declared.width.Order.{Order}
@@ -11,7 +11,7 @@ use Rattle.giop_messages.specs.declared.fault.FramingFault.{FramingFault}
 use Rattle.giop_messages.specs.declared.fault.FramingFault.TheVariants.{BadHead}
 use Rattle.giop_messages.specs.declared.head.MessageKind.{MessageKind}
 use Rattle.giop_messages.specs.declared.head.Head.{Head}
-use Rattle.giop_messages.specs.Heads.{flags_in, goes_on, head_in, head_of, max_size, order_of}
+use Rattle.giop_messages.specs.Heads.{flags_in, goes_on, head_in, max_size, order_of}
 use Rattle.giop_messages.specs.Framing.{begun, order_in}
 use Rattle.giop_messages.proofs.HeadFacts.{head_longer, head_of_front, head_ok}
 use Rattle.reply_streams.specs.Heads.{alone, followed, may_go_on, reply_head}

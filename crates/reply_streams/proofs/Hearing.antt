@@ -11,7 +11,7 @@ use Rattle.giop_messages.specs.declared.head.Head.{Head}
 use Rattle.giop_messages.specs.Framing.{added, begun, breaks_run, id_in, is_cut}
 use Rattle.reply_streams.specs.Heads.{reply_head}
 use Rattle.reply_streams.specs.Fronts.{Front, More, Broken, Passed, Piece, Whole, Closes, Fails, begins, continues, front, front_behind, numbered, placed}
-use Rattle.reply_streams.specs.Heard.{Heard, Waits, Replies, Breaks, Ends, Refuses, heard, heard_from, heard_front, heard_more, heard_within}
+use Rattle.reply_streams.specs.Heard.{Waits, Replies, Breaks, Ends, Refuses, heard, heard_from, heard_front, heard_more, heard_within}
 use Rattle.reply_streams.proofs.HeadFacts.{reply_longer}
 
 -- ---- what is behind the front is shorter, and grows with the stream

@@ -1,5 +1,5 @@
 -- What a run of fragments of a reply keeps.
-use Rattle.std.proofs.Common.{◌≡◌, ℕ, ◌+◌, ◌-◌, ◌^◌, ◌<◌, ◌≤◌, Bool, true, false, List, ◌++◌, length, take, drop, refl, sym, ap, ap₂, ◌∙◌, subst, mod-eq_of_lt, arith}
+use Rattle.std.proofs.Common.{◌≡◌, ℕ, ◌+◌, ◌-◌, ◌^◌, ◌<◌, ◌≤◌, Bool, true, false, List, ◌++◌, length, take, drop, refl, sym, ap, ap₂, ◌∙◌, mod-eq_of_lt, arith}
 use Rattle.std.proofs.Common.{Ok, slice_index, if◌then◌else◌}
 use Rattle.std.proofs.lemmas.List.{get_or-take, get_or_append_left, length-append, length-drop, length-take-le}
 use Rattle.std.proofs.Math.ListN.{length-set}
@@ -12,11 +12,11 @@ use Rattle.type_graph.specs.Words.{plain_word}
 use Rattle.type_graph.proofs.WordLaws.{length-plain_word}
 use Rattle.giop_messages.specs.declared.head.Head.{Head}
 use Rattle.giop_messages.specs.Heads.{flags_in, goes_on, head_in, head_of, max_size, number_in, order_of, size_in}
-use Rattle.giop_messages.specs.Framing.{begun, breaks_run, order_in, sized}
+use Rattle.giop_messages.specs.Framing.{begun, order_in, sized}
 use Rattle.giop_messages.proofs.HeadFacts.{head_alone, head_longer, head_ok}
 use Rattle.giop_messages.proofs.FrontFacts.{run_kept}
 use Rattle.reply_streams.specs.Heads.{alone}
-use Rattle.reply_streams.specs.inner.Runs.{IsFirst, IsNext, IsReplyRun, IsSent}
+use Rattle.reply_streams.specs.inner.Runs.{IsFirst, IsNext, IsReplyRun}
 use Rattle.reply_streams.proofs.HeadFacts.{limited, lone, told}
 
 alone_long : (b : Bool) (message : List ℕ) → length (if b then begun message else message) ≡ length message

@@ -3,7 +3,7 @@ use Rattle.std.proofs.Common.{◌≡◌, ℕ, zero, suc, ◌+◌, ◌≤◌, Lis
 use Rattle.std.proofs.lemmas.List.{drop_all}
 use Rattle.giop_messages.specs.declared.fault.FramingFault.{FramingFault}
 use Rattle.reply_streams.specs.Fronts.{front}
-use Rattle.reply_streams.specs.Heard.{Heard, Waits, Replies, Breaks, Ends, Refuses, heard_from}
+use Rattle.reply_streams.specs.Heard.{Waits, Replies, Breaks, Ends, Refuses, heard_from}
 use Rattle.reply_streams.specs.declared.turn.Turn.{Turn}
 use Rattle.reply_streams.specs.declared.turn.Turn.TheVariants as turns
 use Rattle.reply_streams.specs.inner.Turns.{IsTurn}

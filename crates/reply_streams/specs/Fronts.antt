@@ -1,6 +1,6 @@
 -- Where messages stand in the stream that a server sends, for a client that awaits the reply to the request of a number
 -- (ISO/IEC 19500-2, GIOP message formats: Reply, Fragment). A rule marked (own) is this project's.
-use Rattle.std.specs.Prelude.{ℕ, ◌+◌, Bool, true, false, not, List, length, take, drop, nat_eq, nat_lt, if◌then◌else◌, Option, Some, None, Result, Ok, Err}
+use Rattle.std.specs.Prelude.{ℕ, ◌+◌, List, length, take, drop, nat_eq, nat_lt, if◌then◌else◌, Option, Some, None, Result, Ok, Err}
 use Rattle.giop_messages.specs.declared.fault.FramingFault.{FramingFault}
 use Rattle.giop_messages.specs.declared.fault.FramingFault.TheVariants.{BadHead, BadFragment}
 use Rattle.giop_messages.specs.declared.head.MessageKind.{MessageKind}

@@ -1,5 +1,5 @@
 -- What heads say to a client (ISO/IEC 19500-2, GIOP message header). A server may send its replies in fragments.
-use Rattle.std.specs.Prelude.{ℕ, Bool, true, false, not, ◌&&◌, List, if◌then◌else◌, Result, Ok, Err}
+use Rattle.std.specs.Prelude.{ℕ, Bool, true, false, List, if◌then◌else◌, Result, Ok, Err}
 use Rattle.giop_messages.specs.declared.fault.FramingFault.{FramingFault}
 use Rattle.giop_messages.specs.declared.fault.FramingFault.TheVariants.{BadHead}
 use Rattle.giop_messages.specs.declared.head.MessageKind.{MessageKind}

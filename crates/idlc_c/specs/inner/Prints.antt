@@ -1,6 +1,7 @@
 -- Tapes and what is printed of them.
 use Rattle.std.specs.Prelude.{◌≡◌, ℕ, List}
 use Rattle.json.specs.Print.{print}
+use Rattle.escaped_json.specs.Escaped.{escaped}
 use Rattle.type_graph.specs.declared.node.Node.{Node}
 use Rattle.type_graph.specs.Value.{Tree, Fits, node_at, tape_of}
 use Rattle.value_text.specs.Texts.{text_at}
@@ -19,7 +20,7 @@ pub record IsPrintOf (names : Labels) (graph : List Node) (node : ℕ) (tape tex
   pub value : Tree
   pub fits : Fits graph (node_at graph node) value 64
   pub tape_is : tape_of graph (node_at graph node) value ≡ tape
-  pub text_is : text ≡ print (text_at names graph node value)
+  pub text_is : text ≡ escaped (print (text_at names graph node value))
 
 -- want of memory, or there is no value
 abbrev pub RefusesRun : Type 0 → Refusal → Type 0

@@ -1,5 +1,5 @@
 -- What a run of fragments of a reply keeps.
-use Rattle.std.specs.Prelude.{◌≡◌, ℕ, ◌+◌, ◌≤◌, true, false, List, length, Ok}
+use Rattle.std.specs.Prelude.{◌≡◌, ℕ, ◌+◌, ◌≤◌, false, List, length, Ok}
 use Rattle.giop_messages.specs.declared.head.MessageKind.TheVariants.{Reply}
 use Rattle.giop_messages.specs.declared.head.Head.{Head}
 use Rattle.giop_messages.specs.Heads.{max_size}

@@ -1,4 +1,4 @@
-use Rattle.std.proofs.Common.{◌≡◌, List, ℕ, Ok, sym, subst, ◌∙◌, arith}
+use Rattle.std.proofs.Common.{◌≡◌, Ok, sym, subst, ◌∙◌, arith}
 use Rattle.reply_streams.specs.Heads.{reply_head}
 use Rattle.reply_streams.specs.inner.Runs.{IsSent}
 use Rattle.reply_streams.proofs.HeadFacts.{sent_at}
