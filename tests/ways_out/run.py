@@ -7,6 +7,8 @@ expression `AllocError`, `X::NoMemory` or `NoMemory`. It hands on a refusal wher
     in an arm whose pattern names want of memory;
     in an arm `Err(_)` of a match on a call that grows something, or of a function whose error is AllocError alone.
 
+A macro of a crate that has such an arm stands for it at each place where it is used.
+
 Every other place has a line `FILE | WHAT STANDS THERE | REASON` in `places`: the call that is matched, or the line
 itself. A line there whose place is gone fails too.
 """
@@ -24,7 +26,10 @@ MADE = re.compile(r"\b(?:\w+::)?NoMemory\b|\bAllocError\b")
 # where the names stand for a type, or say what a contract does
 NOT_CODE = re.compile(r"^\s*(?://|ghost |use |pub use |ensures|requires|impl|#\[|NoMemory,)|^(?:pub )?type ")
 
-FUNCTION = re.compile(r"^\s*(?:pub |pub\(crate\) )?(?:const )?fn \w+")
+FUNCTION = re.compile(r"^\s*(?:pub |pub\(crate\) )?(?:const )?(?:extern \"C\" )?fn \w+")
+
+# a macro of a crate, with its body
+MACRO = re.compile(r"^macro_rules! (\w+) \{\n(.*?)^\}\n", re.MULTILINE | re.DOTALL)
 
 
 class Place:
@@ -72,8 +77,31 @@ def is_made(line):
     return bool(re.search(r"(?:\bErr\(|^\s*|return |&|=> ?|\()(?:\w+::)?(?:NoMemory|AllocError)\b(?!\s*[:>])", code))
 
 
+def without_macros(text):
+    """The text with blank lines in the place of macros."""
+    return MACRO.sub(lambda it: "\n" * it[0].count("\n"), text)
+
+
+def macros_of(crate):
+    """The macros of a crate that answer want of memory for any error of what they are given."""
+    texts = [path.read_text() for path in source_folder(crate).rglob("*.rt")]
+    return {name for text in texts for name, body in MACRO.findall(text) if re.search(r"Err\(_\) => .*NoMemory", body)}
+
+
+def given_to(macros, path):
+    """What these macros are given in a file, each in one line, with its line's number."""
+    text = without_macros(path.read_text())
+    for use in re.finditer(rf"\b(?:{'|'.join(macros)})!\(", text) if macros else ():
+        end, depth = use.end(), 1
+        while depth:
+            depth += {"(": 1, ")": -1}.get(text[end], 0)
+            end += 1
+        parts = [line.strip() for line in text[use.end():end - 1].splitlines() if line.strip()]
+        yield text.count("\n", 0, use.start()) + 1, re.sub(r",\)$", ")", re.sub(r"\( ", "(", " ".join(parts)))
+
+
 def places_of(path):
-    lines = path.read_text().splitlines()
+    lines = without_macros(path.read_text()).splitlines()
     in_clause = False
     for at, line in enumerate(lines):
         if re.match(r"\s*(?:ensures|requires)\b", line):
@@ -135,12 +163,15 @@ def run(test):
     listed = {(file, what): reason for file, what, reason in rows}
     growths, count, seen = Growths(), Count(0, []), set()
     for crate in listed_crates():
+        macros = macros_of(crate)
         for path in sorted(source_folder(crate).rglob("*.rt")):
             name = str(path.relative_to(TOP / "crates"))
-            for place in places_of(path):
-                what = reason_wanted(place, growths)
+            wanted = [(place.at + 1, reason_wanted(place, growths)) for place in places_of(path)]
+            for line, given in given_to(macros, path):
+                wanted.append((line, None if growths.has(path, called(given)) else given))
+            for line, what in wanted:
                 seen.add((name, what))
-                count.add(what is None or (name, what) in listed, f"{name}:{place.at + 1} makes want of memory: {what}")
+                count.add(what is None or (name, what) in listed, f"{name}:{line} makes want of memory: {what}")
     for row in listed:
         count.add(row in seen, f"{row[0]} has no such place more: {row[1]}")
     return count
