@@ -99,11 +99,12 @@ def missing_calls(calls):
 def plant(workspace, calls):
     """Writes the first lines of the bodies into the copies of the crates, and has these use the crate that chooses."""
     for path in {call.function.path for call in calls}:
-        lines = path.read_text().splitlines(keepends=True)
+        copy = workspace.folder / path.relative_to(TOP)
+        lines = copy.read_text().splitlines(keepends=True)
         for call in calls:
             if call.function.path == path:
                 lines[call.function.opening] += f"{call.planted()}\n"
-        (workspace.folder / path.relative_to(TOP)).write_text("".join(lines))
+        copy.write_text("".join(lines))
     workspace.add_crate("planted", [PLANTED / "lib.rt.in"])
     workspace.use_in({call.crate for call in calls}, "planted")
 
