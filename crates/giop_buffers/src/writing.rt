@@ -3,7 +3,7 @@
 ghost use Rattle.std.specs.Prelude.{◌≡◌, ◌≤◌, drop, length, take, IfErr, IfOk, OnErr};
 ghost use Rattle.type_model.specs.Names.{IsNamed};
 ghost use Rattle.giop.specs.Made.{given};
-ghost use Rattle.giop_buffers.specs.Messages.{IsNoReply, IsNoRequest, IsReply, IsRequest, Refuses};
+ghost use Rattle.giop_buffers.specs.Messages.{IsNoReplyOf, IsNoRequestOf, IsReplyOf, IsRequestOf, Refuses};
 
 use crate::buffer::put;
 use crate::fault::BufferFault;
@@ -48,13 +48,13 @@ pub fn write_request(
     out: &mut [u8],
 ) -> Result<usize, BufferFault>
     requires { IsNamed body.0.now.model.names body.1 }
-    ensures written { IfOk result (λ len. IsRequest head.now
+    ensures written { IfOk result (λ len. IsRequestOf head.now
         (given body.entry.0.now.model.graph body.entry.1 body.entry.2.now) (take len out.new)) }
     ensures within { IfOk result (λ len. len ≤ length out.old) }
     ensures behind { IfOk result (λ len. drop len out.new ≡ drop len out.old) }
     ensures refused { IfErr result (Refuses
-        (IsRequest head.now (given body.entry.0.now.model.graph body.entry.1 body.entry.2.now)) (length out.old)
-        (IsNoRequest head.now (given body.entry.0.now.model.graph body.entry.1 body.entry.2.now))) }
+        (IsRequestOf head.now (given body.entry.0.now.model.graph body.entry.1 body.entry.2.now)) (length out.old)
+        (IsNoRequestOf head.now (given body.entry.0.now.model.graph body.entry.1 body.entry.2.now))) }
     ensures kept { OnErr result (out.new ≡ out.old) }
 {
     let octets = match giop.write_request(
@@ -88,13 +88,13 @@ pub fn write_reply(
     out: &mut [u8],
 ) -> Result<usize, BufferFault>
     requires { IsNamed body.0.now.model.names body.1 }
-    ensures written { IfOk result (λ len. IsReply head.now
+    ensures written { IfOk result (λ len. IsReplyOf head.now
         (given body.entry.0.now.model.graph body.entry.1 body.entry.2.now) (take len out.new)) }
     ensures within { IfOk result (λ len. len ≤ length out.old) }
     ensures behind { IfOk result (λ len. drop len out.new ≡ drop len out.old) }
     ensures refused { IfErr result (Refuses
-        (IsReply head.now (given body.entry.0.now.model.graph body.entry.1 body.entry.2.now)) (length out.old)
-        (IsNoReply head.now (given body.entry.0.now.model.graph body.entry.1 body.entry.2.now))) }
+        (IsReplyOf head.now (given body.entry.0.now.model.graph body.entry.1 body.entry.2.now)) (length out.old)
+        (IsNoReplyOf head.now (given body.entry.0.now.model.graph body.entry.1 body.entry.2.now))) }
     ensures kept { OnErr result (out.new ≡ out.old) }
 {
     let octets = match giop.write_reply(alloc, head.order, head.id, head.status, Some(body)) {
