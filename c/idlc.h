@@ -91,6 +91,14 @@ enum {
     IDLC_TEXT_TOO_DEEP = 123,
     IDLC_TEXT_BEHIND = 124,
 
+    /* the octets are no message of GIOP 1.2, or no message can be written of what is given */
+    IDLC_NOT_GIOP = 90,
+    IDLC_GIOP_VERSION = 91,
+    IDLC_MESSAGE_TOO_LONG = 92, /* more than 1,048,576 octets behind the head */
+    IDLC_BAD_HEAD = 93,
+    IDLC_BAD_BODY = 96,
+    IDLC_BAD_FRAGMENT = 97,
+
     /* the table isn't right */
     IDLC_WRONG_WORK = 80,
     IDLC_WRONG_PADDING = 81,
@@ -132,6 +140,18 @@ enum {
     IDLC_BAD_ONEWAY = 36
 };
 
+/* What stands at the front of a stream: the types of messages as GIOP numbers them, and two more. */
+enum {
+    IDLC_REQUEST = 0,
+    IDLC_REPLY = 1,
+    IDLC_CANCEL_REQUEST = 2,
+    IDLC_LOCATE_REQUEST = 3,
+    IDLC_CLOSE_CONNECTION = 5,
+    IDLC_MESSAGE_ERROR = 6,
+    IDLC_PIECE = 7,  /* a piece of a request that comes in fragments */
+    IDLC_NOT_YET = 8 /* no whole message is there yet */
+};
+
 /* A table, or none where all is zero. */
 struct idlc_table {
     unsigned char *at;
@@ -153,6 +173,19 @@ struct idlc_place {
     uint32_t number;
     size_t line;
     size_t column;
+};
+
+/* What stands at the front of a stream. What doesn't belong to its kind is 0 or false. */
+struct idlc_message {
+    uint32_t kind;        /* IDLC_REQUEST to IDLC_NOT_YET */
+    uint32_t id;          /* the number of the request */
+    uint32_t detail;      /* the response flags of a request, the status of a reply; of a piece 1: the first, 2: the last */
+    bool little;          /* the order of the body's numbers */
+    bool has_key;         /* the target tells the object's key */
+    size_t taken;         /* how many octets it has: the next message stands behind them */
+    size_t body_at;       /* where its body stands, from its first octet on: the position for idlc_decode; past its end: none */
+    size_t key_len;       /* of the key, at the front of the buffer */
+    size_t operation_len; /* of the operation, behind the key */
 };
 
 /* Loads the table of a file's octets, if it is right, and lets go of the one that was there. Answers 0, 1, 5, 50 to 55,
@@ -195,6 +228,24 @@ uint32_t idlc_encode_text(struct idlc_table *table, uint32_t node, bool little, 
 /* As idlc_decode, but what is handed over is the value's text, without a zero or a line feed at its end. */
 uint32_t idlc_decode_text(struct idlc_table *table, uint32_t node, bool little, uint64_t pos, const uint8_t *octets,
                           size_t octets_len, size_t *taken, uint8_t *out, size_t out_len, size_t *len);
+
+/* Writes a GIOP 1.2 request: its number, its response flags (3: an answer is wanted, 0: none), the object's key, the
+ * operation, no service contexts, and the value that the tape is of the node, as "M::I::op/in". Answers 0 to 4, or 92, 93,
+ * 96: no request has these. */
+uint32_t idlc_write_request(struct idlc_table *table, uint32_t node, bool little, uint32_t id, uint8_t flags,
+                            const uint8_t *key, size_t key_len, const uint8_t *operation, size_t operation_len,
+                            const uint8_t *tape, size_t tape_len, uint8_t *out, size_t out_len, size_t *len);
+
+/* The same of a reply: the number of its request, its status (0: no exception, 1: a user's, 2: a system's, 3 and 4: the
+ * object is elsewhere, 5: it is asked for otherwise), no service contexts, and a value, as of "M::I::op/out". */
+uint32_t idlc_write_reply(struct idlc_table *table, uint32_t node, bool little, uint32_t id, uint32_t status,
+                          const uint8_t *tape, size_t tape_len, uint8_t *out, size_t out_len, size_t *len);
+
+/* Tells what stands at the front of a stream, and hands over the key of the object that a request or a locate request asks
+ * for, and behind it the operation. Any table serves. Answers 0 to 2, 4, or 90 to 93 and 97: the stream is none of GIOP 1.2.
+ * Requests in fragments aren't joined. Where it isn't 0 `message` is as it was. */
+uint32_t idlc_read_message(struct idlc_table *table, const uint8_t *octets, size_t octets_len,
+                           struct idlc_message *message, uint8_t *out, size_t out_len, size_t *len);
 
 /* Of all calls that hand octets over: with 0 its first `*len` octets are written, and those behind them are as
  * they were; with 4 `*len` is what is needed, so a call with length 0 asks for it; but with 0 the buffer is as it was. */

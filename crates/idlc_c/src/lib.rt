@@ -7,6 +7,9 @@ ghost use Rattle.type_graph.specs.Encoding.{Means};
 ghost use Rattle.type_model.specs.Names.{IsNamed};
 ghost use Rattle.position_checker.specs.Acceptance.{IsRight};
 ghost use Rattle.idlc_c.specs.Answers.{HasName, HasNoOctets, HasNoTape, HasOctets, HasTape, IsFaultyAt, IsFile, IsNoFile, IsOfFile, IsOfValue, order_of};
+ghost use Rattle.giop_buffers.specs.Fronts.{HasTexts, IsTold};
+ghost use Rattle.giop_buffers.specs.Messages.{HasLength};
+ghost use Rattle.idlc_c.specs.MessageAnswers.{HasNoMessage, HasNoReply, HasNoRequest, HasReply, HasRequest, IsOfMessage, IsReplyBy, IsRequestBy};
 ghost use Rattle.idlc_c.specs.SourceAnswers.{IsFaultAt, IsIdlOf, IsOfSource};
 ghost use Rattle.idlc_c.specs.TextAnswers.{HasNoOctetsOfText, HasOctetsOfText, HasTextOfOctets, IsOctetsOfText, IsOfText, IsTextOfOctets, SaysNone};
 
@@ -16,6 +19,7 @@ mod held;
 mod load;
 mod loose;
 mod marshal;
+mod messages;
 mod names;
 mod octets;
 mod parts;
@@ -25,8 +29,11 @@ mod source_place;
 mod text;
 
 use crate::marshal::order;
+use crate::messages::{buffer_number, message_told};
 use crate::refusal::{Refusal, told, told_at};
 use crate::source_fault::SourceFault;
+pub use giop_buffers::MessageFront;
+use giop_buffers::RequestHead;
 pub use handle::Handle;
 pub use refusal::RefusalPlace;
 pub use source_place::SourcePlace;
@@ -377,4 +384,130 @@ pub extern "C" fn idlc_decode_text(
     );
     *handle = Handle::of(held);
     told(answer, len)
+}
+
+/// Writes the request of these fields to the front of the buffer, with the body that the tape of the
+/// node is, and tells how many octets it has, or would have.
+#[unsafe(no_mangle)]
+pub extern "C" fn idlc_write_request(
+    alloc: Global,
+    handle: &mut Handle,
+    node: u32,
+    little: bool,
+    id: u32,
+    flags: u8,
+    key: &[u8],
+    operation: &[u8],
+    tape: &[u8],
+    out: &mut [u8],
+    len: &mut usize,
+) -> u32
+    ensures kept { handle.new.table ≡ handle.old.table }
+    ensures names { handle.new.names ≡ handle.old.names }
+    ensures loaded { (result ≡ 2) ↔ (handle.old.table ≡ None) }
+    ensures done { result ≡ 0 → IfSome handle.old.table
+        (IsRequestBy little id flags key.now operation.now node tape.now (take len.new out.new)) }
+    ensures within { result ≡ 0 → len.new ≤ length out.old }
+    ensures behind { result ≡ 0 → drop len.new out.new ≡ drop len.new out.old }
+    ensures unnamed { result ≡ 3 → IfSome handle.old.table (λ table. IsNamed table.model.names node → ⊥) }
+    ensures no_room { result ≡ 4 → length out.old < len.new }
+    ensures needed { result ≡ 4 → IfSome handle.old.table
+        (HasRequest little id flags key.now operation.now node tape.now len.new) }
+    ensures refused { 90 ≤ result → IfSome handle.old.table
+        (HasNoRequest little id flags key.now operation.now node tape.now result) }
+    ensures untouched { result ≢ 0 → out.new ≡ out.old }
+    ensures same_length { result ≢ 0 → result ≢ 4 → len.new ≡ len.old }
+    ensures numbers { IsOfMessage result }
+{
+    let Some(held) = mem::replace(handle, Handle::none(alloc)).into_box() else {
+        return Refusal::NotLoaded.number();
+    };
+    let head = RequestHead {
+        order: order(little),
+        id,
+        flags,
+        key,
+        operation,
+    };
+    let answer = messages::request(alloc, &held, node, &head, tape, out);
+    *handle = Handle::of(held);
+    message_told(answer, len)
+}
+
+/// Writes the reply to the request of a number to the front of the buffer, with the body that the tape
+/// of the node is, and tells how many octets it has, or would have. The status is the number of a
+/// ReplyStatusType_1_2.
+#[unsafe(no_mangle)]
+pub extern "C" fn idlc_write_reply(
+    alloc: Global,
+    handle: &mut Handle,
+    node: u32,
+    little: bool,
+    id: u32,
+    status: u32,
+    tape: &[u8],
+    out: &mut [u8],
+    len: &mut usize,
+) -> u32
+    ensures kept { handle.new.table ≡ handle.old.table }
+    ensures names { handle.new.names ≡ handle.old.names }
+    ensures loaded { (result ≡ 2) ↔ (handle.old.table ≡ None) }
+    ensures done { result ≡ 0 → IfSome handle.old.table
+        (IsReplyBy little id status node tape.now (take len.new out.new)) }
+    ensures within { result ≡ 0 → len.new ≤ length out.old }
+    ensures behind { result ≡ 0 → drop len.new out.new ≡ drop len.new out.old }
+    ensures unnamed { result ≡ 3 → IfSome handle.old.table (λ table. IsNamed table.model.names node → ⊥) }
+    ensures no_room { result ≡ 4 → length out.old < len.new }
+    ensures needed { result ≡ 4 → IfSome handle.old.table (HasReply little id status node tape.now len.new) }
+    ensures refused { 90 ≤ result → IfSome handle.old.table (HasNoReply little id status node tape.now result) }
+    ensures untouched { result ≢ 0 → out.new ≡ out.old }
+    ensures same_length { result ≢ 0 → result ≢ 4 → len.new ≡ len.old }
+    ensures numbers { IsOfMessage result }
+{
+    let Some(held) = mem::replace(handle, Handle::none(alloc)).into_box() else {
+        return Refusal::NotLoaded.number();
+    };
+    let answer = messages::reply(alloc, &held, node, little, id, status, tape, out);
+    *handle = Handle::of(held);
+    message_told(answer, len)
+}
+
+/// Tells what stands at the front of a stream of messages of which no run of fragments is open. The key
+/// of the object that a request asks for is written to the front of the buffer, and behind it the
+/// operation; it tells how many octets they have together, or would have. Any table serves.
+#[unsafe(no_mangle)]
+pub extern "C" fn idlc_read_message(
+    alloc: Global,
+    handle: &mut Handle,
+    octets: &[u8],
+    message: &mut MessageFront,
+    out: &mut [u8],
+    len: &mut usize,
+) -> u32
+    ensures kept { handle.new.table ≡ handle.old.table }
+    ensures names { handle.new.names ≡ handle.old.names }
+    ensures loaded { (result ≡ 2) ↔ (handle.old.table ≡ None) }
+    ensures done { result ≡ 0 → IsTold octets.now message.new (take len.new out.new) }
+    ensures within { result ≡ 0 → len.new ≤ length out.old }
+    ensures behind { result ≡ 0 → drop len.new out.new ≡ drop len.new out.old }
+    ensures no_room { result ≡ 4 → length out.old < len.new }
+    ensures needed { result ≡ 4 → HasLength (HasTexts octets.now) len.new }
+    ensures refused { 90 ≤ result → HasNoMessage octets.now result }
+    ensures untold { result ≢ 0 → message.new ≡ message.old }
+    ensures untouched { result ≢ 0 → out.new ≡ out.old }
+    ensures same_length { result ≢ 0 → result ≢ 4 → len.new ≡ len.old }
+    ensures numbers { IsOfMessage result }
+{
+    let Some(held) = mem::replace(handle, Handle::none(alloc)).into_box() else {
+        return Refusal::NotLoaded.number();
+    };
+    let answer = giop_buffers::read_message(held.giop(), alloc, octets, message, out);
+    *handle = Handle::of(held);
+    match answer {
+        Ok(written) => {
+            *len = written;
+            0
+        }
+        Err(fault) => buffer_number(fault, len),
+    }
 }
