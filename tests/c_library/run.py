@@ -111,7 +111,7 @@ def check_names(library):
 
 
 def check_numbers(library):
-    """Each number of the header from 50 on, and each fault of IDL, is one that the program explains."""
+    """Each number of the header is one that the program explains."""
     # but for the kinds of messages
     header = re.sub(r"enum {\n    IDLC_REQUEST.*?};", "", (TOP / "c" / "idlc.h").read_text(), flags=re.DOTALL)
     numbers = {int(number) for number in re.findall(r"IDLC_\w+ = (\d+)", header)}
@@ -186,7 +186,7 @@ def check_python(library, api, table):
     library.count.add(named.encode("S", value) == octets, "Python shares")
     rows = [
         (lambda: loaded.encode_tape("S", b""), (60, 0, 0)),
-        (lambda: loaded.encode("T", 1), (3, 0, 0)),
+        (lambda: loaded.encode("T", 1), (44, 0, 0)),
         (lambda: loaded.encode("S", value), (118, 1, 1)),
         (lambda: named.encode("S", {"a": 256}), (111, 1, 7)),
         (lambda: named.decode("S", octets[:-1]), (60, 0, 0)),

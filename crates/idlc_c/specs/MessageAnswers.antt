@@ -12,7 +12,7 @@ use Rattle.giop_buffers.specs.declared.fault.BufferFault.TheVariants.{NoRoom, Re
 use Rattle.giop_buffers.specs.Messages.{IsRequest, IsNoRequest, IsReply, IsNoReply, HasLength, Refuses}
 use Rattle.idlc_c.specs.declared.messages.MessageRefusal.{MessageRefusal}
 use Rattle.idlc_c.specs.declared.messages.MessageRefusal.TheVariants.{NotNamed, NotHanded}
-use Rattle.idlc_c.specs.Answers.{order_of}
+use Rattle.idlc_c.specs.Answers.{IsOwn, order_of}
 
 -- ---- numbers
 
@@ -23,14 +23,14 @@ number_of_giop faults.TooLong = 92
 number_of_giop faults.BadHead = 93
 number_of_giop faults.BadBody = 96
 number_of_giop faults.BadFragment = 97
-number_of_giop faults.NoMemory = 1
+number_of_giop faults.NoMemory = 42
 
 abbrev pub number_of_buffer : BufferFault → ℕ
-number_of_buffer (NoRoom needed) = 4
+number_of_buffer (NoRoom needed) = 45
 number_of_buffer (Refused fault) = number_of_giop fault
 
 abbrev pub number_of_refusal : MessageRefusal → ℕ
-number_of_refusal NotNamed = 3
+number_of_refusal NotNamed = 44
 number_of_refusal (NotHanded fault) = number_of_buffer fault
 
 abbrev pub number_of_message : Result ℕ MessageRefusal → ℕ
@@ -49,7 +49,7 @@ length_of_message (Err (NotHanded fault)) old = length_of_buffer fault old
 
 -- the numbers that a call about a message answers
 abbrev pub IsOfMessage : ℕ → Type 0
-IsOfMessage number = (number ≤ 4) ⊎ ((90 ≤ number) × (number ≤ 97))
+IsOfMessage number = IsOwn 42 45 number ⊎ ((90 ≤ number) × (number ≤ 97))
 
 -- ---- what they say
 

@@ -6,7 +6,7 @@ ghost use Rattle.type_graph.specs.Words.{reading, writing};
 ghost use Rattle.type_graph.specs.Encoding.{Means};
 ghost use Rattle.type_model.specs.Names.{IsNamed};
 ghost use Rattle.position_checker.specs.Acceptance.{IsRight};
-ghost use Rattle.idlc_c.specs.Answers.{HasName, HasNoOctets, HasNoTape, HasOctets, HasTape, IsFaultyAt, IsFile, IsNoFile, IsOfFile, IsOfValue, order_of};
+ghost use Rattle.idlc_c.specs.Answers.{HasName, HasNoOctets, HasNoTape, HasOctets, HasTape, IsFaultyAt, IsFile, IsNoFile, IsOfFile, IsOfValue, IsOwn, order_of};
 ghost use Rattle.giop_buffers.specs.Fronts.{HasTexts, IsTold};
 ghost use Rattle.giop_buffers.specs.Messages.{HasLength};
 ghost use Rattle.idlc_c.specs.MessageAnswers.{HasNoMessage, HasNoReply, HasNoRequest, HasReply, HasRequest, IsOfMessage, IsReplyBy, IsRequestBy};
@@ -56,7 +56,7 @@ pub extern "C" fn idlc_load(
     ensures names { result ≢ 0 → handle.new.names ≡ handle.old.names }
     ensures told { result ≢ 0 → refusal.new.number ≡ result }
     ensures untold { result ≡ 0 → refusal.new ≡ refusal.old }
-    ensures long { (result ≡ 5) ↔ (16777216 < length octets.now) }
+    ensures long { (result ≡ 46) ↔ (16777216 < length octets.now) }
     ensures no_file { 50 ≤ result → result ≤ 55 → IsNoFile octets.now }
     ensures faulty { 80 ≤ result → IsFaultyAt octets.now refusal.new }
     ensures numbers { IsOfFile result }
@@ -87,8 +87,8 @@ pub extern "C" fn idlc_compile(
     ensures right { result ≡ 0 → IfSome handle.new.table IsRight }
     ensures kept { result ≢ 0 → handle.new.table ≡ handle.old.table }
     ensures names { result ≢ 0 → handle.new.names ≡ handle.old.names }
-    ensures faulty { result ≡ 6 → IsFaultAt source.now place.new }
-    ensures untold { result ≢ 6 → place.new ≡ place.old }
+    ensures faulty { result ≡ 47 → IsFaultAt source.now place.new }
+    ensures untold { result ≢ 47 → place.new ≡ place.old }
     ensures numbers { IsOfSource result }
 {
     match compile::compile(alloc, source) {
@@ -96,10 +96,10 @@ pub extern "C" fn idlc_compile(
             *handle = Handle::of(held);
             0
         }
-        Err(SourceFault::NoMemory) => 1,
+        Err(SourceFault::NoMemory) => 42,
         Err(fault) => {
             *place = fault.place();
-            6
+            47
         }
     }
 }
@@ -119,12 +119,12 @@ pub extern "C" fn idlc_free(alloc: Global, handle: &mut Handle)
 pub extern "C" fn idlc_share(alloc: Global, handle: &mut Handle, other: &mut Handle) -> u32
     ensures kept { handle.new.table ≡ handle.old.table }
     ensures names { handle.new.names ≡ handle.old.names }
-    ensures loaded { (result ≡ 2) ↔ (handle.old.table ≡ None) }
+    ensures loaded { (result ≡ 43) ↔ (handle.old.table ≡ None) }
     ensures shared { result ≡ 0 → other.new.table ≡ handle.old.table }
     ensures shared_names { result ≡ 0 → other.new.names ≡ handle.old.names }
     ensures untouched { result ≢ 0 → other.new.table ≡ other.old.table }
     ensures same_names { result ≢ 0 → other.new.names ≡ other.old.names }
-    ensures numbers { result ≤ 2 }
+    ensures numbers { IsOwn 42 43 result }
 {
     let Some(held) = mem::replace(handle, Handle::none(alloc)).into_box() else {
         return Refusal::NotLoaded.number();
@@ -145,13 +145,12 @@ pub extern "C" fn idlc_share(alloc: Global, handle: &mut Handle, other: &mut Han
 pub extern "C" fn idlc_find(alloc: Global, handle: &mut Handle, name: &[u8], node: &mut u32) -> u32
     ensures kept { handle.new.table ≡ handle.old.table }
     ensures names { handle.new.names ≡ handle.old.names }
-    ensures loaded { (result ≡ 2) ↔ (handle.old.table ≡ None) }
+    ensures loaded { (result ≡ 43) ↔ (handle.old.table ≡ None) }
     ensures found { result ≡ 0 → IfSome handle.old.table (λ table. Contains table.model.names (name.now, node.new)) }
-    ensures missing { result ≡ 3 → IfSome handle.old.table (λ table.
+    ensures missing { result ≡ 44 → IfSome handle.old.table (λ table.
         All (λ pair. pair.0 ≢ name.now) table.model.names) }
     ensures untouched { result ≢ 0 → node.new ≡ node.old }
-    ensures numbers { result ≤ 3 }
-    ensures no_memory { result ≢ 1 }
+    ensures numbers { IsOwn 43 44 result }
 {
     let Some(held) = mem::replace(handle, Handle::none(alloc)).into_box() else {
         return Refusal::NotLoaded.number();
@@ -180,19 +179,18 @@ pub extern "C" fn idlc_name(
 ) -> u32
     ensures kept { handle.new.table ≡ handle.old.table }
     ensures names { handle.new.names ≡ handle.old.names }
-    ensures loaded { (result ≡ 2) ↔ (handle.old.table ≡ None) }
+    ensures loaded { (result ≡ 43) ↔ (handle.old.table ≡ None) }
     ensures done { result ≡ 0 → IfSome handle.old.table (λ table.
         slice_get table.model.names place ≡ Some (take len.new out.new, node.new)) }
     ensures within { result ≡ 0 → len.new ≤ length out.old }
     ensures behind { result ≡ 0 → drop len.new out.new ≡ drop len.new out.old }
-    ensures past { result ≡ 3 → IfSome handle.old.table (λ table. length table.model.names ≤ place) }
-    ensures no_room { result ≡ 4 → length out.old < len.new }
-    ensures needed { result ≡ 4 → IfSome handle.old.table (HasName place len.new) }
+    ensures past { result ≡ 44 → IfSome handle.old.table (λ table. length table.model.names ≤ place) }
+    ensures no_room { result ≡ 45 → length out.old < len.new }
+    ensures needed { result ≡ 45 → IfSome handle.old.table (HasName place len.new) }
     ensures untouched { result ≢ 0 → out.new ≡ out.old }
     ensures same_node { result ≢ 0 → node.new ≡ node.old }
-    ensures same_length { result ≢ 0 → result ≢ 4 → len.new ≡ len.old }
-    ensures numbers { result ≤ 4 }
-    ensures no_memory { result ≢ 1 }
+    ensures same_length { result ≢ 0 → result ≢ 45 → len.new ≡ len.old }
+    ensures numbers { IsOwn 43 45 result }
 {
     let Some(held) = mem::replace(handle, Handle::none(alloc)).into_box() else {
         return Refusal::NotLoaded.number();
@@ -217,17 +215,17 @@ pub extern "C" fn idlc_encode(
 ) -> u32
     ensures kept { handle.new.table ≡ handle.old.table }
     ensures names { handle.new.names ≡ handle.old.names }
-    ensures loaded { (result ≡ 2) ↔ (handle.old.table ≡ None) }
+    ensures loaded { (result ≡ 43) ↔ (handle.old.table ≡ None) }
     ensures done { result ≡ 0 → IfSome handle.old.table (λ table.
         Means table.model.graph (writing (order_of little)) 64 node pos tape.now (take len.new out.new)) }
     ensures within { result ≡ 0 → len.new ≤ length out.old }
     ensures behind { result ≡ 0 → drop len.new out.new ≡ drop len.new out.old }
-    ensures unnamed { result ≡ 3 → IfSome handle.old.table (λ table. IsNamed table.model.names node → ⊥) }
-    ensures no_room { result ≡ 4 → length out.old < len.new }
-    ensures needed { result ≡ 4 → IfSome handle.old.table (HasOctets node (order_of little) pos tape.now len.new) }
+    ensures unnamed { result ≡ 44 → IfSome handle.old.table (λ table. IsNamed table.model.names node → ⊥) }
+    ensures no_room { result ≡ 45 → length out.old < len.new }
+    ensures needed { result ≡ 45 → IfSome handle.old.table (HasOctets node (order_of little) pos tape.now len.new) }
     ensures refused { 60 ≤ result → IfSome handle.old.table (HasNoOctets node (order_of little) pos tape.now) }
     ensures untouched { result ≢ 0 → out.new ≡ out.old }
-    ensures same_length { result ≢ 0 → result ≢ 4 → len.new ≡ len.old }
+    ensures same_length { result ≢ 0 → result ≢ 45 → len.new ≡ len.old }
     ensures numbers { IsOfValue result }
 {
     let Some(held) = mem::replace(handle, Handle::none(alloc)).into_box() else {
@@ -263,19 +261,19 @@ pub extern "C" fn idlc_decode(
 ) -> u32
     ensures kept { handle.new.table ≡ handle.old.table }
     ensures names { handle.new.names ≡ handle.old.names }
-    ensures loaded { (result ≡ 2) ↔ (handle.old.table ≡ None) }
+    ensures loaded { (result ≡ 43) ↔ (handle.old.table ≡ None) }
     ensures done { result ≡ 0 → IfSome handle.old.table (λ table. Means table.model.graph
         (reading (order_of little)) 64 node pos (take len.new out.new) (take taken.new octets.now)) }
     ensures taken { result ≡ 0 → taken.new ≤ length octets.now }
     ensures within { result ≡ 0 → len.new ≤ length out.old }
     ensures behind { result ≡ 0 → drop len.new out.new ≡ drop len.new out.old }
-    ensures unnamed { result ≡ 3 → IfSome handle.old.table (λ table. IsNamed table.model.names node → ⊥) }
-    ensures no_room { result ≡ 4 → length out.old < len.new }
-    ensures needed { result ≡ 4 → IfSome handle.old.table (HasTape node (order_of little) pos octets.now len.new) }
+    ensures unnamed { result ≡ 44 → IfSome handle.old.table (λ table. IsNamed table.model.names node → ⊥) }
+    ensures no_room { result ≡ 45 → length out.old < len.new }
+    ensures needed { result ≡ 45 → IfSome handle.old.table (HasTape node (order_of little) pos octets.now len.new) }
     ensures refused { 60 ≤ result → IfSome handle.old.table (HasNoTape node (order_of little) pos octets.now) }
     ensures untouched { result ≢ 0 → out.new ≡ out.old }
     ensures not_taken { result ≢ 0 → taken.new ≡ taken.old }
-    ensures same_length { result ≢ 0 → result ≢ 4 → len.new ≡ len.old }
+    ensures same_length { result ≢ 0 → result ≢ 45 → len.new ≡ len.old }
     ensures numbers { IsOfValue result }
 {
     let Some(held) = mem::replace(handle, Handle::none(alloc)).into_box() else {
@@ -311,14 +309,14 @@ pub extern "C" fn idlc_encode_text(
 ) -> u32
     ensures kept { handle.new.table ≡ handle.old.table }
     ensures names { handle.new.names ≡ handle.old.names }
-    ensures loaded { (result ≡ 2) ↔ (handle.old.table ≡ None) }
+    ensures loaded { (result ≡ 43) ↔ (handle.old.table ≡ None) }
     ensures done { result ≡ 0 → IfSome handle.old.table
         (IsOctetsOfText handle.old.names node (order_of little) pos text.now (take len.new out.new)) }
     ensures within { result ≡ 0 → len.new ≤ length out.old }
     ensures behind { result ≡ 0 → drop len.new out.new ≡ drop len.new out.old }
-    ensures unnamed { result ≡ 3 → IfSome handle.old.table (λ table. IsNamed table.model.names node → ⊥) }
-    ensures no_room { result ≡ 4 → length out.old < len.new }
-    ensures needed { result ≡ 4 → IfSome handle.old.table
+    ensures unnamed { result ≡ 44 → IfSome handle.old.table (λ table. IsNamed table.model.names node → ⊥) }
+    ensures no_room { result ≡ 45 → length out.old < len.new }
+    ensures needed { result ≡ 45 → IfSome handle.old.table
         (HasOctetsOfText handle.old.names node (order_of little) pos text.now len.new) }
     ensures refused { 60 ≤ result → result ≤ 68 → IfSome handle.old.table
         (HasNoOctetsOfText handle.old.names node (order_of little) pos text.now) }
@@ -326,7 +324,7 @@ pub extern "C" fn idlc_encode_text(
     ensures told { 110 ≤ result → place.new.number ≡ result }
     ensures untold { result < 110 → place.new ≡ place.old }
     ensures untouched { result ≢ 0 → out.new ≡ out.old }
-    ensures same_length { result ≢ 0 → result ≢ 4 → len.new ≡ len.old }
+    ensures same_length { result ≢ 0 → result ≢ 45 → len.new ≡ len.old }
     ensures numbers { IsOfText result }
 {
     let Some(held) = mem::replace(handle, Handle::none(alloc)).into_box() else {
@@ -354,19 +352,19 @@ pub extern "C" fn idlc_decode_text(
 ) -> u32
     ensures kept { handle.new.table ≡ handle.old.table }
     ensures names { handle.new.names ≡ handle.old.names }
-    ensures loaded { (result ≡ 2) ↔ (handle.old.table ≡ None) }
+    ensures loaded { (result ≡ 43) ↔ (handle.old.table ≡ None) }
     ensures done { result ≡ 0 → IfSome handle.old.table
         (IsTextOfOctets handle.old.names node (order_of little) pos octets.now taken.new (take len.new out.new)) }
     ensures within { result ≡ 0 → len.new ≤ length out.old }
     ensures behind { result ≡ 0 → drop len.new out.new ≡ drop len.new out.old }
-    ensures unnamed { result ≡ 3 → IfSome handle.old.table (λ table. IsNamed table.model.names node → ⊥) }
-    ensures no_room { result ≡ 4 → length out.old < len.new }
-    ensures needed { result ≡ 4 → IfSome handle.old.table
+    ensures unnamed { result ≡ 44 → IfSome handle.old.table (λ table. IsNamed table.model.names node → ⊥) }
+    ensures no_room { result ≡ 45 → length out.old < len.new }
+    ensures needed { result ≡ 45 → IfSome handle.old.table
         (HasTextOfOctets handle.old.names node (order_of little) pos octets.now len.new) }
     ensures refused { 60 ≤ result → IfSome handle.old.table (HasNoTape node (order_of little) pos octets.now) }
     ensures untouched { result ≢ 0 → out.new ≡ out.old }
     ensures not_taken { result ≢ 0 → taken.new ≡ taken.old }
-    ensures same_length { result ≢ 0 → result ≢ 4 → len.new ≡ len.old }
+    ensures same_length { result ≢ 0 → result ≢ 45 → len.new ≡ len.old }
     ensures numbers { IsOfValue result }
 {
     let Some(held) = mem::replace(handle, Handle::none(alloc)).into_box() else {
@@ -404,19 +402,19 @@ pub extern "C" fn idlc_write_request(
 ) -> u32
     ensures kept { handle.new.table ≡ handle.old.table }
     ensures names { handle.new.names ≡ handle.old.names }
-    ensures loaded { (result ≡ 2) ↔ (handle.old.table ≡ None) }
+    ensures loaded { (result ≡ 43) ↔ (handle.old.table ≡ None) }
     ensures done { result ≡ 0 → IfSome handle.old.table
         (IsRequestBy little id flags key.now operation.now node tape.now (take len.new out.new)) }
     ensures within { result ≡ 0 → len.new ≤ length out.old }
     ensures behind { result ≡ 0 → drop len.new out.new ≡ drop len.new out.old }
-    ensures unnamed { result ≡ 3 → IfSome handle.old.table (λ table. IsNamed table.model.names node → ⊥) }
-    ensures no_room { result ≡ 4 → length out.old < len.new }
-    ensures needed { result ≡ 4 → IfSome handle.old.table
+    ensures unnamed { result ≡ 44 → IfSome handle.old.table (λ table. IsNamed table.model.names node → ⊥) }
+    ensures no_room { result ≡ 45 → length out.old < len.new }
+    ensures needed { result ≡ 45 → IfSome handle.old.table
         (HasRequest little id flags key.now operation.now node tape.now len.new) }
     ensures refused { 90 ≤ result → IfSome handle.old.table
         (HasNoRequest little id flags key.now operation.now node tape.now result) }
     ensures untouched { result ≢ 0 → out.new ≡ out.old }
-    ensures same_length { result ≢ 0 → result ≢ 4 → len.new ≡ len.old }
+    ensures same_length { result ≢ 0 → result ≢ 45 → len.new ≡ len.old }
     ensures numbers { IsOfMessage result }
 {
     let Some(held) = mem::replace(handle, Handle::none(alloc)).into_box() else {
@@ -451,17 +449,17 @@ pub extern "C" fn idlc_write_reply(
 ) -> u32
     ensures kept { handle.new.table ≡ handle.old.table }
     ensures names { handle.new.names ≡ handle.old.names }
-    ensures loaded { (result ≡ 2) ↔ (handle.old.table ≡ None) }
+    ensures loaded { (result ≡ 43) ↔ (handle.old.table ≡ None) }
     ensures done { result ≡ 0 → IfSome handle.old.table
         (IsReplyBy little id status node tape.now (take len.new out.new)) }
     ensures within { result ≡ 0 → len.new ≤ length out.old }
     ensures behind { result ≡ 0 → drop len.new out.new ≡ drop len.new out.old }
-    ensures unnamed { result ≡ 3 → IfSome handle.old.table (λ table. IsNamed table.model.names node → ⊥) }
-    ensures no_room { result ≡ 4 → length out.old < len.new }
-    ensures needed { result ≡ 4 → IfSome handle.old.table (HasReply little id status node tape.now len.new) }
+    ensures unnamed { result ≡ 44 → IfSome handle.old.table (λ table. IsNamed table.model.names node → ⊥) }
+    ensures no_room { result ≡ 45 → length out.old < len.new }
+    ensures needed { result ≡ 45 → IfSome handle.old.table (HasReply little id status node tape.now len.new) }
     ensures refused { 90 ≤ result → IfSome handle.old.table (HasNoReply little id status node tape.now result) }
     ensures untouched { result ≢ 0 → out.new ≡ out.old }
-    ensures same_length { result ≢ 0 → result ≢ 4 → len.new ≡ len.old }
+    ensures same_length { result ≢ 0 → result ≢ 45 → len.new ≡ len.old }
     ensures numbers { IsOfMessage result }
 {
     let Some(held) = mem::replace(handle, Handle::none(alloc)).into_box() else {
@@ -486,16 +484,16 @@ pub extern "C" fn idlc_read_message(
 ) -> u32
     ensures kept { handle.new.table ≡ handle.old.table }
     ensures names { handle.new.names ≡ handle.old.names }
-    ensures loaded { (result ≡ 2) ↔ (handle.old.table ≡ None) }
+    ensures loaded { (result ≡ 43) ↔ (handle.old.table ≡ None) }
     ensures done { result ≡ 0 → IsTold octets.now message.new (take len.new out.new) }
     ensures within { result ≡ 0 → len.new ≤ length out.old }
     ensures behind { result ≡ 0 → drop len.new out.new ≡ drop len.new out.old }
-    ensures no_room { result ≡ 4 → length out.old < len.new }
-    ensures needed { result ≡ 4 → HasLength (HasTexts octets.now) len.new }
+    ensures no_room { result ≡ 45 → length out.old < len.new }
+    ensures needed { result ≡ 45 → HasLength (HasTexts octets.now) len.new }
     ensures refused { 90 ≤ result → HasNoMessage octets.now result }
     ensures untold { result ≢ 0 → message.new ≡ message.old }
     ensures untouched { result ≢ 0 → out.new ≡ out.old }
-    ensures same_length { result ≢ 0 → result ≢ 4 → len.new ≡ len.old }
+    ensures same_length { result ≢ 0 → result ≢ 45 → len.new ≡ len.old }
     ensures numbers { IsOfMessage result }
 {
     let Some(held) = mem::replace(handle, Handle::none(alloc)).into_box() else {

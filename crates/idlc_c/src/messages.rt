@@ -32,7 +32,7 @@ fn giop_number(fault: GiopFault) -> u32
         GiopFault::BadHead => 93,
         GiopFault::BadBody => 96,
         GiopFault::BadFragment => 97,
-        GiopFault::NoMemory => 1,
+        GiopFault::NoMemory => 42,
     }
 }
 
@@ -44,7 +44,7 @@ pub(crate) fn buffer_number(fault: BufferFault, len: &mut usize) -> u32
     match fault {
         BufferFault::NoRoom { needed } => {
             *len = needed;
-            4
+            45
         }
         BufferFault::Refused(fault) => giop_number(fault),
     }
@@ -60,7 +60,7 @@ pub(crate) fn message_told(answer: Result<usize, MessageRefusal>, len: &mut usiz
             *len = written;
             0
         }
-        Err(MessageRefusal::NotNamed) => 3,
+        Err(MessageRefusal::NotNamed) => 44,
         Err(MessageRefusal::NotHanded(fault)) => buffer_number(fault, len),
     }
 }
