@@ -45,9 +45,9 @@ static long requests(void)
     must(request(sizeof tape, operation, 4, 62, &len) == IDLC_NO_ROOM && len == 63 && is_untouched(), "one too few");
     must(request(10, operation, 4, 62, &len) == IDLC_BAD_BODY && len == 63 && is_untouched(), "a cut tape");
     must(request(sizeof tape, (const uint8_t *)"a\0b", 3, 99, &len) == IDLC_BAD_HEAD && is_untouched(), "a zero");
-    must(request(sizeof tape, large, 0, 99, &len) == IDLC_DONE && len == 55, "no name of an operation");
+    must(request(sizeof tape, large, 0, 99, &len) == IDLC_DONE && len == 63, "no name of an operation");
     memset(large, 'a', sizeof large);
-    must(request(sizeof tape, large, sizeof large, 99, &len) == IDLC_MESSAGE_TOO_LONG && len == 55, "a long operation");
+    must(request(sizeof tape, large, sizeof large, 99, &len) == IDLC_MESSAGE_TOO_LONG && len == 63, "a long operation");
     for (long n = 1;; n++) {
         begin(n);
         long before = held;
@@ -106,8 +106,10 @@ static void others(void)
     kept[5] = 1;
     must(read_kept(99, &len) == IDLC_GIOP_VERSION, "1.1");
     kept[5] = 2;
+    /* more follows, and a piece ends at a multiple of 8 */
     kept[6] = 2;
-    kept_len = 63;
+    kept[11] = 52;
+    kept_len = 64;
     must(read_kept(99, &len) == IDLC_DONE && message.kind == IDLC_PIECE && message.id == 1 && message.detail == 1, "a piece");
     kept[7] = 7;
     must(read_kept(99, &len) == IDLC_BAD_FRAGMENT, "a piece of nothing");
