@@ -44,16 +44,15 @@
 extern "C" {
 #endif
 
-/* What calls answer. `idlc explain NN` tells of 50 and more what it means, and how to mend it; those below are of this
- * library alone, and `idlc explain` has other refusals by these numbers. */
+/* What calls answer. `idlc explain NN` tells what a number means, and how to mend it; 42 to 47 are of this library alone. */
 enum {
     IDLC_DONE = 0,
-    IDLC_NO_MEMORY = 1,  /* malloc or realloc gave none */
-    IDLC_NO_TABLE = 2,   /* no table is loaded */
-    IDLC_NO_NAME = 3,    /* no type has this name, or node; no name stands at this place */
-    IDLC_NO_ROOM = 4,    /* the buffer is too small; the length that is needed is told */
-    IDLC_TOO_LONG = 5,   /* a table file has 16,777,216 octets at most */
-    IDLC_FAULTY_IDL = 6, /* the IDL has a fault; its place is told, with a number of 1 to 36, see below */
+    IDLC_NO_MEMORY = 42,  /* malloc or realloc gave none */
+    IDLC_NO_TABLE = 43,   /* no table is loaded */
+    IDLC_NO_NAME = 44,    /* no type has this name, or node; no name stands at this place */
+    IDLC_NO_ROOM = 45,    /* the buffer is too small; the length that is needed is told */
+    IDLC_TOO_LONG = 46,   /* a table file has 16,777,216 octets at most */
+    IDLC_FAULTY_IDL = 47, /* the IDL has a fault; its place is told, with a number of 1 to 36, see below */
 
     /* the octets are no table's */
     IDLC_NOT_A_TABLE = 50,
@@ -90,6 +89,14 @@ enum {
     IDLC_WRONG_COUNT = 122,
     IDLC_TEXT_TOO_DEEP = 123,
     IDLC_TEXT_BEHIND = 124,
+
+    /* the octets are no message of GIOP 1.2, or no message can be written of what is given */
+    IDLC_NOT_GIOP = 90,
+    IDLC_GIOP_VERSION = 91,
+    IDLC_MESSAGE_TOO_LONG = 92, /* more than 1,048,576 octets behind the head */
+    IDLC_BAD_HEAD = 93,
+    IDLC_BAD_BODY = 96,
+    IDLC_BAD_FRAGMENT = 97,
 
     /* the table isn't right */
     IDLC_WRONG_WORK = 80,
@@ -132,6 +139,18 @@ enum {
     IDLC_BAD_ONEWAY = 36
 };
 
+/* What stands at the front of a stream: the types of messages as GIOP numbers them, and two more. */
+enum {
+    IDLC_REQUEST = 0,
+    IDLC_REPLY = 1,
+    IDLC_CANCEL_REQUEST = 2,
+    IDLC_LOCATE_REQUEST = 3,
+    IDLC_CLOSE_CONNECTION = 5,
+    IDLC_MESSAGE_ERROR = 6,
+    IDLC_PIECE = 7,  /* a piece of a request that comes in fragments */
+    IDLC_NOT_YET = 8 /* no whole message is there yet */
+};
+
 /* A table, or none where all is zero. */
 struct idlc_table {
     unsigned char *at;
@@ -155,39 +174,52 @@ struct idlc_place {
     size_t column;
 };
 
-/* Loads the table of a file's octets, if it is right, and lets go of the one that was there. Answers 0, 1, 5, 50 to 55,
+/* What stands at the front of a stream. What doesn't belong to its kind is 0 or false. */
+struct idlc_message {
+    uint32_t kind;        /* IDLC_REQUEST to IDLC_NOT_YET */
+    uint32_t id;          /* the number of the request */
+    uint32_t detail;      /* the response flags of a request, the status of a reply; of a piece 1: the first, 2: the last */
+    bool little;          /* the order of the body's numbers */
+    bool has_key;         /* the target tells the object's key */
+    size_t taken;         /* how many octets it has: the next message stands behind them */
+    size_t body_at;       /* where its body stands, from its first octet on: the position for idlc_decode; past its end: none */
+    size_t key_len;       /* of the key, at the front of the buffer */
+    size_t operation_len; /* of the operation, behind the key */
+};
+
+/* Loads the table of a file's octets, if it is right, and lets go of the one that was there. Answers 0, 42, 46, 50 to 55,
  * or 80 to 85. Where it isn't 0 the table is as it was, and `refusal` is told. */
 uint32_t idlc_load(struct idlc_table *table, const uint8_t *octets, size_t octets_len, struct idlc_refusal *refusal);
 
 /* Loads the table of an IDL text, as a preprocessor leaves it, with the names of members, enumerators and parameters, and
- * lets go of the one that was there. Answers 0, 1 or 6. Where it isn't 0 the table is as it was; with 6 `place` is told. */
+ * lets go of the one that was there. Answers 0, 42 or 47. Where it isn't 0 the table is as it was; with 47 `place` is told. */
 uint32_t idlc_compile(struct idlc_table *table, const uint8_t *source, size_t source_len, struct idlc_place *place);
 
 /* Has another table hold the same as this one, without a copy, and lets go of what was there. Each is let go of by itself.
- * Answers 0 to 2. Where it isn't 0 the other is as it was. */
+ * Answers 0, 42 or 43. Where it isn't 0 the other is as it was. */
 uint32_t idlc_share(struct idlc_table *table, struct idlc_table *other);
 
 /* Lets go of the table, and may be called again. */
 void idlc_free(struct idlc_table *table);
 
-/* The node of a type's name, as "M::S". Answers 0, 2 or 3. */
+/* The node of a type's name, as "M::S". Answers 0, 43 or 44. */
 uint32_t idlc_find(struct idlc_table *table, const uint8_t *name, size_t name_len, uint32_t *node);
 
-/* The name at a place, from 0 on, and its node. Answers 0, 2, 3 behind the last, or 4. */
+/* The name at a place, from 0 on, and its node. Answers 0, 43, 44 behind the last, or 45. */
 uint32_t idlc_name(struct idlc_table *table, size_t place, uint8_t *out, size_t out_len, size_t *len, uint32_t *node);
 
-/* The octets of the value that the whole tape is, the first of them at a position, with zeros in the gaps. Answers 0 to 4,
- * or 60 to 68: the tape is no value's. */
+/* The octets of the value that the whole tape is, the first of them at a position, with zeros in the gaps. Answers 0,
+ * 42 to 45, or 60 to 68: the tape is no value's. */
 uint32_t idlc_encode(struct idlc_table *table, uint32_t node, bool little, uint64_t pos, const uint8_t *tape,
                      size_t tape_len, uint8_t *out, size_t out_len, size_t *len);
 
 /* The tape of the value that a front of the octets encodes, whatever stands in the gaps, and how many octets that front
- * has. Answers 0 to 4, or 60 to 68: no front encodes a value. */
+ * has. Answers 0, 42 to 45, or 60 to 68: no front encodes a value. */
 uint32_t idlc_decode(struct idlc_table *table, uint32_t node, bool little, uint64_t pos, const uint8_t *octets,
                      size_t octets_len, size_t *taken, uint8_t *out, size_t out_len, size_t *len);
 
 /* The same of the value that a text says: JSON of the form that crates/value_text/README.md tells, members and enumerators
- * by their names where the table was compiled, else by their places. Answers 0 to 4, 60 to 68: the value has no octets,
+ * by their names where the table was compiled, else by their places. Answers 0, 42 to 45, 60 to 68: the value has no octets,
  * or 110 to 124: the text says no value of the type, and `place` is told. */
 uint32_t idlc_encode_text(struct idlc_table *table, uint32_t node, bool little, uint64_t pos, const uint8_t *text,
                           size_t text_len, uint8_t *out, size_t out_len, size_t *len, struct idlc_place *place);
@@ -196,8 +228,26 @@ uint32_t idlc_encode_text(struct idlc_table *table, uint32_t node, bool little, 
 uint32_t idlc_decode_text(struct idlc_table *table, uint32_t node, bool little, uint64_t pos, const uint8_t *octets,
                           size_t octets_len, size_t *taken, uint8_t *out, size_t out_len, size_t *len);
 
+/* Writes a GIOP 1.2 request: its number, its response flags (3: an answer is wanted, 0: none), the object's key, the
+ * operation, no service contexts, and the value that the tape is of the node, as "M::I::op/in". Answers 0, 42 to 45, or
+ * 92, 93, 96: no request has these. */
+uint32_t idlc_write_request(struct idlc_table *table, uint32_t node, bool little, uint32_t id, uint8_t flags,
+                            const uint8_t *key, size_t key_len, const uint8_t *operation, size_t operation_len,
+                            const uint8_t *tape, size_t tape_len, uint8_t *out, size_t out_len, size_t *len);
+
+/* The same of a reply: the number of its request, its status (0: no exception, 1: a user's, 2: a system's, 3 and 4: the
+ * object is elsewhere, 5: it is asked for otherwise), no service contexts, and a value, as of "M::I::op/out". */
+uint32_t idlc_write_reply(struct idlc_table *table, uint32_t node, bool little, uint32_t id, uint32_t status,
+                          const uint8_t *tape, size_t tape_len, uint8_t *out, size_t out_len, size_t *len);
+
+/* Tells what stands at the front of a stream, and hands over the key of the object that a request or a locate request asks
+ * for, and behind it the operation. Any table serves. Answers 0, 42, 43, 45, or 90 to 93 and 97: the stream is none of GIOP 1.2.
+ * Requests in fragments aren't joined. Where it isn't 0 `message` is as it was. */
+uint32_t idlc_read_message(struct idlc_table *table, const uint8_t *octets, size_t octets_len,
+                           struct idlc_message *message, uint8_t *out, size_t out_len, size_t *len);
+
 /* Of all calls that hand octets over: with 0 its first `*len` octets are written, and those behind them are as
- * they were; with 4 `*len` is what is needed, so a call with length 0 asks for it; but with 0 the buffer is as it was. */
+ * they were; with 45 `*len` is what is needed, so a call with length 0 asks for it; but with 0 the buffer is as it was. */
 
 #ifdef __cplusplus
 }

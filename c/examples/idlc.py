@@ -10,8 +10,8 @@ import ctypes
 import json
 import threading
 
-NO_ROOM = 4
-FAULTY_IDL = 6
+NO_ROOM = 45
+FAULTY_IDL = 47
 
 
 class Refused(Exception):

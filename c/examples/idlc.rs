@@ -35,8 +35,8 @@ extern "C" {
     ) -> u32;
 }
 
-const NO_ROOM: u32 = 4;
-const FAULTY_IDL: u32 = 6;
+const NO_ROOM: u32 = 45;
+const FAULTY_IDL: u32 = 47;
 
 /// A table that was found right.
 pub struct Table(Handle);

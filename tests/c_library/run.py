@@ -16,11 +16,17 @@ from driver.workspace import TOP
 PROGRAM = TOP / "crates" / "idlc_main" / "out" / "idlc_main"
 NAMES = [
     "idlc_compile", "idlc_decode", "idlc_decode_text", "idlc_encode", "idlc_encode_text", "idlc_find", "idlc_free",
-    "idlc_load", "idlc_name", "idlc_share",
+    "idlc_load", "idlc_name", "idlc_read_message", "idlc_share", "idlc_write_reply", "idlc_write_request",
 ]
 SOURCE = "struct S { octet a; unsigned long b; string c; };\n"
 TAPE, OCTETS = "0700000001000000026869", "070000000000000100000003686900"
 TEXT = '{"a":7,"b":1,"c":"hi"}'
+# what messages.c prints: a request and a reply with the value of OCTETS, in big and in little order
+MESSAGES = "".join(f"^{line}\\n" for line in (
+    "47494f5001020000" "00000033" "00000001" "03000000" "0000" "0000" "00000001" "4b" "000000" "00000005" "70696e6700"
+    "000000" "00000000" + OCTETS,
+    "47494f5001020101" "1b000000" "07000000" "01000000" "00000000" "07000000" "01000000" "03000000" "686900",
+)) + r"[1-9]\d* [1-9]\d* [1-9]\d*$"
 STRICT = ["-Wall", "-Wextra", "-Werror", "-pedantic"]
 WRAPS = ["-Wl,--wrap=malloc", "-Wl,--wrap=realloc", "-Wl,--wrap=free"]
 SANITIZERS = ["-g", "-fsanitize=address,undefined", "-fno-sanitize-recover=all"]
@@ -105,8 +111,9 @@ def check_names(library):
 
 
 def check_numbers(library):
-    """Each number of the header from 50 on, and each fault of IDL, is one that the program explains."""
-    header = (TOP / "c" / "idlc.h").read_text()
+    """Each number of the header is one that the program explains."""
+    # but for the kinds of messages
+    header = re.sub(r"enum {\n    IDLC_REQUEST.*?};", "", (TOP / "c" / "idlc.h").read_text(), flags=re.DOTALL)
     numbers = {int(number) for number in re.findall(r"IDLC_\w+ = (\d+)", header)}
     said = library.call("explain", PROGRAM, "explain") or ""
     known = {int(number) for number in re.findall(r"^(\d+) ", said, re.MULTILINE)}
@@ -117,21 +124,23 @@ def check_calls(library, table):
     """All calls from C by each compiler, with each allocation refused in turn; sanitized; under valgrind."""
     words = [table, "S", TAPE, OCTETS]
     for cc in COMPILERS:
-        for name, given in (("calls", words), ("texts", [])):
+        for name, given in (("calls", words), ("texts", []), ("messages", [])):
             library.compile(cc, library.test.folder / f"{name}.c", f"{name}-{cc}", *WRAPS)
             said = library.call(f"{name} {cc}", library.room / f"{name}-{cc}", *given) or ""
-            wanted = r"^S \d+$" if given else r"^[1-9]\d* [1-9]\d* [1-9]\d*$"
+            wanted = {"calls": r"^S \d+$", "texts": r"^[1-9]\d* [1-9]\d* [1-9]\d*$", "messages": MESSAGES}[name]
             library.count.add(re.search(wanted, said, re.MULTILINE), f"{name} {cc}: {said}")
         library.compile(cc, library.test.folder / "threads.c", f"threads-{cc}", "-pthread")
         library.call(f"threads {cc}", library.room / f"threads-{cc}")
     library.compile("gcc", library.test.folder / "calls.c", "calls-sane", *WRAPS, *SANITIZERS)
     library.call("calls sanitized", library.room / "calls-sane", *words)
-    library.compile("gcc", library.test.folder / "texts.c", "texts-sane", *WRAPS, *SANITIZERS)
-    library.call("texts sanitized", library.room / "texts-sane")
+    for name in ("texts", "messages"):
+        library.compile("gcc", library.test.folder / f"{name}.c", f"{name}-sane", *WRAPS, *SANITIZERS)
+        library.call(f"{name} sanitized", library.room / f"{name}-sane")
     if shutil.which("valgrind"):
         checked = ["valgrind", "-q", "--error-exitcode=9", "--leak-check=full"]
         library.call("valgrind calls", *checked, library.room / "calls-gcc", *words)
-        library.call("valgrind texts", *checked, library.room / "texts-gcc")
+        for name in ("texts", "messages"):
+            library.call(f"valgrind {name}", *checked, library.room / f"{name}-gcc")
 
 
 def check_examples(library, table):
@@ -177,7 +186,7 @@ def check_python(library, api, table):
     library.count.add(named.encode("S", value) == octets, "Python shares")
     rows = [
         (lambda: loaded.encode_tape("S", b""), (60, 0, 0)),
-        (lambda: loaded.encode("T", 1), (3, 0, 0)),
+        (lambda: loaded.encode("T", 1), (44, 0, 0)),
         (lambda: loaded.encode("S", value), (118, 1, 1)),
         (lambda: named.encode("S", {"a": 256}), (111, 1, 7)),
         (lambda: named.decode("S", octets[:-1]), (60, 0, 0)),

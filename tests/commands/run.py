@@ -21,7 +21,7 @@ interface P { void ping(); };
 """
 
 # how many refusals have a text
-EXPLAINED = 83
+EXPLAINED = 89
 
 # what a source is refused with
 REFUSED = [

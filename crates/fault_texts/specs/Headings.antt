@@ -11,7 +11,7 @@ is_within low high n = nat_le low n && nat_le n high
 
 -- the numbers that refusals have
 abbrev pub is_refusal : ℕ → Bool
-is_refusal n = is_within 1 7 n || is_within 10 13 n || is_within 20 29 n || is_within 30 37 n || is_within 40 41 n
+is_refusal n = is_within 1 7 n || is_within 10 13 n || is_within 20 29 n || is_within 30 37 n || is_within 40 47 n
     || is_within 50 55 n || is_within 60 68 n || is_within 70 70 n || is_within 80 85 n || is_within 90 97 n
     || is_within 100 106 n || is_within 110 124 n
 
@@ -64,12 +64,18 @@ type_heading n =
     if n == 37 then Some (codes "37 BadNode") else (
     None))))))))
 
--- refusals of values and their tapes
+-- refusals of values and their tapes, and of the library for C
 abbrev pub value_heading : ℕ → Option (List ℕ)
 value_heading n =
     if n == 40 then Some (codes "40 NotOfType") else (
     if n == 41 then Some (codes "41 NotATape") else (
-    None))
+    if n == 42 then Some (codes "42 NoMemory") else (
+    if n == 43 then Some (codes "43 NoTable") else (
+    if n == 44 then Some (codes "44 NoName") else (
+    if n == 45 then Some (codes "45 NoRoom") else (
+    if n == 46 then Some (codes "46 TooLong") else (
+    if n == 47 then Some (codes "47 FaultyIdl") else (
+    None))))))))
 
 -- refusals of table files
 abbrev pub table_heading : ℕ → Option (List ℕ)

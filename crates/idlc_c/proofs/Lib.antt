@@ -1,4 +1,5 @@
 mod AnswerLaws
+mod MessageLaws
 mod NameLaws
 mod TextLaws
 mod ValueLaws

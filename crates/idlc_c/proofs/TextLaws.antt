@@ -40,10 +40,11 @@ run_number runs.ZeroInside = inr (omega arith, omega arith)
 run_number runs.OverBound = inr (omega arith, omega arith)
 run_number runs.TooDeep = inr (omega arith, omega arith)
 run_number runs.TapeLeft = inr (omega arith, omega arith)
-run_number runs.NoMemory = inl (omega arith)
+run_number runs.NoMemory = inl (inr (omega arith, omega arith))
 
 run_below : (number : ℕ) → IsOfValue number → number < 110
-run_below number (inl low) = omega (arith, low)
+run_below number (inl (inl none)) = omega (arith, none)
+run_below number (inl (inr own)) = omega (arith, own.1)
 run_below number (inr high) = omega (arith, high.1)
 
 module _ (U : Type 0) (L : ℕ → Type 0) (V W : Type 0) where
@@ -76,10 +77,10 @@ module _ (U : Type 0) (L : ℕ → Type 0) (V W : Type 0) where
   unsaid (Err (NotRight fault)) old many s = absurd s
 
   pub of_text : (answer : Result ℕ Refusal) → IfErr answer (RefusesSaid U L V W) → IsOfText (number_of_answer answer)
-  of_text (Ok n) s = inl (inl (omega arith))
-  of_text (Err NoMemory) s = inl (inl (omega arith))
-  of_text (Err NotNamed) s = inl (inl (omega arith))
-  of_text (Err (NoRoom needed)) s = inl (inl (omega arith))
+  of_text (Ok n) s = inl (inl (inl refl))
+  of_text (Err NoMemory) s = inl (inl (inr (omega arith, omega arith)))
+  of_text (Err NotNamed) s = inl (inl (inr (omega arith, omega arith)))
+  of_text (Err (NoRoom needed)) s = inl (inl (inr (omega arith, omega arith)))
   of_text (Err (NoValue fault)) s = inl (run_number fault)
   of_text (Err (NoText fault)) s = inr (text_number fault.wanted)
   of_text (Err NotLoaded) s = absurd s

@@ -101,11 +101,15 @@ RefusesName past long refusal = ⊥
 abbrev pub TellsLength : (ℕ → Type 0) → ℕ → ℕ → Type 0
 TellsLength has room needed = (room < needed) × has needed
 
+-- 0, or one of the library's own numbers, from one to another
+abbrev pub IsOwn : ℕ → ℕ → ℕ → Type 0
+IsOwn low high number = (number ≡ 0) ⊎ ((low ≤ number) × (number ≤ high))
+
 -- the numbers that a call to encode or to decode answers
 abbrev pub IsOfValue : ℕ → Type 0
-IsOfValue number = (number ≤ 4) ⊎ ((60 ≤ number) × (number ≤ 68))
+IsOfValue number = IsOwn 42 45 number ⊎ ((60 ≤ number) × (number ≤ 68))
 
 -- the numbers that a call to load answers
 abbrev pub IsOfFile : ℕ → Type 0
 IsOfFile number =
-    (number ≤ 1) ⊎ (number ≡ 5) ⊎ ((50 ≤ number) × (number ≤ 55)) ⊎ ((80 ≤ number) × (number ≤ 85))
+    IsOwn 42 42 number ⊎ (number ≡ 46) ⊎ ((50 ≤ number) × (number ≤ 55)) ⊎ ((80 ≤ number) × (number ≤ 85))

@@ -1,5 +1,6 @@
 pub mod Answers
 pub mod Handle
+pub mod MessageAnswers
 pub mod Numbers
 pub mod SourceAnswers
 pub mod SourceNumbers

@@ -21,7 +21,7 @@ number_of_file files.BadNumber = 52
 number_of_file files.RankRises = 53
 number_of_file files.Trailing = 54
 number_of_file files.EmptyRoutine = 55
-number_of_file files.NoMemory = 1
+number_of_file files.NoMemory = 42
 
 abbrev pub number_of_run : RunFault → ℕ
 number_of_run runs.Short = 60
@@ -33,7 +33,7 @@ number_of_run runs.ZeroInside = 65
 number_of_run runs.OverBound = 66
 number_of_run runs.TooDeep = 67
 number_of_run runs.TapeLeft = 68
-number_of_run runs.NoMemory = 1
+number_of_run runs.NoMemory = 42
 
 abbrev pub number_of_text : Wanted → ℕ
 number_of_text wanted.Json = 110
@@ -66,14 +66,14 @@ place_of_check (checks.EntryOutside at instr) = place_in_routine 82 at instr
 place_of_check (checks.ExitsTooSmall at entry) = place_in_routine 83 at entry
 place_of_check (checks.NoRoutine node) = place_of_node 84 node
 place_of_check (checks.NamedEntryNotFull node) = place_of_node 85 node
-place_of_check checks.NoMemory = place_of_node 1 0
+place_of_check checks.NoMemory = place_of_node 42 0
 
 abbrev pub number_of : Refusal → ℕ
-number_of NoMemory = 1
-number_of NotLoaded = 2
-number_of NotNamed = 3
-number_of (NoRoom needed) = 4
-number_of TooLong = 5
+number_of NoMemory = 42
+number_of NotLoaded = 43
+number_of NotNamed = 44
+number_of (NoRoom needed) = 45
+number_of TooLong = 46
 number_of (NoTable fault) = number_of_file fault
 number_of (NotRight fault) = (place_of_check fault).number
 number_of (NoValue fault) = number_of_run fault

@@ -1,5 +1,5 @@
 -- What answers about IDL texts say.
-use Rattle.std.specs.Prelude.{◌≡◌, ◌≢◌, ◌⊎◌, ◌≤◌, ℕ, List}
+use Rattle.std.specs.Prelude.{◌≡◌, ◌≢◌, ◌⊎◌, ℕ, List}
 use Rattle.std.specs.Str.{IsUtf8}
 use Rattle.table_file.specs.Table.{TableParts}
 use Rattle.idl_compiler.specs.Compiled.{IsNamedTable}
@@ -8,6 +8,7 @@ use Rattle.idl_compiler.specs.declared.steps.NamedTable.{NamedTable}
 use Rattle.idlc_c.specs.declared.source_fault.SourceFault.{SourceFault}
 use Rattle.idlc_c.specs.declared.source_fault.SourceFault.TheVariants.{NoMemory, NotText, Refused}
 use Rattle.idlc_c.specs.declared.source_place.SourcePlace.{SourcePlace}
+use Rattle.idlc_c.specs.Answers.{IsOwn}
 use Rattle.idlc_c.specs.Handle.{Labels}
 use Rattle.idlc_c.specs.SourceNumbers.{spot_of_source}
 
@@ -35,4 +36,4 @@ pub record IsFaultAt (source : List ℕ) (place : SourcePlace) : Type 0 where
 
 -- the numbers that a call to compile answers
 abbrev pub IsOfSource : ℕ → Type 0
-IsOfSource number = (number ≤ 1) ⊎ (number ≡ 6)
+IsOfSource number = IsOwn 42 42 number ⊎ (number ≡ 47)

@@ -3,6 +3,7 @@
 ghost use Rattle.std.specs.Prelude.{◌≡◌, [], IfOk};
 ghost use Rattle.std.specs.Arc.{arc_value};
 
+use giop::Giop;
 use part_names::PartNames;
 use position_checker::Accepted;
 use std::alloc::{AllocError, Global};
@@ -29,10 +30,17 @@ impl Loaded {
     }
 }
 
-/// One owner of what is loaded.
+/// What is loaded, and the types of GIOP beside it.
+#[derive(Drop)]
+struct Shared {
+    loaded: Loaded,
+    giop: Giop,
+}
+
+/// One owner of what is loaded. A contract sees that alone, since the types of GIOP are always the same.
 #[derive(Drop)]
 pub struct Held {
-    shared: Arc<Loaded>,
+    shared: Arc<Shared>,
 }
 
 impl Model for Held {
@@ -41,7 +49,7 @@ impl Model for Held {
 
     ghost Value = { Loaded };
 
-    ghost view = { λ h. arc_value h.shared };
+    ghost view = { λ h. (arc_value h.shared).loaded };
 }
 
 impl Held {
@@ -49,7 +57,11 @@ impl Held {
     fn new(alloc: Global, loaded: Loaded) -> Result<Held, AllocError>
         ensures { IfOk result (λ held. held ≡ loaded) }
     {
-        match Arc::new(alloc, loaded) {
+        let giop = match Giop::new(alloc) {
+            Ok(giop) => giop,
+            Err(error) => return Err(error),
+        };
+        match Arc::new(alloc, Shared { loaded, giop }) {
             Ok(shared) => Ok(Held { shared }),
             Err(_) => Err(AllocError),
         }
@@ -71,7 +83,12 @@ impl Held {
     pub fn loaded(&self) -> &Loaded
         ensures { result.now ≡ self.now }
     {
-        &self.shared
+        &self.shared.loaded
+    }
+
+    /// The types of GIOP.
+    pub fn giop(&self) -> &Giop {
+        &self.shared.giop
     }
 
     /// Another owner of the same, in a box.

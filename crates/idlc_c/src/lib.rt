@@ -6,7 +6,10 @@ ghost use Rattle.type_graph.specs.Words.{reading, writing};
 ghost use Rattle.type_graph.specs.Encoding.{Means};
 ghost use Rattle.type_model.specs.Names.{IsNamed};
 ghost use Rattle.position_checker.specs.Acceptance.{IsRight};
-ghost use Rattle.idlc_c.specs.Answers.{HasName, HasNoOctets, HasNoTape, HasOctets, HasTape, IsFaultyAt, IsFile, IsNoFile, IsOfFile, IsOfValue, order_of};
+ghost use Rattle.idlc_c.specs.Answers.{HasName, HasNoOctets, HasNoTape, HasOctets, HasTape, IsFaultyAt, IsFile, IsNoFile, IsOfFile, IsOfValue, IsOwn, order_of};
+ghost use Rattle.giop_buffers.specs.Fronts.{HasTexts, IsTold};
+ghost use Rattle.giop_buffers.specs.Messages.{HasLength};
+ghost use Rattle.idlc_c.specs.MessageAnswers.{HasNoMessage, HasNoReply, HasNoRequest, HasReply, HasRequest, IsOfMessage, IsReplyBy, IsRequestBy};
 ghost use Rattle.idlc_c.specs.SourceAnswers.{IsFaultAt, IsIdlOf, IsOfSource};
 ghost use Rattle.idlc_c.specs.TextAnswers.{HasNoOctetsOfText, HasOctetsOfText, HasTextOfOctets, IsOctetsOfText, IsOfText, IsTextOfOctets, SaysNone};
 
@@ -16,6 +19,7 @@ mod held;
 mod load;
 mod loose;
 mod marshal;
+mod messages;
 mod names;
 mod octets;
 mod parts;
@@ -25,8 +29,11 @@ mod source_place;
 mod text;
 
 use crate::marshal::order;
+use crate::messages::{buffer_number, message_told};
 use crate::refusal::{Refusal, told, told_at};
 use crate::source_fault::SourceFault;
+pub use giop_buffers::MessageFront;
+use giop_buffers::RequestHead;
 pub use handle::Handle;
 pub use refusal::RefusalPlace;
 pub use source_place::SourcePlace;
@@ -49,7 +56,7 @@ pub extern "C" fn idlc_load(
     ensures names { result ≢ 0 → handle.new.names ≡ handle.old.names }
     ensures told { result ≢ 0 → refusal.new.number ≡ result }
     ensures untold { result ≡ 0 → refusal.new ≡ refusal.old }
-    ensures long { (result ≡ 5) ↔ (16777216 < length octets.now) }
+    ensures long { (result ≡ 46) ↔ (16777216 < length octets.now) }
     ensures no_file { 50 ≤ result → result ≤ 55 → IsNoFile octets.now }
     ensures faulty { 80 ≤ result → IsFaultyAt octets.now refusal.new }
     ensures numbers { IsOfFile result }
@@ -80,8 +87,8 @@ pub extern "C" fn idlc_compile(
     ensures right { result ≡ 0 → IfSome handle.new.table IsRight }
     ensures kept { result ≢ 0 → handle.new.table ≡ handle.old.table }
     ensures names { result ≢ 0 → handle.new.names ≡ handle.old.names }
-    ensures faulty { result ≡ 6 → IsFaultAt source.now place.new }
-    ensures untold { result ≢ 6 → place.new ≡ place.old }
+    ensures faulty { result ≡ 47 → IsFaultAt source.now place.new }
+    ensures untold { result ≢ 47 → place.new ≡ place.old }
     ensures numbers { IsOfSource result }
 {
     match compile::compile(alloc, source) {
@@ -89,10 +96,10 @@ pub extern "C" fn idlc_compile(
             *handle = Handle::of(held);
             0
         }
-        Err(SourceFault::NoMemory) => 1,
+        Err(SourceFault::NoMemory) => 42,
         Err(fault) => {
             *place = fault.place();
-            6
+            47
         }
     }
 }
@@ -112,12 +119,12 @@ pub extern "C" fn idlc_free(alloc: Global, handle: &mut Handle)
 pub extern "C" fn idlc_share(alloc: Global, handle: &mut Handle, other: &mut Handle) -> u32
     ensures kept { handle.new.table ≡ handle.old.table }
     ensures names { handle.new.names ≡ handle.old.names }
-    ensures loaded { (result ≡ 2) ↔ (handle.old.table ≡ None) }
+    ensures loaded { (result ≡ 43) ↔ (handle.old.table ≡ None) }
     ensures shared { result ≡ 0 → other.new.table ≡ handle.old.table }
     ensures shared_names { result ≡ 0 → other.new.names ≡ handle.old.names }
     ensures untouched { result ≢ 0 → other.new.table ≡ other.old.table }
     ensures same_names { result ≢ 0 → other.new.names ≡ other.old.names }
-    ensures numbers { result ≤ 2 }
+    ensures numbers { IsOwn 42 43 result }
 {
     let Some(held) = mem::replace(handle, Handle::none(alloc)).into_box() else {
         return Refusal::NotLoaded.number();
@@ -138,13 +145,12 @@ pub extern "C" fn idlc_share(alloc: Global, handle: &mut Handle, other: &mut Han
 pub extern "C" fn idlc_find(alloc: Global, handle: &mut Handle, name: &[u8], node: &mut u32) -> u32
     ensures kept { handle.new.table ≡ handle.old.table }
     ensures names { handle.new.names ≡ handle.old.names }
-    ensures loaded { (result ≡ 2) ↔ (handle.old.table ≡ None) }
+    ensures loaded { (result ≡ 43) ↔ (handle.old.table ≡ None) }
     ensures found { result ≡ 0 → IfSome handle.old.table (λ table. Contains table.model.names (name.now, node.new)) }
-    ensures missing { result ≡ 3 → IfSome handle.old.table (λ table.
+    ensures missing { result ≡ 44 → IfSome handle.old.table (λ table.
         All (λ pair. pair.0 ≢ name.now) table.model.names) }
     ensures untouched { result ≢ 0 → node.new ≡ node.old }
-    ensures numbers { result ≤ 3 }
-    ensures no_memory { result ≢ 1 }
+    ensures numbers { IsOwn 43 44 result }
 {
     let Some(held) = mem::replace(handle, Handle::none(alloc)).into_box() else {
         return Refusal::NotLoaded.number();
@@ -173,19 +179,18 @@ pub extern "C" fn idlc_name(
 ) -> u32
     ensures kept { handle.new.table ≡ handle.old.table }
     ensures names { handle.new.names ≡ handle.old.names }
-    ensures loaded { (result ≡ 2) ↔ (handle.old.table ≡ None) }
+    ensures loaded { (result ≡ 43) ↔ (handle.old.table ≡ None) }
     ensures done { result ≡ 0 → IfSome handle.old.table (λ table.
         slice_get table.model.names place ≡ Some (take len.new out.new, node.new)) }
     ensures within { result ≡ 0 → len.new ≤ length out.old }
     ensures behind { result ≡ 0 → drop len.new out.new ≡ drop len.new out.old }
-    ensures past { result ≡ 3 → IfSome handle.old.table (λ table. length table.model.names ≤ place) }
-    ensures no_room { result ≡ 4 → length out.old < len.new }
-    ensures needed { result ≡ 4 → IfSome handle.old.table (HasName place len.new) }
+    ensures past { result ≡ 44 → IfSome handle.old.table (λ table. length table.model.names ≤ place) }
+    ensures no_room { result ≡ 45 → length out.old < len.new }
+    ensures needed { result ≡ 45 → IfSome handle.old.table (HasName place len.new) }
     ensures untouched { result ≢ 0 → out.new ≡ out.old }
     ensures same_node { result ≢ 0 → node.new ≡ node.old }
-    ensures same_length { result ≢ 0 → result ≢ 4 → len.new ≡ len.old }
-    ensures numbers { result ≤ 4 }
-    ensures no_memory { result ≢ 1 }
+    ensures same_length { result ≢ 0 → result ≢ 45 → len.new ≡ len.old }
+    ensures numbers { IsOwn 43 45 result }
 {
     let Some(held) = mem::replace(handle, Handle::none(alloc)).into_box() else {
         return Refusal::NotLoaded.number();
@@ -210,17 +215,17 @@ pub extern "C" fn idlc_encode(
 ) -> u32
     ensures kept { handle.new.table ≡ handle.old.table }
     ensures names { handle.new.names ≡ handle.old.names }
-    ensures loaded { (result ≡ 2) ↔ (handle.old.table ≡ None) }
+    ensures loaded { (result ≡ 43) ↔ (handle.old.table ≡ None) }
     ensures done { result ≡ 0 → IfSome handle.old.table (λ table.
         Means table.model.graph (writing (order_of little)) 64 node pos tape.now (take len.new out.new)) }
     ensures within { result ≡ 0 → len.new ≤ length out.old }
     ensures behind { result ≡ 0 → drop len.new out.new ≡ drop len.new out.old }
-    ensures unnamed { result ≡ 3 → IfSome handle.old.table (λ table. IsNamed table.model.names node → ⊥) }
-    ensures no_room { result ≡ 4 → length out.old < len.new }
-    ensures needed { result ≡ 4 → IfSome handle.old.table (HasOctets node (order_of little) pos tape.now len.new) }
+    ensures unnamed { result ≡ 44 → IfSome handle.old.table (λ table. IsNamed table.model.names node → ⊥) }
+    ensures no_room { result ≡ 45 → length out.old < len.new }
+    ensures needed { result ≡ 45 → IfSome handle.old.table (HasOctets node (order_of little) pos tape.now len.new) }
     ensures refused { 60 ≤ result → IfSome handle.old.table (HasNoOctets node (order_of little) pos tape.now) }
     ensures untouched { result ≢ 0 → out.new ≡ out.old }
-    ensures same_length { result ≢ 0 → result ≢ 4 → len.new ≡ len.old }
+    ensures same_length { result ≢ 0 → result ≢ 45 → len.new ≡ len.old }
     ensures numbers { IsOfValue result }
 {
     let Some(held) = mem::replace(handle, Handle::none(alloc)).into_box() else {
@@ -256,19 +261,19 @@ pub extern "C" fn idlc_decode(
 ) -> u32
     ensures kept { handle.new.table ≡ handle.old.table }
     ensures names { handle.new.names ≡ handle.old.names }
-    ensures loaded { (result ≡ 2) ↔ (handle.old.table ≡ None) }
+    ensures loaded { (result ≡ 43) ↔ (handle.old.table ≡ None) }
     ensures done { result ≡ 0 → IfSome handle.old.table (λ table. Means table.model.graph
         (reading (order_of little)) 64 node pos (take len.new out.new) (take taken.new octets.now)) }
     ensures taken { result ≡ 0 → taken.new ≤ length octets.now }
     ensures within { result ≡ 0 → len.new ≤ length out.old }
     ensures behind { result ≡ 0 → drop len.new out.new ≡ drop len.new out.old }
-    ensures unnamed { result ≡ 3 → IfSome handle.old.table (λ table. IsNamed table.model.names node → ⊥) }
-    ensures no_room { result ≡ 4 → length out.old < len.new }
-    ensures needed { result ≡ 4 → IfSome handle.old.table (HasTape node (order_of little) pos octets.now len.new) }
+    ensures unnamed { result ≡ 44 → IfSome handle.old.table (λ table. IsNamed table.model.names node → ⊥) }
+    ensures no_room { result ≡ 45 → length out.old < len.new }
+    ensures needed { result ≡ 45 → IfSome handle.old.table (HasTape node (order_of little) pos octets.now len.new) }
     ensures refused { 60 ≤ result → IfSome handle.old.table (HasNoTape node (order_of little) pos octets.now) }
     ensures untouched { result ≢ 0 → out.new ≡ out.old }
     ensures not_taken { result ≢ 0 → taken.new ≡ taken.old }
-    ensures same_length { result ≢ 0 → result ≢ 4 → len.new ≡ len.old }
+    ensures same_length { result ≢ 0 → result ≢ 45 → len.new ≡ len.old }
     ensures numbers { IsOfValue result }
 {
     let Some(held) = mem::replace(handle, Handle::none(alloc)).into_box() else {
@@ -304,14 +309,14 @@ pub extern "C" fn idlc_encode_text(
 ) -> u32
     ensures kept { handle.new.table ≡ handle.old.table }
     ensures names { handle.new.names ≡ handle.old.names }
-    ensures loaded { (result ≡ 2) ↔ (handle.old.table ≡ None) }
+    ensures loaded { (result ≡ 43) ↔ (handle.old.table ≡ None) }
     ensures done { result ≡ 0 → IfSome handle.old.table
         (IsOctetsOfText handle.old.names node (order_of little) pos text.now (take len.new out.new)) }
     ensures within { result ≡ 0 → len.new ≤ length out.old }
     ensures behind { result ≡ 0 → drop len.new out.new ≡ drop len.new out.old }
-    ensures unnamed { result ≡ 3 → IfSome handle.old.table (λ table. IsNamed table.model.names node → ⊥) }
-    ensures no_room { result ≡ 4 → length out.old < len.new }
-    ensures needed { result ≡ 4 → IfSome handle.old.table
+    ensures unnamed { result ≡ 44 → IfSome handle.old.table (λ table. IsNamed table.model.names node → ⊥) }
+    ensures no_room { result ≡ 45 → length out.old < len.new }
+    ensures needed { result ≡ 45 → IfSome handle.old.table
         (HasOctetsOfText handle.old.names node (order_of little) pos text.now len.new) }
     ensures refused { 60 ≤ result → result ≤ 68 → IfSome handle.old.table
         (HasNoOctetsOfText handle.old.names node (order_of little) pos text.now) }
@@ -319,7 +324,7 @@ pub extern "C" fn idlc_encode_text(
     ensures told { 110 ≤ result → place.new.number ≡ result }
     ensures untold { result < 110 → place.new ≡ place.old }
     ensures untouched { result ≢ 0 → out.new ≡ out.old }
-    ensures same_length { result ≢ 0 → result ≢ 4 → len.new ≡ len.old }
+    ensures same_length { result ≢ 0 → result ≢ 45 → len.new ≡ len.old }
     ensures numbers { IsOfText result }
 {
     let Some(held) = mem::replace(handle, Handle::none(alloc)).into_box() else {
@@ -347,19 +352,19 @@ pub extern "C" fn idlc_decode_text(
 ) -> u32
     ensures kept { handle.new.table ≡ handle.old.table }
     ensures names { handle.new.names ≡ handle.old.names }
-    ensures loaded { (result ≡ 2) ↔ (handle.old.table ≡ None) }
+    ensures loaded { (result ≡ 43) ↔ (handle.old.table ≡ None) }
     ensures done { result ≡ 0 → IfSome handle.old.table
         (IsTextOfOctets handle.old.names node (order_of little) pos octets.now taken.new (take len.new out.new)) }
     ensures within { result ≡ 0 → len.new ≤ length out.old }
     ensures behind { result ≡ 0 → drop len.new out.new ≡ drop len.new out.old }
-    ensures unnamed { result ≡ 3 → IfSome handle.old.table (λ table. IsNamed table.model.names node → ⊥) }
-    ensures no_room { result ≡ 4 → length out.old < len.new }
-    ensures needed { result ≡ 4 → IfSome handle.old.table
+    ensures unnamed { result ≡ 44 → IfSome handle.old.table (λ table. IsNamed table.model.names node → ⊥) }
+    ensures no_room { result ≡ 45 → length out.old < len.new }
+    ensures needed { result ≡ 45 → IfSome handle.old.table
         (HasTextOfOctets handle.old.names node (order_of little) pos octets.now len.new) }
     ensures refused { 60 ≤ result → IfSome handle.old.table (HasNoTape node (order_of little) pos octets.now) }
     ensures untouched { result ≢ 0 → out.new ≡ out.old }
     ensures not_taken { result ≢ 0 → taken.new ≡ taken.old }
-    ensures same_length { result ≢ 0 → result ≢ 4 → len.new ≡ len.old }
+    ensures same_length { result ≢ 0 → result ≢ 45 → len.new ≡ len.old }
     ensures numbers { IsOfValue result }
 {
     let Some(held) = mem::replace(handle, Handle::none(alloc)).into_box() else {
@@ -377,4 +382,130 @@ pub extern "C" fn idlc_decode_text(
     );
     *handle = Handle::of(held);
     told(answer, len)
+}
+
+/// Writes the request of these fields to the front of the buffer, with the body that the tape of the
+/// node is, and tells how many octets it has, or would have.
+#[unsafe(no_mangle)]
+pub extern "C" fn idlc_write_request(
+    alloc: Global,
+    handle: &mut Handle,
+    node: u32,
+    little: bool,
+    id: u32,
+    flags: u8,
+    key: &[u8],
+    operation: &[u8],
+    tape: &[u8],
+    out: &mut [u8],
+    len: &mut usize,
+) -> u32
+    ensures kept { handle.new.table ≡ handle.old.table }
+    ensures names { handle.new.names ≡ handle.old.names }
+    ensures loaded { (result ≡ 43) ↔ (handle.old.table ≡ None) }
+    ensures done { result ≡ 0 → IfSome handle.old.table
+        (IsRequestBy little id flags key.now operation.now node tape.now (take len.new out.new)) }
+    ensures within { result ≡ 0 → len.new ≤ length out.old }
+    ensures behind { result ≡ 0 → drop len.new out.new ≡ drop len.new out.old }
+    ensures unnamed { result ≡ 44 → IfSome handle.old.table (λ table. IsNamed table.model.names node → ⊥) }
+    ensures no_room { result ≡ 45 → length out.old < len.new }
+    ensures needed { result ≡ 45 → IfSome handle.old.table
+        (HasRequest little id flags key.now operation.now node tape.now len.new) }
+    ensures refused { 90 ≤ result → IfSome handle.old.table
+        (HasNoRequest little id flags key.now operation.now node tape.now result) }
+    ensures untouched { result ≢ 0 → out.new ≡ out.old }
+    ensures same_length { result ≢ 0 → result ≢ 45 → len.new ≡ len.old }
+    ensures numbers { IsOfMessage result }
+{
+    let Some(held) = mem::replace(handle, Handle::none(alloc)).into_box() else {
+        return Refusal::NotLoaded.number();
+    };
+    let head = RequestHead {
+        order: order(little),
+        id,
+        flags,
+        key,
+        operation,
+    };
+    let answer = messages::request(alloc, &held, node, &head, tape, out);
+    *handle = Handle::of(held);
+    message_told(answer, len)
+}
+
+/// Writes the reply to the request of a number to the front of the buffer, with the body that the tape
+/// of the node is, and tells how many octets it has, or would have. The status is the number of a
+/// ReplyStatusType_1_2.
+#[unsafe(no_mangle)]
+pub extern "C" fn idlc_write_reply(
+    alloc: Global,
+    handle: &mut Handle,
+    node: u32,
+    little: bool,
+    id: u32,
+    status: u32,
+    tape: &[u8],
+    out: &mut [u8],
+    len: &mut usize,
+) -> u32
+    ensures kept { handle.new.table ≡ handle.old.table }
+    ensures names { handle.new.names ≡ handle.old.names }
+    ensures loaded { (result ≡ 43) ↔ (handle.old.table ≡ None) }
+    ensures done { result ≡ 0 → IfSome handle.old.table
+        (IsReplyBy little id status node tape.now (take len.new out.new)) }
+    ensures within { result ≡ 0 → len.new ≤ length out.old }
+    ensures behind { result ≡ 0 → drop len.new out.new ≡ drop len.new out.old }
+    ensures unnamed { result ≡ 44 → IfSome handle.old.table (λ table. IsNamed table.model.names node → ⊥) }
+    ensures no_room { result ≡ 45 → length out.old < len.new }
+    ensures needed { result ≡ 45 → IfSome handle.old.table (HasReply little id status node tape.now len.new) }
+    ensures refused { 90 ≤ result → IfSome handle.old.table (HasNoReply little id status node tape.now result) }
+    ensures untouched { result ≢ 0 → out.new ≡ out.old }
+    ensures same_length { result ≢ 0 → result ≢ 45 → len.new ≡ len.old }
+    ensures numbers { IsOfMessage result }
+{
+    let Some(held) = mem::replace(handle, Handle::none(alloc)).into_box() else {
+        return Refusal::NotLoaded.number();
+    };
+    let answer = messages::reply(alloc, &held, node, little, id, status, tape, out);
+    *handle = Handle::of(held);
+    message_told(answer, len)
+}
+
+/// Tells what stands at the front of a stream of messages of which no run of fragments is open. The key
+/// of the object that a request asks for is written to the front of the buffer, and behind it the
+/// operation; it tells how many octets they have together, or would have. Any table serves.
+#[unsafe(no_mangle)]
+pub extern "C" fn idlc_read_message(
+    alloc: Global,
+    handle: &mut Handle,
+    octets: &[u8],
+    message: &mut MessageFront,
+    out: &mut [u8],
+    len: &mut usize,
+) -> u32
+    ensures kept { handle.new.table ≡ handle.old.table }
+    ensures names { handle.new.names ≡ handle.old.names }
+    ensures loaded { (result ≡ 43) ↔ (handle.old.table ≡ None) }
+    ensures done { result ≡ 0 → IsTold octets.now message.new (take len.new out.new) }
+    ensures within { result ≡ 0 → len.new ≤ length out.old }
+    ensures behind { result ≡ 0 → drop len.new out.new ≡ drop len.new out.old }
+    ensures no_room { result ≡ 45 → length out.old < len.new }
+    ensures needed { result ≡ 45 → HasLength (HasTexts octets.now) len.new }
+    ensures refused { 90 ≤ result → HasNoMessage octets.now result }
+    ensures untold { result ≢ 0 → message.new ≡ message.old }
+    ensures untouched { result ≢ 0 → out.new ≡ out.old }
+    ensures same_length { result ≢ 0 → result ≢ 45 → len.new ≡ len.old }
+    ensures numbers { IsOfMessage result }
+{
+    let Some(held) = mem::replace(handle, Handle::none(alloc)).into_box() else {
+        return Refusal::NotLoaded.number();
+    };
+    let answer = giop_buffers::read_message(held.giop(), alloc, octets, message, out);
+    *handle = Handle::of(held);
+    match answer {
+        Ok(written) => {
+            *len = written;
+            0
+        }
+        Err(fault) => buffer_number(fault, len),
+    }
 }

@@ -78,7 +78,7 @@ impl RefusalPlace {
             CheckFault::ExitsTooSmall { at, entry } => RefusalPlace::in_routine(83, at, entry),
             CheckFault::NoRoutine { node } => RefusalPlace::of_node(84, node),
             CheckFault::NamedEntryNotFull { node } => RefusalPlace::of_node(85, node),
-            CheckFault::NoMemory => RefusalPlace::of_node(1, 0),
+            CheckFault::NoMemory => RefusalPlace::of_node(42, 0),
         }
     }
 
@@ -102,7 +102,7 @@ fn file_number(fault: &TableFault) -> u32
         TableFault::RankRises => 53,
         TableFault::Trailing => 54,
         TableFault::EmptyRoutine => 55,
-        TableFault::NoMemory => 1,
+        TableFault::NoMemory => 42,
     }
 }
 
@@ -119,7 +119,7 @@ fn run_number(fault: &RunFault) -> u32
         RunFault::OverBound => 66,
         RunFault::TooDeep => 67,
         RunFault::TapeLeft => 68,
-        RunFault::NoMemory => 1,
+        RunFault::NoMemory => 42,
     }
 }
 
@@ -128,11 +128,11 @@ impl Refusal {
         ensures { result ≡ number_of self.now }
     {
         match self {
-            Refusal::NoMemory => 1,
-            Refusal::NotLoaded => 2,
-            Refusal::NotNamed => 3,
-            Refusal::NoRoom { needed: _ } => 4,
-            Refusal::TooLong => 5,
+            Refusal::NoMemory => 42,
+            Refusal::NotLoaded => 43,
+            Refusal::NotNamed => 44,
+            Refusal::NoRoom { needed: _ } => 45,
+            Refusal::TooLong => 46,
             Refusal::NoTable(fault) => file_number(fault),
             Refusal::NotRight(fault) => RefusalPlace::of_fault(fault).number,
             Refusal::NoValue(fault) => run_number(fault),

@@ -1,0 +1,3 @@
+-- Messages in buffers of the caller's.
+pub mod Messages
+pub mod Fronts
