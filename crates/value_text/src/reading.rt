@@ -100,26 +100,12 @@ pub fn read_value(
             read_elements(cursor, token, alloc, types, *elem, counts, depth)
         }
         Node::Struct { members } => {
-            read_structure(
-                cursor,
-                token,
-                alloc,
-                types,
-                number,
-                members.as_slice(),
-                depth,
-            )
+            let members = members.as_slice();
+            read_structure(cursor, token, alloc, types, number, members, depth)
         }
         Node::Frame { members } => {
-            read_members(
-                cursor,
-                token,
-                alloc,
-                types,
-                number,
-                members.as_slice(),
-                depth,
-            )
+            let members = members.as_slice();
+            read_members(cursor, token, alloc, types, number, members, depth)
         }
         Node::Union {
             switch,
