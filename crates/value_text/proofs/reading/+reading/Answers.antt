@@ -46,7 +46,7 @@ read_value-read_structure-requires t c =
     let number = c.args.number in
     let node : c.in-Some.node.now ≡ node_at graph number = search rules in
     let unfolds = subst (λ found. height_of graph number ≡ above (height_of graph) (held_by found)) (sym node ∙ c.in-Struct.is) (height_unfolds graph c.nodes.ensures.rules number) in
-    let same = ap (above (height_of graph)) c.as_slice.ensures in
+    let same = ap (above (height_of graph)) c.as_slice-members.ensures in
     let d = c.decreases in
     (omega (arith, d, unfolds, same), tt)
 
@@ -56,7 +56,7 @@ read_value-read_members-requires t c =
     let number = c.args.number in
     let node : c.in-Some.node.now ≡ node_at graph number = search rules in
     let unfolds = subst (λ found. height_of graph number ≡ above (height_of graph) (held_by found)) (sym node ∙ c.in-Frame.is) (height_unfolds graph c.nodes.ensures.rules number) in
-    let same = ap (above (height_of graph)) c.as_slice-in-Frame.ensures in
+    let same = ap (above (height_of graph)) c.as_slice-members-in-Frame.ensures in
     let d = c.decreases in
     (omega (arith, d, unfolds, same), tt)
 
@@ -381,7 +381,7 @@ read_value-returns-in-Struct-clause-read t c =
     IfOk-weaker c.read_structure.result _ _ (λ value h.
     subst (λ at. ReadsAs names graph labels at c.args.depth token old (tree_of value) new) is
     (structure_read names graph labels c.in-Struct.members c.args.depth token old (tree_of value) h.0 new h.1
-    (subst (λ l. ReadsStructure names graph labels l c.args.depth token old h.0 new) c.as_slice.ensures h.2))) c.read_structure.ensures.read
+    (subst (λ l. ReadsStructure names graph labels l c.args.depth token old h.0 new) c.as_slice-members.ensures h.2))) c.read_structure.ensures.read
 
 pub read_value-returns-in-Struct-clause-refused : goal.read_value-returns-in-Struct-clause-refused
 read_value-returns-in-Struct-clause-refused t c =
@@ -389,7 +389,7 @@ read_value-returns-in-Struct-clause-refused t c =
     let number = c.args.number in
     let node : c.in-Some.node.now ≡ node_at graph number = search rules in
     IfErr-weaker c.read_structure.result _ _ (λ stop. refuses_weaker stop
-    (no_structure c.args.types.now.names.now graph number c.args.depth (token_of c.args.token) c.args.cursor.now c.in-Some.node.now c.in-Struct.members _ node c.in-Struct.is c.as_slice.ensures)) c.read_structure.ensures.refused
+    (no_structure c.args.types.now.names.now graph number c.args.depth (token_of c.args.token) c.args.cursor.now c.in-Some.node.now c.in-Struct.members _ node c.in-Struct.is c.as_slice-members.ensures)) c.read_structure.ensures.refused
 
 pub read_value-returns-in-Frame-clause-refused : goal.read_value-returns-in-Frame-clause-refused
 read_value-returns-in-Frame-clause-refused t c =
@@ -397,7 +397,7 @@ read_value-returns-in-Frame-clause-refused t c =
     let number = c.args.number in
     let node : c.in-Some.node.now ≡ node_at graph number = search rules in
     IfErr-weaker c.read_members.result _ _ (λ stop. refuses_weaker stop
-    (no_members c.args.types.now.names.now graph number c.args.depth (token_of c.args.token) c.args.cursor.now c.in-Some.node.now c.in-Frame.members _ node c.in-Frame.is c.as_slice-in-Frame.ensures)) c.read_members.ensures.refused
+    (no_members c.args.types.now.names.now graph number c.args.depth (token_of c.args.token) c.args.cursor.now c.in-Some.node.now c.in-Frame.members _ node c.in-Frame.is c.as_slice-members-in-Frame.ensures)) c.read_members.ensures.refused
 
 pub read_structure-returns-in-String-clause-read : goal.read_structure-returns-in-String-clause-read
 read_structure-returns-in-String-clause-read t c =
