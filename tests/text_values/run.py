@@ -31,6 +31,7 @@ typedef sequence<boolean, 2> Flags;
 typedef long Pair[2];
 struct Tree {octet head; sequence<Tree> kids;};
 interface I { Point move(in Point by, in Color c); };
+struct Holder {Object it;};
 """
 
 # type, text, octets in big order at position 0
@@ -52,6 +53,9 @@ ROWS = [
     ("Letters", '["a","b"]', "000000026162"),
     ("Flags", "[true,false]", "000000020100"),
     ("Pair", "[-2147483648,2147483647]", "800000007fffffff"),
+    ("Holder", '{"it":"IOR:000000000000000a49444c3a503a312e3000000000000001000000000000000100"}',
+     "0000000a49444c3a503a312e3000" "0000" "00000001" "00000000" "0000000100"),
+    ("Holder", '[["IDL:P:1.0",[[0,"00"]]]]', "0000000a49444c3a503a312e3000" "0000" "00000001" "00000000" "0000000100"),
     ("Tree", '{"head":1,"kids":[{"head":2,"kids":[]}]}', "01000000" "00000001" "02000000" "00000000"),
 ]
 
@@ -69,6 +73,7 @@ REFUSED = [
     ("Raw", '"abc"', "116 NotDigits line 1 column 1"),
     ("Flags", "true", "117 NotAList line 1 column 1"),
     ("Point", "3", "118 NotMembers line 1 column 1"),
+    ("Holder", '["IOR:00"]', "118 NotMembers line 1 column 2"),
     ("Point", '{\n "x": 3,\n "z": 4}', "119 NoSuchMember line 3 column 2"),
     ("Point", '{"x":3,"x":4}', "120 MemberTwice line 1 column 8"),
     ("Point", '{"x":3}', "121 MemberMissing line 1 column 7"),
@@ -88,6 +93,7 @@ OUTLINES = [
     'Letters = "characters"',
     "Flags = [boolean, ..] of at most 2",
     "Pair = [long, ..] of 2",
+    'I = "IOR:.."',
 ]
 
 

@@ -82,6 +82,35 @@ class Text:
         octets.all += value.encode("latin-1") + b"\0"
 
 
+class Reference:
+    """An object reference: `IOR:` and the digits of its encapsulation in big order."""
+
+    idl = "Object"
+
+    def __init__(self):
+        self.parts = {}
+
+    def random(self, rng):
+        profiles = [(rng.randint(0, (1 << 32) - 1), rng.randbytes(rng.randint(0, 9))) for _ in range(rng.randint(0, 3))]
+        parts = Text(0).random(rng), profiles
+        encapsulation = Octets("big", 1)
+        self.write_parts(encapsulation, *parts)
+        text = f"IOR:00{encapsulation.all.hex()}"
+        self.parts[text] = parts
+        return text
+
+    def write_parts(self, octets, type_id, profiles):
+        Text(0).write(octets, type_id)
+        octets.number(len(profiles), 4, False)
+        for tag, data in profiles:
+            octets.number(tag, 4, False)
+            octets.number(len(data), 4, False)
+            octets.all += data
+
+    def write(self, octets, value):
+        self.write_parts(octets, *self.parts[value])
+
+
 class Enumeration:
     def __init__(self, idl, names):
         self.idl = idl
@@ -158,7 +187,8 @@ class Union:
 
 
 def simple(rng):
-    return rng.choice([Integer(rng.choice(list(INTEGERS))), Octet(), Boolean(), Char(), Text(0), Text(rng.randint(1, 9))])
+    whole = Integer(rng.choice(list(INTEGERS)))
+    return rng.choice([whole, Octet(), Boolean(), Char(), Text(0), Text(rng.randint(1, 9)), Reference()])
 
 
 def types(rng, count):

@@ -7,6 +7,7 @@ use std::fmt;
 use table_commands::Escaped;
 use type_graph::{Graph, Node, Width};
 use type_model::Model;
+use value_text::refers;
 
 /// The types of a table: their names, by the numbers of their nodes, and those of their parts.
 #[derive(Drop)]
@@ -189,6 +190,19 @@ impl<'t> Types<'t> {
         }
     }
 
+    /// The members of a structure, or the string of an object reference.
+    fn write_structure<W: fmt::Write>(
+        &self,
+        f: &mut fmt::Formatter<W>,
+        node: u32,
+        members: &[u32],
+    ) -> fmt::Result {
+        if refers(self.graph, self.parts.of(node), members) {
+            return f.write_str("\"IOR:..\"");
+        }
+        self.write_members(f, node, members)
+    }
+
     /// The members of a structure or a frame, with their names.
     fn write_members<W: fmt::Write>(
         &self,
@@ -247,7 +261,10 @@ impl fmt::Display for Outline<'_> {
                 types.write_elements(f, *elem)?;
                 write!(f, " of {n}")
             }
-            Some(Node::Struct { members }) | Some(Node::Frame { members }) => {
+            Some(Node::Struct { members }) => {
+                types.write_structure(f, self.node, members.as_slice())
+            }
+            Some(Node::Frame { members }) => {
                 types.write_members(f, self.node, members.as_slice())
             }
             Some(

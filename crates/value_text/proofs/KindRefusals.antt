@@ -12,8 +12,11 @@ use Rattle.idl_value.specs.declared.value.Value.{Value}
 use Rattle.idl_value.specs.View.{trees_of}
 use Rattle.value_text.specs.Pieces.{characters, octet_of, octets_of, joined, paired}
 use Rattle.value_text.specs.Says.{SaysNumber, SaysTogether, IsList, Says, SayAll}
-use Rattle.value_text.specs.inner.Reading.{Next, IsString, Reads, ReadsAs, ReadsItems, ReadsElements, ReadsParts, ReadsList, ReadsCopies, ReadsMembers, ReadsObject}
+use Rattle.value_text.specs.inner.Reading.{Next, IsString, Reads, ReadsAs, ReadsItems, ReadsElements, ReadsParts, ReadsList, ReadsCopies, ReadsMembers, ReadsStructure, ReadsObject}
 use Rattle.value_text.specs.inner.Refusing.{IsLow, IsNamed, AreOctets, AreSound, ReadsNone}
+use Rattle.reference_values.specs.Stringified.{Stringifies, FitsObject}
+use Rattle.value_text.specs.Texts.{refers}
+use Rattle.value_text.proofs.References.{fits_object}
 use Rattle.value_text.proofs.Printed.{fit_count}
 use Rattle.value_text.proofs.ReadLaws.{IsByte, together_byte, count_trees, as_many}
 use Rattle.value_text.proofs.Firsts.{IsFirst, number_first}
@@ -144,9 +147,21 @@ module _ (names : List (List (List ℕ))) (graph : List Node) where
   -- ---- members
 
   pub structure_said : (labels : List (List ℕ)) (members : List ℕ) (depth : ℕ) (token : Token) (old : List Token) (value : Tree) (new : List Token)
-      → ReadsAs names graph labels (Struct members) depth token old value new → (values : Trees) × ReadsMembers names graph labels members depth token old values new
-  structure_said labels members depth token old (Items values) new a =
-      (values, record { good = a.good; more = a.more; cut = a.cut; fit = a.fits; texts = a.says.0; say = a.says.1; whole = a.says.2 })
+      → ReadsAs names graph labels (Struct members) depth token old value new → (values : Trees) × ReadsStructure names graph labels members depth token old values new
+  structure_said labels members depth token old (Items values) new a = (
+    values,
+    elim a.says [
+      | inl h ↦ inl (record {
+        is_one = h.0;
+        text = h.1;
+        token_is = ap first_of_tokens h.3;
+        spelled = h.2;
+        fit = a.fits;
+        same = a.cut ∙ ap (λ l. l ++ new) (ap (drop 1) h.3);
+      })
+      | inr h ↦ inr (record { good = a.good; more = a.more; cut = a.cut; fit = a.fits; texts = h.0; say = h.1; whole = h.2 })
+    ],
+  )
   structure_said labels members depth token old value new a = absurd a.fits
 
   pub frame_said : (labels : List (List ℕ)) (members : List ℕ) (depth : ℕ) (token : Token) (old : List Token) (value : Tree) (new : List Token)
@@ -272,13 +287,16 @@ module _ (names : List (List (List ℕ))) (graph : List Node) (number depth : �
       let counted = said.1 in
       none sound said.0 new (omega (arith, low, counted), omega (arith, high, counted), said.2)
 
-  pub no_members : (node : Node) (members listed : List ℕ) → node ≡ node_at graph number → (node ≡ Struct members) ⊎ (node ≡ Frame members) → listed ≡ members
-      → (AreApart own → ReadsNone names graph (ReadsMembers names graph own listed depth token old)) → ReadsNone names graph (Reads names graph number depth token old)
-  no_members node members listed is (inl kind) same none = λ sound value new a.
+  pub no_structure : (node : Node) (members listed : List ℕ) → node ≡ node_at graph number → node ≡ Struct members → listed ≡ members
+      → (AreApart own → ReadsNone names graph (ReadsStructure names graph own listed depth token old)) → ReadsNone names graph (Reads names graph number depth token old)
+  no_structure node members listed is kind same none = λ sound value new a.
       let at = sym is ∙ kind in
       let said = structure_said names graph own members depth token old value new (subst (λ at. ReadsAs names graph own at depth token old value new) at a) in
-      none (subst (λ at. IsNamed at own) at (all_named names graph sound.apart number)) sound said.0 new (subst (λ l. ReadsMembers names graph own l depth token old said.0 new) (sym same) said.1)
-  no_members node members listed is (inr kind) same none = λ sound value new a.
+      none (subst (λ at. IsNamed at own) at (all_named names graph sound.apart number)) sound said.0 new (subst (λ l. ReadsStructure names graph own l depth token old said.0 new) (sym same) said.1)
+
+  pub no_members : (node : Node) (members listed : List ℕ) → node ≡ node_at graph number → node ≡ Frame members → listed ≡ members
+      → (AreApart own → ReadsNone names graph (ReadsMembers names graph own listed depth token old)) → ReadsNone names graph (Reads names graph number depth token old)
+  no_members node members listed is kind same none = λ sound value new a.
       let at = sym is ∙ kind in
       let said = frame_said names graph own members depth token old value new (subst (λ at. ReadsAs names graph own at depth token old value new) at a) in
       none (subst (λ at. IsNamed at own) at (all_named names graph sound.apart number)) sound said.0 new (subst (λ l. ReadsMembers names graph own l depth token old said.0 new) (sym same) said.1)
@@ -321,6 +339,29 @@ module _ (names : List (List (List ℕ))) (graph : List Node) (depth : ℕ) (tok
       in_string : (token : Token) → ((text : List ℕ) → token ≡ string text → ⊥) → Is_string token → ⊥
       in_string (string text) none h = none text refl
       in_string token none h = absurd h
+
+  -- what begins with no string is no object reference's string
+  pub only_members : (labels : List (List ℕ)) (members : List ℕ) → ((text : List ℕ) → token ≡ string text → ⊥)
+      → (AreApart labels → ReadsNone names graph (ReadsMembers names graph labels members depth token old))
+      → AreApart labels → ReadsNone names graph (ReadsStructure names graph labels members depth token old)
+  only_members labels members no_string none = λ apart sound values new a. elim a [
+    | inl h ↦ no_string h.text h.token_is
+    | inr h ↦ none apart sound values new h
+  ]
+
+  -- a string is nothing else
+  pub no_reference : (labels : List (List ℕ)) (members : List ℕ) (text : List ℕ) → token ≡ string text
+      → ((value : Tree) → refers graph labels members ≡ true → Stringifies text value → FitsObject value depth → ⊥)
+      → AreApart labels → ReadsNone names graph (ReadsStructure names graph labels members depth token old)
+  no_reference labels members text is none = λ apart sound values new a. elim a [
+    | inl h ↦
+        let same : h.text ≡ text = ap text_in (sym h.token_is ∙ is) in
+        none (Items values) h.is_one (subst (λ words. Stringifies words (Items values)) same h.spelled) (fits_object graph labels members values depth h.is_one h.fit)
+    | inr h ↦ elim (members_begin names graph labels members depth token old values new h) [
+      | inl k ↦ absurd (subst Is_string (sym is ∙ k.0) tt)
+      | inr k ↦ absurd (subst Is_string (sym is ∙ k) tt)
+    ]
+  ]
 
   pub no_object : (labels : List (List ℕ)) (members : List ℕ) → token ≡ begin_object → length labels ≡ length members
       → (AreApart labels → length labels ≡ length members → ReadsNone names graph (ReadsObject names graph labels members depth old))

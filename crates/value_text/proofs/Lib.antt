@@ -1,6 +1,6 @@
 pub mod Numerals
-pub mod Pieces
 pub mod Writing
+pub mod References
 pub mod Printed
 pub mod Firsts
 pub mod Slots

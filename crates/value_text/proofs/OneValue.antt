@@ -5,7 +5,7 @@ use Rattle.std.specs.List.{AllByRecursion}
 use Rattle.std.proofs.lemmas.Str.{encodes_same}
 use Rattle.std.proofs.lemmas.List.{get_or_past}
 use Rattle.std.proofs.lemmas.Option.{slice_get_cases}
-use Rattle.json.specs.Token.{Token, begin_array, end_object, end_array}
+use Rattle.json.specs.Token.{Token, string, begin_array, end_object, end_array}
 use Rattle.hex.specs.Hex.{decode_of}
 use Rattle.part_names.specs.Names.{names_at, AreApart}
 use Rattle.type_graph.specs.declared.node.Node.{Node}
@@ -13,8 +13,10 @@ use Rattle.type_graph.specs.declared.node.Node.TheVariants.{Octet, Char, Enum, T
 use Rattle.type_graph.specs.Value.{Tree, Number, Bytes, Items, Choice, Trees, NoTree, AndTree, count, node_at, arm_of, IsNumber, Fits, FitAll}
 use Rattle.type_graph.specs.GraphRules.{IsNode, IsGraph}
 use Rattle.value_text.specs.Pieces.{octets_of, joined, paired}
-use Rattle.value_text.specs.Says.{SaysNumber, SaysTogether, IsObject, IsList, Says, SayAll, StandsFor}
+use Rattle.value_text.specs.Says.{SaysNumber, SaysTogether, SaysReference, IsObject, IsList, Says, SayAll, StandsFor}
 use Rattle.value_text.specs.inner.Refusing.{IsLow, IsNamed}
+use Rattle.reference_values.specs.Stringified.{Stringifies}
+use Rattle.reference_values.proofs.Spelled.{one_value as one_reference}
 use Rattle.value_text.proofs.Printed.{fit_count}
 use Rattle.value_text.proofs.Firsts.{IsFirst, says_begun}
 use Rattle.value_text.proofs.ReadLaws.{IsByte, together_byte}
@@ -235,6 +237,37 @@ module _ (names : List (List (List ℕ))) (graph : List Node) where
         (subst (λ l. IsPermutation l b.pairs) both.seconds b.in_some_order) inside in
         (both.same found.0, found.1)
 
+    -- ---- object references
+
+    two_references : (labels : List (List ℕ)) (numbers : List ℕ) (vs ws : Trees) (t u r s : List Token) → SaysReference graph labels numbers vs t
+        → SaysReference graph labels numbers ws u → t ++ r ≡ u ++ s → (Items vs ≡ Items ws) × (r ≡ s)
+    two_references labels numbers vs ws t u r s h k e =
+        let whole = ap (λ l. l ++ r) (sym h.3) ∙ e ∙ ap (λ l. l ++ s) k.3 in
+        let same : h.1 ≡ k.1 = ap text_in (ap first_of_tokens whole) in
+        (one_reference h.1 (Items vs) (Items ws) h.2 (subst (λ words. Stringifies words (Items ws)) (sym same) k.2), ap (drop 1) whole)
+
+    -- a string is neither an object nor a list
+    string_members : (words : List ℕ) (own : List (List ℕ)) (us : List (List Token)) (t u r s : List Token) → t ≡ string words ∷ []
+        → IsObject own us u ⊎ IsList us u → t ++ r ≡ u ++ s → ⊥
+    string_members words own us t u r s h (inl k) e =
+        subst Is_string (ap first_of_tokens (ap (λ l. l ++ r) (sym h) ∙ e ∙ ap (λ l. l ++ s) k.is_object)) tt
+    string_members words own us t u r s h (inr k) e =
+        subst Is_string (ap first_of_tokens (ap (λ l. l ++ r) (sym h) ∙ e ∙ ap (λ l. l ++ s) k)) tt
+
+    abbrev Structure : List (List ℕ) → List ℕ → Trees → List Token → Type 0
+    Structure labels numbers values tokens = SaysReference graph labels numbers values tokens
+        ⊎ ((texts : List (List Token)) × SayAll names graph numbers values texts × (IsObject labels texts tokens ⊎ IsList texts tokens))
+
+    structures : (labels : List (List ℕ)) (numbers : List ℕ) (depth other : ℕ) (vs ws : Trees) (t u r s : List Token) → AreApart labels → AreOne vs
+        → FitAll graph numbers vs depth → FitAll graph numbers ws other → Structure labels numbers vs t → Structure labels numbers ws u → t ++ r ≡ u ++ s
+        → (Items vs ≡ Items ws) × (r ≡ s)
+    structures labels numbers depth other vs ws t u r s distinct one f g (inl h) (inl k) e = two_references labels numbers vs ws t u r s h k e
+    structures labels numbers depth other vs ws t u r s distinct one f g (inl h) (inr k) e = absurd (string_members h.1 labels k.0 t u r s h.3 k.2 e)
+    structures labels numbers depth other vs ws t u r s distinct one f g (inr h) (inl k) e = absurd (string_members k.1 labels h.0 u t s r k.3 h.2 (sym e))
+    structures labels numbers depth other vs ws t u r s distinct one f g (inr h) (inr k) e =
+        let both = object_or_list labels numbers depth other vs ws h.0 k.0 t u r s distinct one f g h.1 k.1 h.2 k.2 e in
+        (ap Items both.0, both.1)
+
     -- ---- by kinds
 
     one_text : (text : List ℕ) → IsOne (Bytes text)
@@ -279,8 +312,7 @@ module _ (names : List (List (List ℕ))) (graph : List Node) where
         (subst (λ m. Elements elem m vs t) first h) (subst (λ m. Elements elem m ws u) second k) e in
         (ap Items both.0, both.1)
     one_items vs one labels (Struct numbers) depth other (Items ws) t u r s short distinct f g h k e =
-        let both = object_or_list labels numbers depth other vs ws h.0 k.0 t u r s distinct one f g h.1 k.1 h.2 k.2 e in
-        (ap Items both.0, both.1)
+        structures labels numbers depth other vs ws t u r s distinct one f g h k e
     one_items vs one labels (Frame numbers) depth other (Items ws) t u r s short distinct f g h k e =
         let both = object_or_list labels numbers depth other vs ws h.0 k.0 t u r s distinct one f g h.1 k.1 h.2 k.2 e in
         (ap Items both.0, both.1)

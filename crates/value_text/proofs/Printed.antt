@@ -11,8 +11,10 @@ use Rattle.type_graph.specs.declared.node.Node.{Node}
 use Rattle.type_graph.specs.declared.node.Node.TheVariants.{Octet, Char, Boolean, Enum, Text, Seq, Array, Struct, Union, Frame}
 use Rattle.type_graph.specs.Value.{Tree, Number, Bytes, Items, Choice, Trees, NoTree, AndTree, count, node_at, arm_of, Fits, FitAll}
 use Rattle.value_text.specs.Pieces.{octet_of, octet_of_tree, octets_of, listed, object_of, are_named}
-use Rattle.value_text.specs.Texts.{label_of, enumerator_of, number_text, elements_text, members_text, text_of, texts_of}
+use Rattle.reference_values.specs.Printed.{reference_text}
+use Rattle.value_text.specs.Texts.{label_of, enumerator_of, number_text, elements_text, members_text, refers, structure_text, text_of, texts_of}
 use Rattle.value_text.specs.Says.{SaysNumber, SaysTogether, IsObject, IsList, Says, SayAll}
+use Rattle.value_text.proofs.References.{printed_one}
 
 -- a number's text says it
 enumerator_says : (labels : List (List ℕ)) (limit : ℕ) (n : ℤ) (label : Option (List ℕ)) → label_of labels n ≡ label → SaysNumber labels (Enum limit) n (enumerator_of label n)
@@ -87,6 +89,20 @@ module _ (names : List (List (List ℕ))) (graph : List Node) where
   elements_say Char n elem values texts say = inl refl
   elements_say node n elem values texts say = inr (texts, say, refl)
 
+  -- a structure, by its members or as an object reference
+  structure_says : (labels : List (List ℕ)) (members : List ℕ) (values : Trees) (depth : ℕ) → FitAll graph members values depth
+      → SayAll names graph members values (texts_of names graph members values)
+      → Says names graph labels (Struct members) (Items values) (text_of names graph labels (Struct members) (Items values))
+  structure_says labels members values depth h say = by_shape (refers graph labels members) refl
+    where
+      texts : List (List Token)
+      texts = texts_of names graph members values
+
+      by_shape : (b : Bool) → refers graph labels members ≡ b
+          → Says names graph labels (Struct members) (Items values) (structure_text b values (members_text labels (length members) texts))
+      by_shape true e = inl (e, reference_text values, printed_one graph labels members values depth e h, refl)
+      by_shape false e = inr (texts, say, members_say labels (length members) texts (as_many_texts members values depth h))
+
   mutual
     pub says : (labels : List (List ℕ)) (node : Node) (value : Tree) (depth : ℕ) → Fits graph node value depth → Says names graph labels node value (text_of names graph labels node value)
     says labels node (Number n) depth h = (number_text labels node n, number_says labels node n, refl)
@@ -98,8 +114,7 @@ module _ (names : List (List (List ℕ))) (graph : List Node) where
         (sym (fit_count graph n elem depth values h))
         (elements_say (node_at graph elem) n elem values (texts_of names graph (replicate n elem) values) (all_say (replicate n elem) values depth h))
     says labels (Struct members) (Items values) depth h =
-        let texts = texts_of names graph members values in
-        (texts, all_say members values depth h, members_say labels (length members) texts (as_many_texts members values depth h))
+        structure_says labels members values depth h (all_say members values depth h)
     says labels (Frame members) (Items values) depth h =
         let texts = texts_of names graph members values in
         (texts, all_say members values depth h, members_say labels (length members) texts (as_many_texts members values depth h))

@@ -1,5 +1,5 @@
 -- What is read, part by part.
-use Rattle.std.proofs.Common.{◌≡◌, ◌≢◌, ◌⊎◌, inl, inr, ◌+◌, ◌<◌, ◌≤◌, ℕ, zero, suc, ℤ, List, [], ◌∷◌, ◌++◌, length, map, replicate, take, get_or, Option, Some, None, slice_get, refl, sym, ap, ◌∙◌, subst, add-one, append_assoc, arith}
+use Rattle.std.proofs.Common.{◌≡◌, ◌≢◌, ◌⊎◌, inl, inr, ◌+◌, ◌<◌, ◌≤◌, ℕ, zero, suc, ℤ, List, [], ◌∷◌, ◌++◌, length, map, true, replicate, take, get_or, Option, Some, None, slice_get, refl, sym, ap, ◌∙◌, subst, add-one, append_assoc, arith}
 use Rattle.std.specs.Prelude.{set, IsPermutation, option_to_list}
 use Rattle.std.specs.List.{AllByRecursion}
 use Rattle.std.proofs.lemmas.List.{append-nil}
@@ -10,7 +10,7 @@ use Rattle.std.proofs.Math.Seq.{take-suc}
 use Rattle.json.specs.Token.{Token, key, string, begin_object, begin_array, end_object, end_array, bad}
 use Rattle.part_names.specs.Names.{names_at}
 use Rattle.type_graph.specs.declared.node.Node.{Node}
-use Rattle.type_graph.specs.declared.node.Node.TheVariants.{Octet, Char, Text, Array, Union}
+use Rattle.type_graph.specs.declared.node.Node.TheVariants.{Octet, Char, Text, Array, Struct, Union}
 use Rattle.type_graph.specs.Value.{Tree, Number, Items, Choice, Trees, NoTree, AndTree, count, node_at, arm_of, IsNumber, Fits, FitAll}
 use Rattle.type_graph.specs.GraphRules.{held_by}
 use Rattle.type_graph.specs.Walks.{above}
@@ -20,8 +20,11 @@ use Rattle.idl_value.specs.View.{tree_of, trees_of}
 use Rattle.value_text.specs.Pieces.{octets_of, joined, paired}
 use Rattle.value_text.specs.Says.{SaysNumber, SaysTogether, IsList, Says, SayAll}
 use Rattle.value_text.specs.inner.Slots.{AreParts, given}
-use Rattle.value_text.specs.inner.Reading.{Next, IsOctet, IsOctets, IsString, Reads, ReadsAs, ReadsItems, ReadsParts, ReadsList, ReadsMembers, ReadsSlots, ReadsObject, SaysMember}
-use Rattle.value_text.proofs.Pieces.{octets_of-trees}
+use Rattle.value_text.specs.inner.Reading.{Next, IsOctet, IsOctets, IsString, Reads, ReadsAs, ReadsItems, ReadsParts, ReadsList, ReadsMembers, ReadsStructure, ReadsSlots, ReadsObject, SaysMember}
+use Rattle.reference_values.proofs.Parts.{octets_of-trees}
+use Rattle.reference_values.specs.Stringified.{Stringifies, FitsObject}
+use Rattle.value_text.specs.Texts.{refers}
+use Rattle.value_text.proofs.References.{object_members, object_fits}
 use Rattle.value_text.proofs.Firsts.{IsFirst, number_first}
 use Rattle.value_text.proofs.Slots.{slots_empty, slot_free, slot_filled, slots_whole, given_none, given_more}
 
@@ -295,6 +298,44 @@ module _ (names : List (List (List ℕ))) (graph : List Node) where
           is_object = ap (λ t. t ∷ more) opens;
         });
       }
+
+  -- a structure is its members, or the string of an object reference
+  pub structure_read : (labels : List (List ℕ)) (numbers : List ℕ) (depth : ℕ) (token : Token) (old : List Token) (value : Tree) (values : Trees) (new : List Token)
+      → value ≡ Items values → ReadsStructure names graph labels numbers depth token old values new
+      → ReadsAs names graph labels (Struct numbers) depth token old value new
+  structure_read labels numbers depth token old value values new e (inl h) = record {
+    good = λ is. subst IsFirst (sym h.token_is ∙ is) tt;
+    more = [];
+    cut = h.same;
+    fits = subst (λ v. Fits graph (Struct numbers) v depth) (sym e) h.fit;
+    says = subst (λ v. Says names graph labels (Struct numbers) v (token ∷ [])) (sym e)
+        (inl (h.is_one, h.text, h.spelled, ap (λ t. t ∷ []) h.token_is));
+  }
+  structure_read labels numbers depth token old value values new e (inr h) = record {
+    good = h.good;
+    more = h.more;
+    cut = h.cut;
+    fits = subst (λ v. Fits graph (Struct numbers) v depth) (sym e) h.fit;
+    says = subst (λ v. Says names graph labels (Struct numbers) v (token ∷ h.more)) (sym e) (inr (h.texts, h.say, h.whole));
+  }
+
+  pub reference_read : (labels : List (List ℕ)) (numbers : List ℕ) (depth : ℕ) (token : Token) (text : List ℕ) (old : List Token) (value : Tree) (new : List Token)
+      → token ≡ string text → new ≡ old → refers graph labels numbers ≡ true → Stringifies text value → FitsObject value depth
+      → (values : Trees) × (value ≡ Items values) × ReadsStructure names graph labels numbers depth token old values new
+  reference_read labels numbers depth token text old value new is same one spelled fits =
+      let found = object_members value depth fits in
+      let values = found.0 in (
+        values,
+        found.1,
+        inl (record {
+          is_one = one;
+          text = text;
+          token_is = is;
+          spelled = subst (Stringifies text) found.1 spelled;
+          fit = object_fits graph labels numbers values depth one (subst (λ v. FitsObject v depth) found.1 fits);
+          same = sym same;
+        }),
+      )
 
   pub row_read : (labels : List (List ℕ)) (numbers : List ℕ) (depth : ℕ) (token : Token) (old : List Token) (values : Trees) (new : List Token)
       → token ≡ begin_array → ReadsList names graph numbers depth old values new → ReadsMembers names graph labels numbers depth token old values new

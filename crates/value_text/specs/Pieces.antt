@@ -1,9 +1,9 @@
 -- Pieces of the texts of values. A text is JSON (RFC 8259), seen as the tokens of the crate json of the kit.
-use Rattle.std.specs.Prelude.{ℕ, suc, ℤ, pos, negsuc, nat_lt, Bool, false, ◌==◌, if◌then◌else◌}
+use Rattle.std.specs.Prelude.{ℕ, suc, ℤ, Bool, false, ◌==◌}
 use Rattle.std.specs.Prelude.{List, [], ◌∷◌, ◌++◌, length, encode_utf8_all}
 use Rattle.std.specs.Fmt.{signed_decimal}
 use Rattle.json.specs.Token.{Token, begin_object, end_object, begin_array, end_array, key, number}
-use Rattle.type_graph.specs.Value.{Tree, Number, Trees, NoTree, AndTree}
+pub use Rattle.reference_values.specs.Octets.{octet_of, octet_of_tree, octets_of}
 
 -- octet n as the character U+00nn: every octet has one, and no two have the same
 abbrev pub characters : List ℕ → List ℕ
@@ -12,20 +12,6 @@ characters octets = encode_utf8_all octets
 -- a number without a fraction, an exponent or a needless sign
 abbrev pub digits : ℤ → Token
 digits n = number (signed_decimal n)
-
--- the octet that a number is; what is none counts as 0
-abbrev pub octet_of : ℤ → ℕ
-octet_of (pos n) = if nat_lt n 256 then n else 0
-octet_of (negsuc n) = 0
-
-abbrev pub octet_of_tree : Tree → ℕ
-octet_of_tree (Number n) = octet_of n
-octet_of_tree value = 0
-
--- those of elements, in order
-abbrev pub octets_of : Trees → List ℕ
-octets_of NoTree = []
-octets_of (AndTree value more) = octet_of_tree value ∷ octets_of more
 
 -- one text behind the other
 abbrev pub joined : List (List Token) → List Token

@@ -1,7 +1,7 @@
 -- What a text says: a relation, since a value has more texts than the one that is printed. Each rule has the texts that
 -- it refuses beside it.
 use Rattle.std.specs.Prelude.{◌≡◌, ◌⊎◌, ℕ, ℤ, List, [], ◌∷◌, length, replicate, zip, Some, IsPermutation}
-use Rattle.std.specs.Prelude.{Ok}
+use Rattle.std.specs.Prelude.{Ok, true}
 use Rattle.json.specs.Token.{Token, string, boolean}
 use Rattle.hex.specs.Hex.{decode_of}
 use Rattle.part_names.specs.Names.{names_at}
@@ -9,7 +9,8 @@ use Rattle.type_graph.specs.declared.node.Node.{Node}
 use Rattle.type_graph.specs.declared.node.Node.TheVariants.{Octet, Char, Boolean, Enum, Text, Seq, Array, Struct, Union, Frame}
 use Rattle.type_graph.specs.Value.{Tree, Number, Bytes, Items, Choice, Trees, NoTree, AndTree, count, node_at, arm_of, Fits}
 use Rattle.value_text.specs.Pieces.{characters, digits, octet_of, octets_of, listed, object_of}
-use Rattle.value_text.specs.Texts.{truth_of, label_of}
+use Rattle.reference_values.specs.Stringified.{Stringifies}
+use Rattle.value_text.specs.Texts.{truth_of, label_of, refers}
 
 -- An integer and an octet by its digits (not `-0`, `1.0`, `1e3` or "1"), a boolean by its word (not 0), a character
 -- by a string of it alone (not "ab"), an enumerator by its name or its number (not another name).
@@ -26,6 +27,12 @@ SaysTogether Octet octets tokens = (digits : List ℕ) × (tokens ≡ string dig
 SaysTogether Char octets tokens = tokens ≡ string (characters octets) ∷ []
 SaysTogether node octets tokens = ⊥
 
+-- An object reference by a string that spells it (not one that is cut, not that of a structure with names).
+abbrev pub SaysReference : List Node → List (List ℕ) → List ℕ → Trees → List Token → Type 0
+SaysReference graph labels members values tokens =
+    (refers graph labels members ≡ true) × (text : List ℕ) × Stringifies text (Items values)
+    × (tokens ≡ string text ∷ [])
+
 -- a list of these texts (no other count, nothing behind)
 abbrev pub IsList : List (List Token) → List Token → Type 0
 IsList texts tokens = tokens ≡ listed texts
@@ -39,7 +46,8 @@ pub record IsObject (labels : List (List ℕ)) (texts : List (List Token)) (toke
 
 abbrev mutual
   -- A string by its characters, of which each is an octet; elements together or as a list; members as an object or a
-  -- list; a union as the list of its label and its member, if it has one.
+  -- list, those of an object reference by its string too; a union as the list of its label and its member, if it has
+  -- one.
   pub Says : List (List (List ℕ)) → List Node → List (List ℕ) → Node → Tree → List Token → Type 0
   Says names graph labels node (Number n) tokens = (token : Token) × SaysNumber labels node n token
       × (tokens ≡ token ∷ [])
@@ -52,8 +60,9 @@ abbrev mutual
       SaysTogether (node_at graph elem) (octets_of values) tokens
       ⊎ ((texts : List (List Token)) × SayAll names graph (replicate n elem) values texts × IsList texts tokens)
   Says names graph labels (Struct members) (Items values) tokens =
-      (texts : List (List Token)) × SayAll names graph members values texts × (IsObject labels texts tokens
-      ⊎ IsList texts tokens)
+      SaysReference graph labels members values tokens
+      ⊎ ((texts : List (List Token)) × SayAll names graph members values texts × (IsObject labels texts tokens
+      ⊎ IsList texts tokens))
   Says names graph labels (Frame members) (Items values) tokens =
       (texts : List (List Token)) × SayAll names graph members values texts × (IsObject labels texts tokens
       ⊎ IsList texts tokens)

@@ -8,6 +8,8 @@ use Rattle.part_names.specs.Names.{names_at}
 use Rattle.type_graph.specs.declared.node.Node.{Node}
 use Rattle.type_graph.specs.declared.node.Node.TheVariants.{Octet, Char, Boolean, Enum, Seq, Array, Struct, Union, Frame}
 use Rattle.type_graph.specs.Value.{Tree, Number, Bytes, Items, Choice, Trees, AndTree, count, node_at, arm_of}
+use Rattle.reference_values.specs.Shape.{is_reference}
+use Rattle.reference_values.specs.Printed.{reference_text}
 use Rattle.value_text.specs.Pieces.{characters, digits, octet_of, octets_of, listed, object_of, are_named}
 
 -- every number but 0 is true
@@ -42,6 +44,15 @@ elements_text node octets texts = listed texts
 abbrev pub members_text : List (List ℕ) → ℕ → List (List Token) → List Token
 members_text labels n texts = if are_named labels n then object_of (zip labels texts) else listed texts
 
+-- members of the shape of an object reference, and without names
+abbrev pub refers : List Node → List (List ℕ) → List ℕ → Bool
+refers graph [] members = is_reference graph members
+refers graph labels members = false
+
+-- the text of an object reference stands for its members' text
+abbrev pub structure_text : Bool → Trees → List Token → List Token
+structure_text refers values text = if refers then string (reference_text values) ∷ [] else text
+
 abbrev mutual
   pub text_of : List (List (List ℕ)) → List Node → List (List ℕ) → Node → Tree → List Token
   text_of names graph labels node (Number n) = number_text labels node n ∷ []
@@ -53,7 +64,8 @@ abbrev mutual
       elements_text (node_at graph elem) (octets_of values)
       (texts_of names graph (replicate (count values) elem) values)
   text_of names graph labels (Struct members) (Items values) =
-      members_text labels (length members) (texts_of names graph members values)
+      structure_text (refers graph labels members) values
+      (members_text labels (length members) (texts_of names graph members values))
   text_of names graph labels (Frame members) (Items values) =
       members_text labels (length members) (texts_of names graph members values)
   text_of names graph labels (Union switch arms default) (Choice label values) =

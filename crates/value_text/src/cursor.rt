@@ -3,11 +3,17 @@
 ghost use Rattle.std.specs.Prelude.{◌≡◌, ◌≢◌, ℕ, List, [], ◌∷◌, IfSome, IfNone, IfOk, OnOk, OnErr, MatchOption};
 ghost use Rattle.json.specs.Token.{Token as SpecToken, end_array, end_object, key};
 ghost use Rattle.json.specs.Reads.{token_of};
+ghost use Rattle.type_graph.specs.Value.{Tree};
+ghost use Rattle.idl_value.specs.View.{tree_of};
+ghost use Rattle.reference_values.specs.Stringified.{Stringifies, FitsObject};
 ghost use Rattle.value_text.specs.inner.Reading.{Next};
 
 use crate::fault::Wanted;
+use giop_types::GiopTypes;
+use idl_value::Value;
 use json::{Reader, Token};
-use std::alloc::{AllocError, AllocFailed};
+use reference_values::reference_value;
+use std::alloc::{AllocError, AllocFailed, Global};
 use std::marker::Model;
 
 /// Why reading stops.
@@ -45,6 +51,8 @@ impl<T: Drop> From<AllocFailed<T>> for Stop {
 pub struct Cursor<'a> {
     reader: Reader<'a>,
     at: usize,
+    /// Those by which object references are read, made for the first.
+    types: Option<GiopTypes>,
 }
 
 impl<'a> Model for Cursor<'a> {
@@ -62,7 +70,11 @@ impl<'a> Cursor<'a> {
     pub fn new(reader: Reader<'a>) -> Cursor<'a>
         ensures { result ≡ reader.entry }
     {
-        Cursor { reader, at: 0 }
+        Cursor {
+            reader,
+            at: 0,
+            types: None,
+        }
     }
 
     /// The next token; behind the last there is a bad one.
@@ -130,6 +142,29 @@ impl<'a> Cursor<'a> {
             Token::EndArray => Ok(()),
             token => Err(self.refuse(token, Wanted::Count)),
         }
+    }
+
+    /// The object reference that a string spells, with so many sequences still allowed one inside
+    /// another.
+    pub fn reference(
+        &mut self,
+        alloc: Global,
+        text: &str,
+        depth: u32,
+    ) -> Result<Option<Value>, AllocError>
+        ensures same { self.new ≡ self.old }
+        ensures some { IfOk result (λ found. IfSome found (λ value. Stringifies text.now (tree_of value))) }
+        ensures fits { IfOk result (λ found. IfSome found (λ value. FitsObject (tree_of value) depth)) }
+        ensures none { IfOk result (λ found. IfNone found ((value : Tree) → Stringifies text.now value
+            → FitsObject value depth → ⊥)) }
+    {
+        let types = match self.types.take() {
+            Some(types) => types,
+            None => GiopTypes::new(alloc)?,
+        };
+        let found = reference_value(&types, alloc, text, depth);
+        self.types = Some(types);
+        found
     }
 
     /// The text has to end here. Whatever stands behind is refused as such, also where it isn't JSON.

@@ -21,6 +21,7 @@ mod place;
 mod printing;
 mod reading;
 mod scalars;
+mod shape;
 mod words;
 
 use crate::cursor::{Cursor, Stop};
@@ -33,6 +34,7 @@ pub use fault::{PrintFault, ReadFault, Refusal, TextPlace, Wanted};
 use idl_value::{Value, conforms};
 use json::{Reader, Scratch, Writer};
 use part_names::PartNames;
+pub use shape::refers;
 use std::alloc::Global;
 use type_graph::Graph;
 

@@ -4,11 +4,12 @@ ghost use Rattle.std.specs.Prelude.{◌≡◌, [], ◌∷◌, length, slice_get,
 ghost use Rattle.type_graph.specs.Value.{node_at, count, Items, Choice};
 ghost use Rattle.idl_value.specs.View.{tree_of, trees_of, member_of};
 ghost use Rattle.value_text.specs.Pieces.{listed, octets_of, object_of, paired, joined};
-ghost use Rattle.value_text.specs.Texts.{text_at, text_of, texts_of, members_text, elements_text, number_text};
+ghost use Rattle.value_text.specs.Texts.{text_at, text_of, texts_of, refers as node_refers, structure_text, members_text, elements_text, number_text};
 ghost use Rattle.part_names.specs.Names.{names_at};
 ghost use Rattle.value_text.specs.inner.Writing.{Adds, member_at, part_at};
 
-use crate::scalars::{write_chars, write_number, write_octets, write_text};
+use crate::scalars::{write_chars, write_number, write_octets, write_reference, write_text};
+use crate::shape::refers;
 use idl_value::Value;
 use json::Writer;
 use part_names::{NodeNames, PartNames};
@@ -81,11 +82,35 @@ fn write_items(
         Node::Seq { elem, .. } | Node::Array { elem, .. } => {
             write_elements(out, alloc, graph, names, *elem, values)
         }
-        Node::Struct { members } | Node::Frame { members } => {
+        Node::Struct { members } => {
+            write_structure(out, alloc, graph, names, labels, members.as_slice(), values)
+        }
+        Node::Frame { members } => {
             write_members(out, alloc, graph, names, labels, members.as_slice(), values)
         }
         _ => Ok(()),
     }
+}
+
+/// An object reference is its string, another structure its members.
+#[cycle(printing)]
+fn write_structure(
+    out: &mut Writer,
+    alloc: Global,
+    graph: &Graph,
+    names: &PartNames,
+    labels: &NodeNames,
+    members: &[u32],
+    values: &[Value],
+) -> Result<(), AllocError>
+    ensures { OnOk result (Adds out.old out.new (structure_text (node_refers graph.now labels.now members.now)
+        (trees_of values.now) (members_text labels.now (length members.now)
+        (texts_of names.now graph.now members.now (trees_of values.now))))) }
+{
+    if refers(graph, labels, members) {
+        return write_reference(out, alloc, values);
+    }
+    write_members(out, alloc, graph, names, labels, members, values)
 }
 
 /// Octets and characters are written together, other elements as a list.

@@ -1,20 +1,23 @@
 //! The values of texts.
 
-ghost use Rattle.std.specs.Prelude.{◌≡◌, ◌<◌, ◌≤◌, ◌↔◌, [], ◌∷◌, ℕ, ℤ, List, Some, None, length, map, replicate, slice_get, slice_set, option_to_list, IfOk, IfErr, OnOk, OnErr, IsTrue};
+ghost use Rattle.std.specs.Prelude.{true, ◌≡◌, ◌<◌, ◌≤◌, ◌↔◌, [], ◌∷◌, ℕ, ℤ, List, Some, None, length, map, replicate, slice_get, slice_set, option_to_list, IfOk, IfErr, OnOk, OnErr, IsTrue};
 ghost use Rattle.type_graph.specs.declared.node.Node.TheVariants.{Union};
-ghost use Rattle.type_graph.specs.Value.{Trees, Number, Items, node_at, IsCount, IsNumber};
+ghost use Rattle.type_graph.specs.Value.{Tree, Trees, Number, Items, node_at, IsCount, IsNumber};
 ghost use Rattle.idl_value.specs.View.{tree_of, trees_of, member_of};
 ghost use Rattle.json.specs.Token.{Token as SpecToken, string};
 ghost use Rattle.json.specs.Reads.{token_of};
 ghost use Rattle.part_names.specs.Names.{AreApart, names_at};
+ghost use Rattle.reference_values.specs.Stringified.{Stringifies, FitsObject};
+ghost use Rattle.value_text.specs.Texts.{refers as node_refers};
 ghost use Rattle.value_text.specs.Says.{SaysNumber, SaysTogether};
-ghost use Rattle.value_text.specs.inner.Reading.{IsOctets, Reads, ReadsAs, ReadsItems, ReadsElements, ReadsParts, ReadsList, ReadsCopies, ReadsMembers, ReadsObject};
+ghost use Rattle.value_text.specs.inner.Reading.{IsOctets, Reads, ReadsAs, ReadsItems, ReadsElements, ReadsParts, ReadsList, ReadsCopies, ReadsMembers, ReadsStructure, ReadsObject};
 ghost use Rattle.idl_value.specs.declared.value.Value.{Value as SpecValue};
 ghost use Rattle.value_text.specs.inner.Refusing.{RefusesAs, ReadsNone, IsLow, IsNamed, AreOctets, AreSound};
 
 use crate::cursor::{Cursor, Stop};
 use crate::fault::Wanted;
 use crate::lookup::Lookup;
+use crate::shape::refers;
 use crate::words::{read_chars, read_number, read_octets, read_text};
 use idl_value::Value;
 use json::Token;
@@ -96,16 +99,13 @@ pub fn read_value(
             let counts = Counts::of_array(*n);
             read_elements(cursor, token, alloc, types, *elem, counts, depth)
         }
-        Node::Struct { members } | Node::Frame { members } => {
-            read_members(
-                cursor,
-                token,
-                alloc,
-                types,
-                number,
-                members.as_slice(),
-                depth,
-            )
+        Node::Struct { members } => {
+            let members = members.as_slice();
+            read_structure(cursor, token, alloc, types, number, members, depth)
+        }
+        Node::Frame { members } => {
+            let members = members.as_slice();
+            read_members(cursor, token, alloc, types, number, members, depth)
         }
         Node::Union {
             switch,
@@ -230,6 +230,78 @@ fn read_list(
         values.push(read_value(cursor, token, alloc, types, elem, depth)?)?;
     }
     Ok(values)
+}
+
+/// The members of a structure; those of an object reference also by its string.
+#[cycle(reading)]
+fn read_structure(
+    cursor: &mut Cursor<'_>,
+    token: Token<'_>,
+    alloc: Global,
+    types: &Sought<'_>,
+    number: u32,
+    members: &[u32],
+    depth: u32,
+) -> Result<Value, Stop>
+    ensures read { IfOk result (λ value. (values : Trees) × (tree_of value ≡ Items values)
+        × ReadsStructure types.now.names.now types.now.graph.now (names_at types.now.names.now number) members.now depth
+        (token_of token.entry) cursor.old values cursor.new) }
+    ensures refused { IfErr result (λ stop. RefusesAs stop (AreApart (names_at types.now.names.now number)
+        → ReadsNone types.now.names.now types.now.graph.now (ReadsStructure types.now.names.now types.now.graph.now
+        (names_at types.now.names.now number) members.now depth (token_of token.entry) cursor.old))) }
+{
+    match token {
+        Token::String(text) => {
+            let labels = types.names.of(number);
+            read_reference(
+                cursor,
+                token,
+                alloc,
+                types.graph,
+                labels,
+                members,
+                text,
+                depth,
+            )
+        }
+        _ => read_members(cursor, token, alloc, types, number, members, depth),
+    }
+}
+
+/// An object reference by its string.
+fn read_reference(
+    cursor: &mut Cursor<'_>,
+    token: Token<'_>,
+    alloc: Global,
+    graph: &Graph,
+    labels: &NodeNames,
+    members: &[u32],
+    text: &str,
+    depth: u32,
+) -> Result<Value, Stop>
+    ensures same { cursor.new ≡ cursor.old }
+    ensures read { IfOk result (λ value. (node_refers graph.now labels.now members.now ≡ true)
+        × Stringifies text.now (tree_of value) × FitsObject (tree_of value) depth) }
+    ensures refused { IfErr result (λ stop. RefusesAs stop ((value : Tree)
+        → node_refers graph.now labels.now members.now ≡ true → Stringifies text.now value → FitsObject value depth
+        → ⊥)) }
+{
+    if !refers(graph, labels, members) {
+        return Err(cursor.refuse(token, Wanted::Members));
+    }
+    match cursor.reference(alloc, text, depth)? {
+        Some(value) => Ok(value),
+        None => Err(cursor.refuse(token, unspelled(depth))),
+    }
+}
+
+/// What is wanted in place of a reference: two sequences stand one inside another in it.
+fn unspelled(depth: u32) -> Wanted {
+    if depth < 2 {
+        Wanted::Depth
+    } else {
+        Wanted::Members
+    }
 }
 
 /// The members of a structure or a frame: an object where they have names, or a list.

@@ -4,38 +4,19 @@ ghost use Rattle.std.specs.Prelude.{◌≡◌, [], ◌∷◌, Some, None, IfSome
 ghost use Rattle.std.specs.String.{string_bytes};
 ghost use Rattle.hex.specs.Hex.{encode_lower};
 ghost use Rattle.json.specs.Token.{string};
-ghost use Rattle.idl_value.specs.View.{tree_of, trees_of};
-ghost use Rattle.value_text.specs.Pieces.{octet_of, octet_of_tree, octets_of, characters, digits};
+ghost use Rattle.idl_value.specs.View.{trees_of};
+ghost use Rattle.reference_values.specs.Octets.{octets_of as the_octets_of};
+ghost use Rattle.reference_values.specs.Printed.{reference_text as text_of_reference};
+ghost use Rattle.value_text.specs.Pieces.{characters, digits};
 ghost use Rattle.value_text.specs.Texts.{label_of, enumerator_of, number_text};
 ghost use Rattle.value_text.specs.inner.Writing.{Adds};
 
 use idl_value::Value;
 use json::Writer;
 use part_names::NodeNames;
+use reference_values::{octet_of, octets_of, reference_text};
 use std::alloc::{AllocError, Global};
 use type_graph::Node;
-
-/// The octet that a number is; what is none counts as 0.
-fn octet_of(n: i128) -> u8
-    ensures { result ≡ octet_of n }
-{
-    u8::try_from(n).unwrap_or(0)
-}
-
-fn octet_of_value(value: &Value) -> u8
-    ensures { result ≡ octet_of_tree (tree_of value.now) }
-{
-    match value {
-        Value::Integer(n) => octet_of(*n),
-        _ => 0,
-    }
-}
-
-fn octets_of(alloc: Global, values: &[Value]) -> Result<Vec<u8>, AllocError>
-    ensures { IfOk result (λ octets. octets.items ≡ octets_of (trees_of values.now)) }
-{
-    values.iter().map(octet_of_value).collect(alloc)
-}
 
 /// Each octet as a character.
 fn characters(alloc: Global, octets: &[u8]) -> Result<String, AllocError>
@@ -118,7 +99,7 @@ pub fn write_text(out: &mut Writer, alloc: Global, text: &[u8]) -> Result<(), Al
 
 /// Writes elements that are characters, together.
 pub fn write_chars(out: &mut Writer, alloc: Global, values: &[Value]) -> Result<(), AllocError>
-    ensures { OnOk result (Adds out.old out.new (string (characters (octets_of (trees_of values.now))) ∷ [])) }
+    ensures { OnOk result (Adds out.old out.new (string (characters (the_octets_of (trees_of values.now))) ∷ [])) }
 {
     let octets = octets_of(alloc, values)?;
     write_text(out, alloc, octets.as_slice())
@@ -126,9 +107,17 @@ pub fn write_chars(out: &mut Writer, alloc: Global, values: &[Value]) -> Result<
 
 /// Writes elements that are octets by the digits of their hexadecimal numbers.
 pub fn write_octets(out: &mut Writer, alloc: Global, values: &[Value]) -> Result<(), AllocError>
-    ensures { OnOk result (Adds out.old out.new (string (encode_lower (octets_of (trees_of values.now))) ∷ [])) }
+    ensures { OnOk result (Adds out.old out.new (string (encode_lower (the_octets_of (trees_of values.now))) ∷ [])) }
 {
     let octets = octets_of(alloc, values)?;
     let text = hex::encode(alloc, octets.as_slice())?;
+    out.string(text.as_str())
+}
+
+/// Writes the members of an object reference by its string.
+pub fn write_reference(out: &mut Writer, alloc: Global, values: &[Value]) -> Result<(), AllocError>
+    ensures { OnOk result (Adds out.old out.new (string (text_of_reference (trees_of values.now)) ∷ [])) }
+{
+    let text = reference_text(alloc, values)?;
     out.string(text.as_str())
 }

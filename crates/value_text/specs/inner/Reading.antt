@@ -1,11 +1,13 @@
 -- What is read off tokens.
-use Rattle.std.specs.Prelude.{◌≡◌, ◌≢◌, ◌⊎◌, ◌≤◌, ℕ, List, [], ◌∷◌, ◌++◌, map, zip, replicate, Option, IsPermutation, All}
+use Rattle.std.specs.Prelude.{true, ◌≡◌, ◌≢◌, ◌⊎◌, ◌≤◌, ℕ, List, [], ◌∷◌, ◌++◌, map, zip, replicate, Option, IsPermutation, All}
 use Rattle.json.specs.Token.{Token, string, end_array, end_object, bad}
 use Rattle.part_names.specs.Names.{names_at}
 use Rattle.type_graph.specs.declared.node.Node.{Node}
-use Rattle.type_graph.specs.Value.{Tree, Trees, Number, Bytes, IsText, IsBelow, count, node_at, Fits, FitAll}
+use Rattle.type_graph.specs.Value.{Tree, Trees, Number, Bytes, Items, IsText, IsBelow, count, node_at, Fits, FitAll}
 use Rattle.idl_value.specs.declared.value.Value.{Value}
 use Rattle.idl_value.specs.View.{tree_of}
+use Rattle.reference_values.specs.Stringified.{Stringifies}
+use Rattle.value_text.specs.Texts.{refers}
 use Rattle.value_text.specs.Pieces.{characters, octet_of_tree, octets_of, joined, paired}
 use Rattle.value_text.specs.inner.Slots.{AreSlots, given}
 use Rattle.value_text.specs.Says.{Says, SayAll, SaysTogether, IsObject, IsList}
@@ -93,6 +95,23 @@ pub record ReadsMembers (names : List (List (List ℕ))) (graph : List Node) (la
   pub texts : List (List Token)
   pub say : SayAll names graph numbers values texts
   pub whole : IsObject labels texts (token ∷ more) ⊎ IsList texts (token ∷ more)
+
+-- an object reference by its string, and nothing more
+pub record ReadsReference (graph : List Node) (labels : List (List ℕ)) (numbers : List ℕ) (depth : ℕ)
+    (token : Token) (old : List Token) (values : Trees) (new : List Token) : Type 0 where
+  pub is_one : refers graph labels numbers ≡ true
+  pub text : List ℕ
+  pub token_is : token ≡ string text
+  pub spelled : Stringifies text (Items values)
+  pub fit : FitAll graph numbers values depth
+  pub same : old ≡ new
+
+-- a structure: its members, or the string of an object reference
+abbrev pub ReadsStructure : List (List (List ℕ)) → List Node → List (List ℕ) → List ℕ → ℕ
+    → Token → List Token → Trees → List Token → Type 0
+ReadsStructure names graph labels numbers depth token old values new =
+    ReadsReference graph labels numbers depth token old values new
+    ⊎ ReadsMembers names graph labels numbers depth token old values new
 
 -- elements of this node, together or as a list, which begin with the token
 pub record ReadsItems (names : List (List (List ℕ))) (graph : List Node) (elem depth : ℕ)

@@ -1,4 +1,4 @@
-use Rattle.std.proofs.Common.{◌≡◌, ◌≢◌, ◌+◌, ℕ, ◌≤◌, List, ◌∷◌, [], ◌++◌, length, map, take, get_or, replicate, Some, None, slice_get, inl, inr, sym, ap, ◌∙◌, subst, length-append, length-set, arith, rules}
+use Rattle.std.proofs.Common.{true, ◌≡◌, ◌≢◌, ◌+◌, ℕ, ◌≤◌, List, ◌∷◌, [], ◌++◌, length, map, take, get_or, replicate, Some, None, slice_get, inr, sym, ap, ◌∙◌, subst, length-append, length-set, arith, rules}
 use Rattle.std.proofs.lemmas.List.{length-replicate}
 use Rattle.std.proofs.lemmas.Option.{slice_get-get_or}
 use Rattle.std.proofs.lemmas.Result.{IfOk-weaker, IfErr-weaker, err_from_is_err_and}
@@ -16,11 +16,12 @@ use Rattle.type_graph.specs.Walks.{above, height_of}
 use Rattle.type_graph.proofs.HeightLaws.{height_unfolds, height_bound}
 use Rattle.idl_value.specs.View.{tree_of, trees_of, member_of}
 use Rattle.idl_value.proofs.ViewLaws.{tree_of-items, tree_of-choice}
-use Rattle.value_text.specs.inner.Reading.{ReadsAs, ReadsParts, ReadsSlots}
-use Rattle.value_text.proofs.ReadLaws.{above_at, above_chosen, next_good, one_more, count_trees, parts_none, parts_more, take_more, slots_none, slots_more, slots_all, text_read, number_read, choice_read, list_read, together_read, array_read, object_read, row_read}
+use Rattle.value_text.specs.Texts.{refers}
+use Rattle.value_text.specs.inner.Reading.{ReadsAs, ReadsParts, ReadsSlots, ReadsStructure}
+use Rattle.value_text.proofs.ReadLaws.{above_at, above_chosen, next_good, one_more, count_trees, parts_none, parts_more, take_more, slots_none, slots_more, slots_all, text_read, number_read, choice_read, list_read, together_read, array_read, object_read, structure_read, reference_read, row_read}
 use Rattle.value_text.proofs.Slots.{place_within}
 use Rattle.value_text.proofs.Refusals.{refuses, refuses_weaker, row_missing, row_refused, row_endless, list_too_long, list_refused, only_missing, only_refused}
-use Rattle.value_text.proofs.KindRefusals.{no_number, no_text, no_depth, no_sequence, no_array, no_members, no_choice, none_fewer, wrong_count, no_list, none_together, no_elements, no_object, no_row, not_named, no_bracket, no_union, no_label, no_member, no_end}
+use Rattle.value_text.proofs.KindRefusals.{no_number, no_text, no_depth, no_sequence, no_array, no_structure, no_members, only_members, no_reference, no_choice, none_fewer, wrong_count, no_list, none_together, no_elements, no_object, no_row, not_named, no_bracket, no_union, no_label, no_member, no_end}
 use Rattle.value_text.proofs.ObjectRefusals.{no_key, no_name, no_free_member, no_value, not_all}
 use Rattle.value_text.proofs.reading.+reading.Goals as goal
 
@@ -39,20 +40,25 @@ read_value-read_elements-requires-in-Array t c =
     let d = c.decreases in
     (omega (arith, d, unfolds), tt)
 
+pub read_value-read_structure-requires : goal.read_value-read_structure-requires
+read_value-read_structure-requires t c =
+    let graph = c.args.types.now.graph.now in
+    let number = c.args.number in
+    let node : c.in-Some.node.now ≡ node_at graph number = search rules in
+    let unfolds = subst (λ found. height_of graph number ≡ above (height_of graph) (held_by found)) (sym node ∙ c.in-Struct.is) (height_unfolds graph c.nodes.ensures.rules number) in
+    let same = ap (above (height_of graph)) c.as_slice-members.ensures in
+    let d = c.decreases in
+    (omega (arith, d, unfolds, same), tt)
+
 pub read_value-read_members-requires : goal.read_value-read_members-requires
 read_value-read_members-requires t c =
     let graph = c.args.types.now.graph.now in
     let number = c.args.number in
-    let members = c.in-Struct.members in
     let node : c.in-Some.node.now ≡ node_at graph number = search rules in
-    let unfolds = height_unfolds graph c.nodes.ensures.rules number in
-    let held : height_of graph number ≡ above (height_of graph) members = elim c.in-Struct.is [
-      | inl e ↦ subst (λ found. height_of graph number ≡ above (height_of graph) (held_by found)) (sym node ∙ e) unfolds
-      | inr e ↦ subst (λ found. height_of graph number ≡ above (height_of graph) (held_by found)) (sym node ∙ e) unfolds
-    ] in
-    let same = ap (above (height_of graph)) c.as_slice.ensures in
+    let unfolds = subst (λ found. height_of graph number ≡ above (height_of graph) (held_by found)) (sym node ∙ c.in-Frame.is) (height_unfolds graph c.nodes.ensures.rules number) in
+    let same = ap (above (height_of graph)) c.as_slice-members-in-Frame.ensures in
     let d = c.decreases in
-    (omega (arith, d, held, same), tt)
+    (omega (arith, d, unfolds, same), tt)
 
 pub read_value-read_choice-requires : goal.read_value-read_choice-requires
 read_value-read_choice-requires t c =
@@ -361,13 +367,71 @@ read_value-returns-in-Array-clause-refused t c =
     IfErr-weaker c.read_elements-in-Array.result _ _ (λ stop. refuses_weaker stop
     (no_array c.args.types.now.names.now graph number c.args.depth (token_of c.args.token) c.args.cursor.now c.in-Array.elem c.in-Array.n _ _ (sym c.in-Array.is ∙ node) counts.0 counts.1)) c.read_elements-in-Array.ensures.refused
 
+pub read_value-returns-in-Struct-clause-read : goal.read_value-returns-in-Struct-clause-read
+read_value-returns-in-Struct-clause-read t c =
+    let names = c.args.types.now.names.now in
+    let graph = c.args.types.now.graph.now in
+    let number = c.args.number in
+    let labels = names_at names number in
+    let token = token_of c.args.token in
+    let old = c.args.cursor.now in
+    let new = c.read_structure.new.cursor in
+    let node : c.in-Some.node.now ≡ node_at graph number = search rules in
+    let is = sym (sym node ∙ c.in-Struct.is) in
+    IfOk-weaker c.read_structure.result _ _ (λ value h.
+    subst (λ at. ReadsAs names graph labels at c.args.depth token old (tree_of value) new) is
+    (structure_read names graph labels c.in-Struct.members c.args.depth token old (tree_of value) h.0 new h.1
+    (subst (λ l. ReadsStructure names graph labels l c.args.depth token old h.0 new) c.as_slice-members.ensures h.2))) c.read_structure.ensures.read
+
 pub read_value-returns-in-Struct-clause-refused : goal.read_value-returns-in-Struct-clause-refused
 read_value-returns-in-Struct-clause-refused t c =
     let graph = c.args.types.now.graph.now in
     let number = c.args.number in
     let node : c.in-Some.node.now ≡ node_at graph number = search rules in
+    IfErr-weaker c.read_structure.result _ _ (λ stop. refuses_weaker stop
+    (no_structure c.args.types.now.names.now graph number c.args.depth (token_of c.args.token) c.args.cursor.now c.in-Some.node.now c.in-Struct.members _ node c.in-Struct.is c.as_slice-members.ensures)) c.read_structure.ensures.refused
+
+pub read_value-returns-in-Frame-clause-refused : goal.read_value-returns-in-Frame-clause-refused
+read_value-returns-in-Frame-clause-refused t c =
+    let graph = c.args.types.now.graph.now in
+    let number = c.args.number in
+    let node : c.in-Some.node.now ≡ node_at graph number = search rules in
     IfErr-weaker c.read_members.result _ _ (λ stop. refuses_weaker stop
-    (no_members c.args.types.now.names.now graph number c.args.depth (token_of c.args.token) c.args.cursor.now c.in-Some.node.now c.in-Struct.members _ node c.in-Struct.is c.as_slice.ensures)) c.read_members.ensures.refused
+    (no_members c.args.types.now.names.now graph number c.args.depth (token_of c.args.token) c.args.cursor.now c.in-Some.node.now c.in-Frame.members _ node c.in-Frame.is c.as_slice-members-in-Frame.ensures)) c.read_members.ensures.refused
+
+pub read_structure-returns-in-String-clause-read : goal.read_structure-returns-in-String-clause-read
+read_structure-returns-in-String-clause-read t c =
+    let names = c.args.types.now.names.now in
+    let graph = c.args.types.now.graph.now in
+    let labels = names_at names c.args.number in
+    let members = c.args.members.now in
+    let own = c.of-labels.ensures in
+    IfOk-weaker c.read_reference.result _ _ (λ value h.
+    reference_read names graph labels members c.args.depth (token_of c.args.token) c.in-String.text.now c.args.cursor.now (tree_of value) c.read_reference.new.cursor
+    (ap token_of c.in-String.is) c.read_reference.ensures.same (subst (λ l. refers graph l members ≡ true) own h.0) h.1 h.2) c.read_reference.ensures.read
+
+pub read_structure-returns-in-String-clause-refused : goal.read_structure-returns-in-String-clause-refused
+read_structure-returns-in-String-clause-refused t c =
+    let names = c.args.types.now.names.now in
+    let graph = c.args.types.now.graph.now in
+    let labels = names_at names c.args.number in
+    let members = c.args.members.now in
+    let words = c.in-String.text.now in
+    let own = c.of-labels.ensures in
+    IfErr-weaker c.read_reference.result _ _ (λ stop. refuses_weaker stop (λ none.
+    no_reference names graph c.args.depth (token_of c.args.token) c.args.cursor.now labels members words (ap token_of c.in-String.is)
+    (λ value one. none value (subst (λ l. refers graph l members ≡ true) (sym own) one)))) c.read_reference.ensures.refused
+
+pub read_structure-returns-in_default-clause-read : goal.read_structure-returns-in_default-clause-read
+read_structure-returns-in_default-clause-read t c =
+    IfOk-weaker c.read_members.result _ _ (λ value h. (h.0, h.1, inr h.2)) c.read_members.ensures.read
+
+pub read_structure-returns-in_default-clause-refused : goal.read_structure-returns-in_default-clause-refused
+read_structure-returns-in_default-clause-refused t c =
+    let names = c.args.types.now.names.now in
+    let no_string : (text : List ℕ) → token_of c.args.token ≡ string text → ⊥ = search rules in
+    IfErr-weaker c.read_members.result _ _ (λ stop. refuses_weaker stop
+    (only_members names c.args.types.now.graph.now c.args.depth (token_of c.args.token) c.args.cursor.now (names_at names c.args.number) c.args.members.now no_string)) c.read_members.ensures.refused
 
 pub read_value-returns-in-Union-clause-refused : goal.read_value-returns-in-Union-clause-refused
 read_value-returns-in-Union-clause-refused t c =

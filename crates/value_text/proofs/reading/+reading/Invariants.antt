@@ -20,14 +20,17 @@ decreases-read_items l = 4 * (66 * l.depth + height_of l.types.now.graph.now l.e
 abbrev pub decreases-read_list : goal.decreases-read_list
 decreases-read_list l = 4 * (66 * l.depth + height_of l.types.now.graph.now l.elem) + 4
 
+abbrev pub decreases-read_structure : goal.decreases-read_structure
+decreases-read_structure l = 4 * (66 * l.depth + above (height_of l.types.now.graph.now) l.members.now) + 2
+
 abbrev pub decreases-read_members : goal.decreases-read_members
-decreases-read_members l = 4 * (66 * l.depth + above (height_of l.types.now.graph.now) l.members.now) + 2
+decreases-read_members l = 4 * (66 * l.depth + above (height_of l.types.now.graph.now) l.members.now) + 1
 
 abbrev pub decreases-read_row : goal.decreases-read_row
-decreases-read_row l = 4 * (66 * l.depth + above (height_of l.types.now.graph.now) l.members.now) + 1
+decreases-read_row l = 4 * (66 * l.depth + above (height_of l.types.now.graph.now) l.members.now)
 
 abbrev pub decreases-read_object : goal.decreases-read_object
-decreases-read_object l = 4 * (66 * l.depth + above (height_of l.types.now.graph.now) l.members.now) + 1
+decreases-read_object l = 4 * (66 * l.depth + above (height_of l.types.now.graph.now) l.members.now)
 
 abbrev pub decreases-read_choice : goal.decreases-read_choice
 decreases-read_choice l = 4 * (66 * l.depth + above (height_of l.types.now.graph.now) (held_by (Union l.switch l.arms.now l.default))) + 2

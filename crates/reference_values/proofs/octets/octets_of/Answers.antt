@@ -1,10 +1,10 @@
 use Rattle.std.proofs.Common.{◌≡◌, ◌∙◌, sym, rules}
 use Rattle.std.proofs.lemmas.Result.{IfOk-weaker}
-use Rattle.value_text.proofs.Pieces.{octets_of-trees}
 use Rattle.std.specs.Prelude.{IfOk, map}
 use Rattle.idl_value.specs.View.{tree_of, trees_of}
-use Rattle.value_text.specs.Pieces.{octet_of_tree, octets_of}
-use Rattle.value_text.proofs.scalars.octets_of.Goals as goal
+use Rattle.reference_values.specs.Octets.{octet_of_tree, octets_of}
+use Rattle.reference_values.proofs.Parts.{octets_of-trees}
+use Rattle.reference_values.proofs.octets.octets_of.Goals as goal
 
 pub returns : goal.returns
 returns c =

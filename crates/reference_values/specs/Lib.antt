@@ -1,0 +1,5 @@
+pub mod Octets
+pub mod Shape
+pub mod Printed
+pub mod Stringified
+pub mod inner
