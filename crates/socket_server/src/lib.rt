@@ -23,7 +23,7 @@ mod totals;
 pub use announcing::serving_line;
 pub use connections::serve_connections;
 pub use fault::ServeFault;
-pub use listener::Listener;
+pub use listener::{Closing, Listener};
 pub use loopback::Loopback;
 pub use options::ServeOptions;
 pub use polled_loopback::PolledLoopback;

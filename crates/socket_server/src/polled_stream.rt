@@ -8,6 +8,7 @@ use crate::tally::Tally;
 use event_loop::Connection;
 use iiop_broker::Failed;
 use mio::net::TcpStream;
+use std::net::Shutdown;
 use std::time::{Clock, Instant};
 
 /// A connection of this machine's. It tells nothing of the octets that it carries.
@@ -22,6 +23,7 @@ pub struct PolledStream<'r, R: Clock> {
     written: Tally,
     unread: bool,
     unwritten: bool,
+    is_shut: bool,
 }
 
 impl<'r, R: Clock> PolledStream<'r, R> {
@@ -38,6 +40,7 @@ impl<'r, R: Clock> PolledStream<'r, R> {
             written: Tally::new(),
             unread: false,
             unwritten: false,
+            is_shut: false,
         }
     }
 
@@ -71,6 +74,8 @@ impl<'r, R: Clock> Connection for PolledStream<'r, R> {
     ghost told = { λ one. ends None None one.unread one.unwritten };
 
     ghost quiet = { λ one. one.quiet };
+
+    ghost shut = { λ one. one.is_shut };
 
     fn read(&mut self, buffer: &mut [u8]) -> Result<Option<usize>, Failed> {
         match read_now(&mut self.stream, buffer) {
@@ -108,5 +113,10 @@ impl<'r, R: Clock> Connection for PolledStream<'r, R> {
     fn is_quiet(&mut self, least: u64) -> bool {
         self.quiet = self.quiet_now();
         self.quiet >= least
+    }
+
+    fn shut(&mut self) {
+        let _ = self.stream.shutdown(Shutdown::Write);
+        self.is_shut = true;
     }
 }

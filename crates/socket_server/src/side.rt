@@ -2,10 +2,12 @@
 
 ghost use Rattle.std.specs.Prelude.{◌≡◌, None, false};
 
+use crate::listener::Closing;
 use crate::moving::{read_now, write_now};
 use crate::tally::Tally;
 use iiop_broker::{Failed, Input, Output};
 use std::io::{Read, Write};
+use std::net::{OpenStream, Shutdown};
 
 /// A side of a connection, whose messages are counted. It tells nothing of the octets: what a socket
 /// brings and takes no contract says.
@@ -14,6 +16,7 @@ pub struct Side<S> {
     stream: S,
     tally: Tally,
     failed: bool,
+    is_shut: bool,
 }
 
 impl<S> Side<S> {
@@ -24,6 +27,7 @@ impl<S> Side<S> {
             stream,
             tally: Tally::new(),
             failed: false,
+            is_shut: false,
         }
     }
 
@@ -70,5 +74,14 @@ impl<S: Write> Output for Side<S> {
                 Err(Failed)
             }
         }
+    }
+}
+
+impl<S: Write + OpenStream> Closing for Side<S> {
+    ghost shut = { λ side. side.is_shut };
+
+    fn shut(&mut self) {
+        let _ = self.stream.shutdown(Shutdown::Write);
+        self.is_shut = true;
     }
 }
