@@ -2,6 +2,7 @@
 //! other or at the same time.
 #![tactic(auto)]
 
+mod ahead;
 mod announcing;
 mod connections;
 mod fault;

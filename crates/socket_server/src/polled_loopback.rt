@@ -153,7 +153,9 @@ impl<'r, R: Net + Clock + Eprint> PolledLoopback<'r, R> {
             LONGEST_WAIT
         };
         if let Some(port) = &mut self.port {
-            let _ = port.poll.poll(&mut self.events, Some(Duration::from_millis(wait)));
+            let _ = port
+                .poll
+                .poll(&mut self.events, Some(Duration::from_millis(wait)));
         }
     }
 

@@ -3,7 +3,8 @@
 ghost use Rattle.std.specs.Prelude.{◌≡◌, ◌≤◌, length, None, false, IfOk, IfSome};
 ghost use Rattle.iiop_broker.specs.Outcomes.{ends};
 
-use crate::moving::{read_now, write_now};
+use crate::ahead::Ahead;
+use crate::moving::write_now;
 use crate::tally::Tally;
 use event_loop::Connection;
 use iiop_broker::Failed;
@@ -16,6 +17,7 @@ use std::time::{Clock, Instant};
 pub struct PolledStream<'r, R: Clock> {
     clock: &'r R,
     stream: TcpStream,
+    ahead: Ahead,
     /// When it was asked first since octets moved last.
     since: Option<Instant>,
     quiet: u64,
@@ -34,6 +36,7 @@ impl<'r, R: Clock> PolledStream<'r, R> {
         PolledStream {
             clock,
             stream,
+            ahead: Ahead::new(),
             since: None,
             quiet: 0,
             read: Tally::new(),
@@ -78,7 +81,7 @@ impl<'r, R: Clock> Connection for PolledStream<'r, R> {
     ghost shut = { λ one. one.is_shut };
 
     fn read(&mut self, buffer: &mut [u8]) -> Result<Option<usize>, Failed> {
-        match read_now(&mut self.stream, buffer) {
+        match self.ahead.read(&mut self.stream, buffer) {
             Ok(Some(n)) => {
                 self.since = None;
                 self.read.see(buffer.split_at(n).0);

@@ -2,8 +2,9 @@
 
 ghost use Rattle.std.specs.Prelude.{◌≡◌, None, false};
 
+use crate::ahead::Ahead;
 use crate::listener::Closing;
-use crate::moving::{read_now, write_now};
+use crate::moving::write_now;
 use crate::tally::Tally;
 use iiop_broker::{Failed, Input, Output};
 use std::io::{Read, Write};
@@ -14,6 +15,7 @@ use std::net::{OpenStream, Shutdown};
 #[derive(Drop)]
 pub struct Side<S> {
     stream: S,
+    ahead: Ahead,
     tally: Tally,
     failed: bool,
     is_shut: bool,
@@ -25,6 +27,7 @@ impl<S> Side<S> {
     {
         Side {
             stream,
+            ahead: Ahead::new(),
             tally: Tally::new(),
             failed: false,
             is_shut: false,
@@ -42,7 +45,7 @@ impl<S: Read> Input for Side<S> {
     ghost failure = { λ side. side.failed };
 
     fn read(&mut self, buffer: &mut [u8]) -> Result<usize, Failed> {
-        match read_now(&mut self.stream, buffer) {
+        match self.ahead.read(&mut self.stream, buffer) {
             Ok(Some(n)) => {
                 self.tally.see(buffer.split_at(n).0);
                 Ok(n)

@@ -8,8 +8,11 @@ const LOOKED_AT: u64 = 20;
 
 /// The kinds of messages that are counted, and how a reply ends that is a system exception (GIOP).
 const REQUEST: u8 = 0;
+
 const REPLY: u8 = 1;
+
 const MESSAGE_ERROR: u8 = 6;
+
 const SYSTEM_EXCEPTION: u32 = 2;
 
 /// How many messages of a kind a stream has had, and how far the one is that is coming.

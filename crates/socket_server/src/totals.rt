@@ -48,10 +48,7 @@ impl fmt::Display for Totals {
         write!(
             f,
             "connections {}, requests {}, answers {}, refused {}",
-            self.connections,
-            self.requests,
-            self.answers,
-            self.refused,
+            self.connections, self.requests, self.answers, self.refused,
         )
     }
 }

@@ -15,9 +15,9 @@ returns-clause-visit g c =
     let to = ends (g.L.Reader.Input.left c.serve_stream-end.new.reader) (g.L.Writer.Output.written c.serve_stream-end.new.writer) (g.L.Reader.Input.failure c.serve_stream-end.new.reader) (g.L.Writer.Output.failure c.serve_stream-end.new.writer) in
     let last = ends (g.L.Reader.Input.left c.serve_stream-end.new.reader) (g.L.Writer.Output.written c.shut_behind.new.writer) (g.L.Reader.Input.failure c.serve_stream-end.new.reader) (g.L.Writer.Output.failure c.shut_behind.new.writer) in
     let same : last ≡ to = same_ends (g.L.Reader.Input.left c.serve_stream-end.new.reader) (g.L.Writer.Output.written c.serve_stream-end.new.writer)
-        (g.L.Writer.Output.written c.shut_behind.new.writer) (g.L.Reader.Input.failure c.serve_stream-end.new.reader)
-        (g.L.Writer.Output.failure c.serve_stream-end.new.writer) (g.L.Writer.Output.failure c.shut_behind.new.writer)
-        c.shut_behind.ensures.written c.shut_behind.ensures.failure in
+    (g.L.Writer.Output.written c.shut_behind.new.writer) (g.L.Reader.Input.failure c.serve_stream-end.new.reader)
+    (g.L.Writer.Output.failure c.serve_stream-end.new.writer) (g.L.Writer.Output.failure c.shut_behind.new.writer)
+    c.shut_behind.ensures.written c.shut_behind.ensures.failure in
     record {
       from = from;
       to = went_as last c.serve_stream-end.result;
