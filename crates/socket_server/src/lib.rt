@@ -9,6 +9,7 @@ mod fault;
 mod leaving;
 mod listener;
 mod loopback;
+mod memory;
 mod misses;
 mod moving;
 mod object;

@@ -12,6 +12,7 @@ use crate::connections::serve_connections;
 use crate::fault::ServeFault;
 use crate::listener::Listener;
 use crate::loopback::Loopback;
+use crate::memory::keep_memory;
 use crate::object::broker_of;
 use crate::options::ServeOptions;
 use crate::polled_loopback::PolledLoopback;
@@ -201,6 +202,7 @@ pub fn serve<'a, R: Net + Clock + Eprint + AllocGlobal, W: Write>(
     ensures printing { IfErr result (IsLineOrNothing options.now.port (W.contents out.old) (W.contents out.new)) }
     ensures silent { IfErr result (λ fault. IsOfObject fault → out.new ≡ out.old) }
 {
+    keep_memory(rt.alloc());
     match places_in(options) {
         None => serve_in_turn(rt, out, table, options),
         Some(at_once) => serve_many(rt, out, table, options, at_once),
