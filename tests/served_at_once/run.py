@@ -1,8 +1,12 @@
-"""Clients of `idlc serve` at the same time, over sockets: what each is answered, and how the program ends.
+"""Clients of `idlc serve` at the same time, over sockets: what each is answered, and how the program ends. Where omniORB
+is installed, eight of its clients too.
 
 `./idlc` proves and builds what is missing of the program.
 """
 import concurrent.futures
+import os
+import pty
+import shutil
 import socket
 import struct
 import subprocess
@@ -14,6 +18,7 @@ PROGRAM = TOP / "crates" / "idlc_main" / "out" / "idlc_main"
 
 CALLS = 100
 CLOSE = b"GIOP\x01\x02\x00\x05\x00\x00\x00\x00"
+ERROR = b"GIOP\x01\x02\x00\x06\x00\x00\x00\x00"
 
 
 def padded(octets, to):
@@ -58,21 +63,21 @@ def number_in(body):
 class Server:
     """The program, which serves the object of `hello.idl`."""
 
-    def __init__(self, table, connections, *words):
+    def __init__(self, table, connections, *words, err=subprocess.PIPE):
         # another process may take the port that was free a moment ago
         for _ in range(9):
-            self.start(table, connections, words)
+            self.start(table, connections, words, err)
             if self.line:
                 return
             self.process.communicate(timeout=60)
 
-    def start(self, table, connections, words):
+    def start(self, table, connections, words, err=subprocess.PIPE):
         with socket.socket() as probe:
             probe.bind(("127.0.0.1", 0))
             self.port = probe.getsockname()[1]
         self.process = subprocess.Popen(
             [PROGRAM, "serve", table, "--port", str(self.port), "--object", "K=Hello", "--connections", str(connections), *words],
-            stdout=subprocess.PIPE, stderr=subprocess.PIPE, text=True,
+            stdout=subprocess.PIPE, stderr=err, text=True,
         )
         self.line = self.process.stdout.readline()
 
@@ -144,6 +149,68 @@ def idle(table, count):
         count.add(server.end() == (0, True), "after an idle client")
 
 
+def read_to_end(stream):
+    """What comes until the end; None where the connection is reset."""
+    octets = b""
+    try:
+        while more := stream.recv(65536):
+            octets += more
+    except ConnectionError:
+        return None
+    return octets
+
+
+def unread(table, count):
+    """Who sends more behind what is no message gets the answer to that, and the end."""
+    for words in ((), ("--at-once", "2")):
+        server = Server(table, 2, *words)
+        for _ in range(2):
+            with server.connect() as stream:
+                stream.sendall(request(1, "ping") + b"GIOP\x01\x00\x00\x00" + bytes(300000))
+                got = read_to_end(stream)
+            count.add(got is not None and got[-12:] == ERROR, f"{words}: {got}")
+        count.add(server.end() == (0, True), f"{words}: after octets that stay unread")
+
+
+def status_line(table, count):
+    """Who looks at a terminal is told how much was served."""
+    for words in ((), ("--at-once", "2")):
+        terminal, err = pty.openpty()
+        server = Server(table, 2, *words, err=err)
+        with server.connect() as stream:
+            call(stream, 1, "ping")
+            stream.sendall(request(2, "none"))
+            received(stream, struct.unpack(">I", received(stream, 12)[8:])[0])
+        with server.connect() as stream:
+            stream.sendall(b"GIOP\x01\x00\x00\x00" + bytes(4))
+            read_to_end(stream)
+        server.process.communicate(timeout=60)
+        os.close(err)
+        told = os.read(terminal, 4096).decode()
+        os.close(terminal)
+        wanted = "idlc: served: connections 2, requests 3, answers 2, refused 2\r\n"
+        count.add(told == wanted, f"{words}: {told!r}")
+
+
+def orb(table, count, room):
+    """Eight clients of omniORB, each with calls and a text in fragments."""
+    if not (shutil.which("omniidl") and shutil.which("g++")):
+        return
+    folder = os.path.dirname(os.path.abspath(__file__))
+    subprocess.run(["omniidl", "-bcxx", TOP / "examples" / "idl" / "hello.idl"], cwd=room, check=True)
+    words = ["g++", "-o", "orb_client", f"{folder}/orb_client.cc", "helloSK.cc", "-I.", "-lomniORB4", "-lomnithread"]
+    subprocess.run(words, cwd=room, check=True)
+    for clients in (1, 8):
+        server = Server(table, 8, "--at-once", str(clients))
+        words = ["ior", table, "--host", "127.0.0.1", "--port", str(server.port), "--object", "K=Hello"]
+        reference = subprocess.run([PROGRAM, *words], check=True, capture_output=True, text=True).stdout.strip()
+        with concurrent.futures.ThreadPoolExecutor(clients) as pool:
+            asked = [room / "orb_client", reference]
+            found = list(pool.map(lambda _: subprocess.run(asked, capture_output=True, text=True).stdout, range(8)))
+        count.add(found == ["101\n"] * 8, f"{clients} clients of omniORB: {found}")
+        count.add(server.end() == (0, True), f"after {clients} clients of omniORB")
+
+
 def usage(table, count):
     words = ["serve", table, "--port", "0", "--object", "K=Hello", "--connections", "0"]
     for option in ("--at-once", "--idle"):
@@ -162,6 +229,7 @@ def run(test):
     table = test.room / "hello.table"
     made = test.call([PROGRAM, "compile", TOP / "examples" / "idl" / "hello.idl", "-o", table])
     count.add(made.status == 0, f"hello.idl: {made.err}")
-    for part in (one_silent, sixty_four, breaking_off, idle, usage):
+    for part in (one_silent, sixty_four, breaking_off, idle, unread, status_line, usage):
         part(table, count)
+    orb(table, count, test.room)
     return count

@@ -1,5 +1,5 @@
 -- Connections that came, were served at the same time, and went.
-use Rattle.std.specs.Prelude.{◌≡◌, ◌⊎◌, ℕ, ◌<◌, ◌≤◌, true, List, [], ◌∷◌, ◌++◌, length, Some, slice_get}
+use Rattle.std.specs.Prelude.{◌≡◌, ◌⊎◌, ℕ, ◌<◌, ◌≤◌, Bool, true, List, [], ◌∷◌, ◌++◌, length, Some, slice_get}
 use Rattle.broker_answers.specs.Streams.{Stream, Closed}
 use Rattle.broker_answers.specs.Connections.{at}
 use Rattle.broker_answers.specs.Talk.{World, world, rests, Follows, Talk, GivesUp}
@@ -66,6 +66,11 @@ pub record IsFarewell (octets : List ℕ) : Type 0 where
 abbrev pub IsLast : End → List ℕ → List ℕ → Type 0
 IsLast Idle waiting last = (last ≡ []) ⊎ ((waiting ≡ []) × IsFarewell last)
 IsLast end waiting last = last ≡ []
+
+-- it is shut where no call on it failed
+abbrev pub IsShutAt : End → Bool → Type 0
+IsShutAt Failed shut = Unit {0}
+IsShutAt end shut = shut ≡ true
 
 -- what a connection that was handed back told then, for how many milliseconds no octets had moved on it when it was
 -- asked last, and how it ended

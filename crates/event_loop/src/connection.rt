@@ -1,6 +1,6 @@
 //! Connections on which no call waits.
 
-ghost use Rattle.std.specs.Prelude.{◌≡◌, ◌<◌, ◌≤◌, ℕ, IsTrue, length, take, IfNone, IfOk, IfSome, OnErr};
+ghost use Rattle.std.specs.Prelude.{◌≡◌, ◌<◌, ◌≤◌, ℕ, Bool, true, IsTrue, length, take, IfNone, IfOk, IfSome, OnErr};
 ghost use Rattle.iiop_broker.specs.Ends.{IsEmpty};
 ghost use Rattle.iiop_broker.specs.Outcomes.{Ends};
 ghost use Rattle.event_loop.specs.Telling.{HasRead, HasWritten, with_failed_read, with_failed_write};
@@ -14,6 +14,8 @@ pub trait Connection {
     ghost told: { Self → Ends };
 
     ghost quiet: { Self → ℕ };
+
+    ghost shut: { Self → Bool };
 
     /// Reads octets into the buffer, at most as many as it has room for; 0 at the end. None where
     /// none are there now.
@@ -48,4 +50,10 @@ pub trait Connection {
     fn is_quiet(&mut self, least: u64) -> bool
         ensures told { told self.new ≡ told self.old }
         ensures quiet { IsTrue result → least ≤ quiet self.new };
+
+    /// Shuts the side that is written to, so that the peer sees the end behind what was written.
+    fn shut(&mut self)
+        ensures shut { shut self.new ≡ true }
+        ensures told { told self.new ≡ told self.old }
+        ensures quiet { quiet self.new ≡ quiet self.old };
 }

@@ -2,7 +2,7 @@
 
 ghost use Rattle.std.specs.Prelude.{◌≡◌, ◌∷◌, ◌++◌, ◌+◌, ◌<◌, [], ℕ, Bool, true, List, Option, Some, max, IfNone, IfOk, IfSome, OnErr, OnOk};
 ghost use Rattle.iiop_broker.specs.Outcomes.{Ends};
-ghost use Rattle.event_loop.specs.Visits.{Gone, gone};
+ghost use Rattle.event_loop.specs.Visits.{Gone, IsShutAt, gone};
 
 use crate::connection::Connection;
 use iiop_broker::Failed;
@@ -72,9 +72,12 @@ pub trait Listener {
         ensures looks { looks self.new ≡ looks self.old }
         ensures ended { (all : List (ℕ × Gone)) → ended self.old all → ended self.new all };
 
-    /// Takes back a connection that ended: which it was among those that came, and how it ended.
+    /// Takes back a connection that ended: which it was among those that came, and how it ended. It
+    /// is shut, unless a call on it failed; what still comes may be read, so that the last answer
+    /// isn't lost.
     fn hand_back(&mut self, number: u32, connection: Self::Connection, end: End)
-        requires { 0 < there self.old }
+        requires there { 0 < there self.old }
+        requires shut { IsShutAt end (Self.Connection.shut connection) }
         ensures came { came self.new ≡ came self.old }
         ensures ended { (all : List (ℕ × Gone)) → ended self.old all
             → ended self.new (all

@@ -9,7 +9,7 @@ ghost use Rattle.event_loop.specs.declared.serving.Interruption.TheVariants.{Una
 ghost use Rattle.event_loop.specs.inner.Going.{GoesOn, IsUnderWay};
 
 use crate::listener::{End, Listener};
-use crate::slot::Slot;
+use crate::slot::{Slot, closed};
 use crate::sweep::{let_go, sweep};
 use iiop_broker::laws::steps_are_the_talk;
 use iiop_broker::{Broker, BrokerFault, Event, MAX_ROOM, Servant};
@@ -62,7 +62,7 @@ fn admit<S: Servant, L: Listener>(
     match broker.step(Event::Begin(number)) {
         Ok(_) => {}
         Err(BrokerFault::NoMemory) => {
-            listener.hand_back(number, connection, End::GivenUp);
+            listener.hand_back(number, closed(connection), End::GivenUp);
             return Ok(true);
         }
         Err(_) => unreachable!(),

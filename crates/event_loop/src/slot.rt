@@ -1,11 +1,11 @@
 //! A connection that is served.
 
-ghost use Rattle.std.specs.Prelude.{◌≡◌, ◌≢◌, ◌↔◌, ◌<◌, ◌++◌, ◌∷◌, [], List, ℕ, IsTrue, length};
+ghost use Rattle.std.specs.Prelude.{◌≡◌, ◌≢◌, ◌↔◌, ◌<◌, ◌++◌, ◌∷◌, [], List, ℕ, true, IsTrue, length};
 ghost use Rattle.giop_messages.specs.Messages.{Closes, Says};
 ghost use Rattle.broker_answers.specs.Servants.{acts};
 ghost use Rattle.iiop_broker.specs.Listed.{IsThere};
 ghost use Rattle.iiop_broker.specs.Outcomes.{Ends};
-ghost use Rattle.event_loop.specs.Visits.{Gone, IsIdle, gone};
+ghost use Rattle.event_loop.specs.Visits.{Gone, IsIdle, IsShutAt, gone};
 ghost use Rattle.event_loop.specs.declared.listener.End.{End};
 ghost use Rattle.event_loop.specs.declared.listener.End.TheVariants.{Idle};
 ghost use Rattle.event_loop.specs.declared.slot.Course.TheVariants.{Over};
@@ -47,6 +47,17 @@ fn close<C: Connection>(connection: &mut C)
         Ok(None) => {}
         Err(_) => {}
     }
+}
+
+/// A connection whose side that is written to is shut.
+pub(crate) fn closed<C: Connection>(connection: C) -> C
+    ensures shut { C.shut result ≡ true }
+    ensures told { C.told result ≡ C.told connection }
+    ensures quiet { C.quiet result ≡ C.quiet connection }
+{
+    let mut connection = connection;
+    connection.shut();
+    connection
 }
 
 /// A connection with its number and its last answer, of which so much is sent.
@@ -110,13 +121,14 @@ impl<C: Connection> Slot<C> {
 
     /// The connection as it is handed back.
     pub(crate) fn into_connection(self, end: End) -> C
-        ensures { IsLetGo self end (gone (C.told result) (C.quiet result) end) }
+        ensures let_go { IsLetGo self end (gone (C.told result) (C.quiet result) end) }
+        ensures shut { IsShutAt end (C.shut result) }
     {
         match end {
-            End::Idle => self.into_parted(),
-            End::Finished => self.into_plain(),
+            End::Idle => closed(self.into_parted()),
+            End::Finished => closed(self.into_plain()),
             End::Failed => self.into_plain(),
-            End::GivenUp => self.into_plain(),
+            End::GivenUp => closed(self.into_plain()),
         }
     }
 

@@ -21,6 +21,7 @@ use crate::service::served;
 use crate::tasks::done;
 use crate::told::Answer;
 use command_words::{Said, parse};
+use socket_server::Totals;
 use std::alloc::AllocError;
 use std::io::IsTerminal;
 use std::net::Net;
@@ -60,10 +61,18 @@ fn say<O: io::Write, E: io::Write>(out: &mut O, err: &mut E, answer: &Answer) ->
     DONE
 }
 
+/// Tells a person how much was served.
+fn tell<E: io::Write>(err: &mut E, totals: &Totals, is_for_person: bool) {
+    if is_for_person {
+        let _ = writeln!(err, "idlc: served: {totals}");
+    }
+}
+
 /// Runs the program on words, of which the first is its name, and gives its status: 0 where it did
 /// what was asked for, 1 for refused input, 2 for usage, 3 for files and standard output, 4 for
 /// want of memory. Standard output has the answer or nothing, where calls are served the line that
-/// says so; a fault is told on standard error, for a person with all that is known of it.
+/// says so; a fault is told on standard error, for a person with all that is known of it, and to a
+/// person too how much was served.
 fn run_for<R: WholeFiles + Net + Clock + Eprint + AllocGlobal, O: io::Write, E: io::Write>(
     rt: &R,
     words: &[&str],
@@ -86,7 +95,10 @@ fn run_for<R: WholeFiles + Net + Clock + Eprint + AllocGlobal, O: io::Write, E: 
             Err(fault) => failed(err, &fault),
         },
         Ok(Said::Serve(service)) => match served(rt, out, &service, is_for_person) {
-            Ok(()) => DONE,
+            Ok(totals) => {
+                tell(err, &totals, is_for_person);
+                DONE
+            }
             Err(fault) => failed(err, &fault),
         },
         Err(mistake) => failed(err, &Fault::from(mistake)),

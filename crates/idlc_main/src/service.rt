@@ -1,6 +1,6 @@
 //! Calls served to an object of a table's interface.
 
-ghost use Rattle.std.specs.Prelude.{◌≡◌, ◌<◌, IfErr, OnOk};
+ghost use Rattle.std.specs.Prelude.{◌≡◌, ◌<◌, IfErr, IfOk, OnOk};
 ghost use Rattle.std.specs.Io.KnownBytes.{Appends};
 ghost use Rattle.socket_server.specs.Lines.{serving};
 ghost use Rattle.idlc_main.specs.Answer.{MayServe};
@@ -11,20 +11,21 @@ use crate::fault::Fault;
 use crate::told::named_fault;
 use command_words::Service;
 use named_tables::load;
-use socket_server::{ServeOptions, serve};
+use socket_server::{ServeOptions, Totals, serve};
 use std::io::Write;
 use std::net::Net;
 use std::time::Clock;
 use table_commands::WholeFiles;
 
-/// Serves calls by a table, which is checked before anything listens.
+/// Serves calls by a table, which is checked before anything listens, and tells how much was served.
 pub fn served<'a, R: WholeFiles + Net + Clock + Eprint + AllocGlobal, O: Write>(
     rt: &R,
     out: &mut O,
     service: &Service<'a>,
     is_for_person: bool,
-) -> Result<(), Fault<'a>>
+) -> Result<Totals, Fault<'a>>
     ensures done { OnOk result (IsServed (R.reads rt.now) service.now) }
+    ensures counted { IfOk result (λ totals. totals.connections ≡ service.now.connections) }
     ensures printed { OnOk result
         (Appends (O.contents out.old) (O.contents out.new) (serving service.now.port)) }
     ensures silent { IfErr result (λ fault. status_of fault < 3 → out.new ≡ out.old) }
@@ -42,7 +43,7 @@ pub fn served<'a, R: WholeFiles + Net + Clock + Eprint + AllocGlobal, O: Write>(
         idle: service.idle,
     };
     match serve(rt, out, loaded.table, &options) {
-        Ok(()) => Ok(()),
+        Ok(totals) => Ok(totals),
         Err(fault) => Err(Fault::from(fault)),
     }
 }

@@ -8,3 +8,4 @@ pub mod Written
 pub mod AnsweredStreams
 pub mod Going
 pub mod Ending
+pub mod OneMessage

@@ -10,13 +10,12 @@ abbrev pub wanted_by : Result Head FramingFault → ℕ → ℕ
 wanted_by (Ok head) n = head.size + 12 - n
 wanted_by (Err fault) n = 0
 
--- what the message at the front of these still wants; nothing that is known where its head hasn't come or is none
+-- what the message at the front of these still wants, or its head; nothing that is known where that is none
 abbrev pub wanted : List ℕ → ℕ
-wanted rest = (if nat_lt (length rest) 12 then 0 else wanted_by (head_in rest) (length rest))
+wanted rest = (if nat_lt (length rest) 12 then 12 - length rest else wanted_by (head_in rest) (length rest))
 
--- As much as the message at the front wants, but 4,096 octets at least and 65,536 at most: no octet behind that message
--- is read where more than 4,096 are.
+-- No octet behind that message, and 65,536 at most; one at least.
 abbrev pub room_of : Option Stream → ℕ
-room_of (Some (Open run rest)) = min (max (wanted rest) 4096) 65536
-room_of (Some Closed) = 4096
-room_of None = 4096
+room_of (Some (Open run rest)) = max (min (wanted rest) 65536) 1
+room_of (Some Closed) = 12
+room_of None = 12

@@ -1,6 +1,6 @@
 //! The broker.
 
-ghost use Rattle.std.specs.Prelude.{◌≡◌, ◌<◌, ◌↔◌, [], IfOk, IfErr, IsTrue, Some, is_some};
+ghost use Rattle.std.specs.Prelude.{◌≡◌, ◌<◌, ◌≤◌, ◌↔◌, [], IfOk, IfErr, IsTrue, Some, is_some};
 ghost use Rattle.broker_answers.specs.Connections.{at};
 ghost use Rattle.broker_answers.specs.Streams.{Closed};
 ghost use Rattle.broker_answers.specs.Talk.{world};
@@ -77,10 +77,12 @@ impl<S: Servant> Broker<S> {
     }
 
     /// How many octets of the connection of a number are to be read next at most: what the message at
-    /// its front still wants, but 4,096 at least and `MAX_ROOM` at most. Takes no memory.
+    /// its front still wants, or its head, and `MAX_ROOM` at most. So no octet behind that message is
+    /// read, and a piece completes one message at most. Takes no memory.
     pub fn room(&self, c: u32) -> usize
         ensures value { result ≡ room_of (at c self.now.world.there) }
         ensures some { 0 < result }
+        ensures few { result ≤ 65536 }
     {
         room(self.connections.as_slice(), c)
     }

@@ -1,13 +1,15 @@
 //! The law of brokers, over the definitions alone.
 
-ghost use Rattle.std.specs.Prelude.{ℕ, ◌≤◌, ◌↔◌, List, [], length};
+ghost use Rattle.std.specs.Prelude.{ℕ, ◌≡◌, ◌≤◌, ◌↔◌, ◌++◌, List, [], Option, Some, length};
+ghost use Rattle.giop_messages.specs.Framing.{More, front};
 ghost use Rattle.broker_answers.specs.Connections.{max_connections};
-ghost use Rattle.broker_answers.specs.Streams.{Stream};
+ghost use Rattle.broker_answers.specs.Streams.{Open, Stream, cut};
 ghost use Rattle.broker_answers.specs.Talk.{Event, Follows, Steps, Talk, World, rests, world};
 ghost use Rattle.broker_answers.specs.Objects.{Served};
 ghost use Rattle.broker_answers.specs.Servants.{acts};
 ghost use Rattle.broker_answers.specs.Serving.{Moves, Serves};
 ghost use Rattle.iiop_broker.specs.Rests.{IsTalked};
+ghost use Rattle.iiop_broker.specs.Room.{room_of};
 
 use broker_answers::Servant;
 
@@ -36,4 +38,11 @@ pub fn connections_are_few<S: Servant>()
         → Follows rests (Serves (acts S.says S.after) served) (Moves (acts S.says S.after) served)
         (world servant []) said (world after there)
         → length there ≤ max_connections }
+{}
+
+/// Where what is kept of a connection has no whole message, as many octets behind it as
+/// `Broker::room` tells complete one message at most: so one answer at most comes of them.
+pub fn one_message_at_a_time()
+    ensures { (run : Option (List ℕ)) (rest more : List ℕ) → front run rest ≡ More
+        → length more ≤ room_of (Some (Open run rest)) → length (cut run (rest ++ more)).raws ≤ 1 }
 {}

@@ -1,6 +1,6 @@
 //! How much is read of a connection at a time.
 
-ghost use Rattle.std.specs.Prelude.{◌≡◌, ◌<◌};
+ghost use Rattle.std.specs.Prelude.{◌≡◌, ◌<◌, ◌≤◌};
 ghost use Rattle.broker_answers.specs.Connections.{at};
 ghost use Rattle.iiop_broker.specs.Kept.{streams_of};
 ghost use Rattle.iiop_broker.specs.Room.{room_of, wanted};
@@ -9,18 +9,15 @@ use crate::connections::{Connection, kept_of};
 use crate::kept::Kept;
 use giop_messages::{HEAD_LEN, Head};
 
-/// So much is read where the message at the front doesn't want more.
-const LEAST: usize = 4_096;
-
 /// The most that is read at a time.
 pub const MAX_ROOM: usize = 65_536;
 
-/// What the message at the front still wants.
+/// What the message at the front still wants, or its head, as long as that hasn't come.
 fn wanted(rest: &[u8]) -> usize
     ensures { result ≡ wanted rest.now }
 {
     if rest.len() < HEAD_LEN {
-        return 0;
+        return HEAD_LEN - rest.len();
     }
     match Head::read(rest) {
         Ok(head) => (head.size as usize + HEAD_LEN).saturating_sub(rest.len()),
@@ -32,10 +29,11 @@ fn wanted(rest: &[u8]) -> usize
 pub(crate) fn room(connections: &[Connection], c: u32) -> usize
     ensures value { result ≡ room_of (at c (streams_of connections.now)) }
     ensures some { 0 < result }
+    ensures few { result ≤ 65536 }
 {
     match kept_of(connections, c) {
-        Some(Kept::Open { run: _, rest }) => wanted(rest.as_slice()).max(LEAST).min(MAX_ROOM),
-        Some(Kept::Closed) => LEAST,
-        None => LEAST,
+        Some(Kept::Open { run: _, rest }) => wanted(rest.as_slice()).min(MAX_ROOM).max(1),
+        Some(Kept::Closed) => HEAD_LEN,
+        None => HEAD_LEN,
     }
 }

@@ -2,3 +2,4 @@ pub mod Visits
 pub mod Objects
 pub mod Counts
 pub mod Sessions
+pub mod Untold

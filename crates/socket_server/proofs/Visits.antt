@@ -1,10 +1,10 @@
 -- Connections served one after the other.
-use Rattle.std.proofs.Common.{◌≡◌, inl, inr, ℕ, ◌+◌, ◌<◌, List, [], ◌∷◌, ◌++◌, length, Result, Ok, Err, refl, sym, ap, ◌∙◌, subst, append_assoc, append-nil, arith}
+use Rattle.std.proofs.Common.{◌≡◌, inl, inr, ℕ, ◌+◌, ◌<◌, List, [], ◌∷◌, ◌++◌, length, Option, Bool, Result, Ok, Err, refl, sym, ap, ◌∙◌, subst, append_assoc, append-nil, arith}
 use Rattle.broker_answers.specs.Streams.{Stream}
 use Rattle.broker_answers.specs.Talk.{World, world}
 use Rattle.broker_answers.specs.Servants.{Acting}
 use Rattle.broker_answers.specs.Objects.{Served}
-use Rattle.iiop_broker.specs.Outcomes.{Ends}
+use Rattle.iiop_broker.specs.Outcomes.{Ends, ends}
 use Rattle.iiop_broker.specs.Serving.{IsServed}
 use Rattle.iiop_broker.specs.declared.stream_fault.StreamFault.{StreamFault}
 use Rattle.iiop_broker.specs.declared.stream_fault.StreamFault.TheVariants as faults
@@ -26,6 +26,12 @@ there_stays acting served c reads before from (Err faults.TooMany) after to is =
 -- a world without connections
 alone : {S : Type 0} (w : World S Stream) → w.there ≡ [] → w ≡ world w.servant []
 alone w e = ap (λ there. world w.servant there) e
+
+-- a shut side tells what it told
+pub same_ends : (left written written' : Option (List ℕ)) (unread unwritten unwritten' : Bool) → written' ≡ written
+    → unwritten' ≡ unwritten → ends left written' unread unwritten' ≡ ends left written unread unwritten
+same_ends left written written' unread unwritten unwritten' one other =
+    ap (λ w. ends left w unread unwritten') one ∙ ap (λ f. ends left written unread f) other
 
 -- what was served was seen to
 pub seen_of : {S : Type 0} (acting : Acting S) (served : Served) (before : World S Stream) (from : Ends)

@@ -1,15 +1,23 @@
 -- Connections served one after the other.
-use Rattle.std.specs.Prelude.{◌≡◌, ℕ, ◌<◌, List, [], ◌∷◌, ◌++◌, length, Result, None, false}
+use Rattle.std.specs.Prelude.{◌≡◌, ℕ, ◌<◌, List, [], ◌∷◌, ◌++◌, length, Result, Ok, Err, None, Bool, true, false}
 use Rattle.broker_answers.specs.Talk.{world}
 use Rattle.broker_answers.specs.Servants.{Acting}
 use Rattle.broker_answers.specs.Objects.{Served}
 use Rattle.iiop_broker.specs.Outcomes.{Ends, ends}
 use Rattle.iiop_broker.specs.Serving.{IsServed}
 use Rattle.iiop_broker.specs.declared.stream_fault.StreamFault.{StreamFault}
+use Rattle.iiop_broker.specs.declared.stream_fault.StreamFault.TheVariants.{ReadFailed, WriteFailed}
 
 -- a connection that tells nothing
 abbrev pub untold : Ends
 untold = ends None None false false
+
+-- it is shut where no call on it failed
+abbrev pub IsShutAt : Result (Unit {0}) StreamFault → Bool → Type 0
+IsShutAt (Ok done) shut = shut ≡ true
+IsShutAt (Err ReadFailed) shut = Unit {0}
+IsShutAt (Err (WriteFailed sent)) shut = Unit {0}
+IsShutAt (Err fault) shut = shut ≡ true
 
 -- what a connection that was handed back told then, and how its stream ended
 pub record Went : Type 0 where

@@ -2,13 +2,27 @@
 
 ghost use Rattle.std.specs.Prelude.{◌≡◌, [], List, true, IfErr, OnErr, OnOk};
 ghost use Rattle.broker_answers.specs.Servants.{acts};
-ghost use Rattle.socket_server.specs.Visits.{AreCut, AreServed, IsOneMore, Went};
+ghost use Rattle.socket_server.specs.Visits.{AreCut, AreServed, IsOneMore, IsShutAt, Went};
 
-use crate::listener::Listener;
-use iiop_broker::{Broker, Failed, Servant, serve_stream};
+use crate::listener::{Closing, Listener};
+use iiop_broker::{Broker, Failed, Servant, StreamFault, serve_stream};
 
 /// The number of the connection that is served.
 const CONNECTION: u32 = 1;
+
+/// Shuts the side that is written to behind a stream that ended so, unless a call failed.
+fn shut_behind<W: Closing>(writer: &mut W, end: Result<(), StreamFault>)
+    ensures shut { IsShutAt end (W.shut writer.new) }
+    ensures written { W.written writer.new ≡ W.written writer.old }
+    ensures failure { W.failure writer.new ≡ W.failure writer.old }
+{
+    match end {
+        Ok(()) => writer.shut(),
+        Err(StreamFault::ReadFailed) => {}
+        Err(StreamFault::WriteFailed { sent: _ }) => {}
+        Err(_) => writer.shut(),
+    }
+}
 
 /// Serves the next connection to its end, whether it ends well or breaks off, and hands it back.
 fn serve_next<S: Servant, L: Listener>(
@@ -31,6 +45,7 @@ fn serve_next<S: Servant, L: Listener>(
         return Err(Failed);
     };
     let end = serve_stream(broker, CONNECTION, &mut reader, &mut writer);
+    shut_behind(&mut writer, end);
     listener.hand_back(reader, writer, end);
     Ok(())
 }

@@ -2,28 +2,35 @@
 //! other or at the same time.
 #![tactic(auto)]
 
+mod ahead;
 mod announcing;
 mod connections;
 mod fault;
+mod leaving;
 mod listener;
 mod loopback;
+mod memory;
 mod misses;
+mod moving;
 mod object;
 mod options;
 mod polled_loopback;
 mod polled_stream;
 mod serving;
 mod serving_many;
-mod untold;
+mod side;
+mod tally;
+mod totals;
 
 pub use announcing::serving_line;
 pub use connections::serve_connections;
 pub use fault::ServeFault;
-pub use listener::Listener;
+pub use listener::{Closing, Listener};
 pub use loopback::Loopback;
 pub use options::ServeOptions;
 pub use polled_loopback::PolledLoopback;
 pub use polled_stream::PolledStream;
 pub use serving::{serve, serve_at};
 pub use serving_many::serve_many_at;
-pub use untold::Untold;
+pub use side::Side;
+pub use totals::Totals;

@@ -2,9 +2,20 @@
 
 ghost use Rattle.std.specs.Prelude.{◌≡◌, ◌∷◌, ◌++◌, [], ℕ, Bool, List, Option, Some, true, false, IfOk, OnErr, OnOk};
 ghost use Rattle.iiop_broker.specs.Outcomes.{Ends, ends};
-ghost use Rattle.socket_server.specs.Visits.{Went, went_as};
+ghost use Rattle.socket_server.specs.Visits.{IsShutAt, Went, went_as};
 
 use iiop_broker::{Failed, Input, Output, StreamFault};
+
+/// The side of a connection that is written to, and can be shut. It tells whether it is.
+pub trait Closing: Output {
+    ghost shut: { Self → Bool };
+
+    /// Shuts it, so that the peer sees the end behind what was written.
+    fn shut(&mut self)
+        ensures shut { shut self.new ≡ true }
+        ensures written { Self.written self.new ≡ Self.written self.old }
+        ensures failure { Self.failure self.new ≡ Self.failure self.old };
+}
 
 /// Where connections come from, one after the other. It tells of each connection that came what its
 /// reader and its writer told then, which list of those that were handed back it may have, the port
@@ -12,7 +23,7 @@ use iiop_broker::{Failed, Input, Output, StreamFault};
 pub trait Listener {
     type Reader: Input + Drop;
 
-    type Writer: Output + Drop;
+    type Writer: Closing + Drop;
 
     ghost came: { Self → List Ends };
 
@@ -45,13 +56,15 @@ pub trait Listener {
         ensures went { (all : List Went) → went self.old all → went self.new all }
         ensures port { port self.new ≡ port self.old };
 
-    /// Takes back the connection that came last, and how its stream ended.
+    /// Takes back the connection that came last, and how its stream ended. It is shut, unless a call
+    /// on it failed; what still comes may be read, so that the last answer isn't lost.
     fn hand_back(
         &mut self,
         reader: Self::Reader,
         writer: Self::Writer,
         end: Result<(), StreamFault>,
     )
+        requires { IsShutAt end (Self.Writer.shut writer) }
         ensures came { came self.new ≡ came self.old }
         ensures went { (all : List Went) → went self.old all → went self.new (all
             ++ went_as (ends (Self.Reader.left reader) (Self.Writer.written writer) (Self.Reader.failure reader)

@@ -1,12 +1,14 @@
 //! Sockets of this machine alone.
 
-ghost use Rattle.std.specs.Prelude.{◌≡◌, ⊤, false, replicate, IfSome};
+ghost use Rattle.std.specs.Prelude.{◌≡◌, ⊤, false, replicate};
 ghost use Rattle.socket_server.specs.Visits.{untold};
 
+use crate::leaving::let_go;
 use crate::listener::Listener;
 use crate::misses::{Misses, PAUSE, TRIES};
-use crate::untold::Untold;
-use iiop_broker::{Failed, StreamFault, Wire};
+use crate::side::Side;
+use crate::totals::Totals;
+use iiop_broker::{Failed, StreamFault};
 use std::net::{Net, OpenListener, OpenStream, TcpListener};
 use std::thread;
 use std::time::{Clock, Duration};
@@ -18,6 +20,9 @@ pub struct Loopback<'r, R: Net + Clock + Eprint> {
     net: &'r R,
     misses: Misses,
     socket: Option<R::Listener>,
+    /// That of the connection that came last, to let go of it.
+    stream: Option<R::Stream>,
+    totals: Totals,
     /// The port that is listened on.
     port: Option<u16>,
     /// How many connections have come.
@@ -33,6 +38,8 @@ impl<'r, R: Net + Clock + Eprint> Loopback<'r, R> {
             net,
             misses: Misses::new(),
             socket: None,
+            stream: None,
+            totals: Totals::new(),
             port: None,
             count: 0,
             failed: false,
@@ -40,31 +47,48 @@ impl<'r, R: Net + Clock + Eprint> Loopback<'r, R> {
     }
 }
 
-/// The two ends of the next connection, of which small answers go out at once, where the system can.
-fn next<S: OpenStream + Drop, T: OpenListener<Stream = S>>(
-    socket: &T,
-) -> Option<(Wire<Untold<S>>, Wire<Untold<S>>)>
-    ensures reading { IfSome result (λ it. it.0.failed ≡ false) }
-    ensures writing { IfSome result (λ it. it.1.failed ≡ false) }
-{
+/// Whether octets may still move on a connection whose stream ended so.
+fn is_sound(end: Result<(), StreamFault>) -> bool {
+    match end {
+        Err(StreamFault::ReadFailed) | Err(StreamFault::WriteFailed { .. }) => false,
+        _ => true,
+    }
+}
+
+/// The two sides of a connection, and what it is let go of by.
+#[derive(Drop)]
+struct Ends<S> {
+    reader: Side<S>,
+    writer: Side<S>,
+    stream: S,
+    ghost reading: { reader.failed ≡ false },
+    ghost writing: { writer.failed ≡ false },
+}
+
+/// The next connection, of which small answers go out at once, where the system can.
+fn next<S: OpenStream + Drop, T: OpenListener<Stream = S>>(socket: &T) -> Option<Ends<S>> {
     let Ok((stream, _)) = socket.accept() else {
         return None;
     };
     let _ = stream.set_nodelay(true);
-    match stream.try_clone() {
-        Ok(writer) => Some((
-            Wire::new(Untold::new(stream)),
-            Wire::new(Untold::new(writer)),
-        )),
-        Err(_) => None,
+    match (stream.try_clone(), stream.try_clone()) {
+        (Ok(reader), Ok(writer)) => Some(Ends {
+            reader: Side::new(reader),
+            writer: Side::new(writer),
+            stream,
+        }),
+        _ => None,
     }
 }
 
 impl<'r, R: Net + Clock + Eprint> Loopback<'r, R> {
-    /// The two ends of the next connection, for which it is tried often enough.
-    fn wait(&mut self) -> Option<(Wire<Untold<R::Stream>>, Wire<Untold<R::Stream>>)>
-        ensures reading { IfSome result (λ it. it.0.failed ≡ false) }
-        ensures writing { IfSome result (λ it. it.1.failed ≡ false) }
+    /// What was read and written of the connections that went.
+    pub(crate) fn totals(&self) -> Totals {
+        self.totals
+    }
+
+    /// The next connection, for which it is tried often enough.
+    fn wait(&mut self) -> Option<Ends<R::Stream>>
         ensures port { self.new.port ≡ self.old.port }
         ensures count { self.new.count ≡ self.old.count }
     {
@@ -86,9 +110,9 @@ impl<'r, R: Net + Clock + Eprint> Loopback<'r, R> {
 }
 
 impl<'r, R: Net + Clock + Eprint> Listener for Loopback<'r, R> {
-    type Reader = Wire<Untold<R::Stream>>;
+    type Reader = Side<R::Stream>;
 
-    type Writer = Wire<Untold<R::Stream>>;
+    type Writer = Side<R::Stream>;
 
     ghost came = { λ loopback. replicate loopback.count untold };
 
@@ -109,11 +133,12 @@ impl<'r, R: Net + Clock + Eprint> Listener for Loopback<'r, R> {
         }
     }
 
-    fn accept(&mut self) -> Result<(Wire<Untold<R::Stream>>, Wire<Untold<R::Stream>>), Failed> {
+    fn accept(&mut self) -> Result<(Side<R::Stream>, Side<R::Stream>), Failed> {
         match (self.wait(), self.count.checked_add(1)) {
             (Some(ends), Some(count)) => {
                 self.count = count;
-                Ok(ends)
+                self.stream = Some(ends.stream);
+                Ok((ends.reader, ends.writer))
             }
             _ => {
                 self.failed = true;
@@ -124,8 +149,15 @@ impl<'r, R: Net + Clock + Eprint> Listener for Loopback<'r, R> {
 
     fn hand_back(
         &mut self,
-        _reader: Wire<Untold<R::Stream>>,
-        _writer: Wire<Untold<R::Stream>>,
-        _end: Result<(), StreamFault>,
-    ) {}
+        reader: Side<R::Stream>,
+        writer: Side<R::Stream>,
+        end: Result<(), StreamFault>,
+    ) {
+        self.totals.add(reader.tally(), writer.tally());
+        if let Some(stream) = self.stream.take()
+            && is_sound(end)
+        {
+            let_go(self.net, stream);
+        }
+    }
 }

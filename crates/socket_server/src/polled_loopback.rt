@@ -3,12 +3,16 @@
 ghost use Rattle.std.specs.Prelude.{◌≡◌, ◌≤◌, ⊤, replicate, IfOk};
 ghost use Rattle.socket_server.specs.Visits.{untold};
 
+use crate::leaving::{LIMITS, Leaving};
 use crate::misses::{Misses, PAUSE};
-use crate::polled_stream::{PolledStream, TRIES};
+use crate::moving::TRIES;
+use crate::polled_stream::PolledStream;
+use crate::totals::Totals;
 use event_loop::{End, Listener};
 use iiop_broker::Failed;
 use mio::net::{TcpListener, TcpStream};
 use mio::{Events, Interest, Poll, Token};
+use partings::Partings;
 use std::alloc::{AllocError, Global};
 use std::io::ErrorKind;
 use std::net::{Ipv4Addr, Net, SocketAddr};
@@ -21,6 +25,12 @@ const EVENTS: usize = 65;
 /// late is it seen that a connection is idle.
 const LONGEST_WAIT: u64 = 1000;
 
+/// No wait has more while connections are let go of.
+const SHORT_WAIT: u64 = 50;
+
+/// So often those that are let go of when all were served are asked at most.
+const LAST_ROUNDS: u32 = 8_192;
+
 /// What is listened on, and what waits until octets may move there.
 #[derive(Drop)]
 struct Port {
@@ -32,6 +42,12 @@ struct Port {
 fn watch<S: mio::event::Source>(poll: &Poll, source: &mut S) {
     let both = Interest::READABLE | Interest::WRITABLE;
     let _ = poll.registry().register(source, Token(0), both);
+}
+
+/// Goes on with those that are let go of. It stands apart since each call has room for what is read.
+fn go_on<R: Clock>(leaving: &mut Partings<Leaving<'_, R, TcpStream>>) -> bool {
+    let mut buffer = [0u8; 65_536];
+    leaving.go_on(&mut buffer, LIMITS)
 }
 
 impl Port {
@@ -72,6 +88,9 @@ pub struct PolledLoopback<'r, R: Net + Clock + Eprint> {
     /// The number of the port that is listened on.
     number: Option<u16>,
     events: Events,
+    /// Those that are let go of.
+    leaving: Partings<Leaving<'r, R, TcpStream>>,
+    totals: Totals,
     /// How many connections have come, are there, and were there at the same time at most.
     count: u64,
     there: u64,
@@ -94,12 +113,64 @@ impl<'r, R: Net + Clock + Eprint> PolledLoopback<'r, R> {
             port: None,
             number: None,
             events: Events::with_capacity(alloc, EVENTS)?,
+            leaving: Partings::new(alloc),
+            totals: Totals::new(),
             count: 0,
             there: 0,
             most: 0,
             looks: 0,
             failed: false,
         })
+    }
+
+    /// Lets go of those that are to be let go of, as far as it goes at once: whether octets moved.
+    fn leave(&mut self) -> bool
+        ensures count { self.new.count ≡ self.old.count }
+        ensures there { self.new.there ≡ self.old.there }
+        ensures most { self.new.most ≡ self.old.most }
+        ensures number { self.new.number ≡ self.old.number }
+        ensures looks { self.new.looks ≡ self.old.looks }
+    {
+        if self.leaving.is_empty() {
+            return false;
+        }
+        go_on(&mut self.leaving)
+    }
+
+    /// Waits until octets may move.
+    fn wait(&mut self)
+        ensures count { self.new.count ≡ self.old.count }
+        ensures there { self.new.there ≡ self.old.there }
+        ensures most { self.new.most ≡ self.old.most }
+        ensures number { self.new.number ≡ self.old.number }
+        ensures looks { self.new.looks ≡ self.old.looks }
+    {
+        let wait = if self.misses.is_some() {
+            PAUSE
+        } else if !self.leaving.is_empty() {
+            SHORT_WAIT
+        } else {
+            LONGEST_WAIT
+        };
+        if let Some(port) = &mut self.port {
+            let _ = port
+                .poll
+                .poll(&mut self.events, Some(Duration::from_millis(wait)));
+        }
+    }
+
+    /// Lets go of those that are still to be let go of when all were served, and tells what was read
+    /// and written of all.
+    pub(crate) fn finish(&mut self) -> Totals {
+        for _ in 0..LAST_ROUNDS {
+            if self.leaving.is_empty() {
+                return self.totals;
+            }
+            if !self.leave() {
+                self.wait();
+            }
+        }
+        self.totals
     }
 
     /// The next connection, where a port is listened on.
@@ -160,23 +231,21 @@ impl<'r, R: Net + Clock + Eprint> Listener for PolledLoopback<'r, R> {
         }
     }
 
-    fn hand_back(&mut self, _number: u32, _connection: PolledStream<'r, R>, _end: End) {
+    fn hand_back(&mut self, _number: u32, connection: PolledStream<'r, R>, end: End) {
         self.there -= 1;
+        let (stream, read, written) = connection.into_parts();
+        self.totals.add(&read, &written);
+        if end != End::Failed {
+            self.leaving.take(Leaving::new(self.net, stream));
+        }
     }
 
     fn look(&mut self, moved: bool) {
         self.looks += 1;
-        if moved {
+        let has_left = self.leave();
+        if moved || has_left {
             return;
         }
-        if let Some(port) = &mut self.port {
-            let wait = if self.misses.is_some() {
-                PAUSE
-            } else {
-                LONGEST_WAIT
-            };
-            let wait = Duration::from_millis(wait);
-            let _ = port.poll.poll(&mut self.events, Some(wait));
-        }
+        self.wait();
     }
 }

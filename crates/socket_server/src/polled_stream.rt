@@ -3,25 +3,29 @@
 ghost use Rattle.std.specs.Prelude.{◌≡◌, ◌≤◌, length, None, false, IfOk, IfSome};
 ghost use Rattle.iiop_broker.specs.Outcomes.{ends};
 
+use crate::ahead::Ahead;
+use crate::moving::write_now;
+use crate::tally::Tally;
 use event_loop::Connection;
 use iiop_broker::Failed;
 use mio::net::TcpStream;
-use std::io::{ErrorKind, Read, Write};
+use std::net::Shutdown;
 use std::time::{Clock, Instant};
-
-/// A call that a signal ends is made so often at most, and then left until the next round.
-pub(crate) const TRIES: u32 = 100;
 
 /// A connection of this machine's. It tells nothing of the octets that it carries.
 #[derive(Drop)]
 pub struct PolledStream<'r, R: Clock> {
     clock: &'r R,
     stream: TcpStream,
+    ahead: Ahead,
     /// When it was asked first since octets moved last.
     since: Option<Instant>,
     quiet: u64,
+    read: Tally,
+    written: Tally,
     unread: bool,
     unwritten: bool,
+    is_shut: bool,
 }
 
 impl<'r, R: Clock> PolledStream<'r, R> {
@@ -32,11 +36,20 @@ impl<'r, R: Clock> PolledStream<'r, R> {
         PolledStream {
             clock,
             stream,
+            ahead: Ahead::new(),
             since: None,
             quiet: 0,
+            read: Tally::new(),
+            written: Tally::new(),
             unread: false,
             unwritten: false,
+            is_shut: false,
         }
+    }
+
+    /// The socket, and the messages that were read and written.
+    pub(crate) fn into_parts(self) -> (TcpStream, Tally, Tally) {
+        (self.stream, self.read, self.written)
     }
 
     /// For how many milliseconds no octets have moved. A clock that can't be read counts none.
@@ -60,46 +73,18 @@ impl<'r, R: Clock> PolledStream<'r, R> {
     }
 }
 
-/// Reads what is there now.
-fn read_now(stream: &mut TcpStream, buffer: &mut [u8]) -> Result<Option<usize>, Failed>
-    ensures room { length buffer.new ≡ length buffer.old }
-    ensures within { IfOk result (λ got. IfSome got (λ n. n ≤ length buffer.old)) }
-{
-    for _ in 0..TRIES {
-        match stream.read(buffer) {
-            Ok(n) => return Ok(Some(n)),
-            Err(error) if error.kind() == ErrorKind::Interrupted => {}
-            Err(error) if error.kind() == ErrorKind::WouldBlock => return Ok(None),
-            Err(_) => return Err(Failed),
-        }
-    }
-    Ok(None)
-}
-
-/// Writes what is taken now.
-fn write_now(stream: &mut TcpStream, octets: &[u8]) -> Result<Option<usize>, Failed>
-    ensures within { IfOk result (λ got. IfSome got (λ n. n ≤ length octets.now)) }
-{
-    for _ in 0..TRIES {
-        match stream.write(octets) {
-            Ok(n) => return Ok(Some(n)),
-            Err(error) if error.kind() == ErrorKind::Interrupted => {}
-            Err(error) if error.kind() == ErrorKind::WouldBlock => return Ok(None),
-            Err(_) => return Err(Failed),
-        }
-    }
-    Ok(None)
-}
-
 impl<'r, R: Clock> Connection for PolledStream<'r, R> {
     ghost told = { λ one. ends None None one.unread one.unwritten };
 
     ghost quiet = { λ one. one.quiet };
 
+    ghost shut = { λ one. one.is_shut };
+
     fn read(&mut self, buffer: &mut [u8]) -> Result<Option<usize>, Failed> {
-        match read_now(&mut self.stream, buffer) {
+        match self.ahead.read(&mut self.stream, buffer) {
             Ok(Some(n)) => {
                 self.since = None;
+                self.read.see(buffer.split_at(n).0);
                 Ok(Some(n))
             }
             Ok(None) => Ok(None),
@@ -114,6 +99,7 @@ impl<'r, R: Clock> Connection for PolledStream<'r, R> {
         match write_now(&mut self.stream, octets) {
             Ok(Some(n)) => {
                 self.since = None;
+                self.written.see(octets.split_at(n).0);
                 if n == 0 && !octets.is_empty() {
                     self.unwritten = true;
                 }
@@ -130,5 +116,10 @@ impl<'r, R: Clock> Connection for PolledStream<'r, R> {
     fn is_quiet(&mut self, least: u64) -> bool {
         self.quiet = self.quiet_now();
         self.quiet >= least
+    }
+
+    fn shut(&mut self) {
+        let _ = self.stream.shutdown(Shutdown::Write);
+        self.is_shut = true;
     }
 }

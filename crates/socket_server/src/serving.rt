@@ -1,6 +1,6 @@
 //! An object served.
 
-ghost use Rattle.std.specs.Prelude.{◌≡◌, ◌*◌, [], ⊤, replicate, IfErr, OnOk, Some};
+ghost use Rattle.std.specs.Prelude.{◌≡◌, ◌*◌, [], ⊤, replicate, IfErr, IfOk, OnOk, Some};
 ghost use Rattle.std.specs.Io.KnownBytes.{Appends};
 ghost use Rattle.broker_answers.specs.Servants.{acts};
 ghost use Rattle.socket_server.specs.Lines.{serving};
@@ -12,10 +12,12 @@ use crate::connections::serve_connections;
 use crate::fault::ServeFault;
 use crate::listener::Listener;
 use crate::loopback::Loopback;
+use crate::memory::keep_memory;
 use crate::object::broker_of;
 use crate::options::ServeOptions;
 use crate::polled_loopback::PolledLoopback;
 use crate::serving_many::serve_many_at;
+use crate::totals::Totals;
 use iiop_broker::{Broker, Servant};
 use position_checker::Accepted;
 use std::alloc::Global;
@@ -123,17 +125,21 @@ fn serve_in_turn<'a, R: Net + Clock + Eprint + AllocGlobal, W: Write>(
     out: &mut W,
     table: Accepted,
     options: &ServeOptions<'a>,
-) -> Result<(), ServeFault<'a>>
+) -> Result<Totals, ServeFault<'a>>
     ensures done { OnOk result
         (IsDone (λ gone. ⊤) table.model options.now.object.now options.now.connections []
         (replicate options.now.connections untold)) }
     ensures printed { OnOk result (Appends (W.contents out.old) (W.contents out.new) (serving options.now.port)) }
+    ensures counted { IfOk result (λ totals. totals.connections ≡ options.now.connections) }
     ensures refused { IfErr result (IsFaultOf table.model options.now.object.now) }
     ensures printing { IfErr result (IsLineOrNothing options.now.port (W.contents out.old) (W.contents out.new)) }
     ensures silent { IfErr result (λ fault. IsOfObject fault → out.new ≡ out.old) }
 {
     let mut loopback = Loopback::new(rt);
-    serve_at(rt.alloc(), &mut loopback, out, table, options)
+    match serve_at(rt.alloc(), &mut loopback, out, table, options) {
+        Ok(()) => Ok(loopback.totals().of(options.connections)),
+        Err(fault) => Err(fault),
+    }
 }
 
 /// At most so many of them at the same time.
@@ -146,10 +152,11 @@ fn serve_many<'a, R: Net + Clock + Eprint + AllocGlobal, W: Write>(
     table: Accepted,
     options: &ServeOptions<'a>,
     at_once: u8,
-) -> Result<(), ServeFault<'a>>
+) -> Result<Totals, ServeFault<'a>>
     ensures done { OnOk result (IsDoneTogether (λ ended. ⊤) table.model options.now.object.now
         (options.now.idle * 1000) (replicate options.now.connections untold)) }
     ensures printed { OnOk result (Appends (W.contents out.old) (W.contents out.new) (serving options.now.port)) }
+    ensures counted { IfOk result (λ totals. totals.connections ≡ options.now.connections) }
     ensures refused { IfErr result (IsFaultOf table.model options.now.object.now) }
     ensures printing { IfErr result (IsLineOrNothing options.now.port (W.contents out.old) (W.contents out.new)) }
     ensures silent { IfErr result (λ fault. IsOfObject fault → out.new ≡ out.old) }
@@ -158,7 +165,10 @@ fn serve_many<'a, R: Net + Clock + Eprint + AllocGlobal, W: Write>(
         Ok(loopback) => loopback,
         Err(_) => return Err(ServeFault::NoMemory),
     };
-    serve_many_at(rt.alloc(), &mut loopback, out, table, options, at_once)
+    match serve_many_at(rt.alloc(), &mut loopback, out, table, options, at_once) {
+        Ok(()) => Ok(loopback.finish().of(options.connections)),
+        Err(fault) => Err(fault),
+    }
 }
 
 /// How many are served at the same time at most. With calls that wait, one that is idle can't end.
@@ -182,15 +192,17 @@ pub fn serve<'a, R: Net + Clock + Eprint + AllocGlobal, W: Write>(
     out: &mut W,
     table: Accepted,
     options: &ServeOptions<'a>,
-) -> Result<(), ServeFault<'a>>
+) -> Result<Totals, ServeFault<'a>>
     ensures done { OnOk result
         (IsServed table.model options.now.object.now (places_of options.now.at_once options.now.idle)
         options.now.idle options.now.connections) }
     ensures printed { OnOk result (Appends (W.contents out.old) (W.contents out.new) (serving options.now.port)) }
+    ensures counted { IfOk result (λ totals. totals.connections ≡ options.now.connections) }
     ensures refused { IfErr result (IsFaultOf table.model options.now.object.now) }
     ensures printing { IfErr result (IsLineOrNothing options.now.port (W.contents out.old) (W.contents out.new)) }
     ensures silent { IfErr result (λ fault. IsOfObject fault → out.new ≡ out.old) }
 {
+    keep_memory(rt.alloc());
     match places_in(options) {
         None => serve_in_turn(rt, out, table, options),
         Some(at_once) => serve_many(rt, out, table, options, at_once),

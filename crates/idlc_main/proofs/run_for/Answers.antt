@@ -23,6 +23,11 @@ returns-in-Err-done-clause-asked g c ask asks =
     ends reads ask _ _ c.in-Err-done.fault c.failed.result c.failed.ensures
     (answers reads ask _ c.in-Ok-Do.task asked c.in-Err-done.ensures.value c.in-Err-done.ensures.reference c.in-Err-done.ensures.explanation c.in-Err-done.ensures.description).fault
 
+pub returns-in-Ok-served-clause-asked : goal.returns-in-Ok-served-clause-asked
+returns-in-Ok-served-clause-asked g c ask asks =
+    let found = c.in-Ok-Serve.ensures.asked ask asks in
+    let same = found.1 in absurd cc
+
 pub returns-in-Err-served-clause-asked : goal.returns-in-Err-served-clause-asked
 returns-in-Err-served-clause-asked g c ask asks =
     let found = c.in-Ok-Serve.ensures.asked ask asks in

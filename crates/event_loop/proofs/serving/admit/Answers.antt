@@ -13,8 +13,8 @@ use Rattle.event_loop.proofs.serving.admit.Goals as goal
 pub returns-in-Err-NoMemory-clause-going : goal.returns-in-Err-NoMemory-clause-going
 returns-in-Err-NoMemory-clause-going g c = λ idle before going.
     let acting = acts g.S.Servant.says g.S.Servant.after in
-    let told = g.L.Connection.Connection.told c.in-Ok-Some.connection in
-    let quiet = g.L.Connection.Connection.quiet c.in-Ok-Some.connection in
+    let told = g.L.Connection.Connection.told c.closed.result in
+    let quiet = g.L.Connection.Connection.quiet c.closed.result in
     let came : g.L.Listener.came c.hand_back.new.self ≡ g.L.Listener.came c.args.listener.now ++ told ∷ [] = search rules in
     let same : c.step.new.self.world ≡ c.args.broker.now.world = search rules in
     subst (λ (w : World g.row.S.Denot Stream). GoesOn (g.L.Listener.ended c.hand_back.new.self) acting c.args.broker.now.served idle before (g.L.Listener.came c.hand_back.new.self) w c.args.slots.now.items) (sym same)
