@@ -1,4 +1,4 @@
--- A call of an object at a port of a host.
+-- A call of an object at a port of a host, and of one that a reference names.
 use Rattle.std.specs.Prelude.{◌≡◌, ℕ, List, [], ◌∷◌, ◌++◌, Option, Result, Ok, Err}
 use Rattle.giop_messages.specs.Written.{Given}
 use Rattle.iiop_broker.specs.Outcomes.{Ends}
@@ -6,39 +6,70 @@ use Rattle.giop_client.specs.Calls.{IsCalled}
 use Rattle.giop_client.specs.declared.answer.Answer.{Answer}
 use Rattle.giop_client.specs.declared.request.Request.{Request}
 use Rattle.giop_client.specs.declared.fault.CallFault.{CallFault}
-use Rattle.object_calls.specs.Lines.{Line, line}
+use Rattle.reference_listing.specs.Listings.{Iiop, Row, OfIiop}
+use Rattle.object_calls.specs.Lines.{Line, all_missed, made, missed}
 use Rattle.object_calls.specs.declared.fault.ReachFault.{ReachFault}
 use Rattle.object_calls.specs.declared.fault.ReachFault.TheVariants.{NotReached, NotCalled}
 
--- what a call asks for, of which object, and how many reads may give octets
+-- which lists of what connections told that were handed back may be those so far
+abbrev pub Telling : Type 1
+Telling = List Ends → Type 0
+
+-- what a call asks for, with its body, and how many reads may give octets
 pub record Asking : Type 0 where
-  pub host : List ℕ
-  pub port : ℕ
   pub request : Request
   pub body : Option Given
   pub reads : ℕ
 
-abbrev pub asking : List ℕ → ℕ → Request → Option Given → ℕ → Asking
-asking host port request body reads =
-    record { host = host; port = port; request = request; body = body; reads = reads }
+abbrev pub asking : Request → Option Given → ℕ → Asking
+asking request body reads = record { request = request; body = body; reads = reads }
 
--- One more connection was made, to the host and the port; the call was made on it; and it was handed back.
-pub record IsTalk (Told Told' : List Ends → Type 0) (ask : Asking) (lines : List Line) (result : Result Answer CallFault)
-    (lines' : List Line) : Type 0 where
+-- behind the lines so far and those that were missed a connection was made to the host and the port, the call was made
+-- on it, and it was handed back
+pub record IsTalk (Told Told' : Telling) (ask : Asking) (host : List ℕ) (port : ℕ) (lines : List Line)
+    (result : Result Answer CallFault) (lines' : List Line) : Type 0 where
   pub from : Ends
   pub to : Ends
-  pub lines_are : lines' ≡ lines ++ line ask.host ask.port from ∷ []
+  pub lines_are : lines' ≡ lines ++ made host port from ∷ []
   pub gone : (all : List Ends) → Told all → Told' (all ++ to ∷ [])
   pub called : IsCalled ask.request ask.body ask.reads from result to
 
--- no connection was made
-pub record IsUnreached (Told Told' : List Ends → Type 0) (lines lines' : List Line) : Type 0 where
-  pub lines_are : lines' ≡ lines
+-- these were dialled in vain
+pub record IsUnreached (Told Told' : Telling) (vain : List Line) (lines lines' : List Line) : Type 0 where
+  pub lines_are : lines' ≡ lines ++ vain
   pub gone : (all : List Ends) → Told all → Told' all
 
--- By what is told of the connections that were made and of those that were handed back, before and after.
-abbrev pub IsCalledAt : (List Ends → Type 0) → (List Ends → Type 0) → Asking → List Line → Result Answer ReachFault
-    → List Line → Type 0
-IsCalledAt Told Told' ask lines (Ok answer) lines' = IsTalk Told Told' ask lines (Ok answer) lines'
-IsCalledAt Told Told' ask lines (Err NotReached) lines' = IsUnreached Told Told' lines lines'
-IsCalledAt Told Told' ask lines (Err (NotCalled fault)) lines' = IsTalk Told Told' ask lines (Err fault) lines'
+-- By what is told of the lines and of the connections that were handed back, before and after.
+abbrev pub IsCalledAt : Telling → Telling → Asking → List ℕ → ℕ → List Line → Result Answer ReachFault → List Line → Type 0
+IsCalledAt Told Told' ask host port lines (Ok answer) lines' = IsTalk Told Told' ask host port lines (Ok answer) lines'
+IsCalledAt Told Told' ask host port lines (Err NotReached) lines' =
+    IsUnreached Told Told' (missed host port ∷ []) lines lines'
+IsCalledAt Told Told' ask host port lines (Err (NotCalled fault)) lines' =
+    IsTalk Told Told' ask host port lines (Err fault) lines'
+
+-- ---- by a reference
+
+-- the same request to the object with another key
+pub record IsTo (key : List ℕ) (request other : Request) : Type 0 where
+  pub order_is : other.order ≡ request.order
+  pub id_is : other.id ≡ request.id
+  pub flags_is : other.flags ≡ request.flags
+  pub key_is : other.key.now ≡ key
+  pub operation_is : other.operation.now ≡ request.operation.now
+
+-- the call was made by the first profile of IIOP whose host and port could be reached
+pub record IsTalkBy (Told Told' : Telling) (ask : Asking) (rows : List Row) (lines : List Line)
+    (result : Result Answer CallFault) (lines' : List Line) : Type 0 where
+  pub before : List Row
+  pub iiop : Iiop
+  pub behind : List Row
+  pub rows_are : rows ≡ before ++ OfIiop iiop ∷ behind
+  pub request : Request
+  pub to_object : IsTo iiop.body.key ask.request request
+  pub talk : IsTalk Told Told' (asking request ask.body ask.reads) iiop.body.host iiop.body.port
+      (lines ++ all_missed before) result lines'
+
+abbrev pub IsCalledBy : Telling → Telling → Asking → List Row → List Line → Result Answer ReachFault → List Line → Type 0
+IsCalledBy Told Told' ask rows lines (Ok answer) lines' = IsTalkBy Told Told' ask rows lines (Ok answer) lines'
+IsCalledBy Told Told' ask rows lines (Err NotReached) lines' = IsUnreached Told Told' (all_missed rows) lines lines'
+IsCalledBy Told Told' ask rows lines (Err (NotCalled fault)) lines' = IsTalkBy Told Told' ask rows lines (Err fault) lines'

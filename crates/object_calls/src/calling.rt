@@ -26,8 +26,8 @@ pub fn call_at<D: Dial>(
     reads: u64,
 ) -> Result<Answer, ReachFault>
     requires { ForSome body (λ b. IsNamed b.0.now.model.names b.1) }
-    ensures { IsCalledAt (D.went dial.old) (D.went dial.new)
-        (asking host.now port request.now (given_by body.entry) reads) (D.lines dial.old) result (D.lines dial.new) }
+    ensures { IsCalledAt (D.went dial.old) (D.went dial.new) (asking request.now (given_by body.entry) reads)
+        host.now port (D.lines dial.old) result (D.lines dial.new) }
 {
     let Ok((mut reader, mut writer)) = dial.dial(host, port) else {
         return Err(ReachFault::NotReached);

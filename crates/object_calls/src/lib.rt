@@ -4,7 +4,9 @@
 mod calling;
 mod dial;
 mod fault;
+mod reached;
 
 pub use calling::call_at;
 pub use dial::Dial;
 pub use fault::ReachFault;
+pub use reached::call_by;

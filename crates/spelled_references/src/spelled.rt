@@ -55,11 +55,7 @@ fn of_digits(types: &GiopTypes, alloc: Global, text: &str) -> Result<Ior, Spelli
 /// # Errors
 /// `BadCorbaloc` of a text that begins as a URL, `BadIor` of any other, where it spells no reference.
 /// Want of memory.
-pub fn read_reference(
-    types: &GiopTypes,
-    alloc: Global,
-    text: &str,
-) -> Result<Ior, SpellingFault>
+pub fn read_reference(types: &GiopTypes, alloc: Global, text: &str) -> Result<Ior, SpellingFault>
     ensures found { IfOk result (λ ior. SpellsReference text.now (reference_of ior)) }
     ensures refused { IfErr result (λ fault. RefusesSpelling fault text.now) }
 {
