@@ -12,4 +12,7 @@ pub enum ReachFault {
     /// The connection was made.
     #[error("{0}")]
     NotCalled(CallFault),
+    /// No call was made.
+    #[error("no memory")]
+    NoMemory,
 }
