@@ -69,7 +69,16 @@ fn call_to<D: Dial>(
     };
     let host = profile.body.host.as_slice();
     let to_object = with_words(&words, request);
-    call_at(giop, alloc, dial, host, profile.body.port, &to_object, body, reads)
+    call_at(
+        giop,
+        alloc,
+        dial,
+        host,
+        profile.body.port,
+        &to_object,
+        body,
+        reads,
+    )
 }
 
 /// Calls the object that a reference names, by its first profile of IIOP whose host and port can be

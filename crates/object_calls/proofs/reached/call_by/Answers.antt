@@ -31,15 +31,15 @@ returns-in-Err-NoMemory g c =
 pub loop-listed-preserved : goal.loop-listed-preserved
 loop-listed-preserved g c =
     elim c.match-listed.branch [
-    in-Iiop+in-Err-NotReached w ↦ rw w.dial-is
-    (missed_one (g.D.Dial.went c.args.dial.now) (g.D.Dial.went c.loop-listed.dial) (g.D.Dial.went w.call_to.new.dial)
-    c.args.profiles.now c.loop-listed.listed-index c.listed-item.result (search rules) c.listed-item.is
-    (g.D.Dial.lines c.args.dial.now) (g.D.Dial.lines c.loop-listed.dial) (g.D.Dial.lines w.call_to.new.dial)
-    c.loop-listed.invariant w.in-Iiop.profile w.in-Iiop.is
-    (rw w.in-Err-NotReached.field-0-is at w.in-Err-NotReached.ensures))
-    | in-Other w ↦ rw w.dial-is
-    (passed (g.D.Dial.went c.args.dial.now) (g.D.Dial.went c.loop-listed.dial) (g.D.Dial.went c.loop-listed.dial)
-    c.args.profiles.now c.loop-listed.listed-index c.listed-item.result (search rules) c.listed-item.is
-    (g.D.Dial.lines c.args.dial.now) (g.D.Dial.lines c.loop-listed.dial) (g.D.Dial.lines c.loop-listed.dial)
-    c.loop-listed.invariant w.in-Other.tag w.in-Other.octets w.in-Other.is)
+      | in-Iiop+in-Err-NotReached w ↦ rw w.dial-is
+          (missed_one (g.D.Dial.went c.args.dial.now) (g.D.Dial.went c.loop-listed.dial) (g.D.Dial.went w.call_to.new.dial)
+          c.args.profiles.now c.loop-listed.listed-index c.listed-item.result (search rules) c.listed-item.is
+          (g.D.Dial.lines c.args.dial.now) (g.D.Dial.lines c.loop-listed.dial) (g.D.Dial.lines w.call_to.new.dial)
+          c.loop-listed.invariant w.in-Iiop.profile w.in-Iiop.is
+          (rw w.in-Err-NotReached.field-0-is at w.in-Err-NotReached.ensures))
+      | in-Other w ↦ rw w.dial-is
+          (passed (g.D.Dial.went c.args.dial.now) (g.D.Dial.went c.loop-listed.dial) (g.D.Dial.went c.loop-listed.dial)
+          c.args.profiles.now c.loop-listed.listed-index c.listed-item.result (search rules) c.listed-item.is
+          (g.D.Dial.lines c.args.dial.now) (g.D.Dial.lines c.loop-listed.dial) (g.D.Dial.lines c.loop-listed.dial)
+          c.loop-listed.invariant w.in-Other.tag w.in-Other.octets w.in-Other.is)
     ]
