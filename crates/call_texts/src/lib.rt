@@ -1,0 +1,12 @@
+//! What a call says and what its reply says, as text: arguments, results, exceptions, by the types of
+//! a table and the names of their parts.
+#![tactic(auto)]
+
+mod argument;
+mod body;
+mod outcome;
+mod parts;
+mod raised;
+
+pub use argument::argument_tape;
+pub use outcome::{Outcome, read_outcome};

@@ -1,0 +1,113 @@
+-- Calls that were forwarded one after the other.
+use Rattle.std.proofs.Common.{◌≡◌, ℕ, suc, ◌+◌, ◌<◌, ◌≤◌, List, [], ◌∷◌, ◌++◌, length, refl, sym, ap, ◌∙◌, subst, append_assoc, append-nil, length-append, arith, Result, Ok, Err}
+use Rattle.iiop_broker.specs.Outcomes.{Ends}
+use Rattle.object_references.specs.References.{Reference, reference_of}
+use Rattle.object_references.specs.declared.reference.Ior.{Ior}
+use Rattle.call_texts.specs.Outcomes.{Called}
+use Rattle.call_texts.specs.declared.outcome.Outcome.{Outcome}
+use Rattle.call_texts.specs.declared.outcome.Outcome.TheVariants.{Returned, Raised, Failed, Forwarded, Readdressed}
+use Rattle.object_calls.specs.Lines.{Line}
+use Rattle.object_calls.specs.Talks.{Asking}
+use Rattle.followed_calls.specs.Hops.{IsAnsweredWith, IsCalledOnce, IsOnce}
+use Rattle.followed_calls.specs.Followed.{AreForwarded, At, IsFollowed, IsForwarded, IsLast, start}
+use Rattle.followed_calls.specs.inner.Underway.{IsUnderway}
+use Rattle.followed_calls.specs.declared.fault.ObjectFault.{ObjectFault}
+use Rattle.followed_calls.specs.declared.fault.ObjectFault.TheVariants.{Unanswered, OtherBody, TooMany, NoMemory}
+
+-- the call wasn't forwarded
+abbrev pub IsOther : Result Outcome ObjectFault → Type 0
+IsOther (Ok (Forwarded ior)) = ⊥
+IsOther result = Unit {0}
+
+one_more : (ask : Asking) (called : Called) (from : At) (hops : List At) (last to : At)
+    → AreForwarded ask called from hops last → IsForwarded ask called last to → AreForwarded ask called from (hops ++ to ∷ []) to
+one_more ask called from [] last to same step = (subst (λ (a : At). IsForwarded ask called a to) (sym same) step, refl)
+one_more ask called from (hop ∷ hops) last to chain step = (chain.0, one_more ask called hop hops last to chain.1 step)
+
+module _ (Told : List Ends → Type 0) (ask : Asking) (called : Called) (reference : Reference) (lines : List Line) where
+  pub begun : IsUnderway Told Told ask called reference lines 0 reference lines
+  begun = record {
+    hops = [];
+    last = start reference lines;
+    forwarded = refl;
+    reference_is = refl;
+    lines_are = refl;
+    count_is = refl;
+    gone = λ all told. subst Told (sym (append-nil all)) told;
+  }
+
+  module _ (Mid Told' : List Ends → Type 0) (count : ℕ) (at : Reference) (mid lines' : List Line)
+      (under : IsUnderway Told Mid ask called reference lines count at mid) where
+    all_gone : (tos : List Ends) → ((all : List Ends) → Mid all → Told' (all ++ tos)) → (all : List Ends) → Told all
+        → Told' (all ++ (under.last.tos ++ tos))
+    all_gone tos gone all told =
+        subst Told' (append_assoc all under.last.tos tos) (gone (all ++ under.last.tos) (under.gone all told))
+
+    here : (tos : List Ends) (outcome : Outcome) → IsAnsweredWith ask called at mid outcome lines' tos
+        → IsAnsweredWith ask called under.last.reference under.last.lines outcome lines' tos
+    here tos outcome a =
+        subst (λ (r : Reference). IsAnsweredWith ask called r under.last.lines outcome lines' tos) (sym under.reference_is)
+        (subst (λ (l : List Line). IsAnsweredWith ask called at l outcome lines' tos) (sym under.lines_are) a)
+
+    pub further : (ior : Ior) → IsCalledOnce Mid Told' ask called at mid (Ok (Forwarded ior)) lines'
+        → IsUnderway Told Told' ask called reference lines (count + 1) (reference_of ior) lines'
+    further ior step =
+        let to : At = record { reference = reference_of ior; lines = lines'; tos = under.last.tos ++ step.tos } in
+        record {
+          hops = under.hops ++ to ∷ [];
+          last = to;
+          forwarded = one_more ask called (start reference lines) under.hops under.last to under.forwarded
+              (record {
+                ior = ior;
+                next = refl;
+                tos = step.tos;
+                tos_are = refl;
+                answered = here step.tos (Forwarded ior) step.once;
+              });
+          reference_is = refl;
+          lines_are = refl;
+          count_is = length-append under.hops (to ∷ []) ∙ ap (λ n. n + 1) under.count_is;
+          gone = all_gone step.tos step.gone;
+        }
+
+    -- it ends here
+    pub ended : (result : Result Outcome ObjectFault) → count ≤ 8 → IsOther result
+        → IsCalledOnce Mid Told' ask called at mid result lines' → IsFollowed Told Told' ask called reference lines result lines'
+    ended result few other step = record {
+      hops = under.hops;
+      last = under.last;
+      forwarded = under.forwarded;
+      tos = step.tos;
+      gone = all_gone step.tos step.gone;
+      ends = by_result result other
+          (subst (λ (r : Reference). IsOnce ask called r under.last.lines result lines' step.tos) (sym under.reference_is)
+          (subst (λ (l : List Line). IsOnce ask called at l result lines' step.tos) (sym under.lines_are) step.once));
+    }
+      where
+        small : length under.hops ≤ 8
+        small = subst (λ n. n ≤ 8) (sym under.count_is) few
+
+        by_result : (r : Result Outcome ObjectFault) → IsOther r
+            → IsOnce ask called under.last.reference under.last.lines r lines' step.tos
+            → IsLast ask called (length under.hops) under.last r lines' step.tos
+        by_result (Ok (Forwarded ior)) other once = absurd other
+        by_result (Ok (Returned text)) other once = (small, once)
+        by_result (Ok (Raised text)) other once = (small, once)
+        by_result (Ok (Failed exception)) other once = (small, once)
+        by_result (Ok Readdressed) other once = (small, once)
+        by_result (Err TooMany) other once = absurd once
+        by_result (Err OtherBody) other once = (small, once)
+        by_result (Err NoMemory) other once = (small, once)
+        by_result (Err (Unanswered fault)) other once = (small, once)
+
+  pub too_many : (Mid : List Ends → Type 0) (at : Reference) (mid : List Line)
+      → IsUnderway Told Mid ask called reference lines 9 at mid
+      → IsFollowed Told Mid ask called reference lines (Err TooMany) mid
+  too_many Mid at mid under = record {
+    hops = under.hops;
+    last = under.last;
+    forwarded = under.forwarded;
+    tos = [];
+    gone = λ all told. subst (λ (l : List Ends). Mid (all ++ l)) (sym (append-nil under.last.tos)) (under.gone all told);
+    ends = (under.count_is, sym under.lines_are, refl);
+  }

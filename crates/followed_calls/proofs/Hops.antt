@@ -1,0 +1,119 @@
+-- What one call says, whatever was handed back before.
+use Rattle.std.proofs.Common.{◌≡◌, ℕ, List, [], ◌∷◌, ◌++◌, refl, sym, ap, ◌∙◌, subst, append-nil, Result, Ok, Err}
+use Rattle.iiop_broker.specs.Outcomes.{Ends}
+use Rattle.giop_client.specs.declared.answer.Answer.{Answer}
+use Rattle.giop_client.specs.Answers.{answer_of}
+use Rattle.object_references.specs.References.{Reference}
+use Rattle.reference_listing.specs.Listings.{AreRows, Row}
+use Rattle.call_texts.specs.Outcomes.{Called}
+use Rattle.call_texts.specs.declared.outcome.Outcome.{Outcome}
+use Rattle.object_calls.specs.Lines.{Line, all_missed}
+use Rattle.object_calls.specs.Talks.{Asking, IsCalledBy, IsTalkBy, IsUnreached, Telling}
+use Rattle.object_calls.specs.declared.fault.ReachFault.{ReachFault}
+use Rattle.object_calls.specs.declared.fault.ReachFault.TheVariants.{NotReached, NotCalled, NoMemory as WantsMemory}
+use Rattle.followed_calls.specs.Hops.{IsCalledOnce, IsHop, IsOnce, IsOutcomeIn, just}
+use Rattle.followed_calls.specs.declared.fault.ObjectFault.{ObjectFault}
+use Rattle.followed_calls.specs.declared.fault.ObjectFault.TheVariants.{Unanswered, OtherBody, TooMany, NoMemory}
+
+-- what was handed back in a call, and the call as if nothing had been before
+record IsFreed (Told Told' : List Ends → Type 0) (ask : Asking) (rows : List Row) (lines : List Line)
+    (result : Result Answer ReachFault) (lines' : List Line) : Type 0 where
+  tos : List Ends
+  gone : (all : List Ends) → Told all → Told' (all ++ tos)
+  called : IsCalledBy (just []) (just tos) ask rows lines result lines'
+
+module _ (Told Told' : List Ends → Type 0) (ask : Asking) (rows : List Row) (lines lines' : List Line) where
+  freed : (result : Result Answer ReachFault) → IsCalledBy Told Told' ask rows lines result lines'
+      → IsFreed Told Told' ask rows lines result lines'
+  freed (Ok answer) by = record {
+    tos = by.talk.talk.to ∷ [];
+    gone = by.talk.talk.gone;
+    called = record {
+      before = by.before;
+      iiop = by.iiop;
+      behind = by.behind;
+      rows_are = by.rows_are;
+      talk = record {
+        request = by.talk.request;
+        to_object = by.talk.to_object;
+        talk = record {
+          from = by.talk.talk.from;
+          to = by.talk.talk.to;
+          lines_are = by.talk.talk.lines_are;
+          gone = λ all none. ap (λ (l : List Ends). l ++ by.talk.talk.to ∷ []) none;
+          called = by.talk.talk.called;
+        };
+      };
+    };
+  }
+  freed (Err (NotCalled fault)) by = record {
+    tos = by.talk.talk.to ∷ [];
+    gone = by.talk.talk.gone;
+    called = record {
+      before = by.before;
+      iiop = by.iiop;
+      behind = by.behind;
+      rows_are = by.rows_are;
+      talk = record {
+        request = by.talk.request;
+        to_object = by.talk.to_object;
+        talk = record {
+          from = by.talk.talk.from;
+          to = by.talk.talk.to;
+          lines_are = by.talk.talk.lines_are;
+          gone = λ all none. ap (λ (l : List Ends). l ++ by.talk.talk.to ∷ []) none;
+          called = by.talk.talk.called;
+        };
+      };
+    };
+  }
+  freed (Err NotReached) vain = record {
+    tos = [];
+    gone = λ all told. subst Told' (sym (append-nil all)) (vain.gone all told);
+    called = record { lines_are = vain.lines_are; gone = λ all none. none };
+  }
+  freed (Err WantsMemory) up = record {
+    tos = [];
+    gone = λ all told. subst Told' (sym (append-nil all)) (up.unreached.gone all told);
+    called = record {
+      vain = up.vain;
+      unreached = record { lines_are = up.unreached.lines_are; gone = λ all none. none };
+    };
+  }
+
+-- nothing was done
+pub undone : (Told : List Ends → Type 0) (ask : Asking) (called : Called) (reference : Reference) (lines : List Line)
+    → IsCalledOnce Told Told ask called reference lines (Err NoMemory) lines
+undone Told ask called reference lines = record {
+  tos = [];
+  gone = λ all told. subst Told (sym (append-nil all)) told;
+  once = tt;
+}
+
+-- there was no answer
+pub unanswered : (Told Told' : List Ends → Type 0) (ask : Asking) (called : Called) (reference : Reference) (rows : List Row)
+    (lines lines' : List Line) (fault : ReachFault) → AreRows reference.profiles rows
+    → IsCalledBy Told Told' ask rows lines (Err fault) lines'
+    → IsCalledOnce Told Told' ask called reference lines (Err (Unanswered fault)) lines'
+unanswered Told Told' ask called reference rows lines lines' fault are by =
+    let f = freed Told Told' ask rows lines lines' (Err fault) by in
+    record { tos = f.tos; gone = f.gone; once = record { rows = rows; rows_are = are; called = f.called } }
+
+-- there was one
+pub answered : (Told Told' : List Ends → Type 0) (ask : Asking) (called : Called) (reference : Reference) (rows : List Row)
+    (lines lines' : List Line) (answer : Answer) (result : Result Outcome ObjectFault) → AreRows reference.profiles rows
+    → IsCalledBy Told Told' ask rows lines (Ok answer) lines' → IsOutcomeIn called (answer_of answer) result
+    → IsCalledOnce Told Told' ask called reference lines result lines'
+answered Told Told' ask called reference rows lines lines' answer result are by says =
+    let f = freed Told Told' ask rows lines lines' (Ok answer) by in
+    let hop : IsHop ask reference lines (Ok answer) lines' f.tos =
+    record { rows = rows; rows_are = are; called = f.called } in
+    record { tos = f.tos; gone = f.gone; once = by_result f.tos hop result says }
+  where
+    by_result : (tos : List Ends) → IsHop ask reference lines (Ok answer) lines' tos → (r : Result Outcome ObjectFault)
+        → IsOutcomeIn called (answer_of answer) r → IsOnce ask called reference lines r lines' tos
+    by_result tos hop (Ok outcome) is = record { answer = answer; hop = hop; outcome_is = is }
+    by_result tos hop (Err OtherBody) none = record { answer = answer; hop = hop; none = none }
+    by_result tos hop (Err NoMemory) is = tt
+    by_result tos hop (Err TooMany) none = absurd none
+    by_result tos hop (Err (Unanswered fault)) none = absurd none

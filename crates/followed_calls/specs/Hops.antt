@@ -1,0 +1,62 @@
+-- One call of the object that a reference names, and what its reply says.
+use Rattle.std.specs.Prelude.{◌≡◌, ◌⊎◌, ℕ, List, [], ◌++◌, Result, Ok, Err}
+use Rattle.giop_messages.specs.declared.message.ReplyStatus.TheVariants as statuses
+use Rattle.giop_messages.specs.Messages.{Answered}
+use Rattle.iiop_broker.specs.Outcomes.{Ends}
+use Rattle.giop_client.specs.declared.answer.Answer.{Answer}
+use Rattle.giop_client.specs.Answers.{answer_of}
+use Rattle.object_references.specs.References.{Reference, reference_of}
+use Rattle.reference_listing.specs.Listings.{AreRows, Row}
+use Rattle.call_texts.specs.Outcomes.{Called, HasNoOutcome, IsOutcome}
+use Rattle.call_texts.specs.declared.outcome.Outcome.{Outcome}
+use Rattle.object_calls.specs.Lines.{Line}
+use Rattle.object_calls.specs.Talks.{Asking, IsCalledBy, Telling}
+use Rattle.object_calls.specs.declared.fault.ReachFault.{ReachFault}
+use Rattle.followed_calls.specs.declared.fault.ObjectFault.{ObjectFault}
+use Rattle.followed_calls.specs.declared.fault.ObjectFault.TheVariants.{Unanswered, OtherBody, TooMany, NoMemory}
+
+-- these were handed back, and no others
+abbrev pub just : List Ends → Telling
+just tos = λ all. all ≡ tos
+
+-- the call by the profiles of the reference; behind these lines came those, and these connections were handed back
+pub record IsHop (ask : Asking) (reference : Reference) (lines : List Line) (result : Result Answer ReachFault)
+    (lines' : List Line) (tos : List Ends) : Type 0 where
+  pub rows : List Row
+  pub rows_are : AreRows reference.profiles rows
+  pub called : IsCalledBy (just []) (just tos) ask rows lines result lines'
+
+-- it was answered with this
+pub record IsAnsweredWith (ask : Asking) (called : Called) (reference : Reference) (lines : List Line)
+    (outcome : Outcome) (lines' : List Line) (tos : List Ends) : Type 0 where
+  pub answer : Answer
+  pub hop : IsHop ask reference lines (Ok answer) lines' tos
+  pub outcome_is : IsOutcome called (answer_of answer) outcome
+
+-- with a body that isn't what the status says
+pub record IsAnsweredOddly (ask : Asking) (called : Called) (reference : Reference) (lines lines' : List Line)
+    (tos : List Ends) : Type 0 where
+  pub answer : Answer
+  pub hop : IsHop ask reference lines (Ok answer) lines' tos
+  pub none : HasNoOutcome called (answer_of answer)
+
+-- what an answer says
+abbrev pub IsOutcomeIn : Called → Answered → Result Outcome ObjectFault → Type 0
+IsOutcomeIn called answered (Ok outcome) = IsOutcome called answered outcome
+IsOutcomeIn called answered (Err OtherBody) = HasNoOutcome called answered
+IsOutcomeIn called answered (Err NoMemory) = Unit {0}
+IsOutcomeIn called answered (Err fault) = ⊥
+
+abbrev pub IsOnce : Asking → Called → Reference → List Line → Result Outcome ObjectFault → List Line → List Ends → Type 0
+IsOnce ask called reference lines (Ok outcome) lines' tos = IsAnsweredWith ask called reference lines outcome lines' tos
+IsOnce ask called reference lines (Err (Unanswered fault)) lines' tos = IsHop ask reference lines (Err fault) lines' tos
+IsOnce ask called reference lines (Err OtherBody) lines' tos = IsAnsweredOddly ask called reference lines lines' tos
+IsOnce ask called reference lines (Err TooMany) lines' tos = ⊥
+IsOnce ask called reference lines (Err NoMemory) lines' tos = Unit {0}
+
+-- By what is told before and after.
+pub record IsCalledOnce (Told Told' : Telling) (ask : Asking) (called : Called) (reference : Reference)
+    (lines : List Line) (result : Result Outcome ObjectFault) (lines' : List Line) : Type 0 where
+  pub tos : List Ends
+  pub gone : (all : List Ends) → Told all → Told' (all ++ tos)
+  pub once : IsOnce ask called reference lines result lines' tos

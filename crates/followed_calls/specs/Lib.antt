@@ -1,0 +1,4 @@
+pub mod Hops
+pub mod Followed
+pub mod Wanted
+pub mod inner

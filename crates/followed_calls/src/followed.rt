@@ -1,0 +1,59 @@
+//! Calls followed to where objects are.
+
+ghost use Rattle.std.specs.Option.{ForSome};
+ghost use Rattle.type_model.specs.Names.{IsNamed};
+ghost use Rattle.giop.specs.Made.{given_by};
+ghost use Rattle.object_references.specs.References.{reference_of};
+ghost use Rattle.object_calls.specs.Talks.{asking};
+ghost use Rattle.followed_calls.specs.Followed.{IsFollowed};
+ghost use Rattle.followed_calls.specs.Wanted.{called_of};
+
+use crate::fault::ObjectFault;
+use crate::once::call_once;
+use crate::wanted::Wanted;
+use call_texts::Outcome;
+use giop::{Body, Giop};
+use giop_client::Request;
+use giop_types::GiopTypes;
+use object_calls::Dial;
+use object_references::Ior;
+use std::alloc::Global;
+
+/// Calls the object that a reference names; where the reply says that it is elsewhere, there, at most
+/// 8 times.
+///
+/// # Errors
+/// As `call_by` of object_calls says; `OtherBody` where the body of a reply isn't what its status
+/// says; `TooMany`; want of memory.
+pub fn call_object<D: Dial>(
+    giop: &Giop,
+    types: &GiopTypes,
+    alloc: Global,
+    dial: &mut D,
+    ior: Ior,
+    wanted: &Wanted<'_>,
+    request: &Request<'_>,
+    body: Option<Body<'_>>,
+    reads: u64,
+) -> Result<Outcome, ObjectFault>
+    requires body { ForSome body (λ b. IsNamed b.0.now.model.names b.1) }
+    requires named { IsNamed wanted.now.table.now.model.names wanted.now.reply }
+    ensures { IsFollowed (D.went dial.old) (D.went dial.new) (asking request.now (given_by body.entry) reads)
+        (called_of wanted.now) (reference_of ior) (D.lines dial.old) result (D.lines dial.new) }
+{
+    let mut at = ior;
+    for _count in 0u32..9 {
+        let outcome = match call_once(giop, types, alloc, dial, &at, wanted, request, body, reads) {
+            Ok(outcome) => outcome,
+            Err(fault) => return Err(fault),
+        };
+        match outcome {
+            Outcome::Forwarded(next) => at = next,
+            Outcome::Returned(text) => return Ok(Outcome::Returned(text)),
+            Outcome::Raised(text) => return Ok(Outcome::Raised(text)),
+            Outcome::Failed(exception) => return Ok(Outcome::Failed(exception)),
+            Outcome::Readdressed => return Ok(Outcome::Readdressed),
+        }
+    }
+    Err(ObjectFault::TooMany)
+}

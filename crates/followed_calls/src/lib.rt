@@ -1,0 +1,11 @@
+//! Calls of objects, followed to where the objects are.
+#![tactic(auto)]
+
+mod fault;
+mod followed;
+mod once;
+mod wanted;
+
+pub use fault::ObjectFault;
+pub use followed::call_object;
+pub use wanted::Wanted;

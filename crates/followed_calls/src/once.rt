@@ -1,0 +1,90 @@
+//! One call of the object that a reference names.
+
+ghost use Rattle.std.specs.Prelude.{IfOk, IfErr};
+ghost use Rattle.std.specs.Option.{ForSome};
+ghost use Rattle.type_model.specs.Names.{IsNamed};
+ghost use Rattle.giop.specs.Made.{given_by};
+ghost use Rattle.giop_client.specs.Answers.{answer_of};
+ghost use Rattle.object_references.specs.References.{reference_of};
+ghost use Rattle.object_calls.specs.Talks.{asking};
+ghost use Rattle.followed_calls.specs.Hops.{IsCalledOnce, IsOutcomeIn};
+ghost use Rattle.followed_calls.specs.Wanted.{called_of};
+
+use crate::fault::ObjectFault;
+use crate::wanted::Wanted;
+use call_texts::{Outcome, read_outcome};
+use giop::{Body, Giop, Reply};
+use giop_client::{Answer, Request};
+use giop_types::GiopTypes;
+use object_calls::{Dial, call_by};
+use object_references::Ior;
+use reference_listing::list_reference;
+use std::alloc::Global;
+
+/// What an answer says.
+fn outcome_of(
+    types: &GiopTypes,
+    alloc: Global,
+    wanted: &Wanted<'_>,
+    answer: &Answer,
+) -> Result<Outcome, ObjectFault>
+    requires { IsNamed wanted.now.table.now.model.names wanted.now.reply }
+    ensures { IsOutcomeIn (called_of wanted.now) (answer_of answer.now) result }
+{
+    let reply = Reply {
+        id: answer.id,
+        status: answer.status,
+        order: answer.order,
+        body_at: answer.body_at,
+        octets: answer.body.as_slice(),
+    };
+    let (table, names) = (wanted.table, wanted.names);
+    match read_outcome(
+        types,
+        alloc,
+        table,
+        names,
+        wanted.reply,
+        wanted.exceptions,
+        &reply,
+    ) {
+        Ok(Some(outcome)) => Ok(outcome),
+        Ok(None) => Err(ObjectFault::OtherBody),
+        Err(_) => Err(ObjectFault::NoMemory),
+    }
+}
+
+/// Calls the object that a reference names.
+pub(crate) fn call_once<D: Dial>(
+    giop: &Giop,
+    types: &GiopTypes,
+    alloc: Global,
+    dial: &mut D,
+    ior: &Ior,
+    wanted: &Wanted<'_>,
+    request: &Request<'_>,
+    body: Option<Body<'_>>,
+    reads: u64,
+) -> Result<Outcome, ObjectFault>
+    requires body { ForSome body (λ b. IsNamed b.0.now.model.names b.1) }
+    requires named { IsNamed wanted.now.table.now.model.names wanted.now.reply }
+    ensures { IsCalledOnce (D.went dial.old) (D.went dial.new) (asking request.now (given_by body.entry) reads)
+        (called_of wanted.now) (reference_of ior.now) (D.lines dial.old) result (D.lines dial.new) }
+{
+    let listing = match list_reference(types, alloc, ior) {
+        Ok(listing) => listing,
+        Err(_) => return Err(ObjectFault::NoMemory),
+    };
+    match call_by(
+        giop,
+        alloc,
+        dial,
+        listing.profiles.as_slice(),
+        request,
+        body,
+        reads,
+    ) {
+        Ok(answer) => outcome_of(types, alloc, wanted, &answer),
+        Err(fault) => Err(ObjectFault::Unanswered(fault)),
+    }
+}

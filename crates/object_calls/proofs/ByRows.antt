@@ -1,0 +1,72 @@
+-- Calls by the profiles of references.
+use Rattle.std.proofs.Common.{◌≡◌, ℕ, suc, ◌+◌, ◌<◌, List, [], ◌∷◌, ◌++◌, length, take, drop, get_or, refl, sym, ap, ◌∙◌, subst, append_assoc, append-nil, Result}
+use Rattle.std.specs.declared.vec.Vec.{Vec}
+use Rattle.std.specs.declared.alloc.Global.{Global}
+use Rattle.iiop_broker.specs.Outcomes.{Ends}
+use Rattle.giop_client.specs.declared.answer.Answer.{Answer}
+use Rattle.giop_client.specs.declared.fault.CallFault.{CallFault}
+use Rattle.reference_listing.specs.declared.listing.IiopProfile.{IiopProfile}
+use Rattle.reference_listing.specs.declared.listing.ListedProfile.{ListedProfile}
+use Rattle.reference_listing.specs.declared.listing.ListedProfile.TheVariants as listed
+use Rattle.reference_listing.specs.Listings.{Row, OfIiop, iiop_of, row_of, rows_of}
+use Rattle.object_calls.specs.Lines.{Line, all_missed, made, missed}
+use Rattle.object_calls.specs.Talks.{Asking, IsGivenUp, IsTalkBy, IsTalkTo, IsUnreached}
+use Rattle.object_calls.proofs.Rows.{missed_next, rows_split}
+
+module _ (Told Mid Told' : List Ends → Type 0) (ps : List ListedProfile) (i : ℕ) (p : ListedProfile)
+    (within : i < length ps) (is : p ≡ get_or ps i p) (lines mid lines' : List Line)
+    (vain : IsUnreached Told Mid (all_missed (rows_of (take i ps))) lines mid) where
+  pub talked : (ask : Asking) (profile : IiopProfile) → p ≡ listed.Iiop profile → (result : Result Answer CallFault)
+      → IsTalkTo Mid Told' ask (iiop_of profile) mid result lines' → IsTalkBy Told Told' ask (rows_of ps) lines result lines'
+  talked ask profile iiop result to = record {
+    before = rows_of (take i ps);
+    iiop = iiop_of profile;
+    behind = rows_of (drop (suc i) ps);
+    rows_are = rows_split ps i p within is
+        ∙ ap (λ (q : ListedProfile). rows_of (take i ps) ++ row_of q ∷ rows_of (drop (suc i) ps)) iiop;
+    talk = record {
+      request = to.request;
+      to_object = to.to_object;
+      talk = record {
+        from = to.talk.from;
+        to = to.talk.to;
+        lines_are = to.talk.lines_are
+            ∙ ap (λ (l : List Line). l ++ made profile.body.host.items profile.body.port to.talk.from ∷ []) vain.lines_are;
+        gone = λ all told. to.talk.gone all (vain.gone all told);
+        called = to.talk.called;
+      };
+    };
+  }
+
+  pub given_up : IsUnreached Mid Told' [] mid lines' → IsGivenUp Told Told' lines lines'
+  given_up more = record {
+    vain = all_missed (rows_of (take i ps));
+    unreached = record {
+      lines_are = more.lines_are ∙ append-nil mid ∙ vain.lines_are;
+      gone = λ all told. more.gone all (vain.gone all told);
+    };
+  }
+
+  pub missed_one : (profile : IiopProfile) → p ≡ listed.Iiop profile
+      → IsUnreached Mid Told' (missed profile.body.host.items profile.body.port ∷ []) mid lines'
+      → IsUnreached Told Told' (all_missed (rows_of (take (i + 1) ps))) lines lines'
+  missed_one profile iiop more = record {
+    lines_are = more.lines_are
+        ∙ ap (λ (l : List Line). l ++ missed profile.body.host.items profile.body.port ∷ []) vain.lines_are
+        ∙ append_assoc lines (all_missed (rows_of (take i ps))) (missed profile.body.host.items profile.body.port ∷ [])
+        ∙ ap (λ (l : List Line). lines ++ l)
+        (sym (missed_next ps i p within is
+        ∙ ap (λ (q : ListedProfile). all_missed (rows_of (take i ps)) ++ all_missed (row_of q ∷ [])) iiop));
+    gone = λ all told. more.gone all (vain.gone all told);
+  }
+
+  pub passed : (tag : ℕ) (octets : Vec ℕ Global) → p ≡ listed.Other tag octets
+      → IsUnreached Told Mid (all_missed (rows_of (take (i + 1) ps))) lines mid
+  passed tag octets other = record {
+    lines_are = vain.lines_are
+        ∙ ap (λ (l : List Line). lines ++ l)
+        (sym (missed_next ps i p within is
+        ∙ ap (λ (q : ListedProfile). all_missed (rows_of (take i ps)) ++ all_missed (row_of q ∷ [])) other
+        ∙ append-nil (all_missed (rows_of (take i ps)))));
+    gone = vain.gone;
+  }

@@ -1,0 +1,45 @@
+use Rattle.std.proofs.Common.{rules, Ok, Err}
+use Rattle.giop.specs.Made.{given_by}
+use Rattle.object_calls.specs.Talks.{asking}
+use Rattle.object_calls.proofs.ByRows.{given_up, missed_one, passed, talked}
+use Rattle.object_calls.proofs.reached.call_by.Goals as goal
+use Rattle.object_calls.proofs.reached.call_by.Goals.{in-Iiop+in-Err-NotReached, in-Other}
+
+pub returns-in-Ok : goal.returns-in-Ok
+returns-in-Ok g c =
+    talked (g.D.Dial.went c.args.dial.now) (g.D.Dial.went c.loop-listed.dial) (g.D.Dial.went c.call_to.new.dial)
+    c.args.profiles.now c.loop-listed.listed-index c.listed-item.result (search rules) c.listed-item.is
+    (g.D.Dial.lines c.args.dial.now) (g.D.Dial.lines c.loop-listed.dial) (g.D.Dial.lines c.call_to.new.dial)
+    c.loop-listed.invariant (asking c.args.request.now (given_by c.args.body) c.args.reads) c.in-Iiop.profile c.in-Iiop.is
+    (Ok c.in-Ok.answer) c.in-Ok.ensures
+
+pub returns-in-Err-NotCalled : goal.returns-in-Err-NotCalled
+returns-in-Err-NotCalled g c =
+    talked (g.D.Dial.went c.args.dial.now) (g.D.Dial.went c.loop-listed.dial) (g.D.Dial.went c.call_to.new.dial)
+    c.args.profiles.now c.loop-listed.listed-index c.listed-item.result (search rules) c.listed-item.is
+    (g.D.Dial.lines c.args.dial.now) (g.D.Dial.lines c.loop-listed.dial) (g.D.Dial.lines c.call_to.new.dial)
+    c.loop-listed.invariant (asking c.args.request.now (given_by c.args.body) c.args.reads) c.in-Iiop.profile c.in-Iiop.is
+    (Err c.in-Err-NotCalled.fault) (rw c.in-Err-NotCalled.field-0-is at c.in-Err-NotCalled.ensures)
+
+pub returns-in-Err-NoMemory : goal.returns-in-Err-NoMemory
+returns-in-Err-NoMemory g c =
+    given_up (g.D.Dial.went c.args.dial.now) (g.D.Dial.went c.loop-listed.dial) (g.D.Dial.went c.call_to.new.dial)
+    c.args.profiles.now c.loop-listed.listed-index c.listed-item.result (search rules) c.listed-item.is
+    (g.D.Dial.lines c.args.dial.now) (g.D.Dial.lines c.loop-listed.dial) (g.D.Dial.lines c.call_to.new.dial)
+    c.loop-listed.invariant (rw c.in-Err-NoMemory.field-0-is at c.in-Err-NoMemory.ensures)
+
+pub loop-listed-preserved : goal.loop-listed-preserved
+loop-listed-preserved g c =
+    elim c.match-listed.branch [
+      | in-Iiop+in-Err-NotReached w ↦ rw w.dial-is
+          (missed_one (g.D.Dial.went c.args.dial.now) (g.D.Dial.went c.loop-listed.dial) (g.D.Dial.went w.call_to.new.dial)
+          c.args.profiles.now c.loop-listed.listed-index c.listed-item.result (search rules) c.listed-item.is
+          (g.D.Dial.lines c.args.dial.now) (g.D.Dial.lines c.loop-listed.dial) (g.D.Dial.lines w.call_to.new.dial)
+          c.loop-listed.invariant w.in-Iiop.profile w.in-Iiop.is
+          (rw w.in-Err-NotReached.field-0-is at w.in-Err-NotReached.ensures))
+      | in-Other w ↦ rw w.dial-is
+          (passed (g.D.Dial.went c.args.dial.now) (g.D.Dial.went c.loop-listed.dial) (g.D.Dial.went c.loop-listed.dial)
+          c.args.profiles.now c.loop-listed.listed-index c.listed-item.result (search rules) c.listed-item.is
+          (g.D.Dial.lines c.args.dial.now) (g.D.Dial.lines c.loop-listed.dial) (g.D.Dial.lines c.loop-listed.dial)
+          c.loop-listed.invariant w.in-Other.tag w.in-Other.octets w.in-Other.is)
+    ]

@@ -1,0 +1,94 @@
+-- A call of an object at a port of a host, and of one that a reference names.
+use Rattle.std.specs.Prelude.{◌≡◌, ℕ, List, [], ◌∷◌, ◌++◌, Option, Result, Ok, Err}
+use Rattle.giop_messages.specs.Written.{Given}
+use Rattle.iiop_broker.specs.Outcomes.{Ends}
+use Rattle.giop_client.specs.Calls.{IsCalled}
+use Rattle.giop_client.specs.declared.answer.Answer.{Answer}
+use Rattle.giop_client.specs.declared.request.Request.{Request}
+use Rattle.giop_client.specs.declared.fault.CallFault.{CallFault}
+use Rattle.reference_listing.specs.Listings.{Iiop, Row, OfIiop}
+use Rattle.object_calls.specs.Lines.{Line, all_missed, made, missed}
+use Rattle.object_calls.specs.declared.fault.ReachFault.{ReachFault}
+use Rattle.object_calls.specs.declared.fault.ReachFault.TheVariants.{NotReached, NotCalled, NoMemory}
+
+-- which lists of what connections told that were handed back may be those so far
+abbrev pub Telling : Type 1
+Telling = List Ends → Type 0
+
+-- what a call asks for, with its body, and how many reads may give octets
+pub record Asking : Type 0 where
+  pub request : Request
+  pub body : Option Given
+  pub reads : ℕ
+
+abbrev pub asking : Request → Option Given → ℕ → Asking
+asking request body reads = record { request = request; body = body; reads = reads }
+
+-- behind the lines so far and those that were missed a connection was made to the host and the port, the call was made
+-- on it, and it was handed back
+pub record IsTalk (Told Told' : Telling) (ask : Asking) (host : List ℕ) (port : ℕ) (lines : List Line)
+    (result : Result Answer CallFault) (lines' : List Line) : Type 0 where
+  pub from : Ends
+  pub to : Ends
+  pub lines_are : lines' ≡ lines ++ made host port from ∷ []
+  pub gone : (all : List Ends) → Told all → Told' (all ++ to ∷ [])
+  pub called : IsCalled ask.request ask.body ask.reads from result to
+
+-- these were dialled in vain
+pub record IsUnreached (Told Told' : Telling) (vain : List Line) (lines lines' : List Line) : Type 0 where
+  pub lines_are : lines' ≡ lines ++ vain
+  pub gone : (all : List Ends) → Told all → Told' all
+
+-- By what is told of the lines and of the connections that were handed back, before and after.
+abbrev pub IsCalledAt : Telling → Telling → Asking → List ℕ → ℕ → List Line → Result Answer ReachFault → List Line → Type 0
+IsCalledAt Told Told' ask host port lines (Ok answer) lines' = IsTalk Told Told' ask host port lines (Ok answer) lines'
+IsCalledAt Told Told' ask host port lines (Err NotReached) lines' =
+    IsUnreached Told Told' (missed host port ∷ []) lines lines'
+IsCalledAt Told Told' ask host port lines (Err (NotCalled fault)) lines' =
+    IsTalk Told Told' ask host port lines (Err fault) lines'
+IsCalledAt Told Told' ask host port lines (Err NoMemory) lines' = ⊥
+
+-- ---- by a reference
+
+-- the same request to the object with another key
+pub record IsTo (key : List ℕ) (request other : Request) : Type 0 where
+  pub order_is : other.order ≡ request.order
+  pub id_is : other.id ≡ request.id
+  pub flags_is : other.flags ≡ request.flags
+  pub key_is : other.key.now ≡ key
+  pub operation_is : other.operation.now ≡ request.operation.now
+
+-- the call was made at the host and the port of a profile, of the object with its key
+pub record IsTalkTo (Told Told' : Telling) (ask : Asking) (iiop : Iiop) (lines : List Line)
+    (result : Result Answer CallFault) (lines' : List Line) : Type 0 where
+  pub request : Request
+  pub to_object : IsTo iiop.body.key ask.request request
+  pub talk : IsTalk Told Told' (asking request ask.body ask.reads) iiop.body.host iiop.body.port lines result lines'
+
+abbrev pub IsCalledTo : Telling → Telling → Asking → Iiop → List Line → Result Answer ReachFault → List Line → Type 0
+IsCalledTo Told Told' ask iiop lines (Ok answer) lines' = IsTalkTo Told Told' ask iiop lines (Ok answer) lines'
+IsCalledTo Told Told' ask iiop lines (Err NotReached) lines' =
+    IsUnreached Told Told' (missed iiop.body.host iiop.body.port ∷ []) lines lines'
+IsCalledTo Told Told' ask iiop lines (Err (NotCalled fault)) lines' =
+    IsTalkTo Told Told' ask iiop lines (Err fault) lines'
+IsCalledTo Told Told' ask iiop lines (Err NoMemory) lines' = IsUnreached Told Told' [] lines lines'
+
+-- it was so by the first profile of IIOP whose host and port could be reached
+pub record IsTalkBy (Told Told' : Telling) (ask : Asking) (rows : List Row) (lines : List Line)
+    (result : Result Answer CallFault) (lines' : List Line) : Type 0 where
+  pub before : List Row
+  pub iiop : Iiop
+  pub behind : List Row
+  pub rows_are : rows ≡ before ++ OfIiop iiop ∷ behind
+  pub talk : IsTalkTo Told Told' ask iiop (lines ++ all_missed before) result lines'
+
+-- memory was wanted, and no call was made
+pub record IsGivenUp (Told Told' : Telling) (lines lines' : List Line) : Type 0 where
+  pub vain : List Line
+  pub unreached : IsUnreached Told Told' vain lines lines'
+
+abbrev pub IsCalledBy : Telling → Telling → Asking → List Row → List Line → Result Answer ReachFault → List Line → Type 0
+IsCalledBy Told Told' ask rows lines (Ok answer) lines' = IsTalkBy Told Told' ask rows lines (Ok answer) lines'
+IsCalledBy Told Told' ask rows lines (Err NotReached) lines' = IsUnreached Told Told' (all_missed rows) lines lines'
+IsCalledBy Told Told' ask rows lines (Err (NotCalled fault)) lines' = IsTalkBy Told Told' ask rows lines (Err fault) lines'
+IsCalledBy Told Told' ask rows lines (Err NoMemory) lines' = IsGivenUp Told Told' lines lines'

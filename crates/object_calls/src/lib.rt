@@ -1,0 +1,12 @@
+//! Calls of objects on connections that are made for them.
+#![tactic(auto)]
+
+mod calling;
+mod dial;
+mod fault;
+mod reached;
+
+pub use calling::call_at;
+pub use dial::Dial;
+pub use fault::ReachFault;
+pub use reached::call_by;

@@ -1,0 +1,9 @@
+//! References as texts spell them: in digits behind `IOR:`, or as a corbaloc URL.
+#![tactic(auto)]
+
+mod fault;
+mod place;
+mod spelled;
+
+pub use fault::SpellingFault;
+pub use spelled::read_reference;
