@@ -166,7 +166,7 @@ impl<'r, R: Net + Clock + Eprint> PolledLoopback<'r, R> {
             if self.leaving.is_empty() {
                 return self.totals;
             }
-            if !self.leave() {
+            if !self.leave() && !self.leaving.is_empty() {
                 self.wait();
             }
         }
