@@ -187,8 +187,9 @@ pub fn read_message(
         Ok(front) => front,
         Err(fault) => return Err(BufferFault::Refused(fault)),
     };
-    let Ok(texts) = texts_of(alloc, &front) else {
-        return Err(BufferFault::Refused(GiopFault::NoMemory));
+    let texts = match texts_of(alloc, &front) {
+        Ok(texts) => texts,
+        Err(_) => return Err(BufferFault::Refused(GiopFault::NoMemory)),
     };
     match put(texts.as_slice(), out) {
         Ok(len) => {

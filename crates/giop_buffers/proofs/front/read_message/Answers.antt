@@ -12,6 +12,7 @@ returns-clause-refused c =
       found = c.in-Ok.ensures.found;
       told_is = refl;
       texts_are = c.in-Ok-texts_of.ensures;
-    } in
-    (omega (arith, c.in-Err-put.ensures.long, c.in-Err-put.ensures.needed),
-    record { octets = texts; is = record { told = told_of c.in-Ok.front; is = is }; long = sym needed })
+    } in (
+      omega (arith, c.in-Err-put.ensures.long, c.in-Err-put.ensures.needed),
+      record { octets = texts; is = record { told = told_of c.in-Ok.front; is = is }; long = sym needed },
+    )
