@@ -56,7 +56,7 @@ Mended: idlc_load with the octets of that file.
 ";
 
 const FAULTY_IDL: &str = "47 FaultyIdl
-The IDL that the library for C was given has a fault. Its own number, 1 to 36, and its line are told.
+The IDL that the library for C was given has a fault, whose number, 1 to 36, and line are told.
 Input: idlc_compile with struct Point { long x };
 To mend it: look the number up with idlc explain, and mend the line.
 Mended: idlc_compile with struct Point { long x; };
