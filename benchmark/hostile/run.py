@@ -36,7 +36,7 @@ def row(name, octets, found, empty):
     """What is held beside the file and what the program has at its start tells of files of a MiB at least."""
     answer, seconds, mebi = found
     size = len(octets) / 2**20
-    held = f"{(mebi - empty - size) / size:.1f}" if size >= 1 else ""
+    held = f"{max(0, mebi - empty - size) / size:.1f}" if size >= 1 else ""
     return f"| {name} | {len(octets):,} | {answer} | {seconds:.2f} | {mebi:.0f} | {held} |"
 
 
