@@ -96,7 +96,7 @@ pub record IsReadAs (app : App) (words : List Text) (ask : Ask) : Type 0 where
 abbrev pub AreReadAs : List Text → Ask → Type 0
 AreReadAs words ask = (orders : ValueParser) → TakesOrders orders → IsReadAs (program_app orders) words ask
 
--- the option that was found for an argument is this number, of 32 bits, or there is none, and the number is that of none
+-- the option that was found is this number, of 32 bits; or there is none, and the number is that of none
 abbrev pub TellsOption : Text → ℕ → List Row → ℕ → Type 0
 TellsOption id of_none rows number = TellsWhole id 32 rows number ⊎ ((one_of id rows ≡ None) × (number ≡ of_none))
 
