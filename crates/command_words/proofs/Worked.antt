@@ -1,5 +1,5 @@
 -- What a few lines of words ask for.
-use Rattle.std.proofs.Common.{◌≡◌, ◌&&◌, refl, ap, true, pos, List, [], ◌∷◌, Some, None, codes, arith, Bor}
+use Rattle.std.proofs.Common.{inl, inr, ◌≡◌, ◌&&◌, refl, ap, true, pos, List, [], ◌∷◌, Some, None, codes, arith, Bor}
 use Rattle.std.specs.List.{list_any}
 use Rattle.std.specs.Str.{bytes_eq}
 use Rattle.clap.specs.Words.{Row, Text, reading_of, subcommand_of, takes}
@@ -7,13 +7,13 @@ use Rattle.clap.specs.declared.builder.value_parser.ValueParser.{ValueParser}
 use Rattle.clap.specs.declared.builder.value_parser.ValueParser.TheVariants.{Names, Signed, String}
 use Rattle.clap.specs.declared.parser.matches.ValueSource.TheVariants.{CommandLine}
 use Rattle.clap.proofs.OnLiterals.{clap_on_literals}
-use Rattle.type_graph.specs.declared.width.Order.TheVariants.{Big}
+use Rattle.type_graph.specs.declared.width.Order.TheVariants.{Big, Little}
 use Rattle.table_commands.specs.declared.values.Way.TheVariants.{Encode}
-use Rattle.command_words.specs.Ask.{Ask, Explanation, Reference, Value}
+use Rattle.command_words.specs.Ask.{Ask, CallAsk, Explanation, Reference, Value}
 use Rattle.command_words.specs.declared.task.Form.TheVariants.{Hex, Text as AsText}
 use Rattle.command_words.specs.Commands.{program_app}
 use Rattle.command_words.specs.Spoken.{spoken}
-use Rattle.command_words.specs.Words.{AsksFor, IsReadAs, Tells, texts}
+use Rattle.command_words.specs.Words.{AsksFor, AsksForCall, IsReadAs, IsReadAsCall, Tells, TellsCall, texts}
 
 abbrev words : List Text
 words = codes "idlc" ∷ codes "encode" ∷ codes "builtin" ∷ codes "S" ∷ codes "big" ∷ codes "12" ∷ codes "07" ∷ []
@@ -242,3 +242,116 @@ explain_words_ask orders takes_orders = rw takes_orders.is_of_names (explain_rea
 
 pub list_words_ask : AsksFor list_words (Explanation None)
 list_words_ask orders takes_orders = rw takes_orders.is_of_names (list_read takes_orders.names)
+
+-- a call without options
+abbrev call_words : List Text
+call_words = codes "idlc" ∷ codes "call" ∷ codes "t" ∷ codes "@r" ∷ codes "ping" ∷ []
+
+abbrev call_ask : CallAsk
+call_ask = record {
+  table = codes "t";
+  reference = codes "@r";
+  operation = codes "ping";
+  value = None;
+  order = Big;
+  wait = 30;
+  repeat = 1;
+}
+
+abbrev call_found : List Row
+call_found = row (codes "T") (codes "t") ∷ row (codes "IOR") (codes "@r") ∷ row (codes "OP") (codes "ping") ∷ []
+
+-- one with a value, three seconds, five times
+abbrev long_call_words : List Text
+long_call_words = codes "idlc" ∷ codes "call" ∷ codes "t" ∷ codes "-" ∷ codes "add" ∷ codes "[1]" ∷ codes "--wait" ∷ codes "3" ∷ codes "--repeat"
+    ∷ codes "5" ∷ []
+
+abbrev long_call_ask : CallAsk
+long_call_ask = record {
+  table = codes "t";
+  reference = codes "-";
+  operation = codes "add";
+  value = Some (codes "[1]");
+  order = Big;
+  wait = 3;
+  repeat = 5;
+}
+
+abbrev long_call_found : List Row
+long_call_found = row (codes "T") (codes "t") ∷ row (codes "IOR") (codes "-") ∷ row (codes "OP") (codes "add") ∷ row (codes "VALUE") (codes "[1]")
+    ∷ row_by (Signed (pos 1) (pos 86400)) (codes "wait") (codes "3") ∷ row_by (Signed (pos 1) (pos 4294967295)) (codes "repeat") (codes "5") ∷ []
+
+module _ (orders : Bor (List (Bor Text))) where
+  call_taken : takes (program_app (Names orders)) call_words ≡ true
+  unfolding clap_on_literals
+  call_taken = refl
+
+  is_call : subcommand_of (program_app (Names orders)) call_words ≡ Some (codes "call", call_found)
+  unfolding clap_on_literals
+  is_call = refl
+
+  call_tells : TellsCall call_found call_ask
+  unfolding clap_on_literals
+  call_tells = record {
+    table = refl;
+    reference = refl;
+    operation = refl;
+    value = refl;
+    order = inr (refl, refl);
+    wait = inr (refl, refl);
+    repeat = inr (refl, refl);
+  }
+
+  long_call_taken : takes (program_app (Names orders)) long_call_words ≡ true
+  unfolding clap_on_literals
+  long_call_taken = refl
+
+  is_long_call : subcommand_of (program_app (Names orders)) long_call_words ≡ Some (codes "call", long_call_found)
+  unfolding clap_on_literals
+  is_long_call = refl
+
+  long_call_tells : TellsCall long_call_found long_call_ask
+  unfolding clap_on_literals
+  long_call_tells = record {
+    table = refl;
+    reference = refl;
+    operation = refl;
+    value = refl;
+    order = inr (refl, refl);
+    wait = inl (record {
+      digits = codes "3";
+      found = refl;
+      numeral = (omega arith, (omega arith, tt));
+      is = refl;
+      fits = omega arith;
+    });
+    repeat = inl (record {
+      digits = codes "5";
+      found = refl;
+      numeral = (omega arith, (omega arith, tt));
+      is = refl;
+      fits = omega arith;
+    });
+  }
+
+  pub call_read : IsReadAsCall (program_app (Names orders)) call_words call_ask
+  call_read = record {
+    taken = call_taken;
+    rows = call_found;
+    command = is_call;
+    tells = call_tells;
+  }
+
+  pub long_call_read : IsReadAsCall (program_app (Names orders)) long_call_words long_call_ask
+  long_call_read = record {
+    taken = long_call_taken;
+    rows = long_call_found;
+    command = is_long_call;
+    tells = long_call_tells;
+  }
+
+pub call_words_ask : AsksForCall call_words call_ask
+call_words_ask orders takes_orders = rw takes_orders.is_of_names (call_read takes_orders.names)
+
+pub long_call_words_ask : AsksForCall long_call_words long_call_ask
+long_call_words_ask orders takes_orders = rw takes_orders.is_of_names (long_call_read takes_orders.names)

@@ -62,6 +62,17 @@ fn unclear(matches: &ArgMatches<'_>) -> Mistake
     }
 }
 
+/// Words that ask for no answer ask to serve calls.
+fn served<'a>(matches: &ArgMatches<'a>) -> Result<Said<'a>, Mistake>
+    ensures { (rows : List Row) → subcommand_rows_of matches.now ≡ Some (codes "encode", rows)
+        → result ≡ Err Mistake.HexOrText }
+{
+    match service_in(matches) {
+        Some(service) => Ok(Said::Serve(service)),
+        None => Err(unclear(matches)),
+    }
+}
+
 /// Words that ask for no task ask for a call, or to serve calls.
 fn called_or_served<'a>(matches: &ArgMatches<'a>) -> Result<Said<'a>, Mistake>
     ensures unclear { (rows : List Row) → subcommand_rows_of matches.now ≡ Some (codes "encode", rows)
@@ -69,12 +80,9 @@ fn called_or_served<'a>(matches: &ArgMatches<'a>) -> Result<Said<'a>, Mistake>
     ensures called { (ask : CallAsk) (rows : List Row) → subcommand_rows_of matches.now ≡ Some (codes "call", rows)
         → TellsCall rows ask → (task : CallTask) × (result ≡ Ok (Said.Call task)) × (call_ask_of task ≡ ask) }
 {
-    if let Some(task) = call_in(matches) {
-        return Ok(Said::Call(task));
-    }
-    match service_in(matches) {
-        Some(service) => Ok(Said::Serve(service)),
-        None => Err(unclear(matches)),
+    match call_in(matches) {
+        Some(task) => Ok(Said::Call(task)),
+        None => served(matches),
     }
 }
 

@@ -103,4 +103,4 @@ returns-clause-called c ask asks =
     let read = asks (Names c.as_slice.result) orders in
     let command = (c.in-Ok.ensures.matches (ap is_simple app_is)).1 ∙ ap (λ app. subcommand_of app (texts c.args.words.now)) app_is ∙ read.command in
     let told = c.called_or_served.ensures.called ask read.rows command read.tells in
-    rw told.1.0 (told.0, refl, told.1.1)
+    rw told.1 (told.0, refl, told.2)
