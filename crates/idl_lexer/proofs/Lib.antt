@@ -5,6 +5,8 @@ pub mod Alone
 pub mod Keywords
 pub mod Digits
 pub mod Characters
+pub mod OneForm
+pub mod Paths
 pub mod Readings
 pub mod WordsOfNames
 pub mod PragmaParts

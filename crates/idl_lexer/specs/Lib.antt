@@ -12,4 +12,5 @@ pub mod Gaps
 pub mod Forms
 pub mod Tokens
 pub mod Lexemes
+pub mod Refusal
 pub mod Says

@@ -1,6 +1,6 @@
 //! Comments (ISO/IEC 19500-1, lexical conventions, comments).
 
-ghost use Rattle.std.specs.Prelude.{◌≡◌, ◌≤◌, ◌<◌, length, slice_index, IfOk};
+ghost use Rattle.std.specs.Prelude.{◌≡◌, ◌≤◌, ◌<◌, ℕ, length, slice_index, IfErr, IfOk};
 ghost use Rattle.idl_lexer.specs.Gaps.{IsBlockComment};
 
 use crate::fault::LexFault;
@@ -17,6 +17,7 @@ pub(crate) fn block_comment(octets: &[u8], line: usize) -> Result<usize, LexFaul
     ensures form { IfOk result (λ n. IsBlockComment octets.now n) }
     ensures within { IfOk result (λ n. n ≤ length octets.now) }
     ensures long { IfOk result (λ n. 0 < n) }
+    ensures refused { IfErr result (λ _. (n : ℕ) → IsBlockComment octets.now n → ⊥) }
 {
     match memmem::find(octets.split_at(2).1, b"*/") {
         Some(inner) => Ok(inner + 4),

@@ -1,7 +1,10 @@
 //! The tokens of a whole source, one step after another.
 
-ghost use Rattle.std.specs.Prelude.{◌≡◌, ◌<◌, ◌≤◌, ◌-◌, ◌++◌, ◌∷◌, [], length, take, drop, slice_range, IfOk};
-ghost use Rattle.idl_lexer.specs.Lexemes.{IsLexeme};
+ghost use Rattle.std.specs.Prelude.{◌≡◌, ◌<◌, ◌≤◌, ◌-◌, ◌++◌, ◌∷◌, [], length, take, drop, slice_range, List, IfErr, IfOk};
+ghost use Rattle.idl_lexer.specs.declared.fault.LexFault.TheVariants.{NoMemory};
+ghost use Rattle.idl_lexer.specs.declared.token.Token.{Token};
+ghost use Rattle.idl_lexer.specs.Lexemes.{HasNoForm, IsLexeme};
+ghost use Rattle.idl_lexer.specs.Refusal.{OnlyIf};
 ghost use Rattle.idl_lexer.specs.Forms.{Begins};
 ghost use Rattle.idl_lexer.specs.Tokens.{HaveLines, Lexed};
 
@@ -20,6 +23,7 @@ use std::alloc::Global;
 /// What the octets begin with, behind those before them.
 fn lexeme(before: &[u8], octets: &[u8], line: usize) -> Result<Lexeme, LexFault>
     ensures form { IfOk result (λ l. IsLexeme before.now octets.now l) }
+    ensures refused { IfErr result (λ _. 0 < length octets.now → HasNoForm before.now octets.now) }
 {
     match octets {
         [b'#', ..] => directive(before, octets, line),
@@ -60,7 +64,8 @@ fn token(source: &str, kind: Kind, start: usize, end: usize, line: usize) -> Tok
 }
 
 fn add<'a>(tokens: &mut Vec<Token<'a>>, token: Token<'a>) -> Result<(), LexFault>
-    ensures { IfOk result (λ _. tokens.new.items ≡ tokens.old.items ++ token.entry ∷ []) }
+    ensures added { IfOk result (λ _. tokens.new.items ≡ tokens.old.items ++ token.entry ∷ []) }
+    ensures memory { IfErr result (λ fault. fault ≡ NoMemory) }
 {
     tokens.push(token)?;
     Ok(())
@@ -78,6 +83,7 @@ fn add<'a>(tokens: &mut Vec<Token<'a>>, token: Token<'a>) -> Result<(), LexFault
 pub fn lex(alloc: Global, source: &str) -> Result<Vec<Token<'_>>, LexFault>
     ensures lexed { IfOk result (λ tokens. Lexed source.now tokens.items) }
     ensures lines { IfOk result (λ tokens. HaveLines source.now tokens.items) }
+    ensures refused { IfErr result (λ fault. OnlyIf fault ((tokens : List Token) → Lexed source.now tokens → ⊥)) }
 {
     let octets = source.as_bytes();
     let mut tokens = Vec::new(alloc);

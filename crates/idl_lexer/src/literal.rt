@@ -1,6 +1,6 @@
 //! Character and text literals (ISO/IEC 19500-1, lexical conventions, literals).
 
-ghost use Rattle.std.specs.Prelude.{◌≡◌, ◌<◌, ◌≤◌, ℕ, length, drop, slice_index, IfOk, IfSome, IsOk, IsSome, true};
+ghost use Rattle.std.specs.Prelude.{◌≡◌, ◌<◌, ◌≤◌, ℕ, length, drop, slice_index, IfErr, IfOk, IfSome, IsOk, IsSome, true};
 ghost use Rattle.std.specs.Char.{is_ascii_hexdigit};
 ghost use Rattle.std.specs.Str.Parse.{digits_value, IsNumeral};
 ghost use Rattle.idl_lexer.specs.Octets.{is_octal};
@@ -134,6 +134,7 @@ pub(crate) fn char_literal(octets: &[u8], line: usize) -> Result<usize, LexFault
     ensures form { IfOk result (λ n. IsCharLiteral octets.now n) }
     ensures within { IfOk result (λ n. n ≤ length octets.now) }
     ensures long { IfOk result (λ n. 0 < n) }
+    ensures refused { IfErr result (λ _. (n : ℕ) → IsCharLiteral octets.now n → ⊥) }
 {
     let inner = octets.split_at(1).1;
     match character(inner, b'\'', line) {
@@ -157,6 +158,7 @@ pub(crate) fn text_literal(octets: &[u8], line: usize) -> Result<usize, LexFault
     ensures form { IfOk result (λ n. IsTextLiteral octets.now n) }
     ensures within { IfOk result (λ n. n ≤ length octets.now) }
     ensures long { IfOk result (λ n. 0 < n) }
+    ensures refused { IfErr result (λ _. (n : ℕ) → IsTextLiteral octets.now n → ⊥) }
 {
     let mut at = 1;
     while at < octets.len() && octets[at] != b'"' {
