@@ -65,9 +65,13 @@ pub record HasFault (source : List ℕ) (fault : CompileFault) : Type 0 where
   pub text : IsTextOf source definitions
   pub is : IsFaultOf definitions fault
 
--- what a fault of tokens or of grammar says of the text is the lexer's and the parser's to tell
+-- the text doesn't consist of tokens
+abbrev pub HasNoTokens : List ℕ → Type 0
+HasNoTokens source = (tokens : List Token) → Lexed source tokens → ⊥
+
+-- what else a fault of grammar says of the text is the parser's to tell
 abbrev pub IsRefused : List ℕ → CompileFault → Type 0
-IsRefused source (Tokens fault) = Unit {0}
+IsRefused source (Tokens fault) = HasNoTokens source
 IsRefused source (Grammar fault) = HasTokens source
 IsRefused source (Names fault) = HasFault source (Names fault)
 IsRefused source (Types fault) = HasFault source (Types fault)

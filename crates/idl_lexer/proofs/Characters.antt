@@ -77,6 +77,7 @@ pub record Step (s octets : List ℕ) : Type 0 where
   pub len : ℕ
   pub value : ℕ
   pub character : IsCharacter 34 s len value
+  pub nonzero : value ≢ 0
   pub next : ClosedCharacters (drop len s)
   pub same : octets ≡ value ∷ next.octets
 
@@ -89,6 +90,7 @@ ClosedCharacters-step s other c = from s c.octets c.inner other c.characters c.c
       len = n;
       value = v;
       character = char;
+      nonzero = nz;
       next = record { octets = vs1; inner = m; characters = rest; closes = get_or-drop n s m 0 ∙ ap (slice_index s) (sym e) ∙ closes };
       same = refl;
     }

@@ -7,6 +7,9 @@ pub mod Digits
 pub mod Characters
 pub mod OneForm
 pub mod Paths
+pub mod Refusals
+pub mod Files
+pub mod ScopedNames
 pub mod Readings
 pub mod WordsOfNames
 pub mod PragmaParts

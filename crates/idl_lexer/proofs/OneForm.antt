@@ -16,7 +16,7 @@ use Rattle.idl_lexer.specs.Punctuation.{is_pair, is_punctuation, opens_comment}
 use Rattle.idl_lexer.specs.Literals.{AreCharacters, none, more, IsCharLiteral, IsTextLiteral}
 use Rattle.idl_lexer.specs.Directives.{directive_part, is_kept_word, line_of, pragma_word, word_of, IsFresh, IsKept, prefix, id, version, IsPragma, IsSkipped, marker, line, pragma}
 use Rattle.idl_lexer.specs.Gaps.{closes_at, IsBlockComment, IsLineComment, blank, line_comment, block_comment, directive}
-use Rattle.idl_lexer.specs.Lexemes.{IsForm}
+use Rattle.idl_lexer.specs.Lexemes.{HasNoForm, HasNoWord, IsForm}
 use Rattle.idl_lexer.proofs.Inside.{and_true, marks, or_true}
 use Rattle.idl_lexer.proofs.Alone.{is_mark_of, punctuation_len}
 use Rattle.idl_lexer.proofs.Characters.{no_character, not_false, one_passes, same_len}
@@ -383,14 +383,65 @@ one_form before s form other n m a b =
     one (family_at s) before s form other n m (sorted form before s n a) (sorted other before s m b)
 
 -- what no form of the family is, is none at all
-pub none_of : (f : Family) (before s : List ℕ) → family_at s ≡ f → ((form : Option Kind) (n : ℕ) → OfFamily f before s form n → ⊥) → (form : Option Kind) (n : ℕ) → IsForm form before s n → ⊥
+pub none_of : (f : Family) (before s : List ℕ) → family_at s ≡ f → ((form : Option Kind) (n : ℕ) → OfFamily f before s form n → ⊥) → HasNoForm before s
 none_of f before s e h form n is = h form n (rw e at (sorted form before s n is))
 
 -- nothing stands at the end
-pub none_at_end : (before : List ℕ) (form : Option Kind) (n : ℕ) → IsForm form before [] n → ⊥
+pub none_at_end : (before : List ℕ) → HasNoForm before []
 none_at_end before = none_of of_word before [] refl no
   where
     no : (form : Option Kind) (n : ℕ) → OfFamily of_word before [] form n → ⊥
     no form n (inl k) = let h = k.1.word.first in cc
     no form n (inr (_, inl name)) = let h = name.word.first in cc
     no form n (inr (_, inr name)) = let h = name.underscore in absurd (omega (arith, h))
+
+-- ---- where no form of a family stands, none does
+
+-- the first octets are of no family but those of marks and words
+pub record IsOther (a b : ℕ) : Type 0 where
+  pub hash : a ≢ 35
+  pub quote : a ≢ 39
+  pub quotes : a ≢ 34
+  pub line : a ≡ 47 → b ≢ 47
+  pub block : a ≡ 47 → b ≢ 42
+  pub digit : is_ascii_digit a ≡ false
+  pub blank : is_blank a ≡ false
+
+no_comment_of : (a b : ℕ) → (a ≡ 47 → b ≢ 47) → (a ≡ 47 → b ≢ 42) → opens_comment a b ≡ false
+no_comment_of a b h k = grind (arith, nat_tests)
+
+pub none_other :
+    (before s : List ℕ) → IsOther (slice_index s 0) (slice_index s 1) → ((n : ℕ) → is_punctuation s n ≡ false) → HasNoWord s
+    → HasNoForm before s
+none_other before s is no_mark no_word = by_mark (is_one_of marks (slice_index s 0)) refl
+  where
+    neither : (m : Bool) (form : Option Kind) (n : ℕ) → OfFamily (cond m of_mark of_word) before s form n → ⊥
+    neither true form n x = let no : true ≡ false = sym x.1 ∙ no_mark n in cc
+    neither false form n (inl k) = no_word n (inr k.1)
+    neither false form n (inr k) = no_word n (inl k.1)
+
+    by_mark : (m : Bool) → is_one_of marks (slice_index s 0) ≡ m → HasNoForm before s
+    by_mark m e =
+        none_of (cond m of_mark of_word) before s
+        (pick (slice_index s 0) (slice_index s 1) false false false false false false m (no_number 35 (slice_index s 0) is.hash) (no_comment_of (slice_index s 0) (slice_index s 1) is.line is.block)
+        (no_number 39 (slice_index s 0) is.quote) (no_number 34 (slice_index s 0) is.quotes) is.digit is.blank e)
+        (neither m)
+
+pub none_number : (before s : List ℕ) → is_ascii_digit (slice_index s 0) ≡ true → ((n : ℕ) → IsInteger s n → ⊥) → HasNoForm before s
+none_number before s first never = none_of of_number before s (family_number (slice_index s 0) (slice_index s 1) first) (λ form n x. never n x.1)
+
+pub none_block : (before s : List ℕ) → slice_index s 0 ≡ 47 → slice_index s 1 ≡ 42 → ((n : ℕ) → IsBlockComment s n → ⊥) → HasNoForm before s
+none_block before s first second never = none_of of_block before s (family_block (slice_index s 0) (slice_index s 1) first second) (λ form n x. never n x.1)
+
+pub none_char : (before s : List ℕ) → slice_index s 0 ≡ 39 → ((n : ℕ) → IsCharLiteral s n → ⊥) → HasNoForm before s
+none_char before s first never = none_of of_char before s (family_char (slice_index s 0) (slice_index s 1) first) (λ form n x. never n x.1)
+
+pub none_text : (before s : List ℕ) → slice_index s 0 ≡ 34 → ((n : ℕ) → IsTextLiteral s n → ⊥) → HasNoForm before s
+none_text before s first never = none_of of_text before s (family_text (slice_index s 0) (slice_index s 1) first) (λ form n x. never n x.1)
+
+pub none_directive : (before s : List ℕ) → slice_index s 0 ≡ 35 → (IsFresh before → list_all is_ascii (line_of s) ≡ true → IsKept (line_of s) ⊎ IsSkipped (line_of s) → ⊥) → HasNoForm before s
+none_directive before s first never = none_of of_hash before s (family_hash (slice_index s 0) (slice_index s 1) first) (λ form n x. never x.fresh x.ascii (either x.which))
+  where
+    either : {A B : Type 0} {form : Option Kind} → ((form ≡ Some Pragma) × A) ⊎ ((form ≡ None) × B) → A ⊎ B
+    either (inl x) = inl x.1
+    either (inr x) = inr x.1

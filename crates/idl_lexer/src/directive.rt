@@ -1,7 +1,7 @@
 //! Lines that begin with `#`: markers of lines, and pragmas (ISO/IEC 19500-1, preprocessing, pragma
 //! directives for repository ids).
 
-ghost use Rattle.std.specs.Prelude.{◌≡◌, ◌≢◌, ◌<◌, ◌≤◌, ◌==◌, ◌||◌, ◌↔◌, ℕ, List, [], length, take, drop, slice_index};
+ghost use Rattle.std.specs.Prelude.{◌≡◌, ◌≢◌, ◌-◌, ◌<◌, ◌≤◌, ◌==◌, ◌||◌, ◌↔◌, ◌⊎◌, ℕ, List, [], length, take, drop, slice_index};
 ghost use Rattle.std.specs.Prelude.{IfErr, IfNone, IfOk, IfSome, IsTrue};
 ghost use Rattle.std.specs.Char.{is_ascii_digit};
 ghost use Rattle.idl_lexer.specs.Octets.{is_blank, past, run};
@@ -275,12 +275,23 @@ fn is_skipped(line: &[u8]) -> bool
     is_marker(line) || is_line_directive(line) || is_other_pragma(line)
 }
 
+/// Where the last line begins.
+fn last_line(octets: &[u8]) -> usize
+    ensures within { result ≤ length octets.now }
+    ensures begins { (result ≡ 0) ⊎ (slice_index octets.now (result - 1) ≡ 10) }
+    ensures last { (k : ℕ) → result ≤ k → k < length octets.now → slice_index octets.now k ≢ 10 }
+{
+    match memrchr(b'\n', octets) {
+        Some(at) => at + 1,
+        None => 0,
+    }
+}
+
 /// Whether only blanks stand on the last line of what comes before.
 fn is_fresh(before: &[u8]) -> bool
     ensures { IsTrue result ↔ IsFresh before.now }
 {
-    let start = memrchr(b'\n', before).map_or(0, |at| at + 1);
-    are_blank(before.split_at(start).1)
+    are_blank(before.split_at(last_line(before)).1)
 }
 
 /// The directive at the front, a whole line: a pragma for repository ids is a token, and a marker of

@@ -116,8 +116,11 @@ pub(crate) fn identifier_len(octets: &[u8]) -> Option<usize>
     ensures none { IfNone result ((n : ℕ) → IsIdentifier octets.now n → ⊥) }
 {
     match word(octets, 0) {
-        Ok((Kind::Ident, len)) => Some(len),
-        _ => None,
+        Ok((kind, len)) => match kind {
+            Kind::Ident => Some(len),
+            _ => None,
+        },
+        Err(_) => None,
     }
 }
 

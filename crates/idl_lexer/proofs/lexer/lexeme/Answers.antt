@@ -1,0 +1,52 @@
+use Rattle.std.proofs.Common.{◌≡◌, ◌≢◌, ◌∙◌, ℕ, Bool, false, List, Result, Ok, Err, IfErr, slice_index, ap, sym, arith}
+use Rattle.std.specs.Char.{is_ascii_digit}
+use Rattle.std.proofs.lemmas.Result.{err_from_is_err_and}
+use Rattle.idl_lexer.specs.declared.fault.LexFault.{LexFault}
+use Rattle.idl_lexer.specs.declared.lexeme.Lexeme.{Lexeme}
+use Rattle.idl_lexer.specs.Octets.{is_blank}
+use Rattle.idl_lexer.specs.Punctuation.{is_punctuation}
+use Rattle.idl_lexer.specs.Lexemes.{HasNoForm, HasNoWord}
+use Rattle.idl_lexer.proofs.OneForm.{none_block, none_char, none_number, none_other, none_text, IsOther}
+use Rattle.idl_lexer.proofs.lexer.lexeme.Goals as goal
+use Rattle.idl_lexer.proofs.lexer.lexeme.Goals.{in_default-via-in-47-2+else-second-eq42, in_default-via-in_default-1}
+
+pub returns-in_err-block_comment-in-47-2-clause-refused : goal.returns-in_err-block_comment-in-47-2-clause-refused
+returns-in_err-block_comment-in-47-2-clause-refused c =
+    let p = err_from_is_err_and c.from_residual.result c.from_residual.ensures.1 in
+    rw p.1 (none_block c.args.before.now c.args.octets.now (sym c.octet_at-first.ensures ∙ c.in-47.is) (sym c.octet_at-second.ensures ∙ c.if-second-eq42.true) c.in_err-block_comment-in-47-2.ensures.refused)
+
+pub returns-in_err-char_literal-in-39-clause-refused : goal.returns-in_err-char_literal-in-39-clause-refused
+returns-in_err-char_literal-in-39-clause-refused c =
+    let p = err_from_is_err_and c.from_residual-in_err-char_literal-in-39.result c.from_residual-in_err-char_literal-in-39.ensures.1 in
+    rw p.1 (none_char c.args.before.now c.args.octets.now (sym c.octet_at-first.ensures ∙ c.in-39.is) c.in_err-char_literal-in-39.ensures.refused)
+
+pub returns-in_err-text_literal-in-34-clause-refused : goal.returns-in_err-text_literal-in-34-clause-refused
+returns-in_err-text_literal-in-34-clause-refused c =
+    let p = err_from_is_err_and c.from_residual-in_err-text_literal-in-34.result c.from_residual-in_err-text_literal-in-34.ensures.1 in
+    rw p.1 (none_text c.args.before.now c.args.octets.now (sym c.octet_at-first.ensures ∙ c.in-34.is) c.in_err-text_literal-in-34.ensures.refused)
+
+pub returns-in_err-integer-in_default-clause-refused : goal.returns-in_err-integer-in_default-clause-refused
+returns-in_err-integer-in_default-clause-refused c =
+    let p = err_from_is_err_and c.from_residual-in_err-integer-in_default.result c.from_residual-in_err-integer-in_default.ensures.1 in
+    let first = ap is_ascii_digit (sym c.octet_at-first.ensures) ∙ sym c.is_ascii_digit.ensures.value ∙ c.if-is_ascii_digit.true in
+    rw p.1 (none_number c.args.before.now c.args.octets.now first c.in_err-integer-in_default.ensures.refused)
+
+neither : (before s : List ℕ) (r : Result Lexeme LexFault) → IsOther (slice_index s 0) (slice_index s 1) → IfErr r (λ _. (n : ℕ) → is_punctuation s n ≡ false) → IfErr r (λ _. HasNoWord s) → IfErr r (λ _. HasNoForm before s)
+neither before s (Ok l) is no_mark no_word = tt
+neither before s (Err f) is no_mark no_word = none_other before s is no_mark no_word
+
+-- from the octets that are read
+other : (s : List ℕ) (first second : ℕ) → first ≡ slice_index s 0 → second ≡ slice_index s 1 → IsOther first second → IsOther (slice_index s 0) (slice_index s 1)
+other s first second e f is = rw (e, f) at is
+
+pub returns-in_default-3-clause-refused : goal.returns-in_default-3-clause-refused
+returns-in_default-3-clause-refused c =
+    let a = c.octet_at-first.result in
+    let b = c.octet_at-second.result in
+    let digit = sym c.is_ascii_digit.ensures.value ∙ c.if-is_ascii_digit.false in
+    let blank = sym c.is_blank_octet.ensures ∙ c.if-is_blank_octet.false in
+    let is : IsOther a b = elim c.in_default.branch [
+      | in_default-via-in-47-2+else-second-eq42 w ↦ record { hash = omega arith; quote = omega arith; quotes = omega arith; line = λ e. w.if-second-eq47.false; block = λ e. w.if-second-eq42.false; digit = digit; blank = blank }
+      | in_default-via-in_default-1 w ↦ record { hash = omega arith; quote = omega arith; quotes = omega arith; line = λ e. omega arith; block = λ e. omega arith; digit = digit; blank = blank }
+    ] in
+    neither c.args.before.now c.args.octets.now c.mark_or_word.result (other c.args.octets.now a b c.octet_at-first.ensures c.octet_at-second.ensures is) c.mark_or_word.ensures.no_mark c.mark_or_word.ensures.no_word
