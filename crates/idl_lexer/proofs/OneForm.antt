@@ -407,7 +407,7 @@ pub record IsOther (a b : ℕ) : Type 0 where
   pub digit : is_ascii_digit a ≡ false
   pub blank : is_blank a ≡ false
 
-no_comment_of : (a b : ℕ) → (a ≡ 47 → b ≢ 47) → (a ≡ 47 → b ≢ 42) → opens_comment a b ≡ false
+pub no_comment_of : (a b : ℕ) → (a ≡ 47 → b ≢ 47) → (a ≡ 47 → b ≢ 42) → opens_comment a b ≡ false
 no_comment_of a b h k = grind (arith, nat_tests)
 
 pub none_other :

@@ -2,6 +2,7 @@
 
 ghost use Rattle.std.specs.Prelude.{◌≡◌, ◌≤◌, ◌<◌, ℕ, length, slice_index, IfErr, IfOk};
 ghost use Rattle.idl_lexer.specs.Gaps.{IsBlockComment};
+ghost use Rattle.idl_lexer.specs.declared.fault.LexFault.TheVariants.{OpenComment};
 
 use crate::fault::LexFault;
 use memchr::memmem;
@@ -18,6 +19,7 @@ pub(crate) fn block_comment(octets: &[u8], line: usize) -> Result<usize, LexFaul
     ensures within { IfOk result (λ n. n ≤ length octets.now) }
     ensures long { IfOk result (λ n. 0 < n) }
     ensures refused { IfErr result (λ _. (n : ℕ) → IsBlockComment octets.now n → ⊥) }
+    ensures told { IfErr result (λ fault. fault ≡ OpenComment line) }
 {
     match memmem::find(octets.split_at(2).1, b"*/") {
         Some(inner) => Ok(inner + 4),

@@ -10,6 +10,7 @@ ghost use Rattle.idl_lexer.specs.Directives.{pragma_part, pragma_rest, version_p
 ghost use Rattle.idl_lexer.specs.Directives.{IsDigits, IsFile, IsFresh, IsKept, IsLineDirective, IsMark, IsMarker, IsName};
 ghost use Rattle.idl_lexer.specs.Directives.{IsIdEnd, IsOtherPragma, IsPragma, IsQuotedEnd, IsScope, IsScopedName};
 ghost use Rattle.idl_lexer.specs.Directives.{IsSkipped, IsVersion, IsVersionEnd};
+ghost use Rattle.idl_lexer.specs.Faults.{IsDirectiveFault};
 ghost use Rattle.idl_lexer.specs.Lexemes.{HasNoForm, IsLexeme};
 
 use crate::fault::LexFault;
@@ -305,6 +306,7 @@ pub(crate) fn directive(before: &[u8], octets: &[u8], line: usize) -> Result<Lex
     requires { slice_index octets.now 0 ≡ 35 }
     ensures form { IfOk result (λ l. IsLexeme before.now octets.now l) }
     ensures refused { IfErr result (λ _. HasNoForm before.now octets.now) }
+    ensures told { IfErr result (IsDirectiveFault before.now octets.now line) }
 {
     let text = octets.split_at(line_len(octets)).0;
     if !is_fresh(before) || !are_ascii(text) {

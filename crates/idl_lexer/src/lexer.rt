@@ -5,6 +5,7 @@ ghost use Rattle.idl_lexer.specs.declared.fault.LexFault.TheVariants.{NoMemory};
 ghost use Rattle.idl_lexer.specs.declared.token.Token.{Token};
 ghost use Rattle.idl_lexer.specs.Lexemes.{HasNoForm, HasNoWord, IsLexeme};
 ghost use Rattle.idl_lexer.specs.Punctuation.{is_punctuation};
+ghost use Rattle.idl_lexer.specs.Faults.{IsFault, IsFaultAt, IsWordFault};
 ghost use Rattle.idl_lexer.specs.Refusal.{OnlyIf};
 ghost use Rattle.idl_lexer.specs.Forms.{Begins};
 ghost use Rattle.idl_lexer.specs.Tokens.{HaveLines, Lexed};
@@ -26,6 +27,7 @@ fn mark_or_word(octets: &[u8], line: usize) -> Result<Lexeme, LexFault>
     ensures form { IfOk result (λ l. (before : List ℕ) → IsLexeme before octets.now l) }
     ensures no_mark { IfErr result (λ _. (n : ℕ) → is_punctuation octets.now n ≡ false) }
     ensures no_word { IfErr result (λ _. HasNoWord octets.now) }
+    ensures told { IfErr result (IsWordFault octets.now line) }
 {
     match punct_len(octets) {
         Some(len) => Ok(Lexeme::token(Kind::Punct, len)),
@@ -50,6 +52,7 @@ fn octet_at(octets: &[u8], at: usize) -> u8
 fn lexeme(before: &[u8], octets: &[u8], line: usize) -> Result<Lexeme, LexFault>
     ensures form { IfOk result (λ l. IsLexeme before.now octets.now l) }
     ensures refused { IfErr result (λ _. HasNoForm before.now octets.now) }
+    ensures told { IfErr result (IsFaultAt before.now octets.now line) }
 {
     let (first, second) = (octet_at(octets, 0), octet_at(octets, 1));
     match first {
@@ -105,6 +108,7 @@ pub fn lex(alloc: Global, source: &str) -> Result<Vec<Token<'_>>, LexFault>
     ensures lexed { IfOk result (λ tokens. Lexed source.now tokens.items) }
     ensures lines { IfOk result (λ tokens. HaveLines source.now tokens.items) }
     ensures refused { IfErr result (λ fault. OnlyIf fault ((tokens : List Token) → Lexed source.now tokens → ⊥)) }
+    ensures told { IfErr result (λ fault. OnlyIf fault (IsFault source.now fault)) }
 {
     let octets = source.as_bytes();
     let mut tokens = Vec::new(alloc);

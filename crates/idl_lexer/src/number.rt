@@ -4,6 +4,7 @@ ghost use Rattle.std.specs.Prelude.{◌≡◌, ◌<◌, ◌≤◌, ◌≢◌, �
 ghost use Rattle.std.specs.Str.Parse.{digits_value};
 ghost use Rattle.idl_lexer.specs.Octets.{run};
 ghost use Rattle.idl_lexer.specs.Numbers.{is_word_or_point, number_value, IsInteger, IsLiteral, IsNumber};
+ghost use Rattle.idl_lexer.specs.declared.fault.LexFault.TheVariants.{BadNumber};
 
 use crate::fault::LexFault;
 use crate::octets::is_word_octet;
@@ -60,6 +61,7 @@ pub(crate) fn integer(octets: &[u8], line: usize) -> Result<usize, LexFault>
     ensures within { IfOk result (λ n. n ≤ length octets.now) }
     ensures long { IfOk result (λ n. 0 < n) }
     ensures refused { IfErr result (λ _. (n : ℕ) → IsInteger octets.now n → ⊥) }
+    ensures told { IfErr result (λ fault. fault ≡ BadNumber line) }
 {
     let len = number_len(octets);
     match literal_value(octets.split_at(len).0) {

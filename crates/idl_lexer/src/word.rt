@@ -8,6 +8,8 @@ ghost use Rattle.idl_lexer.specs.Words.{is_keyword as listed, is_keyword_in_some
 ghost use Rattle.idl_lexer.specs.Words.{keywords, same_but_for_case, IsIdentifier};
 ghost use Rattle.idl_lexer.specs.Forms.{Begins};
 ghost use Rattle.idl_lexer.specs.Lexemes.{HasNoWord};
+ghost use Rattle.idl_lexer.specs.Faults.{IsWordFault};
+ghost use Rattle.idl_lexer.specs.declared.fault.LexFault.TheVariants.{KeywordCase};
 
 use crate::fault::LexFault;
 use crate::octets::word_len;
@@ -78,6 +80,7 @@ fn plain_word(octets: &[u8], line: usize) -> Result<(Kind, usize), LexFault>
     ensures within { IfOk result (λ w. w.1 ≤ length octets.now) }
     ensures long { IfOk result (λ w. 0 < w.1) }
     ensures refused { IfErr result (λ _. HasNoWord octets.now) }
+    ensures told { IfErr result (λ fault. fault ≡ KeywordCase line) }
 {
     let len = word_len(octets);
     let word = octets.split_at(len).0;
@@ -101,6 +104,7 @@ pub(crate) fn word(octets: &[u8], line: usize) -> Result<(Kind, usize), LexFault
     ensures within { IfOk result (λ w. w.1 ≤ length octets.now) }
     ensures long { IfOk result (λ w. 0 < w.1) }
     ensures refused { IfErr result (λ _. HasNoWord octets.now) }
+    ensures told { IfErr result (IsWordFault octets.now line) }
 {
     match octets {
         [b'_', name @ ..] if begins_with_letter(name) => Ok((Kind::Ident, word_len(name) + 1)),
