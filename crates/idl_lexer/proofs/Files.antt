@@ -1,5 +1,5 @@
 -- The quoted file name of a line marker, from its front.
-use Rattle.std.proofs.Common.{◌≡◌, ◌≢◌, ◌∙◌, ℕ, ◌+◌, ◌<◌, ◌≤◌, List, drop, length, slice_index, ap, subst, sym, refl, arith}
+use Rattle.std.proofs.Common.{◌≡◌, ◌≢◌, ◌∙◌, ℕ, ◌+◌, ◌≤◌, List, length, slice_index, ap, refl, arith}
 use Rattle.std.proofs.lemmas.List.{get_or_past}
 use Rattle.idl_lexer.specs.Directives.{IsFile, IsFileText, none, plain, hidden}
 

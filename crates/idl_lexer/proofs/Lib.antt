@@ -7,6 +7,7 @@ pub mod Digits
 pub mod Characters
 pub mod OneForm
 pub mod Paths
+pub mod OneFault
 pub mod Refusals
 pub mod Files
 pub mod ScopedNames

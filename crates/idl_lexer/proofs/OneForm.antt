@@ -11,7 +11,7 @@ use Rattle.idl_lexer.specs.declared.token.Kind.{Kind}
 use Rattle.idl_lexer.specs.declared.token.Kind.TheVariants.{Ident, Keyword, Punct, Number, CharLit, TextLit, Pragma}
 use Rattle.idl_lexer.specs.Octets.{is_blank, is_line_feed, is_one_of, is_word, run}
 use Rattle.idl_lexer.specs.Words.{is_keyword, is_keyword_in_some_case, keywords, same_but_for_case, IsIdentifier, IsKeyword}
-use Rattle.idl_lexer.specs.Numbers.{is_word_or_point, IsInteger, IsLiteral}
+use Rattle.idl_lexer.specs.Numbers.{IsInteger, IsLiteral}
 use Rattle.idl_lexer.specs.Punctuation.{is_pair, is_punctuation, opens_comment}
 use Rattle.idl_lexer.specs.Literals.{AreCharacters, none, more, IsCharLiteral, IsTextLiteral}
 use Rattle.idl_lexer.specs.Directives.{directive_part, is_kept_word, line_of, pragma_word, word_of, IsFresh, IsKept, prefix, id, version, IsPragma, IsSkipped, marker, line, pragma}

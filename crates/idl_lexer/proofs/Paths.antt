@@ -1,13 +1,12 @@
 -- The lexemes of a source, one behind another: two ways through it are the same.
 use Rattle.std.proofs.Common.{◌≡◌, ◌∙◌, ℕ, zero, suc, ◌+◌, ◌-◌, ◌<◌, ◌≤◌, List, [], ◌∷◌, Option, Some, None, length, map, take, drop, slice_range, ap, subst, sym, refl, arith}
-use Rattle.std.specs.List.{All}
 use Rattle.std.proofs.lemmas.List.{drop_all}
 use Rattle.idl_lexer.specs.declared.token.Kind.{Kind}
 use Rattle.idl_lexer.specs.declared.token.Token.{Token}
 use Rattle.idl_lexer.specs.Gaps.{IsGap, none, more, Skips}
 use Rattle.idl_lexer.specs.Forms.{Begins}
 use Rattle.idl_lexer.specs.Lexemes.{HasNoForm, IsForm}
-use Rattle.idl_lexer.specs.Tokens.{HaveLines, Lexed, LexedPart, StandsIn, TokenParts, line_at, parts_of}
+use Rattle.idl_lexer.specs.Tokens.{HaveLines, Lexed, LexedPart, StandsIn, line_at, parts_of}
 use Rattle.idl_lexer.proofs.OneForm.{none_at_end, one_form}
 
 -- from i to stop stand these tokens, with what is skipped between them
@@ -20,7 +19,7 @@ behind_gap : (source : List ℕ) (stop i j : ℕ) (ts : List Token) → IsGap so
 behind_gap source stop i j ts none p = p
 behind_gap source stop i j ts (more k n j1 gap skips e) p = behind_gap source stop i k ts gap (skip k n ts skips (rw e at p))
 
-path : (source : List ℕ) (stop i : ℕ) (ts : List Token) → LexedPart source i ts stop → Path source stop i ts
+pub path : (source : List ℕ) (stop i : ℕ) (ts : List Token) → LexedPart source i ts stop → Path source stop i ts
 path source stop i [] gap = behind_gap source stop i stop [] gap (done stop refl)
 path source stop i (t ∷ ts) (gap, stands, rest) =
     behind_gap source stop i t.start (t ∷ ts) gap (token t.start t ts refl stands (path source stop t.«end» ts rest))

@@ -1,5 +1,5 @@
 -- A scoped name from its front: what is left of it behind each identifier.
-use Rattle.std.proofs.Common.{◌≡◌, ◌≢◌, ◌∙◌, ℕ, ◌||◌, ◌==◌, true, inl, inr, List, [], drop, length, slice_index, ap, sym, refl, arith}
+use Rattle.std.proofs.Common.{◌≡◌, ◌∙◌, ℕ, true, inl, inr, List, [], drop, ap, sym, refl, arith}
 use Rattle.std.specs.Char.{is_ascii_alphabetic}
 use Rattle.idl_lexer.specs.Octets.{is_blank, past}
 use Rattle.idl_lexer.specs.Words.{IsIdentifier}

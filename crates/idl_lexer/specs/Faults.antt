@@ -1,5 +1,5 @@
 -- Which fault a source has: that of the first place where it goes on with no token and with nothing that is skipped.
-use Rattle.std.specs.Prelude.{◌≡◌, ◌≢◌, ℕ, ◌+◌, ◌<◌, ◌⊎◌, Bool, true, false, not, ◌||◌, ◌==◌, List, length, nat_lt, take, drop, slice_index, if◌then◌else◌}
+use Rattle.std.specs.Prelude.{◌≡◌, ◌≢◌, ℕ, ◌+◌, ◌<◌, ◌⊎◌, true, false, not, ◌||◌, ◌==◌, List, length, nat_lt, take, drop, slice_index, if◌then◌else◌}
 use Rattle.std.specs.Char.{is_ascii, is_ascii_alphabetic, is_ascii_digit}
 use Rattle.std.specs.List.{list_all}
 use Rattle.idl_lexer.specs.declared.fault.LexFault.{LexFault}

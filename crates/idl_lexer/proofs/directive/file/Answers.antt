@@ -1,4 +1,4 @@
-use Rattle.std.proofs.Common.{◌≡◌, ◌≢◌, ◌∙◌, ℕ, ◌+◌, ◌<◌, ◌≤◌, List, drop, length, slice_index, ap, sym, arith}
+use Rattle.std.proofs.Common.{◌≡◌, ◌∙◌, ℕ, ◌+◌, List, drop, slice_index, ap, sym, arith}
 use Rattle.idl_lexer.specs.Directives.{none, plain, hidden, IsFile}
 use Rattle.idl_lexer.proofs.Files.{at_quote, behind_one, behind_two, not_past, whole_rest, IsRest}
 use Rattle.idl_lexer.proofs.directive.file.Goals as goal

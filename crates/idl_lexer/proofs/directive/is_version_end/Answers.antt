@@ -1,4 +1,4 @@
-use Rattle.std.proofs.Common.{◌≡◌, ◌∙◌, ℕ, List, drop, ap}
+use Rattle.std.proofs.Common.{◌≡◌, ℕ, List, drop}
 use Rattle.idl_lexer.specs.Directives.{version_place, IsVersion, IsVersionEnd}
 use Rattle.idl_lexer.proofs.directive.is_version_end.Goals as goal
 

@@ -1,4 +1,4 @@
-use Rattle.std.proofs.Common.{◌≡◌, List, [], ℕ, Option, Some, None, Bor, IfNone, IfSome, unwrap_or}
+use Rattle.std.proofs.Common.{◌≡◌, List, ℕ, Option, Some, None, Bor, IfNone, IfSome, unwrap_or}
 use Rattle.idl_lexer.specs.Directives.{IsName, IsScope, IsScopedName, plain, rooted, more}
 use Rattle.idl_lexer.proofs.ScopedNames.{bare, front_of, name_one, name_or_scope, root, scope_one, tail_end, tail_next, IsFront, IsTail}
 use Rattle.idl_lexer.proofs.directive.scoped_name.Goals as goal

@@ -1,5 +1,5 @@
 use Rattle.std.proofs.Common.{[], length}
-use Rattle.idl_lexer.specs.Directives.{IsName, IsScope, IsScopedName}
+use Rattle.idl_lexer.specs.Directives.{IsScopedName}
 use Rattle.idl_lexer.proofs.ScopedNames.{IsTail}
 use Rattle.idl_lexer.proofs.directive.scoped_name.Given as goal
 

@@ -1,9 +1,8 @@
-use Rattle.std.proofs.Common.{◌≡◌, ◌≢◌, ◌∙◌, ℕ, Bool, true, false, not, List, Result, Ok, Err, IfErr, slice_index, ap, sym, arith}
+use Rattle.std.proofs.Common.{◌≡◌, ◌≢◌, ◌∙◌, ℕ, true, false, not, List, Result, Ok, Err, IfErr, slice_index, ap, sym, arith}
 use Rattle.std.specs.Char.{is_ascii_digit}
 use Rattle.std.proofs.lemmas.Result.{err_from_is_err_and}
 use Rattle.idl_lexer.specs.declared.fault.LexFault.{LexFault}
 use Rattle.idl_lexer.specs.declared.lexeme.Lexeme.{Lexeme}
-use Rattle.idl_lexer.specs.Octets.{is_blank}
 use Rattle.idl_lexer.specs.Punctuation.{is_punctuation, opens_comment}
 use Rattle.idl_lexer.specs.Lexemes.{HasNoForm, HasNoWord}
 use Rattle.idl_lexer.specs.Faults.{of_char, of_text, of_word, IsFaultAt, IsWordFault}

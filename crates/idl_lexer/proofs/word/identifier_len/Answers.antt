@@ -1,4 +1,4 @@
-use Rattle.std.proofs.Common.{◌≡◌, ◌≢◌, ◌∙◌, ℕ, List, [], Option, Some, inl}
+use Rattle.std.proofs.Common.{◌≡◌, ◌≢◌, ℕ, List, [], Some, inl}
 use Rattle.idl_lexer.specs.declared.token.Kind.{Kind}
 use Rattle.idl_lexer.specs.declared.token.Kind.TheVariants.{Ident}
 use Rattle.idl_lexer.specs.Words.{IsIdentifier}
