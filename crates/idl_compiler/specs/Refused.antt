@@ -5,6 +5,7 @@ use Rattle.idl_lexer.specs.declared.fault.LexFault.{LexFault}
 use Rattle.idl_lexer.specs.declared.fault.LexFault.TheVariants as Lexing
 use Rattle.idl_lexer.specs.declared.token.Token.{Token}
 use Rattle.idl_lexer.specs.Tokens.{Lexed}
+use Rattle.idl_lexer.specs.Faults.{IsFault as IsLexFault}
 use Rattle.idl_parser.specs.declared.fault.ParseFault.{ParseFault}
 use Rattle.idl_parser.specs.declared.fault.ParseFault.TheVariants as Parsing
 use Rattle.idl_tree.specs.declared.definitions.Definition.{Definition}
@@ -65,9 +66,14 @@ pub record HasFault (source : List ℕ) (fault : CompileFault) : Type 0 where
   pub text : IsTextOf source definitions
   pub is : IsFaultOf definitions fault
 
--- what a fault of tokens or of grammar says of the text is the lexer's and the parser's to tell
+-- the text doesn't consist of tokens, and this is its fault
+pub record HasNoTokens (source : List ℕ) (fault : LexFault) : Type 0 where
+  pub none : (tokens : List Token) → Lexed source tokens → ⊥
+  pub is : IsLexFault source fault
+
+-- what else a fault of grammar says of the text is the parser's to tell
 abbrev pub IsRefused : List ℕ → CompileFault → Type 0
-IsRefused source (Tokens fault) = Unit {0}
+IsRefused source (Tokens fault) = HasNoTokens source fault
 IsRefused source (Grammar fault) = HasTokens source
 IsRefused source (Names fault) = HasFault source (Names fault)
 IsRefused source (Types fault) = HasFault source (Types fault)
