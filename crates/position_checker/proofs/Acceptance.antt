@@ -17,6 +17,7 @@ use Rattle.routine_checker.proofs.SetLaws.{among_all}
 use Rattle.program_runner.specs.declared.fault.RunFault.{RunFault}
 use Rattle.program_runner.specs.declared.fault.RunFault.TheVariants.{Short, BadBool, BadEnum, BadLength, NoTerminator, ZeroInside, OverBound, TooDeep, TapeLeft, NoMemory}
 use Rattle.program_runner.specs.Refusal.{OnlyIf}
+use Rattle.program_runner.specs.Buffers.{IsPut}
 use Rattle.table_file.specs.declared.table.Which.{Which}
 use Rattle.table_file.specs.declared.table.Which.TheVariants.{First, Second}
 use Rattle.table_file.specs.Table.{TableParts, program_at}
@@ -98,6 +99,13 @@ module _ (table : TableParts) (right : IsRight table) (order : Order) (node : �
       → IfOk r (λ x. Means table.model.graph (writing order) 64 node p tape (octets_of x))
   write_found octets_of tape r h = if_ok_weaker _ _ (λ x runs. (related (writing order) tape (octets_of x)).0 runs) r h
 
+  -- the same of what was put into a buffer
+  pub write_put : {A : Type 0} {E : Type 0} (len_of : A → ℕ) (before after tape : List ℕ) (r : Result A E)
+      → IfOk r (λ x. IsPut (λ octets. Runs routines (writing order) 64 routine p tape octets) (len_of x) before after)
+      → IfOk r (λ x. IsPut (λ octets. Means table.model.graph (writing order) 64 node p tape octets) (len_of x) before after)
+  write_put len_of before after tape r h =
+      if_ok_weaker _ _ (λ x put. record { octets = put.octets; held = (related (writing order) tape put.octets).0 put.held; long = put.long; put = put.put }) r h
+
   -- what no routine writes is no value
   pub write_refused : {A : Type 0} (tape : List ℕ) (r : Result A RunFault)
       → IfErr r (λ fault. OnlyIf fault ((octets : List ℕ) → Runs routines (writing order) 64 routine p tape octets → ⊥))
@@ -110,6 +118,12 @@ module _ (table : TableParts) (right : IsRight table) (order : Order) (node : �
       → IfOk r (λ x. Runs routines (reading order) 64 routine p (tape_of x) (front_of x))
       → IfOk r (λ x. Means table.model.graph (reading order) 64 node p (tape_of x) (front_of x))
   read_found tape_of front_of r h = if_ok_weaker _ _ (λ x runs. (related (reading order) (tape_of x) (front_of x)).0 runs) r h
+
+  pub read_put : {A : Type 0} {E : Type 0} (len_of : A → ℕ) (front_of : A → List ℕ) (before after : List ℕ) (r : Result A E)
+      → IfOk r (λ x. IsPut (λ tape. Runs routines (reading order) 64 routine p tape (front_of x)) (len_of x) before after)
+      → IfOk r (λ x. IsPut (λ tape. Means table.model.graph (reading order) 64 node p tape (front_of x)) (len_of x) before after)
+  read_put len_of front_of before after r h =
+      if_ok_weaker _ _ (λ x put. record { octets = put.octets; held = (related (reading order) put.octets (front_of x)).0 put.held; long = put.long; put = put.put }) r h
 
   -- what no routine reads is no value
   pub read_refused : {A : Type 0} (octets : List ℕ) (r : Result A RunFault)

@@ -1,16 +1,17 @@
 //! A table that was accepted, and its calls.
 
-ghost use Rattle.std.specs.Prelude.{◌≡◌, ◌≢◌, ◌≤◌, ◌++◌, ◌↔◌, ℕ, List, length, take, All, Contains, IsTrue, IfOk, IfErr, IfSome, IfNone, Some};
+ghost use Rattle.std.specs.Prelude.{◌≡◌, ◌≢◌, ◌≤◌, ◌++◌, ◌↔◌, ℕ, List, length, take, All, Contains, IsTrue, IfOk, IfErr, IfSome, IfNone, OnErr, Some};
 ghost use Rattle.type_graph.specs.Words.{reading, writing};
 ghost use Rattle.type_graph.specs.Encoding.{Means};
 ghost use Rattle.type_model.specs.Names.{IsNamed};
 ghost use Rattle.program_runner.specs.Refusal.{OnlyIf as OnlyIfRun};
+ghost use Rattle.program_runner.specs.Buffers.{IsPut};
 ghost use Rattle.table_file.specs.declared.table.Which.{Which};
 ghost use Rattle.position_checker.specs.Acceptance.{IsRight, Serves, Uses};
 ghost use Rattle.position_checker.specs.inner.Routes.{IsRoute};
 
 use crate::routes::Route;
-use program_runner::RunFault;
+use program_runner::{Put, RunFault};
 use std::alloc::Global;
 use std::marker::Model;
 use table_file::{Table, Which};
@@ -155,5 +156,63 @@ impl Accepted {
             pos,
             octets,
         )
+    }
+
+    /// Writes the CDR octets of the value that the whole tape is to the front of a buffer, if there
+    /// is room for all of them: how many they are. The memory is what one such call leaves for
+    /// another.
+    ///
+    /// # Errors
+    /// As those of `write`. They leave the buffer as it was.
+    pub fn write_into(
+        &self,
+        room: Vec<u8>,
+        node: u32,
+        order: Order,
+        pos: u64,
+        tape: &[u8],
+        buffer: &mut [u8],
+    ) -> Result<Put, RunFault>
+        requires { IsNamed self.now.model.names node }
+        ensures found { IfOk result (λ put. IsPut
+            (λ octets. Means self.now.model.graph (writing order) 64 node pos tape.now octets)
+            put.len buffer.old buffer.new) }
+        ensures refused { IfErr result (λ fault. OnlyIfRun fault
+            ((octets : List ℕ) → Means self.now.model.graph (writing order) 64 node pos tape.now octets → ⊥)) }
+        ensures kept { OnErr result (buffer.new ≡ buffer.old) }
+    {
+        let Route { program, routine } = self.serving(node);
+        let program = self.table.program(program);
+        program_runner::write_into(room, program, routine, order, pos, tape, buffer)
+    }
+
+    /// Reads the tape of the value that a front of the octets encodes, whatever stands in the gaps,
+    /// into the front of a buffer, if there is room for all of it: how long it is, and how many
+    /// octets that front has. The memory is what one such call leaves for another.
+    ///
+    /// # Errors
+    /// As those of `read`. They leave the buffer as it was.
+    pub fn read_into(
+        &self,
+        room: Vec<u8>,
+        node: u32,
+        order: Order,
+        pos: u64,
+        octets: &[u8],
+        buffer: &mut [u8],
+    ) -> Result<(Put, usize), RunFault>
+        requires { IsNamed self.now.model.names node }
+        ensures found { IfOk result (λ r. IsPut
+            (λ tape. Means self.now.model.graph (reading order) 64 node pos tape (take r.1 octets.now))
+            r.0.len buffer.old buffer.new) }
+        ensures within { IfOk result (λ r. r.1 ≤ length octets.now) }
+        ensures refused { IfErr result (λ fault. OnlyIfRun fault
+            ((tape front rest : List ℕ) → octets.now ≡ front ++ rest
+            → Means self.now.model.graph (reading order) 64 node pos tape front → ⊥)) }
+        ensures kept { OnErr result (buffer.new ≡ buffer.old) }
+    {
+        let Route { program, routine } = self.serving(node);
+        let program = self.table.program(program);
+        program_runner::read_into(room, program, routine, order, pos, octets, buffer)
     }
 }

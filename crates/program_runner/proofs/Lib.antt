@@ -1,5 +1,5 @@
 pub mod Chunks
-pub mod Turning
+pub mod TurnedWords
 pub mod Gaps
 pub mod Places
 pub mod Calls

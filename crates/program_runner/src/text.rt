@@ -84,7 +84,7 @@ pub fn check_length(n: usize, octets: &[u8]) -> Result<(), RunFault>
 
 /// So many octets of a front at the end, of which none may be zero.
 #[inline(always)]
-pub fn push_text(out: &mut Output, octets: &[u8], n: usize) -> Result<(), RunFault>
+pub fn push_text(out: &mut Output<'_>, octets: &[u8], n: usize) -> Result<(), RunFault>
     requires { n ≤ length octets.now }
     ensures value { Gives (λ _. take n octets.now) result (no_zero (take n octets.now)) }
     ensures pushed { OnOk result (out.new ≡ out.old ++ take n octets.now) }

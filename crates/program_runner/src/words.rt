@@ -1,10 +1,9 @@
 //! Gaps, and numbers in a byte order.
 
-ghost use Rattle.std.specs.Prelude.{◌≡◌, ◌<◌, ◌+◌, ◌*◌, ◌++◌, length, take, drop};
+ghost use Rattle.std.specs.Prelude.{◌≡◌, ◌<◌};
 ghost use Rattle.type_graph.specs.declared.width.Order.TheVariants.{Big};
 ghost use Rattle.type_graph.specs.declared.width.Width.TheVariants.{Four};
 ghost use Rattle.type_graph.specs.Words.{octets_in, plain_word, pad};
-ghost use Rattle.program_runner.specs.inner.Steps.{turned};
 
 use type_graph::{Order, Width};
 
@@ -24,17 +23,5 @@ pub fn in_big_order(order: Order, n: u32) -> u32
     match order {
         Order::Big => n,
         Order::Little => n.swap_bytes(),
-    }
-}
-
-/// Turns the words of `N` octets from a place to the end round, one by one.
-pub fn turn_words<const N: usize>(out: &mut Vec<u8>, start: usize, n: u32)
-    requires { start + n * N ≡ length out.old.items }
-    ensures { out.new.items ≡ take start out.old.items ++ turned N n (drop start out.old.items) }
-{
-    let mut at = start;
-    for _ in 0..n {
-        out.slice_mut(at..at + N).reverse();
-        at += N;
     }
 }
