@@ -10,16 +10,20 @@ ghost use Rattle.command_words.specs.Ask.{Ask};
 ghost use Rattle.command_words.specs.Words.{AsksFor, IsMistaken, texts};
 ghost use Rattle.idlc_main.specs.Answer.{IsEndOf, MayServe};
 
+mod calls;
 mod descriptions;
 mod fault;
 mod service;
 mod tasks;
+mod times;
 mod told;
 
+use crate::calls::{Concluded, called};
 use crate::fault::Fault;
 use crate::service::served;
 use crate::tasks::done;
 use crate::told::Answer;
+use call_commands::{Ending, ExceptionLine};
 use command_words::{Said, parse};
 use socket_server::Totals;
 use std::alloc::AllocError;
@@ -33,6 +37,12 @@ use table_commands::WholeFiles;
 
 /// The status of a run that did what was asked for, help included.
 const DONE: u8 = 0;
+
+/// That of a call that raised an exception of its operation.
+const RAISED: u8 = 5;
+
+/// That of a call that failed by a system exception.
+const FAILED: u8 = 6;
 
 /// Tells a fault on standard error, and gives its status. Nobody hears of an error there.
 fn failed<E: io::Write>(err: &mut E, fault: &Fault<'_>) -> u8
@@ -59,6 +69,32 @@ fn say<O: io::Write, E: io::Write>(out: &mut O, err: &mut E, answer: &Answer) ->
         let _ = writeln!(err, "idlc: {notice}");
     }
     DONE
+}
+
+/// Puts a line on standard output, and gives a status where that can be done.
+fn print<O: io::Write, E: io::Write>(out: &mut O, err: &mut E, line: &str, status: u8) -> u8 {
+    if writeln!(out, "{line}").is_err() || out.flush().is_err() {
+        return failed(err, &Fault::Unwritten);
+    }
+    status
+}
+
+/// Tells how calls ended: the text of a result or of an exception of the operation on standard output, a
+/// system exception and how long the calls took on standard error.
+fn conclude<O: io::Write, E: io::Write>(out: &mut O, err: &mut E, concluded: &Concluded) -> u8 {
+    let status = match &concluded.ending {
+        Ending::Returned(text) => print(out, err, text.as_str(), DONE),
+        Ending::Raised(text) => print(out, err, text.as_str(), RAISED),
+        Ending::Failed(exception) => {
+            let _ = writeln!(err, "idlc: {}", ExceptionLine(exception));
+            FAILED
+        }
+        Ending::Sent => DONE,
+    };
+    if let Some(times) = &concluded.times {
+        let _ = writeln!(err, "idlc: {times}");
+    }
+    status
 }
 
 /// Tells a person how much was served.
@@ -99,6 +135,10 @@ fn run_for<R: WholeFiles + Net + Clock + Eprint + AllocGlobal, O: io::Write, E: 
                 tell(err, &totals, is_for_person);
                 DONE
             }
+            Err(fault) => failed(err, &fault),
+        },
+        Ok(Said::Call(task)) => match called(rt, &task, is_for_person) {
+            Ok(concluded) => conclude(out, err, &concluded),
             Err(fault) => failed(err, &fault),
         },
         Err(mistake) => failed(err, &Fault::from(mistake)),

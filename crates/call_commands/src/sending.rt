@@ -1,0 +1,71 @@
+//! The call of an operation, with its arguments.
+
+ghost use Rattle.std.specs.Prelude.{◌≡◌, ◌∷◌, []};
+ghost use Rattle.type_model.specs.Names.{IsNamed};
+ghost use Rattle.object_references.specs.References.{reference_of};
+ghost use Rattle.call_commands.specs.Calls.{IsCarriedOut, of_ask};
+ghost use Rattle.call_commands.specs.Choices.{choice_of};
+
+use crate::ask::{CallAsk, Types};
+use crate::choice::Choice;
+use crate::ending::Ending;
+use crate::fault::CallRefusal;
+use call_texts::{Outcome, argument_tape};
+use followed_calls::{Wanted, call_object};
+use giop_client::Request;
+use object_calls::Dial;
+use object_references::Ior;
+use std::alloc::Global;
+use value_text::ReadFault;
+
+/// Which answers are wanted (response_flags): none of a oneway operation, else all.
+fn flags_of(oneway: bool) -> u8
+    ensures { result ≡ flags oneway }
+{
+    if oneway { 0 } else { 3 }
+}
+
+/// How a call ends, by its outcome.
+fn ending_of(outcome: Option<Outcome>) -> Result<Ending, CallRefusal> {
+    match outcome {
+        None => Ok(Ending::Sent),
+        Some(Outcome::Returned(text)) => Ok(Ending::Returned(text)),
+        Some(Outcome::Raised(text)) => Ok(Ending::Raised(text)),
+        Some(Outcome::Failed(exception)) => Ok(Ending::Failed(exception)),
+        Some(Outcome::Readdressed) | Some(Outcome::Forwarded(_)) => Err(CallRefusal::Readdressed),
+    }
+}
+
+/// Calls an operation with these arguments.
+pub(crate) fn called<D: Dial>(
+    types: &Types<'_>,
+    alloc: Global,
+    dial: &mut D,
+    ior: Ior,
+    choice: &Choice<'_>,
+    ask: &CallAsk<'_>,
+) -> Result<Ending, CallRefusal> {
+    let tape = match argument_tape(alloc, choice.table, choice.names, choice.request, ask.value) {
+        Ok(tape) => tape,
+        Err(ReadFault::Refused(refusal)) => return Err(CallRefusal::Unsaid(refusal)),
+        Err(ReadFault::NoMemory) => return Err(CallRefusal::NoMemory),
+    };
+    let request = Request {
+        order: ask.order,
+        id: ask.id,
+        flags: flags_of(choice.oneway),
+        key: b"".as_slice(),
+        operation: choice.name,
+    };
+    let wanted = Wanted {
+        table: choice.table,
+        names: choice.names,
+        reply: choice.reply,
+        exceptions: choice.exceptions,
+    };
+    let body = Some((choice.table, choice.request, tape.as_slice()));
+    match call_object(types.giop, types.types, alloc, dial, ior, &wanted, &request, body, ask.reads) {
+        Ok(outcome) => ending_of(outcome),
+        Err(fault) => Err(CallRefusal::Unanswered(fault)),
+    }
+}
