@@ -1,9 +1,8 @@
 """Has the gate try the wrong bodies of wrong_bodies/CRATE/*.edit, each written as a crate's must-fail edits are.
 
-The crates are copied, with these edits in the place of their own, and `rt ci CRATE` proves what it hasn't proved on this
-machine yet and tries the edits; what it tried is kept until the crate or one below it changes.
+The crates are copied, with these edits in the place of their own and the libraries that `rt check` or `rt lib` has built,
+and `rt must-fail CRATE` builds those that aren't there and tries the edits.
 """
-import os
 import re
 import shutil
 
@@ -26,9 +25,9 @@ def run(test):
     workspace.copy_crates([folder.name for folder in folders])
     for folder in folders:
         put_edits(workspace, folder)
-    environment = {name: value for name, value in os.environ.items() if name != "CI"}
+    workspace.copy_libraries()
     names = [folder.name for folder in folders]
-    done = test.call(["rt", "ci", *names], cwd=workspace.folder, env=environment)
+    done = test.call(["rt", "must-fail", *names], cwd=workspace.folder)
     said = {(crate, edit): what for crate, edit, what in SAID.findall(done.out)}
     count = Count(0, [])
     for folder in folders:

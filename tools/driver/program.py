@@ -131,8 +131,8 @@ def scratch_folder():
 def prove(out):
     """Proves the program's crates and builds it, as many crates at a time as there are processors.
 
-    It is the gate over these crates alone, without their edits: what it proves is kept on this machine, for the next
-    run and for the gate, also where it is stopped. Returns the gate's text where it fails.
+    It is the gate over these crates alone, without their edits: a kit that keeps proofs has what it proves for the
+    next run and for the gate, also where it is stopped. Returns the gate's text where it fails.
     """
     sum_before = source_sum()
     with scratch_folder() as room:

@@ -19,7 +19,7 @@ def main():
         try:
             said = prove(sys.stderr)
         except KeyboardInterrupt:
-            print("idlc: stopped; what was proved is kept", file=sys.stderr)
+            print("idlc: stopped", file=sys.stderr)
             return 130
         if said is not None:
             print(said, file=sys.stderr)

@@ -51,6 +51,13 @@ class Workspace:
                 self._list({name: self.listed[name]})
                 self.copied.append(name)
 
+    def copy_libraries(self):
+        """Copies what was built of the crates that are here, which `rt` takes where it is that of their sources."""
+        for name in self.copied:
+            built = TOP / "crates" / name / "out" / "rlib"
+            if built.is_dir():
+                shutil.copytree(built, self.folder / "crates" / name / "out" / "rlib", dirs_exist_ok=True)
+
     def use_in(self, names, library):
         """Has copies of crates use one library more."""
         self._list({name: [*self.rows[name], library] for name in names})

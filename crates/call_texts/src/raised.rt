@@ -44,7 +44,8 @@ fn id_tape(
 /// The frame of the exception with the id of a tape.
 fn frame_with(table: &Accepted, exceptions: &[u32], reply: &Reply<'_>, tape: &[u8]) -> Option<u32>
     requires { IsIdTape (answered_of reply.now) tape.now }
-    ensures found { IfSome result (λ frame. IsFrameOfRaised table.now.model exceptions.now (answered_of reply.now) frame) }
+    ensures found { IfSome result
+        (λ frame. IsFrameOfRaised table.now.model exceptions.now (answered_of reply.now) frame) }
     ensures named { IfSome result (λ frame. IsNamed table.now.model.names frame) }
     ensures none { IfNone result (IsUnknown table.now.model exceptions.now (answered_of reply.now)) }
 {

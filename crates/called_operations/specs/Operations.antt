@@ -40,7 +40,8 @@ named_in_full model word interface =
 
 -- the operation of an interface that the word names
 abbrev pub operation_in : Parts → List ℕ → List ℕ → Interface → Option ℕ
-operation_in model id word interface = option_or (named_by_id model id word interface) (named_in_full model word interface)
+operation_in model id word interface =
+    option_or (named_by_id model id word interface) (named_in_full model word interface)
 
 -- that of the first of the interfaces that has one (own)
 abbrev pub operation_among : Parts → List ℕ → List ℕ → List Interface → Option ℕ

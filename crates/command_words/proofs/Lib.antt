@@ -1,4 +1,5 @@
 pub mod ByCommand
+pub mod Calls
 pub mod Globals
 pub mod Glued
 pub mod Inputs

@@ -23,7 +23,7 @@ some_since found text is = rw is refl
 pub different : (a b : ℕ) → a ≡ b → (a ≡ b → ⊥) → ⊥
 different a b same other = other same
 
-order_of : (found : Option Text) (a b : Order) → found ≡ Some (word_of b) → (a ≡ Little) ↔ (found ≡ Some (codes "little")) → a ≡ b
+pub order_of : (found : Option Text) (a b : Order) → found ≡ Some (word_of b) → (a ≡ Little) ↔ (found ≡ Some (codes "little")) → a ≡ b
 order_of found a Little is little = little.1 is
 order_of found Big Big is little = refl
 order_of found Little Big is little =

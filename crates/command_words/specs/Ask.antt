@@ -1,10 +1,12 @@
 -- What a run may be asked for.
 use Rattle.std.specs.Prelude.{ℕ, List, Option, Some, None, codes, option_map}
+use Rattle.type_graph.specs.declared.width.Order.{Order}
 use Rattle.table_commands.specs.Answer.{Ask as Marshalling, ask_of as marshalling_of}
 use Rattle.table_commands.specs.References.{ReferenceParts, reference_parts_of}
 use Rattle.command_words.specs.declared.task.Form.{Form}
 use Rattle.command_words.specs.declared.task.ValueTask.{ValueTask}
 use Rattle.command_words.specs.declared.task.ReferenceTask.{ReferenceTask}
+use Rattle.command_words.specs.declared.task.CallTask.{CallTask}
 use Rattle.command_words.specs.declared.task.Task.{Task}
 use Rattle.command_words.specs.declared.task.Task.TheVariants as tasks
 use Rattle.command_words.specs.Way.{name_of}
@@ -19,6 +21,16 @@ pub record ValueAsk : Type 0 where
 pub record ReferenceAsk : Type 0 where
   pub table : List ℕ
   pub parts : ReferenceParts
+
+-- a call of an object
+pub record CallAsk : Type 0 where
+  pub table : List ℕ
+  pub reference : List ℕ
+  pub operation : List ℕ
+  pub value : Option (List ℕ)
+  pub order : Order
+  pub wait : ℕ
+  pub repeat : ℕ
 
 pub data Ask : Type 0 where
   Value : ValueAsk → Ask
@@ -37,6 +49,17 @@ value_ask_of asked = record {
 
 abbrev pub reference_ask_of : ReferenceTask → ReferenceAsk
 reference_ask_of asked = record { table = asked.table.now; parts = reference_parts_of asked.wanted }
+
+abbrev pub call_ask_of : CallTask → CallAsk
+call_ask_of asked = record {
+  table = asked.table.now;
+  reference = asked.reference.now;
+  operation = asked.operation.now;
+  value = option_map (λ text. text.now) asked.value;
+  order = asked.order;
+  wait = asked.wait;
+  repeat = asked.repeat;
+}
 
 -- what a task answers, but for tables
 abbrev pub ask_of : Task → Option Ask

@@ -128,6 +128,41 @@ served_app orders = with_subcommand (with_subcommand (tables_app orders) referen
 abbrev pub describe_app : App
 describe_app = with_rule (new_app (codes "reference")) (wanted (codes "IOR") None)
 
+-- the byte order of a request, which may be left out
+abbrev pub order_rule : ValueParser → Rule
+order_rule orders =
+    record (new_rule (codes "order")) { long = Some (codes "order"); value_names = 1; parser = Some orders }
+
+-- how many seconds a call may take, which may be left out
+abbrev pub wait_rule : Rule
+wait_rule = record (new_rule (codes "wait")) {
+  long = Some (codes "wait");
+  value_names = 1;
+  parser = Some (Signed (pos 1) (pos 86400));
+}
+
+-- how often it is called, which may be left out
+abbrev pub repeat_rule : Rule
+repeat_rule = record (new_rule (codes "repeat")) {
+  long = Some (codes "repeat");
+  value_names = 1;
+  parser = Some (Signed (pos 1) (pos 4294967295));
+}
+
+-- the words of the command that calls an object
+abbrev pub called_app : App
+called_app = with_rule
+    (with_rule
+    (with_rule (table_app (codes "call")) (wanted (codes "IOR") None))
+    (wanted (codes "OP") None))
+    (new_rule (codes "VALUE"))
+
+-- these, and its options
+abbrev pub call_app : ValueParser → App
+call_app orders = with_rule (with_rule (with_rule called_app (order_rule orders)) wait_rule) repeat_rule
+
 -- the commands, of which a run has to name one
 abbrev pub program_app : ValueParser → App
-program_app orders = with_subcommand (with_subcommand (served_app orders) explain_app.top) describe_app.top
+program_app orders = with_subcommand
+    (with_subcommand (with_subcommand (served_app orders) explain_app.top) describe_app.top)
+    (call_app orders).top

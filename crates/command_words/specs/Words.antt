@@ -14,7 +14,7 @@ use Rattle.table_commands.specs.declared.values.Way.{Way}
 use Rattle.table_commands.specs.declared.values.Way.TheVariants.{Encode, Decode}
 use Rattle.command_words.specs.declared.task.Form.{Form}
 use Rattle.command_words.specs.declared.task.Form.TheVariants as forms
-use Rattle.command_words.specs.Ask.{Ask, Description, Explanation, Reference, ReferenceAsk, Value, ValueAsk, command_of}
+use Rattle.command_words.specs.Ask.{Ask, CallAsk, Description, Explanation, Reference, ReferenceAsk, Value, ValueAsk, command_of}
 use Rattle.command_words.specs.Commands.{program_app}
 use Rattle.command_words.specs.Spoken.{spoken}
 
@@ -95,6 +95,37 @@ pub record IsReadAs (app : App) (words : List Text) (ask : Ask) : Type 0 where
 -- clap takes the words, and they ask for this
 abbrev pub AreReadAs : List Text → Ask → Type 0
 AreReadAs words ask = (orders : ValueParser) → TakesOrders orders → IsReadAs (program_app orders) words ask
+
+-- the option that was found is this number, of 32 bits; or there is none, and the number is that of none
+abbrev pub TellsOption : Text → ℕ → List Row → ℕ → Type 0
+TellsOption id of_none rows number = TellsWhole id 32 rows number ⊎ ((one_of id rows ≡ None) × (number ≡ of_none))
+
+abbrev pub TellsOrder : List Row → Order → Type 0
+TellsOrder rows order =
+    (first_of (codes "order") rows ≡ Some (word_of order)) ⊎ ((first_of (codes "order") rows ≡ None) × (order ≡ Big))
+
+pub record TellsCall (rows : List Row) (ask : CallAsk) : Type 0 where
+  pub table : first_of (codes "T") rows ≡ Some ask.table
+  pub reference : first_of (codes "IOR") rows ≡ Some ask.reference
+  pub operation : first_of (codes "OP") rows ≡ Some ask.operation
+  pub value : first_of (codes "VALUE") rows ≡ ask.value
+  pub order : TellsOrder rows ask.order
+  pub wait : TellsOption (codes "wait") 30 rows ask.wait
+  pub repeat : TellsOption (codes "repeat") 1 rows ask.repeat
+
+pub record IsReadAsCall (app : App) (words : List Text) (ask : CallAsk) : Type 0 where
+  pub taken : takes app words ≡ true
+  pub rows : List Row
+  pub command : subcommand_of app words ≡ Some (codes "call", rows)
+  pub tells : TellsCall rows ask
+
+-- clap takes the words, and they ask for this call
+abbrev pub AreReadAsCall : List Text → CallAsk → Type 0
+AreReadAsCall words ask = (orders : ValueParser) → TakesOrders orders → IsReadAsCall (program_app orders) words ask
+
+-- it takes the words of a run as they are spoken
+abbrev pub AsksForCall : List Text → CallAsk → Type 0
+AsksForCall words ask = AreReadAsCall (spoken words) ask
 
 -- it takes the words of a run as they are spoken
 abbrev pub AsksFor : List Text → Ask → Type 0

@@ -3,7 +3,7 @@
 ghost use Rattle.std.specs.Prelude.{◌≡◌, pos, codes, IfOk, Some, None, false};
 ghost use Rattle.clap.specs.Words.{app_of, new_rule, rule_of};
 ghost use Rattle.clap.specs.declared.builder.value_parser.ValueParser.TheVariants.{Names, Signed, Unsigned};
-ghost use Rattle.command_words.specs.Commands.{at_once_rule, compile_app, decode_app, describe_app, encode_app, explain_app, explain_rule, first_app, idle_rule, option_rule, output, place_app, program_app, reference_app, serve_app, served_app, show_app, table_app, tables_app, text_flag as flag_of_text, text_rule, types_rule, upgrade_app, value_app, wanted};
+ghost use Rattle.command_words.specs.Commands.{at_once_rule, call_app, called_app, compile_app, decode_app, describe_app, encode_app, explain_app, explain_rule, first_app, idle_rule, option_rule, order_rule, output, place_app, program_app, reference_app, repeat_rule, serve_app, served_app, show_app, table_app, tables_app, text_flag as flag_of_text, text_rule, types_rule, upgrade_app, value_app, wait_rule, wanted};
 
 use clap::{Arg, ArgAction, Command, value_parser};
 use std::alloc::{AllocError, Global};
@@ -337,6 +337,62 @@ fn describe_command<'a>(alloc: Global) -> Result<Command<'a>, AllocError>
     Command::new(alloc, "reference").arg(reference_word(alloc))
 }
 
+/// The option for the byte order of a request.
+fn order_option<'a>(alloc: Global, orders: &'a [&'a str]) -> Arg<'a>
+    ensures rule { rule_of result ≡ order_rule (Names orders.entry) }
+    ensures local { result.global ≡ false }
+{
+    Arg::new(alloc, "order")
+        .long("order")
+        .value_name("ORDER")
+        .help("The byte order of the request; else big")
+        .value_parser(orders)
+}
+
+/// The option for the seconds that a call may take.
+fn wait_option<'a>(alloc: Global) -> Arg<'a>
+    ensures rule { rule_of result ≡ wait_rule }
+    ensures local { result.global ≡ false }
+{
+    Arg::new(alloc, "wait")
+        .long("wait")
+        .value_name("S")
+        .help("A call may take so many seconds, 1 to 86400; else 30")
+        .value_parser(value_parser!(u32).range(1..86401))
+}
+
+/// The option for how often it is called.
+fn repeat_option<'a>(alloc: Global) -> Arg<'a>
+    ensures rule { rule_of result ≡ repeat_rule }
+    ensures local { result.global ≡ false }
+{
+    Arg::new(alloc, "repeat")
+        .long("repeat")
+        .value_name("N")
+        .help("Calls so often, and tells how long that took")
+        .value_parser(value_parser!(u32).range(1..4294967296))
+}
+
+/// The words of a call, but for its options.
+fn called_command<'a>(alloc: Global) -> Result<Command<'a>, AllocError>
+    ensures { IfOk result (λ command. app_of command ≡ called_app) }
+{
+    let value = "The arguments as one text; @FILE: that of a file; -: that of standard input";
+    table_command(alloc, "call")?
+        .arg(reference_word(alloc))?
+        .arg(wanted(alloc, "OP", "The operation, or in full A::I::op"))?
+        .arg(Arg::new(alloc, "VALUE").help(value))
+}
+
+fn call_command<'a>(alloc: Global, orders: &'a [&'a str]) -> Result<Command<'a>, AllocError>
+    ensures { IfOk result (λ command. app_of command ≡ call_app (Names orders.entry)) }
+{
+    called_command(alloc)?
+        .arg(order_option(alloc, orders))?
+        .arg(wait_option(alloc))?
+        .arg(repeat_option(alloc))
+}
+
 /// The whole program.
 pub(crate) fn program<'a>(alloc: Global, orders: &'a [&'a str]) -> Result<Command<'a>, AllocError>
     ensures { IfOk result (λ program. app_of program ≡ program_app (Names orders.entry)) }
@@ -345,5 +401,7 @@ pub(crate) fn program<'a>(alloc: Global, orders: &'a [&'a str]) -> Result<Comman
     let explain = explain_command(alloc)?;
     let explains = objects.subcommand(explain.about("Says what a refusal means"))?;
     let describe = describe_command(alloc)?;
-    explains.subcommand(describe.about("Says what a reference says"))
+    let describes = explains.subcommand(describe.about("Says what a reference says"))?;
+    let call = call_command(alloc, orders)?;
+    describes.subcommand(call.about("Calls an object, and prints what it replies"))
 }

@@ -1,14 +1,15 @@
 //! The words of a command line.
 
-ghost use Rattle.std.specs.Prelude.{◌≡◌, ◌≢◌, codes, IsErr, IsErrAnd, IfErr, List, MatchResult, Err, Some, true};
+ghost use Rattle.std.specs.Prelude.{◌≡◌, ◌≢◌, codes, IsErr, IsErrAnd, IfErr, List, MatchResult, Ok, Err, Some, true};
 ghost use Rattle.clap.specs.Words.{kind_of, Row, subcommand_rows_of};
-ghost use Rattle.command_words.specs.Ask.{Ask, ask_of};
+ghost use Rattle.command_words.specs.Ask.{Ask, CallAsk, ask_of, call_ask_of};
 ghost use Rattle.command_words.specs.Mistake.{IsOfWords};
-ghost use Rattle.command_words.specs.Words.{AreReadAs, AreRefused, AsksFor, IsMistaken, texts};
+ghost use Rattle.command_words.specs.Words.{AreReadAs, AreReadAsCall, AreRefused, AsksFor, AsksForCall, IsMistaken, TellsCall, texts};
+ghost use Rattle.command_words.specs.declared.task.CallTask.{CallTask};
 ghost use Rattle.command_words.specs.declared.task.Task.{Task};
 
 use crate::commands::program;
-use crate::matches::{service_in, task_in};
+use crate::matches::{call_in, service_in, task_in};
 use crate::mistake::Mistake;
 use crate::spoken::spoken;
 use crate::task::Said;
@@ -61,11 +62,16 @@ fn unclear(matches: &ArgMatches<'_>) -> Mistake
     }
 }
 
-/// Words that ask for no answer ask to serve calls.
-fn served<'a>(matches: &ArgMatches<'a>) -> Result<Said<'a>, Mistake>
-    ensures { (rows : List Row) → subcommand_rows_of matches.now ≡ Some (codes "encode", rows)
+/// Words that ask for no task ask for a call, or to serve calls.
+fn called_or_served<'a>(matches: &ArgMatches<'a>) -> Result<Said<'a>, Mistake>
+    ensures unclear { (rows : List Row) → subcommand_rows_of matches.now ≡ Some (codes "encode", rows)
         → result ≡ Err Mistake.HexOrText }
+    ensures called { (ask : CallAsk) (rows : List Row) → subcommand_rows_of matches.now ≡ Some (codes "call", rows)
+        → TellsCall rows ask → (task : CallTask) × (result ≡ Ok (Said.Call task)) × (call_ask_of task ≡ ask) }
 {
+    if let Some(task) = call_in(matches) {
+        return Ok(Said::Call(task));
+    }
     match service_in(matches) {
         Some(service) => Ok(Said::Serve(service)),
         None => Err(unclear(matches)),
@@ -77,13 +83,16 @@ fn read<'a>(alloc: Global, words: &'a [&'a str]) -> Result<Said<'a>, Mistake>
     ensures asked { (ask : Ask) → AreReadAs (texts words.now) ask → MatchResult result
         (λ said. (task : Task) × (said ≡ Said.Do task) × (ask_of task ≡ Some ask))
         (λ fault. fault ≡ Mistake.NoMemory) }
+    ensures called { (ask : CallAsk) → AreReadAsCall (texts words.now) ask → MatchResult result
+        (λ said. (task : CallTask) × (said ≡ Said.Call task) × (call_ask_of task ≡ ask))
+        (λ fault. fault ≡ Mistake.NoMemory) }
     ensures mistaken { AreRefused (texts words.now) → IsErrAnd result IsOfWords }
 {
     match program(alloc, ORDERS.as_slice())?.try_get_matches_from(words) {
         Err(error) => help_or_fault(alloc, has_order(words), error),
         Ok(matches) => match task_in(&matches) {
             Some(task) => Ok(Said::Do(task)),
-            None => served(&matches),
+            None => called_or_served(&matches),
         },
     }
 }
@@ -95,6 +104,9 @@ fn read<'a>(alloc: Global, words: &'a [&'a str]) -> Result<Said<'a>, Mistake>
 pub fn parse<'a>(alloc: Global, words: &'a [&'a str]) -> Result<Said<'a>, Mistake>
     ensures asked { (ask : Ask) → AsksFor (texts words.now) ask → MatchResult result
         (λ said. (task : Task) × (said ≡ Said.Do task) × (ask_of task ≡ Some ask))
+        (λ fault. fault ≡ Mistake.NoMemory) }
+    ensures called { (ask : CallAsk) → AsksForCall (texts words.now) ask → MatchResult result
+        (λ said. (task : CallTask) × (said ≡ Said.Call task) × (call_ask_of task ≡ ask))
         (λ fault. fault ≡ Mistake.NoMemory) }
     ensures mistaken { IsMistaken (texts words.now) → IsErrAnd result IsOfWords }
 {

@@ -4,10 +4,10 @@ ghost use Rattle.std.specs.Prelude.{◌≡◌, ◌<◌, ◌^◌, ◌↔◌, IsSo
 ghost use Rattle.std.specs.Str.Parse.{IsNumeral, digits_value, without_leading_plus};
 ghost use Rattle.clap.specs.Words.{rows_of, Row, subcommand_rows_of};
 ghost use Rattle.clap.specs.Matches.{found_of, first_value, one_text};
-ghost use Rattle.command_words.specs.Ask.{Ask, Description, Explanation, Reference, ReferenceAsk, Value, ValueAsk, ask_of, command_of};
-ghost use Rattle.command_words.specs.Words.{IsUnclear, Tells, TellsDescription, TellsPlace, TellsReference, TellsRefusal, TellsValue};
+ghost use Rattle.command_words.specs.Ask.{Ask, CallAsk, Description, Explanation, Reference, ReferenceAsk, Value, ValueAsk, ask_of, call_ask_of, command_of};
+ghost use Rattle.command_words.specs.Words.{IsUnclear, Tells, TellsCall, TellsDescription, TellsPlace, TellsReference, TellsRefusal, TellsValue};
 
-use crate::task::{Form, ReferenceTask, Service, Task, ValueTask};
+use crate::task::{CallTask, Form, ReferenceTask, Service, Task, ValueTask};
 use clap::ArgMatches;
 use table_commands::{ReferenceRequest, ValueRequest, Way};
 use type_graph::Order;
@@ -168,6 +168,7 @@ pub(crate) fn task_in<'a>(matches: &ArgMatches<'a>) -> Option<Task<'a>>
         → Tells rows ask → IsSomeAnd result (λ task. ask_of task ≡ Some ask) }
     ensures unclear { (rows : List Row) → subcommand_rows_of matches.now ≡ Some (codes "encode", rows)
         → IsUnclear rows → result ≡ None }
+    ensures called { (rows : List Row) → subcommand_rows_of matches.now ≡ Some (codes "call", rows) → result ≡ None }
 {
     let (name, words) = matches.subcommand()?;
     match name {
@@ -205,4 +206,55 @@ pub(crate) fn service_in<'a>(matches: &ArgMatches<'a>) -> Option<Service<'a>>
         at_once: words.get_one::<u8>("at-once"),
         idle: words.get_one::<u32>("idle").unwrap_or(0),
     })
+}
+
+/// The byte order that the option says, or else big.
+fn order_in(words: &ArgMatches<'_>) -> Order
+    ensures { (result ≡ Order.Little) ↔ (first_value (found_of words.now) (codes "order") ≡ Some (codes "little")) }
+{
+    match words.get_str("order") {
+        Some("little") => Order::Little,
+        _ => Order::Big,
+    }
+}
+
+/// The number that an option says, or else that of none.
+fn number_in(words: &ArgMatches<'_>, id: &str, of_none: u32) -> u32
+    ensures some { (text : List ℕ) → one_text (found_of words.now) id.now ≡ Some text
+        → IsNumeral 10 (without_leading_plus text) → digits_value 10 (without_leading_plus text) < 2 ^ 32
+        → digits_value 10 (without_leading_plus text) ≡ result }
+    ensures none { one_text (found_of words.now) id.now ≡ None → result ≡ of_none }
+{
+    words.get_one::<u32>(id).unwrap_or(of_none)
+}
+
+fn call<'a>(words: &ArgMatches<'a>) -> Option<CallTask<'a>>
+    ensures { (ask : CallAsk) → TellsCall (rows_of (found_of words.now)) ask
+        → IsSomeAnd result (λ task. call_ask_of task ≡ ask) }
+{
+    let order = order_in(words);
+    let wait = number_in(words, "wait", 30);
+    let repeat = number_in(words, "repeat", 1);
+    Some(CallTask {
+        table: words.get_str("T")?,
+        reference: words.get_str("IOR")?,
+        operation: words.get_str("OP")?,
+        value: words.get_str("VALUE"),
+        order,
+        wait,
+        repeat,
+    })
+}
+
+/// The call that the words ask for.
+pub(crate) fn call_in<'a>(matches: &ArgMatches<'a>) -> Option<CallTask<'a>>
+    ensures asked { (ask : CallAsk) (rows : List Row) → subcommand_rows_of matches.now ≡ Some (codes "call", rows)
+        → TellsCall rows ask → IsSomeAnd result (λ task. call_ask_of task ≡ ask) }
+    ensures other { (rows : List Row) → subcommand_rows_of matches.now ≡ Some (codes "encode", rows) → result ≡ None }
+{
+    let (name, words) = matches.subcommand()?;
+    if name != "call" {
+        return None;
+    }
+    call(words)
 }

@@ -1,6 +1,7 @@
 //! What a run of the program may be asked to do.
 
 use table_commands::{ReferenceRequest, ValueRequest};
+use type_graph::Order;
 
 /// How a value stands in words and lines.
 #[derive(Clone, Copy, Debug, PartialEq, Eq)]
@@ -47,6 +48,24 @@ pub struct Service<'a> {
     pub idle: u32,
 }
 
+/// A call of an object.
+#[derive(Clone, Copy)]
+pub struct CallTask<'a> {
+    /// The name of the table.
+    pub table: &'a str,
+    /// The reference to the object, or what it is had from.
+    pub reference: &'a str,
+    pub operation: &'a str,
+    /// The arguments as one text, or what it is had from, where there are any.
+    pub value: Option<&'a str>,
+    /// The byte order of the request, big where none is named.
+    pub order: Order,
+    /// It may take so many seconds, 1 to 86,400; 30 where none are named.
+    pub wait: u32,
+    /// So often it is called, from 1 on; once where nothing is named.
+    pub repeat: u32,
+}
+
 /// What a run is asked to do.
 #[derive(Clone, Copy)]
 pub enum Task<'a> {
@@ -88,4 +107,5 @@ pub enum Said<'a> {
     Help(String),
     Do(Task<'a>),
     Serve(Service<'a>),
+    Call(CallTask<'a>),
 }

@@ -18,8 +18,8 @@ use type_model::{Model, Name};
 fn add(alloc: Global, names: &mut Vec<(Name, u32)>, text: &str, node: u32) -> Result<(), AllocError>
     ensures { OnOk result (names.new.items ≡ names.old.items ++ (text.now, node) ∷ []) }
 {
-    let text = String::from_str(alloc, text)?;
-    match names.push((Name::new(text), node)) {
+    let name = Name::copied(alloc, text)?;
+    match names.push((name, node)) {
         Ok(()) => Ok(()),
         Err(_) => Err(AllocError),
     }

@@ -7,8 +7,8 @@ use Rattle.partings.specs.declared.parting.Skip.TheVariants.{Octets, NotNow, End
 use Rattle.partings.specs.declared.parting.Turn.{Turn}
 use Rattle.partings.specs.declared.parting.Turn.TheVariants.{Moved, Still, Over}
 
--- What a connection tells: whether the side that is written to is shut, the octets that are left, what the last read gave
--- since, how many reads have given octets since, and how many milliseconds had passed when that was asked last.
+-- What a connection tells: whether the side that is written to is shut, the octets that are left, what the last read
+-- gave since, how many reads have given octets since, and how many milliseconds had passed when that was asked last.
 pub record Parted : Type 0 where
   pub shut : Bool
   pub left : Option (List ℕ)

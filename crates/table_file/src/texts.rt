@@ -31,7 +31,7 @@ fn name_of(alloc: Global, octets: &[u8]) -> Result<Name, TableFault>
         return Err(TableFault::NotATable);
     }
     match str::from_utf8(octets) {
-        Ok(text) => Ok(Name::new(String::from_str(alloc, text)?)),
+        Ok(text) => Ok(Name::copied(alloc, text)?),
         Err(_) => Err(TableFault::NotATable),
     }
 }

@@ -4,27 +4,46 @@ ghost use Rattle.std.specs.Prelude.{◌≡◌, ◌≢◌, ◌<◌, ◌≤◌, �
 ghost use Rattle.std.specs.String.{string_bytes};
 ghost use Rattle.std.specs.List.Sorted.{IsSorted};
 ghost use Rattle.type_model.specs.Names.{AreDistinct, AreNames, AreMarks, IsNamed, IsOrder, name_at};
+ghost use Rattle.type_model.specs.inner.Texts.{octets_of};
 ghost use Rattle.type_model.specs.inner.Keys.{AreKeys, Differ, key_cmp, place_of};
 ghost use Rattle.type_graph.specs.Refusal.{OnlyIf};
 
+use arrayvec::ArrayString;
 use std::alloc::{AllocError, Global};
 use std::cmp::Ordering;
 use std::marker::Model;
 use type_graph::{GraphFault, Items};
 
+/// Where the text of a name stands: a short one in the name, so that it takes no block of memory.
+#[derive(Drop)]
+enum Text {
+    Short(ArrayString<16>),
+    Long(String),
+}
+
 /// A name or a repository id. A contract sees its octets.
 #[derive(Drop)]
 pub struct Name {
-    text: String,
+    text: Text,
 }
 
 impl Model for Name {
     ghost use Rattle.std.specs.Prelude.{ℕ, List};
-    ghost use Rattle.std.specs.String.{string_bytes};
+    ghost use Rattle.type_model.specs.inner.Texts.{octets_of};
 
     ghost Value = { List ℕ };
 
-    ghost view = { λ n. string_bytes n.text };
+    ghost view = { λ n. octets_of n.text };
+}
+
+/// The text in place, where it is short enough.
+fn in_place(text: &str) -> Option<Text>
+    ensures { IfSome result (λ place. octets_of place ≡ text.now) }
+{
+    match ArrayString::from(text) {
+        Ok(short) => Some(Text::Short(short)),
+        Err(_) => None,
+    }
 }
 
 impl Name {
@@ -32,20 +51,36 @@ impl Name {
     pub fn new(text: String) -> Self
         ensures { result ≡ string_bytes text }
     {
-        Name { text }
+        match in_place(text.as_str()) {
+            Some(text) => Name { text },
+            None => Name {
+                text: Text::Long(text),
+            },
+        }
+    }
+
+    /// The name of this text; a short one takes no memory.
+    ///
+    /// # Errors
+    /// Want of memory.
+    pub fn copied(alloc: Global, text: &str) -> Result<Self, AllocError>
+        ensures { IfOk result (λ name. name ≡ text.now) }
+    {
+        match in_place(text) {
+            Some(text) => Ok(Name { text }),
+            None => Ok(Name {
+                text: Text::Long(String::from_str(alloc, text)?),
+            }),
+        }
     }
 
     pub fn as_str(&self) -> &str
         ensures { result.now ≡ self.now }
     {
-        self.text.as_str()
-    }
-
-    /// Gives the text back. Takes no memory.
-    pub fn into_string(self) -> String
-        ensures { string_bytes result ≡ self }
-    {
-        self.text
+        match &self.text {
+            Text::Short(short) => short.as_str(),
+            Text::Long(long) => long.as_str(),
+        }
     }
 }
 

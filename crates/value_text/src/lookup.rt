@@ -19,7 +19,7 @@ fn pairs_of(alloc: Global, labels: &NodeNames) -> Result<Vec<(Name, u32)>, Alloc
     let mut pairs = Vec::new(alloc);
     for place in 0..labels.len() {
         if let (Some(label), Ok(number)) = (labels.get(place), u32::try_from(place)) {
-            pairs.push((Name::new(String::from_str(alloc, label)?), number))?;
+            pairs.push((Name::copied(alloc, label)?, number))?;
         }
     }
     Ok(pairs)
