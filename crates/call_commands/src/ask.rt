@@ -18,7 +18,7 @@ pub struct Types<'t> {
 
 /// A call of an object.
 #[derive(Clone, Copy)]
-pub struct CallAsk<'a> {
+pub struct TextCall<'a> {
     /// An operation of the table's interface that the reference's id names, or one in full, as
     /// `A::I::op`; or one that every object has.
     pub operation: &'a str,

@@ -1,6 +1,9 @@
 //! Calls by words for operations and texts for arguments.
 
-use crate::ask::{CallAsk, Types};
+ghost use Rattle.object_references.specs.References.{reference_of};
+ghost use Rattle.call_commands.specs.Calls.{IsTextCalled};
+
+use crate::ask::{TextCall, Types};
 use crate::choice::choose;
 use crate::ending::Ending;
 use crate::fault::CallRefusal;
@@ -20,8 +23,11 @@ pub fn call_text<D: Dial>(
     alloc: Global,
     dial: &mut D,
     ior: Ior,
-    ask: &CallAsk<'_>,
-) -> Result<Ending, CallRefusal> {
+    ask: &TextCall<'_>,
+) -> Result<Ending, CallRefusal>
+    ensures { IsTextCalled (D.went dial.old) (D.went dial.new) types.now ask.now (reference_of ior) (D.lines dial.old) result
+        (D.lines dial.new) }
+{
     let nameless = PartNames::new(alloc, Vec::new(alloc));
     match choose(types, &nameless, ior.type_id.as_slice(), ask.operation.as_bytes()) {
         Some(choice) => called(types, alloc, dial, ior, &choice, ask),

@@ -1,7 +1,7 @@
 //! Why a call has no end.
 
 ghost use Rattle.std.specs.Prelude.{◌≡◌};
-ghost use Rattle.call_commands.specs.Causes.{cause_of, cause_of_answer, cause_of_call, cause_of_sending};
+ghost use Rattle.call_commands.specs.Causes.{cause_of, cause_of_awaiting, cause_of_calling, cause_of_message, cause_of_object, cause_of_reaching, cause_of_sending};
 
 use followed_calls::ObjectFault;
 use giop_client::{AwaitFault, CallFault, SendFault};
@@ -38,8 +38,8 @@ pub enum Cause {
     Memory,
 }
 
-fn cause_of_answer(fault: AwaitFault) -> Cause
-    ensures { result ≡ cause_of_answer fault }
+fn of_awaiting(fault: AwaitFault) -> Cause
+    ensures { result ≡ cause_of_awaiting fault }
 {
     match fault {
         AwaitFault::BadMessage(_) | AwaitFault::BadReply | AwaitFault::MessageError => Cause::Input,
@@ -51,24 +51,48 @@ fn cause_of_answer(fault: AwaitFault) -> Cause
     }
 }
 
-fn cause_of_sending(fault: SendFault) -> Cause
+fn of_message(fault: GiopFault) -> Cause
+    ensures { result ≡ cause_of_message fault }
+{
+    match fault {
+        GiopFault::NoMemory => Cause::Memory,
+        _ => Cause::Input,
+    }
+}
+
+fn of_sending(fault: SendFault) -> Cause
     ensures { result ≡ cause_of_sending fault }
 {
     match fault {
-        SendFault::NotARequest(GiopFault::NoMemory) => Cause::Memory,
-        SendFault::NotARequest(_) => Cause::Input,
+        SendFault::NotARequest(fault) => of_message(fault),
         SendFault::WriteFailed { .. } => Cause::Socket,
     }
 }
 
-fn cause_of_call(fault: ObjectFault) -> Cause
-    ensures { result ≡ cause_of_call fault }
+fn of_calling(fault: CallFault) -> Cause
+    ensures { result ≡ cause_of_calling fault }
 {
     match fault {
-        ObjectFault::Unanswered(ReachFault::NotReached) => Cause::Socket,
-        ObjectFault::Unanswered(ReachFault::NoMemory) => Cause::Memory,
-        ObjectFault::Unanswered(ReachFault::NotCalled(CallFault::Unsent(fault))) => cause_of_sending(fault),
-        ObjectFault::Unanswered(ReachFault::NotCalled(CallFault::Unanswered(fault))) => cause_of_answer(fault),
+        CallFault::Unsent(fault) => of_sending(fault),
+        CallFault::Unanswered(fault) => of_awaiting(fault),
+    }
+}
+
+fn of_reaching(fault: ReachFault) -> Cause
+    ensures { result ≡ cause_of_reaching fault }
+{
+    match fault {
+        ReachFault::NotReached => Cause::Socket,
+        ReachFault::NotCalled(fault) => of_calling(fault),
+        ReachFault::NoMemory => Cause::Memory,
+    }
+}
+
+fn of_object(fault: ObjectFault) -> Cause
+    ensures { result ≡ cause_of_object fault }
+{
+    match fault {
+        ObjectFault::Unanswered(fault) => of_reaching(fault),
         ObjectFault::OtherBody | ObjectFault::TooMany => Cause::Input,
         ObjectFault::NoMemory => Cause::Memory,
     }
@@ -81,7 +105,7 @@ impl CallRefusal {
     {
         match *self {
             CallRefusal::NoOperation | CallRefusal::Unsaid(_) | CallRefusal::Readdressed => Cause::Input,
-            CallRefusal::Unanswered(fault) => cause_of_call(fault),
+            CallRefusal::Unanswered(fault) => of_object(fault),
             CallRefusal::NoMemory => Cause::Memory,
         }
     }

@@ -8,7 +8,7 @@ mod ending;
 mod fault;
 mod sending;
 
-pub use ask::{CallAsk, Types};
+pub use ask::{TextCall, Types};
 pub use command::call_text;
 pub use ending::{Ending, ExceptionLine};
 pub use fault::{CallRefusal, Cause};

@@ -1,12 +1,12 @@
 //! The call of an operation, with its arguments.
 
-ghost use Rattle.std.specs.Prelude.{◌≡◌, ◌∷◌, []};
+ghost use Rattle.std.specs.Prelude.{◌≡◌};
 ghost use Rattle.type_model.specs.Names.{IsNamed};
 ghost use Rattle.object_references.specs.References.{reference_of};
-ghost use Rattle.call_commands.specs.Calls.{IsCarriedOut, of_ask};
+ghost use Rattle.call_commands.specs.Calls.{IsCarriedOut, IsEnding, IsLastOutcome, flags};
 ghost use Rattle.call_commands.specs.Choices.{choice_of};
 
-use crate::ask::{CallAsk, Types};
+use crate::ask::{TextCall, Types};
 use crate::choice::Choice;
 use crate::ending::Ending;
 use crate::fault::CallRefusal;
@@ -25,14 +25,17 @@ fn flags_of(oneway: bool) -> u8
     if oneway { 0 } else { 3 }
 }
 
-/// How a call ends, by its outcome.
-fn ending_of(outcome: Option<Outcome>) -> Result<Ending, CallRefusal> {
+/// How a call ends, by its outcome, which isn't that the object is elsewhere.
+fn ending_of(outcome: Outcome) -> Result<Ending, CallRefusal>
+    requires { IsLastOutcome outcome }
+    ensures { IsEnding outcome result }
+{
     match outcome {
-        None => Ok(Ending::Sent),
-        Some(Outcome::Returned(text)) => Ok(Ending::Returned(text)),
-        Some(Outcome::Raised(text)) => Ok(Ending::Raised(text)),
-        Some(Outcome::Failed(exception)) => Ok(Ending::Failed(exception)),
-        Some(Outcome::Readdressed) | Some(Outcome::Forwarded(_)) => Err(CallRefusal::Readdressed),
+        Outcome::Returned(text) => Ok(Ending::Returned(text)),
+        Outcome::Raised(text) => Ok(Ending::Raised(text)),
+        Outcome::Failed(exception) => Ok(Ending::Failed(exception)),
+        Outcome::Readdressed => Err(CallRefusal::Readdressed),
+        Outcome::Forwarded(_) => unreachable!(),
     }
 }
 
@@ -43,8 +46,13 @@ pub(crate) fn called<D: Dial>(
     dial: &mut D,
     ior: Ior,
     choice: &Choice<'_>,
-    ask: &CallAsk<'_>,
-) -> Result<Ending, CallRefusal> {
+    ask: &TextCall<'_>,
+) -> Result<Ending, CallRefusal>
+    requires request { IsNamed choice.now.table.now.model.names choice.now.request }
+    requires reply { IsNamed choice.now.table.now.model.names choice.now.reply }
+    ensures { IsCarriedOut (D.went dial.old) (D.went dial.new) (choice_of choice.now) ask.now (reference_of ior)
+        (D.lines dial.old) result (D.lines dial.new) }
+{
     let tape = match argument_tape(alloc, choice.table, choice.names, choice.request, ask.value) {
         Ok(tape) => tape,
         Err(ReadFault::Refused(refusal)) => return Err(CallRefusal::Unsaid(refusal)),
@@ -65,7 +73,8 @@ pub(crate) fn called<D: Dial>(
     };
     let body = Some((choice.table, choice.request, tape.as_slice()));
     match call_object(types.giop, types.types, alloc, dial, ior, &wanted, &request, body, ask.reads) {
-        Ok(outcome) => ending_of(outcome),
+        Ok(Some(outcome)) => ending_of(outcome),
+        Ok(None) => Ok(Ending::Sent),
         Err(fault) => Err(CallRefusal::Unanswered(fault)),
     }
 }

@@ -2,7 +2,9 @@
 -- that the requests that have no reply weren't processed.
 use Rattle.std.specs.Prelude.{◌≡◌, ◌⊎◌, ℕ, Bool, true, false, List, ◌++◌, Option, Result, Err}
 use Rattle.iiop_broker.specs.Outcomes.{Ends}
+use Rattle.giop_client.specs.declared.fault.AwaitFault.{AwaitFault}
 use Rattle.giop_client.specs.declared.fault.AwaitFault.TheVariants.{CloseConnection}
+use Rattle.giop_client.specs.declared.fault.CallFault.{CallFault}
 use Rattle.giop_client.specs.declared.fault.CallFault.TheVariants as calls
 use Rattle.object_references.specs.References.{Reference}
 use Rattle.call_texts.specs.Outcomes.{Called}
@@ -16,18 +18,26 @@ use Rattle.followed_calls.specs.declared.fault.ObjectFault.{ObjectFault}
 use Rattle.followed_calls.specs.declared.fault.ObjectFault.TheVariants.{Unanswered}
 
 -- the server closed the connection by CloseConnection before it answered
-abbrev pub is_closed : ObjectFault → Bool
-is_closed (Unanswered (NotCalled (calls.Unanswered CloseConnection))) = true
-is_closed fault = false
+abbrev pub closes : AwaitFault → Bool
+closes CloseConnection = true
+closes fault = false
 
-abbrev pub is_closed_call : Result (Option Outcome) ObjectFault → Bool
-is_closed_call (Err fault) = is_closed fault
-is_closed_call result = false
+abbrev pub closes_call : CallFault → Bool
+closes_call (calls.Unanswered fault) = closes fault
+closes_call (calls.Unsent fault) = false
+
+abbrev pub closes_reached : ReachFault → Bool
+closes_reached (NotCalled fault) = closes_call fault
+closes_reached fault = false
+
+abbrev pub is_closed : Result (Option Outcome) ObjectFault → Bool
+is_closed (Err (Unanswered fault)) = closes_reached fault
+is_closed result = false
 
 -- one call was made, and it wasn't so
 pub record IsUnclosed (ask : Asking) (called : Called) (reference : Reference) (lines : List Line)
     (result : Result (Option Outcome) ObjectFault) (lines' : List Line) (tos : List Ends) : Type 0 where
-  pub open : is_closed_call result ≡ false
+  pub open : is_closed result ≡ false
   pub once : IsOnce ask called reference lines result lines' tos
 
 -- the first was closed so, and this is how the second ended

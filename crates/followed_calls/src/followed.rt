@@ -44,10 +44,12 @@ pub fn call_object<D: Dial>(
 {
     let mut at = ior;
     for _count in 0u32..9 {
-        let outcome = match call_twice(giop, types, alloc, dial, &at, wanted, request, body, reads) {
-            Ok(Some(outcome)) => outcome,
-            Ok(None) => return Ok(None),
+        let called = match call_twice(giop, types, alloc, dial, &at, wanted, request, body, reads) {
+            Ok(called) => called,
             Err(fault) => return Err(fault),
+        };
+        let Some(outcome) = called else {
+            return Ok(None);
         };
         match outcome {
             Outcome::Forwarded(next) => at = next,

@@ -8,7 +8,7 @@ ghost use Rattle.giop_client.specs.Answers.{answer_of};
 ghost use Rattle.object_references.specs.References.{reference_of};
 ghost use Rattle.object_calls.specs.Talks.{asking};
 ghost use Rattle.followed_calls.specs.Hops.{IsCalledOnce, IsOutcomeIn};
-ghost use Rattle.followed_calls.specs.Tries.{IsCalledTwice, is_closed as is_closed_call};
+ghost use Rattle.followed_calls.specs.Tries.{IsCalledTwice, closes, closes_call, closes_reached};
 ghost use Rattle.followed_calls.specs.Wanted.{called_of};
 
 use crate::fault::ObjectFault;
@@ -76,7 +76,7 @@ fn call_once<D: Dial>(
         Ok(listing) => listing,
         Err(_) => return Err(ObjectFault::NoMemory),
     };
-    match call_by(
+    let called = match call_by(
         giop,
         alloc,
         dial,
@@ -85,21 +85,48 @@ fn call_once<D: Dial>(
         body,
         reads,
     ) {
-        Ok(Some(answer)) => outcome_of(types, alloc, wanted, &answer),
-        Ok(None) => Ok(None),
-        Err(fault) => Err(ObjectFault::Unanswered(fault)),
+        Ok(called) => called,
+        Err(fault) => return Err(ObjectFault::Unanswered(fault)),
+    };
+    match called {
+        Some(answer) => outcome_of(types, alloc, wanted, &answer),
+        None => Ok(None),
+    }
+}
+
+/// Whether a stream ended by CloseConnection.
+fn is_closing(fault: AwaitFault) -> bool
+    ensures { result ≡ closes fault }
+{
+    match fault {
+        AwaitFault::CloseConnection => true,
+        AwaitFault::BadMessage(_)
+        | AwaitFault::BadReply
+        | AwaitFault::MessageError
+        | AwaitFault::ReadFailed
+        | AwaitFault::EndOfStream
+        | AwaitFault::ReadLimit
+        | AwaitFault::NoMemory => false,
+    }
+}
+
+/// Whether a call ended so.
+fn is_closed_in(fault: CallFault) -> bool
+    ensures { result ≡ closes_call fault }
+{
+    match fault {
+        CallFault::Unsent(_) => false,
+        CallFault::Unanswered(fault) => is_closing(fault),
     }
 }
 
 /// Whether the server closed the connection by CloseConnection before it answered.
-fn is_closed(fault: &ObjectFault) -> bool
-    ensures { result ≡ is_closed_call fault.now }
+fn is_closed(fault: ReachFault) -> bool
+    ensures { result ≡ closes_reached fault }
 {
     match fault {
-        ObjectFault::Unanswered(ReachFault::NotCalled(CallFault::Unanswered(unanswered))) => {
-            *unanswered == AwaitFault::CloseConnection
-        }
-        _ => false,
+        ReachFault::NotCalled(fault) => is_closed_in(fault),
+        ReachFault::NotReached | ReachFault::NoMemory => false,
     }
 }
 
@@ -123,11 +150,14 @@ pub(crate) fn call_twice<D: Dial>(
 {
     match call_once(giop, types, alloc, dial, ior, wanted, request, body, reads) {
         Ok(outcome) => Ok(outcome),
-        Err(fault) => {
-            if is_closed(&fault) {
+        Err(ObjectFault::Unanswered(fault)) => {
+            if is_closed(fault) {
                 return call_once(giop, types, alloc, dial, ior, wanted, request, body, reads);
             }
-            Err(fault)
+            Err(ObjectFault::Unanswered(fault))
         }
+        Err(ObjectFault::OtherBody) => Err(ObjectFault::OtherBody),
+        Err(ObjectFault::TooMany) => Err(ObjectFault::TooMany),
+        Err(ObjectFault::NoMemory) => Err(ObjectFault::NoMemory),
     }
 }

@@ -1,15 +1,21 @@
 //! Calls of objects.
 
+ghost use Rattle.std.specs.Prelude.{◌≡◌, ◌++◌, codes, IfOk};
+ghost use Rattle.std.specs.String.{string_bytes};
+ghost use Rattle.idlc_main.specs.Called.{IsConclusion};
+
 use crate::fault::Fault;
 use crate::times::Times;
 use crate::told::named_fault;
-use call_commands::{CallAsk, CallRefusal, Ending, Types, call_text};
+use call_commands::{TextCall, CallRefusal, Ending, Types, call_text};
 use command_words::CallTask;
 use dialled_sockets::Dialler;
 use giop::Giop;
 use giop_types::GiopTypes;
 use named_tables::{Loaded, NamedFault, load, source_in, text_in};
+use reply_bodies::SystemException;
 use spelled_references::read_reference;
+use std::alloc::{AllocError, Global};
 use std::net::Net;
 use std::time::Clock;
 use table_commands::WholeFiles;
@@ -20,10 +26,20 @@ const NO_ARGUMENTS: &str = "[]";
 /// So many reads may give octets: the time of the call ends them.
 const READS: u64 = u64::MAX;
 
-/// How the calls ended, and of more than one how long they took.
+/// How the last call ended: with a result or none that was wanted, with an exception of its operation, or
+/// with a system exception.
+#[derive(Drop)]
+pub enum CallEnd {
+    Done,
+    Raised,
+    Failed(SystemException),
+}
+
+/// The text for standard output, how the last call ended, and of more than one how long they took.
 #[derive(Drop)]
 pub struct Concluded {
-    pub ending: Ending,
+    pub text: String,
+    pub end: CallEnd,
     pub times: Option<Times>,
 }
 
@@ -72,7 +88,7 @@ fn once<'a, R: Net + Clock + AllocGlobal>(
 ) -> Result<Ending, Fault<'a>> {
     let task = calling.task;
     let ior = read_reference(calling.types.types, rt.alloc(), calling.reference)?;
-    let ask = CallAsk {
+    let ask = TextCall {
         operation: task.operation,
         value: calling.value,
         order: task.order,
@@ -96,6 +112,30 @@ fn is_done(ending: &Ending) -> bool {
     }
 }
 
+/// A text as a line.
+fn line(alloc: Global, text: &str) -> Result<String, AllocError>
+    ensures { IfOk result (λ line. string_bytes line ≡ text.now ++ codes "\n") }
+{
+    format!(in alloc; "{text}\n")
+}
+
+/// What is told of the end of the last call.
+fn conclusion(
+    alloc: Global,
+    ending: Ending,
+    times: Option<Times>,
+) -> Result<Concluded, AllocError>
+    ensures { IfOk result (IsConclusion ending) }
+{
+    let (text, end) = match ending {
+        Ending::Returned(text) => (line(alloc, text.as_str())?, CallEnd::Done),
+        Ending::Raised(text) => (line(alloc, text.as_str())?, CallEnd::Raised),
+        Ending::Failed(exception) => (String::new(alloc), CallEnd::Failed(exception)),
+        Ending::Sent => (String::new(alloc), CallEnd::Done),
+    };
+    Ok(Concluded { text, end, times })
+}
+
 /// Makes one call after the other, up to the first that raises an exception.
 fn repeated<'a, R: Net + Clock + AllocGlobal>(
     rt: &R,
@@ -115,7 +155,7 @@ fn repeated<'a, R: Net + Clock + AllocGlobal>(
         dialler.go_on();
     }
     let times = if task.repeat > 1 { Some(times) } else { None };
-    Ok(Concluded { ending, times })
+    Ok(conclusion(rt.alloc(), ending, times)?)
 }
 
 /// Calls an object with the table that was loaded.
