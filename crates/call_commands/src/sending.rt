@@ -3,7 +3,8 @@
 ghost use Rattle.std.specs.Prelude.{◌≡◌};
 ghost use Rattle.type_model.specs.Names.{IsNamed};
 ghost use Rattle.object_references.specs.References.{reference_of};
-ghost use Rattle.call_commands.specs.Calls.{IsCarriedOut, IsEnding, IsLastOutcome, flags};
+ghost use Rattle.call_commands.specs.Calls.{IsCarriedOut, IsEnding, IsLastOutcome, IsSaid, flags};
+ghost use Rattle.call_texts.specs.Bodies.{IsTapeOfText};
 ghost use Rattle.call_commands.specs.Choices.{choice_of};
 
 use crate::ask::{TextCall, Types};
@@ -11,7 +12,7 @@ use crate::choice::Choice;
 use crate::ending::Ending;
 use crate::fault::CallRefusal;
 use call_texts::{Outcome, argument_tape};
-use followed_calls::{Wanted, call_object};
+use followed_calls::{ObjectFault, Wanted, call_object};
 use giop_client::Request;
 use object_calls::Dial;
 use object_references::Ior;
@@ -39,7 +40,41 @@ fn ending_of(outcome: Outcome) -> Result<Ending, CallRefusal>
     }
 }
 
-/// Calls an operation with these arguments.
+/// Calls an operation with the arguments of a tape.
+fn said<D: Dial>(
+    types: &Types<'_>,
+    alloc: Global,
+    dial: &mut D,
+    ior: Ior,
+    choice: &Choice<'_>,
+    ask: &TextCall<'_>,
+    tape: &[u8],
+) -> Result<Option<Outcome>, ObjectFault>
+    requires request { IsNamed choice.now.table.now.model.names choice.now.request }
+    requires reply { IsNamed choice.now.table.now.model.names choice.now.reply }
+    requires arguments { IsTapeOfText choice.now.names.now choice.now.table.now.model.graph choice.now.request
+        ask.now.value.now tape.now }
+    ensures { IsSaid (D.went dial.old) (D.went dial.new) (choice_of choice.now) ask.now (reference_of ior)
+        (D.lines dial.old) result (D.lines dial.new) }
+{
+    let request = Request {
+        order: ask.order,
+        id: ask.id,
+        flags: flags_of(choice.oneway),
+        key: b"".as_slice(),
+        operation: choice.name,
+    };
+    let wanted = Wanted {
+        table: choice.table,
+        names: choice.names,
+        reply: choice.reply,
+        exceptions: choice.exceptions,
+    };
+    let body = Some((choice.table, choice.request, tape));
+    call_object(types.giop, types.types, alloc, dial, ior, &wanted, &request, body, ask.reads)
+}
+
+/// Calls an operation with the arguments that a text says.
 pub(crate) fn called<D: Dial>(
     types: &Types<'_>,
     alloc: Global,
@@ -58,23 +93,12 @@ pub(crate) fn called<D: Dial>(
         Err(ReadFault::Refused(refusal)) => return Err(CallRefusal::Unsaid(refusal)),
         Err(ReadFault::NoMemory) => return Err(CallRefusal::NoMemory),
     };
-    let request = Request {
-        order: ask.order,
-        id: ask.id,
-        flags: flags_of(choice.oneway),
-        key: b"".as_slice(),
-        operation: choice.name,
+    let end = match said(types, alloc, dial, ior, choice, ask, tape.as_slice()) {
+        Ok(end) => end,
+        Err(fault) => return Err(CallRefusal::Unanswered(fault)),
     };
-    let wanted = Wanted {
-        table: choice.table,
-        names: choice.names,
-        reply: choice.reply,
-        exceptions: choice.exceptions,
-    };
-    let body = Some((choice.table, choice.request, tape.as_slice()));
-    match call_object(types.giop, types.types, alloc, dial, ior, &wanted, &request, body, ask.reads) {
-        Ok(Some(outcome)) => ending_of(outcome),
-        Ok(None) => Ok(Ending::Sent),
-        Err(fault) => Err(CallRefusal::Unanswered(fault)),
+    match end {
+        Some(outcome) => ending_of(outcome),
+        None => Ok(Ending::Sent),
     }
 }
