@@ -21,7 +21,7 @@ interface P { void ping(); };
 """
 
 # how many refusals have a text
-EXPLAINED = 89
+EXPLAINED = 101
 
 # what a source is refused with
 REFUSED = [

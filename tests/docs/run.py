@@ -1,6 +1,7 @@
 """Runs the sessions that stand in the documents, and compares what each command prints.
 
-A session is a code block with lines that begin with `$ `: a command, and below it what it prints on both streams.
+A session is a code block with lines that begin with `$ `: a command, and below it what it prints on both streams. One
+that ends in `&` runs on, prints one line, and has to end well by the end of the session.
 `examples/` and the files of `examples/idl/` are at hand where it runs. Sessions with a program that isn't `idlc` aren't
 run.
 """
@@ -61,9 +62,13 @@ def served(words, folder):
 
 
 def run_session(test, count, document, session, folder):
+    beside = []
     for command, wanted in session:
         words = re.sub(r"^idlc\b", str(PROGRAM), command)
-        if words.startswith(f"{PROGRAM} serve"):
+        if words.endswith(" &"):
+            beside.append(subprocess.Popen(words[:-2], shell=True, cwd=folder, stdout=subprocess.PIPE, text=True))
+            said = beside[-1].stdout.readline()
+        elif words.startswith(f"{PROGRAM} serve"):
             said = served(words, folder)
         else:
             done = test.call(["bash", "-c", f"{words} 2>&1"], cwd=folder)
@@ -71,6 +76,9 @@ def run_session(test, count, document, session, folder):
         # the rest of an explanation may be left out
         is_right = said == wanted or (not wanted and command.startswith("idlc explain") and said)
         count.add(is_right, f"{document.name}: {command}: {said}")
+    for process in beside:
+        out, _ = process.communicate(timeout=60)
+        count.add(process.returncode == 0 and not out, f"{document.name}: {process.args}: {process.returncode} {out}")
 
 
 def run(test):

@@ -1,5 +1,5 @@
 -- The numbers of refusals, and the first lines of their texts: a number and a name.
-use Rattle.std.specs.Prelude.{ℕ, Bool, ◌&&◌, ◌||◌, nat_le, nat_lt, ◌==◌, List, [], ◌∷◌, Option, Some, None, codes, if◌then◌else◌}
+use Rattle.std.specs.Prelude.{ℕ, Bool, ◌&&◌, ◌||◌, nat_le, nat_lt, ◌==◌, List, Option, Some, None, codes, if◌then◌else◌}
 use Rattle.std.specs.List.{before_first}
 
 -- what stands before the first line feed
@@ -13,7 +13,7 @@ is_within low high n = nat_le low n && nat_le n high
 abbrev pub is_refusal : ℕ → Bool
 is_refusal n = is_within 1 7 n || is_within 10 13 n || is_within 20 29 n || is_within 30 37 n || is_within 40 47 n
     || is_within 50 55 n || is_within 60 68 n || is_within 70 70 n || is_within 80 85 n || is_within 90 97 n
-    || is_within 100 106 n || is_within 110 124 n
+    || is_within 100 106 n || is_within 110 124 n || is_within 130 141 n
 
 -- refusals of tokens
 abbrev pub token_heading : ℕ → Option (List ℕ)
@@ -164,6 +164,23 @@ text_heading n =
     if n == 124 then Some (codes "124 TextBehind") else (
     None)))))))))))))))
 
+-- refusals of calls
+abbrev pub call_heading : ℕ → Option (List ℕ)
+call_heading n =
+    if n == 130 then Some (codes "130 BadCorbaloc") else (
+    if n == 131 then Some (codes "131 BadMessage") else (
+    if n == 132 then Some (codes "132 BadReply") else (
+    if n == 133 then Some (codes "133 MessageError") else (
+    if n == 134 then Some (codes "134 CloseConnection") else (
+    if n == 135 then Some (codes "135 ReadFailed") else (
+    if n == 136 then Some (codes "136 EndOfStream") else (
+    if n == 137 then Some (codes "137 ReadLimit") else (
+    if n == 138 then Some (codes "138 WriteFailed") else (
+    if n == 139 then Some (codes "139 OtherBody") else (
+    if n == 140 then Some (codes "140 TooManyForwards") else (
+    if n == 141 then Some (codes "141 NeedsAddressingMode") else (
+    None))))))))))))
+
 -- all of them
 abbrev pub heading : ℕ → Option (List ℕ)
 heading n =
@@ -178,4 +195,5 @@ heading n =
     if nat_lt n 90 then check_heading n else (
     if nat_lt n 100 then message_heading n else (
     if nat_lt n 110 then connection_heading n else (
-    text_heading n)))))))))))
+    if nat_lt n 130 then text_heading n else (
+    call_heading n))))))))))))

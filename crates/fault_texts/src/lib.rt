@@ -4,6 +4,7 @@
 ghost use Rattle.std.specs.Prelude.{◌≡◌, is_some, option_map};
 ghost use Rattle.fault_texts.specs.Headings.{first_line, heading, is_refusal};
 
+mod calls;
 mod checks;
 mod connections;
 mod grammar;
@@ -37,6 +38,7 @@ pub fn explanation(number: u8) -> Option<&'static str>
         80..=89 => checks::of_checks(number),
         90..=99 => messages::of_messages(number),
         100..=109 => connections::of_connections(number),
-        _ => texts::of_texts(number),
+        110..=129 => texts::of_texts(number),
+        _ => calls::of_calls(number),
     }
 }

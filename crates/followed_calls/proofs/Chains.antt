@@ -1,5 +1,5 @@
 -- Calls that were forwarded one after the other.
-use Rattle.std.proofs.Common.{◌≡◌, ℕ, suc, ◌+◌, ◌<◌, ◌≤◌, List, [], ◌∷◌, ◌++◌, length, refl, sym, ap, ◌∙◌, subst, append_assoc, append-nil, length-append, arith, Result, Ok, Err}
+use Rattle.std.proofs.Common.{◌≡◌, ℕ, suc, ◌+◌, ◌<◌, ◌≤◌, List, [], ◌∷◌, ◌++◌, length, refl, sym, ap, ◌∙◌, subst, append_assoc, append-nil, length-append, arith, ◌⊎◌, inl, inr, Option, Some, None, Result, Ok, Err}
 use Rattle.iiop_broker.specs.Outcomes.{Ends}
 use Rattle.object_references.specs.References.{Reference, reference_of}
 use Rattle.object_references.specs.declared.reference.Ior.{Ior}
@@ -8,15 +8,15 @@ use Rattle.call_texts.specs.declared.outcome.Outcome.{Outcome}
 use Rattle.call_texts.specs.declared.outcome.Outcome.TheVariants.{Returned, Raised, Failed, Forwarded, Readdressed}
 use Rattle.object_calls.specs.Lines.{Line}
 use Rattle.object_calls.specs.Talks.{Asking}
-use Rattle.followed_calls.specs.Hops.{IsAnsweredWith, IsCalledOnce, IsOnce}
+use Rattle.followed_calls.specs.Tries.{IsCalledTwice, IsTried}
 use Rattle.followed_calls.specs.Followed.{AreForwarded, At, IsFollowed, IsForwarded, IsLast, start}
 use Rattle.followed_calls.specs.inner.Underway.{IsUnderway}
 use Rattle.followed_calls.specs.declared.fault.ObjectFault.{ObjectFault}
 use Rattle.followed_calls.specs.declared.fault.ObjectFault.TheVariants.{Unanswered, OtherBody, TooMany, NoMemory}
 
 -- the call wasn't forwarded
-abbrev pub IsOther : Result Outcome ObjectFault → Type 0
-IsOther (Ok (Forwarded ior)) = ⊥
+abbrev pub IsOther : Result (Option Outcome) ObjectFault → Type 0
+IsOther (Ok (Some (Forwarded ior))) = ⊥
 IsOther result = Unit {0}
 
 one_more : (ask : Asking) (called : Called) (from : At) (hops : List At) (last to : At)
@@ -43,13 +43,13 @@ module _ (Told : List Ends → Type 0) (ask : Asking) (called : Called) (referen
     all_gone tos gone all told =
         subst Told' (append_assoc all under.last.tos tos) (gone (all ++ under.last.tos) (under.gone all told))
 
-    here : (tos : List Ends) (outcome : Outcome) → IsAnsweredWith ask called at mid outcome lines' tos
-        → IsAnsweredWith ask called under.last.reference under.last.lines outcome lines' tos
-    here tos outcome a =
-        subst (λ (r : Reference). IsAnsweredWith ask called r under.last.lines outcome lines' tos) (sym under.reference_is)
-        (subst (λ (l : List Line). IsAnsweredWith ask called at l outcome lines' tos) (sym under.lines_are) a)
+    here : (tos : List Ends) (result : Result (Option Outcome) ObjectFault) → IsTried ask called at mid result lines' tos
+        → IsTried ask called under.last.reference under.last.lines result lines' tos
+    here tos result tried =
+        subst (λ (r : Reference). IsTried ask called r under.last.lines result lines' tos) (sym under.reference_is)
+        (subst (λ (l : List Line). IsTried ask called at l result lines' tos) (sym under.lines_are) tried)
 
-    pub further : (ior : Ior) → IsCalledOnce Mid Told' ask called at mid (Ok (Forwarded ior)) lines'
+    pub further : (ior : Ior) → IsCalledTwice Mid Told' ask called at mid (Ok (Some (Forwarded ior))) lines'
         → IsUnderway Told Told' ask called reference lines (count + 1) (reference_of ior) lines'
     further ior step =
         let to : At = record { reference = reference_of ior; lines = lines'; tos = under.last.tos ++ step.tos } in
@@ -62,7 +62,7 @@ module _ (Told : List Ends → Type 0) (ask : Asking) (called : Called) (referen
                 next = refl;
                 tos = step.tos;
                 tos_are = refl;
-                answered = here step.tos (Forwarded ior) step.once;
+                tried = here step.tos (Ok (Some (Forwarded ior))) step.tried;
               });
           reference_is = refl;
           lines_are = refl;
@@ -71,34 +71,37 @@ module _ (Told : List Ends → Type 0) (ask : Asking) (called : Called) (referen
         }
 
     -- it ends here
-    pub ended : (result : Result Outcome ObjectFault) → count ≤ 8 → IsOther result
-        → IsCalledOnce Mid Told' ask called at mid result lines' → IsFollowed Told Told' ask called reference lines result lines'
+    pub ended : (result : Result (Option Outcome) ObjectFault) → count ≤ 8 → IsOther result
+        → IsCalledTwice Mid Told' ask called at mid result lines' → IsFollowed Told Told' ask called reference lines result lines'
     ended result few other step = record {
       hops = under.hops;
       last = under.last;
       forwarded = under.forwarded;
       tos = step.tos;
       gone = all_gone step.tos step.gone;
-      ends = by_result result other
-          (subst (λ (r : Reference). IsOnce ask called r under.last.lines result lines' step.tos) (sym under.reference_is)
-          (subst (λ (l : List Line). IsOnce ask called at l result lines' step.tos) (sym under.lines_are) step.once));
+      ends = by_result result other (here step.tos result step.tried);
     }
       where
         small : length under.hops ≤ 8
         small = subst (λ n. n ≤ 8) (sym under.count_is) few
 
-        by_result : (r : Result Outcome ObjectFault) → IsOther r
-            → IsOnce ask called under.last.reference under.last.lines r lines' step.tos
+        few_enough : IsTried ask called under.last.reference under.last.lines (Err TooMany) lines' step.tos → ⊥
+        few_enough (inl unclosed) = unclosed.once
+        few_enough (inr more) = more.again
+
+        by_result : (r : Result (Option Outcome) ObjectFault) → IsOther r
+            → IsTried ask called under.last.reference under.last.lines r lines' step.tos
             → IsLast ask called (length under.hops) under.last r lines' step.tos
-        by_result (Ok (Forwarded ior)) other once = absurd other
-        by_result (Ok (Returned text)) other once = (small, once)
-        by_result (Ok (Raised text)) other once = (small, once)
-        by_result (Ok (Failed exception)) other once = (small, once)
-        by_result (Ok Readdressed) other once = (small, once)
-        by_result (Err TooMany) other once = absurd once
-        by_result (Err OtherBody) other once = (small, once)
-        by_result (Err NoMemory) other once = (small, once)
-        by_result (Err (Unanswered fault)) other once = (small, once)
+        by_result (Ok (Some (Forwarded ior))) other tried = absurd other
+        by_result (Ok (Some (Returned text))) other tried = (small, tried)
+        by_result (Ok (Some (Raised text))) other tried = (small, tried)
+        by_result (Ok (Some (Failed exception))) other tried = (small, tried)
+        by_result (Ok (Some Readdressed)) other tried = (small, tried)
+        by_result (Ok None) other tried = (small, tried)
+        by_result (Err TooMany) other tried = absurd (few_enough tried)
+        by_result (Err OtherBody) other tried = (small, tried)
+        by_result (Err NoMemory) other tried = (small, tried)
+        by_result (Err (Unanswered fault)) other tried = (small, tried)
 
   pub too_many : (Mid : List Ends → Type 0) (at : Reference) (mid : List Line)
       → IsUnderway Told Mid ask called reference lines 9 at mid

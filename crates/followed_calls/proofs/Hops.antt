@@ -1,5 +1,5 @@
 -- What one call says, whatever was handed back before.
-use Rattle.std.proofs.Common.{◌≡◌, ℕ, List, [], ◌∷◌, ◌++◌, refl, sym, ap, ◌∙◌, subst, append-nil, Result, Ok, Err}
+use Rattle.std.proofs.Common.{◌≡◌, ℕ, List, [], ◌∷◌, ◌++◌, refl, sym, ap, ◌∙◌, subst, append-nil, Option, Some, None, Result, Ok, Err}
 use Rattle.iiop_broker.specs.Outcomes.{Ends}
 use Rattle.giop_client.specs.declared.answer.Answer.{Answer}
 use Rattle.giop_client.specs.Answers.{answer_of}
@@ -17,13 +17,13 @@ use Rattle.followed_calls.specs.declared.fault.ObjectFault.TheVariants.{Unanswer
 
 -- what was handed back in a call, and the call as if nothing had been before
 record IsFreed (Told Told' : List Ends → Type 0) (ask : Asking) (rows : List Row) (lines : List Line)
-    (result : Result Answer ReachFault) (lines' : List Line) : Type 0 where
+    (result : Result (Option Answer) ReachFault) (lines' : List Line) : Type 0 where
   tos : List Ends
   gone : (all : List Ends) → Told all → Told' (all ++ tos)
   called : IsCalledBy (just []) (just tos) ask rows lines result lines'
 
 module _ (Told Told' : List Ends → Type 0) (ask : Asking) (rows : List Row) (lines lines' : List Line) where
-  freed : (result : Result Answer ReachFault) → IsCalledBy Told Told' ask rows lines result lines'
+  freed : (result : Result (Option Answer) ReachFault) → IsCalledBy Told Told' ask rows lines result lines'
       → IsFreed Told Told' ask rows lines result lines'
   freed (Ok answer) by = record {
     tos = by.talk.talk.to ∷ [];
@@ -99,20 +99,29 @@ unanswered Told Told' ask called reference rows lines lines' fault are by =
     let f = freed Told Told' ask rows lines lines' (Err fault) by in
     record { tos = f.tos; gone = f.gone; once = record { rows = rows; rows_are = are; called = f.called } }
 
+-- none was wanted
+pub sent : (Told Told' : List Ends → Type 0) (ask : Asking) (called : Called) (reference : Reference) (rows : List Row)
+    (lines lines' : List Line) → AreRows reference.profiles rows → IsCalledBy Told Told' ask rows lines (Ok None) lines'
+    → IsCalledOnce Told Told' ask called reference lines (Ok None) lines'
+sent Told Told' ask called reference rows lines lines' are by =
+    let f = freed Told Told' ask rows lines lines' (Ok None) by in
+    record { tos = f.tos; gone = f.gone; once = record { rows = rows; rows_are = are; called = f.called } }
+
 -- there was one
 pub answered : (Told Told' : List Ends → Type 0) (ask : Asking) (called : Called) (reference : Reference) (rows : List Row)
-    (lines lines' : List Line) (answer : Answer) (result : Result Outcome ObjectFault) → AreRows reference.profiles rows
-    → IsCalledBy Told Told' ask rows lines (Ok answer) lines' → IsOutcomeIn called (answer_of answer) result
+    (lines lines' : List Line) (answer : Answer) (result : Result (Option Outcome) ObjectFault) → AreRows reference.profiles rows
+    → IsCalledBy Told Told' ask rows lines (Ok (Some answer)) lines' → IsOutcomeIn called (answer_of answer) result
     → IsCalledOnce Told Told' ask called reference lines result lines'
 answered Told Told' ask called reference rows lines lines' answer result are by says =
-    let f = freed Told Told' ask rows lines lines' (Ok answer) by in
-    let hop : IsHop ask reference lines (Ok answer) lines' f.tos =
+    let f = freed Told Told' ask rows lines lines' (Ok (Some answer)) by in
+    let hop : IsHop ask reference lines (Ok (Some answer)) lines' f.tos =
     record { rows = rows; rows_are = are; called = f.called } in
     record { tos = f.tos; gone = f.gone; once = by_result f.tos hop result says }
   where
-    by_result : (tos : List Ends) → IsHop ask reference lines (Ok answer) lines' tos → (r : Result Outcome ObjectFault)
+    by_result : (tos : List Ends) → IsHop ask reference lines (Ok (Some answer)) lines' tos → (r : Result (Option Outcome) ObjectFault)
         → IsOutcomeIn called (answer_of answer) r → IsOnce ask called reference lines r lines' tos
-    by_result tos hop (Ok outcome) is = record { answer = answer; hop = hop; outcome_is = is }
+    by_result tos hop (Ok None) none = absurd none
+    by_result tos hop (Ok (Some outcome)) is = record { answer = answer; hop = hop; outcome_is = is }
     by_result tos hop (Err OtherBody) none = record { answer = answer; hop = hop; none = none }
     by_result tos hop (Err NoMemory) is = tt
     by_result tos hop (Err TooMany) none = absurd none

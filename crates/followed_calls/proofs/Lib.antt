@@ -1,2 +1,3 @@
 pub mod Hops
+pub mod Tries
 pub mod Chains

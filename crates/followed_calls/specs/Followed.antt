@@ -1,5 +1,5 @@
 -- Calls that are forwarded.
-use Rattle.std.specs.Prelude.{◌≡◌, ◌≤◌, ℕ, List, [], ◌∷◌, ◌++◌, length, Result, Ok, Err}
+use Rattle.std.specs.Prelude.{◌≡◌, ◌≤◌, ℕ, List, [], ◌∷◌, ◌++◌, length, Option, Some, Result, Ok, Err}
 use Rattle.iiop_broker.specs.Outcomes.{Ends}
 use Rattle.object_references.specs.References.{Reference, reference_of}
 use Rattle.object_references.specs.declared.reference.Ior.{Ior}
@@ -8,7 +8,7 @@ use Rattle.call_texts.specs.declared.outcome.Outcome.{Outcome}
 use Rattle.call_texts.specs.declared.outcome.Outcome.TheVariants.{Forwarded}
 use Rattle.object_calls.specs.Lines.{Line}
 use Rattle.object_calls.specs.Talks.{Asking, Telling}
-use Rattle.followed_calls.specs.Hops.{IsAnsweredWith, IsOnce}
+use Rattle.followed_calls.specs.Tries.{IsTried}
 use Rattle.followed_calls.specs.declared.fault.ObjectFault.{ObjectFault}
 use Rattle.followed_calls.specs.declared.fault.ObjectFault.TheVariants.{TooMany}
 
@@ -24,7 +24,7 @@ pub record IsForwarded (ask : Asking) (called : Called) (from to : At) : Type 0 
   pub next : to.reference ≡ reference_of ior
   pub tos : List Ends
   pub tos_are : to.tos ≡ from.tos ++ tos
-  pub answered : IsAnsweredWith ask called from.reference from.lines (Forwarded ior) to.lines tos
+  pub tried : IsTried ask called from.reference from.lines (Ok (Some (Forwarded ior))) to.lines tos
 
 -- one after the other
 abbrev pub AreForwarded : Asking → Called → At → List At → At → Type 0
@@ -35,18 +35,16 @@ abbrev pub start : Reference → List Line → At
 start reference lines = record { reference = reference; lines = lines; tos = [] }
 
 -- how it ends behind so many forwards
-abbrev pub IsLast : Asking → Called → ℕ → At → Result Outcome ObjectFault → List Line → List Ends → Type 0
-IsLast ask called count last (Ok (Forwarded ior)) lines' tos = ⊥
-IsLast ask called count last (Ok outcome) lines' tos =
-    (count ≤ 8) × IsAnsweredWith ask called last.reference last.lines outcome lines' tos
+abbrev pub IsLast : Asking → Called → ℕ → At → Result (Option Outcome) ObjectFault → List Line → List Ends → Type 0
+IsLast ask called count last (Ok (Some (Forwarded ior))) lines' tos = ⊥
 IsLast ask called count last (Err TooMany) lines' tos = (count ≡ 9) × (lines' ≡ last.lines) × (tos ≡ [])
-IsLast ask called count last (Err fault) lines' tos =
-    (count ≤ 8) × IsOnce ask called last.reference last.lines (Err fault) lines' tos
+IsLast ask called count last result lines' tos =
+    (count ≤ 8) × IsTried ask called last.reference last.lines result lines' tos
 
 -- The object was called where its reference says; where it was said to be elsewhere there, at most 8 times; and this is
 -- what was answered at last.
 pub record IsFollowed (Told Told' : Telling) (ask : Asking) (called : Called) (reference : Reference)
-    (lines : List Line) (result : Result Outcome ObjectFault) (lines' : List Line) : Type 0 where
+    (lines : List Line) (result : Result (Option Outcome) ObjectFault) (lines' : List Line) : Type 0 where
   pub hops : List At
   pub last : At
   pub forwarded : AreForwarded ask called (start reference lines) hops last

@@ -1,5 +1,5 @@
 -- One call of the object that a reference names, and what its reply says.
-use Rattle.std.specs.Prelude.{◌≡◌, ◌⊎◌, ℕ, List, [], ◌++◌, Result, Ok, Err}
+use Rattle.std.specs.Prelude.{◌≡◌, ℕ, List, [], ◌++◌, Option, Some, None, Result, Ok, Err}
 use Rattle.giop_messages.specs.declared.message.ReplyStatus.TheVariants as statuses
 use Rattle.giop_messages.specs.Messages.{Answered}
 use Rattle.iiop_broker.specs.Outcomes.{Ends}
@@ -20,8 +20,8 @@ abbrev pub just : List Ends → Telling
 just tos = λ all. all ≡ tos
 
 -- the call by the profiles of the reference; behind these lines came those, and these connections were handed back
-pub record IsHop (ask : Asking) (reference : Reference) (lines : List Line) (result : Result Answer ReachFault)
-    (lines' : List Line) (tos : List Ends) : Type 0 where
+pub record IsHop (ask : Asking) (reference : Reference) (lines : List Line)
+    (result : Result (Option Answer) ReachFault) (lines' : List Line) (tos : List Ends) : Type 0 where
   pub rows : List Row
   pub rows_are : AreRows reference.profiles rows
   pub called : IsCalledBy (just []) (just tos) ask rows lines result lines'
@@ -30,25 +30,30 @@ pub record IsHop (ask : Asking) (reference : Reference) (lines : List Line) (res
 pub record IsAnsweredWith (ask : Asking) (called : Called) (reference : Reference) (lines : List Line)
     (outcome : Outcome) (lines' : List Line) (tos : List Ends) : Type 0 where
   pub answer : Answer
-  pub hop : IsHop ask reference lines (Ok answer) lines' tos
+  pub hop : IsHop ask reference lines (Ok (Some answer)) lines' tos
   pub outcome_is : IsOutcome called (answer_of answer) outcome
 
 -- with a body that isn't what the status says
 pub record IsAnsweredOddly (ask : Asking) (called : Called) (reference : Reference) (lines lines' : List Line)
     (tos : List Ends) : Type 0 where
   pub answer : Answer
-  pub hop : IsHop ask reference lines (Ok answer) lines' tos
+  pub hop : IsHop ask reference lines (Ok (Some answer)) lines' tos
   pub none : HasNoOutcome called (answer_of answer)
 
 -- what an answer says
-abbrev pub IsOutcomeIn : Called → Answered → Result Outcome ObjectFault → Type 0
-IsOutcomeIn called answered (Ok outcome) = IsOutcome called answered outcome
+abbrev pub IsOutcomeIn : Called → Answered → Result (Option Outcome) ObjectFault → Type 0
+IsOutcomeIn called answered (Ok (Some outcome)) = IsOutcome called answered outcome
+IsOutcomeIn called answered (Ok None) = ⊥
 IsOutcomeIn called answered (Err OtherBody) = HasNoOutcome called answered
 IsOutcomeIn called answered (Err NoMemory) = Unit {0}
 IsOutcomeIn called answered (Err fault) = ⊥
 
-abbrev pub IsOnce : Asking → Called → Reference → List Line → Result Outcome ObjectFault → List Line → List Ends → Type 0
-IsOnce ask called reference lines (Ok outcome) lines' tos = IsAnsweredWith ask called reference lines outcome lines' tos
+-- how it ends; none is the outcome of a call that wants no answer
+abbrev pub IsOnce : Asking → Called → Reference → List Line → Result (Option Outcome) ObjectFault → List Line
+    → List Ends → Type 0
+IsOnce ask called reference lines (Ok (Some outcome)) lines' tos =
+    IsAnsweredWith ask called reference lines outcome lines' tos
+IsOnce ask called reference lines (Ok None) lines' tos = IsHop ask reference lines (Ok None) lines' tos
 IsOnce ask called reference lines (Err (Unanswered fault)) lines' tos = IsHop ask reference lines (Err fault) lines' tos
 IsOnce ask called reference lines (Err OtherBody) lines' tos = IsAnsweredOddly ask called reference lines lines' tos
 IsOnce ask called reference lines (Err TooMany) lines' tos = ⊥
@@ -56,7 +61,7 @@ IsOnce ask called reference lines (Err NoMemory) lines' tos = Unit {0}
 
 -- By what is told before and after.
 pub record IsCalledOnce (Told Told' : Telling) (ask : Asking) (called : Called) (reference : Reference)
-    (lines : List Line) (result : Result Outcome ObjectFault) (lines' : List Line) : Type 0 where
+    (lines : List Line) (result : Result (Option Outcome) ObjectFault) (lines' : List Line) : Type 0 where
   pub tos : List Ends
   pub gone : (all : List Ends) → Told all → Told' (all ++ tos)
   pub once : IsOnce ask called reference lines result lines' tos

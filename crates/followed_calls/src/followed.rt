@@ -9,7 +9,7 @@ ghost use Rattle.followed_calls.specs.Followed.{IsFollowed};
 ghost use Rattle.followed_calls.specs.Wanted.{called_of};
 
 use crate::fault::ObjectFault;
-use crate::once::call_once;
+use crate::once::call_twice;
 use crate::wanted::Wanted;
 use call_texts::Outcome;
 use giop::{Body, Giop};
@@ -20,7 +20,8 @@ use object_references::Ior;
 use std::alloc::Global;
 
 /// Calls the object that a reference names; where the reply says that it is elsewhere, there, at most
-/// 8 times.
+/// 8 times. Each time it is called once more where its server closed the connection before it answered.
+/// None where no answer is wanted (flags 0), and the request was sent.
 ///
 /// # Errors
 /// As `call_by` of object_calls says; `OtherBody` where the body of a reply isn't what its status
@@ -35,7 +36,7 @@ pub fn call_object<D: Dial>(
     request: &Request<'_>,
     body: Option<Body<'_>>,
     reads: u64,
-) -> Result<Outcome, ObjectFault>
+) -> Result<Option<Outcome>, ObjectFault>
     requires body { ForSome body (λ b. IsNamed b.0.now.model.names b.1) }
     requires named { IsNamed wanted.now.table.now.model.names wanted.now.reply }
     ensures { IsFollowed (D.went dial.old) (D.went dial.new) (asking request.now (given_by body.entry) reads)
@@ -43,16 +44,19 @@ pub fn call_object<D: Dial>(
 {
     let mut at = ior;
     for _count in 0u32..9 {
-        let outcome = match call_once(giop, types, alloc, dial, &at, wanted, request, body, reads) {
-            Ok(outcome) => outcome,
+        let called = match call_twice(giop, types, alloc, dial, &at, wanted, request, body, reads) {
+            Ok(called) => called,
             Err(fault) => return Err(fault),
+        };
+        let Some(outcome) = called else {
+            return Ok(None);
         };
         match outcome {
             Outcome::Forwarded(next) => at = next,
-            Outcome::Returned(text) => return Ok(Outcome::Returned(text)),
-            Outcome::Raised(text) => return Ok(Outcome::Raised(text)),
-            Outcome::Failed(exception) => return Ok(Outcome::Failed(exception)),
-            Outcome::Readdressed => return Ok(Outcome::Readdressed),
+            Outcome::Returned(text) => return Ok(Some(Outcome::Returned(text))),
+            Outcome::Raised(text) => return Ok(Some(Outcome::Raised(text))),
+            Outcome::Failed(exception) => return Ok(Some(Outcome::Failed(exception))),
+            Outcome::Readdressed => return Ok(Some(Outcome::Readdressed)),
         }
     }
     Err(ObjectFault::TooMany)

@@ -1,6 +1,6 @@
-//! One call of the object that a reference names.
+//! One call of the object that a reference names, and once more where its connection was closed.
 
-ghost use Rattle.std.specs.Prelude.{IfOk, IfErr};
+ghost use Rattle.std.specs.Prelude.{◌≡◌};
 ghost use Rattle.std.specs.Option.{ForSome};
 ghost use Rattle.type_model.specs.Names.{IsNamed};
 ghost use Rattle.giop.specs.Made.{given_by};
@@ -8,15 +8,16 @@ ghost use Rattle.giop_client.specs.Answers.{answer_of};
 ghost use Rattle.object_references.specs.References.{reference_of};
 ghost use Rattle.object_calls.specs.Talks.{asking};
 ghost use Rattle.followed_calls.specs.Hops.{IsCalledOnce, IsOutcomeIn};
+ghost use Rattle.followed_calls.specs.Tries.{IsCalledTwice, closes, closes_call, closes_reached};
 ghost use Rattle.followed_calls.specs.Wanted.{called_of};
 
 use crate::fault::ObjectFault;
 use crate::wanted::Wanted;
 use call_texts::{Outcome, read_outcome};
 use giop::{Body, Giop, Reply};
-use giop_client::{Answer, Request};
+use giop_client::{Answer, AwaitFault, CallFault, Request};
 use giop_types::GiopTypes;
-use object_calls::{Dial, call_by};
+use object_calls::{Dial, ReachFault, call_by};
 use object_references::Ior;
 use reference_listing::list_reference;
 use std::alloc::Global;
@@ -27,7 +28,7 @@ fn outcome_of(
     alloc: Global,
     wanted: &Wanted<'_>,
     answer: &Answer,
-) -> Result<Outcome, ObjectFault>
+) -> Result<Option<Outcome>, ObjectFault>
     requires { IsNamed wanted.now.table.now.model.names wanted.now.reply }
     ensures { IsOutcomeIn (called_of wanted.now) (answer_of answer.now) result }
 {
@@ -48,14 +49,14 @@ fn outcome_of(
         wanted.exceptions,
         &reply,
     ) {
-        Ok(Some(outcome)) => Ok(outcome),
+        Ok(Some(outcome)) => Ok(Some(outcome)),
         Ok(None) => Err(ObjectFault::OtherBody),
         Err(_) => Err(ObjectFault::NoMemory),
     }
 }
 
 /// Calls the object that a reference names.
-pub(crate) fn call_once<D: Dial>(
+fn call_once<D: Dial>(
     giop: &Giop,
     types: &GiopTypes,
     alloc: Global,
@@ -65,7 +66,7 @@ pub(crate) fn call_once<D: Dial>(
     request: &Request<'_>,
     body: Option<Body<'_>>,
     reads: u64,
-) -> Result<Outcome, ObjectFault>
+) -> Result<Option<Outcome>, ObjectFault>
     requires body { ForSome body (λ b. IsNamed b.0.now.model.names b.1) }
     requires named { IsNamed wanted.now.table.now.model.names wanted.now.reply }
     ensures { IsCalledOnce (D.went dial.old) (D.went dial.new) (asking request.now (given_by body.entry) reads)
@@ -75,7 +76,7 @@ pub(crate) fn call_once<D: Dial>(
         Ok(listing) => listing,
         Err(_) => return Err(ObjectFault::NoMemory),
     };
-    match call_by(
+    let called = match call_by(
         giop,
         alloc,
         dial,
@@ -84,7 +85,79 @@ pub(crate) fn call_once<D: Dial>(
         body,
         reads,
     ) {
-        Ok(answer) => outcome_of(types, alloc, wanted, &answer),
-        Err(fault) => Err(ObjectFault::Unanswered(fault)),
+        Ok(called) => called,
+        Err(fault) => return Err(ObjectFault::Unanswered(fault)),
+    };
+    match called {
+        Some(answer) => outcome_of(types, alloc, wanted, &answer),
+        None => Ok(None),
+    }
+}
+
+/// Whether a stream ended by CloseConnection.
+fn is_closing(fault: AwaitFault) -> bool
+    ensures { result ≡ closes fault }
+{
+    match fault {
+        AwaitFault::CloseConnection => true,
+        AwaitFault::BadMessage(_)
+        | AwaitFault::BadReply
+        | AwaitFault::MessageError
+        | AwaitFault::ReadFailed
+        | AwaitFault::EndOfStream
+        | AwaitFault::ReadLimit
+        | AwaitFault::NoMemory => false,
+    }
+}
+
+/// Whether a call ended so.
+fn is_closed_in(fault: CallFault) -> bool
+    ensures { result ≡ closes_call fault }
+{
+    match fault {
+        CallFault::Unsent(_) => false,
+        CallFault::Unanswered(fault) => is_closing(fault),
+    }
+}
+
+/// Whether the server closed the connection by CloseConnection before it answered.
+fn is_closed(fault: ReachFault) -> bool
+    ensures { result ≡ closes_reached fault }
+{
+    match fault {
+        ReachFault::NotCalled(fault) => is_closed_in(fault),
+        ReachFault::NotReached | ReachFault::NoMemory => false,
+    }
+}
+
+/// Calls the object that a reference names; where the server closed the connection before it answered,
+/// and so made no call, once more (ISO/IEC 19500-2, Connection Management).
+pub(crate) fn call_twice<D: Dial>(
+    giop: &Giop,
+    types: &GiopTypes,
+    alloc: Global,
+    dial: &mut D,
+    ior: &Ior,
+    wanted: &Wanted<'_>,
+    request: &Request<'_>,
+    body: Option<Body<'_>>,
+    reads: u64,
+) -> Result<Option<Outcome>, ObjectFault>
+    requires body { ForSome body (λ b. IsNamed b.0.now.model.names b.1) }
+    requires named { IsNamed wanted.now.table.now.model.names wanted.now.reply }
+    ensures { IsCalledTwice (D.went dial.old) (D.went dial.new) (asking request.now (given_by body.entry) reads)
+        (called_of wanted.now) (reference_of ior.now) (D.lines dial.old) result (D.lines dial.new) }
+{
+    match call_once(giop, types, alloc, dial, ior, wanted, request, body, reads) {
+        Ok(outcome) => Ok(outcome),
+        Err(ObjectFault::Unanswered(fault)) => {
+            if is_closed(fault) {
+                return call_once(giop, types, alloc, dial, ior, wanted, request, body, reads);
+            }
+            Err(ObjectFault::Unanswered(fault))
+        }
+        Err(ObjectFault::OtherBody) => Err(ObjectFault::OtherBody),
+        Err(ObjectFault::TooMany) => Err(ObjectFault::TooMany),
+        Err(ObjectFault::NoMemory) => Err(ObjectFault::NoMemory),
     }
 }

@@ -1,5 +1,5 @@
 -- A request that is sent, and its answer.
-use Rattle.std.specs.Prelude.{◌≡◌, ℕ, Option, Result, Ok, Err}
+use Rattle.std.specs.Prelude.{◌≡◌, ◌≢◌, ℕ, Option, Some, None, Result, Ok, Err}
 use Rattle.giop_messages.specs.Written.{Given}
 use Rattle.iiop_broker.specs.Outcomes.{Ends as StreamEnds}
 use Rattle.giop_client.specs.declared.answer.Answer.{Answer}
@@ -11,11 +11,18 @@ use Rattle.giop_client.specs.declared.fault.CallFault.TheVariants as faults
 use Rattle.giop_client.specs.Outcomes.{IsOutcome}
 use Rattle.giop_client.specs.Requests.{IsSending, Sent}
 
--- It was sent, and this became of awaiting its reply.
+-- It wants an answer, was sent, and this became of awaiting its reply.
 pub record IsAwaited (request : Request) (body : Option Given) (reads : ℕ) (before : StreamEnds)
     (outcome : Result Answer AwaitFault) (after : StreamEnds) : Type 0 where
+  pub wants : request.flags ≢ 0
   pub sent : Sent request body before.written after.written
   pub awaited : IsOutcome request.id reads before.left outcome after.left after.unread
+
+-- It wants none and was sent, and nothing was read.
+pub record IsSentAlone (request : Request) (body : Option Given) (before after : StreamEnds) : Type 0 where
+  pub wants_none : request.flags ≡ 0
+  pub sent : Sent request body before.written after.written
+  pub unread : after.left ≡ before.left
 
 -- It wasn't sent, and nothing was read.
 pub record IsUnsaid (request : Request) (body : Option Given) (before : StreamEnds) (fault : SendFault)
@@ -24,8 +31,9 @@ pub record IsUnsaid (request : Request) (body : Option Given) (before : StreamEn
   pub unread : after.left ≡ before.left
 
 -- By what the reader and the writer tell before and after.
-abbrev pub IsCalled : Request → Option Given → ℕ → StreamEnds → Result Answer CallFault → StreamEnds → Type 0
-IsCalled request body reads before (Ok answer) after = IsAwaited request body reads before (Ok answer) after
+abbrev pub IsCalled : Request → Option Given → ℕ → StreamEnds → Result (Option Answer) CallFault → StreamEnds → Type 0
+IsCalled request body reads before (Ok (Some answer)) after = IsAwaited request body reads before (Ok answer) after
+IsCalled request body reads before (Ok None) after = IsSentAlone request body before after
 IsCalled request body reads before (Err (faults.Unsent fault)) after = IsUnsaid request body before fault after
 IsCalled request body reads before (Err (faults.Unanswered fault)) after =
     IsAwaited request body reads before (Err fault) after

@@ -14,7 +14,8 @@ use giop::{Body, Giop};
 use iiop_broker::{Input, Output};
 use std::alloc::Global;
 
-/// Sends a request, and reads until its reply has come. So many reads may give octets.
+/// Sends a request, and reads until its reply has come. So many reads may give octets. Where no answer
+/// is wanted (flags 0), nothing is read, and there is none.
 ///
 /// # Errors
 /// `Unsent` as `send_request` says, `Unanswered` as `await_reply`.
@@ -26,7 +27,7 @@ pub fn call<I: Input, O: Output>(
     request: &Request<'_>,
     body: Option<Body<'_>>,
     reads: u64,
-) -> Result<Answer, CallFault>
+) -> Result<Option<Answer>, CallFault>
     requires { ForSome body (λ b. IsNamed b.0.now.model.names b.1) }
     ensures { IsCalled request.now (given_by body.entry) reads
         (ends (I.left reader.old) (O.written writer.old) (I.failure reader.old) (O.failure writer.old)) result
@@ -36,8 +37,11 @@ pub fn call<I: Input, O: Output>(
         Ok(()) => (),
         Err(fault) => return Err(CallFault::Unsent(fault)),
     }
+    if request.flags == 0 {
+        return Ok(None);
+    }
     match await_reply(giop, alloc, request.id, reader, reads) {
-        Ok(answer) => Ok(answer),
+        Ok(answer) => Ok(Some(answer)),
         Err(fault) => Err(CallFault::Unanswered(fault)),
     }
 }

@@ -8,12 +8,18 @@ use Rattle.table_commands.specs.declared.refusal.Refusal.{Refusal}
 use Rattle.table_commands.specs.declared.refusal.Refusal.TheVariants as refusals
 use Rattle.object_references.specs.declared.fault.ReferenceFault.{ReferenceFault}
 use Rattle.object_references.specs.declared.fault.ReferenceFault.TheVariants as references
+use Rattle.call_commands.specs.Causes.{cause_of}
+use Rattle.call_commands.specs.declared.fault.CallRefusal.{CallRefusal}
+use Rattle.call_commands.specs.declared.fault.Cause.{Cause}
+use Rattle.call_commands.specs.declared.fault.Cause.TheVariants as causes
+use Rattle.spelled_references.specs.declared.fault.SpellingFault.{SpellingFault}
+use Rattle.spelled_references.specs.declared.fault.SpellingFault.TheVariants as spellings
 use Rattle.socket_server.specs.declared.fault.ServeFault.{ServeFault}
 use Rattle.socket_server.specs.declared.fault.ServeFault.TheVariants as serve_faults
 use Rattle.named_tables.specs.declared.fault.NamedFault.{NamedFault}
 use Rattle.named_tables.specs.declared.fault.NamedFault.TheVariants as named
 use Rattle.idlc_main.specs.declared.fault.Fault.{Fault}
-use Rattle.idlc_main.specs.declared.fault.Fault.TheVariants.{Words, NotText, Refused, Unsaid, NotCompiled, Explained, NotReference, NotServed, Socket, NoRefusal, Unwritten, NoMemory}
+use Rattle.idlc_main.specs.declared.fault.Fault.TheVariants.{Words, NotText, Refused, Unsaid, NotCompiled, Explained, NotReference, NotSpelled, NoOperation, NotCalled, NotServed, Socket, NoRefusal, Unwritten, NoMemory}
 
 abbrev pub status_of_refusal : Refusal → ℕ
 status_of_refusal (refusals.Unread file) = 3
@@ -25,6 +31,10 @@ abbrev pub status_of_reference : ReferenceFault → ℕ
 status_of_reference references.BadIor = 1
 status_of_reference references.NoMemory = 4
 
+abbrev pub status_of_spelling : SpellingFault → ℕ
+status_of_spelling spellings.NoMemory = 4
+status_of_spelling fault = 1
+
 -- 1 for refused input, 2 for usage, 3 for files, sockets and standard output, 4 for want of memory
 abbrev pub status_of : Fault → ℕ
 status_of (Words mistake) = 2
@@ -34,6 +44,9 @@ status_of (Unsaid fault) = 1
 status_of (NotCompiled refusal) = 1
 status_of (Explained refusal view) = 1
 status_of (NotReference fault) = status_of_reference fault
+status_of (NotSpelled fault) = status_of_spelling fault
+status_of (NoOperation word) = 1
+status_of (NotCalled refusal) = 1
 status_of (NotServed fault) = 1
 status_of Socket = 3
 status_of (NoRefusal word) = 2
@@ -50,6 +63,14 @@ fault_of_service serve_faults.Socket = Socket
 fault_of_service serve_faults.Unwritten = Unwritten
 fault_of_service serve_faults.NoMemory = NoMemory
 fault_of_service fault = NotServed fault
+
+abbrev pub fault_of_cause : Cause → CallRefusal → Fault
+fault_of_cause causes.Input refusal = NotCalled refusal
+fault_of_cause causes.Socket refusal = Socket
+fault_of_cause causes.Memory refusal = NoMemory
+
+abbrev pub fault_of_call : CallRefusal → Fault
+fault_of_call refusal = fault_of_cause (cause_of refusal) refusal
 
 abbrev pub fault_of_words : Mistake → Fault
 fault_of_words mistakes.NoMemory = NoMemory

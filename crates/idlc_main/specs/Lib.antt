@@ -1,5 +1,6 @@
 pub mod Files
 pub mod Answer
+pub mod Called
 pub mod Descriptions
 pub mod Fault
 pub mod Service

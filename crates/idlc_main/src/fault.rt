@@ -1,21 +1,40 @@
 //! Why a run of the program didn't do what was asked for.
 
 ghost use Rattle.std.specs.Prelude.{◌≡◌, ◌≤◌};
-ghost use Rattle.idlc_main.specs.Fault.{fault_of_named, fault_of_service, fault_of_source, fault_of_words, status_of_reference, status_of_refusal};
-ghost use Rattle.idlc_main.specs.declared.fault.Fault.TheVariants.{NoMemory, Refused};
+ghost use Rattle.idlc_main.specs.Fault.{fault_of_named, fault_of_service, fault_of_source, fault_of_words, fault_of_call, status_of_reference, status_of_refusal, status_of_spelling};
+ghost use Rattle.idlc_main.specs.declared.fault.Fault.TheVariants.{NoMemory, NotSpelled, Refused};
 
+use call_commands::{CallRefusal, Cause};
 use command_words::Mistake;
 use idl_compiler::CompileRefusal;
 use named_tables::NamedFault;
 use object_references::ReferenceFault;
 use socket_server::ServeFault;
+use spelled_references::SpellingFault;
 use std::alloc::AllocError;
 use std::fmt;
 use table_commands::Refusal;
 use thiserror::Error;
 use value_text::Refusal as TextFault;
 
-/// A word for a refusal, a number where it begins with a digit. Control characters are escaped.
+/// A word, with its control characters escaped.
+#[derive(Clone, Copy)]
+struct Plain<'a>(&'a str);
+
+impl<'a> fmt::Display for Plain<'a> {
+    fn fmt<W: fmt::Write>(&self, f: &mut fmt::Formatter<W>) -> fmt::Result {
+        for c in self.0.chars() {
+            if c.is_control() {
+                write!(f, "\\x{:02x}", c as u32)?;
+            } else {
+                write!(f, "{c}")?;
+            }
+        }
+        Ok(())
+    }
+}
+
+/// A word for a refusal, a number where it begins with a digit.
 #[derive(Clone, Copy)]
 struct Meant<'a>(&'a str);
 
@@ -26,14 +45,7 @@ impl<'a> fmt::Display for Meant<'a> {
         } else {
             "name "
         })?;
-        for c in self.0.chars() {
-            if c.is_control() {
-                write!(f, "\\x{:02x}", c as u32)?;
-            } else {
-                write!(f, "{c}")?;
-            }
-        }
-        Ok(())
+        write!(f, "{}", Plain(self.0))
     }
 }
 
@@ -63,10 +75,22 @@ pub enum Fault<'a> {
     /// A text spells no reference.
     #[error(transparent)]
     NotReference(ReferenceFault),
+    /// A text spells no reference, in digits or as a URL.
+    #[error(transparent)]
+    NotSpelled(SpellingFault),
+    /// The object that is to be called has no operation of the name.
+    #[error("no operation {}", Plain(.word))]
+    NoOperation {
+        word: &'a str,
+    },
+    /// The arguments are none, or what the server said is no answer.
+    #[error(transparent)]
+    NotCalled(CallRefusal),
     /// There is no such object to serve.
     #[error(transparent)]
     NotServed(ServeFault<'a>),
-    /// The port can't be listened on, or a connection can't be accepted.
+    /// The port can't be listened on, or a connection can't be accepted; or no connection can be made to
+    /// the object that is to be called, or it was lost before the answer.
     #[error("socket")]
     Socket,
     /// No refusal has the number or the name whose meaning is asked for.
@@ -103,6 +127,16 @@ fn reference_status(fault: &ReferenceFault) -> u8
     }
 }
 
+fn spelling_status(fault: &SpellingFault) -> u8
+    ensures status { result ≡ status_of_spelling fault.now }
+    ensures range { (1 ≤ result) × (result ≤ 4) }
+{
+    match fault {
+        SpellingFault::BadIor | SpellingFault::BadCorbaloc => 1,
+        SpellingFault::NoMemory => 4,
+    }
+}
+
 impl<'a> Fault<'a> {
     ghost use Rattle.idlc_main.specs.Fault.{status_of};
 
@@ -115,9 +149,12 @@ impl<'a> Fault<'a> {
         match self {
             Fault::Refused(refusal) => refused_status(refusal),
             Fault::NotReference(fault) => reference_status(fault),
+            Fault::NotSpelled(fault) => spelling_status(fault),
             Fault::Unsaid(_)
             | Fault::NotCompiled(_)
             | Fault::Explained { .. }
+            | Fault::NoOperation { .. }
+            | Fault::NotCalled(_)
             | Fault::NotServed(_) => 1,
             Fault::Words(_) | Fault::NotText | Fault::NoRefusal { .. } => 2,
             Fault::Socket | Fault::Unwritten => 3,
@@ -185,6 +222,26 @@ impl<'a> From<ServeFault<'a>> for Fault<'a> {
             ServeFault::Unwritten => Fault::Unwritten,
             ServeFault::NoMemory => Fault::NoMemory,
             fault => Fault::NotServed(fault),
+        }
+    }
+}
+
+impl<'a> From<SpellingFault> for Fault<'a> {
+    ghost from_gives = { λ fault given. given ≡ NotSpelled fault };
+
+    fn from(fault: SpellingFault) -> Fault<'a> {
+        Fault::NotSpelled(fault)
+    }
+}
+
+impl<'a> From<CallRefusal> for Fault<'a> {
+    ghost from_gives = { λ refusal fault. fault ≡ fault_of_call refusal };
+
+    fn from(refusal: CallRefusal) -> Fault<'a> {
+        match refusal.cause() {
+            Cause::Input => Fault::NotCalled(refusal),
+            Cause::Socket => Fault::Socket,
+            Cause::Memory => Fault::NoMemory,
         }
     }
 }

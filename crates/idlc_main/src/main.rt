@@ -9,17 +9,22 @@ ghost use Rattle.idlc_main.specs.Fault.{status_of};
 ghost use Rattle.command_words.specs.Ask.{Ask};
 ghost use Rattle.command_words.specs.Words.{AsksFor, IsMistaken, texts};
 ghost use Rattle.idlc_main.specs.Answer.{IsEndOf, MayServe};
+ghost use Rattle.idlc_main.specs.Called.{status_of_end};
 
+mod calls;
 mod descriptions;
 mod fault;
 mod service;
 mod tasks;
+mod times;
 mod told;
 
+use crate::calls::{CallEnd, Concluded, called};
 use crate::fault::Fault;
 use crate::service::served;
 use crate::tasks::done;
 use crate::told::Answer;
+use call_commands::ExceptionLine;
 use command_words::{Said, parse};
 use socket_server::Totals;
 use std::alloc::AllocError;
@@ -33,6 +38,12 @@ use table_commands::WholeFiles;
 
 /// The status of a run that did what was asked for, help included.
 const DONE: u8 = 0;
+
+/// That of a call that raised an exception of its operation.
+const RAISED: u8 = 5;
+
+/// That of a call that failed with a system exception.
+const FAILED: u8 = 6;
 
 /// Tells a fault on standard error, and gives its status. Nobody hears of an error there.
 fn failed<E: io::Write>(err: &mut E, fault: &Fault<'_>) -> u8
@@ -61,6 +72,36 @@ fn say<O: io::Write, E: io::Write>(out: &mut O, err: &mut E, answer: &Answer) ->
     DONE
 }
 
+/// Tells of the end of a call: a system exception on standard error, and the status.
+fn told<E: io::Write>(err: &mut E, end: &CallEnd) -> u8
+    ensures { result ≡ status_of_end end.now }
+{
+    match end {
+        CallEnd::Done => DONE,
+        CallEnd::Raised => RAISED,
+        CallEnd::Failed(exception) => {
+            let _ = writeln!(err, "idlc: {}", ExceptionLine(exception));
+            FAILED
+        }
+    }
+}
+
+/// Puts the text of calls on standard output, tells on standard error what else is told, and gives the
+/// status.
+fn conclude<O: io::Write, E: io::Write>(out: &mut O, err: &mut E, concluded: &Concluded) -> u8
+    ensures status { (result ≡ 3) ⊎ (result ≡ status_of_end concluded.now.end) }
+    ensures said { result ≢ 3 → Appends (O.contents out.old) (O.contents out.new) (string_bytes concluded.now.text) }
+{
+    if out.write_all(concluded.text.as_bytes()).is_err() || out.flush().is_err() {
+        return failed(err, &Fault::Unwritten);
+    }
+    let status = told(err, &concluded.end);
+    if let Some(times) = &concluded.times {
+        let _ = writeln!(err, "idlc: {times}");
+    }
+    status
+}
+
 /// Tells a person how much was served.
 fn tell<E: io::Write>(err: &mut E, totals: &Totals, is_for_person: bool) {
     if is_for_person {
@@ -70,9 +111,10 @@ fn tell<E: io::Write>(err: &mut E, totals: &Totals, is_for_person: bool) {
 
 /// Runs the program on words, of which the first is its name, and gives its status: 0 where it did
 /// what was asked for, 1 for refused input, 2 for usage, 3 for files and standard output, 4 for
-/// want of memory. Standard output has the answer or nothing, where calls are served the line that
-/// says so; a fault is told on standard error, for a person with all that is known of it, and to a
-/// person too how much was served.
+/// want of memory; where an object is called, 5 for an exception of its operation and 6 for a system
+/// exception. Standard output has the answer or nothing, where calls are served the line that says so;
+/// a fault is told on standard error, for a person with all that is known of it, and to a person too
+/// how much was served.
 fn run_for<R: WholeFiles + Net + Clock + Eprint + AllocGlobal, O: io::Write, E: io::Write>(
     rt: &R,
     words: &[&str],
@@ -80,7 +122,7 @@ fn run_for<R: WholeFiles + Net + Clock + Eprint + AllocGlobal, O: io::Write, E: 
     err: &mut E,
     is_for_person: bool,
 ) -> u8
-    ensures range { result ≤ 4 }
+    ensures range { result ≤ 6 }
     ensures asked { (ask : Ask) → AsksFor (texts words.now) ask
         → IsEndOf (R.reads rt.now) ask result (O.contents out.old) (O.contents out.new) }
     ensures kept { (ask : Ask) → AsksFor (texts words.now) ask → result ≢ 0 → result ≢ 3 → out.new ≡ out.old }
@@ -101,21 +143,26 @@ fn run_for<R: WholeFiles + Net + Clock + Eprint + AllocGlobal, O: io::Write, E: 
             }
             Err(fault) => failed(err, &fault),
         },
+        Ok(Said::Call(task)) => match called(rt, &task, is_for_person) {
+            Ok(concluded) => conclude(out, err, &concluded),
+            Err(fault) => failed(err, &fault),
+        },
         Err(mistake) => failed(err, &Fault::from(mistake)),
     }
 }
 
 /// Runs the program on words, of which the first is its name, and gives its status: 0 where it did
 /// what was asked for, 1 for refused input, 2 for usage, 3 for files and standard output, 4 for
-/// want of memory. Standard output has the answer or nothing, where calls are served the line that
-/// says so; a fault is told on standard error.
+/// want of memory; where an object is called, 5 for an exception of its operation and 6 for a system
+/// exception. Standard output has the answer or nothing, where calls are served the line that says so;
+/// a fault is told on standard error.
 pub fn run<R: WholeFiles + Net + Clock + Eprint + AllocGlobal, O: io::Write, E: io::Write>(
     rt: &R,
     words: &[&str],
     out: &mut O,
     err: &mut E,
 ) -> u8
-    ensures range { result ≤ 4 }
+    ensures range { result ≤ 6 }
     ensures asked { (ask : Ask) → AsksFor (texts words.now) ask
         → IsEndOf (R.reads rt.now) ask result (O.contents out.old) (O.contents out.new) }
     ensures kept { (ask : Ask) → AsksFor (texts words.now) ask → result ≢ 0 → result ≢ 3 → out.new ≡ out.old }

@@ -1,5 +1,5 @@
 -- Calls by the profiles of references.
-use Rattle.std.proofs.Common.{◌≡◌, ℕ, suc, ◌+◌, ◌<◌, List, [], ◌∷◌, ◌++◌, length, take, drop, get_or, refl, sym, ap, ◌∙◌, subst, append_assoc, append-nil, Result}
+use Rattle.std.proofs.Common.{◌≡◌, ℕ, suc, ◌+◌, ◌<◌, List, [], ◌∷◌, ◌++◌, length, take, drop, get_or, refl, sym, ap, ◌∙◌, subst, append_assoc, append-nil, Option, Result}
 use Rattle.std.specs.declared.vec.Vec.{Vec}
 use Rattle.std.specs.declared.alloc.Global.{Global}
 use Rattle.iiop_broker.specs.Outcomes.{Ends}
@@ -16,7 +16,7 @@ use Rattle.object_calls.proofs.Rows.{missed_next, rows_split}
 module _ (Told Mid Told' : List Ends → Type 0) (ps : List ListedProfile) (i : ℕ) (p : ListedProfile)
     (within : i < length ps) (is : p ≡ get_or ps i p) (lines mid lines' : List Line)
     (vain : IsUnreached Told Mid (all_missed (rows_of (take i ps))) lines mid) where
-  pub talked : (ask : Asking) (profile : IiopProfile) → p ≡ listed.Iiop profile → (result : Result Answer CallFault)
+  pub talked : (ask : Asking) (profile : IiopProfile) → p ≡ listed.Iiop profile → (result : Result (Option Answer) CallFault)
       → IsTalkTo Mid Told' ask (iiop_of profile) mid result lines' → IsTalkBy Told Told' ask (rows_of ps) lines result lines'
   talked ask profile iiop result to = record {
     before = rows_of (take i ps);

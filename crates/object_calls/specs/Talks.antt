@@ -27,7 +27,7 @@ asking request body reads = record { request = request; body = body; reads = rea
 -- behind the lines so far and those that were missed a connection was made to the host and the port, the call was made
 -- on it, and it was handed back
 pub record IsTalk (Told Told' : Telling) (ask : Asking) (host : List ℕ) (port : ℕ) (lines : List Line)
-    (result : Result Answer CallFault) (lines' : List Line) : Type 0 where
+    (result : Result (Option Answer) CallFault) (lines' : List Line) : Type 0 where
   pub from : Ends
   pub to : Ends
   pub lines_are : lines' ≡ lines ++ made host port from ∷ []
@@ -40,13 +40,13 @@ pub record IsUnreached (Told Told' : Telling) (vain : List Line) (lines lines' :
   pub gone : (all : List Ends) → Told all → Told' all
 
 -- By what is told of the lines and of the connections that were handed back, before and after.
-abbrev pub IsCalledAt : Telling → Telling → Asking → List ℕ → ℕ → List Line → Result Answer ReachFault → List Line → Type 0
+abbrev pub IsCalledAt : Telling → Telling → Asking → List ℕ → ℕ → List Line → Result (Option Answer) ReachFault → List Line → Type 0
 IsCalledAt Told Told' ask host port lines (Ok answer) lines' = IsTalk Told Told' ask host port lines (Ok answer) lines'
 IsCalledAt Told Told' ask host port lines (Err NotReached) lines' =
     IsUnreached Told Told' (missed host port ∷ []) lines lines'
 IsCalledAt Told Told' ask host port lines (Err (NotCalled fault)) lines' =
     IsTalk Told Told' ask host port lines (Err fault) lines'
-IsCalledAt Told Told' ask host port lines (Err NoMemory) lines' = ⊥
+IsCalledAt Told Told' ask host port lines (Err NoMemory) lines' = IsUnreached Told Told' [] lines lines'
 
 -- ---- by a reference
 
@@ -60,12 +60,12 @@ pub record IsTo (key : List ℕ) (request other : Request) : Type 0 where
 
 -- the call was made at the host and the port of a profile, of the object with its key
 pub record IsTalkTo (Told Told' : Telling) (ask : Asking) (iiop : Iiop) (lines : List Line)
-    (result : Result Answer CallFault) (lines' : List Line) : Type 0 where
+    (result : Result (Option Answer) CallFault) (lines' : List Line) : Type 0 where
   pub request : Request
   pub to_object : IsTo iiop.body.key ask.request request
   pub talk : IsTalk Told Told' (asking request ask.body ask.reads) iiop.body.host iiop.body.port lines result lines'
 
-abbrev pub IsCalledTo : Telling → Telling → Asking → Iiop → List Line → Result Answer ReachFault → List Line → Type 0
+abbrev pub IsCalledTo : Telling → Telling → Asking → Iiop → List Line → Result (Option Answer) ReachFault → List Line → Type 0
 IsCalledTo Told Told' ask iiop lines (Ok answer) lines' = IsTalkTo Told Told' ask iiop lines (Ok answer) lines'
 IsCalledTo Told Told' ask iiop lines (Err NotReached) lines' =
     IsUnreached Told Told' (missed iiop.body.host iiop.body.port ∷ []) lines lines'
@@ -75,7 +75,7 @@ IsCalledTo Told Told' ask iiop lines (Err NoMemory) lines' = IsUnreached Told To
 
 -- it was so by the first profile of IIOP whose host and port could be reached
 pub record IsTalkBy (Told Told' : Telling) (ask : Asking) (rows : List Row) (lines : List Line)
-    (result : Result Answer CallFault) (lines' : List Line) : Type 0 where
+    (result : Result (Option Answer) CallFault) (lines' : List Line) : Type 0 where
   pub before : List Row
   pub iiop : Iiop
   pub behind : List Row
@@ -87,7 +87,7 @@ pub record IsGivenUp (Told Told' : Telling) (lines lines' : List Line) : Type 0 
   pub vain : List Line
   pub unreached : IsUnreached Told Told' vain lines lines'
 
-abbrev pub IsCalledBy : Telling → Telling → Asking → List Row → List Line → Result Answer ReachFault → List Line → Type 0
+abbrev pub IsCalledBy : Telling → Telling → Asking → List Row → List Line → Result (Option Answer) ReachFault → List Line → Type 0
 IsCalledBy Told Told' ask rows lines (Ok answer) lines' = IsTalkBy Told Told' ask rows lines (Ok answer) lines'
 IsCalledBy Told Told' ask rows lines (Err NotReached) lines' = IsUnreached Told Told' (all_missed rows) lines lines'
 IsCalledBy Told Told' ask rows lines (Err (NotCalled fault)) lines' = IsTalkBy Told Told' ask rows lines (Err fault) lines'

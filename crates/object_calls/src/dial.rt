@@ -1,10 +1,19 @@
 //! Connections to servers.
 
-ghost use Rattle.std.specs.Prelude.{◌≡◌, ◌∷◌, ◌++◌, [], List, IfOk, OnErr};
+ghost use Rattle.std.specs.Prelude.{◌≡◌, ◌∷◌, ◌++◌, [], List, IfErr, IfOk};
 ghost use Rattle.iiop_broker.specs.Outcomes.{Ends, ends};
-ghost use Rattle.object_calls.specs.Lines.{Line, made, missed};
+ghost use Rattle.object_calls.specs.Lines.{Line, made, vain_of};
 
-use iiop_broker::{Failed, Input, Output};
+use iiop_broker::{Input, Output};
+
+/// Why there is no connection.
+#[derive(Clone, Copy, Debug, PartialEq, Eq)]
+pub enum DialFault {
+    /// None can be made.
+    NotReached,
+    /// Nothing was dialled.
+    NoMemory,
+}
 
 /// Makes connections to servers, one after the other. It tells which port of which host was dialled
 /// each time, with what the reader and the writer of the connection told then, if one was made, and
@@ -21,11 +30,11 @@ pub trait Dial {
     /// A connection to a port of a host: its reader and its writer.
     ///
     /// # Errors
-    /// No connection can be made.
-    fn dial(&mut self, host: &[u8], port: u16) -> Result<(Self::Reader, Self::Writer), Failed>
+    /// No connection can be made; want of memory, and then nothing was dialled.
+    fn dial(&mut self, host: &[u8], port: u16) -> Result<(Self::Reader, Self::Writer), DialFault>
         ensures made { IfOk result (λ it. lines self.new ≡ lines self.old
             ++ made host.now port (ends (Self.Reader.left it.0) (Self.Writer.written it.1) (Self.Reader.failure it.0) (Self.Writer.failure it.1)) ∷ []) }
-        ensures missed { OnErr result (lines self.new ≡ lines self.old ++ missed host.now port ∷ []) }
+        ensures missed { IfErr result (λ fault. lines self.new ≡ lines self.old ++ vain_of fault host.now port) }
         ensures went { (all : List Ends) → went self.old all → went self.new all };
 
     /// Takes back the connection that was made last.

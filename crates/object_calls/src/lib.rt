@@ -7,6 +7,6 @@ mod fault;
 mod reached;
 
 pub use calling::call_at;
-pub use dial::Dial;
+pub use dial::{Dial, DialFault};
 pub use fault::ReachFault;
 pub use reached::call_by;

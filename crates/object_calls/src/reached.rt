@@ -58,7 +58,7 @@ fn call_to<D: Dial>(
     request: &Request<'_>,
     body: Option<Body<'_>>,
     reads: u64,
-) -> Result<Answer, ReachFault>
+) -> Result<Option<Answer>, ReachFault>
     requires { ForSome body (λ b. IsNamed b.0.now.model.names b.1) }
     ensures { IsCalledTo (D.went dial.old) (D.went dial.new) (asking request.now (given_by body.entry) reads)
         (iiop_of profile.now) (D.lines dial.old) result (D.lines dial.new) }
@@ -94,7 +94,7 @@ pub fn call_by<D: Dial>(
     request: &Request<'_>,
     body: Option<Body<'_>>,
     reads: u64,
-) -> Result<Answer, ReachFault>
+) -> Result<Option<Answer>, ReachFault>
     requires { ForSome body (λ b. IsNamed b.0.now.model.names b.1) }
     ensures { IsCalledBy (D.went dial.old) (D.went dial.new) (asking request.now (given_by body.entry) reads)
         (rows_of profiles.now) (D.lines dial.old) result (D.lines dial.new) }

@@ -1,4 +1,3 @@
-use Rattle.std.proofs.Common.{sym, subst, List, ℕ}
 use Rattle.fault_texts.specs.Named.{AreTexts}
 use Rattle.fault_texts.proofs.named.explanations.Goals as goal
 

@@ -1,5 +1,5 @@
 use Rattle.std.proofs.Common.{◌≡◌, ◌∙◌, ap, sym, Some, List, ℕ}
-use Rattle.fault_texts.specs.Headings.{first_line, heading}
+use Rattle.fault_texts.specs.Headings.{heading}
 use Rattle.fault_texts.specs.Named.{is_of, means}
 use Rattle.fault_texts.proofs.named.meant.Goals as goal
 use Rattle.fault_texts.proofs.named.meant.Goals.{in_default-via-in-Some+else-is_of, in_default-via-in_default}

@@ -1,11 +1,11 @@
-use Rattle.std.proofs.Common.{List, subst, sym}
+use Rattle.std.proofs.Common.{List, Some, None, Ok, subst, sym}
 use Rattle.giop.specs.Made.{given_by}
 use Rattle.object_references.specs.References.{reference_of}
 use Rattle.reference_listing.specs.declared.listing.ListedProfile.{ListedProfile}
 use Rattle.reference_listing.specs.Listings.{AreRows, rows_of}
 use Rattle.object_calls.specs.Talks.{asking}
 use Rattle.followed_calls.specs.Wanted.{called_of}
-use Rattle.followed_calls.proofs.Hops.{answered, unanswered}
+use Rattle.followed_calls.proofs.Hops.{answered, sent, unanswered}
 use Rattle.followed_calls.proofs.once.call_once.Goals as goal
 
 pub returns-in-Ok-call_by : goal.returns-in-Ok-call_by

@@ -1,0 +1,35 @@
+-- How calls end, by their outcomes.
+use Rattle.std.proofs.Common.{◌≡◌, List, sym, subst, Option, Some, Result, Ok, Err}
+use Rattle.object_references.specs.References.{Reference}
+use Rattle.call_texts.specs.declared.outcome.Outcome.{Outcome}
+use Rattle.call_texts.specs.declared.outcome.Outcome.TheVariants as outcomes
+use Rattle.object_calls.specs.Lines.{Line}
+use Rattle.object_calls.specs.Talks.{Telling}
+use Rattle.call_commands.specs.Calls.{IsCarriedOut, IsEnding, IsLastOutcome, IsSaid}
+use Rattle.call_commands.specs.Choices.{Choice}
+use Rattle.call_commands.specs.declared.ask.TextCall.{TextCall}
+use Rattle.call_commands.specs.declared.ending.Ending.{Ending}
+use Rattle.call_commands.specs.declared.fault.CallRefusal.{CallRefusal}
+use Rattle.call_commands.specs.declared.fault.CallRefusal.TheVariants.{NoOperation, Unsaid, Unanswered, Readdressed, NoMemory}
+
+module _ (Told Told' : Telling) (choice : Choice) (ask : TextCall) (reference : Reference) (lines lines' : List Line) where
+  -- the last reply doesn't say that the object is elsewhere
+  pub last : (outcome : Outcome) → IsSaid Told Told' choice ask reference lines (Ok (Some outcome)) lines'
+      → IsLastOutcome outcome
+  last (outcomes.Forwarded ior) said = said.followed.ends
+  last (outcomes.Returned text) said = tt
+  last (outcomes.Raised text) said = tt
+  last (outcomes.Failed exception) said = tt
+  last outcomes.Readdressed said = tt
+
+  pub ended : (outcome : Outcome) (result : Result Ending CallRefusal) → IsEnding outcome result
+      → IsSaid Told Told' choice ask reference lines (Ok (Some outcome)) lines'
+      → IsCarriedOut Told Told' choice ask reference lines result lines'
+  ended outcome (Ok ending) is said =
+      subst (λ (o : Option Outcome). IsSaid Told Told' choice ask reference lines (Ok o) lines') (sym is) said
+  ended outcome (Err Readdressed) is said =
+      subst (λ (o : Outcome). IsSaid Told Told' choice ask reference lines (Ok (Some o)) lines') is said
+  ended outcome (Err NoOperation) is said = absurd is
+  ended outcome (Err (Unsaid fault)) is said = absurd is
+  ended outcome (Err (Unanswered fault)) is said = absurd is
+  ended outcome (Err NoMemory) is said = absurd is

@@ -1,0 +1,92 @@
+-- A call with its arguments as text, and how it ends.
+use Rattle.std.specs.Prelude.{◌≡◌, ℕ, Bool, true, false, List, Option, Some, None, Result, Ok, Err}
+use Rattle.type_graph.specs.declared.width.Order.{Order}
+use Rattle.giop.specs.Made.{given}
+use Rattle.giop_messages.specs.Written.{Given}
+use Rattle.giop_client.specs.declared.request.Request.{Request}
+use Rattle.object_references.specs.References.{Reference}
+use Rattle.call_texts.specs.Bodies.{IsTapeOfText, SaysNone}
+use Rattle.call_texts.specs.Outcomes.{called}
+use Rattle.call_texts.specs.declared.outcome.Outcome.{Outcome}
+use Rattle.call_texts.specs.declared.outcome.Outcome.TheVariants as outcomes
+use Rattle.object_calls.specs.Lines.{Line}
+use Rattle.object_calls.specs.Talks.{Telling, asking}
+use Rattle.followed_calls.specs.Followed.{IsFollowed}
+use Rattle.followed_calls.specs.declared.fault.ObjectFault.{ObjectFault}
+use Rattle.call_commands.specs.Choices.{Choice, chosen}
+use Rattle.call_commands.specs.declared.ask.TextCall.{TextCall}
+use Rattle.call_commands.specs.declared.ask.Types.{Types}
+use Rattle.call_commands.specs.declared.ending.Ending.{Ending}
+use Rattle.call_commands.specs.declared.ending.Ending.TheVariants.{Returned, Raised, Failed, Sent}
+use Rattle.call_commands.specs.declared.fault.CallRefusal.{CallRefusal}
+use Rattle.call_commands.specs.declared.fault.CallRefusal.TheVariants.{NoOperation, Unsaid, Unanswered, Readdressed, NoMemory}
+
+-- which answers a request wants: none of a oneway operation, else all (response_flags)
+abbrev pub flags : Bool → ℕ
+flags true = 0
+flags false = 3
+
+-- the request of an operation as it is asked for; of which object, its profile says
+pub record IsRequestOf (choice : Choice) (ask : TextCall) (request : Request) : Type 0 where
+  pub order_is : request.order ≡ ask.order
+  pub id_is : request.id ≡ ask.id
+  pub flags_is : request.flags ≡ flags choice.oneway
+  pub operation_is : request.operation.now ≡ choice.name
+
+-- It was sent with the arguments that the text says, and followed to where the object is.
+pub record IsSaid (Told Told' : Telling) (choice : Choice) (ask : TextCall) (reference : Reference) (lines : List Line)
+    (result : Result (Option Outcome) ObjectFault) (lines' : List Line) : Type 0 where
+  pub tape : List ℕ
+  pub arguments : IsTapeOfText choice.labels choice.model.graph choice.request ask.value.now tape
+  pub request : Request
+  pub request_is : IsRequestOf choice ask request
+  pub followed : IsFollowed Told Told' (asking request (Some (given choice.model.graph choice.request tape)) ask.reads)
+      (called choice.model choice.labels choice.reply choice.exceptions) reference lines result lines'
+
+abbrev pub outcome_of : Ending → Option Outcome
+outcome_of (Returned text) = Some (outcomes.Returned text)
+outcome_of (Raised text) = Some (outcomes.Raised text)
+outcome_of (Failed exception) = Some (outcomes.Failed exception)
+outcome_of Sent = None
+
+abbrev pub IsLastOutcome : Outcome → Type 0
+IsLastOutcome (outcomes.Forwarded ior) = ⊥
+IsLastOutcome outcome = Unit {0}
+
+-- the ending of an outcome
+abbrev pub IsEnding : Outcome → Result Ending CallRefusal → Type 0
+IsEnding outcome (Ok ending) = outcome_of ending ≡ Some outcome
+IsEnding outcome (Err Readdressed) = outcome ≡ outcomes.Readdressed
+IsEnding outcome (Err refusal) = ⊥
+
+-- how the call of an operation ends; where it isn't sent, nothing was dialled
+abbrev pub IsCarriedOut : Telling → Telling → Choice → TextCall → Reference → List Line → Result Ending CallRefusal
+    → List Line → Type 0
+IsCarriedOut Told Told' choice ask reference lines (Ok ending) lines' =
+    IsSaid Told Told' choice ask reference lines (Ok (outcome_of ending)) lines'
+IsCarriedOut Told Told' choice ask reference lines (Err NoOperation) lines' = ⊥
+IsCarriedOut Told Told' choice ask reference lines (Err (Unsaid fault)) lines' =
+    SaysNone choice.labels choice.model.graph choice.request ask.value.now × (lines' ≡ lines)
+IsCarriedOut Told Told' choice ask reference lines (Err (Unanswered fault)) lines' =
+    IsSaid Told Told' choice ask reference lines (Err fault) lines'
+IsCarriedOut Told Told' choice ask reference lines (Err Readdressed) lines' =
+    IsSaid Told Told' choice ask reference lines (Ok (Some outcomes.Readdressed)) lines'
+IsCarriedOut Told Told' choice ask reference lines (Err NoMemory) lines' = Unit {0}
+
+-- the operation that the word names was called
+pub record IsCalledBy (Told Told' : Telling) (types : Types) (ask : TextCall) (reference : Reference) (lines : List Line)
+    (result : Result Ending CallRefusal) (lines' : List Line) : Type 0 where
+  pub choice : Choice
+  pub chosen_is : chosen types.table.now.model types.names.now reference.type_id ask.operation.now ≡ Some choice
+  pub is : IsCarriedOut Told Told' choice ask reference lines result lines'
+
+-- the word names none, and nothing was dialled
+pub record IsNameless (types : Types) (ask : TextCall) (reference : Reference) (lines lines' : List Line) : Type 0 where
+  pub none : chosen types.table.now.model types.names.now reference.type_id ask.operation.now ≡ None
+  pub lines_are : lines' ≡ lines
+
+abbrev pub IsTextCalled : Telling → Telling → Types → TextCall → Reference → List Line → Result Ending CallRefusal
+    → List Line → Type 0
+IsTextCalled Told Told' types ask reference lines (Err NoOperation) lines' = IsNameless types ask reference lines lines'
+IsTextCalled Told Told' types ask reference lines result lines' =
+    IsCalledBy Told Told' types ask reference lines result lines'

@@ -1,0 +1,91 @@
+//! Which operation is called.
+
+ghost use Rattle.std.specs.Prelude.{◌≡◌, option_map, IfSome};
+ghost use Rattle.giop_types.specs.GiopModel.{giop_table};
+ghost use Rattle.type_model.specs.Names.{IsNamed};
+ghost use Rattle.call_commands.specs.Choices.{choice_of, chosen as chosen_by, of_table, own as own_choice};
+
+use crate::ask::Types;
+use called_operations::operation_of;
+use giop_types::{BOOLEAN_RESULT, GiopTypes, ID_ARGUMENT, NO_ARGUMENT};
+use part_names::PartNames;
+use position_checker::Accepted;
+
+/// An operation with its types and the names of their parts: the frames of its arguments and of its
+/// result, and the exceptions that it may raise.
+#[derive(Clone, Copy)]
+pub(crate) struct Choice<'t> {
+    pub(crate) table: &'t Accepted,
+    pub(crate) names: &'t PartNames,
+    /// The name that a request carries.
+    pub(crate) name: &'t [u8],
+    pub(crate) request: u32,
+    pub(crate) reply: u32,
+    pub(crate) exceptions: &'t [u32],
+    pub(crate) oneway: bool,
+}
+
+/// The operation of a number.
+fn choice_at<'t>(table: &'t Accepted, names: &'t PartNames, number: u32) -> Option<Choice<'t>>
+    ensures is { option_map choice_of result ≡ of_table table.now.model names.now number }
+    ensures request { IfSome result (λ c. IsNamed c.table.now.model.names c.request) }
+    ensures reply { IfSome result (λ c. IsNamed c.table.now.model.names c.reply) }
+{
+    match table.table().model().operations().get(number as usize) {
+        Some(operation) => Some(Choice {
+            table,
+            names,
+            name: operation.name.as_str().as_bytes(),
+            request: operation.request,
+            reply: operation.reply,
+            exceptions: operation.exceptions.as_slice(),
+            oneway: operation.oneway,
+        }),
+        None => None,
+    }
+}
+
+/// The operation of this name that every object has (ISO/IEC 19500-1, Object Reference Operations).
+fn own<'t>(types: &'t GiopTypes, nameless: &'t PartNames, word: &[u8]) -> Option<Choice<'t>>
+    requires { nameless.now ≡ [] }
+    ensures is { option_map choice_of result ≡ own_choice word.now }
+    ensures request { IfSome result (λ c. IsNamed c.table.now.model.names c.request) }
+    ensures reply { IfSome result (λ c. IsNamed c.table.now.model.names c.reply) }
+{
+    let (name, request) = if word == b"_is_a".as_slice() {
+        (b"_is_a".as_slice(), ID_ARGUMENT)
+    } else if word == b"_non_existent".as_slice() {
+        (b"_non_existent".as_slice(), NO_ARGUMENT)
+    } else {
+        return None;
+    };
+    Some(Choice {
+        table: types.table(),
+        names: nameless,
+        name,
+        request,
+        reply: BOOLEAN_RESULT,
+        exceptions: &[],
+        oneway: false,
+    })
+}
+
+/// The operation that a word names for an object whose reference has an id: one of the table's, or one
+/// that every object has.
+pub(crate) fn choose<'t>(
+    types: &Types<'t>,
+    nameless: &'t PartNames,
+    id: &[u8],
+    word: &[u8],
+) -> Option<Choice<'t>>
+    requires { nameless.now ≡ [] }
+    ensures is { option_map choice_of result
+        ≡ chosen_by types.now.table.now.model types.now.names.now id.now word.now }
+    ensures request { IfSome result (λ c. IsNamed c.table.now.model.names c.request) }
+    ensures reply { IfSome result (λ c. IsNamed c.table.now.model.names c.reply) }
+{
+    match operation_of(types.table.table().model(), id, word) {
+        Some(number) => choice_at(types.table, types.names, number),
+        None => own(types.types, nameless, word),
+    }
+}

@@ -1,0 +1,36 @@
+//! Calls by words for operations and texts for arguments.
+
+ghost use Rattle.object_references.specs.References.{reference_of};
+ghost use Rattle.call_commands.specs.Calls.{IsTextCalled};
+
+use crate::ask::{TextCall, Types};
+use crate::choice::choose;
+use crate::ending::Ending;
+use crate::fault::CallRefusal;
+use crate::sending::called;
+use object_calls::Dial;
+use object_references::Ior;
+use part_names::PartNames;
+use std::alloc::Global;
+
+/// Calls an operation of the object that a reference names, with the arguments that a text says.
+///
+/// # Errors
+/// `NoOperation`, `Unsaid` before anything is dialled; then as `call_object` of followed_calls says.
+/// `Readdressed` where the object is to be named in another form. Want of memory.
+pub fn call_text<D: Dial>(
+    types: &Types<'_>,
+    alloc: Global,
+    dial: &mut D,
+    ior: Ior,
+    ask: &TextCall<'_>,
+) -> Result<Ending, CallRefusal>
+    ensures { IsTextCalled (D.went dial.old) (D.went dial.new) types.now ask.now (reference_of ior) (D.lines dial.old) result
+        (D.lines dial.new) }
+{
+    let nameless = PartNames::new(alloc, Vec::new(alloc));
+    match choose(types, &nameless, ior.type_id.as_slice(), ask.operation.as_bytes()) {
+        Some(choice) => called(types, alloc, dial, ior, &choice, ask),
+        None => Err(CallRefusal::NoOperation),
+    }
+}

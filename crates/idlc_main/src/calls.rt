@@ -1,0 +1,195 @@
+//! Calls of objects.
+
+ghost use Rattle.std.specs.Prelude.{◌≡◌, ◌++◌, codes, IfOk};
+ghost use Rattle.std.specs.String.{string_bytes};
+ghost use Rattle.idlc_main.specs.Called.{IsConclusion};
+
+use crate::fault::Fault;
+use crate::times::Times;
+use crate::told::named_fault;
+use call_commands::{TextCall, CallRefusal, Ending, Types, call_text};
+use command_words::CallTask;
+use dialled_sockets::Dialler;
+use giop::Giop;
+use giop_types::GiopTypes;
+use named_tables::{Loaded, NamedFault, load, source_in, text_in};
+use reply_bodies::SystemException;
+use spelled_references::read_reference;
+use std::alloc::{AllocError, Global};
+use std::net::Net;
+use std::time::Clock;
+use table_commands::WholeFiles;
+
+/// The text of a call that has no arguments.
+const NO_ARGUMENTS: &str = "[]";
+
+/// So many reads may give octets: the time of the call ends them.
+const READS: u64 = u64::MAX;
+
+/// How the last call ended: with a result or none that was wanted, with an exception of its operation, or
+/// with a system exception.
+#[derive(Drop)]
+pub enum CallEnd {
+    Done,
+    Raised,
+    Failed(SystemException),
+}
+
+/// The text for standard output, how the last call ended, and of more than one how long they took.
+#[derive(Drop)]
+pub struct Concluded {
+    pub text: String,
+    pub end: CallEnd,
+    pub times: Option<Times>,
+}
+
+/// The text that a word stands for: itself, or that of a file.
+#[derive(Drop)]
+enum Text<'a> {
+    Own(&'a str),
+    OfFile(String),
+}
+
+impl Text<'_> {
+    fn as_str(&self) -> &str {
+        match self {
+            Text::Own(text) => text,
+            Text::OfFile(text) => text.as_str(),
+        }
+    }
+}
+
+fn text_of<'a, R: WholeFiles + AllocGlobal>(rt: &R, word: &'a str) -> Result<Text<'a>, NamedFault<'a>> {
+    let Some(file) = source_in(word) else {
+        return Ok(Text::Own(word));
+    };
+    match text_in(rt, file) {
+        Ok(text) => Ok(Text::OfFile(text)),
+        Err(fault) => Err(fault),
+    }
+}
+
+/// What is used by each of the calls.
+#[derive(Clone, Copy)]
+struct Calling<'t, 'a> {
+    types: Types<'t>,
+    /// The text of the reference.
+    reference: &'t str,
+    value: &'t str,
+    task: &'t CallTask<'a>,
+}
+
+/// One call. The reference is read for it, since the call takes it.
+fn once<'a, R: Net + Clock + AllocGlobal>(
+    rt: &R,
+    dialler: &mut Dialler<'_, R>,
+    calling: &Calling<'_, 'a>,
+    id: u32,
+) -> Result<Ending, Fault<'a>> {
+    let task = calling.task;
+    let ior = read_reference(calling.types.types, rt.alloc(), calling.reference)?;
+    let ask = TextCall {
+        operation: task.operation,
+        value: calling.value,
+        order: task.order,
+        id,
+        reads: READS,
+    };
+    match call_text(&calling.types, rt.alloc(), dialler, ior, &ask) {
+        Ok(ending) => Ok(ending),
+        Err(CallRefusal::NoOperation) => Err(Fault::NoOperation {
+            word: task.operation,
+        }),
+        Err(refusal) => Err(Fault::from(refusal)),
+    }
+}
+
+/// Whether a call did what it is for.
+fn is_done(ending: &Ending) -> bool {
+    match ending {
+        Ending::Returned(_) | Ending::Sent => true,
+        Ending::Raised(_) | Ending::Failed(_) => false,
+    }
+}
+
+/// A text as a line.
+fn line(alloc: Global, text: &str) -> Result<String, AllocError>
+    ensures { IfOk result (λ line. string_bytes line ≡ text.now ++ codes "\n") }
+{
+    format!(in alloc; "{text}\n")
+}
+
+/// What is told of the end of the last call.
+fn conclusion(
+    alloc: Global,
+    ending: Ending,
+    times: Option<Times>,
+) -> Result<Concluded, AllocError>
+    ensures { IfOk result (IsConclusion ending) }
+{
+    let (text, end) = match ending {
+        Ending::Returned(text) => (line(alloc, text.as_str())?, CallEnd::Done),
+        Ending::Raised(text) => (line(alloc, text.as_str())?, CallEnd::Raised),
+        Ending::Failed(exception) => (String::new(alloc), CallEnd::Failed(exception)),
+        Ending::Sent => (String::new(alloc), CallEnd::Done),
+    };
+    Ok(Concluded { text, end, times })
+}
+
+/// Makes one call after the other, up to the first that raises an exception.
+fn repeated<'a, R: Net + Clock + AllocGlobal>(
+    rt: &R,
+    calling: &Calling<'_, 'a>,
+) -> Result<Concluded, Fault<'a>> {
+    let task = calling.task;
+    let mut dialler = Dialler::new(rt, rt.alloc(), task.wait);
+    let mut times = Times::new(rt);
+    let mut ending = Ending::Sent;
+    for count in 0..task.repeat {
+        times.begin(rt);
+        ending = once(rt, &mut dialler, calling, count + 1)?;
+        times.end(rt);
+        if !is_done(&ending) {
+            break;
+        }
+        dialler.go_on();
+    }
+    let times = if task.repeat > 1 { Some(times) } else { None };
+    Ok(conclusion(rt.alloc(), ending, times)?)
+}
+
+/// Calls an object with the table that was loaded.
+fn called_by<'a, R: WholeFiles + Net + Clock + AllocGlobal>(
+    rt: &R,
+    loaded: &Loaded,
+    task: &CallTask<'a>,
+) -> Result<Concluded, Fault<'a>> {
+    let reference = text_of(rt, task.reference)?;
+    let value = text_of(rt, task.value.unwrap_or(NO_ARGUMENTS))?;
+    let giop = Giop::new(rt.alloc())?;
+    let types = GiopTypes::new(rt.alloc())?;
+    let calling = Calling {
+        types: Types {
+            giop: &giop,
+            types: &types,
+            table: &loaded.table,
+            names: &loaded.names,
+        },
+        reference: reference.as_str().trim_ascii(),
+        value: value.as_str(),
+        task,
+    };
+    repeated(rt, &calling)
+}
+
+/// Calls an object by the table of a name, as often as is asked for.
+pub fn called<'a, R: WholeFiles + Net + Clock + AllocGlobal>(
+    rt: &R,
+    task: &CallTask<'a>,
+    is_for_person: bool,
+) -> Result<Concluded, Fault<'a>> {
+    match load(rt, task.table) {
+        Ok(loaded) => called_by(rt, &loaded, task),
+        Err(fault) => Err(named_fault(rt, task.table, fault, is_for_person)),
+    }
+}

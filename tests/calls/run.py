@@ -1,0 +1,296 @@
+"""Runs `idlc call` against `idlc serve` in another process, and against servers whose answers are written down: what it
+prints on both streams, its status, what the servers were asked, and that it ends in time.
+
+`./idlc` proves and builds what is missing of the program.
+"""
+import importlib.util
+import pathlib
+import re
+import socket
+import struct
+import subprocess
+import time
+
+from driver.suite import Count
+from driver.workspace import TOP
+
+PROGRAM = TOP / "crates" / "idlc_main" / "out" / "idlc_main"
+FOLDER = pathlib.Path(__file__).parent
+
+spec = importlib.util.spec_from_file_location("peer", FOLDER / "peer.py")
+peer = importlib.util.module_from_spec(spec)
+spec.loader.exec_module(peer)
+reply, fragment, message, text, saying = peer.reply, peer.fragment, peer.message, peer.text, peer.saying
+
+SUM = struct.pack(">ii", 7, 8) + text(b"hi")
+SAID = '{"_return":7,"b":8,"text":"hi"}\n'
+FULL = text(b"IDL:Shop/Full:1.0") + struct.pack(">i", 3) + text(b"no room")
+RAISED = '{"_id":"IDL:Shop/Full:1.0","room":3,"why":"no room"}\n'
+FAILURE = text(b"IDL:omg.org/CORBA/NO_PERMISSION:1.0") + struct.pack(">II", 0x4F4D0001, 1)
+FAILED = "idlc: IDL:omg.org/CORBA/NO_PERMISSION:1.0 minor 0x4f4d0001 COMPLETED_NO\n"
+SOCKET = (3, "", "idlc: socket\n")
+ADD = ("add", '{"a":5,"b":2}')
+
+
+class Calls:
+    """Calls of the program in a scratch folder, counted."""
+
+    def __init__(self, test):
+        self.folder = test.room / "files"
+        self.folder.mkdir()
+        self.count = Count(0, [])
+        self.table = FOLDER / "calls.idl"
+
+    def run(self, *words, given=None):
+        words = [str(word) for word in (PROGRAM, *words)]
+        begun = time.monotonic()
+        done = subprocess.run(words, cwd=self.folder, capture_output=True, text=True, input=given, timeout=120)
+        return (done.returncode, done.stdout, done.stderr), time.monotonic() - begun
+
+    def ior(self, port, interface="Shop::Store", table=None, host="127.0.0.1"):
+        words = ("ior", table or self.table, "--host", host, "--port", port, "--object", f"K={interface}")
+        return self.run(*words)[0][1].strip()
+
+    def check(self, what, wanted, got):
+        self.count.add(got == wanted, f"{what}: {got}, wanted {wanted}")
+
+    def ask(self, what, wanted, server, *words, seconds=20):
+        """A call to a server ends as it should, and in time."""
+        got, took = self.run("call", self.table, self.ior(server.port), *words)
+        self.check(what, wanted, got)
+        self.count.add(took < seconds, f"{what}: took {took} seconds")
+        server.close()
+
+
+def results(calls):
+    other = reply(text(b"no"), number=9)
+    little = struct.pack("<ii", 7, 8) + text(b"hi", "<")
+    rows = [
+        ("a result", [reply(SUM)]),
+        ("in little order", [reply(little, order="<")]),
+        ("octet by octet", [bytes([octet]) for octet in reply(SUM)]),
+        ("octets behind", [reply(SUM) + b"more"]),
+        ("behind replies to others", [other, other + reply(SUM)]),
+        ("behind a LocateReply", [message(peer.LOCATE_REPLY, struct.pack(">II", 1, 1)), reply(SUM)]),
+        ("two fragments", [reply(SUM[:8], more=True), fragment(SUM[8:])]),
+        ("three, others between", [reply(SUM[:8], more=True), other, fragment(b"", more=True), fragment(SUM[8:])]),
+    ]
+    for what, pieces in rows:
+        calls.ask(what, (0, SAID, ""), peer.Peer(saying(*pieces)), *ADD)
+
+
+def exceptions(calls):
+    unknown = text(b"IDL:Other:1.0")
+    rows = [
+        ("an exception", reply(FULL, 1), (5, RAISED, "")),
+        ("a system exception", reply(FAILURE, 2), (6, "", FAILED)),
+        ("an exception of others", reply(unknown, 1), (1, "", "idlc: 139 OtherBody\n")),
+        ("an exception cut", reply(FULL[:-8], 1), (1, "", "idlc: 139 OtherBody\n")),
+        ("a system exception cut", reply(FAILURE[:-1], 2), (1, "", "idlc: 139 OtherBody\n")),
+        ("a result cut", reply(SUM[:-2]), (1, "", "idlc: 139 OtherBody\n")),
+        ("a forward to nowhere", reply(b"", 3), (1, "", "idlc: 139 OtherBody\n")),
+        ("another form of address", reply(struct.pack(">H", 2), 5), (1, "", "idlc: 141 NeedsAddressingMode\n")),
+        ("an id with octets that aren't printed", reply(text(b"a\n\\\xff") + bytes(8), 2),
+         (6, "", "idlc: a\\x0a\\\\\\xff minor 0x00000000 COMPLETED_YES\n")),
+    ]
+    for what, octets, wanted in rows:
+        calls.ask(what, wanted, peer.Peer(saying(octets)), *ADD)
+
+
+def forwarded_to(calls, port, status=3):
+    """A reply that says that the object is at a port: the octets of a reference, whose first four tell its byte order."""
+    return reply(bytes.fromhex(calls.ior(port)[4:])[4:], status)
+
+
+def forwards(calls):
+    for count in (1, 8, 9):
+        servers = [peer.Peer(saying(reply(SUM)))]
+        for turn in range(count):
+            servers.append(peer.Peer(saying(forwarded_to(calls, servers[-1].port, 3 + turn % 2))))
+        wanted = (0, SAID, "") if count < 9 else (1, "", "idlc: 140 TooManyForwards\n")
+        calls.ask(f"{count} forwards", wanted, servers[-1], *ADD)
+
+
+def closing(calls):
+    close = message(peer.CLOSE, b"")
+    wanted = (0, SAID, "")
+    calls.ask("closed once", wanted, peer.Peer(saying(close), saying(reply(SUM))), *ADD)
+    calls.ask("closed behind the reply", wanted, peer.Peer(saying(reply(SUM) + close)), *ADD)
+    calls.ask("closed twice", SOCKET, peer.Peer(saying(close), saying(close), saying(reply(SUM))), *ADD)
+    calls.ask("ended", SOCKET, peer.Peer(saying()), *ADD)
+    calls.ask("ended in the reply", SOCKET, peer.Peer(saying(reply(SUM)[:-1])), *ADD)
+    calls.ask("ended before the request", SOCKET, peer.Peer(lambda server, stream: None), *ADD)
+
+
+def hostile(calls):
+    rows = [
+        ("no message", b"HTTP/1.1 400 Bad", "131 BadMessage 90 NotGiop"),
+        ("a mebioctet of zeros", bytes(1 << 20), "131 BadMessage 90 NotGiop"),
+        ("version 1.0", b"GIOP\x01\x00\x00\x01" + bytes(4), "131 BadMessage 91 Version"),
+        ("a size past all", b"GIOP\x01\x02\x00\x01\xff\xff\xff\xff", "131 BadMessage 92 TooLong"),
+        ("a status past all", reply(SUM, 6), "132 BadReply"),
+        ("MessageError", message(peer.ERROR, b""), "133 MessageError"),
+        ("a request", message(0, bytes(40)), "131 BadMessage 93 BadHead"),
+    ]
+    for what, octets, said in rows:
+        calls.ask(what, (1, "", f"idlc: {said}\n"), peer.Peer(saying(octets)), *ADD)
+
+
+def silent(server, stream):
+    server.take(stream)
+    time.sleep(30)
+
+
+def dripping(server, stream):
+    server.take(stream)
+    while True:
+        stream.sendall(reply(SUM, number=9))
+        time.sleep(0.01)
+
+
+def flooding(server, stream):
+    server.take(stream)
+    while True:
+        stream.sendall(reply(bytes(60000), number=9))
+
+
+def deaf(server, stream):
+    time.sleep(30)
+
+
+def waiting(calls):
+    for what, script in (("silent", silent), ("dripping", dripping), ("flooding", flooding), ("deaf", deaf)):
+        calls.ask(what, SOCKET, peer.Peer(script), *ADD, "--wait", "1", seconds=3)
+    calls.ask("a part", SOCKET, peer.Peer(lambda s, stream: (s.take(stream), stream.sendall(reply(SUM)[:30]), time.sleep(30))),
+              *ADD, "--wait", "1", seconds=3)
+    with socket.socket() as nobody:
+        nobody.bind(("127.0.0.1", 0))
+        got, took = calls.run("call", calls.table, calls.ior(nobody.getsockname()[1]), *ADD)
+    calls.check("nobody listens", (SOCKET, True), (got, took < 3))
+    reference = calls.ior(9, host="no.such.host.invalid")
+    calls.check("no host", SOCKET, calls.run("call", calls.table, reference, *ADD)[0])
+
+
+def asked(calls):
+    """What servers are asked."""
+    name = text(b"add")
+    tail = struct.pack(">I", 0) + bytes(4) + struct.pack(">ii", 5, 2)
+    header = struct.pack(">IB3xH2xI4s", 1, 3, 0, 1, b"K") + name
+    # the body stands at a multiple of 8, counted with the 12 octets of the head
+    whole = header + struct.pack(">I", 0)
+    whole += bytes(-(12 + len(whole)) % 8) + struct.pack(">ii", 5, 2)
+    server = peer.Peer(saying(reply(SUM)))
+    calls.ask("a request", (0, SAID, ""), server, *ADD)
+    calls.check("its octets", [message(0, whole)], server.asked)
+    server = peer.Peer(saying(reply(SUM)))
+    calls.ask("a request in little order", (0, SAID, ""), server, *ADD, "--order", "little")
+    calls.check("its order", (1, struct.pack("<ii", 5, 2)), (server.asked[0][6], server.asked[0][-8:]))
+    server = peer.Peer(silent)
+    calls.ask("oneway", (0, "", ""), server, "note", '["hello"]', seconds=3)
+    time.sleep(0.2)
+    calls.check("its flags", [0], [octets[16] for octets in server.asked])
+    server = peer.Peer(saying(reply(SUM)))
+    got, _ = calls.run("call", calls.table, calls.ior(server.port), "add", json_of(2_000_000))
+    calls.check("too many octets", (1, ""), got[:2])
+
+
+def json_of(count):
+    return "[" + " " * min(count, 100_000) + "1]"
+
+
+def repeated(calls):
+    server = peer.Peer(peer.always(SUM))
+    got, _ = calls.run("call", calls.table, calls.ior(server.port), *ADD, "--repeat", "20")
+    calls.check("twenty calls", (0, SAID), got[:2])
+    line = r"idlc: 20 calls, \d+ a second, each of \d+ to \d+ microseconds\n"
+    calls.count.add(re.fullmatch(line, got[2]), f"twenty calls: {got[2]}")
+    calls.check("on one connection", (1, 20), (server.count, len({octets[12:16] for octets in server.asked})))
+    for status, body, wanted in ((1, FULL, (5, RAISED)), (2, FAILURE, (6, "")), (0, b"", (1, ""))):
+
+        def third(server, stream, status=status, body=body):
+            for turn in range(9):
+                number = server.take(stream)
+                stream.sendall(reply(SUM, 0, number) if turn < 2 else reply(body, status, number))
+
+        server = peer.Peer(third)
+        got, _ = calls.run("call", calls.table, calls.ior(server.port), *ADD, "--repeat", "20")
+        calls.check("the third fails", (wanted, 3), (got[:2], len(server.asked)))
+
+
+def named(calls):
+    """Operations by names, references and arguments by texts and files."""
+    ping = (0, "[]\n", "")
+    for what, interface, operation in (
+        ("by the id", "Shop::Store", "ping"), ("by the id of a base", "Shop::Base", "ping"), ("in full", "Shop::Store", "Shop::Store::ping"),
+        ("inherited, in full", "Shop::Store", "Shop::Store::_get_size"),
+    ):
+        size = operation.endswith("size")
+        server = peer.Peer(saying(reply(struct.pack(">i", 4) if size else b"")))
+        got, _ = calls.run("call", calls.table, calls.ior(server.port, interface), operation)
+        calls.check(what, (0, '{"_return":4}\n', "") if size else ping, got)
+    server = peer.Peer(saying(reply(SUM)))
+    (calls.folder / "ior").write_text(f"  {calls.ior(server.port)}\n")
+    (calls.folder / "value").write_text('{"b":2,\n"a":5}\n')
+    wanted = (0, SAID, "")
+    words = ("call", calls.table)
+    url = f"corbaloc:iiop:1.2@localhost:{server.port}/K"
+    calls.check("files", wanted, calls.run(*words, "@ior", "add", "@value")[0])
+    calls.check("the reference from standard input", wanted, calls.run(*words, "-", *ADD, given=calls.ior(server.port))[0])
+    calls.check("the arguments from standard input", wanted, calls.run(*words, "@ior", "add", "-", given='[5,2]')[0])
+    calls.check("a URL", wanted, calls.run(*words, url, "Shop::Store::add", "[5,2]")[0])
+    count = len(server.asked)
+    rows = [
+        ("a URL has no id", (url, *ADD), "no operation add"),
+        ("no operation", ("@ior", "a\nb"), "no operation a\\x0ab"),
+        ("a bad URL", ("corbaloc:x", "ping"), "130 BadCorbaloc"),
+        ("a bad reference", ("IOR:0", "ping"), "94 BadIor"),
+        ("no arguments", ("@ior", "add"), "122 WrongCount line 1 column 2"),
+        ("other arguments", ("@ior", "add", '{"a":5,"c":2}'), "119 NoSuchMember line 1 column 8"),
+    ]
+    for what, more, said in rows:
+        calls.check(what, (1, "", f"idlc: {said}\n"), calls.run(*words, *more)[0])
+    calls.check("nobody was called", count, len(server.asked))
+    calls.check("no file", (3, ""), calls.run(*words, "@none", "ping")[0][:2])
+    for more in (("--wait", "0"), ("--wait", "86401"), ("--repeat", "0"), ("--order", "none")):
+        calls.check(f"{more}", (2, ""), calls.run(*words, "@ior", *ADD, *more)[0][:2])
+
+
+def both_ends(calls):
+    """`serve` in one process, `call` in another."""
+    table = TOP / "examples" / "idl" / "hello.idl"
+    with socket.socket() as probe:
+        probe.bind(("127.0.0.1", 0))
+        port = probe.getsockname()[1]
+    words = [PROGRAM, "serve", table, "--port", str(port), "--object", "K=Hello", "--connections", "11"]
+    server = subprocess.Popen(words, stdout=subprocess.PIPE, text=True)
+    calls.check("serving", f"serving {port}\n", server.stdout.readline())
+    reference = calls.ior(port, "Hello", table)
+    rows = [
+        (("ping",), (0, "[]\n", "")),
+        (("_get_visits",), (0, '{"_return":0}\n', "")),
+        (("_set_visits", "[41]"), (0, "[]\n", "")),
+        (("_get_visits", "--order", "little"), (0, '{"_return":41}\n', "")),
+        (("echo", '{"text":"good day"}'), (0, '{"_return":"good day"}\n', "")),
+        (("_is_a", '["IDL:Hello:1.0"]'), (0, "[true]\n", "")),
+        (("_is_a", '["IDL:Other:1.0"]'), (0, "[false]\n", "")),
+        (("_non_existent",), (0, "[false]\n", "")),
+        (("_non_existent", "[]"), (0, "[false]\n", "")),
+    ]
+    for more, wanted in rows:
+        calls.check(f"{more}", wanted, calls.run("call", table, reference, *more)[0])
+    gone = (6, "", "idlc: IDL:omg.org/CORBA/OBJECT_NOT_EXIST:1.0 minor 0x00000000 COMPLETED_NO\n")
+    calls.check("another key", gone, calls.run("call", table, f"corbaloc::localhost:{port}/k", "Hello::ping")[0])
+    got, _ = calls.run("call", table, reference, "echo", '["x"]', "--repeat", "1000")
+    calls.check("a thousand calls", (0, '{"_return":"x"}\n', True), (*got[:2], got[2].startswith("idlc: 1000 calls, ")))
+    server.communicate(timeout=60)
+    calls.check("the server's end", 0, server.returncode)
+
+
+def run(test):
+    built = test.call([TOP / "idlc", "check", "builtin"])
+    if built.status:
+        return Count(0, [built.out + built.err])
+    calls = Calls(test)
+    for part in (both_ends, results, exceptions, forwards, closing, hostile, waiting, asked, repeated, named):
+        part(calls)
+    return calls.count
