@@ -74,8 +74,8 @@ IsCarriedOut Told Told' choice ask reference lines (Err Readdressed) lines' =
 IsCarriedOut Told Told' choice ask reference lines (Err NoMemory) lines' = Unit {0}
 
 -- the operation that the word names was called
-pub record IsCalledBy (Told Told' : Telling) (types : Types) (ask : TextCall) (reference : Reference) (lines : List Line)
-    (result : Result Ending CallRefusal) (lines' : List Line) : Type 0 where
+pub record IsCalledBy (Told Told' : Telling) (types : Types) (ask : TextCall) (reference : Reference)
+    (lines : List Line) (result : Result Ending CallRefusal) (lines' : List Line) : Type 0 where
   pub choice : Choice
   pub chosen_is : chosen types.table.now.model types.names.now reference.type_id ask.operation.now ≡ Some choice
   pub is : IsCarriedOut Told Told' choice ask reference lines result lines'

@@ -25,11 +25,16 @@ pub fn call_text<D: Dial>(
     ior: Ior,
     ask: &TextCall<'_>,
 ) -> Result<Ending, CallRefusal>
-    ensures { IsTextCalled (D.went dial.old) (D.went dial.new) types.now ask.now (reference_of ior) (D.lines dial.old) result
-        (D.lines dial.new) }
+    ensures { IsTextCalled (D.went dial.old) (D.went dial.new) types.now ask.now (reference_of ior)
+        (D.lines dial.old) result (D.lines dial.new) }
 {
     let nameless = PartNames::new(alloc, Vec::new(alloc));
-    match choose(types, &nameless, ior.type_id.as_slice(), ask.operation.as_bytes()) {
+    match choose(
+        types,
+        &nameless,
+        ior.type_id.as_slice(),
+        ask.operation.as_bytes(),
+    ) {
         Some(choice) => called(types, alloc, dial, ior, &choice, ask),
         None => Err(CallRefusal::NoOperation),
     }

@@ -55,6 +55,11 @@ impl fmt::Display for ExceptionLine<'_> {
     fn fmt<W: fmt::Write>(&self, f: &mut fmt::Formatter<W>) -> fmt::Result {
         let exception = self.0;
         let completed = Completed(exception.completion);
-        write!(f, "{} minor 0x{:08x} {completed}", Shown(exception.id.as_slice()), exception.minor)
+        write!(
+            f,
+            "{} minor 0x{:08x} {completed}",
+            Shown(exception.id.as_slice()),
+            exception.minor
+        )
     }
 }

@@ -104,7 +104,8 @@ impl CallRefusal {
         ensures { result ≡ cause_of self.now }
     {
         match *self {
-            CallRefusal::NoOperation | CallRefusal::Unsaid(_) | CallRefusal::Readdressed => Cause::Input,
+            CallRefusal::NoOperation | CallRefusal::Unsaid(_) | CallRefusal::Readdressed =>
+                Cause::Input,
             CallRefusal::Unanswered(fault) => of_object(fault),
             CallRefusal::NoMemory => Cause::Memory,
         }

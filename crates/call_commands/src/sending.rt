@@ -71,7 +71,17 @@ fn said<D: Dial>(
         exceptions: choice.exceptions,
     };
     let body = Some((choice.table, choice.request, tape));
-    call_object(types.giop, types.types, alloc, dial, ior, &wanted, &request, body, ask.reads)
+    call_object(
+        types.giop,
+        types.types,
+        alloc,
+        dial,
+        ior,
+        &wanted,
+        &request,
+        body,
+        ask.reads,
+    )
 }
 
 /// Calls an operation with the arguments that a text says.

@@ -26,6 +26,23 @@ struct Kept<S> {
     handles: Handles<S>,
 }
 
+/// A connection that was handed back, if it is sound.
+fn sound<S: Drop>(place: Option<Place>, reader: Option<S>, writer: Option<S>) -> Option<Kept<S>> {
+    let Some(place) = place else {
+        return None;
+    };
+    let Some(reader) = reader else {
+        return None;
+    };
+    let Some(writer) = writer else {
+        return None;
+    };
+    Some(Kept {
+        place,
+        handles: Handles { reader, writer },
+    })
+}
+
 /// Dials by TCP. What a connection is asked for has to be done before the time of its call has passed,
 /// but for the look-up of a host's name, on which the system sets the time.
 #[derive(Drop)]
@@ -104,7 +121,13 @@ impl<'r, R: Net + Clock> Dial for Dialler<'r, R> {
         &mut self,
         host: &[u8],
         port: u16,
-    ) -> Result<(DialledReader<'r, R, R::Stream>, DialledWriter<'r, R, R::Stream>), DialFault> {
+    ) -> Result<
+        (
+            DialledReader<'r, R, R::Stream>,
+            DialledWriter<'r, R, R::Stream>,
+        ),
+        DialFault,
+    > {
         let Ok(noted) = Vec::from_slice(self.alloc, host) else {
             return Err(DialFault::NoMemory);
         };
@@ -136,12 +159,7 @@ impl<'r, R: Net + Clock> Dial for Dialler<'r, R> {
         reader: DialledReader<'r, R, R::Stream>,
         writer: DialledWriter<'r, R, R::Stream>,
     ) {
-        self.last = match (self.place.take(), reader.sound(), writer.sound()) {
-            (Some(place), Some(reader), Some(writer)) => Some(Kept {
-                place,
-                handles: Handles { reader, writer },
-            }),
-            _ => None,
-        };
+        let place = self.place.take();
+        self.last = sound(place, reader.sound(), writer.sound());
     }
 }

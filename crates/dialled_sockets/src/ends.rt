@@ -1,7 +1,7 @@
 //! The two sides of a connection that was dialled. They tell nothing of the octets: what a socket
 //! brings and takes no contract says.
 
-ghost use Rattle.std.specs.Prelude.{◌≡◌, None, false};
+ghost use Rattle.std.specs.Prelude.{◌≡◌, ◌≤◌, length, IfOk, None, false};
 
 use crate::deadline::Deadline;
 use iiop_broker::{Failed, Input, Output};
@@ -62,27 +62,68 @@ impl<'r, R: Clock, S: Drop> DialledWriter<'r, R, S> {
     }
 }
 
+/// Reads before the time has passed.
+fn read_within<R: Clock, S: Read + OpenStream>(
+    stream: &mut S,
+    deadline: &Deadline<'_, R>,
+    buffer: &mut [u8],
+) -> Result<usize, Failed>
+    ensures room { length buffer.new ≡ length buffer.old }
+    ensures within { IfOk result (λ n. n ≤ length buffer.old) }
+{
+    for _ in 0..TRIES {
+        let Some(left) = deadline.left() else {
+            return Err(Failed);
+        };
+        if stream.set_read_timeout(Some(left)).is_err() {
+            return Err(Failed);
+        }
+        match stream.read(buffer) {
+            Ok(n) => return Ok(n),
+            Err(error) if error.kind() == ErrorKind::Interrupted => {}
+            Err(_) => return Err(Failed),
+        }
+    }
+    Err(Failed)
+}
+
+/// Writes what is taken before the time has passed.
+fn write_within<R: Clock, S: Write + OpenStream>(
+    stream: &mut S,
+    deadline: &Deadline<'_, R>,
+    octets: &[u8],
+) -> Result<usize, Failed>
+    ensures within { IfOk result (λ n. n ≤ length octets.now) }
+{
+    for _ in 0..TRIES {
+        let Some(left) = deadline.left() else {
+            return Err(Failed);
+        };
+        if stream.set_write_timeout(Some(left)).is_err() {
+            return Err(Failed);
+        }
+        match stream.write(octets) {
+            Ok(n) => return Ok(n),
+            Err(error) if error.kind() == ErrorKind::Interrupted => {}
+            Err(_) => return Err(Failed),
+        }
+    }
+    Err(Failed)
+}
+
 impl<'r, R: Clock, S: Read + OpenStream> Input for DialledReader<'r, R, S> {
     ghost left = { λ reader. None };
 
     ghost failure = { λ reader. reader.failed };
 
     fn read(&mut self, buffer: &mut [u8]) -> Result<usize, Failed> {
-        for _ in 0..TRIES {
-            let Some(left) = self.deadline.left() else {
-                break;
-            };
-            if self.stream.set_read_timeout(Some(left)).is_err() {
-                break;
-            }
-            match self.stream.read(buffer) {
-                Ok(n) => return Ok(n),
-                Err(error) if error.kind() == ErrorKind::Interrupted => {}
-                Err(_) => break,
+        match read_within(&mut self.stream, &self.deadline, buffer) {
+            Ok(n) => Ok(n),
+            Err(_) => {
+                self.failed = true;
+                Err(Failed)
             }
         }
-        self.failed = true;
-        Err(Failed)
     }
 }
 
@@ -92,25 +133,17 @@ impl<'r, R: Clock, S: Write + OpenStream> Output for DialledWriter<'r, R, S> {
     ghost failure = { λ writer. writer.failed };
 
     fn write(&mut self, octets: &[u8]) -> Result<usize, Failed> {
-        for _ in 0..TRIES {
-            let Some(left) = self.deadline.left() else {
-                break;
-            };
-            if self.stream.set_write_timeout(Some(left)).is_err() {
-                break;
-            }
-            match self.stream.write(octets) {
-                Ok(n) => {
-                    if n == 0 && !octets.is_empty() {
-                        self.failed = true;
-                    }
-                    return Ok(n);
+        match write_within(&mut self.stream, &self.deadline, octets) {
+            Ok(n) => {
+                if n == 0 && !octets.is_empty() {
+                    self.failed = true;
                 }
-                Err(error) if error.kind() == ErrorKind::Interrupted => {}
-                Err(_) => break,
+                Ok(n)
+            }
+            Err(_) => {
+                self.failed = true;
+                Err(Failed)
             }
         }
-        self.failed = true;
-        Err(Failed)
     }
 }

@@ -39,7 +39,8 @@ module _ (Told Mid Told' : List Ends → Type 0) (ask : Asking) (called : Called
   -- once was enough
   pub enough : is_closed result ≡ false → IsCalledOnce Told Told' ask called reference lines result lines'
       → IsCalledTwice Told Told' ask called reference lines result lines'
-  enough open once = record { tos = once.tos; gone = once.gone; tried = inl (record { open = open; once = once.once }) }
+  enough unclosed once =
+      record { tos = once.tos; gone = once.gone; tried = inl (record { unclosed = unclosed; once = once.once }) }
 
   -- it was closed first
   pub again : (fault : ReachFault) → closes_reached fault ≡ true

@@ -37,7 +37,7 @@ is_closed result = false
 -- one call was made, and it wasn't so
 pub record IsUnclosed (ask : Asking) (called : Called) (reference : Reference) (lines : List Line)
     (result : Result (Option Outcome) ObjectFault) (lines' : List Line) (tos : List Ends) : Type 0 where
-  pub open : is_closed result ≡ false
+  pub unclosed : is_closed result ≡ false
   pub once : IsOnce ask called reference lines result lines' tos
 
 -- the first was closed so, and this is how the second ended

@@ -7,7 +7,7 @@ ghost use Rattle.idlc_main.specs.Called.{IsConclusion};
 use crate::fault::Fault;
 use crate::times::Times;
 use crate::told::named_fault;
-use call_commands::{TextCall, CallRefusal, Ending, Types, call_text};
+use call_commands::{CallRefusal, Ending, TextCall, Types, call_text};
 use command_words::CallTask;
 use dialled_sockets::Dialler;
 use giop::Giop;
@@ -59,7 +59,10 @@ impl Text<'_> {
     }
 }
 
-fn text_of<'a, R: WholeFiles + AllocGlobal>(rt: &R, word: &'a str) -> Result<Text<'a>, NamedFault<'a>> {
+fn text_of<'a, R: WholeFiles + AllocGlobal>(
+    rt: &R,
+    word: &'a str,
+) -> Result<Text<'a>, NamedFault<'a>> {
     let Some(file) = source_in(word) else {
         return Ok(Text::Own(word));
     };
@@ -120,11 +123,7 @@ fn line(alloc: Global, text: &str) -> Result<String, AllocError>
 }
 
 /// What is told of the end of the last call.
-fn conclusion(
-    alloc: Global,
-    ending: Ending,
-    times: Option<Times>,
-) -> Result<Concluded, AllocError>
+fn conclusion(alloc: Global, ending: Ending, times: Option<Times>) -> Result<Concluded, AllocError>
     ensures { IfOk result (IsConclusion ending) }
 {
     let (text, end) = match ending {

@@ -53,7 +53,11 @@ impl Times {
 /// So many in a second, where they took any time.
 fn a_second(count: u32, all: Duration) -> u128 {
     let micros = all.as_micros();
-    if micros == 0 { 0 } else { u128::from(count) * 1_000_000 / micros }
+    if micros == 0 {
+        0
+    } else {
+        u128::from(count) * 1_000_000 / micros
+    }
 }
 
 impl fmt::Display for Times {
