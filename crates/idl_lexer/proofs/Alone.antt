@@ -72,7 +72,7 @@ identifier_alone s n some (inr name) = inr (record {
 })
 
 -- what the test for punctuation looks at
-abbrev is_mark_of : ℕ → ℕ → ℕ → Bool
+abbrev pub is_mark_of : ℕ → ℕ → ℕ → Bool
 is_mark_of n a b =
     (n == 2 && is_pair a b) || (n == 1 && is_one_of marks a && not (is_pair a b) && not (opens_comment a b))
 
@@ -91,7 +91,7 @@ is_mark_alone a b h =
     let inner = and_true (is_one_of marks a) (not (is_pair a b)) outer.0 in
     all_true (is_one_of marks a) (not (is_pair a 0)) (not (opens_comment a 0)) inner.0 (no_pair a) (no_comment a)
 
-punctuation_len : (n a b : ℕ) → is_mark_of n a b ≡ true → (n ≡ 1) ⊎ (n ≡ 2)
+pub punctuation_len : (n a b : ℕ) → is_mark_of n a b ≡ true → (n ≡ 1) ⊎ (n ≡ 2)
 punctuation_len n a b h =
     elim (or_true (n == 2 && is_pair a b) (n == 1 && is_one_of marks a && not (is_pair a b) && not (opens_comment a b)) h) [
       | inl two ↦ inr (eqb-true n 2 (and_true (n == 2) (is_pair a b) two).0)

@@ -20,14 +20,14 @@ AreCharacters-push quote s m n v k vs (more s2 n1 v1 m1 k1 vs1 first nz rest e1)
     more _ n1 v1 (m1 + n) k (vs1 ++ v ∷ []) first nz (AreCharacters-push quote (drop n1 s) m1 n v (m1 + n) vs1 rest (rw place at char) other refl) (omega arith)
 
 -- what one of these octets passes
-one_passes : (p : ℕ → Bool) (ds : List ℕ) (c : ℕ) → list_all p ds ≡ true → is_one_of ds c ≡ true → p c ≡ true
+pub one_passes : (p : ℕ → Bool) (ds : List ℕ) (c : ℕ) → list_all p ds ≡ true → is_one_of ds c ≡ true → p c ≡ true
 one_passes p [] c all any = cc
 one_passes p (d ∷ ds) c all any = elim (or_true (d == c) (is_one_of ds c) any) [
   | inl here ↦ ap p (sym (eqb-true d c here)) ∙ (and_true (p d) (list_all p ds) all).0
   | inr later ↦ one_passes p ds c (and_true (p d) (list_all p ds) all).1 later
 ]
 
-not_false : (b : Bool) → not b ≡ true → b ≡ false
+pub not_false : (b : Bool) → not b ≡ true → b ≡ false
 not_false true h = cc
 not_false false h = refl
 
@@ -77,6 +77,7 @@ pub record Step (s octets : List ℕ) : Type 0 where
   pub len : ℕ
   pub value : ℕ
   pub character : IsCharacter 34 s len value
+  pub nonzero : value ≢ 0
   pub next : ClosedCharacters (drop len s)
   pub same : octets ≡ value ∷ next.octets
 
@@ -89,6 +90,7 @@ ClosedCharacters-step s other c = from s c.octets c.inner other c.characters c.c
       len = n;
       value = v;
       character = char;
+      nonzero = nz;
       next = record { octets = vs1; inner = m; characters = rest; closes = get_or-drop n s m 0 ∙ ap (slice_index s) (sym e) ∙ closes };
       same = refl;
     }

@@ -5,6 +5,12 @@ pub mod Alone
 pub mod Keywords
 pub mod Digits
 pub mod Characters
+pub mod OneForm
+pub mod Paths
+pub mod OneFault
+pub mod Refusals
+pub mod Files
+pub mod ScopedNames
 pub mod Readings
 pub mod WordsOfNames
 pub mod PragmaParts

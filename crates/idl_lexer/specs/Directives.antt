@@ -146,13 +146,27 @@ pub record IsFile (s r : List ℕ) : Type 0 where
   pub closes : slice_index s last ≡ 34
   pub rest : r ≡ drop (last + 1) s
 
+-- # 12 "file" and digits and blanks in any form
+pub record IsMarker (line : List ℕ) : Type 0 where
+  pub hash : slice_index line 0 ≡ 35
+  pub behind_digits : List ℕ
+  pub number : IsDigits (directive_part line) behind_digits
+  pub behind_file : List ℕ
+  pub file : IsFile (past is_blank behind_digits) behind_file
+  pub flags : list_all (λ o. is_blank o || is_ascii_digit o) behind_file ≡ true
+
+-- #line, and whatever follows
+pub record IsLineDirective (line : List ℕ) : Type 0 where
+  pub hash : slice_index line 0 ≡ 35
+  pub word : word_of (directive_part line) ≡ codes "line"
+
+-- a #pragma whose first word is none of the kept ones
+pub record IsOtherPragma (line : List ℕ) : Type 0 where
+  pub pragma : IsPragma line
+  pub other : not (is_kept_word (pragma_word line)) ≡ true
+
 -- the directives that say nothing about the types, as whole lines
 pub data IsSkipped (line : List ℕ) : Type 0 where
-  -- # 12 "file" and digits and blanks in any form
-  marker : (b c : List ℕ)
-      → slice_index line 0 ≡ 35 → IsDigits (directive_part line) b → IsFile (past is_blank b) c
-      → list_all (λ o. is_blank o || is_ascii_digit o) c ≡ true → IsSkipped line
-  -- #line, and whatever follows
-  line : slice_index line 0 ≡ 35 → word_of (directive_part line) ≡ codes "line" → IsSkipped line
-  -- any other #pragma
-  pragma : IsPragma line → not (is_kept_word (pragma_word line)) ≡ true → IsSkipped line
+  marker : IsMarker line → IsSkipped line
+  line : IsLineDirective line → IsSkipped line
+  pragma : IsOtherPragma line → IsSkipped line

@@ -12,4 +12,6 @@ pub mod Gaps
 pub mod Forms
 pub mod Tokens
 pub mod Lexemes
+pub mod Faults
+pub mod Refusal
 pub mod Says

@@ -35,6 +35,17 @@ line_at source place = count_by is_line_feed (take place source) + 1
 abbrev pub HaveLines : List ℕ → List Token → Type 0
 HaveLines source tokens = All (λ t. t.line ≡ line_at source t.start) tokens
 
+-- what a token says: its kind, its text, where it stands and its line
+pub record TokenParts : Type 0 where
+  pub kind : Kind
+  pub text : List ℕ
+  pub start : ℕ
+  pub «end» : ℕ
+  pub line : ℕ
+
+abbrev pub parts_of : Token → TokenParts
+parts_of t = record { kind = t.kind; text = t.text.now; start = t.start; «end» = t.«end»; line = t.line }
+
 -- the name that a token stands for: of an identifier without one leading underscore
 abbrev pub name_of : Kind → List ℕ → List ℕ
 name_of Ident text = unescaped text

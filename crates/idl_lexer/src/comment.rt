@@ -1,7 +1,8 @@
 //! Comments (ISO/IEC 19500-1, lexical conventions, comments).
 
-ghost use Rattle.std.specs.Prelude.{◌≡◌, ◌≤◌, ◌<◌, length, slice_index, IfOk};
+ghost use Rattle.std.specs.Prelude.{◌≡◌, ◌≤◌, ◌<◌, ℕ, length, slice_index, IfErr, IfOk};
 ghost use Rattle.idl_lexer.specs.Gaps.{IsBlockComment};
+ghost use Rattle.idl_lexer.specs.declared.fault.LexFault.TheVariants.{OpenComment};
 
 use crate::fault::LexFault;
 use memchr::memmem;
@@ -17,6 +18,8 @@ pub(crate) fn block_comment(octets: &[u8], line: usize) -> Result<usize, LexFaul
     ensures form { IfOk result (λ n. IsBlockComment octets.now n) }
     ensures within { IfOk result (λ n. n ≤ length octets.now) }
     ensures long { IfOk result (λ n. 0 < n) }
+    ensures refused { IfErr result (λ _. (n : ℕ) → IsBlockComment octets.now n → ⊥) }
+    ensures told { IfErr result (λ fault. fault ≡ OpenComment line) }
 {
     match memmem::find(octets.split_at(2).1, b"*/") {
         Some(inner) => Ok(inner + 4),

@@ -1,14 +1,17 @@
 //! Lines that begin with `#`: markers of lines, and pragmas (ISO/IEC 19500-1, preprocessing, pragma
 //! directives for repository ids).
 
-ghost use Rattle.std.specs.Prelude.{◌≡◌, ◌<◌, ◌≤◌, ◌==◌, ◌||◌, [], length, take, drop, slice_index, IfSome, IsTrue, IfOk};
+ghost use Rattle.std.specs.Prelude.{◌≡◌, ◌≢◌, ◌-◌, ◌<◌, ◌≤◌, ◌==◌, ◌||◌, ◌↔◌, ◌⊎◌, ℕ, List, [], length, take, drop, slice_index};
+ghost use Rattle.std.specs.Prelude.{IfErr, IfNone, IfOk, IfSome, IsTrue};
 ghost use Rattle.std.specs.Char.{is_ascii_digit};
 ghost use Rattle.idl_lexer.specs.Octets.{is_blank, past, run};
 ghost use Rattle.idl_lexer.specs.Directives.{before_quote, directive_part, from_quote, is_kept_word, past_word};
 ghost use Rattle.idl_lexer.specs.Directives.{pragma_part, pragma_rest, version_place, word_of};
-ghost use Rattle.idl_lexer.specs.Directives.{IsDigits, IsFile, IsFresh, IsKept, IsMark, IsName, IsPragma};
-ghost use Rattle.idl_lexer.specs.Directives.{IsIdEnd, IsQuotedEnd, IsScope, IsScopedName, IsSkipped, IsVersion, IsVersionEnd};
-ghost use Rattle.idl_lexer.specs.Lexemes.{IsLexeme};
+ghost use Rattle.idl_lexer.specs.Directives.{IsDigits, IsFile, IsFresh, IsKept, IsLineDirective, IsMark, IsMarker, IsName};
+ghost use Rattle.idl_lexer.specs.Directives.{IsIdEnd, IsOtherPragma, IsPragma, IsQuotedEnd, IsScope, IsScopedName};
+ghost use Rattle.idl_lexer.specs.Directives.{IsSkipped, IsVersion, IsVersionEnd};
+ghost use Rattle.idl_lexer.specs.Faults.{IsDirectiveFault};
+ghost use Rattle.idl_lexer.specs.Lexemes.{HasNoForm, IsLexeme};
 
 use crate::fault::LexFault;
 use crate::lexeme::Lexeme;
@@ -37,7 +40,7 @@ pub(crate) fn split_word(octets: &[u8]) -> (&[u8], &[u8])
 }
 
 fn has_hash(line: &[u8]) -> bool
-    ensures { IsTrue result → slice_index line.now 0 ≡ 35 }
+    ensures { IsTrue result ↔ (slice_index line.now 0 ≡ 35) }
 {
     line.first() == Some(&b'#')
 }
@@ -65,7 +68,8 @@ pub(crate) fn split_at_quote(octets: &[u8]) -> (&[u8], &[u8])
 }
 
 fn digits(octets: &[u8]) -> Option<&[u8]>
-    ensures { IfSome result (λ r. IsDigits octets.now r.now) }
+    ensures form { IfSome result (λ r. IsDigits octets.now r.now) }
+    ensures none { IfNone result ((rest : List ℕ) → IsDigits octets.now rest → ⊥) }
 {
     match octets {
         [b'0'..=b'9', ..] => Some(octets.split_at(digit_len(octets)).1),
@@ -74,7 +78,8 @@ fn digits(octets: &[u8]) -> Option<&[u8]>
 }
 
 fn mark(octets: &[u8], octet: u8) -> Option<&[u8]>
-    ensures { IfSome result (λ r. IsMark octet octets.now r.now) }
+    ensures form { IfSome result (λ r. IsMark octet octets.now r.now) }
+    ensures none { IfNone result ((rest : List ℕ) → octet ≢ 0 → IsMark octet octets.now rest → ⊥) }
 {
     match octets {
         [first, rest @ ..] if *first == octet => Some(rest),
@@ -85,6 +90,7 @@ fn mark(octets: &[u8], octet: u8) -> Option<&[u8]>
 fn name(octets: &[u8]) -> Option<&[u8]>
     ensures form { IfSome result (λ r. IsName octets.now r.now) }
     ensures within { IfSome result (λ r. length r.now ≤ length octets.now) }
+    ensures none { IfNone result ((rest : List ℕ) → IsName octets.now rest → ⊥) }
 {
     let len = identifier_len(octets)?;
     Some(past_blanks(octets.split_at(len).1))
@@ -93,6 +99,7 @@ fn name(octets: &[u8]) -> Option<&[u8]>
 fn scope(octets: &[u8]) -> Option<&[u8]>
     ensures form { IfSome result (λ r. IsScope octets.now r.now) }
     ensures shorter { IfSome result (λ r. length r.now < length octets.now) }
+    ensures none { IfNone result ((rest : List ℕ) → IsScope octets.now rest → ⊥) }
 {
     match octets {
         [b':', b':', rest @ ..] => Some(past_blanks(rest)),
@@ -101,7 +108,9 @@ fn scope(octets: &[u8]) -> Option<&[u8]>
 }
 
 fn scoped_name(octets: &[u8]) -> Option<&[u8]>
-    ensures { IfSome result (λ r. IsScopedName octets.now r.now) }
+    ensures form { IfSome result (λ r. IsScopedName octets.now r.now) }
+    ensures end { IfSome result (λ r. IsScopedName octets.now [] → r.now ≡ []) }
+    ensures none { IfNone result (IsScopedName octets.now [] → ⊥) }
 {
     let mut rest = name(scope(octets).unwrap_or(octets))?;
     while let Some(inner) = scope(rest) {
@@ -111,7 +120,7 @@ fn scoped_name(octets: &[u8]) -> Option<&[u8]>
 }
 
 fn is_scoped_name(octets: &[u8]) -> bool
-    ensures { IsTrue result → IsScopedName octets.now [] }
+    ensures { IsTrue result ↔ IsScopedName octets.now [] }
 {
     match scoped_name(octets) {
         Some(rest) => rest.is_empty(),
@@ -120,7 +129,9 @@ fn is_scoped_name(octets: &[u8]) -> bool
 }
 
 fn file(octets: &[u8]) -> Option<&[u8]>
-    ensures { IfSome result (λ r. IsFile octets.now r.now) }
+    ensures form { IfSome result (λ r. IsFile octets.now r.now) }
+    ensures one { IfSome result (λ r. (rest : List ℕ) → IsFile octets.now rest → rest ≡ r.now) }
+    ensures none { IfNone result ((rest : List ℕ) → IsFile octets.now rest → ⊥) }
 {
     if octets.first() != Some(&b'"') {
         return None;
@@ -137,7 +148,7 @@ fn file(octets: &[u8]) -> Option<&[u8]>
 }
 
 fn is_quoted_end(octets: &[u8]) -> bool
-    ensures { IsTrue result → IsQuotedEnd octets.now }
+    ensures { IsTrue result ↔ IsQuotedEnd octets.now }
 {
     let (_, rest) = split_at_quote(behind_first(octets));
     octets.first() == Some(&b'"') && rest.first() == Some(&b'"') && are_blank(behind_first(rest))
@@ -178,20 +189,21 @@ pub(crate) fn version_len(octets: &[u8]) -> usize
 
 /// What follows the version number at the front.
 fn version_number(octets: &[u8]) -> Option<&[u8]>
-    ensures { IfSome result (λ r. IsVersion octets.now r.now) }
+    ensures form { IfSome result (λ r. IsVersion octets.now r.now) }
+    ensures none { IfNone result ((rest : List ℕ) → IsVersion octets.now rest → ⊥) }
 {
     digits(mark(digits(octets)?, b'.')?)
 }
 
 fn is_id_end(octets: &[u8]) -> bool
-    ensures { IsTrue result → IsIdEnd octets.now }
+    ensures { IsTrue result ↔ IsIdEnd octets.now }
 {
     let (name, text) = split_at_quote(octets);
     is_scoped_name(name) && is_quoted_end(text)
 }
 
 fn is_version_end(octets: &[u8]) -> bool
-    ensures { IsTrue result → IsVersionEnd octets.now }
+    ensures { IsTrue result ↔ IsVersionEnd octets.now }
 {
     let (name, number) = octets.split_at(version_at(octets));
     match version_number(number) {
@@ -201,7 +213,7 @@ fn is_version_end(octets: &[u8]) -> bool
 }
 
 fn is_pragma(line: &[u8]) -> bool
-    ensures { IsTrue result → IsPragma line.now }
+    ensures { IsTrue result ↔ IsPragma line.now }
 {
     let word = split_word(behind_hash(line)).0;
     has_hash(line) && word == b"pragma".as_slice()
@@ -216,7 +228,7 @@ fn is_kept_name(word: &[u8]) -> bool
 
 /// Whether the line is a pragma for repository ids.
 fn is_kept(line: &[u8]) -> bool
-    ensures { IsTrue result → IsKept line.now }
+    ensures { IsTrue result ↔ IsKept line.now }
 {
     let (word, rest) = split_word(behind_pragma(line));
     if !is_pragma(line) {
@@ -231,7 +243,7 @@ fn is_kept(line: &[u8]) -> bool
 }
 
 fn is_marker(line: &[u8]) -> bool
-    ensures { IsTrue result → IsSkipped line.now }
+    ensures { IsTrue result ↔ IsMarker line.now }
 {
     let Some(rest) = digits(behind_hash(line)) else {
         return false;
@@ -243,7 +255,7 @@ fn is_marker(line: &[u8]) -> bool
 }
 
 fn is_line_directive(line: &[u8]) -> bool
-    ensures { IsTrue result → IsSkipped line.now }
+    ensures { IsTrue result ↔ IsLineDirective line.now }
 {
     let word = split_word(behind_hash(line)).0;
     has_hash(line) && word == b"line".as_slice()
@@ -251,7 +263,7 @@ fn is_line_directive(line: &[u8]) -> bool
 
 /// A pragma whose first word is none of the kept ones.
 fn is_other_pragma(line: &[u8]) -> bool
-    ensures { IsTrue result → IsSkipped line.now }
+    ensures { IsTrue result ↔ IsOtherPragma line.now }
 {
     let word = split_word(behind_pragma(line)).0;
     is_pragma(line) && !is_kept_name(word)
@@ -259,17 +271,28 @@ fn is_other_pragma(line: &[u8]) -> bool
 
 /// Whether the line is a directive that says nothing about the types.
 fn is_skipped(line: &[u8]) -> bool
-    ensures { IsTrue result → IsSkipped line.now }
+    ensures { IsTrue result ↔ IsSkipped line.now }
 {
     is_marker(line) || is_line_directive(line) || is_other_pragma(line)
 }
 
+/// Where the last line begins.
+fn last_line(octets: &[u8]) -> usize
+    ensures within { result ≤ length octets.now }
+    ensures begins { (result ≡ 0) ⊎ (slice_index octets.now (result - 1) ≡ 10) }
+    ensures last { (k : ℕ) → result ≤ k → k < length octets.now → slice_index octets.now k ≢ 10 }
+{
+    match memrchr(b'\n', octets) {
+        Some(at) => at + 1,
+        None => 0,
+    }
+}
+
 /// Whether only blanks stand on the last line of what comes before.
 fn is_fresh(before: &[u8]) -> bool
-    ensures { IsTrue result → IsFresh before.now }
+    ensures { IsTrue result ↔ IsFresh before.now }
 {
-    let start = memrchr(b'\n', before).map_or(0, |at| at + 1);
-    are_blank(before.split_at(start).1)
+    are_blank(before.split_at(last_line(before)).1)
 }
 
 /// The directive at the front, a whole line: a pragma for repository ids is a token, and a marker of
@@ -282,6 +305,8 @@ fn is_fresh(before: &[u8]) -> bool
 pub(crate) fn directive(before: &[u8], octets: &[u8], line: usize) -> Result<Lexeme, LexFault>
     requires { slice_index octets.now 0 ≡ 35 }
     ensures form { IfOk result (λ l. IsLexeme before.now octets.now l) }
+    ensures refused { IfErr result (λ _. HasNoForm before.now octets.now) }
+    ensures told { IfErr result (IsDirectiveFault before.now octets.now line) }
 {
     let text = octets.split_at(line_len(octets)).0;
     if !is_fresh(before) || !are_ascii(text) {

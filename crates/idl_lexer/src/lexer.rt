@@ -1,7 +1,12 @@
 //! The tokens of a whole source, one step after another.
 
-ghost use Rattle.std.specs.Prelude.{◌≡◌, ◌<◌, ◌≤◌, ◌-◌, ◌++◌, ◌∷◌, [], length, take, drop, slice_range, IfOk};
-ghost use Rattle.idl_lexer.specs.Lexemes.{IsLexeme};
+ghost use Rattle.std.specs.Prelude.{◌≡◌, ◌<◌, ◌≤◌, ◌-◌, ◌++◌, ◌∷◌, [], ℕ, List, length, take, drop, slice_index, slice_range, false, IfErr, IfOk};
+ghost use Rattle.idl_lexer.specs.declared.fault.LexFault.TheVariants.{NoMemory};
+ghost use Rattle.idl_lexer.specs.declared.token.Token.{Token};
+ghost use Rattle.idl_lexer.specs.Lexemes.{HasNoForm, HasNoWord, IsLexeme};
+ghost use Rattle.idl_lexer.specs.Punctuation.{is_punctuation};
+ghost use Rattle.idl_lexer.specs.Faults.{IsFault, IsFaultAt, IsWordFault};
+ghost use Rattle.idl_lexer.specs.Refusal.{OnlyIf};
 ghost use Rattle.idl_lexer.specs.Forms.{Begins};
 ghost use Rattle.idl_lexer.specs.Tokens.{HaveLines, Lexed};
 
@@ -17,25 +22,48 @@ use crate::token::{Kind, Token};
 use crate::word::word;
 use std::alloc::Global;
 
+/// The mark of punctuation or the word at the front.
+fn mark_or_word(octets: &[u8], line: usize) -> Result<Lexeme, LexFault>
+    ensures form { IfOk result (λ l. (before : List ℕ) → IsLexeme before octets.now l) }
+    ensures no_mark { IfErr result (λ _. (n : ℕ) → is_punctuation octets.now n ≡ false) }
+    ensures no_word { IfErr result (λ _. HasNoWord octets.now) }
+    ensures told { IfErr result (IsWordFault octets.now line) }
+{
+    match punct_len(octets) {
+        Some(len) => Ok(Lexeme::token(Kind::Punct, len)),
+        None => match word(octets, line) {
+            Ok((kind, len)) => Ok(Lexeme::token(kind, len)),
+            Err(fault) => Err(fault),
+        },
+    }
+}
+
+/// The octet at a place; 0 past the end.
+fn octet_at(octets: &[u8], at: usize) -> u8
+    ensures { result ≡ slice_index octets.now at }
+{
+    match octets.get(at) {
+        Some(octet) => *octet,
+        None => 0,
+    }
+}
+
 /// What the octets begin with, behind those before them.
 fn lexeme(before: &[u8], octets: &[u8], line: usize) -> Result<Lexeme, LexFault>
     ensures form { IfOk result (λ l. IsLexeme before.now octets.now l) }
+    ensures refused { IfErr result (λ _. HasNoForm before.now octets.now) }
+    ensures told { IfErr result (IsFaultAt before.now octets.now line) }
 {
-    match octets {
-        [b'#', ..] => directive(before, octets, line),
-        [b'/', b'/', ..] => Ok(Lexeme::skipped(line_len(octets))),
-        [b'/', b'*', ..] => Ok(Lexeme::skipped(block_comment(octets, line)?)),
-        [b'\'', ..] => Ok(Lexeme::token(Kind::CharLit, char_literal(octets, line)?)),
-        [b'"', ..] => Ok(Lexeme::token(Kind::TextLit, text_literal(octets, line)?)),
-        [b'0'..=b'9', ..] => Ok(Lexeme::token(Kind::Number, integer(octets, line)?)),
-        [first, ..] if is_blank_octet(*first) => Ok(Lexeme::skipped(blank_len(octets))),
-        _ => match punct_len(octets) {
-            Some(len) => Ok(Lexeme::token(Kind::Punct, len)),
-            None => {
-                let (kind, len) = word(octets, line)?;
-                Ok(Lexeme::token(kind, len))
-            }
-        },
+    let (first, second) = (octet_at(octets, 0), octet_at(octets, 1));
+    match first {
+        b'#' => directive(before, octets, line),
+        b'/' if second == b'/' => Ok(Lexeme::skipped(line_len(octets))),
+        b'/' if second == b'*' => Ok(Lexeme::skipped(block_comment(octets, line)?)),
+        b'\'' => Ok(Lexeme::token(Kind::CharLit, char_literal(octets, line)?)),
+        b'"' => Ok(Lexeme::token(Kind::TextLit, text_literal(octets, line)?)),
+        _ if first.is_ascii_digit() => Ok(Lexeme::token(Kind::Number, integer(octets, line)?)),
+        _ if is_blank_octet(first) => Ok(Lexeme::skipped(blank_len(octets))),
+        _ => mark_or_word(octets, line),
     }
 }
 
@@ -60,7 +88,8 @@ fn token(source: &str, kind: Kind, start: usize, end: usize, line: usize) -> Tok
 }
 
 fn add<'a>(tokens: &mut Vec<Token<'a>>, token: Token<'a>) -> Result<(), LexFault>
-    ensures { IfOk result (λ _. tokens.new.items ≡ tokens.old.items ++ token.entry ∷ []) }
+    ensures added { IfOk result (λ _. tokens.new.items ≡ tokens.old.items ++ token.entry ∷ []) }
+    ensures memory { IfErr result (λ fault. fault ≡ NoMemory) }
 {
     tokens.push(token)?;
     Ok(())
@@ -78,6 +107,8 @@ fn add<'a>(tokens: &mut Vec<Token<'a>>, token: Token<'a>) -> Result<(), LexFault
 pub fn lex(alloc: Global, source: &str) -> Result<Vec<Token<'_>>, LexFault>
     ensures lexed { IfOk result (λ tokens. Lexed source.now tokens.items) }
     ensures lines { IfOk result (λ tokens. HaveLines source.now tokens.items) }
+    ensures refused { IfErr result (λ fault. OnlyIf fault ((tokens : List Token) → Lexed source.now tokens → ⊥)) }
+    ensures told { IfErr result (λ fault. OnlyIf fault (IsFault source.now fault)) }
 {
     let octets = source.as_bytes();
     let mut tokens = Vec::new(alloc);

@@ -8,6 +8,7 @@ mod comment;
 mod directive;
 pub mod fault;
 pub mod identifiers;
+pub mod laws;
 mod lexeme;
 mod lexer;
 mod literal;

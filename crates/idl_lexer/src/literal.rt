@@ -1,11 +1,13 @@
 //! Character and text literals (ISO/IEC 19500-1, lexical conventions, literals).
 
-ghost use Rattle.std.specs.Prelude.{◌≡◌, ◌<◌, ◌≤◌, ℕ, length, drop, slice_index, IfOk, IfSome, IsOk, IsSome, true};
+ghost use Rattle.std.specs.Prelude.{◌≡◌, ◌<◌, ◌≤◌, ℕ, length, drop, slice_index, IfErr, IfOk, IfSome, IsOk, IsSome, true};
 ghost use Rattle.std.specs.Char.{is_ascii_hexdigit};
 ghost use Rattle.std.specs.Str.Parse.{digits_value, IsNumeral};
 ghost use Rattle.idl_lexer.specs.Octets.{is_octal};
 ghost use Rattle.idl_lexer.specs.Literals.{is_escape_letter, letter_value, IsCharacter, IsCharLiteral};
 ghost use Rattle.idl_lexer.specs.Literals.{IsEscapeDigits, IsTextLiteral};
+ghost use Rattle.idl_lexer.specs.Faults.{IsCharFault, IsTextFault, character_fault, escape_fault, if_ascii};
+ghost use Rattle.idl_lexer.specs.declared.fault.LexFault.TheVariants.{BadEscape};
 
 use crate::fault::LexFault;
 use crate::number::number_of;
@@ -31,6 +33,7 @@ fn octal_escape(octets: &[u8], line: usize) -> Result<(u8, usize), LexFault>
     ensures within { IfOk result (λ c. c.1 ≤ length octets.now) }
     ensures long { IfOk result (λ c. 0 < c.1) }
     ensures complete { (m v : ℕ) → IsEscapeDigits is_octal 8 3 (drop 1 octets.now) m v → v < 256 → IsOk result }
+    ensures told { IfErr result (λ fault. fault ≡ BadEscape line) }
 {
     let digits = octets.split_at(1).1;
     let len = octal_len(digits).min(3);
@@ -48,6 +51,7 @@ fn hex_escape(octets: &[u8], line: usize) -> Result<(u8, usize), LexFault>
     ensures within { IfOk result (λ c. c.1 ≤ length octets.now) }
     ensures long { IfOk result (λ c. 0 < c.1) }
     ensures complete { (m v : ℕ) → IsEscapeDigits is_ascii_hexdigit 16 2 (drop 2 octets.now) m v → IsOk result }
+    ensures told { IfErr result (λ fault. fault ≡ BadEscape line) }
 {
     let digits = octets.split_at(2).1;
     let len = hex_len(digits).min(2);
@@ -82,6 +86,7 @@ fn escape(octets: &[u8], line: usize) -> Result<(u8, usize), LexFault>
     ensures within { IfOk result (λ c. c.1 ≤ length octets.now) }
     ensures long { IfOk result (λ c. 0 < c.1) }
     ensures complete { (quote n v : ℕ) → IsCharacter quote octets.now n v → IsOk result }
+    ensures told { IfErr result (λ fault. fault ≡ escape_fault octets.now line) }
 {
     match octets {
         [_, b'x', ..] => hex_escape(octets, line),
@@ -101,6 +106,7 @@ pub(crate) fn character(octets: &[u8], quote: u8, line: usize) -> Result<(u8, us
     ensures within { IfOk result (λ c. c.1 ≤ length octets.now) }
     ensures long { IfOk result (λ c. 0 < c.1) }
     ensures complete { (n v : ℕ) → IsCharacter quote octets.now n v → IsOk result }
+    ensures told { IfErr result (λ fault. fault ≡ character_fault quote octets.now line) }
 {
     match octets {
         [b'\\', ..] => escape(octets, line),
@@ -112,7 +118,9 @@ pub(crate) fn character(octets: &[u8], quote: u8, line: usize) -> Result<(u8, us
 }
 
 /// The fault of a character literal that goes on with these octets: a character outside ASCII in it comes first.
-fn unclosed(octets: &[u8], fault: LexFault, line: usize) -> LexFault {
+fn unclosed(octets: &[u8], fault: LexFault, line: usize) -> LexFault
+    ensures { result ≡ if_ascii octets.now fault line }
+{
     let inside = octets
         .split_at(memchr2(b'\'', b'\n', octets).unwrap_or(octets.len()))
         .0;
@@ -134,6 +142,8 @@ pub(crate) fn char_literal(octets: &[u8], line: usize) -> Result<usize, LexFault
     ensures form { IfOk result (λ n. IsCharLiteral octets.now n) }
     ensures within { IfOk result (λ n. n ≤ length octets.now) }
     ensures long { IfOk result (λ n. 0 < n) }
+    ensures refused { IfErr result (λ _. (n : ℕ) → IsCharLiteral octets.now n → ⊥) }
+    ensures told { IfErr result (IsCharFault octets.now line) }
 {
     let inner = octets.split_at(1).1;
     match character(inner, b'\'', line) {
@@ -157,6 +167,8 @@ pub(crate) fn text_literal(octets: &[u8], line: usize) -> Result<usize, LexFault
     ensures form { IfOk result (λ n. IsTextLiteral octets.now n) }
     ensures within { IfOk result (λ n. n ≤ length octets.now) }
     ensures long { IfOk result (λ n. 0 < n) }
+    ensures refused { IfErr result (λ _. (n : ℕ) → IsTextLiteral octets.now n → ⊥) }
+    ensures told { IfErr result (IsTextFault octets.now line) }
 {
     let mut at = 1;
     while at < octets.len() && octets[at] != b'"' {

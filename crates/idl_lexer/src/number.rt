@@ -1,9 +1,10 @@
 //! Integer literals (ISO/IEC 19500-1, lexical conventions, literals).
 
-ghost use Rattle.std.specs.Prelude.{◌≡◌, ◌<◌, ◌≤◌, ◌≢◌, length, slice_index, IfOk, IfSome, IsSome};
+ghost use Rattle.std.specs.Prelude.{◌≡◌, ◌<◌, ◌≤◌, ◌≢◌, ℕ, length, slice_index, IfErr, IfOk, IfSome, IsSome};
 ghost use Rattle.std.specs.Str.Parse.{digits_value};
 ghost use Rattle.idl_lexer.specs.Octets.{run};
 ghost use Rattle.idl_lexer.specs.Numbers.{is_word_or_point, number_value, IsInteger, IsLiteral, IsNumber};
+ghost use Rattle.idl_lexer.specs.declared.fault.LexFault.TheVariants.{BadNumber};
 
 use crate::fault::LexFault;
 use crate::octets::is_word_octet;
@@ -59,6 +60,8 @@ pub(crate) fn integer(octets: &[u8], line: usize) -> Result<usize, LexFault>
     ensures form { IfOk result (λ n. IsInteger octets.now n) }
     ensures within { IfOk result (λ n. n ≤ length octets.now) }
     ensures long { IfOk result (λ n. 0 < n) }
+    ensures refused { IfErr result (λ _. (n : ℕ) → IsInteger octets.now n → ⊥) }
+    ensures told { IfErr result (λ fault. fault ≡ BadNumber line) }
 {
     let len = number_len(octets);
     match literal_value(octets.split_at(len).0) {

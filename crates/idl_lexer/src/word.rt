@@ -1,12 +1,15 @@
 //! Identifiers and keywords (ISO/IEC 19500-1, lexical conventions).
 
-ghost use Rattle.std.specs.Prelude.{◌≡◌, ◌<◌, ◌≤◌, ◌==◌, ℕ, List, map, filter, length, IfOk, IfSome, IsTrue, slice_index};
+ghost use Rattle.std.specs.Prelude.{◌≡◌, ◌<◌, ◌≤◌, ◌==◌, ℕ, List, map, filter, length, IfErr, IfNone, IfOk, IfSome, IsTrue, slice_index};
 ghost use Rattle.std.specs.Char.{is_ascii_alphabetic};
 ghost use Rattle.std.specs.List.{list_any};
 ghost use Rattle.std.specs.Str.{bytes_eq};
 ghost use Rattle.idl_lexer.specs.Words.{is_keyword as listed, is_keyword_in_some_case as listed_in_some_case};
 ghost use Rattle.idl_lexer.specs.Words.{keywords, same_but_for_case, IsIdentifier};
 ghost use Rattle.idl_lexer.specs.Forms.{Begins};
+ghost use Rattle.idl_lexer.specs.Lexemes.{HasNoWord};
+ghost use Rattle.idl_lexer.specs.Faults.{IsWordFault};
+ghost use Rattle.idl_lexer.specs.declared.fault.LexFault.TheVariants.{KeywordCase};
 
 use crate::fault::LexFault;
 use crate::octets::word_len;
@@ -76,6 +79,8 @@ fn plain_word(octets: &[u8], line: usize) -> Result<(Kind, usize), LexFault>
     ensures form { IfOk result (λ w. (before : List ℕ) → Begins w.0 before octets.now w.1) }
     ensures within { IfOk result (λ w. w.1 ≤ length octets.now) }
     ensures long { IfOk result (λ w. 0 < w.1) }
+    ensures refused { IfErr result (λ _. HasNoWord octets.now) }
+    ensures told { IfErr result (λ fault. fault ≡ KeywordCase line) }
 {
     let len = word_len(octets);
     let word = octets.split_at(len).0;
@@ -98,6 +103,8 @@ pub(crate) fn word(octets: &[u8], line: usize) -> Result<(Kind, usize), LexFault
     ensures form { IfOk result (λ w. (before : List ℕ) → Begins w.0 before octets.now w.1) }
     ensures within { IfOk result (λ w. w.1 ≤ length octets.now) }
     ensures long { IfOk result (λ w. 0 < w.1) }
+    ensures refused { IfErr result (λ _. HasNoWord octets.now) }
+    ensures told { IfErr result (IsWordFault octets.now line) }
 {
     match octets {
         [b'_', name @ ..] if begins_with_letter(name) => Ok((Kind::Ident, word_len(name) + 1)),
@@ -110,10 +117,14 @@ pub(crate) fn word(octets: &[u8], line: usize) -> Result<(Kind, usize), LexFault
 pub(crate) fn identifier_len(octets: &[u8]) -> Option<usize>
     ensures form { IfSome result (λ n. IsIdentifier octets.now n) }
     ensures within { IfSome result (λ n. n ≤ length octets.now) }
+    ensures none { IfNone result ((n : ℕ) → IsIdentifier octets.now n → ⊥) }
 {
     match word(octets, 0) {
-        Ok((Kind::Ident, len)) => Some(len),
-        _ => None,
+        Ok((kind, len)) => match kind {
+            Kind::Ident => Some(len),
+            _ => None,
+        },
+        Err(_) => None,
     }
 }
 

@@ -1,6 +1,7 @@
-use Rattle.std.proofs.Common.{◌≡◌, ◌∙◌, ℕ, zero, suc, ◌+◌, ◌<◌, ◌≤◌, Bool, true, false, List, [], ◌∷◌, length, drop, slice_index, ap, sym, refl, arith}
+use Rattle.std.proofs.Common.{◌≡◌, ◌∙◌, ℕ, zero, suc, ◌+◌, ◌<◌, ◌≤◌, Bool, true, false, inl, inr, List, [], ◌∷◌, length, drop, slice_index, ap, sym, refl, arith}
 use Rattle.std.proofs.lemmas.Bool.Decides.{nat_tests}
-use Rattle.std.proofs.lemmas.List.{get_or-drop}
+use Rattle.std.proofs.lemmas.Bool.{cases_lt}
+use Rattle.std.proofs.lemmas.List.{get_or-drop, get_or_past}
 use Rattle.memchr.specs.Find.{OccursAt}
 use Rattle.idl_lexer.specs.Gaps.{closes_at}
 use Rattle.idl_lexer.proofs.comment.block_comment.Goals as goal
@@ -33,8 +34,8 @@ refuted : (b : Bool) → ¬ (b ≡ true) → b ≡ false
 refuted true h = absurd (h refl)
 refuted false h = refl
 
-none : (s t : List ℕ) (k : ℕ) → t ≡ drop 2 s → k + 2 ≤ length t → ¬ (OccursAt t close k) → closes_at s (k + 2) ≡ false
-none s t k e fits h =
+absent : (s t : List ℕ) (k : ℕ) → t ≡ drop 2 s → k + 2 ≤ length t → ¬ (OccursAt t close k) → closes_at s (k + 2) ≡ false
+absent s t k e fits h =
     refuted _ (λ said. let two = tells s k said in h (record {
       fits = fits;
       reads = both t k
@@ -52,6 +53,27 @@ returns-in-Some-clause-form c =
       second = c.requires.second;
       inner = c.in-Some.inner;
       closes = found whole body _ c.split_at.ensures.back occurs;
-      before = λ k lt. none whole body k c.split_at.ensures.back (omega (arith, occurs.fits)) (first.before k (omega arith) lt);
+      before = λ k lt. absent whole body k c.split_at.ensures.back (omega (arith, occurs.fits)) (first.before k (omega arith) lt);
       length = refl;
     }
+
+-- where a comment closes, the mark occurs
+occurs : (s t : List ℕ) (k : ℕ) → t ≡ drop 2 s → closes_at s (k + 2) ≡ true → OccursAt t close k
+occurs s t k e closes =
+    let two = tells s k closes in
+    let last : slice_index t (k + 1) ≡ 47 = behind s t (k + 1) e ∙ ap (slice_index s) (omega arith) ∙ two.1 in
+    record {
+      fits = omega (arith, inside t (k + 1) last);
+      reads = both t k (behind s t k e ∙ ap (slice_index s) (omega arith) ∙ two.0) last;
+    }
+  where
+    inside : (t : List ℕ) (i : ℕ) → slice_index t i ≡ 47 → i + 1 ≤ length t
+    inside t i last = elim (cases_lt i (length t)) [
+      | inl less ↦ omega arith
+      | inr past ↦ absurd (omega (arith, last, get_or_past t i 0 past))
+    ]
+
+pub returns-in-None-clause-refused : goal.returns-in-None-clause-refused
+returns-in-None-clause-refused c n t =
+    let at = occurs c.args.octets.now c.split_at.result.1.now t.inner c.split_at.ensures.back t.closes in
+    c.in-None.ensures t.inner (omega arith) (omega (arith, at.fits)) at

@@ -42,28 +42,26 @@ skipped before s text n l form =
       form = directive l.fresh (rw same at l.ascii) (rw same at form) (ap length same);
     }
 
-pub returns-then-is_kept : goal.returns-then-is_kept
-returns-then-is_kept c = record {
-  form = rw c.token.ensures (kept _ _ _ c.line_len.result (record {
-    hash = c.requires;
-    counted = c.line_len.ensures.value;
-    front = c.split_at.ensures.front;
-    front_len = c.split_at.ensures.front_len;
-    within = c.line_len.ensures.within;
-    fresh = c.is_fresh.ensures c.if-not-is_fresh.false;
-    ascii = sym c.are_ascii.ensures ∙ c.if-not-are_ascii.false;
-  }) (c.is_kept.ensures c.if-is_kept.true));
-}
+pub returns-then-is_kept-clause-form : goal.returns-then-is_kept-clause-form
+returns-then-is_kept-clause-form c =
+    rw c.token.ensures (kept _ _ _ c.line_len.result (record {
+      hash = c.requires;
+      counted = c.line_len.ensures.value;
+      front = c.split_at.ensures.front;
+      front_len = c.split_at.ensures.front_len;
+      within = c.line_len.ensures.within;
+      fresh = c.is_fresh.ensures.0 c.if-not-is_fresh.false;
+      ascii = sym c.are_ascii.ensures ∙ c.if-not-are_ascii.false;
+    }) (c.is_kept.ensures.0 c.if-is_kept.true))
 
-pub returns-then-is_skipped : goal.returns-then-is_skipped
-returns-then-is_skipped c = record {
-  form = rw c.skipped.ensures (skipped _ _ _ c.line_len.result (record {
-    hash = c.requires;
-    counted = c.line_len.ensures.value;
-    front = c.split_at.ensures.front;
-    front_len = c.split_at.ensures.front_len;
-    within = c.line_len.ensures.within;
-    fresh = c.is_fresh.ensures c.if-not-is_fresh.false;
-    ascii = sym c.are_ascii.ensures ∙ c.if-not-are_ascii.false;
-  }) (c.is_skipped.ensures c.if-is_skipped.true));
-}
+pub returns-then-is_skipped-clause-form : goal.returns-then-is_skipped-clause-form
+returns-then-is_skipped-clause-form c =
+    rw c.skipped.ensures (skipped _ _ _ c.line_len.result (record {
+      hash = c.requires;
+      counted = c.line_len.ensures.value;
+      front = c.split_at.ensures.front;
+      front_len = c.split_at.ensures.front_len;
+      within = c.line_len.ensures.within;
+      fresh = c.is_fresh.ensures.0 c.if-not-is_fresh.false;
+      ascii = sym c.are_ascii.ensures ∙ c.if-not-are_ascii.false;
+    }) (c.is_skipped.ensures.0 c.if-is_skipped.true))
