@@ -18,7 +18,8 @@ escape_fault s line =
     else if is_ascii (slice_index s 1) then BadEscape line
     else BadChar line)
 
--- where s begins with no character between these quotes: the literal or its line ends there, or the character isn't ASCII
+-- where s begins with no character between these quotes: the literal or its line ends there, or what stands there
+-- isn't ASCII
 abbrev pub character_fault : ℕ → List ℕ → ℕ → LexFault
 character_fault quote s line =
     (if slice_index s 0 == 92 then escape_fault s line
