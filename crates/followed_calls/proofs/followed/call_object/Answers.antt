@@ -1,4 +1,4 @@
-use Rattle.std.proofs.Common.{arith, Some, None, Ok}
+use Rattle.std.proofs.Common.{arith, Some, Ok, Err}
 use Rattle.giop.specs.Made.{given_by}
 use Rattle.object_references.specs.References.{reference_of}
 use Rattle.call_texts.specs.declared.outcome.Outcome.TheVariants.{Returned, Raised, Failed, Readdressed}
@@ -46,3 +46,11 @@ loop-count-preserved g c =
     (g.D.Dial.went c.loop-count.dial) (g.D.Dial.went c.call_twice.new.dial) c.loop-count._count
     (reference_of c.loop-count.at) (g.D.Dial.lines c.loop-count.dial) (g.D.Dial.lines c.call_twice.new.dial)
     c.loop-count.invariant c.in-Forwarded.next (rw (c.in-Some.is, c.in-Forwarded.is) at c.in-Ok.ensures)
+
+pub returns-in-Err : goal.returns-in-Err
+returns-in-Err g c =
+    ended (g.D.Dial.went c.args.dial.now) (asking c.args.request.now (given_by c.args.body) c.args.reads)
+    (called_of c.args.wanted.now) (reference_of c.args.ior) (g.D.Dial.lines c.args.dial.now)
+    (g.D.Dial.went c.loop-count.dial) (g.D.Dial.went c.call_twice.new.dial) c.loop-count._count
+    (reference_of c.loop-count.at) (g.D.Dial.lines c.loop-count.dial) (g.D.Dial.lines c.call_twice.new.dial)
+    c.loop-count.invariant (Err c.in-Err.fault) (omega arith) tt c.in-Err.ensures
