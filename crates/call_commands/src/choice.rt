@@ -1,6 +1,6 @@
 //! Which operation is called.
 
-ghost use Rattle.std.specs.Prelude.{◌≡◌, option_map, IfSome};
+ghost use Rattle.std.specs.Prelude.{◌≡◌, [], option_map, IfSome};
 ghost use Rattle.giop_types.specs.GiopModel.{giop_table};
 ghost use Rattle.type_model.specs.Names.{IsNamed};
 ghost use Rattle.call_commands.specs.Choices.{choice_of, chosen as chosen_by, of_table, own as own_choice};
