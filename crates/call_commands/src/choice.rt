@@ -1,11 +1,10 @@
 //! Which operation is called.
 
-ghost use Rattle.std.specs.Prelude.{◌≡◌, option_map, IfSome};
+ghost use Rattle.std.specs.Prelude.{◌≡◌, [], option_map, IfSome};
 ghost use Rattle.giop_types.specs.GiopModel.{giop_table};
 ghost use Rattle.type_model.specs.Names.{IsNamed};
 ghost use Rattle.call_commands.specs.Choices.{choice_of, chosen as chosen_by, of_table, own as own_choice};
 
-use crate::ask::Types;
 use called_operations::operation_of;
 use giop_types::{BOOLEAN_RESULT, GiopTypes, ID_ARGUMENT, NO_ARGUMENT};
 use part_names::PartNames;
@@ -73,19 +72,20 @@ fn own<'t>(types: &'t GiopTypes, nameless: &'t PartNames, word: &[u8]) -> Option
 /// The operation that a word names for an object whose reference has an id: one of the table's, or one
 /// that every object has.
 pub(crate) fn choose<'t>(
-    types: &Types<'t>,
+    table: &'t Accepted,
+    names: &'t PartNames,
+    types: &'t GiopTypes,
     nameless: &'t PartNames,
     id: &[u8],
     word: &[u8],
 ) -> Option<Choice<'t>>
     requires { nameless.now ≡ [] }
-    ensures is { option_map choice_of result
-        ≡ chosen_by types.now.table.now.model types.now.names.now id.now word.now }
+    ensures is { option_map choice_of result ≡ chosen_by table.now.model names.now id.now word.now }
     ensures request { IfSome result (λ c. IsNamed c.table.now.model.names c.request) }
     ensures reply { IfSome result (λ c. IsNamed c.table.now.model.names c.reply) }
 {
-    match operation_of(types.table.table().model(), id, word) {
-        Some(number) => choice_at(types.table, types.names, number),
-        None => own(types.types, nameless, word),
+    match operation_of(table.table().model(), id, word) {
+        Some(number) => choice_at(table, names, number),
+        None => own(types, nameless, word),
     }
 }

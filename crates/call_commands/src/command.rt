@@ -29,12 +29,8 @@ pub fn call_text<D: Dial>(
         (D.lines dial.old) result (D.lines dial.new) }
 {
     let nameless = PartNames::new(alloc, Vec::new(alloc));
-    match choose(
-        types,
-        &nameless,
-        ior.type_id.as_slice(),
-        ask.operation.as_bytes(),
-    ) {
+    let (id, word) = (ior.type_id.as_slice(), ask.operation.as_bytes());
+    match choose(types.table, types.names, types.types, &nameless, id, word) {
         Some(choice) => called(types, alloc, dial, ior, &choice, ask),
         None => Err(CallRefusal::NoOperation),
     }
