@@ -40,7 +40,8 @@ pub record IsUnreached (Told Told' : Telling) (vain : List Line) (lines lines' :
   pub gone : (all : List Ends) → Told all → Told' all
 
 -- By what is told of the lines and of the connections that were handed back, before and after.
-abbrev pub IsCalledAt : Telling → Telling → Asking → List ℕ → ℕ → List Line → Result (Option Answer) ReachFault → List Line → Type 0
+abbrev pub IsCalledAt : Telling → Telling → Asking → List ℕ → ℕ → List Line → Result (Option Answer) ReachFault
+    → List Line → Type 0
 IsCalledAt Told Told' ask host port lines (Ok answer) lines' = IsTalk Told Told' ask host port lines (Ok answer) lines'
 IsCalledAt Told Told' ask host port lines (Err NotReached) lines' =
     IsUnreached Told Told' (missed host port ∷ []) lines lines'
@@ -65,7 +66,8 @@ pub record IsTalkTo (Told Told' : Telling) (ask : Asking) (iiop : Iiop) (lines :
   pub to_object : IsTo iiop.body.key ask.request request
   pub talk : IsTalk Told Told' (asking request ask.body ask.reads) iiop.body.host iiop.body.port lines result lines'
 
-abbrev pub IsCalledTo : Telling → Telling → Asking → Iiop → List Line → Result (Option Answer) ReachFault → List Line → Type 0
+abbrev pub IsCalledTo : Telling → Telling → Asking → Iiop → List Line → Result (Option Answer) ReachFault
+    → List Line → Type 0
 IsCalledTo Told Told' ask iiop lines (Ok answer) lines' = IsTalkTo Told Told' ask iiop lines (Ok answer) lines'
 IsCalledTo Told Told' ask iiop lines (Err NotReached) lines' =
     IsUnreached Told Told' (missed iiop.body.host iiop.body.port ∷ []) lines lines'
@@ -87,8 +89,10 @@ pub record IsGivenUp (Told Told' : Telling) (lines lines' : List Line) : Type 0 
   pub vain : List Line
   pub unreached : IsUnreached Told Told' vain lines lines'
 
-abbrev pub IsCalledBy : Telling → Telling → Asking → List Row → List Line → Result (Option Answer) ReachFault → List Line → Type 0
+abbrev pub IsCalledBy : Telling → Telling → Asking → List Row → List Line → Result (Option Answer) ReachFault
+    → List Line → Type 0
 IsCalledBy Told Told' ask rows lines (Ok answer) lines' = IsTalkBy Told Told' ask rows lines (Ok answer) lines'
 IsCalledBy Told Told' ask rows lines (Err NotReached) lines' = IsUnreached Told Told' (all_missed rows) lines lines'
-IsCalledBy Told Told' ask rows lines (Err (NotCalled fault)) lines' = IsTalkBy Told Told' ask rows lines (Err fault) lines'
+IsCalledBy Told Told' ask rows lines (Err (NotCalled fault)) lines' =
+    IsTalkBy Told Told' ask rows lines (Err fault) lines'
 IsCalledBy Told Told' ask rows lines (Err NoMemory) lines' = IsGivenUp Told Told' lines lines'
