@@ -5,9 +5,10 @@ use Rattle.call_texts.specs.declared.outcome.Outcome.{Outcome}
 use Rattle.call_texts.specs.declared.outcome.Outcome.TheVariants as outcomes
 use Rattle.object_calls.specs.Lines.{Line}
 use Rattle.object_calls.specs.Talks.{Telling}
-use Rattle.call_commands.specs.Calls.{IsCarriedOut, IsEnding, IsLastOutcome, IsSaid}
-use Rattle.call_commands.specs.Choices.{Choice}
+use Rattle.call_commands.specs.Calls.{IsCarriedOut, IsEnding, IsLastOutcome, IsSaid, IsTextCalled}
+use Rattle.call_commands.specs.Choices.{Choice, chosen}
 use Rattle.call_commands.specs.declared.ask.TextCall.{TextCall}
+use Rattle.call_commands.specs.declared.ask.Types.{Types}
 use Rattle.call_commands.specs.declared.ending.Ending.{Ending}
 use Rattle.call_commands.specs.declared.fault.CallRefusal.{CallRefusal}
 use Rattle.call_commands.specs.declared.fault.CallRefusal.TheVariants.{NoOperation, Unsaid, Unanswered, Readdressed, NoMemory}
@@ -33,3 +34,15 @@ module _ (Told Told' : Telling) (choice : Choice) (ask : TextCall) (reference : 
   ended outcome (Err (Unsaid fault)) is said = absurd is
   ended outcome (Err (Unanswered fault)) is said = absurd is
   ended outcome (Err NoMemory) is said = absurd is
+
+  -- the operation is the one that the word names
+  pub text_called : (types : Types) (result : Result Ending CallRefusal)
+      → chosen types.table.now.model types.names.now reference.type_id ask.operation.now ≡ Some choice
+      → IsCarriedOut Told Told' choice ask reference lines result lines'
+      → IsTextCalled Told Told' types ask reference lines result lines'
+  text_called types (Ok ending) is carried = record { choice = choice; chosen_is = is; is = carried }
+  text_called types (Err NoOperation) is carried = absurd carried
+  text_called types (Err (Unsaid fault)) is carried = record { choice = choice; chosen_is = is; is = carried }
+  text_called types (Err (Unanswered fault)) is carried = record { choice = choice; chosen_is = is; is = carried }
+  text_called types (Err Readdressed) is carried = record { choice = choice; chosen_is = is; is = carried }
+  text_called types (Err NoMemory) is carried = record { choice = choice; chosen_is = is; is = carried }

@@ -3,7 +3,7 @@
 ghost use Rattle.std.specs.Prelude.{◌≡◌, [], option_map, IfSome};
 ghost use Rattle.giop_types.specs.GiopModel.{giop_table};
 ghost use Rattle.type_model.specs.Names.{IsNamed};
-ghost use Rattle.call_commands.specs.Choices.{choice_of, chosen as chosen_by, of_table, own as own_choice};
+ghost use Rattle.call_commands.specs.Choices.{choice_of, chosen as chosen_by, of_table, own as own_choice, own_as as as_own};
 
 use called_operations::operation_of;
 use giop_types::{BOOLEAN_RESULT, GiopTypes, ID_ARGUMENT, NO_ARGUMENT};
@@ -44,21 +44,19 @@ fn choice_at<'t>(table: &'t Accepted, names: &'t PartNames, number: u32) -> Opti
     }
 }
 
-/// The operation of this name that every object has (ISO/IEC 19500-1, Object Reference Operations).
-fn own<'t>(types: &'t GiopTypes, nameless: &'t PartNames, word: &[u8]) -> Option<Choice<'t>>
+/// An operation that every object has, which answers with a boolean.
+fn own_as<'t>(
+    types: &'t GiopTypes,
+    nameless: &'t PartNames,
+    name: &'t [u8],
+    request: u32,
+) -> Choice<'t>
     requires { nameless.now ≡ [] }
-    ensures is { option_map choice_of result ≡ own_choice word.now }
-    ensures request { IfSome result (λ c. IsNamed c.table.now.model.names c.request) }
-    ensures reply { IfSome result (λ c. IsNamed c.table.now.model.names c.reply) }
+    ensures is { choice_of result ≡ as_own name.now request }
+    ensures request { IsNamed giop_table.model.names request → IsNamed result.table.now.model.names result.request }
+    ensures reply { IsNamed result.table.now.model.names result.reply }
 {
-    let (name, request) = if word == b"_is_a".as_slice() {
-        (b"_is_a".as_slice(), ID_ARGUMENT)
-    } else if word == b"_non_existent".as_slice() {
-        (b"_non_existent".as_slice(), NO_ARGUMENT)
-    } else {
-        return None;
-    };
-    Some(Choice {
+    Choice {
         table: types.table(),
         names: nameless,
         name,
@@ -66,7 +64,23 @@ fn own<'t>(types: &'t GiopTypes, nameless: &'t PartNames, word: &[u8]) -> Option
         reply: BOOLEAN_RESULT,
         exceptions: &[],
         oneway: false,
-    })
+    }
+}
+
+/// The operation of this name that every object has (ISO/IEC 19500-1, Object Reference Operations).
+fn own<'t>(types: &'t GiopTypes, nameless: &'t PartNames, word: &[u8]) -> Option<Choice<'t>>
+    requires { nameless.now ≡ [] }
+    ensures is { option_map choice_of result ≡ own_choice word.now }
+    ensures request { IfSome result (λ c. IsNamed c.table.now.model.names c.request) }
+    ensures reply { IfSome result (λ c. IsNamed c.table.now.model.names c.reply) }
+{
+    if word == b"_is_a".as_slice() {
+        return Some(own_as(types, nameless, b"_is_a".as_slice(), ID_ARGUMENT));
+    }
+    if word == b"_non_existent".as_slice() {
+        return Some(own_as(types, nameless, b"_non_existent".as_slice(), NO_ARGUMENT));
+    }
+    None
 }
 
 /// The operation that a word names for an object whose reference has an id: one of the table's, or one
