@@ -2,12 +2,14 @@
 //! prints references to objects and serves calls to them.
 #![tactic(auto)]
 
-ghost use Rattle.std.specs.Prelude.{◌≡◌, ◌≢◌, ◌≤◌, ◌<◌, ◌⊎◌};
+ghost use Rattle.std.specs.Prelude.{◌≡◌, ◌≢◌, ◌≤◌, ◌<◌, ◌⊎◌, IsErrAnd, MatchResult, Some};
 ghost use Rattle.std.specs.String.{string_bytes};
 ghost use Rattle.std.specs.Io.KnownBytes.{Appends};
 ghost use Rattle.idlc_main.specs.Fault.{status_of};
-ghost use Rattle.command_words.specs.Ask.{Ask};
+ghost use Rattle.command_words.specs.Ask.{Ask, ask_of};
+ghost use Rattle.command_words.specs.Mistake.{IsOfWords};
 ghost use Rattle.command_words.specs.Words.{AsksFor, IsMistaken, texts};
+ghost use Rattle.command_words.specs.declared.task.Task.{Task};
 ghost use Rattle.idlc_main.specs.Answer.{IsEndOf, MayServe};
 ghost use Rattle.idlc_main.specs.Called.{status_of_end};
 
@@ -25,9 +27,9 @@ use crate::service::served;
 use crate::tasks::done;
 use crate::told::Answer;
 use call_commands::ExceptionLine;
-use command_words::{Said, parse};
+use command_words::{CallTask, Mistake, Said, parse};
 use socket_server::Totals;
-use std::alloc::AllocError;
+use std::alloc::{AllocError, Global};
 use std::io::IsTerminal;
 use std::net::Net;
 use std::process::ExitCode;
@@ -73,8 +75,10 @@ fn say<O: io::Write, E: io::Write>(out: &mut O, err: &mut E, answer: &Answer) ->
 }
 
 /// Tells of the end of a call: a system exception on standard error, and the status.
-fn told<E: io::Write>(err: &mut E, end: &CallEnd) -> u8
-    ensures { result ≡ status_of_end end.now }
+fn tell_end<E: io::Write>(err: &mut E, end: &CallEnd) -> u8
+    ensures status { result ≡ status_of_end end.now }
+    ensures told { result ≢ 0 → 5 ≤ result }
+    ensures range { result ≤ 6 }
 {
     match end {
         CallEnd::Done => DONE,
@@ -90,16 +94,37 @@ fn told<E: io::Write>(err: &mut E, end: &CallEnd) -> u8
 /// status.
 fn conclude<O: io::Write, E: io::Write>(out: &mut O, err: &mut E, concluded: &Concluded) -> u8
     ensures status { (result ≡ 3) ⊎ (result ≡ status_of_end concluded.now.end) }
+    ensures told { result ≢ 0 → 3 ≤ result }
+    ensures memory { result ≢ 4 }
+    ensures range { result ≤ 6 }
     ensures said { result ≢ 3 → Appends (O.contents out.old) (O.contents out.new) (string_bytes concluded.now.text) }
 {
     if out.write_all(concluded.text.as_bytes()).is_err() || out.flush().is_err() {
         return failed(err, &Fault::Unwritten);
     }
-    let status = told(err, &concluded.end);
+    let status = tell_end(err, &concluded.end);
     if let Some(times) = &concluded.times {
         let _ = writeln!(err, "idlc: {times}");
     }
     status
+}
+
+/// Calls an object, tells what came of it, and gives the status.
+fn call<R: WholeFiles + Net + Clock + AllocGlobal, O: io::Write, E: io::Write>(
+    rt: &R,
+    task: &CallTask<'_>,
+    out: &mut O,
+    err: &mut E,
+    is_for_person: bool,
+) -> u8
+    ensures range { result ≤ 6 }
+    ensures silent { result ≢ 0 → result < 3 → out.new ≡ out.old }
+    ensures memory { result ≡ 4 → MayServe (O.contents out.old) (O.contents out.new) }
+{
+    match called(rt, task, is_for_person) {
+        Ok(concluded) => conclude(out, err, &concluded),
+        Err(fault) => failed(err, &fault),
+    }
 }
 
 /// Tells a person how much was served.
@@ -107,6 +132,16 @@ fn tell<E: io::Write>(err: &mut E, totals: &Totals, is_for_person: bool) {
     if is_for_person {
         let _ = writeln!(err, "idlc: served: {totals}");
     }
+}
+
+/// What the words say, but for calls: of those `run` has no more clauses than its status.
+fn said<'a>(alloc: Global, words: &'a [&'a str]) -> Result<Said<'a>, Mistake>
+    ensures asked { (ask : Ask) → AsksFor (texts words.now) ask → MatchResult result
+        (λ said. (task : Task) × (said ≡ Said.Do task) × (ask_of task ≡ Some ask))
+        (λ fault. fault ≡ Mistake.NoMemory) }
+    ensures mistaken { IsMistaken (texts words.now) → IsErrAnd result IsOfWords }
+{
+    parse(alloc, words)
 }
 
 /// Runs the program on words, of which the first is its name, and gives its status: 0 where it did
@@ -130,7 +165,7 @@ fn run_for<R: WholeFiles + Net + Clock + Eprint + AllocGlobal, O: io::Write, E: 
     ensures silent { result ≢ 0 → result < 3 → out.new ≡ out.old }
     ensures memory { result ≡ 4 → MayServe (O.contents out.old) (O.contents out.new) }
 {
-    match parse(rt.alloc(), words) {
+    match said(rt.alloc(), words) {
         Ok(Said::Help(text)) => say(out, err, &Answer::plain(text)),
         Ok(Said::Do(task)) => match done(rt, &task, is_for_person) {
             Ok(answer) => say(out, err, &answer),
@@ -143,10 +178,7 @@ fn run_for<R: WholeFiles + Net + Clock + Eprint + AllocGlobal, O: io::Write, E: 
             }
             Err(fault) => failed(err, &fault),
         },
-        Ok(Said::Call(task)) => match called(rt, &task, is_for_person) {
-            Ok(concluded) => conclude(out, err, &concluded),
-            Err(fault) => failed(err, &fault),
-        },
+        Ok(Said::Call(task)) => call(rt, &task, out, err, is_for_person),
         Err(mistake) => failed(err, &Fault::from(mistake)),
     }
 }

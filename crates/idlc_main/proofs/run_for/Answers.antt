@@ -36,3 +36,8 @@ returns-in-Err-served-clause-asked g c ask asks =
 pub returns-in-Err-clause-asked : goal.returns-in-Err-clause-asked
 returns-in-Err-clause-asked g c ask asks =
     ends_unread (g.R.WholeFiles.reads c.args.rt.now) ask _ _ c.in-Err.mistake c.from.result c.failed-in-Err.result (c.in-Err.ensures.asked ask asks) c.from.ensures c.failed-in-Err.ensures
+
+pub returns-in-Ok-Call-clause-asked : goal.returns-in-Ok-Call-clause-asked
+returns-in-Ok-Call-clause-asked g c ask asks =
+    let found = c.in-Ok-Call.ensures.asked ask asks in
+    let same = found.1 in absurd cc
