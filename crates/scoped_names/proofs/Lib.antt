@@ -8,6 +8,7 @@ pub mod IdsGiven
 pub mod MembersKept
 pub mod WorkedIds
 pub mod FeatureTables
+pub mod Passed
 pub mod Readings
 pub mod Introducing
 pub mod Introduced

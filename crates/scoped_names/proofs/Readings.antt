@@ -17,7 +17,7 @@ use Rattle.scoped_names.specs.declared.fault.NameFault.{NameFault}
 use Rattle.scoped_names.specs.declared.fault.NameFault.TheVariants.{BadBase}
 use Rattle.scoped_names.specs.declared.fault.Unfit.TheVariants.{NotDefined, NamedTwice, FeatureTwice}
 use Rattle.scoped_names.specs.Faults.{declared_as, declares_over, entry_in, free_test, is_left_open, left_open, reappears, step_read, steps_read, taken_by}
-use Rattle.scoped_names.specs.Reading.{Checks, State, Tells, Test, ◌>>◌}
+use Rattle.scoped_names.specs.Reading.{Checks, Keeps, State, Tells, Test, ◌>>◌}
 use Rattle.name_steps.specs.Steps.{Step}
 use Rattle.scoped_names.specs.Tests.{at_entry, names_test, operand_test, operands_test}
 
@@ -52,9 +52,14 @@ checked_then (Ok y) test x h = ap (λ t. t >> λ u. Ok x) h
 checked_then (Err fault) test x (inl memory) = inl memory
 checked_then (Err fault) test x (inr is) = inr (ap (λ t. t >> λ u. Ok x) is)
 
+-- what changes nothing keeps it
+pub keeps_same : {T S : Type 0} (r : Result T NameFault) (x : S) → Keeps r x x
+keeps_same (Ok y) x = tt
+keeps_same (Err fault) x = inr refl
+
 -- ---- what is left open
 
-blank : Entry
+pub blank : Entry
 blank = record { scope = 0; name = []; token = 0; kind = ModuleKind; bases = []; worth = None; stands_for = None; line = 0; identifier = 0; prefix = [] }
 
 opened : State → ℕ → Entry → Bool → Option At

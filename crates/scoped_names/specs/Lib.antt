@@ -8,6 +8,7 @@ pub mod RepositoryIds
 pub mod IdPragmas
 pub mod Faults
 pub mod FileNames
+pub mod AllFaults
 pub mod Introductions
 pub mod Holding
 pub mod Following

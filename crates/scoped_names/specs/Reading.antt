@@ -1,5 +1,5 @@
 -- What reading a specification gives: what is known behind a part of it, or the first fault in it.
-use Rattle.std.specs.Prelude.{◌≡◌, ◌⊎◌, ℕ, List, Result, Ok, Err, MatchResult}
+use Rattle.std.specs.Prelude.{◌≡◌, ◌⊎◌, ℕ, List, Result, Ok, Err, IfErr, MatchResult}
 use Rattle.name_table.specs.Entry.{Entry}
 use Rattle.scoped_names.specs.RepositoryIds.{IdPragma}
 use Rattle.idl_tree.specs.declared.names.At.{At}
@@ -59,3 +59,7 @@ Gives result reading =
 abbrev pub Checks : {T : Type 0} → Result T NameFault → Test → Type 0
 Checks result test =
     MatchResult result (λ x. test ≡ Ok tt) (λ fault. (fault ≡ NoMemory) ⊎ (test ≡ Err fault))
+
+-- a fault leaves what is known as it was
+abbrev pub Keeps : {T S : Type 0} → Result T NameFault → S → S → Type 0
+Keeps result old new = IfErr result (λ fault. (fault ≡ NoMemory) ⊎ (new ≡ old))

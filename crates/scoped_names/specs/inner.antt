@@ -1,4 +1,5 @@
 -- What the crate's own code and proofs name, and no public contract does.
+pub mod Heard
 pub mod IdsKept
 pub mod Rising
 pub mod StateKept

@@ -8,7 +8,8 @@ ghost use Rattle.scoped_names.specs.Following.{AllFollow};
 ghost use Rattle.scoped_names.specs.Holding.{AllHold};
 ghost use Rattle.scoped_names.specs.Introductions.{IsEntry, StandsFor, clashes, introduced};
 ghost use Rattle.name_steps.specs.Steps.{steps_of};
-ghost use Rattle.scoped_names.specs.FileNames.{FileNames, AreNames};
+ghost use Rattle.scoped_names.specs.AllFaults.{all_faults, fault_of, first_of};
+ghost use Rattle.scoped_names.specs.FileNames.{FileNames, AreNames, names_of};
 
 /// A specification has one list of entries, and what pragmas say of each is one thing.
 pub fn names_are_one()
@@ -49,4 +50,11 @@ pub fn names_hold()
 pub fn names_follow()
     ensures { (spec : Spec) (names : FileNames) → AreNames spec.definitions.items names →
         AllFollow (λ e. ⊥) names.entries 0 (steps_of spec.definitions.items) }
+{}
+
+/// The first of all faults of a specification's names is the one that is told of it, and it has none
+/// exactly where it has names.
+#[tactic(auto, using(crate::proofs::Passed::first_is_told))]
+pub fn first_fault_is_told()
+    ensures { (definitions : List Definition) → first_of (all_faults definitions) ≡ fault_of (names_of definitions) }
 {}

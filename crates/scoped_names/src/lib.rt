@@ -23,6 +23,7 @@ macro_rules! room {
     };
 }
 
+mod all_faults;
 mod evaluation;
 pub mod fault;
 mod kinds;
@@ -35,6 +36,7 @@ mod repository_ids;
 mod specification;
 mod tables;
 
+pub use all_faults::{NameFaults, name_faults};
 pub use fault::{Flaw, NameFault, Unfit};
 pub use idl_tree::kinds::EntryKind;
 pub use name_table::Base;

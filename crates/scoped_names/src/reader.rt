@@ -3,7 +3,7 @@
 ghost use Rattle.std.specs.Prelude.{◌≡◌, ◌<◌, ◌≤◌, length, IfErr, IfOk, IfSome, slice_get};
 ghost use Rattle.name_table.specs.Entries.{latest, scope_of};
 ghost use Rattle.scoped_names.specs.Faults.{base_test, declared as declared_by, declared_as, defined_here, free_of, free_test, has_body, is_defined, is_defined_interface, is_interface, is_left_open, keeps_prefix, left_open, may_reappear, member_added, never_defined as never_defined_test, new_test, nothing_yet, prefix_set, reappears, scope_at as scope_at_entry, taken_by as taken_by_name, undefined_test, with_base_at};
-ghost use Rattle.scoped_names.specs.Reading.{Checks, Tells};
+ghost use Rattle.scoped_names.specs.Reading.{Checks, Keeps, Tells};
 ghost use Rattle.scoped_names.specs.FileNames.{file_names};
 ghost use Rattle.scoped_names.specs.declared.fault.NameFault.TheVariants.{NoMemory};
 ghost use Rattle.name_table.specs.Entry.{AreDistinct, around as around_of};
@@ -219,7 +219,8 @@ impl<'a> Reader<'a> {
         meaning: Meaning,
     ) -> Result<(), NameFault>
         requires { latest self.old.entries ≤ meaning.token }
-        ensures { Tells result self.new (declared_as meaning self.old identifier.entry) }
+        ensures told { Tells result self.new (declared_as meaning self.old identifier.entry) }
+        ensures kept { Keeps result self.old self.new }
     {
         free(identifier, self.taken_by(Word::new(identifier.name())))?;
         let scope = self.scope;
@@ -250,7 +251,8 @@ impl<'a> Reader<'a> {
         kind: EntryKind,
     ) -> Result<(), NameFault>
         requires { latest self.old.entries ≤ identifier.number }
-        ensures { Tells result self.new (declared_by kind self.old identifier.entry) }
+        ensures told { Tells result self.new (declared_by kind self.old identifier.entry) }
+        ensures kept { Keeps result self.old self.new }
     {
         self.declare_as(alloc, identifier, Meaning::plain(identifier.number, kind))
     }
@@ -326,7 +328,8 @@ impl<'a> Reader<'a> {
     ///
     /// `Collides` where it was defined before, or `NoMemory`.
     pub fn define(&mut self, identifier: Leaf<'a>) -> Result<(), NameFault>
-        ensures { Tells result self.new (defined_here self.old identifier.entry) }
+        ensures told { Tells result self.new (defined_here self.old identifier.entry) }
+        ensures kept { Keeps result self.old self.new }
     {
         let scope = self.scope;
         self.is_undefined(scope, identifier)?;
@@ -340,7 +343,8 @@ impl<'a> Reader<'a> {
     ///
     /// `Collides` where the scope has the name already, or `NoMemory`.
     pub fn add_member(&mut self, identifier: Leaf<'a>) -> Result<(), NameFault>
-        ensures { Tells result self.new (member_added self.old identifier.entry) }
+        ensures told { Tells result self.new (member_added self.old identifier.entry) }
+        ensures kept { Keeps result self.old self.new }
     {
         self.is_new(identifier)?;
         let key = Key {
@@ -377,7 +381,8 @@ impl<'a> Reader<'a> {
     ///
     /// `PrefixInScope`, at the pragma, in another scope.
     pub fn set_prefix(&mut self, text: &'a str, at: At) -> Result<(), NameFault>
-        ensures { Tells result self.new (prefix_set self.old self.old.scope text.entry.now at) }
+        ensures told { Tells result self.new (prefix_set self.old self.old.scope text.entry.now at) }
+        ensures kept { Keeps result self.old self.new }
     {
         if self.scope > 0 {
             return Err(NameFault::PrefixInScope { at });
@@ -431,7 +436,8 @@ impl<'a> Reader<'a> {
         requires inner { inner ≤ length self.old.entries }
         requires placed { base.entry < length self.old.entries }
         requires late { latest self.old.entries < base.token }
-        ensures { Tells result self.new (with_base_at self.old inner base at) }
+        ensures told { Tells result self.new (with_base_at self.old inner base at) }
+        ensures kept { Keeps result self.old self.new }
     {
         got!(self.may_be_base(alloc, inner, base, at));
         match self.tables.add_base(alloc, inner, base) {
@@ -444,7 +450,7 @@ impl<'a> Reader<'a> {
     }
 
     /// Whether it is a structure or a union that was declared ahead and isn't defined.
-    fn is_left_open(&self, number: usize) -> bool
+    pub(crate) fn is_left_open(&self, number: usize) -> bool
         requires { number < length self.now.entries }
         ensures { IfSome (slice_get self.now.entries number) (λ e. result ≡ is_left_open self.now number e) }
     {

@@ -6,7 +6,7 @@ ghost use Rattle.scoped_names.specs.Faults.{base_added, const_declared, enum_dec
 ghost use Rattle.scoped_names.specs.IdPragmas.{Gives as GivesTo, said_by};
 ghost use Rattle.scoped_names.specs.inner.IdsKept.{given_of};
 ghost use Rattle.scoped_names.specs.Meanings.{const_end};
-ghost use Rattle.scoped_names.specs.Reading.{Checks, Tells};
+ghost use Rattle.scoped_names.specs.Reading.{Checks, Keeps, Tells};
 ghost use Rattle.scoped_names.specs.inner.Rising.{Follows, Rises};
 ghost use Rattle.name_steps.specs.Steps.{definition_steps, module_body, steps_of};
 ghost use Rattle.name_steps.specs.StepsKept.{flat_steps, step_of, steps_in};
@@ -55,7 +55,8 @@ fn is_exception(kind: EntryKind) -> bool
 impl<'a> Reader<'a> {
     fn declare_enum(&mut self, alloc: Global, identifier: Leaf<'a>) -> Result<(), NameFault>
         requires { latest self.old.entries ≤ identifier.number }
-        ensures { Tells result self.new (enum_declared self.old identifier.entry) }
+        ensures told { Tells result self.new (enum_declared self.old identifier.entry) }
+        ensures kept { Keeps result self.old self.new }
     {
         let number = self.table().len();
         let meaning = Meaning {
@@ -71,7 +72,8 @@ impl<'a> Reader<'a> {
 
     fn declare_enumerator(&mut self, alloc: Global, identifier: Leaf<'a>) -> Result<(), NameFault>
         requires { latest self.old.entries ≤ identifier.number }
-        ensures { Tells result self.new (enumerator_declared self.old identifier.entry) }
+        ensures told { Tells result self.new (enumerator_declared self.old identifier.entry) }
+        ensures kept { Keeps result self.old self.new }
     {
         let meaning = Meaning {
             token: identifier.number,
@@ -103,7 +105,8 @@ impl<'a> Reader<'a> {
         declarator: &Declarator<'a>,
     ) -> Result<(), NameFault>
         requires { latest self.old.entries ≤ declarator.now.identifier.number }
-        ensures { Tells result self.new (typedef_declared self.old original.now declarator.now) }
+        ensures told { Tells result self.new (typedef_declared self.old original.now declarator.now) }
+        ensures kept { Keeps result self.old self.new }
     {
         let kind = room!(self.type_kind(alloc, original));
         let is_array = declarator.sizes.len() > 0;
@@ -120,7 +123,8 @@ impl<'a> Reader<'a> {
     fn declare_const(&mut self, alloc: Global, c: &Const<'a>) -> Result<(), NameFault>
         requires late { latest self.old.entries ≤ c.now.identifier.number }
         requires small { const_end c.now < 2 ^ 64 }
-        ensures { Tells result self.new (const_declared self.old c.now) }
+        ensures told { Tells result self.new (const_declared self.old c.now) }
+        ensures kept { Keeps result self.old self.new }
     {
         let kind = room!(const_type_kind(self.table(), alloc, self.scope(), &c.const_type));
         let worth = got!(value_of_kind(self.table(), alloc, self.scope(), kind, &c.value.expr));
@@ -141,7 +145,8 @@ impl<'a> Reader<'a> {
         kind: EntryKind,
     ) -> Result<(), NameFault>
         requires { latest self.old.entries ≤ identifier.number }
-        ensures { Tells result self.new (feature_declared kind self.old identifier.entry) }
+        ensures told { Tells result self.new (feature_declared kind self.old identifier.entry) }
+        ensures kept { Keeps result self.old self.new }
     {
         got!(self.inherits_none(identifier));
         self.declare(alloc, identifier, kind)
@@ -156,7 +161,8 @@ impl<'a> Reader<'a> {
     ) -> Result<(), NameFault>
         requires inner { inner ≤ length self.old.entries }
         requires late { latest self.old.entries < (name_start name.now).number }
-        ensures { Tells result self.new (base_added self.old inner name.now) }
+        ensures told { Tells result self.new (base_added self.old inner name.now) }
+        ensures kept { Keeps result self.old self.new }
     {
         let entry = got!(resolve(self.table(), self.scope(), name));
         let start = name.start();
@@ -204,8 +210,9 @@ impl<'a> Reader<'a> {
         name: &'a str,
         given: PragmaId<'a>,
     ) -> Result<(), NameFault>
-        ensures { Tells result self.new
+        ensures told { Tells result self.new
             (said_read self.old leaf.now (Some (GivesTo name.entry.now (given_of given.entry)))) }
+        ensures kept { Keeps result self.old self.new }
     {
         let at = leaf.at();
         let seen = self.table().look_for_words(leaf.number, self.scope(), name);
@@ -215,7 +222,8 @@ impl<'a> Reader<'a> {
 
     /// A pragma. A prefix is set in the file's scope alone.
     fn read_pragma(&mut self, leaf: &Leaf<'a>) -> Result<(), NameFault>
-        ensures { Tells result self.new (said_read self.old leaf.now (said_by leaf.now)) }
+        ensures told { Tells result self.new (said_read self.old leaf.now (said_by leaf.now)) }
+        ensures kept { Keeps result self.old self.new }
     {
         match leaf.token.kind {
             Kind::Pragma => match leaf.pragma() {
@@ -254,9 +262,10 @@ impl<'a> Reader<'a> {
     }
 
     /// One step.
-    fn read_step(&mut self, alloc: Global, step: &Step<'a, '_>) -> Result<(), NameFault>
+    pub(crate) fn read_step(&mut self, alloc: Global, step: &Step<'a, '_>) -> Result<(), NameFault>
         requires { Follows (latest self.old.entries) (step_of step.now) }
-        ensures { Tells result self.new (step_read self.old (step_of step.now)) }
+        ensures told { Tells result self.new (step_read self.old (step_of step.now)) }
+        ensures kept { Keeps result self.old self.new }
     {
         match *step {
             Step::Declares(kind, identifier) => self.declare(alloc, identifier, kind),

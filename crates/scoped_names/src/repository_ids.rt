@@ -6,7 +6,7 @@ ghost use Rattle.std.specs.String.{string_bytes};
 ghost use Rattle.scoped_names.specs.RepositoryIds.{given_to, pragma_for, path, with_slashes, idl_format, repository_id};
 ghost use Rattle.scoped_names.specs.inner.IdsKept.{given_of};
 ghost use Rattle.scoped_names.specs.Faults.{again_test, given_once};
-ghost use Rattle.scoped_names.specs.Reading.{Checks, Tells};
+ghost use Rattle.scoped_names.specs.Reading.{Checks, Keeps, Tells};
 ghost use Rattle.scoped_names.specs.IdPragmas.{is_same_given};
 
 use crate::fault::NameFault;
@@ -151,8 +151,9 @@ impl<'a> IdPragmas<'a> {
     ///
     /// `IdTwice` where the entry has another, `NoMemory`.
     pub fn give(&mut self, entry: usize, given: PragmaId<'a>, at: At) -> Result<(), NameFault>
-        ensures { Tells result self.new
+        ensures told { Tells result self.new
             (given_once self.old entry (given_of given.entry) at (pragma_for self.old entry)) }
+        ensures kept { Keeps result self.old self.new }
     {
         match self.entries.number_of(&entry) {
             Some(number) => self.ids[number].given_again(given, at),

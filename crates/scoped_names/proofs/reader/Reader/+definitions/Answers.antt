@@ -76,7 +76,7 @@ read_module-read_definitions-requires t c =
     let same = ap (λ xs. length (steps_of xs)) c.as_slice.ensures.value in
     let low = c.decreases in
     let front = Declares Kinds.Module id ∷ [] in
-    let begun = rises_behind st opened front (Enters id ∷ steps_of ds ++ Leaves ∷ []) (ap (λ r. r >> λ s. steps_read s []) c.in_ok-declare.ensures) c.requires in
+    let begun = rises_behind st opened front (Enters id ∷ steps_of ds ++ Leaves ∷ []) (ap (λ r. r >> λ s. steps_read s []) c.in_ok-declare.ensures.told) c.requires in
     let inner = (Rises-split (latest opened.entries) (steps_of ds) (Leaves ∷ []) begun.1).0 in (
       omega (arith, same, low),
       subst (λ xs. Rises (latest c.enter.new.self.entries) (steps_of xs)) (sym c.as_slice.ensures.value)
@@ -90,7 +90,7 @@ read_module-returns-in_err-read_definitions t c =
     let id = c.args.m.now.identifier in
     let more = Enters id ∷ steps_of ds ++ Leaves ∷ [] in
     rw (p.1, p.2) (or_told c.in_err-read_definitions.ensures
-    (λ is. ap (λ r. r >> λ s. steps_read s more) c.in_ok-declare.ensures ∙ ap (λ s. steps_read s (steps_of ds ++ Leaves ∷ [])) (sym c.enter.ensures)
+    (λ is. ap (λ r. r >> λ s. steps_read s more) c.in_ok-declare.ensures.told ∙ ap (λ s. steps_read s (steps_of ds ++ Leaves ∷ [])) (sym c.enter.ensures)
     ∙ steps_stopped c.enter.new.self _ (steps_of ds) (Leaves ∷ []) (sym (ap (λ xs. steps_read c.enter.new.self (steps_of xs)) c.as_slice.ensures.value) ∙ is)))
 
 pub read_module-returns : goal.read_module-returns
@@ -99,6 +99,6 @@ read_module-returns t c =
     let id = c.args.m.now.identifier in
     let more = Enters id ∷ steps_of ds ++ Leaves ∷ [] in
     let read = sym (ap (λ xs. steps_read c.enter.new.self (steps_of xs)) c.as_slice.ensures.value) ∙ c.in_ok-read_definitions.ensures in
-    ap (λ r. r >> λ s. steps_read s more) c.in_ok-declare.ensures ∙ ap (λ s. steps_read s (steps_of ds ++ Leaves ∷ [])) (sym c.enter.ensures)
+    ap (λ r. r >> λ s. steps_read s more) c.in_ok-declare.ensures.told ∙ ap (λ s. steps_read s (steps_of ds ++ Leaves ∷ [])) (sym c.enter.ensures)
     ∙ steps_joined c.enter.new.self c.read_definitions.new.self (steps_of ds) (Leaves ∷ []) read
     ∙ ap Ok (sym c.leave.ensures)

@@ -22,7 +22,7 @@ returns-in_err-read_step c =
     let xs = c.args.steps.now in
     let k = c.loop-step.step-index in
     let lt : k < length xs = omega arith in
-    rw (p.1, p.2) (or_told c.in_err-read_step.ensures
+    rw (p.1, p.2) (or_told c.in_err-read_step.ensures.told
     (λ is. sym c.loop-step.invariant.told ∙ steps_off step_of c.loop-step.self xs k c.step-item.result _ lt c.step-item.is is))
 
 pub loop-step-preserved : goal.loop-step-preserved
@@ -33,7 +33,7 @@ loop-step-preserved c =
     let st = c.loop-step.self in
     let next = c.read_step.new.self in
     let lt : k < length xs = omega arith in
-    let is = c.in_ok-read_step.ensures in
+    let is = c.in_ok-read_step.ensures.told in
     let rises = subst (Rises (latest st.entries)) (steps_at step_of xs k x lt c.step-item.is) c.loop-step.invariant.rises in
     record {
       told = steps_on step_of st next xs k x lt c.step-item.is is ∙ c.loop-step.invariant.told;

@@ -7,7 +7,7 @@ use Rattle.scoped_names.specs.inner.IdsKept.{given_of, pragma_of, pragmas_of}
 use Rattle.scoped_names.specs.Faults.{again_test, given_once}
 use Rattle.scoped_names.specs.Reading.{Tells}
 use Rattle.scoped_names.proofs.IdsGiven.{given_none, given_there, pragmas_push}
-use Rattle.scoped_names.proofs.Readings.{checked_then}
+use Rattle.scoped_names.proofs.Readings.{checked_then, keeps_same}
 use Rattle.scoped_names.proofs.repository_ids.IdPragmas.give.Goals as goal
 
 pub returns-in-Some : goal.returns-in-Some
@@ -21,14 +21,17 @@ returns-in-Some c =
     let even = c.self.invariant in
     let here : slice_get ids c.in-Some.number ≡ Some x = slice_get_read ids (length ids) c.in-Some.number x refl (omega arith) c.index.ensures in
     let there = given_there ps es ids c.self.view_is even c.args.entry c.in-Some.number x (sym c.number_of.ensures.is ∙ c.in-Some.is) here in
-    subst (λ o. Tells c.given_again.result ps (given_once ps c.args.entry g c.args.at o)) (sym there)
-    (checked_then c.given_again.result (again_test (given_of x.id) x.at g c.args.at) ps c.given_again.ensures)
+    record {
+      told = subst (λ o. Tells c.given_again.result ps (given_once ps c.args.entry g c.args.at o)) (sym there)
+          (checked_then c.given_again.result (again_test (given_of x.id) x.at g c.args.at) ps c.given_again.ensures);
+      kept = keeps_same c.given_again.result ps;
+    }
 
 pub push-requires : goal.push-requires
 push-requires c = sym c.number_of.ensures.is ∙ c.in-None.is
 
-pub returns-in_ok-push-in-None : goal.returns-in_ok-push-in-None
-returns-in_ok-push-in-None c =
+pub returns-in_ok-push-in-None-clause-told : goal.returns-in_ok-push-in-None-clause-told
+returns-in_ok-push-in-None-clause-told c =
     let ps = c.args.self.now in
     let e = c.args.entry in
     let g = given_of c.args.given in
