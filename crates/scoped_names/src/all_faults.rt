@@ -150,7 +150,8 @@ impl<'a> Reader<'a> {
         definitions: &[Definition<'a>],
     ) -> Result<(), AllocError>
         requires { Rises (latest self.old.entries) (steps_of definitions.now) }
-        ensures passed { IfOk result (λ done. Passes self.old faults.old (steps_of definitions.now) self.new faults.new) }
+        ensures passed { IfOk result
+            (λ done. Passes self.old faults.old (steps_of definitions.now) self.new faults.new) }
         ensures most { faults.new.most ≡ faults.old.most }
     {
         for definition in definitions {

@@ -16,6 +16,7 @@ abbrev pub Hears : NameFaults → List NameFault → NameFaults → Type 0
 Hears before more now = (all : List NameFault) → Heard before all → Heard now (all ++ more)
 
 -- these steps were read, and their faults heard
-pub record Passes (st : State) (before : NameFaults) (steps : List Step) (next : State) (now : NameFaults) : Type 0 where
+pub record Passes (st : State) (before : NameFaults) (steps : List Step) (next : State) (now : NameFaults)
+    : Type 0 where
   pub known : next ≡ passed_over st steps
   pub heard : Hears before (faults_along st steps) now
