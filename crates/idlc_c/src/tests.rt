@@ -24,40 +24,35 @@ fn compiled(alloc: Global) -> (Handle, u32) {
     (handle, node)
 }
 
+/// What a call answers that has so much room for octets, with the length that it tells.
+fn encoded(alloc: Global, handle: &mut Handle, node: u32, out: &mut [u8]) -> (u32, usize) {
+    let mut len = 0;
+    let number = idlc_encode(alloc, handle, node, false, 0, &TAPE, out, &mut len);
+    (number, len)
+}
+
+/// The same of reading, with the number of octets that were taken.
+fn decoded(alloc: Global, handle: &mut Handle, node: u32, out: &mut [u8]) -> (u32, usize, usize) {
+    let (mut taken, mut len) = (0, 0);
+    let number = idlc_decode(
+        alloc, handle, node, false, 0, &OCTETS, &mut taken, out, &mut len,
+    );
+    (number, taken, len)
+}
+
 /// Twice, since the second call finds memory of the first.
 #[test]
 fn a_value_goes_there_and_back(rt: HostRuntime) {
     let alloc = rt.alloc();
     let (mut handle, node) = compiled(alloc);
     for _ in 0..2 {
-        let (mut out, mut len, mut taken) = ([0xa5_u8; 16], 0_usize, 0_usize);
-        let (handle, out) = (&mut handle, &mut out);
-        assert_eq!(rt;
-            idlc_encode(
-                alloc,
-                handle,
-                node,
-                false,
-                0,
-                &TAPE,
-                &mut out[..14],
-                &mut len
-            ),
-            45
-        );
-        assert_eq!(rt; (len, out[0]), (15, 0xa5));
-        assert_eq!(rt;
-            idlc_encode(alloc, handle, node, false, 0, &TAPE, out, &mut len),
-            0
-        );
-        assert_eq!(rt; (&out[..15], out[15]), (&OCTETS[..], 0xa5));
-        assert_eq!(rt;
-            idlc_decode(
-                alloc, handle, node, false, 0, &OCTETS, &mut taken, out, &mut len
-            ),
-            0
-        );
-        assert_eq!(rt; (&out[..11], taken, len), (&TAPE[..], 15, 11));
+        let (mut few, mut octets, mut tape) = ([7; 14], [0; 15], [0; 11]);
+        assert_eq!(rt; encoded(alloc, &mut handle, node, &mut few), (45, 15));
+        assert_eq!(rt; few, [7; 14]);
+        assert_eq!(rt; encoded(alloc, &mut handle, node, &mut octets), (0, 15));
+        assert_eq!(rt; octets, OCTETS);
+        assert_eq!(rt; decoded(alloc, &mut handle, node, &mut tape), (0, 15, 11));
+        assert_eq!(rt; tape, TAPE);
     }
 }
 
@@ -65,20 +60,7 @@ fn a_value_goes_there_and_back(rt: HostRuntime) {
 fn a_table_is_let_go_of_twice(rt: HostRuntime) {
     let alloc = rt.alloc();
     let (mut handle, node) = compiled(alloc);
-    let (mut out, mut len) = ([0_u8; 15], 0_usize);
     idlc_free(alloc, &mut handle);
     idlc_free(alloc, &mut handle);
-    assert_eq!(rt;
-        idlc_encode(
-            alloc,
-            &mut handle,
-            node,
-            false,
-            0,
-            &TAPE,
-            &mut out,
-            &mut len
-        ),
-        43
-    );
+    assert_eq!(rt; encoded(alloc, &mut handle, node, &mut [0; 15]), (43, 0));
 }
