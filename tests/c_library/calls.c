@@ -35,6 +35,25 @@ static long load(size_t file_len)
     }
 }
 
+/* Another table of the same, without memory of an earlier call, and refuses the allocation of this number. Tells how many
+ * blocks there were before. */
+static struct idlc_table other;
+
+static long fresh(long n)
+{
+    long before = held;
+    begin(0);
+    must(idlc_share(&table, &other) == IDLC_DONE, "another table");
+    begin(n);
+    return before;
+}
+
+static int is_let_go(long before)
+{
+    idlc_free(&other);
+    return held == before;
+}
+
 static long encode(size_t tape_len, size_t octets_len)
 {
     size_t len = 99;
@@ -44,15 +63,19 @@ static long encode(size_t tape_len, size_t octets_len)
     must(idlc_encode(&table, node, false, 0, tape, tape_len, out, len - 1, &len) == IDLC_NO_ROOM, "one too few");
     must(len == octets_len && is_untouched(), "one too few is told");
     for (long n = 1;; n++) {
-        begin(n);
-        long before = held;
-        uint32_t number = idlc_encode(&table, node, false, 0, tape, tape_len, out, octets_len, &len);
-        must(held == before && table.loaded, "encode leaks nothing");
+        long before = fresh(n);
+        uint32_t number = idlc_encode(&other, node, false, 0, tape, tape_len, out, octets_len, &len);
+        must(other.loaded, "encode keeps the table");
         if (asked < n) {
             must(number == IDLC_DONE && len == octets_len && is_written(octets, len), "encodes");
+            begin(1);
+            must(idlc_encode(&other, node, false, 0, tape, tape_len, out, octets_len, &len) == IDLC_DONE, "by kept memory");
+            must(is_written(octets, len), "the same octets");
+            must(is_let_go(before), "encode leaks nothing");
             return n - 1;
         }
         must(number == IDLC_NO_MEMORY && is_untouched(), "no memory to encode");
+        must(is_let_go(before), "no memory to encode leaks nothing");
     }
 }
 
@@ -63,16 +86,16 @@ static long decode(size_t tape_len, size_t octets_len)
     must(idlc_decode(&table, node, false, 0, octets, octets_len + 3, &taken, out, 0, &len) == IDLC_NO_ROOM, "length");
     must(len == tape_len && taken == 77 && is_untouched(), "tells the length of the tape");
     for (long n = 1;; n++) {
-        begin(n);
-        long before = held;
-        uint32_t number = idlc_decode(&table, node, false, 0, octets, octets_len + 3, &taken, out, tape_len, &len);
-        must(held == before && table.loaded, "decode leaks nothing");
+        long before = fresh(n);
+        uint32_t number = idlc_decode(&other, node, false, 0, octets, octets_len + 3, &taken, out, tape_len, &len);
+        must(other.loaded, "decode keeps the table");
         if (asked < n) {
             must(number == IDLC_DONE && len == tape_len && taken == octets_len, "decodes");
-            must(is_written(tape, len), "the tape");
+            must(is_written(tape, len) && is_let_go(before), "the tape");
             return n - 1;
         }
         must(number == IDLC_NO_MEMORY && taken == 77 && is_untouched(), "no memory to decode");
+        must(is_let_go(before), "no memory to decode leaks nothing");
     }
 }
 
@@ -116,7 +139,7 @@ static void refusals(size_t tape_len, size_t octets_len)
 /* Another table holds the same, also after the first one is let go of. */
 static long share(size_t tape_len, size_t octets_len)
 {
-    static struct idlc_table other, third;
+    static struct idlc_table third;
     size_t len = 0;
     long n = 1;
     for (;; n++) {

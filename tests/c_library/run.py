@@ -62,11 +62,10 @@ class Library:
         said = self.call(what, *words)
         self.count.add(said == wanted, f"{what}: {said!r}, wanted {wanted!r}")
 
-    def compile(self, cc, source, program, *flags):
-        self.call(
-            f"{cc} {source.name}", cc, *STRICT, f"-I{self.folder}", f"-I{TOP}/c/examples", source, self.folder / "libidlc.a",
-            *flags, "-o", self.room / program,
-        )
+    def compile(self, cc, source, program, *flags, folder=None):
+        archive = (folder or self.folder) / "libidlc.a"
+        words = [*STRICT, f"-I{self.folder}", f"-I{TOP}/c/examples", source, archive, *flags]
+        self.call(f"{cc} {source.name}", cc, *words, "-o", self.room / program)
 
     def table(self, api, octets):
         return api.Table(octets, str(self.folder / "libidlc.so.0"))
@@ -141,6 +140,16 @@ def check_calls(library, table):
         library.call("valgrind calls", *checked, library.room / "calls-gcc", *words)
         for name in ("texts", "messages"):
             library.call(f"valgrind {name}", *checked, library.room / f"{name}-gcc")
+
+
+def check_other_backend(library, table):
+    """The same calls over what Rattle's own compiler makes in the place of LLVM."""
+    folder = library.room / "other"
+    if library.call("build by rattle", TOP / "c" / "build", "--folder", folder, "--backend", "rattle") is None:
+        return
+    for name, given in (("calls", [table, "S", TAPE, OCTETS]), ("texts", []), ("messages", [])):
+        library.compile("gcc", library.test.folder / f"{name}.c", f"{name}-other", *WRAPS, folder=folder)
+        library.call(f"{name} by rattle", library.room / f"{name}-other", *given)
 
 
 def check_examples(library, table):
@@ -278,6 +287,7 @@ def run(test):
     check_names(library)
     check_numbers(library)
     check_calls(library, table)
+    check_other_backend(library, table)
     check_examples(library, table)
     check_python(library, api, table)
     check_tables(library, api)

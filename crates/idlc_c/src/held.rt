@@ -8,6 +8,7 @@ use part_names::PartNames;
 use position_checker::Accepted;
 use std::alloc::{AllocError, Global};
 use std::marker::Model;
+use std::mem;
 use std::sync::Arc;
 
 /// A table that was accepted, and the names of the parts of its types, where these are known.
@@ -37,10 +38,15 @@ struct Shared {
     giop: Giop,
 }
 
-/// One owner of what is loaded. A contract sees that alone, since the types of GIOP are always the same.
+/// So much memory is kept at most from one call for the next: what the body of a message has at most.
+const MOST_KEPT: usize = 1_048_576;
+
+/// One owner of what is loaded, with memory for its next call. A contract sees what is loaded alone, since the types of
+/// GIOP are always the same.
 #[derive(Drop)]
 pub struct Held {
     shared: Arc<Shared>,
+    room: Vec<u8>,
 }
 
 impl Model for Held {
@@ -53,6 +59,13 @@ impl Model for Held {
 }
 
 impl Held {
+    fn of(alloc: Global, shared: Arc<Shared>) -> Held
+        ensures { result ≡ (arc_value shared).loaded }
+    {
+        let room = Vec::new(alloc);
+        Held { shared, room }
+    }
+
     /// The first owner.
     fn new(alloc: Global, loaded: Loaded) -> Result<Held, AllocError>
         ensures { IfOk result (λ held. held ≡ loaded) }
@@ -62,7 +75,7 @@ impl Held {
             Err(error) => return Err(error),
         };
         match Arc::new(alloc, Shared { loaded, giop }) {
-            Ok(shared) => Ok(Held { shared }),
+            Ok(shared) => Ok(Held::of(alloc, shared)),
             Err(_) => Err(AllocError),
         }
     }
@@ -77,6 +90,22 @@ impl Held {
                 Err(_) => Err(AllocError),
             },
             Err(error) => Err(error),
+        }
+    }
+
+    /// The memory that is kept for a call.
+    pub fn take_room(&mut self, alloc: Global) -> Vec<u8>
+        ensures { self.new ≡ self.old }
+    {
+        mem::replace(&mut self.room, Vec::new(alloc))
+    }
+
+    /// Keeps memory for the next call, if it isn't much.
+    pub fn keep_room(&mut self, room: Vec<u8>)
+        ensures { self.new ≡ self.old }
+    {
+        if room.capacity() <= MOST_KEPT {
+            self.room = room;
         }
     }
 
@@ -96,7 +125,7 @@ impl Held {
         ensures { IfOk result (λ held. held.value ≡ self.now) }
     {
         match Arc::try_clone(&self.shared) {
-            Ok(shared) => match Box::new(alloc, Held { shared }) {
+            Ok(shared) => match Box::new(alloc, Held::of(alloc, shared)) {
                 Ok(held) => Ok(held),
                 Err(_) => Err(AllocError),
             },

@@ -26,6 +26,8 @@ mod parts;
 mod refusal;
 mod source_fault;
 mod source_place;
+#[cfg(test)]
+mod tests;
 mod text;
 
 use crate::marshal::order;
@@ -228,18 +230,10 @@ pub extern "C" fn idlc_encode(
     ensures same_length { result ≢ 0 → result ≢ 45 → len.new ≡ len.old }
     ensures numbers { IsOfValue result }
 {
-    let Some(held) = mem::replace(handle, Handle::none(alloc)).into_box() else {
+    let Some(mut held) = mem::replace(handle, Handle::none(alloc)).into_box() else {
         return Refusal::NotLoaded.number();
     };
-    let answer = marshal::encode(
-        alloc,
-        &held.loaded().table,
-        node,
-        order(little),
-        pos,
-        tape,
-        out,
-    );
+    let answer = marshal::encode(alloc, &mut held, node, order(little), pos, tape, out);
     *handle = Handle::of(held);
     told(answer, len)
 }
@@ -276,12 +270,12 @@ pub extern "C" fn idlc_decode(
     ensures same_length { result ≢ 0 → result ≢ 45 → len.new ≡ len.old }
     ensures numbers { IsOfValue result }
 {
-    let Some(held) = mem::replace(handle, Handle::none(alloc)).into_box() else {
+    let Some(mut held) = mem::replace(handle, Handle::none(alloc)).into_box() else {
         return Refusal::NotLoaded.number();
     };
     let answer = marshal::decode(
         alloc,
-        &held.loaded().table,
+        &mut held,
         node,
         order(little),
         pos,

@@ -1,14 +1,15 @@
 //! Values by an accepted table, from a buffer of the caller's to another.
 
-ghost use Rattle.std.specs.Prelude.{◌≡◌, ◌≤◌, drop, length, take, IfErr, IfOk, OnErr};
+ghost use Rattle.std.specs.Prelude.{◌≡◌, ◌<◌, ◌≤◌, drop, length, take, IfErr, IfOk, OnErr};
 ghost use Rattle.type_graph.specs.Words.{reading, writing};
 ghost use Rattle.type_graph.specs.Encoding.{Means};
 ghost use Rattle.type_model.specs.Names.{IsNamed};
+ghost use Rattle.idlc_c.specs.declared.refusal.Refusal.TheVariants.{NoRoom};
 ghost use Rattle.idlc_c.specs.Answers.{HasNoOctets, HasNoTape, HasOctets, HasTape, RefusesValue, TellsLength, order_of};
 
-use crate::octets::put;
+use crate::held::Held;
 use crate::refusal::Refusal;
-use position_checker::Accepted;
+use position_checker::Put;
 use std::alloc::Global;
 use type_graph::Order;
 
@@ -18,30 +19,47 @@ pub(crate) fn order(little: bool) -> Order
     if little { Order::Little } else { Order::Big }
 }
 
+/// The length of what was put into a buffer, if it has room for it.
+fn fitted(len: usize, room: usize) -> Result<usize, Refusal>
+    ensures done { IfOk result (λ fitted. (fitted ≡ len) × (len ≤ room)) }
+    ensures refused { IfErr result (λ refusal. (refusal ≡ NoRoom len) × (room < len)) }
+{
+    if len > room {
+        return Err(Refusal::NoRoom { needed: len });
+    }
+    Ok(len)
+}
+
 /// Writes the octets of a tape's value to the buffer, and tells how many they are.
 pub(crate) fn encode(
     alloc: Global,
-    table: &Accepted,
+    held: &mut Held,
     node: u32,
     order: Order,
     pos: u64,
     tape: &[u8],
     out: &mut [u8],
 ) -> Result<usize, Refusal>
+    ensures same { held.new ≡ held.old }
     ensures done { IfOk result (λ len.
-        Means table.now.model.graph (writing order) 64 node pos tape.now (take len out.new)) }
+        Means held.old.table.model.graph (writing order) 64 node pos tape.now (take len out.new)) }
     ensures within { IfOk result (λ len. len ≤ length out.old) }
     ensures behind { IfOk result (λ len. drop len out.new ≡ drop len out.old) }
-    ensures refused { IfErr result (RefusesValue (IsNamed table.now.model.names node → ⊥)
-        (TellsLength (λ len. HasOctets node order pos tape.now len table.now) (length out.old))
-        (HasNoOctets node order pos tape.now table.now)) }
+    ensures refused { IfErr result (RefusesValue (IsNamed held.old.table.model.names node → ⊥)
+        (TellsLength (λ len. HasOctets node order pos tape.now len held.old.table) (length out.old))
+        (HasNoOctets node order pos tape.now held.old.table)) }
     ensures kept { OnErr result (out.new ≡ out.old) }
 {
-    if !table.is_named(node) {
+    if !held.loaded().table.is_named(node) {
         return Err(Refusal::NotNamed);
     }
-    match table.write(alloc, node, order, pos, tape) {
-        Ok(octets) => put(octets.as_slice(), out),
+    let room = held.take_room(alloc);
+    let table = &held.loaded().table;
+    match table.write_into(room, node, order, pos, tape, out) {
+        Ok(Put { len, room }) => {
+            held.keep_room(room);
+            fitted(len, out.len())
+        }
         Err(fault) => Err(Refusal::NoValue(fault)),
     }
 }
@@ -50,7 +68,7 @@ pub(crate) fn encode(
 /// long it is, and how many octets that front has.
 pub(crate) fn decode(
     alloc: Global,
-    table: &Accepted,
+    held: &mut Held,
     node: u32,
     order: Order,
     pos: u64,
@@ -58,23 +76,27 @@ pub(crate) fn decode(
     taken: &mut usize,
     out: &mut [u8],
 ) -> Result<usize, Refusal>
+    ensures same { held.new ≡ held.old }
     ensures done { IfOk result (λ len.
-        Means table.now.model.graph (reading order) 64 node pos (take len out.new) (take taken.new octets.now)) }
+        Means held.old.table.model.graph (reading order) 64 node pos (take len out.new) (take taken.new octets.now)) }
     ensures taken { IfOk result (λ _. taken.new ≤ length octets.now) }
     ensures within { IfOk result (λ len. len ≤ length out.old) }
     ensures behind { IfOk result (λ len. drop len out.new ≡ drop len out.old) }
-    ensures refused { IfErr result (RefusesValue (IsNamed table.now.model.names node → ⊥)
-        (TellsLength (λ len. HasTape node order pos octets.now len table.now) (length out.old))
-        (HasNoTape node order pos octets.now table.now)) }
+    ensures refused { IfErr result (RefusesValue (IsNamed held.old.table.model.names node → ⊥)
+        (TellsLength (λ len. HasTape node order pos octets.now len held.old.table) (length out.old))
+        (HasNoTape node order pos octets.now held.old.table)) }
     ensures kept { OnErr result (out.new ≡ out.old) }
     ensures not_taken { OnErr result (taken.new ≡ taken.old) }
 {
-    if !table.is_named(node) {
+    if !held.loaded().table.is_named(node) {
         return Err(Refusal::NotNamed);
     }
-    match table.read(alloc, node, order, pos, octets) {
-        Ok((tape, front)) => {
-            let len = put(tape.as_slice(), out)?;
+    let room = held.take_room(alloc);
+    let table = &held.loaded().table;
+    match table.read_into(room, node, order, pos, octets, out) {
+        Ok((Put { len, room }, front)) => {
+            held.keep_room(room);
+            let len = fitted(len, out.len())?;
             *taken = front;
             Ok(len)
         }
