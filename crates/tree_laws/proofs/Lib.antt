@@ -1,0 +1,11 @@
+mod Fronts
+mod Same
+mod Lists
+mod Names
+mod Operators
+mod Expressions
+mod Types
+mod Members
+mod Declarations
+mod Interfaces
+mod Definitions
