@@ -91,13 +91,13 @@ declaration_starts (Declarations.TypeDcl t) = 21 ∷ 22 ∷ 23 ∷ 24 ∷ []
 declaration_starts (Declarations.Const c) = 25 ∷ []
 declaration_starts (Declarations.Except e) = 26 ∷ []
 
-const_begins : (c : Const) → Leads (const_yield c) Any (Among (25 ∷ []))
+pub const_begins : (c : Const) → Leads (const_yield c) Any (Among (25 ∷ []))
 const_begins c = leads_first _ (leads_first _ (leads_first _ (leads_first _ (piece_among Keyword (codes "const") _ refl))))
 
-except_begins : (e : Except) → Leads (except_yield e) Any (Among (26 ∷ []))
+pub except_begins : (e : Except) → Leads (except_yield e) Any (Among (26 ∷ []))
 except_begins e = leads_first _ (leads_first _ (leads_first _ (leads_first _ (piece_among Keyword (codes "exception") _ refl))))
 
-type_dcl_begins_so : (t : TypeDcl) → Leads (type_dcl_yield t) Any (Among (21 ∷ 22 ∷ 23 ∷ 24 ∷ []))
+pub type_dcl_begins_so : (t : TypeDcl) → Leads (type_dcl_yield t) Any (Among (21 ∷ 22 ∷ 23 ∷ 24 ∷ []))
 type_dcl_begins_so (TypeDcls.Typedef t ds) = leads_to (λ t. wider refl) (type_dcl_begins (TypeDcls.Typedef t ds))
 type_dcl_begins_so (TypeDcls.Struct s) = leads_to (λ t. wider refl) (struct_begins s)
 type_dcl_begins_so (TypeDcls.Union u) = leads_to (λ t. wider refl) (union_begins u)

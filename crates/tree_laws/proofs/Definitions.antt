@@ -15,23 +15,23 @@ use Rattle.tree_laws.proofs.Interfaces.{same_interface, interface_begins}
 
 -- ---- what definitions begin with
 
-abbrev definition_starts : Definition → List ℕ
+abbrev pub definition_starts : Definition → List ℕ
 definition_starts (Pragma p) = 32 ∷ []
 definition_starts (Declared d) = declared
 definition_starts (InterfaceDcl i) = 33 ∷ []
 definition_starts (Module' id shape ds) = 34 ∷ []
 
-definition_starts_are : (d : Definition) → Leads (definition_yield d) Any (Among (definition_starts d))
+pub definition_starts_are : (d : Definition) → Leads (definition_yield d) Any (Among (definition_starts d))
 definition_starts_are (Pragma p) = kept_among PragmaToken _ p _ refl
 definition_starts_are (Declared d) = leads_first _ (declaration_begins d)
 definition_starts_are (InterfaceDcl i) = leads_first _ (interface_begins i)
 definition_starts_are (Module' id shape ds) =
     leads_first _ (leads_first _ (leads_first _ (leads_first _ (leads_first _ (piece_among Keyword (codes "module") _ refl)))))
 
-abbrev defined : List ℕ
+abbrev pub defined : List ℕ
 defined = 32 ∷ 33 ∷ 34 ∷ declared
 
-definition_begins : (d : Definition) → Leads (definition_yield d) Any (Among defined)
+pub definition_begins : (d : Definition) → Leads (definition_yield d) Any (Among defined)
 definition_begins (Pragma p) = leads_to (λ t. wider refl) (definition_starts_are (Pragma p))
 definition_begins (Declared d) = leads_to (λ t. wider refl) (definition_starts_are (Declared d))
 definition_begins (InterfaceDcl i) = leads_to (λ t. wider refl) (definition_starts_are (InterfaceDcl i))
@@ -82,7 +82,7 @@ at_end : Ended []
 unfolding begins
 at_end = record { is = refl }
 
-spelled_at : (x : List Piece) (t : List Seen) (o : Option (List Seen)) → past x (Some t) ≡ o → is_end o ≡ true → Reads x t []
+pub spelled_at : (x : List Piece) (t : List Seen) (o : Option (List Seen)) → past x (Some t) ≡ o → is_end o ≡ true → Reads x t []
 spelled_at x t None e h = absurd (cc)
 spelled_at x t (Some []) e h = record { is = e }
 spelled_at x t (Some (s ∷ ss)) e h = absurd (cc)

@@ -31,7 +31,7 @@ is_chain (Chain' p first shape rest) = true
 is_chain e = false
 
 -- what an operand begins with
-abbrev starts_of : Expr → List ℕ
+abbrev pub starts_of : Expr → List ℕ
 starts_of (Name n) = 17 ∷ 18 ∷ []
 starts_of (Number l) = 52 ∷ []
 starts_of (Character l) = 53 ∷ []
@@ -49,7 +49,7 @@ sign_begins : (s : Sign) (l : Leaf) → Leads (kept_mark (sign_text s) l) Any (A
 sign_begins Plus l = kept_among Punct (codes "+") l _ refl
 sign_begins Minus l = kept_among Punct (codes "-") l _ refl
 
-alone_begins : (e : Expr) → is_chain e ≡ false → Leads (expr_yield e) Any (Among (starts_of e))
+pub alone_begins : (e : Expr) → is_chain e ≡ false → Leads (expr_yield e) Any (Among (starts_of e))
 alone_begins (Name n) h = name_begins n
 alone_begins (Number l) h = kept_among Integer _ l _ refl
 alone_begins (Character l) h = kept_among CharLit _ l _ refl
@@ -165,17 +165,17 @@ signed_one s l sign p inner one m b h level = other s m (Signed' l sign p inner)
 -- ---- chains
 
 pub record ChainParts (s : Bool) (n : ℕ) (first : Expr) {c : _} (rest : Row_of-Operand c) : Type 0 where
-  within : n ≤ first_level rest
-  some : first_level rest < 6
-  front : IsOfLevel s (suc (first_level rest)) first
-  others : are_of_level s (first_level rest) rest ≡ true
+  pub within : n ≤ first_level rest
+  pub some : first_level rest < 6
+  pub front : IsOfLevel s (suc (first_level rest)) first
+  pub others : are_of_level s (first_level rest) rest ≡ true
 
 abbrev chain_test : Bool → ℕ → Expr → {c : _} → Row_of-Operand c → Bool
 chain_test s n first rest =
     nat_lt n (suc (first_level rest)) && nat_lt (first_level rest) 6
     && is_of_level s (suc (first_level rest)) first && are_of_level s (first_level rest) rest
 
-chain_parts : (s : Bool) (n : ℕ) (first : Expr) {c : _} (rest : Row_of-Operand c) → chain_test s n first rest ≡ true → ChainParts s n first rest
+pub chain_parts : (s : Bool) (n : ℕ) (first : Expr) {c : _} (rest : Row_of-Operand c) → chain_test s n first rest ≡ true → ChainParts s n first rest
 chain_parts s n first rest h =
     let level = first_level rest in
     let most = nat_lt level 6 in

@@ -1,5 +1,5 @@
 -- Pieces in front of tokens: what stands behind the first of them, and which token is the first.
-use Rattle.std.proofs.Common.{◌≡◌, ◌∙◌, ℕ, codes, Bool, true, false, not, ◌||◌, ◌&&◌, cond, nat_eq, List, [], ◌∷◌, ◌++◌, Option, Some, None, ap, sym, refl}
+use Rattle.std.proofs.Common.{◌≡◌, ◌∙◌, ℕ, codes, Bool, true, false, not, ◌||◌, ◌&&◌, cond, nat_eq, List, [], ◌∷◌, ◌++◌, Option, Some, None, ap, sym, refl, subst}
 use Rattle.std.specs.Str.{bytes_eq}
 use Rattle.std.proofs.lemmas.Bool.{and_parts, eqb-true}
 use Rattle.std.proofs.lemmas.Slice.Eq.{bytes_eq-Decides}
@@ -39,6 +39,10 @@ split x y t r h = split_at x y t r (past x (Some t)) refl (sym (past_append x y 
 pub reads_none : {t r : List Seen} → Reads [] t r → t ≡ r
 unfolding past
 reads_none h = cc (h.is)
+
+pub reads_nothing : (t : List Seen) → Reads [] t t
+unfolding past
+reads_nothing t = record { is = refl }
 
 -- pieces leave the same tokens
 pub reads_one : {x : List Piece} {t r q : List Seen} → Reads x t r → Reads x t q → r ≡ q
@@ -96,7 +100,7 @@ kind_of-kind_code CharLit = refl
 kind_of-kind_code TextLit = refl
 kind_of-kind_code Pragma = refl
 
-same_kind : (a b : Kind) → nat_eq (kind_code a) (kind_code b) ≡ true → a ≡ b
+pub same_kind : (a b : Kind) → nat_eq (kind_code a) (kind_code b) ≡ true → a ≡ b
 same_kind a b h =
     sym (kind_of-kind_code a) ∙ ap kind_of (eqb-true (kind_code a) (kind_code b) h) ∙ kind_of-kind_code b
 
@@ -137,6 +141,42 @@ first_of p (s ∷ ts) r h = first_by (is_piece p s) p s ts r refl h
 first_begins : (p : Piece) (t r : List Seen) → First p t r → begins t ≡ number_of p.kind p.text
 unfolding begins
 first_begins p t r f = ap begins f.is ∙ ap (λ k. number_of k f.token.text) (sym f.kind) ∙ ap (number_of p.kind) (sym f.text)
+
+pub one_first : (p : Piece) (t r : List Seen) → Reads (p ∷ []) t r → First p t r
+one_first p t r h = first_of p t r h.is
+
+pub piece_first : (k : Kind) (text : List ℕ) (t r : List Seen) → Reads (piece k text) t r → First (record { kind = k; text = text; place = None; touches = false }) t r
+unfolding piece
+piece_first k text t r h = first_of _ t r h.is
+
+pub kept_first : (k : Kind) (text : List ℕ) (l : Leaf) (t r : List Seen) → Reads (kept k text l) t r → First (record { kind = k; text = text; place = Some (l.number, l.token.now.line); touches = false }) t r
+unfolding kept
+kept_first k text l t r h = first_of _ t r h.is
+
+-- where the next token has to touch the first
+abbrev pub touching_piece : List ℕ → Piece
+touching_piece text = record { kind = Punct; text = text; place = None; touches = true }
+
+pub touching_first : (text : List ℕ) (t r : List Seen) → Reads (touching text) t r → First (touching_piece text) t r
+unfolding touching
+touching_first text t r h = first_of _ t r h.is
+
+touches_by : (b : Bool) (p : Piece) (s : Seen) (ts r : List Seen) → is_piece p s ≡ b → p.touches ≡ true → past [] (taken b ts) ≡ Some r → s.touches ≡ true
+unfolding past
+touches_by true p s ts r e k h =
+    let kinds = nat_eq (kind_code p.kind) (kind_code s.kind) in
+    let all = and_parts (kinds && bytes_eq p.text s.text && is_place p.place s.place) (not p.touches || s.touches) e in
+    let no : (not p.touches || s.touches) ≡ s.touches = ap (λ b. not b || s.touches) k in
+    sym no ∙ all.1
+touches_by false p s ts r e k h = absurd (cc)
+
+touches_at : (p : Piece) (t r : List Seen) (s : Seen) (ts : List Seen) → t ≡ s ∷ ts → past (p ∷ []) (Some t) ≡ Some r → p.touches ≡ true → s.touches ≡ true
+unfolding past
+touches_at p t r s ts e h k = touches_by (is_piece p s) p s ts r refl k (subst (λ z. past (p ∷ []) (Some z) ≡ Some r) e h)
+
+pub touching_touches : (text : List ℕ) (t r : List Seen) (s : Seen) (ts : List Seen) → t ≡ s ∷ ts → Reads (touching text) t r → s.touches ≡ true
+unfolding touching
+touching_touches text t r s ts e h = touches_at (touching_piece text) t r s ts e h.is refl
 
 -- ---- which number the first token has
 

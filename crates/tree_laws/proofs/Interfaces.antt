@@ -32,7 +32,7 @@ use Rattle.tree_laws.proofs.Declarations.{SemicolonEnds, declared, declaration_b
 
 -- ---- names behind a word
 
-abbrev NamesEnd : List Seen → Type 0
+abbrev pub NamesEnd : List Seen → Type 0
 NamesEnd t = Avoids (18 ∷ 71 ∷ []) t
 
 names : Commas name_yield name_shape NameEnds NamesEnd
@@ -46,18 +46,18 @@ names = record {
 same_raises : (word : List ℕ) (a b : Listed ScopedName) {S : List Seen → Type 0} → Same (raises_yield word a) (raises_yield word b) (names_shape a ≡ names_shape b) S
 same_raises word a b = ended (mark (codes ")")) (begun (keyword word ++ mark (codes "(")) (same_listed names a b)) (piece_avoids Punct (codes ")") _ refl)
 
-raises_begin : (a : Listed ScopedName) → Leads (raises_yield (codes "raises") a) Any (Among (45 ∷ []))
+pub raises_begin : (a : Listed ScopedName) → Leads (raises_yield (codes "raises") a) Any (Among (45 ∷ []))
 raises_begin a = leads_first _ (leads_first _ (leads_first _ (piece_among Keyword (codes "raises") _ refl)))
 
-getraises_begin : (a : Listed ScopedName) → Leads (raises_yield (codes "getraises") a) Any (Among (46 ∷ []))
+pub getraises_begin : (a : Listed ScopedName) → Leads (raises_yield (codes "getraises") a) Any (Among (46 ∷ []))
 getraises_begin a = leads_first _ (leads_first _ (leads_first _ (piece_among Keyword (codes "getraises") _ refl)))
 
-setraises_begin : (a : Listed ScopedName) → Leads (raises_yield (codes "setraises") a) Any (Among (47 ∷ []))
+pub setraises_begin : (a : Listed ScopedName) → Leads (raises_yield (codes "setraises") a) Any (Among (47 ∷ []))
 setraises_begin a = leads_first _ (leads_first _ (leads_first _ (piece_among Keyword (codes "setraises") _ refl)))
 
 -- ---- attributes
 
-behind_first : (rest : List Leaf) → Leads (flat_map (λ x. mark (codes ",") ++ identifier x) rest) SemicolonEnds (Among (70 ∷ 71 ∷ []))
+pub behind_first : (rest : List Leaf) → Leads (flat_map (λ x. mark (codes ",") ++ identifier x) rest) SemicolonEnds (Among (70 ∷ 71 ∷ []))
 behind_first [] = leads_to (λ t. wider refl) leads_none
 behind_first (x ∷ xs) = leads_first _ (leads_first _ (piece_among Punct (codes ",") _ refl))
 
@@ -108,7 +108,7 @@ attributes_begin (Readonly id n) = leads_first _ (kept_among Ident _ id _ refl)
 attributes_begin (Get id g s) = leads_first _ (leads_first _ (kept_among Ident _ id _ refl))
 attributes_begin (Set id s) = leads_first _ (kept_among Ident _ id _ refl)
 
-attributes_lead : (a : Attributes) → Leads (attributes_yield a) SemicolonEnds TypeEnds
+pub attributes_lead : (a : Attributes) → Leads (attributes_yield a) SemicolonEnds TypeEnds
 attributes_lead a = leads_any (leads_to (λ t. apart refl) (attributes_begin a))
 
 same_flags : (a b : Bool) → Same (readonly_yield a ++ keyword (codes "attribute")) (readonly_yield b ++ keyword (codes "attribute")) (a ≡ b) Any
@@ -117,7 +117,7 @@ same_flags false false = so (λ u. refl) (fixed _)
 same_flags true false = never (30 ∷ []) (31 ∷ []) refl (leads_first _ (piece_among Keyword (codes "readonly") _ refl)) (piece_among Keyword (codes "attribute") _ refl)
 same_flags false true = never (31 ∷ []) (30 ∷ []) refl (piece_among Keyword (codes "attribute") _ refl) (leads_first _ (piece_among Keyword (codes "readonly") _ refl))
 
-flag_begins : (a : Bool) → Leads (readonly_yield a ++ keyword (codes "attribute")) Any (Among (30 ∷ 31 ∷ []))
+pub flag_begins : (a : Bool) → Leads (readonly_yield a ++ keyword (codes "attribute")) Any (Among (30 ∷ 31 ∷ []))
 flag_begins true = leads_first _ (piece_among Keyword (codes "readonly") _ refl)
 flag_begins false = piece_among Keyword (codes "attribute") _ refl
 
@@ -127,7 +127,7 @@ same_attribute a b =
     (then_so (next (same_flags (is_readonly a.declared) (is_readonly b.declared)) (same_param_type a.attribute_type b.attribute_type))
     (attributes_lead a.declared) (attributes_lead b.declared) (λ h. same_attributes a.declared b.declared h.0))
 
-attribute_begins : (a : Attribute) → Leads (attribute_yield a) Any (Among (30 ∷ 31 ∷ []))
+pub attribute_begins : (a : Attribute) → Leads (attribute_yield a) Any (Among (30 ∷ 31 ∷ []))
 attribute_begins a = leads_first _ (leads_first _ (flag_begins (is_readonly a.declared)))
 
 -- ---- parameters
@@ -142,7 +142,7 @@ direction_starts_are In = piece_among Keyword (codes "in") _ refl
 direction_starts_are Out = piece_among Keyword (codes "out") _ refl
 direction_starts_are InOut = piece_among Keyword (codes "inout") _ refl
 
-direction_begins : (d : Direction) → Leads (direction_yield d) Any (Among (42 ∷ 43 ∷ 44 ∷ []))
+pub direction_begins : (d : Direction) → Leads (direction_yield d) Any (Among (42 ∷ 43 ∷ 44 ∷ []))
 direction_begins In = piece_among Keyword (codes "in") _ refl
 direction_begins Out = piece_among Keyword (codes "out") _ refl
 direction_begins InOut = piece_among Keyword (codes "inout") _ refl
@@ -175,7 +175,7 @@ parameters = record {
 
 -- ---- operations
 
-result_begins : (r : Option ParamType) → Leads (result_yield r) Any (Among (27 ∷ params))
+pub result_begins : (r : Option ParamType) → Leads (result_yield r) Any (Among (27 ∷ params))
 result_begins None = piece_among Keyword (codes "void") _ refl
 result_begins (Some t) = leads_to (λ t. wider refl) (param_type_begins t)
 
@@ -191,7 +191,7 @@ same_oneway false false r s = so (λ h. (refl, h)) (same_result r s)
 same_oneway true false r s = never (28 ∷ []) (27 ∷ params) refl (leads_first _ (piece_among Keyword (codes "oneway") _ refl)) (leads_any (result_begins s))
 same_oneway false true r s = never (27 ∷ params) (28 ∷ []) refl (leads_any (result_begins r)) (leads_first _ (piece_among Keyword (codes "oneway") _ refl))
 
-abbrev operations : List ℕ
+abbrev pub operations : List ℕ
 operations = 28 ∷ 27 ∷ params
 
 oneway_begins : (a : Bool) (r : Option ParamType) → Leads (oneway_yield a ++ result_yield r) Any (Among operations)
@@ -212,7 +212,7 @@ same_operation a b =
     (ident_leads a.identifier) (ident_leads b.identifier) (leaves Ident a.identifier b.identifier))) (same_optional parameters a.params b.params))
     (piece_among Punct (codes ")") _ refl)) (same_optional raises a.raises b.raises))
 
-operation_begins : (o : Operation) → Leads (operation_yield o) Any (Among operations)
+pub operation_begins : (o : Operation) → Leads (operation_yield o) Any (Among operations)
 operation_begins o = leads_first _ (leads_first _ (leads_first _ (leads_first _ (leads_first _ (oneway_begins o.is_oneway o.result_type)))))
 
 -- ---- what stands in an interface
@@ -229,10 +229,10 @@ export_starts_are (Exports.Declaration d) = leads_first _ (declaration_begins d)
 export_starts_are (Exports.Attribute a) = leads_first _ (attribute_begins a)
 export_starts_are (Exports.Operation o) = leads_first _ (operation_begins o)
 
-abbrev exported : List ℕ
+abbrev pub exported : List ℕ
 exported = 20 ∷ 21 ∷ 22 ∷ 23 ∷ 24 ∷ 25 ∷ 26 ∷ 28 ∷ 27 ∷ 30 ∷ 31 ∷ 32 ∷ params
 
-export_begins : (e : Export) → Leads (export_yield e) Any (Among exported)
+pub export_begins : (e : Export) → Leads (export_yield e) Any (Among exported)
 export_begins (Exports.Pragma p) = leads_to (λ t. wider refl) (export_starts_are (Exports.Pragma p))
 export_begins (Exports.Declaration d) = leads_to (λ t. wider refl) (export_starts_are (Exports.Declaration d))
 export_begins (Exports.Attribute a) = leads_to (λ t. wider refl) (export_starts_are (Exports.Attribute a))
@@ -263,7 +263,7 @@ bases = record {
   none = λ t a. apart refl a;
 }
 
-bases_begin : (b : Option (Listed ScopedName)) → Leads (optional bases_yield b) (Among (72 ∷ [])) (Among (72 ∷ 75 ∷ []))
+pub bases_begin : (b : Option (Listed ScopedName)) → Leads (optional bases_yield b) (Among (72 ∷ [])) (Among (72 ∷ 75 ∷ []))
 bases_begin None = leads_to (λ t. wider refl) leads_none
 bases_begin (Some b) = leads_first _ (piece_among Punct (codes ":") _ refl)
 

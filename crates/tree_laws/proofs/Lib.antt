@@ -9,3 +9,11 @@ mod Members
 mod Declarations
 mod Interfaces
 mod Definitions
+mod Takes
+mod NameWays
+mod ExprWays
+mod TypeWays
+mod MemberWays
+mod DeclarationWays
+mod InterfaceWays
+mod DefinitionWays

@@ -56,7 +56,7 @@ IsOneType t = (u : TypeSpec) → Same (type_yield t) (type_yield u) (type_shape 
 
 -- ---- members
 
-abbrev line_yield : TypeSpec → Listed Declarator → List Piece
+abbrev pub line_yield : TypeSpec → Listed Declarator → List Piece
 line_yield t ds = type_yield t ++ listed declarator_yield ds ++ mark (codes ";")
 
 abbrev line_shape : TypeSpec → Listed Declarator → Shape
@@ -71,7 +71,7 @@ same_line t one ds u es =
     so (λ h. let x = h.0 in let y = h.1 in cc)
     (ended (mark (codes ";")) (then (one u) (behind_type ds) (behind_type es) (same_listed declarators ds es)) (piece_avoids Punct (codes ";") _ refl))
 
-line_begins : (t : TypeSpec) (ds : Listed Declarator) → Leads (line_yield t ds) Any (Among types)
+pub line_begins : (t : TypeSpec) (ds : Listed Declarator) → Leads (line_yield t ds) Any (Among types)
 line_begins t ds = leads_first _ (leads_first _ (type_begins t))
 
 -- what stands behind members: the closing brace
@@ -83,16 +83,16 @@ no_member t ds rest = contrary (leads_to (λ t a. apart {ns = types} refl a) lea
 
 -- ---- cases
 
-abbrev case_front : Listed Label → TypeSpec → Declarator → List Piece
+abbrev pub case_front : Listed Label → TypeSpec → Declarator → List Piece
 case_front ls t d = in_order label_yield ls ++ type_yield t ++ declarator_yield d ++ mark (codes ";")
 
 abbrev case_front_shape : Listed Label → TypeSpec → Declarator → Shape
 case_front_shape ls t d = Both (Both (listed_shape label_shape ls) (type_shape t)) (declarator_shape d)
 
-behind_labels : (t : TypeSpec) {S : List Seen → Type 0} → Leads (type_yield t) S (Avoids (40 ∷ 41 ∷ []))
+pub behind_labels : (t : TypeSpec) {S : List Seen → Type 0} → Leads (type_yield t) S (Avoids (40 ∷ 41 ∷ []))
 behind_labels t = leads_any (leads_to (λ t. apart refl) (type_begins t))
 
-behind_case_type : (d : Declarator) {S : List Seen → Type 0} → Leads (declarator_yield d) S TypeEnds
+pub behind_case_type : (d : Declarator) {S : List Seen → Type 0} → Leads (declarator_yield d) S TypeEnds
 behind_case_type d = leads_any (leads_to (λ t. apart refl) (declarator_begins d))
 
 same_case_front : (ls : Listed Label) (t : TypeSpec) → IsOneType t → (d : Declarator) (ks : Listed Label) (u : TypeSpec) (e : Declarator) {S : List Seen → Type 0}
@@ -102,7 +102,7 @@ same_case_front ls t one d ks u e =
     (ended (mark (codes ";")) (then (then (same_in_order labels ls ks) (behind_labels t) (behind_labels u) (one u)) (behind_case_type d) (behind_case_type e) (same_declarator d e))
     (piece_avoids Punct (codes ";") _ refl))
 
-case_begins : (ls : Listed Label) (t : TypeSpec) (d : Declarator) → Leads (case_front ls t d) Any (Among (40 ∷ 41 ∷ []))
+pub case_begins : (ls : Listed Label) (t : TypeSpec) (d : Declarator) → Leads (case_front ls t d) Any (Among (40 ∷ 41 ∷ []))
 case_begins ls t d = leads_first _ (leads_first _ (leads_first _ (leads_first _ (labels.first ls.first))))
 
 no_case : {n : _} (ls : Listed Label) (t : TypeSpec) (d : Declarator) (rest : Row_of-Case n) {P : Type 0} → Same [] (case_front ls t d ++ cases_yield rest) P BraceEnds

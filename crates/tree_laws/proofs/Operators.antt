@@ -57,7 +57,7 @@ operator_begins Multiply = piece_among Punct (codes "*") _ refl
 operator_begins Divide = piece_among Punct (codes "/") _ refl
 operator_begins Remainder = piece_among Punct (codes "%") _ refl
 
-among_one : (n : ℕ) (t : List Seen) → Among (n ∷ []) t → begins t ≡ n
+pub among_one : (n : ℕ) (t : List Seen) → Among (n ∷ []) t → begins t ≡ n
 among_one n t a = by_test (nat_eq n (begins t)) refl a.is
   where
     by_test : (b : Bool) → nat_eq n (begins t) ≡ b → (b || false) ≡ true → begins t ≡ n

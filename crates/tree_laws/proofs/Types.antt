@@ -44,7 +44,7 @@ size_starts Short = 10 ∷ []
 size_starts Long = 11 ∷ []
 size_starts LongLong = 11 ∷ []
 
-size_begins : (a : IntegerSize) → Leads (integer_size_yield a) Any (Among (10 ∷ 11 ∷ []))
+pub size_begins : (a : IntegerSize) → Leads (integer_size_yield a) Any (Among (10 ∷ 11 ∷ []))
 size_begins Short = piece_among Keyword (codes "short") _ refl
 size_begins Long = piece_among Keyword (codes "long") _ refl
 size_begins LongLong = leads_first _ (piece_among Keyword (codes "long") _ refl)
@@ -250,7 +250,7 @@ label_starts_are : (a : Label) → Leads (label_yield a) Any (Among (label_start
 label_starts_are (Labels.Case e) = leads_first _ (leads_first _ (piece_among Keyword (codes "case") _ refl))
 label_starts_are (Labels.Default l) = leads_first _ (kept_among Keyword (codes "default") l _ refl)
 
-label_begins : (a : Label) → Leads (label_yield a) Any (Among (40 ∷ 41 ∷ []))
+pub label_begins : (a : Label) → Leads (label_yield a) Any (Among (40 ∷ 41 ∷ []))
 label_begins (Labels.Case e) = leads_to (λ t. wider refl) (label_starts_are (Labels.Case e))
 label_begins (Labels.Default l) = leads_to (λ t. wider refl) (label_starts_are (Labels.Default l))
 

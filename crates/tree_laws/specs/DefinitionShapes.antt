@@ -63,7 +63,8 @@ param_shape p = Both (Both (direction_shape p.direction) (param_type_shape p.par
 abbrev pub operation_shape : Operation → Shape
 operation_shape o =
     Both (Both (Both (Both (bool_shape o.is_oneway) (optional_shape param_type_shape o.result_type))
-    (leaf_shape o.identifier)) (optional_shape (listed_shape param_shape) o.params)) (optional_shape names_shape o.raises)
+    (leaf_shape o.identifier)) (optional_shape (listed_shape param_shape) o.params))
+    (optional_shape names_shape o.raises)
 
 abbrev pub export_shape : Export → Shape
 export_shape (Exports.Pragma p) = Kind (codes "pragma") (leaf_shape p)
