@@ -247,7 +247,8 @@ uint32_t idlc_read_message(struct idlc_table *table, const uint8_t *octets, size
                            struct idlc_message *message, uint8_t *out, size_t out_len, size_t *len);
 
 /* Of all calls that hand octets over: with 0 its first `*len` octets are written, and those behind them are as
- * they were; with 45 `*len` is what is needed, so a call with length 0 asks for it; but with 0 the buffer is as it was. */
+ * they were; with 45 `*len` is what is needed, so a call with length 0 asks for it; but with 0 the buffer is as it was.
+ * idlc_encode and idlc_decode keep up to 1,048,576 octets of memory with the table for their next call. */
 
 #ifdef __cplusplus
 }
