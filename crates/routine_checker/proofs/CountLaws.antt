@@ -1,9 +1,10 @@
 -- As many wanted nodes as a node is made of can be taken from it.
-use Rattle.std.proofs.Common.{◌≡◌, ℕ, zero, suc, ◌+◌, ◌-◌, ◌*◌, ◌<◌, ◌≤◌, Bool, true, false, ◌||◌, eqb, List, [], ◌∷◌, ◌++◌, length, replicate, drop, drop-cons, get_or, Option, Some, None, IfSome, if◌then◌else◌, sum_by, refl, sym, ap, ap₂, subst, ◌∙◌, suc-mul, ◌/◌, min, le_trans, mul-le-mul_right, div-mul-le_self, le-div_iff_mul-le, mul-pos, arith}
+use Rattle.std.proofs.Common.{◌≡◌, ℕ, zero, suc, ◌+◌, ◌-◌, ◌*◌, ◌<◌, ◌≤◌, Bool, true, false, ◌||◌, eqb, List, [], ◌∷◌, ◌++◌, length, replicate, take, drop, drop-cons, get_or, Option, Some, None, IfSome, if◌then◌else◌, sum_by, refl, sym, ap, ap₂, subst, ◌∙◌, suc-mul, ◌/◌, min, le_trans, mul-le-mul_right, div-mul-le_self, le-div_iff_mul-le, mul-pos, arith}
 use Rattle.std.specs.List.{AllByRecursion, list_any}
 use Rattle.std.proofs.lemmas.Bool.{true≢false, eqb-true, eq-eqb}
 use Rattle.std.proofs.lemmas.Option.{none-some, same_Some}
-use Rattle.std.proofs.lemmas.List.{drop_all}
+use Rattle.std.proofs.Math.Seq.{take-suc}
+use Rattle.std.proofs.lemmas.List.{drop_all, append_assoc}
 use Rattle.std.proofs.lemmas.List.Sums.{sum_by-cons}
 use Rattle.std.proofs.lemmas.List.Folds.{sum_by-replicate}
 use Rattle.type_graph.specs.declared.node.Node.{Node}
@@ -359,3 +360,26 @@ front_more graph wanted numbers more at k t n d within yields fits =
     ap (λ list. taken (k - t) wanted graph (list ++ more)) split
     ∙ ap (λ i. taken i wanted graph (get_or numbers at d ∷ drop (at + 1) numbers ++ more)) some
     ∙ taken_add wanted graph n (k - (t + n)) (get_or numbers at d ∷ drop (at + 1) numbers ++ more) (drop (at + 1) numbers ++ more) (yields (drop (at + 1) numbers ++ more))
+
+-- one node more of those from which pieces are taken together
+pub took_more : (graph : List Node) (wanted : ℕ → Bool) (numbers more : List ℕ) (at s n d : ℕ) → at < length numbers
+    → ((more : List ℕ) → taken s wanted graph (take at numbers ++ more) ≡ Some more) → Yields n wanted graph (get_or numbers at d)
+    → taken (s + n) wanted graph (take (at + 1) numbers ++ more) ≡ Some more
+took_more graph wanted numbers more at s n d within before yields =
+    let here = get_or numbers at d in
+    let next : at + 1 ≡ suc at = omega arith in
+    let split = ap (λ i. take i numbers) next ∙ take-suc numbers at d within in
+    ap (λ list. taken (s + n) wanted graph (list ++ more)) split
+    ∙ ap (λ list. taken (s + n) wanted graph list) (append_assoc (take at numbers) (here ∷ []) more)
+    ∙ taken_add wanted graph s n (take at numbers ++ (here ∷ more)) (here ∷ more) (before (here ∷ more))
+    ∙ yields more
+
+-- nodes in front from which pieces are taken together
+pub block_more : (graph : List Node) (wanted : ℕ → Bool) (block behind more : List ℕ) (k t n : ℕ) → n ≤ k - t
+    → ((more : List ℕ) → taken n wanted graph (block ++ more) ≡ Some more)
+    → taken (k - t) wanted graph ((block ++ behind) ++ more) ≡ taken (k - (t + n)) wanted graph (behind ++ more)
+block_more graph wanted block behind more k t n fits takes =
+    let some : k - t ≡ n + (k - (t + n)) = omega (arith, fits) in
+    ap (λ list. taken (k - t) wanted graph list) (append_assoc block behind more)
+    ∙ ap (λ i. taken i wanted graph (block ++ (behind ++ more))) some
+    ∙ taken_add wanted graph n (k - (t + n)) (block ++ (behind ++ more)) (behind ++ more) (takes (behind ++ more))

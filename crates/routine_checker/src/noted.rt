@@ -17,6 +17,9 @@ use type_graph::{Graph, Width};
 /// From so many pieces on it is worth it to note of all nodes how many they are made of.
 const MANY: u32 = 256;
 
+/// How many nodes are looked at at once.
+const BLOCK: usize = 16;
+
 /// How many nodes a graph may have.
 const MAX_NODES: u32 = 4096;
 
@@ -63,6 +66,45 @@ fn count_at(counts: &[u32], number: u32) -> u32
     counts.get(number as usize).copied().unwrap_or(0)
 }
 
+/// Of how many of the pieces the nodes are made, 0 where that isn't known of each. No step depends
+/// on what one of them has, so a processor looks at several at a time.
+fn sum_noted(counts: &[u32], numbers: &[u32]) -> u64
+    requires { length numbers.now ≤ 16 }
+    ensures { (graph : List Node) (piece : Piece) → IsNoted graph piece counts.now → 0 < result
+        → (more : List ℕ) → taken result (is_piece_of piece graph) graph (numbers.now ++ more) ≡ Some more }
+{
+    let mut sum = 0u64;
+    let mut least = u32::MAX;
+    for at in 0..numbers.len() {
+        let count = count_at(counts, numbers[at]);
+        least = least.min(count);
+        sum += u64::from(count);
+    }
+    if least == 0 { 0 } else { sum }
+}
+
+/// As `front_noted`, but so many nodes at a time.
+fn blocks_noted(counts: &[u32], numbers: &[u32], wanted: u32) -> (usize, u32)
+    ensures passed { result.0 ≤ length numbers.now }
+    ensures within { result.1 ≤ wanted }
+    ensures taken { (graph : List Node) (piece : Piece) → IsNoted graph piece counts.now → (more : List ℕ)
+        → taken wanted (is_piece_of piece graph) graph (numbers.now ++ more)
+        ≡ taken (wanted - result.1) (is_piece_of piece graph) graph (drop result.0 numbers.now ++ more) }
+{
+    let mut rest = numbers;
+    let mut taken = 0;
+    for at in 0..numbers.len() / BLOCK {
+        let (block, behind) = rest.split_at(BLOCK);
+        let count = sum_noted(counts, block);
+        if count == 0 || count > u64::from(wanted - taken) {
+            return (at * BLOCK, taken);
+        }
+        taken += count as u32;
+        rest = behind;
+    }
+    (numbers.len() / BLOCK * BLOCK, taken)
+}
+
 /// How many of the nodes in front are made of the pieces, as long as more of these are wanted, and
 /// how many these are.
 fn front_noted(counts: &[u32], numbers: &[u32], wanted: u32) -> (usize, u32)
@@ -72,8 +114,9 @@ fn front_noted(counts: &[u32], numbers: &[u32], wanted: u32) -> (usize, u32)
         → taken wanted (is_piece_of piece graph) graph (numbers.now ++ more)
         ≡ taken (wanted - result.1) (is_piece_of piece graph) graph (drop result.0 numbers.now ++ more) }
 {
-    let mut taken = 0;
-    for at in 0..numbers.len() {
+    let (passed, before) = blocks_noted(counts, numbers, wanted);
+    let mut taken = before;
+    for at in passed..numbers.len() {
         let count = count_at(counts, numbers[at]);
         if count == 0 || count > wanted - taken {
             return (at, taken);
