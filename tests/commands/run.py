@@ -21,7 +21,7 @@ interface P { void ping(); };
 """
 
 # how many refusals have a text
-EXPLAINED = 101
+EXPLAINED = 106
 
 # what a source is refused with
 REFUSED = [

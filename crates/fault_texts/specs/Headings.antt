@@ -13,7 +13,7 @@ is_within low high n = nat_le low n && nat_le n high
 abbrev pub is_refusal : ℕ → Bool
 is_refusal n = is_within 1 7 n || is_within 10 13 n || is_within 20 29 n || is_within 30 37 n || is_within 40 47 n
     || is_within 50 55 n || is_within 60 68 n || is_within 70 70 n || is_within 80 85 n || is_within 90 97 n
-    || is_within 100 106 n || is_within 110 124 n || is_within 130 141 n
+    || is_within 100 106 n || is_within 110 124 n || is_within 130 146 n
 
 -- refusals of tokens
 abbrev pub token_heading : ℕ → Option (List ℕ)
@@ -181,6 +181,16 @@ call_heading n =
     if n == 141 then Some (codes "141 NeedsAddressingMode") else (
     None))))))))))))
 
+-- refusals of captures
+abbrev pub capture_heading : ℕ → Option (List ℕ)
+capture_heading n =
+    if n == 142 then Some (codes "142 BadCapture") else (
+    if n == 143 then Some (codes "143 UnknownOperation") else (
+    if n == 144 then Some (codes "144 NoRequest") else (
+    if n == 145 then Some (codes "145 OtherArguments") else (
+    if n == 146 then Some (codes "146 CutMessage") else (
+    None)))))
+
 -- all of them
 abbrev pub heading : ℕ → Option (List ℕ)
 heading n =
@@ -196,4 +206,5 @@ heading n =
     if nat_lt n 100 then message_heading n else (
     if nat_lt n 110 then connection_heading n else (
     if nat_lt n 130 then text_heading n else (
-    call_heading n))))))))))))
+    if nat_lt n 142 then call_heading n else (
+    capture_heading n)))))))))))))

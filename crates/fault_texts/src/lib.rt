@@ -5,6 +5,7 @@ ghost use Rattle.std.specs.Prelude.{◌≡◌, is_some, option_map};
 ghost use Rattle.fault_texts.specs.Headings.{first_line, heading, is_refusal};
 
 mod calls;
+mod captures;
 mod checks;
 mod connections;
 mod grammar;
@@ -39,6 +40,7 @@ pub fn explanation(number: u8) -> Option<&'static str>
         90..=99 => messages::of_messages(number),
         100..=109 => connections::of_connections(number),
         110..=129 => texts::of_texts(number),
-        _ => calls::of_calls(number),
+        130..=141 => calls::of_calls(number),
+        _ => captures::of_captures(number),
     }
 }

@@ -1,6 +1,6 @@
 -- A URL spells one place.
-use Rattle.std.proofs.Common.{◌≡◌, ℕ, List, sym, subst, ◌∙◌, ap, Option, Some, true}
-use Rattle.corbaloc.specs.Places.{Place, SpellsCorbaloc, address_of, behind_protocol, cut, key_of}
+use Rattle.std.proofs.Common.{◌≡◌, ℕ, List, sym, subst, ◌∙◌, ap, Some, true}
+use Rattle.corbaloc.specs.Places.{Place, SpellsCorbaloc, address_of, cut, key_of}
 use Rattle.object_references.specs.References.{Reference}
 use Rattle.spelled_references.specs.Spelled.{IsOfPlace, SpellsBy, SpellsReference, is_url}
 

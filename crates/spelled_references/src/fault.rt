@@ -1,5 +1,9 @@
 //! Why a text spells no reference.
 
+ghost use Rattle.std.specs.Prelude.{◌≡◌};
+ghost use Rattle.spelled_references.specs.declared.fault.SpellingFault.TheVariants.{NoMemory};
+
+use std::alloc::AllocError;
 use thiserror::Error;
 
 /// A numbered fault has its number and name as its text.
@@ -11,4 +15,12 @@ pub enum SpellingFault {
     BadCorbaloc,
     #[error("no memory")]
     NoMemory,
+}
+
+impl From<AllocError> for SpellingFault {
+    ghost from_gives = { λ _ fault. fault ≡ NoMemory };
+
+    fn from(_error: AllocError) -> SpellingFault {
+        SpellingFault::NoMemory
+    }
 }

@@ -1,9 +1,11 @@
 //! References as texts spell them: in digits behind `IOR:`, or as a corbaloc URL.
 #![tactic(auto)]
 
+mod described;
 mod fault;
 mod place;
 mod spelled;
 
+pub use described::described_reference;
 pub use fault::SpellingFault;
 pub use spelled::read_reference;

@@ -12,7 +12,7 @@ use giop_types::GiopTypes;
 use object_references::{Ior, ReferenceFault, ior_from_text};
 use std::alloc::Global;
 
-fn is_url(text: &str) -> bool
+pub(crate) fn is_url(text: &str) -> bool
     ensures { result ≡ is_url_text text.now }
 {
     text.as_bytes().starts_with(b"corbaloc:".as_slice())

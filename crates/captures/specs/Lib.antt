@@ -1,0 +1,4 @@
+pub mod Backlogs
+pub mod Follows
+pub mod Forms
+pub mod Refusal

@@ -1,0 +1,26 @@
+//! The messages of captures told, each by its place, how many octets it has, and words: fragments are
+//! joined, and each octet is told once.
+#![tactic(auto)]
+
+mod digits;
+mod direction;
+mod dump;
+mod fault;
+mod front;
+mod octets;
+mod open;
+mod source;
+mod taken;
+mod text;
+mod told;
+mod unread;
+mod words;
+
+pub use digits::{Digits, unread_lines};
+pub use dump::Dump;
+pub use fault::DumpFault;
+pub use octets::dump_octets;
+pub use open::message_id;
+pub use source::{Source, SourceFault};
+pub use text::dump_text;
+pub use words::Words;
