@@ -7,6 +7,7 @@ use Rattle.command_words.specs.declared.task.Form.{Form}
 use Rattle.command_words.specs.declared.task.ValueTask.{ValueTask}
 use Rattle.command_words.specs.declared.task.ReferenceTask.{ReferenceTask}
 use Rattle.command_words.specs.declared.task.CallTask.{CallTask}
+use Rattle.command_words.specs.declared.task.DumpTask.{DumpTask}
 use Rattle.command_words.specs.declared.task.Task.{Task}
 use Rattle.command_words.specs.declared.task.Task.TheVariants as tasks
 use Rattle.command_words.specs.Way.{name_of}
@@ -31,6 +32,12 @@ pub record CallAsk : Type 0 where
   pub order : Order
   pub wait : ℕ
   pub repeat : ℕ
+
+-- what a capture says
+pub record DumpAsk : Type 0 where
+  pub table : List ℕ
+  pub file : Option (List ℕ)
+  pub back : Option (List ℕ)
 
 pub data Ask : Type 0 where
   Value : ValueAsk → Ask
@@ -59,6 +66,13 @@ call_ask_of asked = record {
   order = asked.order;
   wait = asked.wait;
   repeat = asked.repeat;
+}
+
+abbrev pub dump_ask_of : DumpTask → DumpAsk
+dump_ask_of asked = record {
+  table = asked.table.now;
+  file = option_map (λ text. text.now) asked.file;
+  back = option_map (λ text. text.now) asked.back;
 }
 
 -- what a task answers, but for tables

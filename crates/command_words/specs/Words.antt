@@ -14,7 +14,7 @@ use Rattle.table_commands.specs.declared.values.Way.{Way}
 use Rattle.table_commands.specs.declared.values.Way.TheVariants.{Encode, Decode}
 use Rattle.command_words.specs.declared.task.Form.{Form}
 use Rattle.command_words.specs.declared.task.Form.TheVariants as forms
-use Rattle.command_words.specs.Ask.{Ask, CallAsk, Description, Explanation, Reference, ReferenceAsk, Value, ValueAsk, command_of}
+use Rattle.command_words.specs.Ask.{Ask, CallAsk, DumpAsk, Description, Explanation, Reference, ReferenceAsk, Value, ValueAsk, command_of}
 use Rattle.command_words.specs.Commands.{program_app}
 use Rattle.command_words.specs.Spoken.{spoken}
 
@@ -126,6 +126,25 @@ AreReadAsCall words ask = (orders : ValueParser) → TakesOrders orders → IsRe
 -- it takes the words of a run as they are spoken
 abbrev pub AsksForCall : List Text → CallAsk → Type 0
 AsksForCall words ask = AreReadAsCall (spoken words) ask
+
+pub record TellsDump (rows : List Row) (ask : DumpAsk) : Type 0 where
+  pub table : first_of (codes "T") rows ≡ Some ask.table
+  pub file : first_of (codes "FILE") rows ≡ ask.file
+  pub back : first_of (codes "BACK") rows ≡ ask.back
+
+pub record IsReadAsDump (app : App) (words : List Text) (ask : DumpAsk) : Type 0 where
+  pub taken : takes app words ≡ true
+  pub rows : List Row
+  pub command : subcommand_of app words ≡ Some (codes "dump", rows)
+  pub tells : TellsDump rows ask
+
+-- clap takes the words, and they ask what this capture says
+abbrev pub AreReadAsDump : List Text → DumpAsk → Type 0
+AreReadAsDump words ask = (orders : ValueParser) → TakesOrders orders → IsReadAsDump (program_app orders) words ask
+
+-- it takes the words of a run as they are spoken
+abbrev pub AsksForDump : List Text → DumpAsk → Type 0
+AsksForDump words ask = AreReadAsDump (spoken words) ask
 
 -- it takes the words of a run as they are spoken
 abbrev pub AsksFor : List Text → Ask → Type 0
