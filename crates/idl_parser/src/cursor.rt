@@ -1,13 +1,16 @@
 //! How far tokens are read.
 //!
 //! A contract sees a cursor as the list of the tokens that are left.
-#![tactic(auto, using(crate::proofs::Reading::past_append))]
+#![tactic(auto, using(crate::proofs::Reading::past_append, crate::proofs::Ways::way_ends, crate::proofs::Ways::way_missing))]
 
-ghost use Rattle.std.specs.Prelude.{◌≡◌, ◌++◌, suc, [], Ok, IfOk, IfSome, IfNone, codes};
+ghost use Rattle.std.specs.Prelude.{◌≡◌, ◌++◌, suc, [], true, false, Some, Ok, IfOk, OnSome, IfSome, IfNone, codes};
 ghost use Rattle.std.specs.Bool.{OnTrue, OnFalse};
+ghost use Rattle.idl_lexer.specs.declared.token.Kind.TheVariants.{Keyword, Punct};
 ghost use Rattle.idl_parser.specs.inner.Reading.{Parsed};
 ghost use Rattle.idl_tree.specs.Pieces.{piece, keyword, kept, mark, touching, leaf as leaf_yield, seen_from};
 ghost use Rattle.idl_tree.specs.Yields.{identifier as identifier_yield};
+ghost use Rattle.tree_laws.specs.Descent.{sees, taken};
+ghost use Rattle.idl_parser.specs.inner.Agreeing.{Agrees};
 
 use crate::fault::ParseFault;
 use crate::left_out::left_out;
@@ -119,6 +122,9 @@ impl<'a> Cursor<'a> {
     /// Takes the next token, if it is this one.
     pub(crate) fn take(&mut self, kind: Kind, text: &str) -> Option<Leaf<'a>>
         ensures missing { IfNone result (self.new ≡ self.old) }
+        ensures unseen { IfNone result (sees kind text.now self.old ≡ false) }
+        ensures seen { OnSome result (sees kind text.now self.old ≡ true) }
+        ensures taken { OnSome result (taken kind text.now self.old ≡ Some self.new) }
         ensures plain { IfSome result (λ l. Parsed self.old (piece kind text.now) self.new) }
         ensures kept { IfSome result (λ l. Parsed self.old (kept kind text.now l) self.new) }
     {
@@ -197,6 +203,9 @@ impl<'a> Cursor<'a> {
 
     pub(crate) fn take_mark(&mut self, text: &str) -> bool
         ensures missing { OnFalse result (self.new ≡ self.old) }
+        ensures unseen { OnFalse result (sees Punct text.now self.old ≡ false) }
+        ensures seen { OnTrue result (sees Punct text.now self.old ≡ true) }
+        ensures taken { OnTrue result (taken Punct text.now self.old ≡ Some self.new) }
         ensures read { OnTrue result (Parsed self.old (mark text.now) self.new) }
     {
         self.take(Kind::Punct, text).is_some()
@@ -204,13 +213,17 @@ impl<'a> Cursor<'a> {
 
     pub(crate) fn take_keyword(&mut self, word: &str) -> bool
         ensures missing { OnFalse result (self.new ≡ self.old) }
+        ensures unseen { OnFalse result (sees Keyword word.now self.old ≡ false) }
+        ensures seen { OnTrue result (sees Keyword word.now self.old ≡ true) }
+        ensures taken { OnTrue result (taken Keyword word.now self.old ≡ Some self.new) }
         ensures read { OnTrue result (Parsed self.old (keyword word.now) self.new) }
     {
         self.take(Kind::Keyword, word).is_some()
     }
 
     pub(crate) fn mark(&mut self, text: &str) -> Result<(), Stop>
-        ensures { IfOk result (λ _. Parsed self.old (mark text.now) self.new) }
+        ensures read { IfOk result (λ _. Parsed self.old (mark text.now) self.new) }
+        ensures way { Agrees (taken Punct text.now self.old) result self.new }
     {
         if self.take_mark(text) {
             Ok(())
@@ -220,7 +233,8 @@ impl<'a> Cursor<'a> {
     }
 
     pub(crate) fn keyword(&mut self, word: &str) -> Result<(), Stop>
-        ensures { IfOk result (λ _. Parsed self.old (keyword word.now) self.new) }
+        ensures read { IfOk result (λ _. Parsed self.old (keyword word.now) self.new) }
+        ensures way { Agrees (taken Keyword word.now self.old) result self.new }
     {
         if self.take_keyword(word) {
             Ok(())

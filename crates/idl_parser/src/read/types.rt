@@ -1,11 +1,13 @@
 //! Types that declare nothing but enumerations, and declarators.
-#![tactic(auto, using(crate::proofs::Reading::past_append, crate::proofs::Reading::past_none))]
+#![tactic(auto, using(crate::proofs::Reading::past_append, crate::proofs::Reading::past_none, crate::proofs::Ways::way_ends, crate::proofs::Ways::way_missing, crate::proofs::Ways::way_on, crate::proofs::Ways::way_stops, crate::proofs::Ways::way_if, crate::proofs::Ways::way_else))]
 
 ghost use Rattle.std.specs.Prelude.{◌≡◌, ◌++◌, ◌≤◌, suc, ℕ, IfOk, List, codes};
 ghost use Rattle.std.specs.List.{flat_map};
 ghost use Rattle.idl_parser.specs.inner.Reading.{Parsed, Continued};
 ghost use Rattle.idl_tree.specs.Pieces.{keyword, mark};
 ghost use Rattle.idl_tree.specs.Yields.{optional};
+ghost use Rattle.tree_laws.specs.Descent.{integer_size_way, integer_way};
+ghost use Rattle.idl_parser.specs.inner.Agreeing.{Agrees};
 ghost use Rattle.idl_tree.specs.TypeYields.{integer_size_yield, integer_yield, string_bound_yield, const_type_yield, param_type_yield, sequence_bound_yield, simple_type_yield, declarator_yield, size_yield, enum_yield, switch_yield};
 ghost use Rattle.idl_tree.specs.Levels.{highest, optional_levels, const_expr_levels, bound_levels};
 ghost use Rattle.idl_tree.specs.TypeLevels.{const_type_levels, param_type_levels, simple_type_levels, declarator_levels, switch_levels};
@@ -22,7 +24,8 @@ use idl_tree::types::{
 };
 
 fn read_integer_size(cursor: &mut Cursor<'_>) -> Result<IntegerSize, Stop>
-    ensures { IfOk result (λ i. Parsed cursor.old (integer_size_yield i) cursor.new) }
+    ensures read { IfOk result (λ i. Parsed cursor.old (integer_size_yield i) cursor.new) }
+    ensures way { Agrees (integer_size_way cursor.old) result cursor.new }
 {
     if cursor.take_keyword("short") {
         return Ok(IntegerSize::Short);
@@ -36,7 +39,8 @@ fn read_integer_size(cursor: &mut Cursor<'_>) -> Result<IntegerSize, Stop>
 }
 
 fn read_integer(cursor: &mut Cursor<'_>) -> Result<Integer, Stop>
-    ensures { IfOk result (λ i. Parsed cursor.old (integer_yield i) cursor.new) }
+    ensures read { IfOk result (λ i. Parsed cursor.old (integer_yield i) cursor.new) }
+    ensures way { Agrees (integer_way cursor.old) result cursor.new }
 {
     if cursor.take_keyword("unsigned") {
         return Ok(Integer::Unsigned(got!(read_integer_size(cursor))));
