@@ -68,7 +68,7 @@ def names(test, count):
     listed = test.call([PROGRAM, "explain"])
     lines = listed.out.splitlines()
     numbers = [int(line.split()[0]) for line in lines]
-    count.add(listed.status == 0 and numbers == sorted(set(numbers)) and len(lines) == 101, f"explain: {listed.out}")
+    count.add(listed.status == 0 and numbers == sorted(set(numbers)) and len(lines) == 106, f"explain: {listed.out}")
     for line in lines:
         number, name = line.split(" ")
         text = test.call([PROGRAM, "explain", number]).out
