@@ -1,4 +1,4 @@
-//! What a person is told of the faults of an IDL file: where each stands in the file as it was
+//! What a person is told of the first fault of an IDL file: where it stands in the file as it was
 //! written, the line with a caret, and what is known.
 #![tactic(auto)]
 
@@ -10,5 +10,5 @@ mod tokens;
 mod types;
 mod words;
 
-pub use facts::{AllKnown, Known, Note, Spot, known_of};
-pub use lines::{Look, view};
+pub use facts::{Known, Note, Spot, known_of};
+pub use lines::view;
