@@ -26,8 +26,6 @@ mod parts;
 mod refusal;
 mod source_fault;
 mod source_place;
-#[cfg(test)]
-mod tests;
 mod text;
 
 use crate::marshal::order;
