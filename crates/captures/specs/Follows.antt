@@ -1,5 +1,5 @@
--- The text that `tshark -q -z follow,tcp,raw,N` prints of a connection: a rule, lines about it of which the last is that
--- of its second node, the octets that went in digits, those of the second node behind a tab, and a rule.
+-- The text that `tshark -q -z follow,tcp,raw,N` prints of a connection: a rule, lines about it of which the last is
+-- that of its second node, the octets that went in digits, those of the second node behind a tab, and a rule.
 use Rattle.std.specs.Prelude.{ℕ, Bool, List, codes, drop, length, nat_eq, if◌then◌else◌}
 use Rattle.std.specs.Prelude.{Option, Some, None, option_map, Result, Ok, Err}
 use Rattle.std.specs.List.{starts_with}

@@ -8,7 +8,7 @@ use Rattle.idl_lexer.specs.declared.token.Token.{Token}
 use Rattle.idl_lexer.specs.declared.lexeme.Lexeme.{Lexeme}
 use Rattle.idl_lexer.specs.declared.token.Kind.{Kind}
 use Rattle.idl_lexer.specs.Octets.{is_line_feed}
-use Rattle.idl_lexer.specs.Lexemes.{IsLexeme}
+use Rattle.idl_lexer.specs.inner.Steps.{IsLexeme}
 use Rattle.idl_lexer.specs.Forms.{Begins}
 use Rattle.idl_lexer.specs.Gaps.{Skips, none, more}
 use Rattle.idl_lexer.specs.Tokens.{HaveLines, LexedPart, StandsIn, line_at}

@@ -16,7 +16,8 @@ use Rattle.idl_lexer.specs.Punctuation.{is_pair, is_punctuation, opens_comment}
 use Rattle.idl_lexer.specs.Literals.{AreCharacters, none, more, IsCharLiteral, IsTextLiteral}
 use Rattle.idl_lexer.specs.Directives.{directive_part, is_kept_word, line_of, pragma_word, word_of, IsFresh, IsKept, prefix, id, version, IsPragma, IsSkipped, marker, line, pragma}
 use Rattle.idl_lexer.specs.Gaps.{closes_at, IsBlockComment, IsLineComment, blank, line_comment, block_comment, directive}
-use Rattle.idl_lexer.specs.Lexemes.{HasNoForm, HasNoWord, IsForm}
+use Rattle.idl_lexer.specs.Lexemes.{HasNoForm, IsForm}
+use Rattle.idl_lexer.specs.inner.Steps.{HasNoWord}
 use Rattle.idl_lexer.proofs.Inside.{and_true, marks, or_true}
 use Rattle.idl_lexer.proofs.Alone.{is_mark_of, punctuation_len}
 use Rattle.idl_lexer.proofs.Characters.{no_character, not_false, one_passes, same_len}

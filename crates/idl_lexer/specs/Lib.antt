@@ -15,3 +15,4 @@ pub mod Lexemes
 pub mod Faults
 pub mod Refusal
 pub mod Says
+pub mod inner

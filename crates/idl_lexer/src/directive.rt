@@ -11,7 +11,8 @@ ghost use Rattle.idl_lexer.specs.Directives.{IsDigits, IsFile, IsFresh, IsKept, 
 ghost use Rattle.idl_lexer.specs.Directives.{IsIdEnd, IsOtherPragma, IsPragma, IsQuotedEnd, IsScope, IsScopedName};
 ghost use Rattle.idl_lexer.specs.Directives.{IsSkipped, IsVersion, IsVersionEnd};
 ghost use Rattle.idl_lexer.specs.Faults.{IsDirectiveFault};
-ghost use Rattle.idl_lexer.specs.Lexemes.{HasNoForm, IsLexeme};
+ghost use Rattle.idl_lexer.specs.Lexemes.{HasNoForm};
+ghost use Rattle.idl_lexer.specs.inner.Steps.{IsLexeme};
 
 use crate::fault::LexFault;
 use crate::lexeme::Lexeme;

@@ -3,7 +3,8 @@
 ghost use Rattle.std.specs.Prelude.{◌≡◌, ◌<◌, ◌≤◌, ◌-◌, ◌++◌, ◌∷◌, [], ℕ, List, length, take, drop, slice_index, slice_range, false, IfErr, IfOk};
 ghost use Rattle.idl_lexer.specs.declared.fault.LexFault.TheVariants.{NoMemory};
 ghost use Rattle.idl_lexer.specs.declared.token.Token.{Token};
-ghost use Rattle.idl_lexer.specs.Lexemes.{HasNoForm, HasNoWord, IsLexeme};
+ghost use Rattle.idl_lexer.specs.Lexemes.{HasNoForm};
+ghost use Rattle.idl_lexer.specs.inner.Steps.{HasNoWord, IsLexeme};
 ghost use Rattle.idl_lexer.specs.Punctuation.{is_punctuation};
 ghost use Rattle.idl_lexer.specs.Faults.{IsFault, IsFaultAt, IsWordFault};
 ghost use Rattle.idl_lexer.specs.Refusal.{OnlyIf};

@@ -7,7 +7,7 @@ ghost use Rattle.std.specs.Str.{bytes_eq};
 ghost use Rattle.idl_lexer.specs.Words.{is_keyword as listed, is_keyword_in_some_case as listed_in_some_case};
 ghost use Rattle.idl_lexer.specs.Words.{keywords, same_but_for_case, IsIdentifier};
 ghost use Rattle.idl_lexer.specs.Forms.{Begins};
-ghost use Rattle.idl_lexer.specs.Lexemes.{HasNoWord};
+ghost use Rattle.idl_lexer.specs.inner.Steps.{HasNoWord};
 ghost use Rattle.idl_lexer.specs.Faults.{IsWordFault};
 ghost use Rattle.idl_lexer.specs.declared.fault.LexFault.TheVariants.{KeywordCase};
 

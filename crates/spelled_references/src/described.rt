@@ -17,7 +17,7 @@ use std::alloc::{AllocError, Global};
 /// The line of a reference in digits. A reference that can't be written has a host and a key of 2 ^ 32
 /// octets together, for which memory is wanted first.
 fn digits_line(types: &GiopTypes, alloc: Global, ior: &Ior) -> Result<String, AllocError>
-    ensures { IfOk result (λ line. IsDigitsLine (reference_of ior.now) (string_bytes line)) }
+    ensures { IfOk result (λ l. IsDigitsLine (reference_of ior.now) (string_bytes l)) }
 {
     match ior_to_text(types, alloc, ior) {
         Ok(mut text) => {
@@ -30,7 +30,7 @@ fn digits_line(types: &GiopTypes, alloc: Global, ior: &Ior) -> Result<String, Al
 
 /// What stands before the listing of a reference that a text spells: of a URL the reference in digits.
 fn first_line(types: &GiopTypes, alloc: Global, text: &str, ior: &Ior) -> Result<String, AllocError>
-    ensures { is_url_text text.now ≡ true → IfOk result (λ line. IsDigitsLine (reference_of ior.now) (string_bytes line)) }
+    ensures { is_url_text text.now ≡ true → IfOk result (λ l. IsDigitsLine (reference_of ior.now) (string_bytes l)) }
 {
     if is_url(text) {
         digits_line(types, alloc, ior)

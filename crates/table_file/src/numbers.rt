@@ -28,7 +28,7 @@ impl Part for u8 {
 }
 
 /// The number of which these are the octets, the highest first.
-fn number_of_word(word: &[u8]) -> u32
+fn word_at(word: &[u8]) -> u32
     requires { length word.now ≡ 4 }
     ensures value { plain_octets Big 4 result ≡ word.now }
     ensures small { result < 2 ^ 32 }
@@ -44,7 +44,7 @@ impl Part for u32 {
 
     fn read(cursor: &mut Cursor<'_>) -> Result<Self, TableFault> {
         let word = cursor.take(4)?;
-        Ok(number_of_word(word))
+        Ok(word_at(word))
     }
 
     fn write(&self, out: &mut Vec<u8>) -> Result<(), TableFault> {

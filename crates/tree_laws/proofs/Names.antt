@@ -13,9 +13,6 @@ use Rattle.tree_laws.specs.Shapes.{root_shape, leaf_shape, optional_shape, path_
 use Rattle.tree_laws.proofs.Same.{Among, Avoids, Any, Leads, Same, so, begun, next, never, longer, turned, leads_first, piece_among, kept_among, leaves, leaves_of}
 use Rattle.tree_laws.proofs.Lists.{Row, same_row}
 
-abbrev colons : List ℕ
-colons = 18 ∷ []
-
 -- what can't stand behind a name
 abbrev pub NameEnds : List Seen → Type 0
 NameEnds t = Avoids (18 ∷ []) t

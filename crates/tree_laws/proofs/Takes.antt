@@ -80,9 +80,6 @@ shows_none {test = test} {v = v} f = record { by = λ t r h s. subst (λ z. test
 pub shows_so : {x : List Piece} {test : List Seen → Bool} {v w : Bool} {S : List Seen → Type 0} → v ≡ w → Shows x S test v → Shows x S test w
 shows_so e f = record { by = λ t r h s. f.by t r h s ∙ e }
 
-pub shows_any : {x : List Piece} {test : List Seen → Bool} {v : Bool} {S : List Seen → Type 0} → Shows x Any test v → Shows x S test v
-shows_any f = record { by = λ t r h s. f.by t r h tt }
-
 pub shows_first : {x : List Piece} (y : List Piece) {test : List Seen → Bool} {v : Bool} {S : List Seen → Type 0} → Shows x Any test v → Shows (x ++ y) S test v
 shows_first {x = x} y f = record { by = λ t r h s. let two = split x y t r h in f.by t two.middle two.front tt }
 
@@ -205,9 +202,6 @@ kind_shown p k t r f = ap (sees_kind k) f.is ∙ ap (λ z. nat_eq (kind_code k) 
 pub kept_kind : (k : Kind) (text : List ℕ) (l : Leaf) (other : Kind) {S : List Seen → Type 0} → Shows (kept k text l) S (λ t. sees_kind other t) (nat_eq (kind_code other) (kind_code k))
 kept_kind k text l other = record { by = λ t r h s. kind_shown _ other t r (kept_first k text l t r h) }
 
-pub piece_kind : (k : Kind) (text : List ℕ) (other : Kind) {S : List Seen → Type 0} → Shows (piece k text) S (λ t. sees_kind other t) (nat_eq (kind_code other) (kind_code k))
-piece_kind k text other = record { by = λ t r h s. kind_shown _ other t r (piece_first k text t r h) }
-
 pub touching_seen : (text : List ℕ) (t r : List Seen) → Reads (touching text) t r → sees_touching text t ≡ true
 unfolding sees_touching
 touching_seen text t r h =
@@ -328,8 +322,3 @@ pragma_by ms t false h k e = refl
 
 pub no_pragma : (ms : List ℕ) (t : List Seen) → is_in ms 32 ≡ false → Among ms t → sees_kind Pragma t ≡ false
 no_pragma ms t h a = pragma_by ms t (sees_kind Pragma t) h a.is refl
-
-pub takes_optional : {T : Type 0} {f : T → List Piece} {way : List Seen → Way} {S : List Seen → Type 0} → (x : Option T)
-    → ((y : T) → x ≡ Some y → Takes (f y) way S) → (x ≡ None → Takes [] way S) → Takes (optional f x) way S
-takes_optional None here none = none refl
-takes_optional (Some x) here none = here x refl

@@ -39,11 +39,6 @@ ident_leads l = kept_avoids Ident _ l _ refl
 
 -- ---- integers
 
-abbrev size_starts : IntegerSize → List ℕ
-size_starts Short = 10 ∷ []
-size_starts Long = 11 ∷ []
-size_starts LongLong = 11 ∷ []
-
 pub size_begins : (a : IntegerSize) → Leads (integer_size_yield a) Any (Among (10 ∷ 11 ∷ []))
 size_begins Short = piece_among Keyword (codes "short") _ refl
 size_begins Long = piece_among Keyword (codes "long") _ refl

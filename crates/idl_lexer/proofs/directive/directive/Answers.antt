@@ -6,7 +6,7 @@ use Rattle.idl_lexer.specs.declared.token.Kind.TheVariants.{Pragma}
 use Rattle.idl_lexer.specs.Octets.{is_line_feed, run}
 use Rattle.idl_lexer.specs.Directives.{IsFresh, IsKept, IsSkipped, line_of}
 use Rattle.idl_lexer.specs.Gaps.{directive}
-use Rattle.idl_lexer.specs.Lexemes.{IsLexeme}
+use Rattle.idl_lexer.specs.inner.Steps.{IsLexeme}
 use Rattle.idl_lexer.proofs.directive.directive.Goals as goal
 
 not_empty : (s : List ℕ) → slice_index s 0 ≡ 35 → 0 < run (λ c. not (is_line_feed c)) s

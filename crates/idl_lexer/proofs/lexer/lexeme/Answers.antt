@@ -4,7 +4,8 @@ use Rattle.std.proofs.lemmas.Result.{err_from_is_err_and}
 use Rattle.idl_lexer.specs.declared.fault.LexFault.{LexFault}
 use Rattle.idl_lexer.specs.declared.lexeme.Lexeme.{Lexeme}
 use Rattle.idl_lexer.specs.Punctuation.{is_punctuation, opens_comment}
-use Rattle.idl_lexer.specs.Lexemes.{HasNoForm, HasNoWord}
+use Rattle.idl_lexer.specs.Lexemes.{HasNoForm}
+use Rattle.idl_lexer.specs.inner.Steps.{HasNoWord}
 use Rattle.idl_lexer.specs.Faults.{of_char, of_text, of_word, IsFaultAt, IsWordFault}
 use Rattle.idl_lexer.proofs.Alone.{is_mark_of}
 use Rattle.idl_lexer.proofs.OneForm.{no_comment_of, none_block, none_char, none_number, none_other, none_text, IsOther}
