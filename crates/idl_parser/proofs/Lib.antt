@@ -1,4 +1,5 @@
 pub mod Reading
+pub mod Ways
 pub mod Parts
 pub mod Operands
 pub mod Pairs

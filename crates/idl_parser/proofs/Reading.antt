@@ -154,3 +154,13 @@ alone_read None first [] a b c d none empty p q r = record {
   spells = ap (past (identifier first)) (sym (past_none (Some a)) ∙ p.spells) ∙ q.spells ∙ sym (past_none (Some c)) ∙ r.spells;
   on = omega (arith, p.on, q.on, r.on);
 }
+
+-- ---- an empty list
+
+pub none_read : {T : Type 0} (yield : T → List Piece) (xs : List T) (tokens : List Seen) → xs ≡ [] → Continued tokens (flat_map yield xs) tokens
+none_read yield [] tokens e = record { spells = past_none (Some tokens); on = omega arith }
+none_read yield (x ∷ xs) tokens e = absurd cc
+
+pub none_high : {T : Type 0} (levels : T → ℕ) (room : ℕ) (xs : List T) → xs ≡ [] → highest levels xs ≤ room
+none_high levels room [] e = omega arith
+none_high levels room (x ∷ xs) e = absurd cc

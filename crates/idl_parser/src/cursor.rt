@@ -3,10 +3,16 @@
 //! A contract sees a cursor as the list of the tokens that are left.
 #![tactic(auto, using(crate::proofs::Reading::past_append))]
 
-ghost use Rattle.std.specs.Prelude.{◌≡◌, ◌++◌, suc, [], Ok, IfOk, IfSome, IfNone, codes};
+ghost use Rattle.std.specs.Prelude.{◌≡◌, ◌++◌, ◌&&◌, suc, [], true, false, nat_eq, Some, Ok, IfErr, IfOk, IfSome, IfNone, codes};
 ghost use Rattle.std.specs.Bool.{OnTrue, OnFalse};
+ghost use Rattle.std.specs.Str.{bytes_eq};
+ghost use Rattle.idl_lexer.specs.declared.token.Kind.TheVariants.{Keyword, Punct};
+ghost use Rattle.idl_tree.specs.declared.expression.Operator.TheVariants.{ShiftRight};
+ghost use Rattle.tree_laws.specs.Descent.{sees, sees_kind, sees_touching, sees_shift, taken, taken_kind, taken_touching, identifier_way, operator_way, opened};
+ghost use Rattle.tree_laws.specs.DefinitionDescent.{is_ahead};
+ghost use Rattle.idl_parser.specs.inner.Following.{Ends};
 ghost use Rattle.idl_parser.specs.inner.Reading.{Parsed};
-ghost use Rattle.idl_tree.specs.Pieces.{piece, keyword, kept, mark, touching, leaf as leaf_yield, seen_from};
+ghost use Rattle.idl_tree.specs.Pieces.{piece, keyword, kept, kind_code, mark, touching, leaf as leaf_yield, seen_from};
 ghost use Rattle.idl_tree.specs.Yields.{identifier as identifier_yield};
 
 use crate::fault::ParseFault;
@@ -39,6 +45,27 @@ impl<'a> Model for Cursor<'a> {
     ghost invariant = { λ c. c.number + length c.rest.now < 2 ^ 64 };
 }
 
+/// Whether a token is of this kind.
+fn is_of(token: &Token<'_>, kind: Kind) -> bool
+    ensures { result ≡ nat_eq (kind_code kind) (kind_code token.now.kind) }
+{
+    token.kind == kind
+}
+
+/// Whether a token has this text.
+fn has_text(token: &Token<'_>, text: &str) -> bool
+    ensures { result ≡ bytes_eq text.now token.now.text.now }
+{
+    token.text == text
+}
+
+/// Whether a token is this one.
+fn is_this(token: &Token<'_>, kind: Kind, text: &str) -> bool
+    ensures { result ≡ (nat_eq (kind_code kind) (kind_code token.now.kind) && bytes_eq text.now token.now.text.now) }
+{
+    is_of(token, kind) && has_text(token, text)
+}
+
 impl<'a> Cursor<'a> {
     pub(crate) fn new(alloc: Global, tokens: &'a [Token<'a>]) -> Self
         ensures { result ≡ seen_from 0 tokens.now }
@@ -66,34 +93,47 @@ impl<'a> Cursor<'a> {
         self.rest.first().map_or(self.last_line, |token| token.line)
     }
 
-    /// The kind of the next token.
-    pub(crate) fn kind(&self) -> Option<Kind> {
-        self.rest.first().map(|token| token.kind)
+    /// Whether the next token is this one.
+    fn is_next(&self, kind: Kind, text: &str) -> bool
+        ensures { result ≡ sees kind text.now self.now }
+    {
+        match self.rest.first() {
+            Some(token) => is_this(token, kind, text),
+            None => false,
+        }
     }
 
-    /// The text of the next token, if it is of this kind.
-    pub(crate) fn text(&self, kind: Kind) -> Option<&'a str> {
+    /// Whether the next token is of this kind.
+    pub(crate) fn is_kind(&self, kind: Kind) -> bool
+        ensures { result ≡ sees_kind kind self.now }
+    {
         match self.rest.first() {
-            Some(token) if token.kind == kind => Some(token.text),
-            _ => None,
+            Some(token) => is_of(token, kind),
+            None => false,
         }
     }
 
     /// Whether a mark is the next token.
-    pub(crate) fn is_mark(&self, text: &str) -> bool {
-        self.text(Kind::Punct) == Some(text)
+    pub(crate) fn is_mark(&self, text: &str) -> bool
+        ensures { result ≡ sees Punct text.now self.now }
+    {
+        self.is_next(Kind::Punct, text)
     }
 
     /// Whether a keyword is the next token.
-    pub(crate) fn is_keyword(&self, word: &str) -> bool {
-        self.text(Kind::Keyword) == Some(word)
+    pub(crate) fn is_keyword(&self, word: &str) -> bool
+        ensures { result ≡ sees Keyword word.now self.now }
+    {
+        self.is_next(Kind::Keyword, word)
     }
 
     /// Whether a semicolon stands behind the next two tokens.
-    pub(crate) fn is_ahead(&self) -> bool {
-        match self.rest {
-            [_, _, third, ..] => third.kind == Kind::Punct && third.text == ";",
-            _ => false,
+    pub(crate) fn is_ahead(&self) -> bool
+        ensures { result ≡ is_ahead self.now }
+    {
+        match self.rest.get(2) {
+            Some(third) => is_this(third, Kind::Punct, ";"),
+            None => false,
         }
     }
 
@@ -119,75 +159,96 @@ impl<'a> Cursor<'a> {
     /// Takes the next token, if it is this one.
     pub(crate) fn take(&mut self, kind: Kind, text: &str) -> Option<Leaf<'a>>
         ensures missing { IfNone result (self.new ≡ self.old) }
+        ensures unseen { IfNone result (sees kind text.now self.old ≡ false) }
+        ensures seen { IfSome result (λ l. sees kind text.now self.old ≡ true) }
+        ensures way { IfSome result (λ l. taken kind text.now self.old ≡ Some self.new) }
         ensures plain { IfSome result (λ l. Parsed self.old (piece kind text.now) self.new) }
         ensures kept { IfSome result (λ l. Parsed self.old (kept kind text.now l) self.new) }
     {
         let tokens = self.rest;
-        match tokens.first() {
-            Some(token) if token.kind == kind && token.text == text => {
-                let number = self.number;
-                self.rest = &tokens[1..];
-                self.number += 1;
-                Some(Leaf { token, number })
-            }
-            _ => None,
+        let Some(token) = tokens.first() else {
+            return None;
+        };
+        if !is_this(token, kind, text) {
+            return None;
         }
+        let number = self.number;
+        self.rest = &tokens[1..];
+        self.number += 1;
+        Some(Leaf { token, number })
     }
 
     /// Takes the next token, if it is of this kind.
     pub(crate) fn take_leaf(&mut self, kind: Kind) -> Option<Leaf<'a>>
         ensures missing { IfNone result (self.new ≡ self.old) }
+        ensures unseen { IfNone result (sees_kind kind self.old ≡ false) }
+        ensures seen { IfSome result (λ l. sees_kind kind self.old ≡ true) }
+        ensures way { IfSome result (λ l. taken_kind kind self.old ≡ Some self.new) }
         ensures read { IfSome result (λ l. Parsed self.old (leaf_yield kind l) self.new) }
     {
         let tokens = self.rest;
-        match tokens.first() {
-            Some(token) if token.kind == kind => {
-                let number = self.number;
-                self.rest = &tokens[1..];
-                self.number += 1;
-                Some(Leaf { token, number })
-            }
-            _ => None,
+        let Some(token) = tokens.first() else {
+            return None;
+        };
+        if !is_of(token, kind) {
+            return None;
+        }
+        let number = self.number;
+        self.rest = &tokens[1..];
+        self.number += 1;
+        Some(Leaf { token, number })
+    }
+
+    /// Whether a `>` is next that the token behind it touches.
+    fn is_touching(&self) -> bool
+        ensures { result ≡ sees_touching (codes ">") self.now }
+    {
+        let Some(first) = self.rest.first() else {
+            return false;
+        };
+        let Some(second) = self.rest.get(1) else {
+            return false;
+        };
+        is_this(first, Kind::Punct, ">") && first.end == second.start
+    }
+
+    /// Whether two `>` that touch are next.
+    pub(crate) fn is_right_shift(&self) -> bool
+        ensures { result ≡ sees_shift self.now }
+    {
+        if !self.is_touching() {
+            return false;
+        }
+        match self.rest.get(1) {
+            Some(second) => is_this(second, Kind::Punct, ">"),
+            None => false,
         }
     }
 
     /// Takes a `>` that the next token touches.
     fn take_touching(&mut self) -> bool
         ensures missing { OnFalse result (self.new ≡ self.old) }
+        ensures unseen { OnFalse result (sees_touching (codes ">") self.old ≡ false) }
+        ensures way { OnTrue result (taken_touching (codes ">") self.old ≡ Some self.new) }
         ensures read { OnTrue result (Parsed self.old (touching (codes ">")) self.new) }
     {
+        if !self.is_touching() {
+            return false;
+        }
         let tokens = self.rest;
-        let Some(first) = tokens.first() else {
+        if tokens.is_empty() {
             return false;
-        };
-        let Some(second) = tokens.get(1) else {
-            return false;
-        };
-        if first.kind == Kind::Punct && first.text == ">" && first.end == second.start {
-            self.rest = &tokens[1..];
-            self.number += 1;
-            return true;
         }
-        false
-    }
-
-    /// Whether two `>` that touch are next.
-    pub(crate) fn is_right_shift(&self) -> bool {
-        match self.rest {
-            [first, second, ..] => {
-                first.kind == Kind::Punct
-                    && first.text == ">"
-                    && second.kind == Kind::Punct
-                    && second.text == ">"
-                    && first.end == second.start
-            }
-            _ => false,
-        }
+        self.rest = &tokens[1..];
+        self.number += 1;
+        true
     }
 
     /// Takes the marks of a right shift.
     pub(crate) fn right_shift(&mut self) -> Result<(), Stop>
-        ensures { IfOk result (λ _. Parsed self.old (touching (codes ">") ++ mark (codes ">")) self.new) }
+        ensures read { IfOk result (λ _. Parsed self.old (touching (codes ">") ++ mark (codes ">")) self.new) }
+        ensures way { IfOk result (λ _. operator_way ShiftRight self.old ≡ Some self.new) }
+        ensures stops { IfErr result (Ends (operator_way ShiftRight self.old)) }
     {
         if !self.take_touching() {
             return Err(Stop::Unexpected);
@@ -197,6 +258,9 @@ impl<'a> Cursor<'a> {
 
     pub(crate) fn take_mark(&mut self, text: &str) -> bool
         ensures missing { OnFalse result (self.new ≡ self.old) }
+        ensures unseen { OnFalse result (sees Punct text.now self.old ≡ false) }
+        ensures seen { OnTrue result (sees Punct text.now self.old ≡ true) }
+        ensures way { OnTrue result (taken Punct text.now self.old ≡ Some self.new) }
         ensures read { OnTrue result (Parsed self.old (mark text.now) self.new) }
     {
         self.take(Kind::Punct, text).is_some()
@@ -204,13 +268,18 @@ impl<'a> Cursor<'a> {
 
     pub(crate) fn take_keyword(&mut self, word: &str) -> bool
         ensures missing { OnFalse result (self.new ≡ self.old) }
+        ensures unseen { OnFalse result (sees Keyword word.now self.old ≡ false) }
+        ensures seen { OnTrue result (sees Keyword word.now self.old ≡ true) }
+        ensures way { OnTrue result (taken Keyword word.now self.old ≡ Some self.new) }
         ensures read { OnTrue result (Parsed self.old (keyword word.now) self.new) }
     {
         self.take(Kind::Keyword, word).is_some()
     }
 
     pub(crate) fn mark(&mut self, text: &str) -> Result<(), Stop>
-        ensures { IfOk result (λ _. Parsed self.old (mark text.now) self.new) }
+        ensures read { IfOk result (λ _. Parsed self.old (mark text.now) self.new) }
+        ensures way { IfOk result (λ _. taken Punct text.now self.old ≡ Some self.new) }
+        ensures stops { IfErr result (Ends (taken Punct text.now self.old)) }
     {
         if self.take_mark(text) {
             Ok(())
@@ -220,7 +289,9 @@ impl<'a> Cursor<'a> {
     }
 
     pub(crate) fn keyword(&mut self, word: &str) -> Result<(), Stop>
-        ensures { IfOk result (λ _. Parsed self.old (keyword word.now) self.new) }
+        ensures read { IfOk result (λ _. Parsed self.old (keyword word.now) self.new) }
+        ensures way { IfOk result (λ _. taken Keyword word.now self.old ≡ Some self.new) }
+        ensures stops { IfErr result (Ends (taken Keyword word.now self.old)) }
     {
         if self.take_keyword(word) {
             Ok(())
@@ -231,7 +302,9 @@ impl<'a> Cursor<'a> {
 
     /// Takes a token of a kind.
     pub(crate) fn leaf(&mut self, kind: Kind) -> Result<Leaf<'a>, Stop>
-        ensures { IfOk result (λ l. Parsed self.old (leaf_yield kind l) self.new) }
+        ensures read { IfOk result (λ l. Parsed self.old (leaf_yield kind l) self.new) }
+        ensures way { IfOk result (λ l. taken_kind kind self.old ≡ Some self.new) }
+        ensures stops { IfErr result (Ends (taken_kind kind self.old)) }
     {
         match self.take_leaf(kind) {
             Some(leaf) => Ok(leaf),
@@ -240,7 +313,9 @@ impl<'a> Cursor<'a> {
     }
 
     pub(crate) fn identifier(&mut self) -> Result<Leaf<'a>, Stop>
-        ensures { IfOk result (λ l. Parsed self.old (identifier_yield l) self.new) }
+        ensures read { IfOk result (λ l. Parsed self.old (identifier_yield l) self.new) }
+        ensures way { IfOk result (λ l. identifier_way self.old ≡ Some self.new) }
+        ensures stops { IfErr result (Ends (identifier_way self.old)) }
     {
         self.leaf(Kind::Ident)
     }
@@ -249,6 +324,8 @@ impl<'a> Cursor<'a> {
     pub(crate) fn open(&mut self, text: &str, room: usize) -> Result<usize, Stop>
         ensures read { IfOk result (λ left. Parsed self.old (mark text.now) self.new) }
         ensures levels { IfOk result (λ left. suc left ≡ room) }
+        ensures way { IfOk result (λ left. taken Punct text.now self.old ≡ Some self.new) }
+        ensures stops { IfErr result (Ends (opened room (λ left. taken Punct text.now self.old))) }
     {
         let line = self.line();
         got!(self.mark(text));
@@ -258,7 +335,8 @@ impl<'a> Cursor<'a> {
 
 /// How many levels are left inside a level that is opened on a line.
 pub(crate) fn inside(room: usize, line: usize) -> Result<usize, Stop>
-    ensures { IfOk result (λ left. suc left ≡ room) }
+    ensures levels { IfOk result (λ left. suc left ≡ room) }
+    ensures none { IfErr result (λ _. room ≡ 0) }
 {
     match room.checked_sub(1) {
         Some(left) => Ok(left),

@@ -1,4 +1,4 @@
-mod Fronts
+pub mod Fronts
 mod Same
 mod Lists
 mod Names
@@ -16,4 +16,4 @@ mod TypeWays
 mod MemberWays
 mod DeclarationWays
 mod InterfaceWays
-mod DefinitionWays
+pub mod DefinitionWays

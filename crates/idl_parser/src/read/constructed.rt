@@ -1,8 +1,11 @@
 //! Structures and unions, whose members may declare further types.
 #![tactic(auto, using(crate::proofs::Reading::past_append, crate::proofs::Reading::past_none))]
 
-ghost use Rattle.std.specs.Prelude.{◌≡◌, ◌++◌, ◌∷◌, [], ◌≤◌, ◌<◌, max, suc, length, IfOk, List, codes};
+ghost use Rattle.std.specs.Prelude.{◌≡◌, ◌++◌, ◌∷◌, [], ◌≤◌, ◌<◌, max, suc, length, IfErr, IfOk, List, codes, Some};
 ghost use Rattle.std.specs.List.{flat_map};
+ghost use Rattle.tree_laws.specs.Descent.{braced_way, case_way, label_way, labels_way, member_way, opened, repeated, sees_label, struct_way, type_way, union_name_way, union_way};
+ghost use Rattle.idl_parser.specs.inner.Following.{Ends, union_body_way};
+ghost use Rattle.idl_parser.specs.declared.stop.Stop.TheVariants.{NoMemory};
 ghost use Rattle.idl_parser.specs.inner.Reading.{Parsed, Continued, Added};
 ghost use Rattle.idl_tree.specs.Pieces.{keyword, mark};
 ghost use Rattle.idl_tree.specs.Yields.{identifier, in_order};
@@ -23,6 +26,8 @@ use std::alloc::Global;
 fn read_label<'a>(cursor: &mut Cursor<'a>, room: usize) -> Result<Label<'a>, Stop>
     ensures spells { IfOk result (λ l. Parsed cursor.old (label_yield l) cursor.new) }
     ensures levels { IfOk result (λ l. label_levels l ≤ room) }
+    ensures way { IfOk result (λ _. label_way room cursor.old ≡ Some cursor.new) }
+    ensures stops { IfErr result (Ends (label_way room cursor.old)) }
 {
     if cursor.take_keyword("case") {
         let value = got!(read_expr(cursor, room));
@@ -37,14 +42,18 @@ fn read_label<'a>(cursor: &mut Cursor<'a>, room: usize) -> Result<Label<'a>, Sto
 }
 
 /// Whether a label is next.
-fn is_label(cursor: &Cursor<'_>) -> bool {
-    matches!(cursor.text(Kind::Keyword), Some("case" | "default"))
+fn is_label(cursor: &Cursor<'_>) -> bool
+    ensures { result ≡ sees_label cursor.now }
+{
+    cursor.is_keyword("case") || cursor.is_keyword("default")
 }
 
 /// Reads further labels.
 fn read_more_labels<'a>(cursor: &mut Cursor<'a>, room: usize) -> Result<Vec<Label<'a>>, Stop>
     ensures spells { IfOk result (λ l. Continued cursor.old (flat_map label_yield l.items) cursor.new) }
     ensures levels { IfOk result (λ l. highest label_levels l.items ≤ room) }
+    ensures way { IfOk result (λ _. repeated sees_label (label_way room) cursor.old cursor.old ≡ Some cursor.new) }
+    ensures stops { IfErr result (Ends (repeated sees_label (label_way room) cursor.old cursor.old)) }
 {
     let mut labels = Vec::new(cursor.alloc());
     'parts: while is_label(cursor) {
@@ -59,42 +68,31 @@ fn read_more_labels<'a>(cursor: &mut Cursor<'a>, room: usize) -> Result<Vec<Labe
 fn read_labels<'a>(cursor: &mut Cursor<'a>, room: usize) -> Result<Listed<Label<'a>>, Stop>
     ensures spells { IfOk result (λ l. Parsed cursor.old (in_order label_yield l) cursor.new) }
     ensures levels { IfOk result (λ l. highest_listed label_levels l ≤ room) }
+    ensures way { IfOk result (λ _. labels_way room cursor.old ≡ Some cursor.new) }
+    ensures stops { IfErr result (Ends (labels_way room cursor.old)) }
 {
     let first = got!(read_label(cursor, room));
     let rest = got!(read_more_labels(cursor, room));
     Ok(Listed { first, rest })
 }
 
-/// What a type is that declares something, or another one.
-#[derive(Clone, Copy)]
-enum Shape {
-    Struct,
-    Union,
-    Enum,
-    Other,
-}
-
-/// Which of these types is next.
-fn next_shape(cursor: &Cursor<'_>) -> Shape {
-    match cursor.text(Kind::Keyword) {
-        Some("struct") => Shape::Struct,
-        Some("union") => Shape::Union,
-        Some("enum") => Shape::Enum,
-        _ => Shape::Other,
-    }
-}
-
 #[cycle(constructed)]
 pub(crate) fn read_type<'a>(cursor: &mut Cursor<'a>, room: usize) -> Result<TypeSpec<'a>, Stop>
     ensures spells { IfOk result (λ t. Parsed cursor.old (type_yield t) cursor.new) }
     ensures levels { IfOk result (λ t. type_levels t ≤ room) }
+    ensures way { IfOk result (λ _. type_way room cursor.old ≡ Some cursor.new) }
+    ensures stops { IfErr result (Ends (type_way room cursor.old)) }
 {
-    match next_shape(cursor) {
-        Shape::Struct => Ok(TypeSpec::Struct(got!(read_struct(cursor, room)))),
-        Shape::Union => Ok(TypeSpec::Union(got!(read_union(cursor, room)))),
-        Shape::Enum => Ok(TypeSpec::Enum(got!(read_enum(cursor, room)))),
-        Shape::Other => Ok(TypeSpec::Simple(got!(read_simple_type(cursor, room)))),
+    if cursor.is_keyword("struct") {
+        return Ok(TypeSpec::Struct(got!(read_struct(cursor, room))));
     }
+    if cursor.is_keyword("union") {
+        return Ok(TypeSpec::Union(got!(read_union(cursor, room))));
+    }
+    if cursor.is_keyword("enum") {
+        return Ok(TypeSpec::Enum(got!(read_enum(cursor, room))));
+    }
+    Ok(TypeSpec::Simple(got!(read_simple_type(cursor, room))))
 }
 
 /// Reads a member and adds it.
@@ -104,8 +102,10 @@ fn read_member<'a>(
     room: usize,
     members: &mut Vec<Member<'a>>,
 ) -> Result<(), Stop>
-    ensures { IfOk result (λ _. Added member_yield member_levels room
+    ensures spells { IfOk result (λ _. Added member_yield member_levels room
         members.old.items members.new.items cursor.old cursor.new) }
+    ensures way { IfOk result (λ _. member_way (type_way room) room cursor.old ≡ Some cursor.new) }
+    ensures stops { IfErr result (Ends (member_way (type_way room) room cursor.old)) }
 {
     let member = Member {
         member_type: got!(read_type(cursor, room)),
@@ -125,6 +125,8 @@ pub(crate) fn read_members<'a>(
         (flat_map member_yield m.items ++ mark (codes "}")) cursor.new) }
     ensures levels { IfOk result (λ m. highest member_levels m.items ≤ room) }
     ensures some { IfOk result (λ m. 0 < length m.items) }
+    ensures way { IfOk result (λ _. braced_way (member_way (type_way room) room) cursor.old ≡ Some cursor.new) }
+    ensures stops { IfErr result (Ends (braced_way (member_way (type_way room) room) cursor.old)) }
 {
     let mut members = Vec::new(cursor.alloc());
     'parts: loop {
@@ -146,6 +148,7 @@ fn structure<'a>(
     ensures spells { IfOk result (λ s. struct_yield s ≡ keyword (codes "struct") ++ identifier name.entry
         ++ mark (codes "{") ++ (flat_map member_yield members.entry.items ++ mark (codes "}"))) }
     ensures levels { IfOk result (λ s. struct_levels s ≡ suc (highest member_levels members.entry.items)) }
+    ensures full { IfErr result (λ stop. stop ≡ NoMemory) }
 {
     let mut rest = members;
     let first = got!(first_boxed(cursor.alloc(), &mut rest));
@@ -160,6 +163,8 @@ fn structure<'a>(
 pub(crate) fn read_struct<'a>(cursor: &mut Cursor<'a>, room: usize) -> Result<StructType<'a>, Stop>
     ensures spells { IfOk result (λ s. Parsed cursor.old (struct_yield s) cursor.new) }
     ensures levels { IfOk result (λ s. struct_levels s ≤ room) }
+    ensures way { IfOk result (λ _. opened room (λ left. struct_way (type_way left) left cursor.old) ≡ Some cursor.new) }
+    ensures stops { IfErr result (Ends (opened room (λ left. struct_way (type_way left) left cursor.old))) }
 {
     let (name, left) = got!(read_opened(cursor, "struct", room));
     let members = got!(read_members(cursor, left));
@@ -173,8 +178,10 @@ fn read_case<'a>(
     room: usize,
     cases: &mut Vec<Case<'a>>,
 ) -> Result<(), Stop>
-    ensures { IfOk result (λ _. Added case_yield case_levels room
+    ensures spells { IfOk result (λ _. Added case_yield case_levels room
         cases.old.items cases.new.items cursor.old cursor.new) }
+    ensures way { IfOk result (λ _. case_way (type_way room) room cursor.old ≡ Some cursor.new) }
+    ensures stops { IfErr result (Ends (case_way (type_way room) room cursor.old)) }
 {
     let case = Case {
         labels: got!(read_labels(cursor, room)),
@@ -192,6 +199,8 @@ fn read_cases<'a>(cursor: &mut Cursor<'a>, room: usize) -> Result<Vec<Case<'a>>,
         (flat_map case_yield c.items ++ mark (codes "}")) cursor.new) }
     ensures levels { IfOk result (λ c. highest case_levels c.items ≤ room) }
     ensures some { IfOk result (λ c. 0 < length c.items) }
+    ensures way { IfOk result (λ _. braced_way (case_way (type_way room) room) cursor.old ≡ Some cursor.new) }
+    ensures stops { IfErr result (Ends (braced_way (case_way (type_way room) room) cursor.old)) }
 {
     let mut cases = Vec::new(cursor.alloc());
     'parts: loop {
@@ -210,6 +219,8 @@ fn read_union_body<'a>(cursor: &mut Cursor<'a>, room: usize) -> Result<Vec<Case<
         ++ (flat_map case_yield c.items ++ mark (codes "}"))) cursor.new) }
     ensures levels { IfOk result (λ c. highest case_levels c.items < room) }
     ensures some { IfOk result (λ c. 0 < length c.items) }
+    ensures way { IfOk result (λ _. opened room (λ left. union_body_way left cursor.old) ≡ Some cursor.new) }
+    ensures stops { IfErr result (Ends (opened room (λ left. union_body_way left cursor.old))) }
 {
     got!(cursor.mark(")"));
     let left = got!(cursor.open("{", room));
@@ -218,8 +229,10 @@ fn read_union_body<'a>(cursor: &mut Cursor<'a>, room: usize) -> Result<Vec<Case<
 
 /// Reads what stands before the type of a union's discriminator.
 fn read_union_name<'a>(cursor: &mut Cursor<'a>) -> Result<Leaf<'a>, Stop>
-    ensures { IfOk result (λ u. Parsed cursor.old
+    ensures spells { IfOk result (λ u. Parsed cursor.old
         (keyword (codes "union") ++ identifier u ++ keyword (codes "switch") ++ mark (codes "(")) cursor.new) }
+    ensures way { IfOk result (λ _. union_name_way cursor.old ≡ Some cursor.new) }
+    ensures stops { IfErr result (Ends (union_name_way cursor.old)) }
 {
     let name = got!(read_named(cursor, "union"));
     got!(cursor.keyword("switch"));
@@ -240,6 +253,7 @@ fn union_of<'a>(
         ++ mark (codes "{") ++ (flat_map case_yield cases.entry.items ++ mark (codes "}"))) }
     ensures levels { IfOk result (λ u. union_levels u ≡
         suc (max (switch_levels switch.entry) (highest case_levels cases.entry.items))) }
+    ensures full { IfErr result (λ stop. stop ≡ NoMemory) }
 {
     let mut rest = cases;
     let first = got!(first_boxed(cursor.alloc(), &mut rest));
@@ -255,6 +269,8 @@ fn union_of<'a>(
 pub(crate) fn read_union<'a>(cursor: &mut Cursor<'a>, room: usize) -> Result<UnionType<'a>, Stop>
     ensures spells { IfOk result (λ u. Parsed cursor.old (union_yield u) cursor.new) }
     ensures levels { IfOk result (λ u. union_levels u ≤ room) }
+    ensures way { IfOk result (λ _. opened room (λ left. union_way (type_way left) left cursor.old) ≡ Some cursor.new) }
+    ensures stops { IfErr result (Ends (opened room (λ left. union_way (type_way left) left cursor.old))) }
 {
     let name = got!(read_union_name(cursor));
     // an enumeration here is declared inside the union

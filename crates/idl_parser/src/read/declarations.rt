@@ -1,7 +1,9 @@
 //! What both modules and interfaces declare: types, constants and exceptions.
 #![tactic(auto, using(crate::proofs::Reading::past_append, crate::proofs::Reading::past_none))]
 
-ghost use Rattle.std.specs.Prelude.{◌≡◌, ◌++◌, ◌≤◌, max, IfOk, List, codes};
+ghost use Rattle.std.specs.Prelude.{◌≡◌, ◌++◌, ◌≤◌, max, IfErr, IfOk, List, codes, Some};
+ghost use Rattle.tree_laws.specs.DefinitionDescent.{const_way, declaration_way, except_members_way, except_way, sees_declaration, struct_dcl_way, type_dcl_way, typedef_way, union_dcl_way};
+ghost use Rattle.idl_parser.specs.inner.Following.{Ends, except_name_way};
 ghost use Rattle.idl_parser.specs.inner.Reading.{Parsed};
 ghost use Rattle.idl_tree.specs.Pieces.{keyword, mark};
 ghost use Rattle.idl_tree.specs.Yields.{identifier as identifier_yield, const_expr_yield};
@@ -18,25 +20,27 @@ use crate::read::expressions::read_expr;
 use crate::read::lists::{read_listed, read_named};
 use crate::read::types::{read_const_type, read_enum};
 use crate::stop::Stop;
-use idl_lexer::Kind;
 use idl_tree::definitions::{Const, Declaration, Except, TypeDcl};
 use idl_tree::names::Leaf;
 use idl_tree::types::Member;
 
-/// The keywords that begin types, constants and exceptions.
-const DECLARED: [&str; 6] = ["typedef", "struct", "union", "enum", "const", "exception"];
-
 /// Whether a type, a constant or an exception is next.
-pub(crate) fn is_declaration(cursor: &Cursor<'_>) -> bool {
-    match cursor.text(Kind::Keyword) {
-        Some(word) => DECLARED.contains(&word),
-        None => false,
-    }
+pub(crate) fn is_declaration(cursor: &Cursor<'_>) -> bool
+    ensures { result ≡ sees_declaration cursor.now }
+{
+    cursor.is_keyword("typedef")
+        || cursor.is_keyword("struct")
+        || cursor.is_keyword("union")
+        || cursor.is_keyword("enum")
+        || cursor.is_keyword("const")
+        || cursor.is_keyword("exception")
 }
 
 fn read_typedef<'a>(cursor: &mut Cursor<'a>, room: usize) -> Result<TypeDcl<'a>, Stop>
     ensures spells { IfOk result (λ t. Parsed cursor.old (type_dcl_yield t) cursor.new) }
     ensures levels { IfOk result (λ t. type_dcl_levels t ≤ room) }
+    ensures way { IfOk result (λ _. typedef_way room cursor.old ≡ Some cursor.new) }
+    ensures stops { IfErr result (Ends (typedef_way room cursor.old)) }
 {
     got!(cursor.keyword("typedef"));
     Ok(TypeDcl::Typedef {
@@ -49,6 +53,8 @@ fn read_typedef<'a>(cursor: &mut Cursor<'a>, room: usize) -> Result<TypeDcl<'a>,
 fn read_struct_dcl<'a>(cursor: &mut Cursor<'a>, room: usize) -> Result<TypeDcl<'a>, Stop>
     ensures spells { IfOk result (λ t. Parsed cursor.old (type_dcl_yield t) cursor.new) }
     ensures levels { IfOk result (λ t. type_dcl_levels t ≤ room) }
+    ensures way { IfOk result (λ _. struct_dcl_way room cursor.old ≡ Some cursor.new) }
+    ensures stops { IfErr result (Ends (struct_dcl_way room cursor.old)) }
 {
     if cursor.is_ahead() {
         return Ok(TypeDcl::StructAhead(got!(read_named(cursor, "struct"))));
@@ -60,6 +66,8 @@ fn read_struct_dcl<'a>(cursor: &mut Cursor<'a>, room: usize) -> Result<TypeDcl<'
 fn read_union_dcl<'a>(cursor: &mut Cursor<'a>, room: usize) -> Result<TypeDcl<'a>, Stop>
     ensures spells { IfOk result (λ t. Parsed cursor.old (type_dcl_yield t) cursor.new) }
     ensures levels { IfOk result (λ t. type_dcl_levels t ≤ room) }
+    ensures way { IfOk result (λ _. union_dcl_way room cursor.old ≡ Some cursor.new) }
+    ensures stops { IfErr result (Ends (union_dcl_way room cursor.old)) }
 {
     if cursor.is_ahead() {
         return Ok(TypeDcl::UnionAhead(got!(read_named(cursor, "union"))));
@@ -70,6 +78,8 @@ fn read_union_dcl<'a>(cursor: &mut Cursor<'a>, room: usize) -> Result<TypeDcl<'a
 fn read_type_dcl<'a>(cursor: &mut Cursor<'a>, room: usize) -> Result<TypeDcl<'a>, Stop>
     ensures spells { IfOk result (λ t. Parsed cursor.old (type_dcl_yield t) cursor.new) }
     ensures levels { IfOk result (λ t. type_dcl_levels t ≤ room) }
+    ensures way { IfOk result (λ _. type_dcl_way room cursor.old ≡ Some cursor.new) }
+    ensures stops { IfErr result (Ends (type_dcl_way room cursor.old)) }
 {
     if cursor.is_keyword("struct") {
         return read_struct_dcl(cursor, room);
@@ -86,6 +96,8 @@ fn read_type_dcl<'a>(cursor: &mut Cursor<'a>, room: usize) -> Result<TypeDcl<'a>
 fn read_const<'a>(cursor: &mut Cursor<'a>, room: usize) -> Result<Declaration<'a>, Stop>
     ensures spells { IfOk result (λ d. Parsed cursor.old (declaration_yield d) cursor.new) }
     ensures levels { IfOk result (λ d. declaration_levels d ≤ room) }
+    ensures way { IfOk result (λ _. const_way room cursor.old ≡ Some cursor.new) }
+    ensures stops { IfErr result (Ends (const_way room cursor.old)) }
 {
     got!(cursor.keyword("const"));
     let const_type = got!(read_const_type(cursor, room));
@@ -100,8 +112,10 @@ fn read_const<'a>(cursor: &mut Cursor<'a>, room: usize) -> Result<Declaration<'a
 
 /// Reads what stands before the members of an exception.
 fn read_except_name<'a>(cursor: &mut Cursor<'a>) -> Result<Leaf<'a>, Stop>
-    ensures { IfOk result (λ e. Parsed cursor.old
+    ensures spells { IfOk result (λ e. Parsed cursor.old
         (keyword (codes "exception") ++ identifier_yield e ++ mark (codes "{")) cursor.new) }
+    ensures way { IfOk result (λ _. except_name_way cursor.old ≡ Some cursor.new) }
+    ensures stops { IfErr result (Ends (except_name_way cursor.old)) }
 {
     let identifier = got!(read_named(cursor, "exception"));
     got!(cursor.mark("{"));
@@ -113,6 +127,8 @@ fn read_except_members<'a>(cursor: &mut Cursor<'a>, room: usize) -> Result<Vec<M
     ensures spells { IfOk result (λ m. Parsed cursor.old
         (flat_map member_yield m.items ++ mark (codes "}")) cursor.new) }
     ensures levels { IfOk result (λ m. highest member_levels m.items ≤ room) }
+    ensures way { IfOk result (λ _. except_members_way room cursor.old ≡ Some cursor.new) }
+    ensures stops { IfErr result (Ends (except_members_way room cursor.old)) }
 {
     if cursor.take_mark("}") {
         return Ok(Vec::new(cursor.alloc()));
@@ -123,6 +139,8 @@ fn read_except_members<'a>(cursor: &mut Cursor<'a>, room: usize) -> Result<Vec<M
 fn read_except<'a>(cursor: &mut Cursor<'a>, room: usize) -> Result<Declaration<'a>, Stop>
     ensures spells { IfOk result (λ d. Parsed cursor.old (declaration_yield d) cursor.new) }
     ensures levels { IfOk result (λ d. declaration_levels d ≤ room) }
+    ensures way { IfOk result (λ _. except_way room cursor.old ≡ Some cursor.new) }
+    ensures stops { IfErr result (Ends (except_way room cursor.old)) }
 {
     let identifier = got!(read_except_name(cursor));
     Ok(Declaration::Except(Except {
@@ -138,6 +156,8 @@ pub(crate) fn read_declaration<'a>(
 ) -> Result<Declaration<'a>, Stop>
     ensures spells { IfOk result (λ d. Parsed cursor.old (declaration_yield d) cursor.new) }
     ensures levels { IfOk result (λ d. declaration_levels d ≤ room) }
+    ensures way { IfOk result (λ _. declaration_way room cursor.old ≡ Some cursor.new) }
+    ensures stops { IfErr result (Ends (declaration_way room cursor.old)) }
 {
     if cursor.is_keyword("const") {
         return read_const(cursor, room);

@@ -1,8 +1,13 @@
 //! Definitions and modules.
 #![tactic(auto, using(crate::proofs::Reading::past_append, crate::proofs::Reading::past_none))]
 
-ghost use Rattle.std.specs.Prelude.{◌≡◌, ◌++◌, ◌≤◌, ◌∷◌, [], suc, max, Ok, IfOk, List, codes};
+ghost use Rattle.std.specs.Prelude.{◌≡◌, ◌++◌, ◌≤◌, ◌∷◌, [], suc, max, Ok, IfErr, IfOk, List, codes, Some};
 ghost use Rattle.std.specs.List.{flat_map};
+ghost use Rattle.tree_laws.specs.Descent.{taken_kind};
+ghost use Rattle.tree_laws.specs.DefinitionDescent.{declaration_way, definition_way, definitions_way, ended_way, interface_way, single_way};
+ghost use Rattle.idl_parser.specs.inner.Following.{Ends};
+ghost use Rattle.idl_parser.specs.declared.stop.Stop.TheVariants.{NoMemory};
+ghost use Rattle.idl_lexer.specs.declared.token.Kind.TheVariants.{Pragma};
 ghost use Rattle.idl_parser.specs.inner.Reading.{Parsed, Continued, Added};
 ghost use Rattle.idl_parser.specs.inner.Makings.{HasModule};
 ghost use Rattle.idl_tree.specs.declared.definitions.Definition.{Interface as Interfaces};
@@ -26,7 +31,8 @@ fn add_definition<'a>(
     definitions: &mut Vec<Definition<'a>>,
     definition: Definition<'a>,
 ) -> Result<(), Stop>
-    ensures { IfOk result (λ _. definitions.new.items ≡ definitions.old.items ++ definition.entry ∷ []) }
+    ensures spells { IfOk result (λ _. definitions.new.items ≡ definitions.old.items ++ definition.entry ∷ []) }
+    ensures full { IfErr result (λ stop. stop ≡ NoMemory) }
 {
     add(definitions, definition)
 }
@@ -36,8 +42,9 @@ fn add_interface<'a>(
     definitions: &mut Vec<Definition<'a>>,
     interface: Interface<'a>,
 ) -> Result<(), Stop>
-    ensures { IfOk result (λ _. definitions.new.items
+    ensures spells { IfOk result (λ _. definitions.new.items
         ≡ definitions.old.items ++ Interfaces interface.entry ∷ []) }
+    ensures full { IfErr result (λ stop. stop ≡ NoMemory) }
 {
     add_definition(definitions, Definition::Interface(interface))
 }
@@ -48,8 +55,10 @@ fn read_pragma<'a>(
     room: usize,
     definitions: &mut Vec<Definition<'a>>,
 ) -> Result<(), Stop>
-    ensures { IfOk result (λ _. Added definition_yield definition_levels room
+    ensures spells { IfOk result (λ _. Added definition_yield definition_levels room
         definitions.old.items definitions.new.items cursor.old cursor.new) }
+    ensures way { IfOk result (λ _. taken_kind Pragma cursor.old ≡ Some cursor.new) }
+    ensures stops { IfErr result (Ends (taken_kind Pragma cursor.old)) }
 {
     let pragma = got!(cursor.leaf(Kind::Pragma));
     add_definition(definitions, Definition::Pragma(pragma))
@@ -61,8 +70,10 @@ fn read_interface<'a>(
     room: usize,
     definitions: &mut Vec<Definition<'a>>,
 ) -> Result<(), Stop>
-    ensures { IfOk result (λ _. Added definition_yield definition_levels room
+    ensures spells { IfOk result (λ _. Added definition_yield definition_levels room
         definitions.old.items definitions.new.items cursor.old cursor.new) }
+    ensures way { IfOk result (λ _. interface_way room cursor.old ≡ Some cursor.new) }
+    ensures stops { IfErr result (Ends (interface_way room cursor.old)) }
 {
     let identifier = got!(read_named(cursor, "interface"));
     if cursor.is_mark(";") {
@@ -84,8 +95,10 @@ fn read_declared<'a>(
     room: usize,
     definitions: &mut Vec<Definition<'a>>,
 ) -> Result<(), Stop>
-    ensures { IfOk result (λ _. Added definition_yield definition_levels room
+    ensures spells { IfOk result (λ _. Added definition_yield definition_levels room
         definitions.old.items definitions.new.items cursor.old cursor.new) }
+    ensures way { IfOk result (λ _. ended_way (declaration_way room) cursor.old ≡ Some cursor.new) }
+    ensures stops { IfErr result (Ends (ended_way (declaration_way room) cursor.old)) }
 {
     got!(add_definition(
         definitions,
@@ -100,10 +113,12 @@ fn read_single<'a>(
     room: usize,
     definitions: &mut Vec<Definition<'a>>,
 ) -> Result<(), Stop>
-    ensures { IfOk result (λ _. Added definition_yield definition_levels room
+    ensures spells { IfOk result (λ _. Added definition_yield definition_levels room
         definitions.old.items definitions.new.items cursor.old cursor.new) }
+    ensures way { IfOk result (λ _. single_way room cursor.old ≡ Some cursor.new) }
+    ensures stops { IfErr result (Ends (single_way room cursor.old)) }
 {
-    if let Some(Kind::Pragma) = cursor.kind() {
+    if cursor.is_kind(Kind::Pragma) {
         return read_pragma(cursor, room, definitions);
     }
     if cursor.is_keyword("interface") {
@@ -121,8 +136,9 @@ fn add_module<'a>(
     name: Leaf<'a>,
     inside: Vec<Definition<'a>>,
 ) -> Result<(), Stop>
-    ensures { IfOk result (λ _. HasModule name.entry inside.entry.items
+    ensures spells { IfOk result (λ _. HasModule name.entry inside.entry.items
         definitions.old.items definitions.new.items) }
+    ensures full { IfErr result (λ stop. stop ≡ NoMemory) }
 {
     add_definition(
         definitions,
@@ -140,8 +156,10 @@ fn read_definition<'a>(
     room: usize,
     definitions: &mut Vec<Definition<'a>>,
 ) -> Result<(), Stop>
-    ensures { IfOk result (λ _. Added definition_yield definition_levels room
+    ensures spells { IfOk result (λ _. Added definition_yield definition_levels room
         definitions.old.items definitions.new.items cursor.old cursor.new) }
+    ensures way { IfOk result (λ _. definition_way room cursor.old ≡ Some cursor.new) }
+    ensures stops { IfErr result (Ends (definition_way room cursor.old)) }
 {
     if !cursor.is_keyword("module") {
         return read_single(cursor, room, definitions);
@@ -161,6 +179,8 @@ pub(crate) fn read_definitions<'a>(
 ) -> Result<Vec<Definition<'a>>, Stop>
     ensures spells { IfOk result (λ d. Continued cursor.old (flat_map definition_yield d.items) cursor.new) }
     ensures levels { IfOk result (λ d. highest definition_levels d.items ≤ room) }
+    ensures way { IfOk result (λ _. definitions_way room cursor.old ≡ Some cursor.new) }
+    ensures stops { IfErr result (Ends (definitions_way room cursor.old)) }
 {
     let mut definitions = Vec::new(cursor.alloc());
     'parts: while !cursor.is_at_end() && !cursor.is_mark("}") {

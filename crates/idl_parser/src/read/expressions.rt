@@ -1,12 +1,14 @@
 //! Constant expressions.
 #![tactic(auto, using(crate::proofs::Reading::past_append, crate::proofs::Reading::past_none))]
 
-ghost use Rattle.std.specs.Prelude.{◌≡◌, ◌++◌, ◌≤◌, ◌<◌, Bool, true, IfOk, IfSome, IfNone, List, codes};
+ghost use Rattle.std.specs.Prelude.{◌≡◌, ◌++◌, ◌≤◌, ◌<◌, ◌-◌, Bool, true, false, Some, None, IfErr, IfOk, IfSome, IfNone, List, codes};
 ghost use Rattle.std.specs.Bool.{OnTrue};
 ghost use Rattle.std.specs.List.{AllByRecursion, flat_map};
 ghost use Rattle.idl_parser.specs.inner.Reading.{Parsed, Continued};
 ghost use Rattle.idl_tree.specs.Pieces.{kept_mark};
-ghost use Rattle.idl_tree.specs.Grouping.{level_of, is_operator_of, IsOfLevel, IsOperandOf};
+ghost use Rattle.idl_tree.specs.Grouping.{IsOfLevel, IsOperandOf};
+ghost use Rattle.tree_laws.specs.Descent.{atom_way, behind_next, boolean_way, expr_way, if_seen, inside_way, level_way, operands_way, operator_at, operator_seen, operator_way, primary_way, sees_sign, text_way, texts_way, unary_way};
+ghost use Rattle.idl_parser.specs.inner.Following.{Ends};
 ghost use Rattle.idl_tree.specs.Levels.{highest, expr_levels, operand_levels, const_expr_levels, bound_levels};
 ghost use Rattle.idl_tree.specs.Yields.{operator_yield, sign_text, expr_yield, const_expr_yield, bound_yield, operand_yield, text_yield, in_order};
 
@@ -22,61 +24,82 @@ use idl_tree::names::{Leaf, Listed};
 /// How many levels of operators there are, the loosest of which is 0.
 const LEVELS: usize = 6;
 
-/// The operator that is next.
-fn next_operator(cursor: &Cursor<'_>) -> Option<Operator> {
-    let mark = cursor.text(Kind::Punct).unwrap_or("");
-    if mark == "<<" {
-        return Some(Operator::ShiftLeft);
-    }
-    let [octet] = mark.as_bytes() else {
-        return None;
-    };
-    match *octet {
-        b'|' => Some(Operator::Or),
-        b'^' => Some(Operator::Xor),
-        b'&' => Some(Operator::And),
-        b'>' if cursor.is_right_shift() => Some(Operator::ShiftRight),
-        b'+' => Some(Operator::Add),
-        b'-' => Some(Operator::Subtract),
-        b'*' => Some(Operator::Multiply),
-        b'/' => Some(Operator::Divide),
-        b'%' => Some(Operator::Remainder),
-        _ => None,
-    }
-}
-
-fn level(operator: Operator) -> usize
-    ensures { result ≡ level_of operator }
+/// Whether an operator is next.
+fn is_operator(cursor: &Cursor<'_>, operator: Operator) -> bool
+    ensures { result ≡ operator_seen operator cursor.now }
 {
     match operator {
-        Operator::Or => 0,
-        Operator::Xor => 1,
-        Operator::And => 2,
-        Operator::ShiftLeft | Operator::ShiftRight => 3,
-        Operator::Add | Operator::Subtract => 4,
-        Operator::Multiply | Operator::Divide | Operator::Remainder => 5,
+        Operator::ShiftRight => cursor.is_right_shift(),
+        _ => cursor.is_mark(operator.text()),
     }
 }
 
-/// Whether an operator is one of the level. Where no right shift may stand, it isn't.
-fn is_of(operator: Operator, wanted: usize, shifts: bool) -> bool
-    ensures { OnTrue result (is_operator_of shifts wanted operator ≡ true) }
+/// The operator, if it is next.
+fn next_of(cursor: &Cursor<'_>, operator: Operator) -> Option<Operator>
+    ensures { result ≡ if_seen (operator_seen operator cursor.now) operator None }
 {
-    level(operator) == wanted && (shifts || operator != Operator::ShiftRight)
+    if is_operator(cursor, operator) {
+        Some(operator)
+    } else {
+        None
+    }
+}
+
+/// The shift that is next. Where no right shift may stand, it is none.
+fn next_shift(cursor: &Cursor<'_>, shifts: bool) -> Option<Operator>
+    ensures { result ≡ operator_at shifts 3 cursor.now }
+{
+    if is_operator(cursor, Operator::ShiftLeft) {
+        return Some(Operator::ShiftLeft);
+    }
+    if !shifts {
+        return None;
+    }
+    next_of(cursor, Operator::ShiftRight)
+}
+
+/// The sign of a sum that is next.
+fn next_sum(cursor: &Cursor<'_>, shifts: bool) -> Option<Operator>
+    ensures { result ≡ operator_at shifts 4 cursor.now }
+{
+    if is_operator(cursor, Operator::Add) {
+        return Some(Operator::Add);
+    }
+    next_of(cursor, Operator::Subtract)
+}
+
+/// The sign of a product that is next.
+fn next_product(cursor: &Cursor<'_>, shifts: bool) -> Option<Operator>
+    ensures { result ≡ operator_at shifts 5 cursor.now }
+{
+    if is_operator(cursor, Operator::Multiply) {
+        return Some(Operator::Multiply);
+    }
+    if is_operator(cursor, Operator::Divide) {
+        return Some(Operator::Divide);
+    }
+    next_of(cursor, Operator::Remainder)
 }
 
 /// The operator of the level that is next, if one is.
-fn operator_of(cursor: &Cursor<'_>, wanted: usize, shifts: bool) -> Option<Operator>
-    ensures { IfSome result (λ o. is_operator_of shifts wanted o ≡ true) }
+fn operator_of(cursor: &Cursor<'_>, level: usize, shifts: bool) -> Option<Operator>
+    requires { level < 6 }
+    ensures { result ≡ operator_at shifts level cursor.now }
 {
-    match next_operator(cursor) {
-        Some(operator) if is_of(operator, wanted, shifts) => Some(operator),
-        _ => None,
+    match level {
+        0 => next_of(cursor, Operator::Or),
+        1 => next_of(cursor, Operator::Xor),
+        2 => next_of(cursor, Operator::And),
+        3 => next_shift(cursor, shifts),
+        4 => next_sum(cursor, shifts),
+        _ => next_product(cursor, shifts),
     }
 }
 
 fn read_operator(cursor: &mut Cursor<'_>, operator: Operator) -> Result<(), Stop>
-    ensures { IfOk result (λ _. Parsed cursor.old (operator_yield operator) cursor.new) }
+    ensures spells { IfOk result (λ _. Parsed cursor.old (operator_yield operator) cursor.new) }
+    ensures way { IfOk result (λ _. operator_way operator cursor.old ≡ Some cursor.new) }
+    ensures stops { IfErr result (Ends (operator_way operator cursor.old)) }
 {
     match operator {
         Operator::ShiftRight => cursor.right_shift(),
@@ -86,7 +109,9 @@ fn read_operator(cursor: &mut Cursor<'_>, operator: Operator) -> Result<(), Stop
 
 /// Reads further text literals.
 fn read_texts<'a>(cursor: &mut Cursor<'a>) -> Result<Vec<Leaf<'a>>, Stop>
-    ensures { IfOk result (λ rest. Continued cursor.old (flat_map text_yield rest.items) cursor.new) }
+    ensures spells { IfOk result (λ rest. Continued cursor.old (flat_map text_yield rest.items) cursor.new) }
+    ensures way { IfOk result (λ _. texts_way cursor.old ≡ Some cursor.new) }
+    ensures stops { IfErr result (Ends (texts_way cursor.old)) }
 {
     let mut rest = Vec::new(cursor.alloc());
     'parts: while let Some(text) = cursor.take_leaf(Kind::TextLit) {
@@ -97,7 +122,9 @@ fn read_texts<'a>(cursor: &mut Cursor<'a>) -> Result<Vec<Leaf<'a>>, Stop>
 }
 
 fn read_text<'a>(cursor: &mut Cursor<'a>) -> Result<Listed<Leaf<'a>>, Stop>
-    ensures { IfOk result (λ texts. Parsed cursor.old (in_order text_yield texts) cursor.new) }
+    ensures spells { IfOk result (λ texts. Parsed cursor.old (in_order text_yield texts) cursor.new) }
+    ensures way { IfOk result (λ _. text_way cursor.old ≡ Some cursor.new) }
+    ensures stops { IfErr result (Ends (text_way cursor.old)) }
 {
     let first = got!(cursor.leaf(Kind::TextLit));
     let rest = got!(read_texts(cursor));
@@ -108,6 +135,8 @@ fn read_boolean<'a>(cursor: &mut Cursor<'a>) -> Result<Expr<'a>, Stop>
     ensures spells { IfOk result (λ e. Parsed cursor.old (expr_yield e) cursor.new) }
     ensures groups { IfOk result (λ e. (shifts : Bool) → IsOfLevel shifts 7 e) }
     ensures levels { IfOk result (λ e. expr_levels e ≡ 0) }
+    ensures way { IfOk result (λ _. boolean_way cursor.old ≡ Some cursor.new) }
+    ensures stops { IfErr result (Ends (boolean_way cursor.old)) }
 {
     if let Some(word) = cursor.take(Kind::Keyword, "TRUE") {
         return Ok(Expr::Boolean { value: true, word });
@@ -123,22 +152,31 @@ fn read_atom<'a>(cursor: &mut Cursor<'a>) -> Result<Expr<'a>, Stop>
     ensures spells { IfOk result (λ e. Parsed cursor.old (expr_yield e) cursor.new) }
     ensures groups { IfOk result (λ e. (shifts : Bool) → IsOfLevel shifts 7 e) }
     ensures levels { IfOk result (λ e. expr_levels e ≡ 0) }
+    ensures way { IfOk result (λ _. atom_way cursor.old ≡ Some cursor.new) }
+    ensures stops { IfErr result (Ends (atom_way cursor.old)) }
 {
-    match cursor.kind() {
-        Some(Kind::Number) => Ok(Expr::Number(got!(cursor.leaf(Kind::Number)))),
-        Some(Kind::CharLit) => Ok(Expr::Character(got!(cursor.leaf(Kind::CharLit)))),
-        Some(Kind::TextLit) => {
-            let texts = got!(read_text(cursor));
-            Ok(Expr::Text(got!(boxed(cursor.alloc(), texts))))
-        }
-        Some(Kind::Keyword) => read_boolean(cursor),
-        _ => Ok(Expr::Name(got!(read_scoped_name(cursor)))),
+    if let Some(number) = cursor.take_leaf(Kind::Number) {
+        return Ok(Expr::Number(number));
     }
+    if let Some(character) = cursor.take_leaf(Kind::CharLit) {
+        return Ok(Expr::Character(character));
+    }
+    if cursor.is_kind(Kind::TextLit) {
+        let texts = got!(read_text(cursor));
+        return Ok(Expr::Text(got!(boxed(cursor.alloc(), texts))));
+    }
+    if cursor.is_kind(Kind::Keyword) {
+        return read_boolean(cursor);
+    }
+    Ok(Expr::Name(got!(read_scoped_name(cursor))))
 }
 
 /// Takes a sign, if one is next.
 fn take_sign<'a>(cursor: &mut Cursor<'a>) -> Option<(Sign, Leaf<'a>)>
     ensures missing { IfNone result (cursor.new ≡ cursor.old) }
+    ensures unseen { IfNone result (sees_sign cursor.old ≡ false) }
+    ensures seen { IfSome result (λ _. sees_sign cursor.old ≡ true) }
+    ensures way { IfSome result (λ _. behind_next cursor.old ≡ Some cursor.new) }
     ensures read { IfSome result (λ r. Parsed cursor.old (kept_mark (sign_text r.0) r.1) cursor.new) }
 {
     if let Some(mark) = cursor.take(Kind::Punct, "-") {
@@ -155,6 +193,8 @@ fn read_primary<'a>(cursor: &mut Cursor<'a>, room: usize) -> Result<Expr<'a>, St
     ensures spells { IfOk result (λ e. Parsed cursor.old (expr_yield e) cursor.new) }
     ensures groups { IfOk result (λ e. (shifts : Bool) → IsOfLevel shifts 7 e) }
     ensures levels { IfOk result (λ e. expr_levels e ≤ room) }
+    ensures way { IfOk result (λ _. primary_way (inside_way room) cursor.old ≡ Some cursor.new) }
+    ensures stops { IfErr result (Ends (primary_way (inside_way room) cursor.old)) }
 {
     let line = cursor.line();
     let Some(paren) = cursor.take(Kind::Punct, "(") else {
@@ -171,6 +211,8 @@ fn read_unary<'a>(cursor: &mut Cursor<'a>, room: usize) -> Result<Expr<'a>, Stop
     ensures spells { IfOk result (λ e. Parsed cursor.old (expr_yield e) cursor.new) }
     ensures groups { IfOk result (λ e. (shifts : Bool) → IsOfLevel shifts 6 e) }
     ensures levels { IfOk result (λ e. expr_levels e ≤ room) }
+    ensures way { IfOk result (λ _. unary_way (inside_way room) cursor.old ≡ Some cursor.new) }
+    ensures stops { IfErr result (Ends (unary_way (inside_way room) cursor.old)) }
 {
     let Some((sign, mark)) = take_sign(cursor) else {
         return read_primary(cursor, room);
@@ -191,6 +233,8 @@ fn read_operands<'a>(
     ensures spells { IfOk result (λ rest. Continued cursor.old (flat_map operand_yield rest.items) cursor.new) }
     ensures groups { IfOk result (λ rest. AllByRecursion (IsOperandOf shifts level) rest.items) }
     ensures levels { IfOk result (λ rest. highest operand_levels rest.items ≤ room) }
+    ensures way { IfOk result (λ _. operands_way (level_way (inside_way room) shifts (5 - level)) shifts level cursor.old ≡ Some cursor.new) }
+    ensures stops { IfErr result (Ends (operands_way (level_way (inside_way room) shifts (5 - level)) shifts level cursor.old)) }
 {
     let mut rest = Vec::new(cursor.alloc());
     'parts: while let Some(operator) = operator_of(cursor, level, shifts) {
@@ -213,6 +257,8 @@ fn read_level<'a>(
     ensures spells { IfOk result (λ e. Parsed cursor.old (expr_yield e) cursor.new) }
     ensures groups { IfOk result (λ e. level ≤ 6 → IsOfLevel shifts level e) }
     ensures levels { IfOk result (λ e. expr_levels e ≤ room) }
+    ensures way { IfOk result (λ _. level_way (inside_way room) shifts (6 - level) cursor.old ≡ Some cursor.new) }
+    ensures stops { IfErr result (Ends (level_way (inside_way room) shifts (6 - level) cursor.old)) }
 {
     if level >= LEVELS {
         return read_unary(cursor, room);
@@ -226,6 +272,8 @@ fn read_level<'a>(
 pub(crate) fn read_expr<'a>(cursor: &mut Cursor<'a>, room: usize) -> Result<ConstExpr<'a>, Stop>
     ensures spells { IfOk result (λ e. Parsed cursor.old (const_expr_yield e) cursor.new) }
     ensures levels { IfOk result (λ e. const_expr_levels e ≤ room) }
+    ensures way { IfOk result (λ _. expr_way true room cursor.old ≡ Some cursor.new) }
+    ensures stops { IfErr result (Ends (expr_way true room cursor.old)) }
 {
     let expr = got!(read_level(cursor, 0, true, room));
     Ok(ConstExpr { expr })
@@ -235,6 +283,8 @@ pub(crate) fn read_expr<'a>(cursor: &mut Cursor<'a>, room: usize) -> Result<Cons
 pub(crate) fn read_bound<'a>(cursor: &mut Cursor<'a>, room: usize) -> Result<Bound<'a>, Stop>
     ensures spells { IfOk result (λ b. Parsed cursor.old (bound_yield b) cursor.new) }
     ensures levels { IfOk result (λ b. bound_levels b ≤ room) }
+    ensures way { IfOk result (λ _. expr_way false room cursor.old ≡ Some cursor.new) }
+    ensures stops { IfErr result (Ends (expr_way false room cursor.old)) }
 {
     let expr = got!(read_level(cursor, 0, false, room));
     Ok(Bound { expr })

@@ -1,8 +1,12 @@
 //! Interfaces, their operations and attributes.
 #![tactic(auto, using(crate::proofs::Reading::past_append, crate::proofs::Reading::past_none))]
 
-ghost use Rattle.std.specs.Prelude.{◌≡◌, ◌++◌, ◌≤◌, ◌∷◌, [], ℕ, Bool, true, false, max, IfOk, List, codes};
+ghost use Rattle.std.specs.Prelude.{◌≡◌, ◌++◌, ◌≤◌, ◌∷◌, [], ℕ, Bool, true, false, max, IfErr, IfOk, List, codes, Some};
 ghost use Rattle.std.specs.List.{flat_map};
+ghost use Rattle.tree_laws.specs.Descent.{sees_word};
+ghost use Rattle.tree_laws.specs.DefinitionDescent.{attribute_way, attributes_way, bases_way, declaration_way, direction_way, ended_way, export_way, exports_way, oneway_way, operation_way, params_way, raises_way, readonly_way, result_way};
+ghost use Rattle.idl_parser.specs.inner.Following.{Ends, settable_way};
+ghost use Rattle.idl_parser.specs.declared.stop.Stop.TheVariants.{NoMemory};
 ghost use Rattle.idl_parser.specs.inner.Reading.{Parsed, Continued, Added};
 ghost use Rattle.idl_tree.specs.Pieces.{Seen, mark};
 ghost use Rattle.idl_tree.specs.Yields.{identifier as identifier_yield, optional, listed};
@@ -27,7 +31,9 @@ fn read_raises<'a>(
     cursor: &mut Cursor<'a>,
     word: &str,
 ) -> Result<Option<Listed<ScopedName<'a>>>, Stop>
-    ensures { IfOk result (λ r. Continued cursor.old (optional (raises_yield word.now) r) cursor.new) }
+    ensures spells { IfOk result (λ r. Continued cursor.old (optional (raises_yield word.now) r) cursor.new) }
+    ensures way { IfOk result (λ _. raises_way word.now cursor.old ≡ Some cursor.new) }
+    ensures stops { IfErr result (Ends (raises_way word.now cursor.old)) }
 {
     if !cursor.take_keyword(word) {
         return Ok(None);
@@ -40,7 +46,9 @@ fn read_raises<'a>(
 
 /// Takes `readonly`, if it is next.
 fn take_readonly(cursor: &mut Cursor<'_>) -> bool
-    ensures { Continued cursor.old (readonly_yield result) cursor.new }
+    ensures spells { Continued cursor.old (readonly_yield result) cursor.new }
+    ensures seen { result ≡ sees_word (codes "readonly") cursor.old }
+    ensures way { readonly_way cursor.old ≡ Some cursor.new }
 {
     cursor.take_keyword("readonly")
 }
@@ -60,6 +68,8 @@ fn read_readonly<'a>(cursor: &mut Cursor<'a>, identifier: Leaf<'a>) -> Result<At
     ensures spells { IfOk result (λ a. (front : List Seen)
         → Parsed front (identifier_yield identifier.entry) cursor.old → Parsed front (attributes_yield a) cursor.new) }
     ensures kind { IfOk result (λ a. attributes_are_readonly a ≡ true) }
+    ensures way { IfOk result (λ _. raises_way (codes "raises") cursor.old ≡ Some cursor.new) }
+    ensures stops { IfErr result (Ends (raises_way (codes "raises") cursor.old)) }
 {
     match got!(read_raises(cursor, "raises")) {
         Some(raises) => Ok(Attributes::Readonly { identifier, raises }),
@@ -72,6 +82,8 @@ fn read_settable<'a>(cursor: &mut Cursor<'a>, identifier: Leaf<'a>) -> Result<At
     ensures spells { IfOk result (λ a. (front : List Seen)
         → Parsed front (identifier_yield identifier.entry) cursor.old → Parsed front (attributes_yield a) cursor.new) }
     ensures kind { IfOk result (λ a. attributes_are_readonly a ≡ false) }
+    ensures way { IfOk result (λ _. settable_way cursor.old ≡ Some cursor.new) }
+    ensures stops { IfErr result (Ends (settable_way cursor.old)) }
 {
     let get = got!(read_raises(cursor, "getraises"));
     let set = got!(read_raises(cursor, "setraises"));
@@ -90,6 +102,8 @@ fn read_settable<'a>(cursor: &mut Cursor<'a>, identifier: Leaf<'a>) -> Result<At
 fn read_attributes<'a>(cursor: &mut Cursor<'a>, is_readonly: bool) -> Result<Attributes<'a>, Stop>
     ensures spells { IfOk result (λ a. Parsed cursor.old (attributes_yield a) cursor.new) }
     ensures kind { IfOk result (λ a. attributes_are_readonly a ≡ is_readonly) }
+    ensures way { IfOk result (λ _. attributes_way is_readonly cursor.old ≡ Some cursor.new) }
+    ensures stops { IfErr result (Ends (attributes_way is_readonly cursor.old)) }
 {
     let identifier = got!(cursor.identifier());
     if cursor.is_mark(",") {
@@ -105,6 +119,8 @@ fn read_attributes<'a>(cursor: &mut Cursor<'a>, is_readonly: bool) -> Result<Att
 fn read_attribute<'a>(cursor: &mut Cursor<'a>, room: usize) -> Result<Attribute<'a>, Stop>
     ensures spells { IfOk result (λ a. Parsed cursor.old (attribute_yield a) cursor.new) }
     ensures levels { IfOk result (λ a. attribute_levels a ≤ room) }
+    ensures way { IfOk result (λ _. attribute_way room cursor.old ≡ Some cursor.new) }
+    ensures stops { IfErr result (Ends (attribute_way room cursor.old)) }
 {
     let is_readonly = take_readonly(cursor);
     got!(cursor.keyword("attribute"));
@@ -115,7 +131,9 @@ fn read_attribute<'a>(cursor: &mut Cursor<'a>, room: usize) -> Result<Attribute<
 }
 
 fn read_direction(cursor: &mut Cursor<'_>) -> Result<Direction, Stop>
-    ensures { IfOk result (λ d. Parsed cursor.old (direction_yield d) cursor.new) }
+    ensures spells { IfOk result (λ d. Parsed cursor.old (direction_yield d) cursor.new) }
+    ensures way { IfOk result (λ _. direction_way cursor.old ≡ Some cursor.new) }
+    ensures stops { IfErr result (Ends (direction_way cursor.old)) }
 {
     if cursor.take_keyword("inout") {
         return Ok(Direction::InOut);
@@ -130,10 +148,13 @@ fn read_direction(cursor: &mut Cursor<'_>) -> Result<Direction, Stop>
 impl<'a> Part<'a> for Param<'a> {
     ghost use Rattle.idl_tree.specs.DefinitionYields.{param_yield};
     ghost use Rattle.idl_tree.specs.DefinitionLevels.{param_levels};
+    ghost use Rattle.tree_laws.specs.DefinitionDescent.{param_way};
 
     ghost yield_of = { param_yield };
 
     ghost levels_of = { param_levels };
+
+    ghost way_of = { param_way };
 
     fn read(cursor: &mut Cursor<'a>, room: usize) -> Result<Self, Stop> {
         Ok(Param {
@@ -148,6 +169,8 @@ impl<'a> Part<'a> for Param<'a> {
 fn read_params<'a>(cursor: &mut Cursor<'a>, room: usize) -> Result<Option<Listed<Param<'a>>>, Stop>
     ensures spells { IfOk result (λ p. Continued cursor.old (optional (listed param_yield) p) cursor.new) }
     ensures levels { IfOk result (λ p. optional_levels (highest_listed param_levels) p ≤ room) }
+    ensures way { IfOk result (λ _. params_way room cursor.old ≡ Some cursor.new) }
+    ensures stops { IfErr result (Ends (params_way room cursor.old)) }
 {
     if cursor.is_mark(")") {
         return Ok(None);
@@ -157,7 +180,8 @@ fn read_params<'a>(cursor: &mut Cursor<'a>, room: usize) -> Result<Option<Listed
 
 /// Takes `oneway`, if it is next.
 fn take_oneway(cursor: &mut Cursor<'_>) -> bool
-    ensures { Continued cursor.old (oneway_yield result) cursor.new }
+    ensures spells { Continued cursor.old (oneway_yield result) cursor.new }
+    ensures way { oneway_way cursor.old ≡ Some cursor.new }
 {
     cursor.take_keyword("oneway")
 }
@@ -166,6 +190,8 @@ fn take_oneway(cursor: &mut Cursor<'_>) -> bool
 fn read_result<'a>(cursor: &mut Cursor<'a>, room: usize) -> Result<Option<ParamType<'a>>, Stop>
     ensures spells { IfOk result (λ t. Parsed cursor.old (result_yield t) cursor.new) }
     ensures levels { IfOk result (λ t. optional_levels param_type_levels t ≤ room) }
+    ensures way { IfOk result (λ _. result_way room cursor.old ≡ Some cursor.new) }
+    ensures stops { IfErr result (Ends (result_way room cursor.old)) }
 {
     if cursor.take_keyword("void") {
         return Ok(None);
@@ -176,6 +202,8 @@ fn read_result<'a>(cursor: &mut Cursor<'a>, room: usize) -> Result<Option<ParamT
 fn read_operation<'a>(cursor: &mut Cursor<'a>, room: usize) -> Result<Operation<'a>, Stop>
     ensures spells { IfOk result (λ o. Parsed cursor.old (operation_yield o) cursor.new) }
     ensures levels { IfOk result (λ o. operation_levels o ≤ room) }
+    ensures way { IfOk result (λ _. operation_way room cursor.old ≡ Some cursor.new) }
+    ensures stops { IfErr result (Ends (operation_way room cursor.old)) }
 {
     let is_oneway = take_oneway(cursor);
     let result_type = got!(read_result(cursor, room));
@@ -194,7 +222,8 @@ fn read_operation<'a>(cursor: &mut Cursor<'a>, room: usize) -> Result<Operation<
 
 /// Adds what stands in an interface. What holds an export goes through this function, so that few functions do.
 fn add_export<'a>(exports: &mut Vec<Export<'a>>, export: Export<'a>) -> Result<(), Stop>
-    ensures { IfOk result (λ _. exports.new.items ≡ exports.old.items ++ export.entry ∷ []) }
+    ensures spells { IfOk result (λ _. exports.new.items ≡ exports.old.items ++ export.entry ∷ []) }
+    ensures full { IfErr result (λ stop. stop ≡ NoMemory) }
 {
     add(exports, export)
 }
@@ -205,8 +234,10 @@ fn read_declared<'a>(
     room: usize,
     exports: &mut Vec<Export<'a>>,
 ) -> Result<(), Stop>
-    ensures { IfOk result (λ _. Added export_yield export_levels room
+    ensures spells { IfOk result (λ _. Added export_yield export_levels room
         exports.old.items exports.new.items cursor.old cursor.new) }
+    ensures way { IfOk result (λ _. ended_way (declaration_way room) cursor.old ≡ Some cursor.new) }
+    ensures stops { IfErr result (Ends (ended_way (declaration_way room) cursor.old)) }
 {
     got!(add_export(
         exports,
@@ -221,8 +252,10 @@ fn read_attribute_dcl<'a>(
     room: usize,
     exports: &mut Vec<Export<'a>>,
 ) -> Result<(), Stop>
-    ensures { IfOk result (λ _. Added export_yield export_levels room
+    ensures spells { IfOk result (λ _. Added export_yield export_levels room
         exports.old.items exports.new.items cursor.old cursor.new) }
+    ensures way { IfOk result (λ _. ended_way (attribute_way room) cursor.old ≡ Some cursor.new) }
+    ensures stops { IfErr result (Ends (ended_way (attribute_way room) cursor.old)) }
 {
     got!(add_export(
         exports,
@@ -237,8 +270,10 @@ fn read_operation_dcl<'a>(
     room: usize,
     exports: &mut Vec<Export<'a>>,
 ) -> Result<(), Stop>
-    ensures { IfOk result (λ _. Added export_yield export_levels room
+    ensures spells { IfOk result (λ _. Added export_yield export_levels room
         exports.old.items exports.new.items cursor.old cursor.new) }
+    ensures way { IfOk result (λ _. ended_way (operation_way room) cursor.old ≡ Some cursor.new) }
+    ensures stops { IfErr result (Ends (ended_way (operation_way room) cursor.old)) }
 {
     got!(add_export(
         exports,
@@ -253,10 +288,12 @@ fn read_export<'a>(
     room: usize,
     exports: &mut Vec<Export<'a>>,
 ) -> Result<(), Stop>
-    ensures { IfOk result (λ _. Added export_yield export_levels room
+    ensures spells { IfOk result (λ _. Added export_yield export_levels room
         exports.old.items exports.new.items cursor.old cursor.new) }
+    ensures way { IfOk result (λ _. export_way room cursor.old ≡ Some cursor.new) }
+    ensures stops { IfErr result (Ends (export_way room cursor.old)) }
 {
-    if let Some(Kind::Pragma) = cursor.kind() {
+    if cursor.is_kind(Kind::Pragma) {
         let pragma = got!(cursor.leaf(Kind::Pragma));
         return add_export(exports, Export::Pragma(pragma));
     }
@@ -277,6 +314,8 @@ pub(crate) fn read_exports<'a>(
     ensures spells { IfOk result (λ e. Parsed cursor.old
         (mark (codes "{") ++ flat_map export_yield e.items ++ mark (codes "}")) cursor.new) }
     ensures levels { IfOk result (λ e. highest export_levels e.items ≤ room) }
+    ensures way { IfOk result (λ _. exports_way room cursor.old ≡ Some cursor.new) }
+    ensures stops { IfErr result (Ends (exports_way room cursor.old)) }
 {
     got!(cursor.mark("{"));
     let mut exports = Vec::new(cursor.alloc());
@@ -292,7 +331,9 @@ pub(crate) fn read_exports<'a>(
 pub(crate) fn read_bases<'a>(
     cursor: &mut Cursor<'a>,
 ) -> Result<Option<Listed<ScopedName<'a>>>, Stop>
-    ensures { IfOk result (λ b. Continued cursor.old (optional bases_yield b) cursor.new) }
+    ensures spells { IfOk result (λ b. Continued cursor.old (optional bases_yield b) cursor.new) }
+    ensures way { IfOk result (λ _. bases_way cursor.old ≡ Some cursor.new) }
+    ensures stops { IfErr result (Ends (bases_way cursor.old)) }
 {
     if !cursor.take_mark(":") {
         return Ok(None);

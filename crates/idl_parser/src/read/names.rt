@@ -1,7 +1,9 @@
 //! Identifiers and scoped names.
 #![tactic(auto, using(crate::proofs::Reading::past_append, crate::proofs::Reading::past_none))]
 
-ghost use Rattle.std.specs.Prelude.{◌≡◌, ◌++◌, ℕ, IfOk, List, codes};
+ghost use Rattle.std.specs.Prelude.{◌≡◌, ◌++◌, ℕ, IfErr, IfOk, List, codes, Some};
+ghost use Rattle.tree_laws.specs.Descent.{root_way, parts_way, name_way};
+ghost use Rattle.idl_parser.specs.inner.Following.{Ends};
 ghost use Rattle.idl_parser.specs.inner.Reading.{Parsed, Continued};
 ghost use Rattle.std.specs.List.{flat_map};
 ghost use Rattle.idl_tree.specs.Pieces.{mark};
@@ -15,10 +17,13 @@ use idl_tree::names::{Leaf, Path, ScopedName};
 
 impl<'a> Part<'a> for Leaf<'a> {
     ghost use Rattle.idl_tree.specs.Yields.{identifier};
+    ghost use Rattle.tree_laws.specs.Descent.{identifier_way};
 
     ghost yield_of = { identifier };
 
     ghost levels_of = { λ _. 0 };
+
+    ghost way_of = { λ _. identifier_way };
 
     fn read(cursor: &mut Cursor<'a>, _room: usize) -> Result<Self, Stop> {
         cursor.identifier()
@@ -27,10 +32,13 @@ impl<'a> Part<'a> for Leaf<'a> {
 
 impl<'a> Part<'a> for ScopedName<'a> {
     ghost use Rattle.idl_tree.specs.Yields.{name_yield};
+    ghost use Rattle.tree_laws.specs.Descent.{name_way};
 
     ghost yield_of = { name_yield };
 
     ghost levels_of = { λ _. 0 };
+
+    ghost way_of = { λ _. name_way };
 
     fn read(cursor: &mut Cursor<'a>, _room: usize) -> Result<Self, Stop> {
         read_scoped_name(cursor)
@@ -39,15 +47,18 @@ impl<'a> Part<'a> for ScopedName<'a> {
 
 /// Takes the `::` that a name begins with, if it does.
 fn take_root<'a>(cursor: &mut Cursor<'a>) -> Option<Leaf<'a>>
-    ensures { Continued cursor.old (optional root_yield result) cursor.new }
+    ensures spells { Continued cursor.old (optional root_yield result) cursor.new }
+    ensures way { root_way cursor.old ≡ Some cursor.new }
 {
     cursor.take(Kind::Punct, "::")
 }
 
 /// Reads identifiers, each behind a `::`.
 fn read_parts<'a>(cursor: &mut Cursor<'a>) -> Result<Vec<Leaf<'a>>, Stop>
-    ensures { IfOk result (λ parts. Continued cursor.old
+    ensures spells { IfOk result (λ parts. Continued cursor.old
         (flat_map (λ x. mark (codes "::") ++ identifier x) parts.items) cursor.new) }
+    ensures way { IfOk result (λ _. parts_way cursor.old ≡ Some cursor.new) }
+    ensures stops { IfErr result (Ends (parts_way cursor.old)) }
 {
     let mut rest = Vec::new(cursor.alloc());
     'parts: while cursor.take_mark("::") {
@@ -59,7 +70,9 @@ fn read_parts<'a>(cursor: &mut Cursor<'a>) -> Result<Vec<Leaf<'a>>, Stop>
 }
 
 pub(crate) fn read_scoped_name<'a>(cursor: &mut Cursor<'a>) -> Result<ScopedName<'a>, Stop>
-    ensures { IfOk result (λ n. Parsed cursor.old (name_yield n) cursor.new) }
+    ensures spells { IfOk result (λ n. Parsed cursor.old (name_yield n) cursor.new) }
+    ensures way { IfOk result (λ _. name_way cursor.old ≡ Some cursor.new) }
+    ensures stops { IfErr result (Ends (name_way cursor.old)) }
 {
     let root = take_root(cursor);
     let first = got!(cursor.identifier());

@@ -1,8 +1,10 @@
 //! Types that declare nothing but enumerations, and declarators.
 #![tactic(auto, using(crate::proofs::Reading::past_append, crate::proofs::Reading::past_none))]
 
-ghost use Rattle.std.specs.Prelude.{◌≡◌, ◌++◌, ◌≤◌, suc, ℕ, IfOk, List, codes};
+ghost use Rattle.std.specs.Prelude.{◌≡◌, ◌++◌, ◌≤◌, suc, ℕ, IfErr, IfOk, List, codes, Some};
 ghost use Rattle.std.specs.List.{flat_map};
+ghost use Rattle.tree_laws.specs.Descent.{const_type_way, declarator_way, end_sequence_way, enum_way, integer_size_way, integer_way, open_sequence_way, opened, param_type_way, sees_integer, simple_type_way, size_way, sizes_way, string_bound_way, switch_way};
+ghost use Rattle.idl_parser.specs.inner.Following.{Ends, sequence_way};
 ghost use Rattle.idl_parser.specs.inner.Reading.{Parsed, Continued};
 ghost use Rattle.idl_tree.specs.Pieces.{keyword, mark};
 ghost use Rattle.idl_tree.specs.Yields.{optional};
@@ -15,14 +17,15 @@ use crate::read::expressions::{read_bound, read_expr};
 use crate::read::lists::{Part, add, made, read_listed, read_opened};
 use crate::read::names::read_scoped_name;
 use crate::stop::Stop;
-use idl_lexer::Kind;
 use idl_tree::const_expr::{Bound, ConstExpr};
 use idl_tree::types::{
     ConstType, Declarator, EnumType, Integer, IntegerSize, ParamType, SimpleType, SwitchType,
 };
 
 fn read_integer_size(cursor: &mut Cursor<'_>) -> Result<IntegerSize, Stop>
-    ensures { IfOk result (λ i. Parsed cursor.old (integer_size_yield i) cursor.new) }
+    ensures spells { IfOk result (λ i. Parsed cursor.old (integer_size_yield i) cursor.new) }
+    ensures way { IfOk result (λ _. integer_size_way cursor.old ≡ Some cursor.new) }
+    ensures stops { IfErr result (Ends (integer_size_way cursor.old)) }
 {
     if cursor.take_keyword("short") {
         return Ok(IntegerSize::Short);
@@ -36,7 +39,9 @@ fn read_integer_size(cursor: &mut Cursor<'_>) -> Result<IntegerSize, Stop>
 }
 
 fn read_integer(cursor: &mut Cursor<'_>) -> Result<Integer, Stop>
-    ensures { IfOk result (λ i. Parsed cursor.old (integer_yield i) cursor.new) }
+    ensures spells { IfOk result (λ i. Parsed cursor.old (integer_yield i) cursor.new) }
+    ensures way { IfOk result (λ _. integer_way cursor.old ≡ Some cursor.new) }
+    ensures stops { IfErr result (Ends (integer_way cursor.old)) }
 {
     if cursor.take_keyword("unsigned") {
         return Ok(Integer::Unsigned(got!(read_integer_size(cursor))));
@@ -48,6 +53,8 @@ fn read_integer(cursor: &mut Cursor<'_>) -> Result<Integer, Stop>
 fn read_string_bound<'a>(cursor: &mut Cursor<'a>, room: usize) -> Result<Option<Bound<'a>>, Stop>
     ensures spells { IfOk result (λ b. Continued cursor.old (optional string_bound_yield b) cursor.new) }
     ensures levels { IfOk result (λ b. optional_levels bound_levels b ≤ room) }
+    ensures way { IfOk result (λ _. string_bound_way room cursor.old ≡ Some cursor.new) }
+    ensures stops { IfErr result (Ends (string_bound_way room cursor.old)) }
 {
     if !cursor.take_mark("<") {
         return Ok(None);
@@ -57,35 +64,11 @@ fn read_string_bound<'a>(cursor: &mut Cursor<'a>, room: usize) -> Result<Option<
     Ok(Some(bound))
 }
 
-/// What begins a type that is a word alone, a string or a name.
-#[derive(Clone, Copy)]
-enum Word {
-    Integer,
-    Char,
-    Boolean,
-    Octet,
-    String,
-    Other,
-}
-
-/// The keywords that begin such types.
-const WORDS: [(&str, Word); 7] = [
-    ("short", Word::Integer),
-    ("long", Word::Integer),
-    ("unsigned", Word::Integer),
-    ("char", Word::Char),
-    ("boolean", Word::Boolean),
-    ("octet", Word::Octet),
-    ("string", Word::String),
-];
-
-/// Which of these is next.
-fn next_word(cursor: &Cursor<'_>) -> Word {
-    let text = cursor.text(Kind::Keyword);
-    match WORDS.iter().find(|(word, _)| Some(*word) == text) {
-        Some((_, kind)) => *kind,
-        None => Word::Other,
-    }
+/// Whether an integer is next.
+fn is_integer(cursor: &Cursor<'_>) -> bool
+    ensures { result ≡ sees_integer cursor.now }
+{
+    cursor.is_keyword("short") || cursor.is_keyword("long") || cursor.is_keyword("unsigned")
 }
 
 /// Reads a string, a name, or a type that is a word alone.
@@ -95,27 +78,25 @@ pub(crate) fn read_const_type<'a>(
 ) -> Result<ConstType<'a>, Stop>
     ensures spells { IfOk result (λ t. Parsed cursor.old (const_type_yield t) cursor.new) }
     ensures levels { IfOk result (λ t. const_type_levels t ≤ room) }
+    ensures way { IfOk result (λ _. const_type_way room cursor.old ≡ Some cursor.new) }
+    ensures stops { IfErr result (Ends (const_type_way room cursor.old)) }
 {
-    match next_word(cursor) {
-        Word::Integer => Ok(ConstType::Integer(got!(read_integer(cursor)))),
-        Word::Char => {
-            got!(cursor.keyword("char"));
-            Ok(ConstType::Char)
-        }
-        Word::Boolean => {
-            got!(cursor.keyword("boolean"));
-            Ok(ConstType::Boolean)
-        }
-        Word::Octet => {
-            got!(cursor.keyword("octet"));
-            Ok(ConstType::Octet)
-        }
-        Word::String => {
-            got!(cursor.keyword("string"));
-            Ok(ConstType::String(got!(read_string_bound(cursor, room))))
-        }
-        Word::Other => Ok(ConstType::Name(got!(read_scoped_name(cursor)))),
+    if is_integer(cursor) {
+        return Ok(ConstType::Integer(got!(read_integer(cursor))));
     }
+    if cursor.take_keyword("char") {
+        return Ok(ConstType::Char);
+    }
+    if cursor.take_keyword("boolean") {
+        return Ok(ConstType::Boolean);
+    }
+    if cursor.take_keyword("octet") {
+        return Ok(ConstType::Octet);
+    }
+    if cursor.take_keyword("string") {
+        return Ok(ConstType::String(got!(read_string_bound(cursor, room))));
+    }
+    Ok(ConstType::Name(got!(read_scoped_name(cursor))))
 }
 
 pub(crate) fn read_param_type<'a>(
@@ -124,6 +105,8 @@ pub(crate) fn read_param_type<'a>(
 ) -> Result<ParamType<'a>, Stop>
     ensures spells { IfOk result (λ t. Parsed cursor.old (param_type_yield t) cursor.new) }
     ensures levels { IfOk result (λ t. param_type_levels t ≤ room) }
+    ensures way { IfOk result (λ _. param_type_way room cursor.old ≡ Some cursor.new) }
+    ensures stops { IfErr result (Ends (param_type_way room cursor.old)) }
 {
     if cursor.take_keyword("Object") {
         return Ok(ParamType::Object);
@@ -135,6 +118,8 @@ pub(crate) fn read_param_type<'a>(
 fn open_sequence(cursor: &mut Cursor<'_>, room: usize) -> Result<usize, Stop>
     ensures spells { IfOk result (λ _. Parsed cursor.old (keyword (codes "sequence") ++ mark (codes "<")) cursor.new) }
     ensures levels { IfOk result (λ left. suc left ≡ room) }
+    ensures way { IfOk result (λ left. open_sequence_way cursor.old ≡ Some cursor.new) }
+    ensures stops { IfErr result (Ends (opened room (λ left. open_sequence_way cursor.old))) }
 {
     got!(cursor.keyword("sequence"));
     cursor.open("<", room)
@@ -145,6 +130,8 @@ fn end_sequence<'a>(cursor: &mut Cursor<'a>, room: usize) -> Result<Option<Bound
     ensures spells { IfOk result (λ b. Parsed cursor.old
         (optional sequence_bound_yield b ++ mark (codes ">")) cursor.new) }
     ensures levels { IfOk result (λ b. optional_levels bound_levels b ≤ room) }
+    ensures way { IfOk result (λ _. end_sequence_way room cursor.old ≡ Some cursor.new) }
+    ensures stops { IfErr result (Ends (end_sequence_way room cursor.old)) }
 {
     if cursor.take_mark(">") {
         return Ok(None);
@@ -162,6 +149,8 @@ pub(crate) fn read_simple_type<'a>(
 ) -> Result<SimpleType<'a>, Stop>
     ensures spells { IfOk result (λ t. Parsed cursor.old (simple_type_yield t) cursor.new) }
     ensures levels { IfOk result (λ t. simple_type_levels t ≤ room) }
+    ensures way { IfOk result (λ _. simple_type_way room cursor.old ≡ Some cursor.new) }
+    ensures stops { IfErr result (Ends (simple_type_way room cursor.old)) }
 {
     if cursor.is_keyword("sequence") {
         return read_sequence(cursor, room);
@@ -173,6 +162,8 @@ pub(crate) fn read_simple_type<'a>(
 fn read_sequence<'a>(cursor: &mut Cursor<'a>, room: usize) -> Result<SimpleType<'a>, Stop>
     ensures spells { IfOk result (λ t. Parsed cursor.old (simple_type_yield t) cursor.new) }
     ensures levels { IfOk result (λ t. simple_type_levels t ≤ room) }
+    ensures way { IfOk result (λ _. sequence_way room cursor.old ≡ Some cursor.new) }
+    ensures stops { IfErr result (Ends (sequence_way room cursor.old)) }
 {
     let left = got!(open_sequence(cursor, room));
     made(SimpleType::new_sequence(
@@ -185,6 +176,8 @@ fn read_sequence<'a>(cursor: &mut Cursor<'a>, room: usize) -> Result<SimpleType<
 fn read_size<'a>(cursor: &mut Cursor<'a>, room: usize) -> Result<ConstExpr<'a>, Stop>
     ensures spells { IfOk result (λ size. Parsed cursor.old (size_yield size) cursor.new) }
     ensures levels { IfOk result (λ size. const_expr_levels size ≤ room) }
+    ensures way { IfOk result (λ _. size_way room cursor.old ≡ Some cursor.new) }
+    ensures stops { IfErr result (Ends (size_way room cursor.old)) }
 {
     got!(cursor.mark("["));
     let size = got!(read_expr(cursor, room));
@@ -196,6 +189,8 @@ fn read_size<'a>(cursor: &mut Cursor<'a>, room: usize) -> Result<ConstExpr<'a>, 
 fn read_sizes<'a>(cursor: &mut Cursor<'a>, room: usize) -> Result<Vec<ConstExpr<'a>>, Stop>
     ensures spells { IfOk result (λ sizes. Continued cursor.old (flat_map size_yield sizes.items) cursor.new) }
     ensures levels { IfOk result (λ sizes. highest const_expr_levels sizes.items ≤ room) }
+    ensures way { IfOk result (λ _. sizes_way room cursor.old ≡ Some cursor.new) }
+    ensures stops { IfErr result (Ends (sizes_way room cursor.old)) }
 {
     let mut sizes = Vec::new(cursor.alloc());
     'parts: while cursor.is_mark("[") {
@@ -209,10 +204,13 @@ fn read_sizes<'a>(cursor: &mut Cursor<'a>, room: usize) -> Result<Vec<ConstExpr<
 impl<'a> Part<'a> for Declarator<'a> {
     ghost use Rattle.idl_tree.specs.TypeYields.{declarator_yield};
     ghost use Rattle.idl_tree.specs.TypeLevels.{declarator_levels};
+    ghost use Rattle.tree_laws.specs.Descent.{declarator_way};
 
     ghost yield_of = { declarator_yield };
 
     ghost levels_of = { declarator_levels };
+
+    ghost way_of = { declarator_way };
 
     fn read(cursor: &mut Cursor<'a>, room: usize) -> Result<Self, Stop> {
         read_declarator(cursor, room)
@@ -225,6 +223,8 @@ pub(crate) fn read_declarator<'a>(
 ) -> Result<Declarator<'a>, Stop>
     ensures spells { IfOk result (λ d. Parsed cursor.old (declarator_yield d) cursor.new) }
     ensures levels { IfOk result (λ d. declarator_levels d ≤ room) }
+    ensures way { IfOk result (λ _. declarator_way room cursor.old ≡ Some cursor.new) }
+    ensures stops { IfErr result (Ends (declarator_way room cursor.old)) }
 {
     Ok(Declarator {
         identifier: got!(cursor.identifier()),
@@ -236,6 +236,8 @@ pub(crate) fn read_declarator<'a>(
 pub(crate) fn read_enum<'a>(cursor: &mut Cursor<'a>, room: usize) -> Result<EnumType<'a>, Stop>
     ensures spells { IfOk result (λ e. Parsed cursor.old (enum_yield e) cursor.new) }
     ensures levels { IfOk result (λ e. 1 ≤ room) }
+    ensures way { IfOk result (λ _. enum_way room cursor.old ≡ Some cursor.new) }
+    ensures stops { IfErr result (Ends (enum_way room cursor.old)) }
 {
     let (identifier, left) = got!(read_opened(cursor, "enum", room));
     let enumerators = got!(read_listed(cursor, left));
@@ -250,20 +252,20 @@ pub(crate) fn read_enum<'a>(cursor: &mut Cursor<'a>, room: usize) -> Result<Enum
 pub(crate) fn read_switch<'a>(cursor: &mut Cursor<'a>, room: usize) -> Result<SwitchType<'a>, Stop>
     ensures spells { IfOk result (λ s. Parsed cursor.old (switch_yield s) cursor.new) }
     ensures levels { IfOk result (λ s. switch_levels s ≤ room) }
+    ensures way { IfOk result (λ _. switch_way room cursor.old ≡ Some cursor.new) }
+    ensures stops { IfErr result (Ends (switch_way room cursor.old)) }
 {
     if cursor.is_keyword("enum") {
         return Ok(SwitchType::Enum(got!(read_enum(cursor, room))));
     }
-    match next_word(cursor) {
-        Word::Integer => Ok(SwitchType::Integer(got!(read_integer(cursor)))),
-        Word::Char => {
-            got!(cursor.keyword("char"));
-            Ok(SwitchType::Char)
-        }
-        Word::Boolean => {
-            got!(cursor.keyword("boolean"));
-            Ok(SwitchType::Boolean)
-        }
-        _ => Ok(SwitchType::Name(got!(read_scoped_name(cursor)))),
+    if is_integer(cursor) {
+        return Ok(SwitchType::Integer(got!(read_integer(cursor))));
     }
+    if cursor.take_keyword("char") {
+        return Ok(SwitchType::Char);
+    }
+    if cursor.take_keyword("boolean") {
+        return Ok(SwitchType::Boolean);
+    }
+    Ok(SwitchType::Name(got!(read_scoped_name(cursor))))
 }

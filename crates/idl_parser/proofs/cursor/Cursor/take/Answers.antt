@@ -1,22 +1,36 @@
-use Rattle.std.proofs.Common.{rules, refl, sym, ◌∙◌}
-use Rattle.std.proofs.lemmas.Slice.Eq.{bytes_eq-Decides}
-use denote.Enum.Bare.{same_true}
-use Rattle.idl_lexer.specs.contracts.token.Kind.{the_type}
+use Rattle.std.proofs.Common.{refl, sym, ◌∙◌}
 use Rattle.idl_parser.proofs.Reading.{plain_read, kept_read}
+use Rattle.idl_parser.proofs.Ways.{first_sees, none_sees, first_behind, only_true, token_is}
 use Rattle.idl_parser.proofs.cursor.Cursor.take.Goals as goal
 
-pub returns-in-Some-clause-plain : goal.returns-in-Some-clause-plain
-returns-in-Some-clause-plain c =
-    let token = c.in-Some.token.now in
-    let found = c.in-Some.ensures.item in
-    let kind = same_true the_type (search rules) _ _ (sym c.eq.ensures ∙ c.if-eq.true) in
-    let text = (bytes_eq-Decides token.text.now c.args.text.now).0 (sym c.eq-then-eq.ensures ∙ c.if-eq-2.true) in
-    rw (← c.self.view_is) (plain_read c.self.inside.number c.self.inside.rest.now token c.args.kind c.args.text.now found.3.0 found.1 kind text)
+pub returns-in_default-clause-unseen : goal.returns-in_default-clause-unseen
+returns-in_default-clause-unseen c = rw (← c.self.view_is) (none_sees c.args.kind c.args.text.now c.self.inside.number c.self.inside.rest.now c.in_default.ensures.item.3)
 
-pub returns-in-Some-clause-kept : goal.returns-in-Some-clause-kept
-returns-in-Some-clause-kept c =
+pub returns-then-not-is_this-clause-unseen : goal.returns-then-not-is_this-clause-unseen
+returns-then-not-is_this-clause-unseen c =
+    let found = c.in-Some.ensures.item in
+    rw (← c.self.view_is) (first_sees c.args.kind c.args.text.now c.self.inside.number c.self.inside.rest.now c.in-Some.token.now found.3.0 found.1 ∙ sym c.is_this.ensures ∙ c.if-not-is_this.true)
+
+pub returns-clause-seen : goal.returns-clause-seen
+returns-clause-seen c =
+    let found = c.in-Some.ensures.item in
+    rw (← c.self.view_is) (first_sees c.args.kind c.args.text.now c.self.inside.number c.self.inside.rest.now c.in-Some.token.now found.3.0 found.1 ∙ sym c.is_this.ensures ∙ c.if-not-is_this.false)
+
+pub returns-clause-way : goal.returns-clause-way
+returns-clause-way c =
+    let found = c.in-Some.ensures.item in
+    only_true _ _ _ (returns-clause-seen c) (rw (← c.self.view_is) (first_behind c.self.inside.number c.self.inside.rest.now found.3.0))
+
+pub returns-clause-plain : goal.returns-clause-plain
+returns-clause-plain c =
     let token = c.in-Some.token.now in
     let found = c.in-Some.ensures.item in
-    let kind = same_true the_type (search rules) _ _ (sym c.eq.ensures ∙ c.if-eq.true) in
-    let text = (bytes_eq-Decides token.text.now c.args.text.now).0 (sym c.eq-then-eq.ensures ∙ c.if-eq-2.true) in
-    rw (← c.self.view_is) (kept_read c.self.inside.number c.self.inside.rest.now c.args.kind c.args.text.now (record { token = c.in-Some.token; number = c.self.inside.number }) found.3.0 found.1 kind text refl)
+    let same = token_is c.args.kind c.args.text.now token (sym c.is_this.ensures ∙ c.if-not-is_this.false) in
+    rw (← c.self.view_is) (plain_read c.self.inside.number c.self.inside.rest.now token c.args.kind c.args.text.now found.3.0 found.1 same.0 same.1)
+
+pub returns-clause-kept : goal.returns-clause-kept
+returns-clause-kept c =
+    let token = c.in-Some.token.now in
+    let found = c.in-Some.ensures.item in
+    let same = token_is c.args.kind c.args.text.now token (sym c.is_this.ensures ∙ c.if-not-is_this.false) in
+    rw (← c.self.view_is) (kept_read c.self.inside.number c.self.inside.rest.now c.args.kind c.args.text.now (record { token = c.in-Some.token; number = c.self.inside.number }) found.3.0 found.1 same.0 same.1 refl)

@@ -1,17 +1,20 @@
-use Rattle.std.proofs.Common.{rules, sym, ◌∙◌}
+use Rattle.std.proofs.Common.{◌≡◌, length, sym, ◌∙◌, arith}
 use Rattle.std.specs.Prelude.{codes}
-use Rattle.std.proofs.lemmas.Slice.Eq.{bytes_eq-Decides}
-use denote.Enum.Bare.{same_true}
-use Rattle.idl_lexer.specs.contracts.token.Kind.{the_type}
-use Rattle.idl_parser.proofs.Reading.{touching_read}
+use Rattle.std.proofs.lemmas.Bool.Decides.{Decides-eqb}
+use Rattle.idl_parser.proofs.Ways.{touching_taken, first_behind, only_true, some_touch, one_touches_not}
 use Rattle.idl_parser.proofs.cursor.Cursor.take_touching.Goals as goal
 
-pub returns-then-first-second-clause-read : goal.returns-then-first-second-clause-read
-returns-then-first-second-clause-read c =
-    let first = c.in-Some.first.now in
-    let second = c.in-Some-get.second.now in
-    let here = c.in-Some.ensures.item in
-    let next = c.in-Some-get.ensures.lookup in
-    let kind = same_true the_type (search rules) _ _ (sym c.eq.ensures ∙ c.if-eq.true) in
-    let text = (bytes_eq-Decides first.text.now (codes ">")).0 (sym c.eq-then-eq.ensures ∙ c.if-eq-2.true) in
-    rw (← c.self.view_is) (touching_read c.self.inside.number c.self.inside.rest.now first second (codes ">") here.1 next.3.0 next.1 kind text c.if-first-second.true)
+pub returns-then-is_empty-clause-unseen : goal.returns-then-is_empty-clause-unseen
+returns-then-is_empty-clause-unseen c =
+    let none : length c.self.inside.rest.now ≡ 0 = (Decides-eqb (length c.self.inside.rest.now) 0).0 (sym c.is_empty.ensures ∙ c.if-is_empty.true) in
+    rw (← c.self.view_is) (one_touches_not (codes ">") c.self.inside.number c.self.inside.rest.now (omega (arith, none)))
+
+pub returns-clause-way : goal.returns-clause-way
+returns-clause-way c =
+    let seen = sym c.is_touching.ensures ∙ c.if-not-is_touching.false in
+    let two = some_touch (codes ">") c.self.inside.number c.self.inside.rest.now (rw (c.self.view_is) seen) in
+    only_true _ _ _ seen (rw (← c.self.view_is) (first_behind c.self.inside.number c.self.inside.rest.now (omega (arith, two))))
+
+pub returns-clause-read : goal.returns-clause-read
+returns-clause-read c =
+    rw (← c.self.view_is) (touching_taken (codes ">") c.self.inside.number c.self.inside.rest.now (rw (c.self.view_is) (sym c.is_touching.ensures ∙ c.if-not-is_touching.false)))

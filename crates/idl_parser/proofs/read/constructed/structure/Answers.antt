@@ -17,8 +17,8 @@ returns-clause-spells c =
     let pre = keyword (codes "struct") ++ identifier c.args.name ++ mark (codes "{") in
     struct_yields c.args.name first rest
     ∙ sym (group_three pre (member_yield first.value) (flat_map member_yield rest.items) (mark (codes "}")))
-    ∙ ap (λ ms. pre ++ (flat_map member_yield ms ++ mark (codes "}"))) (sym c.in-Ok.ensures)
+    ∙ ap (λ ms. pre ++ (flat_map member_yield ms ++ mark (codes "}"))) (sym c.in-Ok.ensures.spells)
 
 pub returns-clause-levels : goal.returns-clause-levels
 returns-clause-levels c =
-    struct_nests c.args.name c.in-Ok.part c.first_boxed.new.list ∙ ap (λ ms. suc (highest member_levels ms)) (sym c.in-Ok.ensures)
+    struct_nests c.args.name c.in-Ok.part c.first_boxed.new.list ∙ ap (λ ms. suc (highest member_levels ms)) (sym c.in-Ok.ensures.spells)

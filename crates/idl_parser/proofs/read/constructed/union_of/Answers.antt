@@ -18,9 +18,9 @@ returns-clause-spells c =
     ++ mark (codes ")") ++ mark (codes "{") in
     union_yields c.args.name c.args.switch first rest
     ∙ sym (group_three pre (case_yield first.value) (flat_map case_yield rest.items) (mark (codes "}")))
-    ∙ ap (λ cs. pre ++ (flat_map case_yield cs ++ mark (codes "}"))) (sym c.in-Ok.ensures)
+    ∙ ap (λ cs. pre ++ (flat_map case_yield cs ++ mark (codes "}"))) (sym c.in-Ok.ensures.spells)
 
 pub returns-clause-levels : goal.returns-clause-levels
 returns-clause-levels c =
     union_nests c.args.name c.args.switch c.in-Ok.part c.first_boxed.new.list
-    ∙ ap (λ cs. suc (max (switch_levels c.args.switch) (highest case_levels cs))) (sym c.in-Ok.ensures)
+    ∙ ap (λ cs. suc (max (switch_levels c.args.switch) (highest case_levels cs))) (sym c.in-Ok.ensures.spells)

@@ -12,4 +12,4 @@ pub returns-clause-spells : goal.returns-clause-spells
 returns-clause-spells c =
     spelled_as (group_two (keyword (codes "exception") ++ identifier c.in-Ok.part ++ mark (codes "{"))
     (flat_map member_yield c.in-Ok-read_except_members.part.items) (mark (codes "}")))
-    (part_then c.in-Ok.ensures c.in-Ok-read_except_members.ensures.spells)
+    (part_then c.in-Ok.ensures.spells c.in-Ok-read_except_members.ensures.spells)

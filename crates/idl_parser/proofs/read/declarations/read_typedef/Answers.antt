@@ -3,7 +3,7 @@ use Rattle.idl_parser.proofs.Parts.{part_then}
 use Rattle.idl_parser.proofs.read.declarations.read_typedef.Goals as goal
 
 pub returns-clause-spells : goal.returns-clause-spells
-returns-clause-spells c = part_then (part_then c.in-Ok.ensures c.in-Ok-read_type.ensures.spells) c.in-Ok-read_listed.ensures.spells
+returns-clause-spells c = part_then (part_then c.in-Ok.ensures.read c.in-Ok-read_type.ensures.spells) c.in-Ok-read_listed.ensures.spells
 
 pub returns-clause-levels : goal.returns-clause-levels
 returns-clause-levels c = omega (arith, c.in-Ok-read_type.ensures.levels, c.in-Ok-read_listed.ensures.levels)

@@ -10,15 +10,15 @@ use Rattle.idl_parser.proofs.read.definitions.+definitions.Goals as goal
 
 pub read_definitions-parts-preserved : goal.read_definitions-parts-preserved
 read_definitions-parts-preserved t c = record {
-  spells = longer definition_yield definition_levels _ _ _ _ _ _ c.parts.invariant.spells c.in-Ok.ensures;
-  levels = longer_level definition_yield definition_levels _ _ _ _ _ c.parts.invariant.levels c.in-Ok.ensures;
+  spells = longer definition_yield definition_levels _ _ _ _ _ _ c.parts.invariant.spells c.in-Ok.ensures.spells;
+  levels = longer_level definition_yield definition_levels _ _ _ _ _ c.parts.invariant.levels c.in-Ok.ensures.spells;
 }
 
 pub read_definition-returns : goal.read_definition-returns
 read_definition-returns t c =
     let opened = c.in-Ok in
     let inside = c.in-Ok-read_definitions in
-    let m = c.in-Ok-add_module.ensures in
+    let m = c.in-Ok-add_module.ensures.spells in
     let few : definition_levels m.whole ≤ c.args.room = omega (arith, m.levels, opened.ensures.levels, inside.ensures.levels) in
     added_ended definition_yield definition_levels c.args.room _ _ _ (module_front opened.part.0 inside.part.items) (mark (codes ";")) _ _ m.whole c.mark-2.result
-    (part_then (part_then_more opened.ensures.spells inside.ensures.spells) c.in-Ok-mark.ensures) m.spells few m.is c.mark-2.ensures
+    (part_then (part_then_more opened.ensures.spells inside.ensures.spells) c.in-Ok-mark.ensures.read) m.spells few m.is c.mark-2.ensures.read

@@ -18,4 +18,4 @@ module_added name inside before after d (Err e) spelled most is = tt
 
 pub returns : goal.returns
 returns c =
-    module_added _ _ _ _ _ c.add_definition.result (module_yields c.args.name c.args.inside) (module_nests c.args.name c.args.inside) c.add_definition.ensures
+    module_added _ _ _ _ _ c.add_definition.result (module_yields c.args.name c.args.inside) (module_nests c.args.name c.args.inside) c.add_definition.ensures.spells

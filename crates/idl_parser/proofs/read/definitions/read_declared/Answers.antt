@@ -11,4 +11,4 @@ pub returns : goal.returns
 returns c =
     let d = c.in-Ok.part in
     added_ended definition_yield definition_levels c.args.room _ _ _ (declaration_yield d) (mark (codes ";")) _ _ (Declared d) c.mark.result
-    c.in-Ok.ensures.spells refl c.in-Ok.ensures.levels c.in-Ok-add_definition.ensures c.mark.ensures
+    c.in-Ok.ensures.spells refl c.in-Ok.ensures.levels c.in-Ok-add_definition.ensures.spells c.mark.ensures.read

@@ -16,7 +16,7 @@ pub returns-then-is_mark : goal.returns-then-is_mark
 returns-then-is_mark c =
     let i = Variants.Ahead c.in-Ok.part in
     added_ended definition_yield definition_levels c.args.room _ _ _ (interface_yield i) (mark (codes ";")) _ _ (Interfaces i) c.mark.result
-    c.in-Ok.ensures refl (omega arith) c.in-Ok-add_interface.ensures c.mark.ensures
+    c.in-Ok.ensures.spells refl (omega arith) c.in-Ok-add_interface.ensures.spells c.mark.ensures.read
 
 pub returns : goal.returns
 returns c =
@@ -26,5 +26,5 @@ returns c =
     let pre = keyword (codes "interface") ++ identifier c.in-Ok.part ++ optional bases_yield bases.part in
     added_ended definition_yield definition_levels c.args.room _ _ _ (interface_yield i) (mark (codes ";")) _ _ (Interfaces i) c.mark-2.result
     (spelled_as (group_three pre (mark (codes "{")) (flat_map export_yield exports.part.items) (mark (codes "}")))
-    (part_then (part_then_more c.in-Ok.ensures bases.ensures) exports.ensures.spells))
-    refl exports.ensures.levels c.in-Ok-add_interface-2.ensures c.mark-2.ensures
+    (part_then (part_then_more c.in-Ok.ensures.spells bases.ensures.spells) exports.ensures.spells))
+    refl exports.ensures.levels c.in-Ok-add_interface-2.ensures.spells c.mark-2.ensures.read

@@ -7,4 +7,4 @@ use Rattle.idl_parser.proofs.read.definitions.read_pragma.Goals as goal
 
 pub returns : goal.returns
 returns c =
-    added definition_yield definition_levels c.args.room _ _ _ _ (Pragma c.in-Ok.part) c.add_definition.result c.in-Ok.ensures (omega arith) c.add_definition.ensures
+    added definition_yield definition_levels c.args.room _ _ _ _ (Pragma c.in-Ok.part) c.add_definition.result c.in-Ok.ensures.read (omega arith) c.add_definition.ensures.spells

@@ -16,16 +16,16 @@ read_operands-parts-preserved t c =
     let few : suc c.args.level ≤ 6 = c.requires in
     let tighter = rw add-one at (c.in-Ok-read_level.ensures.groups (omega (arith, few))) in
     record {
-      spells = one_more operand_yield _ _ _ _ _ _ c.parts.invariant.spells (then_read _ _ _ _ _ c.in-Ok.ensures c.in-Ok-read_level.ensures.spells) c.in-Ok-add.ensures;
-      operands = all_more (IsOperandOf c.args.shifts c.args.level) _ _ _ c.parts.invariant.operands (c.in-Some.ensures, tighter) c.in-Ok-add.ensures;
-      levels = one_more_level operand_levels _ _ _ _ c.parts.invariant.levels c.in-Ok-read_level.ensures.levels c.in-Ok-add.ensures;
+      spells = one_more operand_yield _ _ _ _ _ _ c.parts.invariant.spells (then_read _ _ _ _ _ c.in-Ok.ensures.spells c.in-Ok-read_level.ensures.spells) c.in-Ok-add.ensures.spells;
+      operands = all_more (IsOperandOf c.args.shifts c.args.level) _ _ _ c.parts.invariant.operands (c.in-Some.ensures, tighter) c.in-Ok-add.ensures.spells;
+      levels = one_more_level operand_levels _ _ _ _ c.parts.invariant.levels c.in-Ok-read_level.ensures.levels c.in-Ok-add.ensures.spells;
     }
 
 pub read_unary-returns-clause-groups : goal.read_unary-returns-clause-groups
 read_unary-returns-clause-groups t c =
     IfOk-weaker c.made.result (λ e. (shifts : Bool) → IsOfLevel shifts 7 c.in-Ok.part → IsOfLevel shifts 6 e) (λ e. (shifts : Bool) → IsOfLevel shifts 6 e)
     (λ e signed shifts. signed shifts (c.in-Ok.ensures.groups shifts))
-    (handed _ c.new_signed.result c.made.result c.new_signed.ensures.groups c.made.ensures)
+    (handed _ c.new_signed.result c.made.result c.new_signed.ensures.groups c.made.ensures.spells)
 
 pub read_level-returns-clause-groups : goal.read_level-returns-clause-groups
 read_level-returns-clause-groups t c =
@@ -36,7 +36,7 @@ read_level-returns-clause-groups t c =
     → AllByRecursion (IsOperandOf shifts level) c.in-Ok-read_operands.part.items → IsOfLevel shifts level e)
     (λ e. c.args.level ≤ 6 → IsOfLevel c.args.shifts c.args.level e)
     (λ e chain le. chain c.args.shifts c.args.level (omega (arith, few)) first c.in-Ok-read_operands.ensures.groups)
-    (handed _ c.new_chain.result c.made.result c.new_chain.ensures.groups c.made.ensures)
+    (handed _ c.new_chain.result c.made.result c.new_chain.ensures.groups c.made.ensures.spells)
 
 pub read_unary-returns-in_default-clause-groups : goal.read_unary-returns-in_default-clause-groups
 read_unary-returns-in_default-clause-groups t c = unsigned _ c.read_primary.ensures.groups
@@ -47,36 +47,36 @@ read_level-returns-then-level-ge-LEVELS-clause-groups t c =
 
 pub read_primary-returns-clause-spells : goal.read_primary-returns-clause-spells
 read_primary-returns-clause-spells t c =
-    spelled_by _ _ expr_yield _ c.made.result (handed _ c.new_parenthesized.result c.made.result c.new_parenthesized.ensures.spells c.made.ensures)
-    (part_then (part_then c.in-Some.ensures.kept c.in-Ok-read_level.ensures.spells) c.in-Ok-mark.ensures)
+    spelled_by _ _ expr_yield _ c.made.result (handed _ c.new_parenthesized.result c.made.result c.new_parenthesized.ensures.spells c.made.ensures.spells)
+    (part_then (part_then c.in-Some.ensures.kept c.in-Ok-read_level.ensures.spells) c.in-Ok-mark.ensures.read)
 
 pub read_primary-returns-clause-groups : goal.read_primary-returns-clause-groups
 read_primary-returns-clause-groups t c =
     IfOk-weaker c.made.result (λ e. IsOfLevel true 0 c.in-Ok-read_level.part → (shifts : Bool) → IsOfLevel shifts 7 e) (λ e. (shifts : Bool) → IsOfLevel shifts 7 e)
     (λ e closed. closed (c.in-Ok-read_level.ensures.groups (omega arith)))
-    (handed _ c.new_parenthesized.result c.made.result c.new_parenthesized.ensures.groups c.made.ensures)
+    (handed _ c.new_parenthesized.result c.made.result c.new_parenthesized.ensures.groups c.made.ensures.spells)
 
 pub read_primary-returns-clause-levels : goal.read_primary-returns-clause-levels
 read_primary-returns-clause-levels t c =
-    levels_by expr_levels _ c.args.room c.made.result (handed _ c.new_parenthesized.result c.made.result c.new_parenthesized.ensures.levels c.made.ensures)
-    (omega (arith, c.in-Ok.ensures, c.in-Ok-read_level.ensures.levels))
+    levels_by expr_levels _ c.args.room c.made.result (handed _ c.new_parenthesized.result c.made.result c.new_parenthesized.ensures.levels c.made.ensures.spells)
+    (omega (arith, c.in-Ok.ensures.levels, c.in-Ok-read_level.ensures.levels))
 
 pub read_unary-returns-clause-spells : goal.read_unary-returns-clause-spells
 read_unary-returns-clause-spells t c =
-    spelled_by _ _ expr_yield _ c.made.result (handed _ c.new_signed.result c.made.result c.new_signed.ensures.spells c.made.ensures)
+    spelled_by _ _ expr_yield _ c.made.result (handed _ c.new_signed.result c.made.result c.new_signed.ensures.spells c.made.ensures.spells)
     (part_then c.in-Some.ensures.read c.in-Ok.ensures.spells)
 
 pub read_unary-returns-clause-levels : goal.read_unary-returns-clause-levels
 read_unary-returns-clause-levels t c =
-    levels_by expr_levels _ c.args.room c.made.result (handed _ c.new_signed.result c.made.result c.new_signed.ensures.levels c.made.ensures)
+    levels_by expr_levels _ c.args.room c.made.result (handed _ c.new_signed.result c.made.result c.new_signed.ensures.levels c.made.ensures.spells)
     (omega (arith, c.in-Ok.ensures.levels))
 
 pub read_level-returns-clause-spells : goal.read_level-returns-clause-spells
 read_level-returns-clause-spells t c =
-    spelled_by _ _ expr_yield _ c.made.result (handed _ c.new_chain.result c.made.result c.new_chain.ensures.spells c.made.ensures)
+    spelled_by _ _ expr_yield _ c.made.result (handed _ c.new_chain.result c.made.result c.new_chain.ensures.spells c.made.ensures.spells)
     (part_then_more c.in-Ok.ensures.spells c.in-Ok-read_operands.ensures.spells)
 
 pub read_level-returns-clause-levels : goal.read_level-returns-clause-levels
 read_level-returns-clause-levels t c =
-    levels_by expr_levels _ c.args.room c.made.result (handed _ c.new_chain.result c.made.result c.new_chain.ensures.levels c.made.ensures)
+    levels_by expr_levels _ c.args.room c.made.result (handed _ c.new_chain.result c.made.result c.new_chain.ensures.levels c.made.ensures.spells)
     (omega (arith, c.in-Ok.ensures.levels, c.in-Ok-read_operands.ensures.levels))

@@ -12,4 +12,4 @@ returns-clause-spells c =
     let t = c.in-Ok-read_param_type in
     let a = c.in-Ok-read_attributes in
     subst (λ b. Parsed c.args.cursor.now (readonly_yield b ++ keyword (codes "attribute") ++ param_type_yield t.part ++ attributes_yield a.part) c.read_attributes.new.cursor) (sym a.ensures.kind)
-    (part_then (part_then (more_then_part c.take_readonly-is_readonly.ensures c.in-Ok.ensures) t.ensures.spells) a.ensures.spells)
+    (part_then (part_then (more_then_part c.take_readonly-is_readonly.ensures.spells c.in-Ok.ensures.read) t.ensures.spells) a.ensures.spells)

@@ -11,4 +11,4 @@ pub returns : goal.returns
 returns c =
     let d = c.in-Ok.part in
     added_ended export_yield export_levels c.args.room _ _ _ (attribute_yield d) (mark (codes ";")) _ _ (Exports.Attribute d) c.mark.result
-    c.in-Ok.ensures.spells refl c.in-Ok.ensures.levels c.in-Ok-add_export.ensures c.mark.ensures
+    c.in-Ok.ensures.spells refl c.in-Ok.ensures.levels c.in-Ok-add_export.ensures.spells c.mark.ensures.read

@@ -15,7 +15,7 @@ parted_in : {B T E : Type 0} (value : B → T) (xs rest : List T) (x : T) (r : R
 parted_in value xs rest x (Ok b) is same = subst (λ y. xs ≡ y ∷ rest) (sym same) is
 parted_in value xs rest x (Err e) is same = tt
 
-pub returns : goal.returns
-returns g c =
+pub returns-clause-spells : goal.returns-clause-spells
+returns-clause-spells g c =
     parted_in (λ b. b.value) _ _ _ c.boxed.result
-    (parted _ _ _ c.requires c.remove-first.ensures.value (c.shrink_to_fit.ensures.items ∙ c.remove-first.ensures.items)) c.boxed.ensures
+    (parted _ _ _ c.requires c.remove-first.ensures.value (c.shrink_to_fit.ensures.items ∙ c.remove-first.ensures.items)) c.boxed.ensures.spells

@@ -5,6 +5,6 @@ use Rattle.idl_parser.proofs.read.types.read_sizes.Goals as goal
 
 pub parts-preserved : goal.parts-preserved
 parts-preserved c = record {
-  spells = one_more size_yield _ _ _ _ _ _ c.parts.invariant.spells c.in-Ok.ensures.spells c.in-Ok-add.ensures;
-  levels = one_more_level const_expr_levels _ _ _ _ c.parts.invariant.levels c.in-Ok.ensures.levels c.in-Ok-add.ensures;
+  spells = one_more size_yield _ _ _ _ _ _ c.parts.invariant.spells c.in-Ok.ensures.spells c.in-Ok-add.ensures.spells;
+  levels = one_more_level const_expr_levels _ _ _ _ c.parts.invariant.levels c.in-Ok.ensures.levels c.in-Ok-add.ensures.spells;
 }

@@ -1,0 +1,296 @@
+-- A reader that takes one step after another, and the way that does.
+use Rattle.std.proofs.Common.{◌≡◌, ◌∙◌, ℕ, zero, suc, ◌+◌, ◌-◌, ◌<◌, ◌≤◌, ◌⊎◌, inl, inr, Bool, true, false, ◌&&◌, nat_eq, List, [], ◌∷◌, Option, Some, None, codes, length, take, drop, get_or, sym, subst, ap, refl, arith}
+use Rattle.std.specs.Prelude.{Result, Ok, Err, IfOk, IfErr, IfNone, IfSome}
+use Rattle.std.specs.Str.{bytes_eq}
+use Rattle.std.proofs.Math.Seq.{take-length}
+use Rattle.std.proofs.lemmas.Bool.{and_parts}
+use Rattle.std.proofs.lemmas.Bool.Decides.{Decides-eqb}
+use Rattle.std.proofs.lemmas.Slice.Eq.{bytes_eq-Decides}
+use Rattle.idl_lexer.specs.declared.token.Kind.{Kind}
+use Rattle.idl_lexer.specs.declared.token.Token.{Token}
+use Rattle.idl_lexer.specs.declared.token.Kind.TheVariants.{Punct}
+use Rattle.idl_tree.specs.Pieces.{Seen, kind_code, seen_from, touching}
+use Rattle.tree_laws.proofs.Fronts.{same_kind}
+use Rattle.tree_laws.specs.Descent.{Way, sees, sees_kind, sees_touching, sees_shift, behind_next, only_if, and_then, where_seen, opened, repeated}
+use Rattle.tree_laws.specs.DefinitionDescent.{is_ahead}
+use Rattle.idl_parser.specs.declared.stop.Stop.{Stop}
+use Rattle.idl_parser.specs.inner.Reading.{Parsed}
+use Rattle.idl_parser.specs.inner.Following.{Ends, Going}
+use Rattle.idl_parser.proofs.Reading.{touching_read}
+
+-- ---- steps
+
+pub goes_past : (o : Way) (more : List Seen → Way) (t : List Seen) → o ≡ Some t → and_then o more ≡ more t
+unfolding and_then
+goes_past o more t e = ap (λ w. and_then w more) e
+
+pub ends_at : (o : Way) (more : List Seen → Way) (e : Stop) → Ends o e → Ends (and_then o more) e
+unfolding and_then
+ends_at o more e (inl h) = inl h
+ends_at o more e (inr h) = inr (ap (λ w. and_then w more) h)
+
+pub ends_so : (o p : Way) (e : Stop) → p ≡ o → Ends o e → Ends p e
+ends_so o p e same h = subst (λ w. Ends w e) (sym same) h
+
+pub ends_past : (o : Way) (more : List Seen → Way) (t : List Seen) (e : Stop) → o ≡ Some t → Ends (more t) e → Ends (and_then o more) e
+ends_past o more t e same h = ends_so (more t) (and_then o more) e (goes_past o more t same) h
+
+pub where_is : (b : Bool) (on off : Way) → b ≡ true → where_seen b on off ≡ on
+unfolding where_seen
+where_is b on off e = ap (λ c. where_seen c on off) e
+
+pub where_is_not : (b : Bool) (on off : Way) → b ≡ false → where_seen b on off ≡ off
+unfolding where_seen
+where_is_not b on off e = ap (λ c. where_seen c on off) e
+
+-- ---- the same with all that a goal shows left out
+
+-- a step that was taken
+pub on : {o : Way} {t : List Seen} {v : Way} (more : List Seen → Way) → o ≡ Some t → more t ≡ v → and_then o more ≡ v
+on {o = o} {t = t} more e h = goes_past o more t e ∙ h
+
+-- a step that wasn't
+pub halts : {o : Way} {e : Stop} (more : List Seen → Way) → Ends o e → Ends (and_then o more) e
+halts {o = o} {e = e} more h = ends_at o more e h
+
+-- a step that was taken, before one that wasn't
+pub past : {o : Way} {t : List Seen} {e : Stop} (more : List Seen → Way) → o ≡ Some t → Ends (more t) e → Ends (and_then o more) e
+past {o = o} {t = t} {e = e} more same h = ends_past o more t e same h
+
+pub seen : {b : Bool} {here v : Way} (other : Way) → b ≡ true → here ≡ v → where_seen b here other ≡ v
+seen {b = b} {here = here} other e h = where_is b here other e ∙ h
+
+pub unseen : {b : Bool} {other v : Way} (here : Way) → b ≡ false → other ≡ v → where_seen b here other ≡ v
+unseen {b = b} {other = other} here e h = where_is_not b here other e ∙ h
+
+pub halts_seen : {b : Bool} {here : Way} {e : Stop} (other : Way) → b ≡ true → Ends here e → Ends (where_seen b here other) e
+halts_seen {b = b} {here = here} {e = e} other same h = ends_so here (where_seen b here other) e (where_is b here other same) h
+
+pub halts_unseen : {b : Bool} {other : Way} {e : Stop} (here : Way) → b ≡ false → Ends other e → Ends (where_seen b here other) e
+halts_unseen {b = b} {other = other} {e = e} here same h = ends_so other (where_seen b here other) e (where_is_not b here other same) h
+
+-- ---- parts one after another
+
+pub going_begins : (goes : List Seen → Bool) (one : List Seen → Way) (t : List Seen) → Going goes one t t
+going_begins goes one t = record { fuel = t; enough = omega arith; same = refl }
+
+going_on_over : (goes : List Seen → Bool) (one : List Seen → Way) (start t u : List Seen) (fuel : List Seen)
+    → length t ≤ length fuel → repeated goes one start start ≡ repeated goes one fuel t
+    → goes t ≡ true → one t ≡ Some u → length u < length t → Going goes one start u
+unfolding repeated and_then where_seen
+going_on_over goes one start t u [] enough same g o less = absurd (omega arith)
+going_on_over goes one start t u (f ∷ fs) enough same g o less = record {
+  fuel = fs;
+  enough = omega (arith, enough, less);
+  same = same ∙ rw (g, o) refl;
+}
+
+pub going_on : (goes : List Seen → Bool) (one : List Seen → Way) (start t u : List Seen)
+    → Going goes one start t → goes t ≡ true → one t ≡ Some u → length u < length t → Going goes one start u
+going_on goes one start t u h g o less = going_on_over goes one start t u h.fuel h.enough h.same g o less
+
+ended_over : (goes : List Seen → Bool) (one : List Seen → Way) (t : List Seen) (fuel : List Seen)
+    → goes t ≡ false → repeated goes one fuel t ≡ Some t
+unfolding repeated where_seen
+ended_over goes one t [] g = rw (g) refl
+ended_over goes one t (f ∷ fs) g = rw (g) refl
+
+pub going_ends : (goes : List Seen → Bool) (one : List Seen → Way) (start t : List Seen)
+    → Going goes one start t → goes t ≡ false → repeated goes one start start ≡ Some t
+going_ends goes one start t h g = h.same ∙ ended_over goes one t h.fuel g
+
+stops_over : (goes : List Seen → Bool) (one : List Seen → Way) (t : List Seen) (fuel : List Seen) (e : Stop)
+    → goes t ≡ true → Ends (one t) e → Ends (repeated goes one fuel t) e
+unfolding repeated where_seen
+stops_over goes one t [] e g h = inr (rw (g) refl)
+stops_over goes one t (f ∷ fs) e g h = ends_so _ _ e (rw (g) refl) (ends_at (one t) (λ u. repeated goes one fs u) e h)
+
+pub going_stops : (goes : List Seen → Bool) (one : List Seen → Way) (start t : List Seen) (e : Stop)
+    → Going goes one start t → goes t ≡ true → Ends (one t) e → Ends (repeated goes one start start) e
+going_stops goes one start t e h g o = ends_so _ _ e h.same (stops_over goes one t h.fuel e g o)
+
+-- ---- single tokens
+
+abbrev this_kind : Kind → Token → Bool
+this_kind kind t = nat_eq (kind_code kind) (kind_code t.kind)
+
+abbrev this_token : Kind → List ℕ → Token → Bool
+this_token kind text t = this_kind kind t && bytes_eq text t.text.now
+
+abbrev cut : List Token → List Token
+cut xs = take (length xs - 1) (drop 1 xs)
+
+pub first_sees : (kind : Kind) (text : List ℕ) (n : ℕ) (xs : List Token) (t : Token) → 0 < length xs → t ≡ get_or xs 0 t
+    → sees kind text (seen_from n xs) ≡ this_token kind text t
+unfolding sees
+first_sees kind text n [] t lt is = absurd (omega arith)
+first_sees kind text n (x ∷ xs) t lt is = ap (λ u. this_token kind text u) (sym is)
+
+pub first_sees_kind : (kind : Kind) (n : ℕ) (xs : List Token) (t : Token) → 0 < length xs → t ≡ get_or xs 0 t
+    → sees_kind kind (seen_from n xs) ≡ this_kind kind t
+unfolding sees_kind
+first_sees_kind kind n [] t lt is = absurd (omega arith)
+first_sees_kind kind n (x ∷ xs) t lt is = ap (λ u. this_kind kind u) (sym is)
+
+pub none_sees : (kind : Kind) (text : List ℕ) (n : ℕ) (xs : List Token) → length xs ≤ 0 → sees kind text (seen_from n xs) ≡ false
+unfolding sees
+none_sees kind text n [] h = refl
+none_sees kind text n (x ∷ xs) h = absurd (omega arith)
+
+pub none_sees_kind : (kind : Kind) (n : ℕ) (xs : List Token) → length xs ≤ 0 → sees_kind kind (seen_from n xs) ≡ false
+unfolding sees_kind
+none_sees_kind kind n [] h = refl
+none_sees_kind kind n (x ∷ xs) h = absurd (omega arith)
+
+pub third_sees : (n : ℕ) (xs : List Token) (t : Token) → 2 < length xs → t ≡ get_or xs 2 t
+    → is_ahead (seen_from n xs) ≡ this_token Punct (codes ";") t
+unfolding is_ahead sees
+third_sees n [] t lt is = absurd (omega arith)
+third_sees n (x ∷ []) t lt is = absurd (omega arith)
+third_sees n (x ∷ y ∷ []) t lt is = absurd (omega arith)
+third_sees n (x ∷ y ∷ z ∷ zs) t lt is = ap (λ u. this_token Punct (codes ";") u) (sym is)
+
+pub no_third : (n : ℕ) (xs : List Token) → length xs ≤ 2 → is_ahead (seen_from n xs) ≡ false
+unfolding is_ahead sees
+no_third n [] h = refl
+no_third n (x ∷ []) h = refl
+no_third n (x ∷ y ∷ []) h = refl
+no_third n (x ∷ y ∷ z ∷ zs) h = absurd (omega arith)
+
+pub first_behind : (n : ℕ) (xs : List Token) → 0 < length xs → behind_next (seen_from n xs) ≡ Some (seen_from (n + 1) (cut xs))
+unfolding behind_next
+first_behind n [] lt = absurd (omega arith)
+first_behind n (x ∷ ys) lt =
+    let len : length (x ∷ ys) - 1 ≡ length ys = omega arith in
+    ap (λ l. Some (seen_from (n + 1) l)) (sym (ap (λ k. take k ys) len ∙ take-length ys))
+
+pub only_true : (b : Bool) (w o : Way) → b ≡ true → w ≡ o → only_if b w ≡ o
+unfolding only_if
+only_true b w o e h = ap (λ c. only_if c w) e ∙ h
+
+pub only_false : (b : Bool) (w : Way) → b ≡ false → only_if b w ≡ None
+unfolding only_if
+only_false b w e = ap (λ c. only_if c w) e
+
+-- what a token is that a test found
+pub token_is : (kind : Kind) (text : List ℕ) (t : Token) → this_token kind text t ≡ true → (t.kind ≡ kind) × (t.text.now ≡ text)
+token_is kind text t h =
+    let both = and_parts (this_kind kind t) (bytes_eq text t.text.now) h in
+    (sym (same_kind kind t.kind both.0), sym ((bytes_eq-Decides text t.text.now).0 both.1))
+
+pub kind_is : (kind : Kind) (t : Token) → this_kind kind t ≡ true → t.kind ≡ kind
+kind_is kind t h = sym (same_kind kind t.kind h)
+
+-- ---- two tokens of which the first touches the second
+
+and_then_true : (a b e : Bool) → (a && b) ≡ true → (a && b && e) ≡ e
+and_then_true true true e h = refl
+and_then_true true false e h = absurd cc
+and_then_true false b e h = absurd cc
+
+and_then_false : (a b e : Bool) → (a && b) ≡ false → (a && b && e) ≡ false
+and_then_false true true e h = absurd cc
+and_then_false true false e h = refl
+and_then_false false b e h = refl
+
+no_touch : (a b : Bool) → (a && b && false) ≡ false
+no_touch true true = refl
+no_touch true false = refl
+no_touch false true = refl
+no_touch false false = refl
+
+touches_so : (text : List ℕ) (n : ℕ) (xs : List Token) (t u : Token) → t ≡ get_or xs 0 t → 1 < length xs → u ≡ get_or xs 1 u
+    → sees_touching text (seen_from n xs) ≡ (this_kind Punct t && bytes_eq text t.text.now && nat_eq t.«end» u.start)
+unfolding sees_touching
+touches_so text n [] t u is lt more = absurd (omega arith)
+touches_so text n (x ∷ []) t u is lt more = absurd (omega arith)
+touches_so text n (x ∷ y ∷ ys) t u is lt more = rw (is, more) refl
+
+pub touches : (text : List ℕ) (n : ℕ) (xs : List Token) (t u : Token) → t ≡ get_or xs 0 t → 1 < length xs → u ≡ get_or xs 1 u
+    → this_token Punct text t ≡ true → sees_touching text (seen_from n xs) ≡ nat_eq t.«end» u.start
+touches text n xs t u is lt more h =
+    touches_so text n xs t u is lt more ∙ and_then_true (this_kind Punct t) (bytes_eq text t.text.now) (nat_eq t.«end» u.start) h
+
+pub touches_not : (text : List ℕ) (n : ℕ) (xs : List Token) (t u : Token) → t ≡ get_or xs 0 t → 1 < length xs → u ≡ get_or xs 1 u
+    → this_token Punct text t ≡ false → sees_touching text (seen_from n xs) ≡ false
+touches_not text n xs t u is lt more h =
+    touches_so text n xs t u is lt more ∙ and_then_false (this_kind Punct t) (bytes_eq text t.text.now) (nat_eq t.«end» u.start) h
+
+pub one_touches_not : (text : List ℕ) (n : ℕ) (xs : List Token) → length xs ≤ 1 → sees_touching text (seen_from n xs) ≡ false
+unfolding sees_touching
+one_touches_not text n [] h = refl
+one_touches_not text n (x ∷ []) h = no_touch (this_kind Punct x) (bytes_eq text x.text.now)
+one_touches_not text n (x ∷ y ∷ ys) h = absurd (omega arith)
+
+pub some_touch : (text : List ℕ) (n : ℕ) (xs : List Token) → sees_touching text (seen_from n xs) ≡ true → 1 < length xs
+some_touch text n [] h = absurd (cc (one_touches_not text n [] (omega arith)))
+some_touch text n (x ∷ []) h = absurd (cc (one_touches_not text n (x ∷ []) (omega arith)))
+some_touch text n (x ∷ y ∷ ys) h = omega arith
+
+all_three : (a b e : Bool) → (a && b && e) ≡ true → (a ≡ true) × (b ≡ true) × (e ≡ true)
+all_three true true true h = (refl, refl, refl)
+all_three true true false h = absurd cc
+all_three true false e h = absurd cc
+all_three false b e h = absurd cc
+
+pub touching_taken : (text : List ℕ) (n : ℕ) (xs : List Token) → sees_touching text (seen_from n xs) ≡ true
+    → Parsed (seen_from n xs) (touching text) (seen_from (n + 1) (cut xs))
+unfolding sees_touching
+touching_taken text n [] h = absurd (cc (one_touches_not text n [] (omega arith)))
+touching_taken text n (x ∷ []) h = absurd (cc (one_touches_not text n (x ∷ []) (omega arith)))
+touching_taken text n (x ∷ y ∷ ys) h =
+    let all = all_three (this_kind Punct x) (bytes_eq text x.text.now) (nat_eq x.«end» y.start) h in
+    touching_read n (x ∷ y ∷ ys) x y text refl (omega arith) refl (sym (same_kind Punct x.kind all.0))
+    (sym ((bytes_eq-Decides text x.text.now).0 all.1)) ((Decides-eqb x.«end» y.start).0 all.2)
+
+pub shift_seen : (n : ℕ) (xs : List Token) (u : Token) → sees_touching (codes ">") (seen_from n xs) ≡ true → 1 < length xs → u ≡ get_or xs 1 u
+    → sees_shift (seen_from n xs) ≡ this_token Punct (codes ">") u
+unfolding sees
+shift_seen n [] u h lt is = absurd (omega arith)
+shift_seen n (x ∷ []) u h lt is = absurd (omega arith)
+shift_seen n (x ∷ y ∷ ys) u h lt is =
+    ap (λ b. b && this_token Punct (codes ">") y) h ∙ ap (λ v. this_token Punct (codes ">") v) (sym is)
+
+pub shift_unseen : (t : List Seen) → sees_touching (codes ">") t ≡ false → sees_shift t ≡ false
+shift_unseen [] h = refl
+shift_unseen (t ∷ ts) h = ap (λ b. b && sees Punct (codes ">") ts) h
+
+-- ---- a level
+
+pub closed : (room : ℕ) (inside : ℕ → Way) → room ≡ 0 → opened room inside ≡ None
+unfolding opened
+closed room inside e = ap (λ n. opened n inside) e
+
+pub open_at : (left room : ℕ) (inside : ℕ → Way) → suc left ≡ room → opened room inside ≡ inside left
+unfolding opened
+open_at left room inside e = ap (λ n. opened n inside) (sym e)
+
+pub ends_inside : (room : ℕ) (inside : ℕ → Way) (e : Stop) → ((left : ℕ) → suc left ≡ room → Ends (inside left) e) → Ends (opened room inside) e
+unfolding opened
+ends_inside zero inside e h = inr refl
+ends_inside (suc left) inside e h = h left refl
+
+-- ---- a reader that ends with another
+
+pub tail_way : {T : Type 0} (o : Way) (more : List Seen → Way) (t u : List Seen) (r : Result T Stop)
+    → o ≡ Some t → IfOk r (λ x. more t ≡ Some u) → IfOk r (λ x. and_then o more ≡ Some u)
+tail_way o more t u (Ok x) e h = goes_past o more t e ∙ h
+tail_way o more t u (Err s) e h = tt
+
+pub tail_stops : {T : Type 0} (o : Way) (more : List Seen → Way) (t : List Seen) (r : Result T Stop)
+    → o ≡ Some t → IfErr r (Ends (more t)) → IfErr r (Ends (and_then o more))
+tail_stops o more t (Ok x) e h = tt
+tail_stops o more t (Err s) e h = ends_past o more t s e h
+
+pub stops_closed : {T : Type 0} (room : ℕ) (inside : ℕ → Way) (r : Result T Stop)
+    → IfErr r (λ s. room ≡ 0) → IfErr r (Ends (opened room inside))
+stops_closed room inside (Ok x) h = tt
+stops_closed room inside (Err s) h = inr (closed room inside h)
+
+-- ---- a token that may be there
+
+pub maybe_taken : {L : Type 0} (b : Bool) (taken : Way) (old new : List Seen) (r : Option L)
+    → IfNone r (b ≡ false) → IfNone r (new ≡ old) → IfSome r (λ l. b ≡ true) → IfSome r (λ l. taken ≡ Some new)
+    → where_seen b taken (Some old) ≡ Some new
+maybe_taken b taken old new None f same t way = unseen taken f (ap Some (sym same))
+maybe_taken b taken old new (Some l) f same t way = seen (Some old) t way
