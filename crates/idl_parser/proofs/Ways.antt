@@ -11,11 +11,15 @@ use Rattle.idl_lexer.specs.declared.token.Token.{Token}
 use Rattle.idl_lexer.specs.declared.token.Kind.TheVariants.{Punct}
 use Rattle.idl_tree.specs.Pieces.{Seen, kind_code, seen_from, touching}
 use Rattle.tree_laws.proofs.Fronts.{same_kind}
-use Rattle.tree_laws.specs.Descent.{Way, sees, sees_kind, sees_touching, sees_shift, behind_next, only_if, and_then, where_seen, opened, repeated}
+use Rattle.idl_tree.specs.declared.expression.Operator.{Operator}
+use Rattle.idl_tree.specs.declared.expression.Operator.TheVariants.{Or, Xor, And, ShiftLeft, ShiftRight, Add, Subtract, Multiply, Divide, Remainder}
+use Rattle.idl_tree.specs.Grouping.{is_operator_of}
+use Rattle.tree_laws.specs.Descent.{Way, sees, sees_kind, sees_touching, sees_shift, sees_word, behind_next, only_if, and_then, where_seen, opened, repeated, if_seen, first_seen, operator_seen, operator_at, operator_way, operand_way, operands_way, level_way, unary_way, inside_way, simple_type_way, param_type_way}
 use Rattle.tree_laws.specs.DefinitionDescent.{is_ahead}
 use Rattle.idl_parser.specs.declared.stop.Stop.{Stop}
+use Rattle.idl_parser.specs.declared.stop.Stop.TheVariants.{NoMemory}
 use Rattle.idl_parser.specs.inner.Reading.{Parsed}
-use Rattle.idl_parser.specs.inner.Following.{Ends, Going}
+use Rattle.idl_parser.specs.inner.Following.{Ends, Going, sequence_way}
 use Rattle.idl_parser.proofs.Reading.{touching_read}
 
 -- ---- steps
@@ -294,3 +298,182 @@ pub maybe_taken : {L : Type 0} (b : Bool) (taken : Way) (old new : List Seen) (r
     → where_seen b taken (Some old) ≡ Some new
 maybe_taken b taken old new None f same t way = unseen taken f (ap Some (sym same))
 maybe_taken b taken old new (Some l) f same t way = seen (Some old) t way
+
+-- ---- levels
+
+pub open_on : {left room : ℕ} {v : Way} (inside : ℕ → Way) → suc left ≡ room → inside left ≡ v → opened room inside ≡ v
+open_on {left = left} {room = room} inside e h = open_at left room inside e ∙ h
+
+pub ends_open : {left room : ℕ} {e : Stop} (inside : ℕ → Way) → suc left ≡ room → Ends (inside left) e → Ends (opened room inside) e
+ends_open {left = left} {room = room} {e = e} inside same h = ends_so (inside left) (opened room inside) e (open_at left room inside same) h
+
+-- a step inside a level that wasn't taken
+pub open_halts : {e : Stop} (room : ℕ) (o : Way) (more : ℕ → List Seen → Way) → Ends (opened room (λ left. o)) e
+    → Ends (opened room (λ left. and_then o (more left))) e
+unfolding opened
+open_halts {e = e} zero o more h = inr refl
+open_halts {e = e} (suc left) o more h = ends_at o (more left) e h
+
+-- a step that was taken before a level that isn't there
+pub open_past : {t : List Seen} {e : Stop} (room : ℕ) (o : Way) (more : ℕ → List Seen → Way) → o ≡ Some t
+    → Ends (opened room (λ left. more left t)) e → Ends (opened room (λ left. and_then o (more left))) e
+unfolding opened
+open_past {t = t} {e = e} zero o more same h = inr refl
+open_past {t = t} {e = e} (suc left) o more same h = ends_past o (more left) t e same h
+
+pub tail_open_past : {T : Type 0} (room : ℕ) (o : Way) (more : ℕ → List Seen → Way) (t : List Seen) (r : Result T Stop) → o ≡ Some t
+    → IfErr r (Ends (opened room (λ left. more left t))) → IfErr r (Ends (opened room (λ left. and_then o (more left))))
+tail_open_past room o more t (Ok x) same h = tt
+tail_open_past room o more t (Err s) same h = open_past room o more same h
+
+-- a level that was opened by a step behind another
+pub opened_on : {v : Way} (o : Way) (step : List Seen → Way) (left room : ℕ) → suc left ≡ room → and_then o step ≡ v
+    → and_then o (λ u. opened room (λ l. step u)) ≡ v
+unfolding opened
+opened_on {v = v} o step left room e h = subst (λ n. and_then o (λ u. opened n (λ l. step u)) ≡ v) e h
+
+-- ---- what a reader makes of parts
+
+pub okay : {T P : Type 0} (r : Result T Stop) → P → IfOk r (λ x. P)
+okay (Ok x) p = p
+okay (Err s) p = tt
+
+pub full_stops : {T : Type 0} (way : Way) (r : Result T Stop) → IfErr r (λ s. s ≡ NoMemory) → IfErr r (Ends way)
+full_stops way (Ok x) h = tt
+full_stops way (Err s) h = inl h
+
+pub ok_so : {T : Type 0} {o : Way} (p : Way) (u : List Seen) (r : Result T Stop) → p ≡ o → IfOk r (λ x. o ≡ Some u) → IfOk r (λ x. p ≡ Some u)
+ok_so p u (Ok x) e h = e ∙ h
+ok_so p u (Err s) e h = tt
+
+pub err_so : {T : Type 0} {o : Way} (p : Way) (r : Result T Stop) → p ≡ o → IfErr r (Ends o) → IfErr r (Ends p)
+err_so p (Ok x) e h = tt
+err_so {o = o} p (Err s) e h = ends_so o p s e h
+
+-- ---- choices whose reader is the last
+
+pub tail_seen : {T : Type 0} {b : Bool} (here other : Way) (u : List Seen) (r : Result T Stop) → b ≡ true
+    → IfOk r (λ x. here ≡ Some u) → IfOk r (λ x. where_seen b here other ≡ Some u)
+tail_seen {b = b} here other u r e h = ok_so (where_seen b here other) u r (where_is b here other e) h
+
+pub tail_unseen : {T : Type 0} {b : Bool} (here other : Way) (u : List Seen) (r : Result T Stop) → b ≡ false
+    → IfOk r (λ x. other ≡ Some u) → IfOk r (λ x. where_seen b here other ≡ Some u)
+tail_unseen {b = b} here other u r e h = ok_so (where_seen b here other) u r (where_is_not b here other e) h
+
+pub tail_halts_seen : {T : Type 0} {b : Bool} (here other : Way) (r : Result T Stop) → b ≡ true
+    → IfErr r (Ends here) → IfErr r (Ends (where_seen b here other))
+tail_halts_seen {b = b} here other r e h = err_so (where_seen b here other) r (where_is b here other e) h
+
+pub tail_halts_unseen : {T : Type 0} {b : Bool} (here other : Way) (r : Result T Stop) → b ≡ false
+    → IfErr r (Ends other) → IfErr r (Ends (where_seen b here other))
+tail_halts_unseen {b = b} here other r e h = err_so (where_seen b here other) r (where_is_not b here other e) h
+
+-- ---- signs and operators
+
+pub took : (b : Bool) (w : Way) (u : List Seen) → b ≡ true → only_if b w ≡ Some u → w ≡ Some u
+unfolding only_if
+took b w u e h = sym (ap (λ c. only_if c w) e) ∙ h
+
+pub first_case : (b : Bool) (o : Operator) (other : Option Operator) → b ≡ true → Some o ≡ if_seen b o other
+first_case b o other e = sym (ap (λ c. if_seen c o other) e)
+
+pub other_case : (b : Bool) (o : Operator) (other found : Option Operator) → b ≡ false → found ≡ other → found ≡ if_seen b o other
+other_case b o other found e h = h ∙ sym (ap (λ c. if_seen c o other) e)
+
+pub or_at : (shifts : Bool) (t : List Seen) → operator_at shifts 0 t ≡ if_seen (operator_seen Or t) Or None
+unfolding operator_at
+or_at true t = refl
+or_at false t = refl
+
+pub xor_at : (shifts : Bool) (t : List Seen) → operator_at shifts 1 t ≡ if_seen (operator_seen Xor t) Xor None
+unfolding operator_at
+xor_at true t = refl
+xor_at false t = refl
+
+pub and_at : (shifts : Bool) (t : List Seen) → operator_at shifts 2 t ≡ if_seen (operator_seen And t) And None
+unfolding operator_at
+and_at true t = refl
+and_at false t = refl
+
+pub shift_at : (shifts : Bool) (t : List Seen) → operator_at shifts 3 t
+    ≡ if_seen (operator_seen ShiftLeft t) ShiftLeft (if_seen (shifts && operator_seen ShiftRight t) ShiftRight None)
+unfolding operator_at
+shift_at true t = refl
+shift_at false t = refl
+
+pub sum_at : (shifts : Bool) (t : List Seen) → operator_at shifts 4 t
+    ≡ if_seen (operator_seen Add t) Add (if_seen (operator_seen Subtract t) Subtract None)
+unfolding operator_at
+sum_at true t = refl
+sum_at false t = refl
+
+pub product_at : (shifts : Bool) (t : List Seen) → operator_at shifts 5 t
+    ≡ if_seen (operator_seen Multiply t) Multiply (if_seen (operator_seen Divide t) Divide (if_seen (operator_seen Remainder t) Remainder None))
+unfolding operator_at
+product_at true t = refl
+product_at false t = refl
+
+pub and_on : (a b : Bool) → a ≡ true → (a && b) ≡ b
+and_on true b e = refl
+and_on false b e = absurd cc
+
+pub and_off : (a b : Bool) → a ≡ false → (a && b) ≡ false
+and_off true b e = absurd cc
+and_off false b e = refl
+
+-- ---- the operator that is found is one of its level
+
+of_test : (b : Bool) (p o : Operator) (other : Option Operator) (P : Operator → Type 0) → (b ≡ true → P p) → (other ≡ Some o → P o)
+    → if_seen b p other ≡ Some o → P o
+of_test true p o other P f g h = let same : p ≡ o = cc in subst P same (f refl)
+of_test false p o other P f g h = g h
+
+found_among : (shifts : Bool) (level : ℕ) (os : List Operator) (t : List Seen) (o : Operator) → first_seen shifts level os t ≡ Some o
+    → is_operator_of shifts level o ≡ true
+found_among shifts level [] t o h = absurd cc
+found_among shifts level (p ∷ os) t o h =
+    of_test _ p o _ (λ x. is_operator_of shifts level x ≡ true) (λ e. (and_parts (is_operator_of shifts level p) (operator_seen p t) e).0)
+    (λ e. found_among shifts level os t o e) h
+
+pub operator_found : (shifts : Bool) (level : ℕ) (t : List Seen) (o : Operator) → Some o ≡ operator_at shifts level t → is_operator_of shifts level o ≡ true
+unfolding operator_at
+operator_found shifts level t o h =
+    found_among shifts level (Or ∷ Xor ∷ And ∷ ShiftLeft ∷ ShiftRight ∷ Add ∷ Subtract ∷ Multiply ∷ Divide ∷ Remainder ∷ []) t o (sym h)
+
+pub operand_is : (tighter : List Seen → Way) (found : Option Operator) (o : Operator) (t : List Seen) → Some o ≡ found
+    → operand_way tighter found t ≡ and_then (operator_way o t) (λ u. tighter u)
+operand_is tighter found o t e = sym (ap (λ x. operand_way tighter x t) e)
+
+-- ---- expressions by their levels
+
+pub unary_level : (inner : List Seen → Way) (shifts : Bool) (level : ℕ) (t : List Seen) → 6 ≤ level → level_way inner shifts (6 - level) t ≡ unary_way inner t
+unfolding level_way
+unary_level inner shifts level t h = let none : 6 - level ≡ 0 = omega arith in ap (λ n. level_way inner shifts n t) none
+
+level_suc : (inner : List Seen → Way) (shifts : Bool) (n : ℕ) (t : List Seen) → level_way inner shifts (suc n) t
+    ≡ and_then (level_way inner shifts n t) (λ u. operands_way (λ v. level_way inner shifts n v) shifts (5 - n) u)
+unfolding level_way
+level_suc inner shifts n t = refl
+
+pub level_is : (inner : List Seen → Way) (shifts : Bool) (level : ℕ) (t : List Seen) → level < 6 → level_way inner shifts (6 - level) t
+    ≡ and_then (level_way inner shifts (5 - level) t) (λ u. operands_way (λ v. level_way inner shifts (5 - level) v) shifts level u)
+level_is inner shifts level t h =
+    let more : 6 - level ≡ suc (5 - level) = omega arith in
+    let back : 5 - (5 - level) ≡ level = omega arith in
+    ap (λ n. level_way inner shifts n t) more ∙ level_suc inner shifts (5 - level) t
+    ∙ ap (λ n. and_then (level_way inner shifts (5 - level) t) (λ u. operands_way (λ v. level_way inner shifts (5 - level) v) shifts n u)) back
+
+pub inside_none : (room : ℕ) (t : List Seen) → room ≡ 0 → inside_way room t ≡ None
+unfolding inside_way
+inside_none room t e = ap (λ n. inside_way n t) e
+
+pub inside_at : (left room : ℕ) (t : List Seen) → suc left ≡ room → inside_way room t ≡ level_way (λ u. inside_way left u) true 6 t
+unfolding inside_way
+inside_at left room t e = ap (λ n. inside_way n t) (sym e)
+
+-- ---- types by their levels
+
+pub simple_is : (room : ℕ) (t : List Seen) → simple_type_way room t ≡ where_seen (sees_word (codes "sequence") t) (sequence_way room t) (param_type_way room t)
+unfolding simple_type_way opened
+simple_is zero t = refl
+simple_is (suc left) t = refl

@@ -5,6 +5,9 @@ use Rattle.idl_tree.specs.Levels.{highest}
 use Rattle.idl_tree.specs.Levels.{operand_levels}
 use Rattle.idl_tree.specs.Grouping.{IsOperandOf}
 use Rattle.idl_tree.specs.Yields.{operand_yield}
+use Rattle.std.specs.Prelude.{is_some}
+use Rattle.tree_laws.specs.Descent.{inside_way, level_way, operand_way, operator_at}
+use Rattle.idl_parser.specs.inner.Following.{Going}
 use Rattle.idl_parser.proofs.read.expressions.+expressions.Given as goal
 
 abbrev pub decreases-read_level : goal.decreases-read_level
@@ -24,6 +27,8 @@ invariant-read_operands-parts l = record {
   spells : Continued l.initial.cursor (flat_map operand_yield l.rest.items) l.cursor;
   operands : AllByRecursion (IsOperandOf l.shifts l.level) l.rest.items;
   levels : highest operand_levels l.rest.items ≤ l.room;
+  way : Going (λ u. is_some (operator_at l.shifts l.level u)) (λ u. operand_way (level_way (inside_way l.room) l.shifts (5 - l.level)) (operator_at l.shifts l.level u) u)
+      l.initial.cursor l.cursor;
 }
 
 abbrev pub decreases-read_operands-parts : goal.decreases-read_operands-parts
