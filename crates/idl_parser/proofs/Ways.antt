@@ -1,6 +1,7 @@
 -- A reader that takes one step after another, and the way that does.
-use Rattle.std.proofs.Common.{◌≡◌, ◌∙◌, ℕ, zero, suc, ◌+◌, ◌-◌, ◌<◌, ◌≤◌, ◌⊎◌, inl, inr, Bool, true, false, ◌&&◌, nat_eq, List, [], ◌∷◌, Option, Some, None, codes, length, take, drop, get_or, sym, subst, ap, refl, arith}
+use Rattle.std.proofs.Common.{◌≡◌, ◌∙◌, ℕ, zero, suc, ◌+◌, ◌-◌, ◌<◌, ◌≤◌, ◌⊎◌, inl, inr, Bool, true, false, not, ◌&&◌, nat_eq, List, [], ◌∷◌, Option, Some, None, codes, length, take, drop, get_or, sym, subst, ap, refl, arith}
 use Rattle.std.specs.Prelude.{Result, Ok, Err, IfOk, IfErr, IfNone, IfSome}
+use Rattle.std.specs.Bool.{OnTrue, OnFalse}
 use Rattle.std.specs.Str.{bytes_eq}
 use Rattle.std.proofs.Math.Seq.{take-length}
 use Rattle.std.proofs.lemmas.Bool.{and_parts}
@@ -14,12 +15,12 @@ use Rattle.tree_laws.proofs.Fronts.{same_kind}
 use Rattle.idl_tree.specs.declared.expression.Operator.{Operator}
 use Rattle.idl_tree.specs.declared.expression.Operator.TheVariants.{Or, Xor, And, ShiftLeft, ShiftRight, Add, Subtract, Multiply, Divide, Remainder}
 use Rattle.idl_tree.specs.Grouping.{is_operator_of}
-use Rattle.tree_laws.specs.Descent.{Way, sees, sees_kind, sees_touching, sees_shift, sees_word, behind_next, only_if, and_then, where_seen, opened, repeated, if_seen, first_seen, operator_seen, operator_at, operator_way, operand_way, operands_way, level_way, unary_way, inside_way, simple_type_way, param_type_way}
-use Rattle.tree_laws.specs.DefinitionDescent.{is_ahead}
+use Rattle.tree_laws.specs.Descent.{Way, sees, sees_kind, sees_touching, sees_shift, sees_word, behind_next, only_if, and_then, where_seen, opened, repeated, if_seen, first_seen, operator_seen, operator_at, operator_way, operand_way, operands_way, level_way, unary_way, inside_way, simple_type_way, param_type_way, enum_way, listed_way, identifier_way, mark_taken, named_way, type_way, struct_way, union_way, sees_mark, rest_way, braced_way, no_brace}
+use Rattle.tree_laws.specs.DefinitionDescent.{is_ahead, is_over, attributes_way, definition_way, definitions_way, single_way}
 use Rattle.idl_parser.specs.declared.stop.Stop.{Stop}
 use Rattle.idl_parser.specs.declared.stop.Stop.TheVariants.{NoMemory}
 use Rattle.idl_parser.specs.inner.Reading.{Parsed}
-use Rattle.idl_parser.specs.inner.Following.{Ends, Going, sequence_way}
+use Rattle.idl_parser.specs.inner.Following.{Ends, Going, Began, Bracing, IsNoSpec, sequence_way, raising_way, module_way}
 use Rattle.idl_parser.proofs.Reading.{touching_read}
 
 -- ---- steps
@@ -477,3 +478,127 @@ pub simple_is : (room : ℕ) (t : List Seen) → simple_type_way room t ≡ wher
 unfolding simple_type_way opened
 simple_is zero t = refl
 simple_is (suc left) t = refl
+
+-- ---- a level that begins behind a word and a name
+
+pub two_on : {v : Way} (o : Way) (step more : List Seen → Way) (t : List Seen) → and_then o step ≡ Some t → more t ≡ v
+    → and_then o (λ u. and_then (step u) more) ≡ v
+unfolding and_then
+two_on None step more t e h = absurd cc
+two_on (Some u) step more t e h = goes_past (step u) more t e ∙ h
+
+pub two_past : {e : Stop} (o : Way) (step more : List Seen → Way) (t : List Seen) → and_then o step ≡ Some t → Ends (more t) e
+    → Ends (and_then o (λ u. and_then (step u) more)) e
+unfolding and_then
+two_past None step more t same h = absurd cc
+two_past {e = e} (Some u) step more t same h = ends_past (step u) more t e same h
+
+pub two_halts : (e : Stop) (o : Way) (step more : List Seen → Way) → Ends (and_then o step) e
+    → Ends (and_then o (λ u. and_then (step u) more)) e
+unfolding and_then
+two_halts e None step more h = inr refl
+two_halts e (Some u) step more h = ends_at (step u) more e h
+
+-- a level whose beginning isn't there, or that is one too many
+pub level_halts : {e : Stop} (room : ℕ) (o : Way) (step : List Seen → Way) (more : ℕ → List Seen → Way)
+    → Ends (and_then o (λ u. opened room (λ l. step u))) e → Ends (opened room (λ left. and_then o (λ u. and_then (step u) (more left)))) e
+unfolding opened
+level_halts {e = e} zero o step more h = inr refl
+level_halts {e = e} (suc left) o step more h = two_halts e o step (more left) h
+
+pub inside_stops : {e : Stop} (left room : ℕ) (inside : ℕ → Way) → suc left ≡ room → Ends (opened room inside) e → Ends (inside left) e
+inside_stops {e = e} left room inside same h = ends_so (opened room inside) (inside left) e (sym (open_at left room inside same)) h
+
+pub open_all : {v : List Seen} (room : ℕ) (other inside : ℕ → Way) → opened room other ≡ Some v
+    → ((left : ℕ) → suc left ≡ room → other left ≡ Some v → inside left ≡ Some v) → opened room inside ≡ Some v
+unfolding opened
+open_all zero other inside h f = absurd cc
+open_all (suc left) other inside h f = f left refl h
+
+-- ---- parts between braces
+
+pub part_braced : (part : List Seen → Way) (start now next : List Seen) → Bracing part start now → part now ≡ Some next
+    → length next < length now → Began part start next
+part_braced part start now next (inl same) is less =
+    record { first = next; is = ap part (sym same) ∙ is; going = going_begins no_brace part next }
+part_braced part start now next (inr began) is less =
+    record { first = began.0.first; is = began.0.is; going = going_on no_brace part began.0.first now next began.0.going began.1 is less }
+
+not_brace : (b : Bool) → b ≡ false → not b ≡ true
+not_brace b e = ap not e
+
+is_brace : (b : Bool) → b ≡ true → not b ≡ false
+is_brace b e = ap not e
+
+pub brace_off : (t : List Seen) → sees_mark (codes "}") t ≡ false → no_brace t ≡ true
+brace_off t e = not_brace (sees_mark (codes "}") t) e
+
+pub brace_on : (t : List Seen) → sees_mark (codes "}") t ≡ true → no_brace t ≡ false
+brace_on t e = is_brace (sees_mark (codes "}") t) e
+
+pub stays_braced : (part : List Seen → Way) (start now : List Seen) → Began part start now → sees_mark (codes "}") now ≡ false → Bracing part start now
+stays_braced part start now began e = inr (began, brace_off now e)
+
+pub closes_braced : (part : List Seen → Way) (start now next : List Seen) → Began part start now → sees_mark (codes "}") now ≡ true
+    → mark_taken (codes "}") now ≡ Some next → braced_way part start ≡ Some next
+closes_braced part start now next began e is =
+    on _ began.is (on _ (going_ends no_brace part began.first now began.going (brace_on now e)) is)
+
+pub stops_braced : (part : List Seen → Way) (start now : List Seen) (e : Stop) → Bracing part start now → Ends (part now) e → Ends (braced_way part start) e
+stops_braced part start now e (inl same) h = halts _ (ends_so (part now) (part start) e (ap part (sym same)) h)
+stops_braced part start now e (inr began) h =
+    past _ began.0.is (halts _ (going_stops no_brace part began.0.first now e began.0.going began.1 h))
+
+-- ---- types, attributes and definitions by what they begin with
+
+and_none : (o : Way) → and_then o (λ u. None) ≡ None
+unfolding and_then
+and_none None = refl
+and_none (Some u) = refl
+
+no_enum : (t : List Seen) → enum_way 0 t ≡ None
+unfolding opened and_then
+no_enum t = ap (λ w. and_then w (λ u. and_then (listed_way (λ v. identifier_way v) u) (λ v. mark_taken (codes "}") v))) (and_none (named_way (codes "enum") t))
+
+pub type_is : (room : ℕ) (t : List Seen) → type_way room t
+    ≡ where_seen (sees_word (codes "struct") t) (opened room (λ left. struct_way (λ u. type_way left u) left t))
+      (where_seen (sees_word (codes "union") t) (opened room (λ left. union_way (λ u. type_way left u) left t))
+      (where_seen (sees_word (codes "enum") t) (enum_way room t) (simple_type_way room t)))
+unfolding type_way opened
+type_is zero t =
+    ap (λ w. where_seen (sees_word (codes "struct") t) None (where_seen (sees_word (codes "union") t) None
+      (where_seen (sees_word (codes "enum") t) w (simple_type_way 0 t)))) (sym (no_enum t))
+type_is (suc left) t = refl
+
+pub attributes_are : (b : Bool) (t : List Seen) → attributes_way b t
+    ≡ and_then (identifier_way t) (λ u. where_seen (sees_mark (codes ",") u) (rest_way (λ v. identifier_way v) u) (raising_way b u))
+unfolding attributes_way
+attributes_are true t = refl
+attributes_are false t = refl
+
+pub definition_is : (room : ℕ) (t : List Seen) → definition_way room t
+    ≡ where_seen (sees_word (codes "module") t) (opened room (λ left. module_way left t)) (single_way room t)
+unfolding definition_way opened
+definition_is zero t = refl
+definition_is (suc left) t = refl
+
+-- ---- a word that may be there
+
+pub maybe_word : (b : Bool) (taken : Way) (old new : List Seen) (r : Bool)
+    → OnFalse r (b ≡ false) → OnFalse r (new ≡ old) → OnTrue r (b ≡ true) → OnTrue r (taken ≡ Some new)
+    → where_seen b taken (Some old) ≡ Some new
+maybe_word b taken old new false f same t way = unseen taken f (ap Some (sym same))
+maybe_word b taken old new true f same t way = seen (Some old) t way
+
+pub word_is : (b r : Bool) → OnFalse r (b ≡ false) → OnTrue r (b ≡ true) → r ≡ b
+word_is b false f t = sym f
+word_is b true f t = sym t
+
+-- ---- the end
+
+pub no_spec : (room : ℕ) (t u : List Seen) → definitions_way room t ≡ Some u → is_over u ≡ false → IsNoSpec room t
+no_spec room t [] e h whole = absurd cc
+no_spec room t (u ∷ us) e h whole = absurd cc
+
+pub no_spec_so : (room : ℕ) (t : List Seen) → definitions_way room t ≡ None → IsNoSpec room t
+no_spec_so room t e whole = absurd cc

@@ -9,7 +9,7 @@ ghost use Rattle.std.specs.Str.{bytes_eq};
 ghost use Rattle.idl_lexer.specs.declared.token.Kind.TheVariants.{Keyword, Punct};
 ghost use Rattle.idl_tree.specs.declared.expression.Operator.TheVariants.{ShiftRight};
 ghost use Rattle.tree_laws.specs.Descent.{sees, sees_kind, sees_touching, sees_shift, taken, taken_kind, taken_touching, identifier_way, operator_way, opened};
-ghost use Rattle.tree_laws.specs.DefinitionDescent.{is_ahead};
+ghost use Rattle.tree_laws.specs.DefinitionDescent.{is_ahead, is_over};
 ghost use Rattle.idl_parser.specs.inner.Following.{Ends};
 ghost use Rattle.idl_parser.specs.inner.Reading.{Parsed};
 ghost use Rattle.idl_tree.specs.Pieces.{piece, keyword, kept, kind_code, mark, touching, leaf as leaf_yield, seen_from};
@@ -83,7 +83,8 @@ impl<'a> Cursor<'a> {
     }
 
     pub(crate) fn is_at_end(&self) -> bool
-        ensures { OnTrue result (self.now ≡ []) }
+        ensures over { result ≡ is_over self.now }
+        ensures end { OnTrue result (self.now ≡ []) }
     {
         self.rest.is_empty()
     }

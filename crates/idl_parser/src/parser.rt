@@ -1,9 +1,13 @@
 //! The tree of a whole specification.
 #![tactic(auto, using(crate::proofs::Reading::past_append, crate::proofs::Reading::past_none))]
 
-ghost use Rattle.std.specs.Prelude.{◌≡◌, ◌++◌, ◌≤◌, IfOk};
+ghost use Rattle.std.specs.Prelude.{◌≡◌, ◌++◌, ◌≤◌, ◌⊎◌, List, IfErr, IfOk};
+ghost use Rattle.idl_parser.specs.declared.fault.ParseFault.TheVariants.{NoMemory};
+ghost use Rattle.idl_parser.specs.declared.stop.Stop.TheVariants.{NoMemory as StopNoMemory};
+ghost use Rattle.idl_tree.specs.declared.definitions.Definition.{Definition};
 ghost use Rattle.idl_tree.specs.Pieces.{Spell, seen_from};
 ghost use Rattle.idl_parser.specs.inner.Reading.{Whole};
+ghost use Rattle.idl_parser.specs.inner.Following.{IsNoSpec};
 ghost use Rattle.idl_tree.specs.DefinitionYields.{definitions_spelled};
 ghost use Rattle.idl_tree.specs.DefinitionLevels.{levels_of};
 
@@ -20,7 +24,9 @@ use std::alloc::Global;
 const MAX_LEVELS: usize = 64;
 
 /// What a reader's stop means at the place where it stopped.
-fn told(cursor: &Cursor<'_>, stop: Stop) -> ParseFault {
+fn told(cursor: &Cursor<'_>, stop: Stop) -> ParseFault
+    ensures { stop ≡ StopNoMemory → result ≡ NoMemory }
+{
     match stop {
         Stop::Unexpected => cursor.fault(),
         Stop::TooDeep { line } => ParseFault::TooDeep { line },
@@ -30,7 +36,8 @@ fn told(cursor: &Cursor<'_>, stop: Stop) -> ParseFault {
 
 /// Reads definitions to the end.
 fn read_all<'a>(cursor: &mut Cursor<'a>) -> Result<Vec<Definition<'a>>, Stop>
-    ensures { IfOk result (λ d. Whole cursor.old d.items) }
+    ensures whole { IfOk result (λ d. Whole cursor.old d.items) }
+    ensures refused { IfErr result (λ stop. (stop ≡ StopNoMemory) ⊎ IsNoSpec 64 cursor.old) }
 {
     let definitions = got!(read_definitions(cursor, MAX_LEVELS));
     if !cursor.is_at_end() {
@@ -51,6 +58,8 @@ pub fn parse<'a>(alloc: Global, tokens: &'a [Token<'a>]) -> Result<Spec<'a>, Par
     ensures tokens { IfOk result (λ spec. spec.tokens.now ≡ tokens.now) }
     ensures spells { IfOk result (λ spec. Spell (definitions_spelled spec.definitions.items) tokens.now) }
     ensures levels { IfOk result (λ spec. levels_of spec.definitions.items ≤ 64) }
+    ensures refused { IfErr result (λ fault. (fault ≡ NoMemory) ⊎ ((definitions : List Definition)
+        → Spell (definitions_spelled definitions) tokens.now → levels_of definitions ≤ 64 → ⊥)) }
 {
     let mut cursor = Cursor::new(alloc, tokens);
     let definitions = match read_all(&mut cursor) {

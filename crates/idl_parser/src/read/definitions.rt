@@ -4,7 +4,7 @@
 ghost use Rattle.std.specs.Prelude.{◌≡◌, ◌++◌, ◌≤◌, ◌∷◌, [], suc, max, Ok, IfErr, IfOk, List, codes, Some};
 ghost use Rattle.std.specs.List.{flat_map};
 ghost use Rattle.tree_laws.specs.Descent.{taken_kind};
-ghost use Rattle.tree_laws.specs.DefinitionDescent.{declaration_way, definition_way, definitions_way, ended_way, interface_way, single_way};
+ghost use Rattle.tree_laws.specs.DefinitionDescent.{declaration_way, definition_way, definitions_way, ended_way, goes_on, interface_way, single_way};
 ghost use Rattle.idl_parser.specs.inner.Following.{Ends};
 ghost use Rattle.idl_parser.specs.declared.stop.Stop.TheVariants.{NoMemory};
 ghost use Rattle.idl_lexer.specs.declared.token.Kind.TheVariants.{Pragma};
@@ -171,6 +171,13 @@ fn read_definition<'a>(
     cursor.mark(";")
 }
 
+/// Whether something stands before a closing brace and the end.
+fn goes_on(cursor: &Cursor<'_>) -> bool
+    ensures { result ≡ goes_on cursor.now }
+{
+    !cursor.is_at_end() && !cursor.is_mark("}")
+}
+
 /// Reads definitions up to a closing brace or the end.
 #[cycle(definitions)]
 pub(crate) fn read_definitions<'a>(
@@ -183,7 +190,7 @@ pub(crate) fn read_definitions<'a>(
     ensures stops { IfErr result (Ends (definitions_way room cursor.old)) }
 {
     let mut definitions = Vec::new(cursor.alloc());
-    'parts: while !cursor.is_at_end() && !cursor.is_mark("}") {
+    'parts: while goes_on(cursor) {
         got!(read_definition(cursor, room, &mut definitions));
     }
     definitions.shrink_to_fit();

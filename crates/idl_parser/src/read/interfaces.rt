@@ -1,7 +1,7 @@
 //! Interfaces, their operations and attributes.
 #![tactic(auto, using(crate::proofs::Reading::past_append, crate::proofs::Reading::past_none))]
 
-ghost use Rattle.std.specs.Prelude.{◌≡◌, ◌++◌, ◌≤◌, ◌∷◌, [], ℕ, Bool, true, false, max, IfErr, IfOk, List, codes, Some};
+ghost use Rattle.std.specs.Prelude.{◌≡◌, ◌++◌, ◌||◌, ◌≤◌, ◌∷◌, [], ℕ, Bool, true, false, max, IfErr, IfOk, List, codes, Some};
 ghost use Rattle.std.specs.List.{flat_map};
 ghost use Rattle.tree_laws.specs.Descent.{sees_word};
 ghost use Rattle.tree_laws.specs.DefinitionDescent.{attribute_way, attributes_way, bases_way, declaration_way, direction_way, ended_way, export_way, exports_way, oneway_way, operation_way, params_way, raises_way, readonly_way, result_way};
@@ -282,6 +282,13 @@ fn read_operation_dcl<'a>(
     cursor.mark(";")
 }
 
+/// Whether an attribute is next.
+fn is_attribute(cursor: &Cursor<'_>) -> bool
+    ensures { result ≡ (sees_word (codes "readonly") cursor.now || sees_word (codes "attribute") cursor.now) }
+{
+    cursor.is_keyword("readonly") || cursor.is_keyword("attribute")
+}
+
 /// Reads what stands in an interface, and adds it.
 fn read_export<'a>(
     cursor: &mut Cursor<'a>,
@@ -300,7 +307,7 @@ fn read_export<'a>(
     if is_declaration(cursor) {
         return read_declared(cursor, room, exports);
     }
-    if cursor.is_keyword("readonly") || cursor.is_keyword("attribute") {
+    if is_attribute(cursor) {
         return read_attribute_dcl(cursor, room, exports);
     }
     read_operation_dcl(cursor, room, exports)

@@ -4,6 +4,8 @@ use Rattle.idl_parser.specs.inner.Reading.{Continued}
 use Rattle.idl_tree.specs.Levels.{highest}
 use Rattle.idl_tree.specs.TypeYields.{member_yield, case_yield}
 use Rattle.idl_tree.specs.TypeLevels.{member_levels, case_levels}
+use Rattle.tree_laws.specs.Descent.{case_way, member_way, type_way}
+use Rattle.idl_parser.specs.inner.Following.{Bracing}
 use Rattle.idl_parser.proofs.read.constructed.+constructed.Given as goal
 
 abbrev pub decreases-read_members : goal.decreases-read_members
@@ -34,6 +36,7 @@ abbrev pub invariant-read_members-parts : goal.invariant-read_members-parts
 invariant-read_members-parts l = record {
   spells : Continued l.fn.cursor (flat_map member_yield l.members.items) l.cursor;
   levels : highest member_levels l.members.items ≤ l.room;
+  way : Bracing (member_way (type_way l.room) l.room) l.fn.cursor l.cursor;
 }
 
 abbrev pub decreases-read_members-parts : goal.decreases-read_members-parts
@@ -43,6 +46,7 @@ abbrev pub invariant-read_cases-parts : goal.invariant-read_cases-parts
 invariant-read_cases-parts l = record {
   spells : Continued l.fn.cursor (flat_map case_yield l.cases.items) l.cursor;
   levels : highest case_levels l.cases.items ≤ l.room;
+  way : Bracing (case_way (type_way l.room) l.room) l.fn.cursor l.cursor;
 }
 
 abbrev pub decreases-read_cases-parts : goal.decreases-read_cases-parts

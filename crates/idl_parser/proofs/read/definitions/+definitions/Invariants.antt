@@ -4,6 +4,8 @@ use Rattle.idl_parser.specs.inner.Reading.{Continued}
 use Rattle.idl_tree.specs.Levels.{highest}
 use Rattle.idl_tree.specs.DefinitionYields.{definition_yield}
 use Rattle.idl_tree.specs.DefinitionLevels.{definition_levels}
+use Rattle.tree_laws.specs.DefinitionDescent.{goes_on, definition_way}
+use Rattle.idl_parser.specs.inner.Following.{Going}
 use Rattle.idl_parser.proofs.read.definitions.+definitions.Given as goal
 
 abbrev pub decreases-read_definitions : goal.decreases-read_definitions
@@ -16,6 +18,7 @@ abbrev pub invariant-read_definitions-parts : goal.invariant-read_definitions-pa
 invariant-read_definitions-parts l = record {
   spells : Continued l.initial.cursor (flat_map definition_yield l.definitions.items) l.cursor;
   levels : highest definition_levels l.definitions.items ≤ l.room;
+  way : Going goes_on (definition_way l.room) l.initial.cursor l.cursor;
 }
 
 abbrev pub decreases-read_definitions-parts : goal.decreases-read_definitions-parts

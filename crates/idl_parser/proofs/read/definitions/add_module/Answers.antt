@@ -16,6 +16,6 @@ module_added : {V E : Type 0} (name : Leaf) (inside before after : List Definiti
 module_added name inside before after d (Ok v) spelled most is = record { whole = d; is = is; spells = spelled; levels = most }
 module_added name inside before after d (Err e) spelled most is = tt
 
-pub returns : goal.returns
-returns c =
+pub returns-clause-spells : goal.returns-clause-spells
+returns-clause-spells c =
     module_added _ _ _ _ _ c.add_definition.result (module_yields c.args.name c.args.inside) (module_nests c.args.name c.args.inside) c.add_definition.ensures.spells
