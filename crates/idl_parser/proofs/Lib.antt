@@ -4,3 +4,4 @@ pub mod Parts
 pub mod Operands
 pub mod Pairs
 pub mod Adding
+pub mod Refusing

@@ -1,5 +1,5 @@
 -- A reader that takes one step after another, and the way that does.
-use Rattle.std.proofs.Common.{◌≡◌, ◌∙◌, ℕ, zero, suc, ◌+◌, ◌-◌, ◌<◌, ◌≤◌, ◌⊎◌, inl, inr, Bool, true, false, not, ◌&&◌, nat_eq, List, [], ◌∷◌, Option, Some, None, codes, length, take, drop, get_or, sym, subst, ap, refl, arith}
+use Rattle.std.proofs.Common.{◌≡◌, ◌∙◌, ℕ, zero, suc, ◌+◌, ◌-◌, ◌<◌, ◌≤◌, ◌⊎◌, inl, inr, Bool, true, false, not, ◌&&◌, ◌==◌, nat_eq, List, [], ◌∷◌, Option, Some, None, codes, length, take, drop, get_or, sym, subst, ap, refl, arith}
 use Rattle.std.specs.Prelude.{Result, Ok, Err, IfOk, IfErr, IfNone, IfSome}
 use Rattle.std.specs.Bool.{OnTrue, OnFalse}
 use Rattle.std.specs.Str.{bytes_eq}
@@ -562,12 +562,12 @@ no_enum t = ap (λ w. and_then w (λ u. and_then (listed_way (λ v. identifier_w
 
 pub type_is : (room : ℕ) (t : List Seen) → type_way room t
     ≡ where_seen (sees_word (codes "struct") t) (opened room (λ left. struct_way (λ u. type_way left u) left t))
-      (where_seen (sees_word (codes "union") t) (opened room (λ left. union_way (λ u. type_way left u) left t))
-      (where_seen (sees_word (codes "enum") t) (enum_way room t) (simple_type_way room t)))
+    (where_seen (sees_word (codes "union") t) (opened room (λ left. union_way (λ u. type_way left u) left t))
+    (where_seen (sees_word (codes "enum") t) (enum_way room t) (simple_type_way room t)))
 unfolding type_way opened
 type_is zero t =
     ap (λ w. where_seen (sees_word (codes "struct") t) None (where_seen (sees_word (codes "union") t) None
-      (where_seen (sees_word (codes "enum") t) w (simple_type_way 0 t)))) (sym (no_enum t))
+    (where_seen (sees_word (codes "enum") t) w (simple_type_way 0 t)))) (sym (no_enum t))
 type_is (suc left) t = refl
 
 pub attributes_are : (b : Bool) (t : List Seen) → attributes_way b t
@@ -602,3 +602,30 @@ no_spec room t (u ∷ us) e h whole = absurd cc
 
 pub no_spec_so : (room : ℕ) (t : List Seen) → definitions_way room t ≡ None → IsNoSpec room t
 no_spec_so room t e whole = absurd cc
+
+none_of : (b : Bool) → (b ≡ true → ⊥) → false ≡ b
+none_of true h = absurd (h refl)
+none_of false h = refl
+
+pub over_is : (n : ℕ) (xs : List Token) → is_over (seen_from n xs) ≡ (length xs == 0)
+over_is n [] = refl
+over_is n (x ∷ xs) =
+    none_of (length (x ∷ xs) == 0) (λ h. let none : length (x ∷ xs) ≡ 0 = (Decides-eqb (length (x ∷ xs)) 0).0 h in absurd (omega (arith, none)))
+
+-- ---- what an attribute raises behind its identifier
+
+tail_raises : (b value : Bool) (t mid : List Seen) → b ≡ value → identifier_way t ≡ Some mid → sees_mark (codes ",") mid ≡ false
+    → attributes_way b t ≡ raising_way value mid
+tail_raises b value t mid e way other =
+    attributes_are b t
+    ∙ goes_past (identifier_way t) (λ u. where_seen (sees_mark (codes ",") u) (rest_way (λ v. identifier_way v) u) (raising_way b u)) mid way
+    ∙ where_is_not (sees_mark (codes ",") mid) (rest_way (λ v. identifier_way v) mid) (raising_way b mid) other
+    ∙ ap (λ x. raising_way x mid) e
+
+pub tail_raising : {T : Type 0} (b value : Bool) (t mid u : List Seen) (r : Result T Stop) → b ≡ value → identifier_way t ≡ Some mid
+    → sees_mark (codes ",") mid ≡ false → IfOk r (λ x. raising_way value mid ≡ Some u) → IfOk r (λ x. attributes_way b t ≡ Some u)
+tail_raising b value t mid u r e way other h = ok_so (attributes_way b t) u r (tail_raises b value t mid e way other) h
+
+pub tail_raising_stops : {T : Type 0} (b value : Bool) (t mid : List Seen) (r : Result T Stop) → b ≡ value → identifier_way t ≡ Some mid
+    → sees_mark (codes ",") mid ≡ false → IfErr r (Ends (raising_way value mid)) → IfErr r (Ends (attributes_way b t))
+tail_raising_stops b value t mid r e way other h = err_so (attributes_way b t) r (tail_raises b value t mid e way other) h

@@ -23,9 +23,9 @@ read_operands-parts-preserved t c =
       operands = all_more (IsOperandOf c.args.shifts c.args.level) _ _ _ c.parts.invariant.operands (operator_found _ _ _ _ c.in-Some.ensures, tighter) c.in-Ok-add.ensures.spells;
       levels = one_more_level operand_levels _ _ _ _ c.parts.invariant.levels c.in-Ok-read_level.ensures.levels c.in-Ok-add.ensures.spells;
       way = going_on _ _ _ _ _ c.parts.invariant.way (sym (ap is_some c.in-Some.ensures))
-        (operand_is (level_way (inside_way c.args.room) c.args.shifts (5 - c.args.level)) _ _ c.parts.cursor c.in-Some.ensures
-        ∙ on _ c.in-Ok.ensures.way (rw less at c.in-Ok-read_level.ensures.way))
-        (then_read _ _ _ _ _ c.in-Ok.ensures.spells c.in-Ok-read_level.ensures.spells).on;
+          (operand_is (level_way (inside_way c.args.room) c.args.shifts (5 - c.args.level)) _ _ c.parts.cursor c.in-Some.ensures
+          ∙ on _ c.in-Ok.ensures.way (rw less at c.in-Ok-read_level.ensures.way))
+          (then_read _ _ _ _ _ c.in-Ok.ensures.spells c.in-Ok-read_level.ensures.spells).on;
     }
 
 pub read_unary-returns-clause-groups : goal.read_unary-returns-clause-groups

@@ -1,7 +1,7 @@
 use Rattle.idl_parser.proofs.Parts.{part_then_more}
 use Rattle.idl_parser.specs.inner.Following.{raising_way}
 use Rattle.std.proofs.Common.{◌∙◌, sym, ap}
-use Rattle.idl_parser.proofs.Ways.{on, halts, past, seen, halts_seen, tail_way, tail_stops, ok_so, err_so, tail_unseen, tail_halts_unseen, ends_so, attributes_are}
+use Rattle.idl_parser.proofs.Ways.{on, halts, past, seen, halts_seen, tail_way, tail_stops, ok_so, err_so, tail_unseen, tail_halts_unseen, ends_so, attributes_are, tail_raising, tail_raising_stops}
 use Rattle.idl_parser.proofs.read.interfaces.read_attributes.Goals as goal
 
 pub returns-then-is_mark-clause-spells : goal.returns-then-is_mark-clause-spells
@@ -17,13 +17,13 @@ pub returns-then-is_mark-clause-way : goal.returns-then-is_mark-clause-way
 returns-then-is_mark-clause-way c = attributes_are c.args.is_readonly c.args.cursor.now ∙ on _ c.in-Ok.ensures.way (seen _ (sym c.is_mark.ensures ∙ c.if-is_mark.true) (c.in-Ok-read_rest.ensures.way))
 
 pub returns-then-is_readonly-clause-way : goal.returns-then-is_readonly-clause-way
-returns-then-is_readonly-clause-way c = ok_so _ _ c.read_readonly.result (attributes_are c.args.is_readonly c.args.cursor.now) (tail_way _ _ _ _ c.read_readonly.result c.in-Ok.ensures.way (tail_unseen _ _ _ c.read_readonly.result (sym c.is_mark.ensures ∙ c.if-is_mark.false) (ok_so _ _ c.read_readonly.result (ap (λ b. raising_way b _) c.if-is_readonly.true) c.read_readonly.ensures.way)))
+returns-then-is_readonly-clause-way c = tail_raising _ _ _ _ _ c.read_readonly.result c.if-is_readonly.true c.in-Ok.ensures.way (sym c.is_mark.ensures ∙ c.if-is_mark.false) c.read_readonly.ensures.way
 
 pub returns-then-is_readonly-clause-stops : goal.returns-then-is_readonly-clause-stops
-returns-then-is_readonly-clause-stops c = err_so _ c.read_readonly.result (attributes_are c.args.is_readonly c.args.cursor.now) (tail_stops _ _ _ c.read_readonly.result c.in-Ok.ensures.way (tail_halts_unseen _ _ c.read_readonly.result (sym c.is_mark.ensures ∙ c.if-is_mark.false) (err_so _ c.read_readonly.result (ap (λ b. raising_way b _) c.if-is_readonly.true) c.read_readonly.ensures.stops)))
+returns-then-is_readonly-clause-stops c = tail_raising_stops _ _ _ _ c.read_readonly.result c.if-is_readonly.true c.in-Ok.ensures.way (sym c.is_mark.ensures ∙ c.if-is_mark.false) c.read_readonly.ensures.stops
 
 pub returns-clause-way : goal.returns-clause-way
-returns-clause-way c = ok_so _ _ c.read_settable.result (attributes_are c.args.is_readonly c.args.cursor.now) (tail_way _ _ _ _ c.read_settable.result c.in-Ok.ensures.way (tail_unseen _ _ _ c.read_settable.result (sym c.is_mark.ensures ∙ c.if-is_mark.false) (ok_so _ _ c.read_settable.result (ap (λ b. raising_way b _) c.if-is_readonly.false) c.read_settable.ensures.way)))
+returns-clause-way c = tail_raising _ _ _ _ _ c.read_settable.result c.if-is_readonly.false c.in-Ok.ensures.way (sym c.is_mark.ensures ∙ c.if-is_mark.false) c.read_settable.ensures.way
 
 pub returns-clause-stops : goal.returns-clause-stops
-returns-clause-stops c = err_so _ c.read_settable.result (attributes_are c.args.is_readonly c.args.cursor.now) (tail_stops _ _ _ c.read_settable.result c.in-Ok.ensures.way (tail_halts_unseen _ _ c.read_settable.result (sym c.is_mark.ensures ∙ c.if-is_mark.false) (err_so _ c.read_settable.result (ap (λ b. raising_way b _) c.if-is_readonly.false) c.read_settable.ensures.stops)))
+returns-clause-stops c = tail_raising_stops _ _ _ _ c.read_settable.result c.if-is_readonly.false c.in-Ok.ensures.way (sym c.is_mark.ensures ∙ c.if-is_mark.false) c.read_settable.ensures.stops

@@ -7,8 +7,8 @@ use Rattle.tree_laws.specs.DefinitionDescent.{export_way}
 use Rattle.idl_parser.proofs.Ways.{seen, halts_seen, okay, full_stops, tail_seen, tail_unseen, tail_halts_seen, tail_halts_unseen}
 use Rattle.idl_parser.proofs.read.interfaces.read_export.Goals as goal
 
-pub returns-in-Some-Pragma-clause-spells : goal.returns-in-Some-Pragma-clause-spells
-returns-in-Some-Pragma-clause-spells c =
+pub returns-then-is_kind-clause-spells : goal.returns-then-is_kind-clause-spells
+returns-then-is_kind-clause-spells c =
     added export_yield export_levels c.args.room _ _ _ _ (Exports.Pragma c.in-Ok.part) c.add_export.result c.in-Ok.ensures.read (omega arith) c.add_export.ensures.spells
 
 pub returns-in-Err-clause-stops : goal.returns-in-Err-clause-stops
