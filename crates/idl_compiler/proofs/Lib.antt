@@ -1,2 +1,3 @@
 pub mod FileFacts
 pub mod TableFacts
+pub mod Texts

@@ -1,7 +1,7 @@
 -- What compiling an IDL file means, from its text to its table: each step is the definition of its own crate.
 use Rattle.std.specs.Prelude.{ℕ, ◌≤◌, List, Result}
 use Rattle.idl_lexer.specs.declared.token.Token.{Token}
-use Rattle.idl_lexer.specs.Tokens.{Lexed}
+use Rattle.idl_lexer.specs.Tokens.{HaveLines, Lexed}
 use Rattle.idl_tree.specs.declared.definitions.Definition.{Definition}
 use Rattle.idl_tree.specs.Pieces.{Spell}
 use Rattle.idl_tree.specs.DefinitionYields.{definitions_spelled}
@@ -19,6 +19,7 @@ use Rattle.model_builder.specs.Shown.{AreParts, Shows}
 pub record IsTextOf (source : List ℕ) (definitions : List Definition) : Type 0 where
   pub tokens : List Token
   pub lexed : Lexed source tokens
+  pub lines : HaveLines source tokens
   pub spelled : Spell (definitions_spelled definitions) tokens
   pub levels : levels_of definitions ≤ 64
 

@@ -1,14 +1,17 @@
 -- Why a text isn't compiled: the first step that finds a fault tells it, tokens before grammar, grammar before names,
 -- names before types.
-use Rattle.std.specs.Prelude.{◌≡◌, ℕ, List, Err}
+use Rattle.std.specs.Prelude.{◌≡◌, ◌≤◌, ℕ, List, Err}
 use Rattle.idl_lexer.specs.declared.fault.LexFault.{LexFault}
 use Rattle.idl_lexer.specs.declared.fault.LexFault.TheVariants as Lexing
 use Rattle.idl_lexer.specs.declared.token.Token.{Token}
-use Rattle.idl_lexer.specs.Tokens.{Lexed}
+use Rattle.idl_lexer.specs.Tokens.{HaveLines, Lexed}
 use Rattle.idl_lexer.specs.Faults.{IsFault as IsLexFault}
 use Rattle.idl_parser.specs.declared.fault.ParseFault.{ParseFault}
 use Rattle.idl_parser.specs.declared.fault.ParseFault.TheVariants as Parsing
 use Rattle.idl_tree.specs.declared.definitions.Definition.{Definition}
+use Rattle.idl_tree.specs.Pieces.{Spell}
+use Rattle.idl_tree.specs.DefinitionYields.{definitions_spelled}
+use Rattle.idl_tree.specs.DefinitionLevels.{levels_of}
 use Rattle.scoped_names.specs.declared.fault.NameFault.{NameFault}
 use Rattle.scoped_names.specs.declared.fault.NameFault.TheVariants as Naming
 use Rattle.scoped_names.specs.FileNames.{AreNames, FileNames, names_of}
@@ -56,9 +59,13 @@ IsFaultOf definitions NoMemory = Unit {0}
 
 -- ---- what it says of a text
 
-pub record HasTokens (source : List ℕ) : Type 0 where
+-- the text consists of tokens, and no definitions within 64 levels spell them
+pub record HasNoTree (source : List ℕ) : Type 0 where
   pub tokens : List Token
   pub lexed : Lexed source tokens
+  pub lines : HaveLines source tokens
+  pub none : (definitions : List Definition) → Spell (definitions_spelled definitions) tokens
+      → levels_of definitions ≤ 64 → ⊥
 
 -- the text is one of definitions that have the fault
 pub record HasFault (source : List ℕ) (fault : CompileFault) : Type 0 where
@@ -71,10 +78,9 @@ pub record HasNoTokens (source : List ℕ) (fault : LexFault) : Type 0 where
   pub none : (tokens : List Token) → Lexed source tokens → ⊥
   pub is : IsLexFault source fault
 
--- what else a fault of grammar says of the text is the parser's to tell
 abbrev pub IsRefused : List ℕ → CompileFault → Type 0
 IsRefused source (Tokens fault) = HasNoTokens source fault
-IsRefused source (Grammar fault) = HasTokens source
+IsRefused source (Grammar fault) = HasNoTree source
 IsRefused source (Names fault) = HasFault source (Names fault)
 IsRefused source (Types fault) = HasFault source (Types fault)
 IsRefused source NoMemory = Unit {0}

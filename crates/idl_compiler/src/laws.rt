@@ -1,13 +1,16 @@
 //! Laws over the definitions. The functions do nothing: each contract is the law.
 
-ghost use Rattle.std.specs.Prelude.{◌≡◌, List};
+ghost use Rattle.std.specs.Prelude.{◌≡◌, ℕ, List};
+ghost use Rattle.idl_lexer.specs.declared.fault.LexFault.{LexFault};
+ghost use Rattle.idl_parser.specs.declared.fault.ParseFault.{ParseFault};
 ghost use Rattle.idl_tree.specs.declared.definitions.Definition.{Definition};
 ghost use Rattle.type_model.specs.ModelRules.{Parts};
 ghost use Rattle.idl_compiler.specs.declared.fault.CompileFault.{CompileFault};
-ghost use Rattle.idl_compiler.specs.declared.fault.CompileFault.TheVariants.{NoMemory};
-ghost use Rattle.idl_compiler.specs.Compiled.{IsModelOf};
-ghost use Rattle.idl_compiler.specs.Refused.{IsFaultOf};
+ghost use Rattle.idl_compiler.specs.declared.fault.CompileFault.TheVariants.{Grammar, NoMemory, Tokens};
+ghost use Rattle.idl_compiler.specs.Compiled.{IsModelOf, IsTextOf};
+ghost use Rattle.idl_compiler.specs.Refused.{IsFaultOf, IsRefused};
 
+use idl_lexer::laws::tokens_are_one;
 use model_builder::laws as models;
 use scoped_names::laws::names_are_one;
 
@@ -27,4 +30,14 @@ pub fn modelled_or_refused()
 {
     names_are_one();
     models::shown_or_refused()
+}
+
+/// A text whose tokens or whose grammar are refused is that of no definitions.
+pub fn text_or_refused()
+    ensures tokens { (source : List ℕ) (definitions : List Definition) (fault : LexFault)
+        → IsRefused source (Tokens fault) → IsTextOf source definitions → ⊥ }
+    ensures grammar { (source : List ℕ) (definitions : List Definition) (fault : ParseFault)
+        → IsRefused source (Grammar fault) → IsTextOf source definitions → ⊥ }
+{
+    tokens_are_one();
 }
