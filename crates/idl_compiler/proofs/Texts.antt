@@ -1,15 +1,12 @@
 -- Tokens that say the same are spelled by the same definitions.
-use Rattle.std.proofs.Common.{◌≡◌, ◌≤◌, ◌⊎◌, inl, inr, ℕ, ◌+◌, Bool, true, false, List, [], ◌∷◌, Some, ap, map, refl, subst, sym}
+use Rattle.std.proofs.Common.{◌≡◌, ◌≤◌, ℕ, ◌+◌, Bool, true, false, List, [], ◌∷◌, Some, ap, map, refl, subst, sym}
 use Rattle.std.specs.Prelude.{nat_eq}
 use Rattle.idl_lexer.specs.declared.token.Token.{Token}
-use Rattle.idl_lexer.specs.Tokens.{HaveLines, Lexed, TokenParts, parts_of}
-use Rattle.idl_parser.specs.declared.fault.ParseFault.{ParseFault}
-use Rattle.idl_parser.specs.declared.fault.ParseFault.TheVariants as Parsing
+use Rattle.idl_lexer.specs.Tokens.{TokenParts, parts_of}
 use Rattle.idl_tree.specs.declared.definitions.Definition.{Definition}
-use Rattle.idl_tree.specs.Pieces.{Seen, Spell, is_end, past, seen_from, touches_next}
+use Rattle.idl_tree.specs.Pieces.{Seen, Spell, is_end, past, seen_from}
 use Rattle.idl_tree.specs.DefinitionYields.{definitions_spelled}
 use Rattle.idl_tree.specs.DefinitionLevels.{levels_of}
-use Rattle.idl_compiler.specs.Refused.{IsRefused, of_grammar}
 
 abbrev touched : ℕ → List TokenParts → Bool
 touched place [] = false
@@ -32,16 +29,3 @@ pub no_text : (ts us : List Token) (definitions : List Definition) → map parts
     → Spell (definitions_spelled definitions) us → levels_of definitions ≤ 64 → ⊥
 no_text ts us definitions e none spelled few =
     none definitions (subst (λ l. is_end (past (definitions_spelled definitions) (Some l)) ≡ true) (sym (same_seen ts us e)) spelled) few
-
-pub grammar_refused : (source : List ℕ) (tokens : List Token) (fault : ParseFault) → Lexed source tokens → HaveLines source tokens
-    → (fault ≡ Parsing.NoMemory) ⊎ ((ds : List Definition) → Spell (definitions_spelled ds) tokens → levels_of ds ≤ 64 → ⊥)
-    → IsRefused source (of_grammar fault)
-grammar_refused source tokens Parsing.NoMemory lexed lines told = tt
-grammar_refused source tokens (Parsing.Unexpected at line) lexed lines (inl h) = absurd cc
-grammar_refused source tokens (Parsing.Unexpected at line) lexed lines (inr none) = record { tokens = tokens; lexed = lexed; lines = lines; none = none }
-grammar_refused source tokens (Parsing.EndOfFile line) lexed lines (inl h) = absurd cc
-grammar_refused source tokens (Parsing.EndOfFile line) lexed lines (inr none) = record { tokens = tokens; lexed = lexed; lines = lines; none = none }
-grammar_refused source tokens (Parsing.LeftOut what line) lexed lines (inl h) = absurd cc
-grammar_refused source tokens (Parsing.LeftOut what line) lexed lines (inr none) = record { tokens = tokens; lexed = lexed; lines = lines; none = none }
-grammar_refused source tokens (Parsing.TooDeep line) lexed lines (inl h) = absurd cc
-grammar_refused source tokens (Parsing.TooDeep line) lexed lines (inr none) = record { tokens = tokens; lexed = lexed; lines = lines; none = none }
