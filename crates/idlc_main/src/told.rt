@@ -4,7 +4,7 @@ ghost use Rattle.std.specs.Prelude.{◌≡◌};
 ghost use Rattle.idlc_main.specs.Fault.{IsOfNamed, IsOfSource};
 
 use crate::fault::Fault;
-use fault_views::view;
+use fault_views::{Look, view};
 use idl_compiler::CompileRefusal;
 use named_tables::NamedFault;
 use std::alloc::Global;
@@ -55,7 +55,7 @@ pub fn source_fault<'a>(
 {
     if is_for_person
         && let CompileRefusal::Fault { .. } = refusal
-        && let Ok(Some(view)) = view(alloc, name, source)
+        && let Ok(Some(view)) = view(alloc, Look::Plain, name, source)
     {
         return Fault::Explained { refusal, view };
     }
