@@ -14,4 +14,4 @@ pub record AreFirstOf (definitions : List Definition) (most : ℕ) (faults : Nam
 pub record AreFaultsIn (source : List ℕ) (most : ℕ) (faults : NameFaults) : Type 0 where
   pub definitions : List Definition
   pub text : IsTextOf source definitions
-  pub faults : AreFirstOf definitions most faults
+  pub are : AreFirstOf definitions most faults
