@@ -27,10 +27,30 @@ VIEW = (
 TOLD = re.compile(r'#\[error\("(\d+ [A-Z]\w*)')
 
 
-def on_terminal(folder, *words):
+# as a terminal is told it: places bold, carets red
+COLOURED = VIEW.replace("more.idl:7:11", "\x1b[1mmore.idl:7:11\x1b[0m").replace("^", "\x1b[1;31m^\x1b[0m")
+
+# a table whose routine takes an unsigned long without a gap
+UNPADDED = bytes.fromhex(
+    "49444c540100000001000400000000010000000153000000000000000000000000000000000000000100000000"
+    "ffffffffffffffffff0000000000000001020400000001"
+)
+PADDING = "idlc: 81 WrongPadding program 0 routine 0 instruction 0\n"
+PADDING_KNOWN = (
+    "The gap before the work of an instruction isn't the one that belongs there, at some position where the routine "
+    "may start.\n"
+    "the routine is that of node 0, 'S'\n"
+    "idlc explain 81 says more\n"
+)
+
+
+def on_terminal(folder, *words, **variables):
     """What the program tells on a standard error that is a terminal, and its status."""
     ours, theirs = pty.openpty()
-    child = subprocess.Popen([PROGRAM, *words], cwd=folder, stdout=subprocess.PIPE, stderr=theirs)
+    known = {name: value for name, value in os.environ.items() if name != "NO_COLOR"}
+    child = subprocess.Popen(
+        [PROGRAM, *words], cwd=folder, stdout=subprocess.PIPE, stderr=theirs, env={**known, **variables}
+    )
     os.close(theirs)
     told = b""
     while True:
@@ -54,14 +74,68 @@ def views(test, count):
     for more, wanted in (((), LINE), (("--explain",), LINE + VIEW)):
         done = test.call([PROGRAM, *words, *more], cwd=folder)
         count.add((done.status, done.out, done.err) == (1, "", wanted), f"{more}: {done.status} {done.out}{done.err}")
-    seen = on_terminal(folder, *words)
-    count.add(seen == (1, LINE + VIEW), f"on a terminal: {seen}")
+    for variables, view in (({}, COLOURED), ({"NO_COLOR": "1"}, VIEW), ({"NO_COLOR": ""}, COLOURED)):
+        seen = on_terminal(folder, *words, **variables)
+        count.add(seen == (1, LINE + view), f"on a terminal with {variables}: {seen}")
     count.add(not (folder / "a.table").exists(), "a.table was written")
     if shutil.which("cpp"):
         (folder / "b.idl").write_bytes(b"#define T Point\nstruct Line {\n  T from;\n};\n")
         test.call(["cpp", "-undef", "b.idl", "b.i"], cwd=folder)
         done = test.call([PROGRAM, "compile", "b.i", "-o", "b.table", "--explain"], cwd=folder)
         count.add("\nb.idl:3:3: 'Point' isn't declared before it\n" in done.err, f"behind cpp: {done.err}")
+
+
+def other_commands(test, count):
+    """`--explain` behind commands that have no IDL file, and behind those that compile one in memory."""
+    folder = test.room / "others"
+    folder.mkdir()
+    (folder / "a.i").write_bytes(SOURCE)
+    (folder / "u.table").write_bytes(UNPADDED)
+    (folder / "c.table").write_bytes(bytes.fromhex("49444c5401000000010100"))
+    cut = "octets are no table file: a wrong start, an unknown tag or flag, a text that isn't ASCII, or an end inside."
+    text = "An integer isn't a whole number in digits, or not one that the type has."
+    rows = [
+        (("check", "u.table"), PADDING, PADDING_KNOWN),
+        (("show", "u.table"), PADDING, PADDING_KNOWN),
+        (("upgrade", "u.table", "-o", "v.table"), PADDING, PADDING_KNOWN),
+        (("ior", "u.table", "--host", "h", "--port", "1", "--object", "K=I"), PADDING, PADDING_KNOWN),
+        (("serve", "u.table", "--port", "0", "--object", "K=I", "--connections", "0"), PADDING, PADDING_KNOWN),
+        (("call", "u.table", "IOR:00", "op"), PADDING, PADDING_KNOWN),
+        (
+            ("check", "c.table"),
+            "idlc: 50 NotATable\n",
+            f"The {cut}\nthe file stops being a table at octet 11, counted from 0\nidlc explain 50 says more\n",
+        ),
+        (("check", "a.i"), LINE, VIEW),
+        (("encode", "a.i", "S", "big", "0", "00"), LINE, VIEW),
+        (
+            ("decode", "builtin", "S", "big", "0", "07"),
+            "idlc: 60 Short\n",
+            "The octets or the tape end before the value does, or a count is over what is left of them.\n"
+            "idlc explain 60 says more\n",
+        ),
+        (("reference", "IOR:0"), "idlc: 94 BadIor\n", None),
+        (("check", "none.table"), "idlc: cannot read none.table\n", ""),
+    ]
+    (folder / "t.idl").write_bytes(b"typedef long T;\n")
+    rows.append((("encode", "t.idl", "T", "big", "0", "--text=x1"), None, None))
+    rows.append(
+        (
+            ("encode", "t.idl", "T", "big", "0", "--text=1.5"),
+            "idlc: 111 NotWhole line 1 column 1\n",
+            f"{text}\nidlc explain 111 says more\n",
+        )
+    )
+    for words, line, known in rows:
+        plain = test.call([PROGRAM, *words], cwd=folder)
+        more = test.call([PROGRAM, *words, "--explain"], cwd=folder)
+        is_plain = line is None or plain.err == line
+        is_more = more.err.startswith(plain.err) and (known is None or more.err == plain.err + known)
+        count.add(is_plain and plain.out == "", f"{words}: {plain.status} {plain.out}{plain.err}")
+        is_same = more.status == plain.status != 0 and more.out == ""
+        count.add(is_more and is_same, f"{words} --explain: {more.status} {more.out}{more.err}")
+    seen = on_terminal(folder, "check", "u.table")
+    count.add(seen == (1, PADDING + PADDING_KNOWN), f"on a terminal: {seen}")
 
 
 def names(test, count):
@@ -112,6 +186,7 @@ def run(test):
         return Count(0, [built.out + built.err])
     count = Count(0, [])
     views(test, count)
+    other_commands(test, count)
     names(test, count)
     texts(test, count)
     version = (TOP / "VERSION").read_text().strip()

@@ -1,15 +1,13 @@
 -- What was found for the words of a call tells what is called.
-use Rattle.std.proofs.Common.{◌≡◌, ◌∙◌, ◌<◌, ◌^◌, ◌↔◌, ◌⊎◌, inl, inr, ℕ, List, Option, Some, None, codes, length, ap, sym, refl, arith, option_map}
+use Rattle.std.proofs.Common.{◌≡◌, ◌∙◌, ◌<◌, ◌^◌, ◌↔◌, inl, inr, ℕ, Some, None, codes, sym, refl}
 use Rattle.std.specs.Str.Parse.{IsNumeral, digits_value, without_leading_plus}
 use Rattle.clap.specs.Words.{Text, first_of, first_value, one_text, rows_of}
 use Rattle.clap.specs.declared.parser.matches.Found.{Found}
 use Rattle.clap.proofs.WalkLemmas.{first_value-rows, one_text-rows}
 use Rattle.type_graph.specs.declared.width.Order.{Order}
 use Rattle.type_graph.specs.declared.width.Order.TheVariants.{Big, Little}
-use Rattle.command_words.specs.Ask.{CallAsk, call_ask_of}
-use Rattle.command_words.specs.declared.task.CallTask.{CallTask}
-use Rattle.command_words.specs.Words.{TellsCall, TellsOption, TellsOrder, word_of}
-use Rattle.command_words.proofs.Requests.{different, order_of, same_some}
+use Rattle.command_words.specs.Words.{TellsOption, TellsOrder}
+use Rattle.command_words.proofs.Requests.{order_of, same_some}
 
 module _ (found : Found) where
   -- the number is that of the option, or that of none

@@ -4,10 +4,10 @@ use Rattle.std.specs.List.{list_any}
 use Rattle.std.specs.Str.{bytes_eq}
 use Rattle.clap.specs.Words.{Row, Text, reading_of, subcommand_of, takes}
 use Rattle.clap.specs.declared.builder.value_parser.ValueParser.{ValueParser}
-use Rattle.clap.specs.declared.builder.value_parser.ValueParser.TheVariants.{Names, Signed, String}
-use Rattle.clap.specs.declared.parser.matches.ValueSource.TheVariants.{CommandLine}
+use Rattle.clap.specs.declared.builder.value_parser.ValueParser.TheVariants.{Bool, Names, Signed, String}
+use Rattle.clap.specs.declared.parser.matches.ValueSource.TheVariants.{CommandLine, DefaultValue}
 use Rattle.clap.proofs.OnLiterals.{clap_on_literals}
-use Rattle.type_graph.specs.declared.width.Order.TheVariants.{Big, Little}
+use Rattle.type_graph.specs.declared.width.Order.TheVariants.{Big}
 use Rattle.table_commands.specs.declared.values.Way.TheVariants.{Encode}
 use Rattle.command_words.specs.Ask.{Ask, CallAsk, Explanation, Reference, Value}
 use Rattle.command_words.specs.declared.task.Form.TheVariants.{Hex, Text as AsText}
@@ -38,9 +38,13 @@ row_by parser id word = record {
 abbrev row : Text → Text → Row
 row id word = row_by String id word
 
+-- the flag `--explain` isn't there
+abbrev unasked : Row
+unasked = record (row_by Bool (codes "explain") (codes "false")) { source = Some DefaultValue }
+
 abbrev found : List Row
 found = row (codes "T") (codes "builtin") ∷ row (codes "NAME") (codes "S") ∷ row (codes "ORDER") (codes "big") ∷ row (codes "POS") (codes "12")
-    ∷ row (codes "HEX") (codes "07") ∷ []
+    ∷ row (codes "HEX") (codes "07") ∷ unasked ∷ []
 
 module _ (orders : Bor (List (Bor Text))) (are : texts orders.now ≡ codes "big" ∷ codes "little" ∷ []) where
   any_big : (names : List (Bor Text)) → texts names ≡ codes "big" ∷ codes "little" ∷ [] → list_any (λ name. bytes_eq name.now (codes "big")) names ≡ true
@@ -99,7 +103,7 @@ dashed_ask = Value (record {
 
 abbrev dashed_found : List Row
 dashed_found = row (codes "T") (codes "t.idl") ∷ row (codes "NAME") (codes "T") ∷ row (codes "ORDER") (codes "big") ∷ row (codes "POS") (codes "12")
-    ∷ row (codes "text") (codes "-5") ∷ []
+    ∷ row (codes "text") (codes "-5") ∷ unasked ∷ []
 
 module _ (orders : Bor (List (Bor Text))) (are : texts orders.now ≡ codes "big" ∷ codes "little" ∷ []) where
   dashed_taken : takes (program_app (Names orders)) (spoken dashed_words) ≡ true
@@ -151,7 +155,7 @@ reference_ask = Reference (record {
 
 abbrev reference_found : List Row
 reference_found = row (codes "T") (codes "builtin") ∷ row (codes "host") (codes "h") ∷ row_by (Signed (pos 0) (pos 65535)) (codes "port") (codes "99")
-    ∷ row (codes "object") (codes "K=P") ∷ []
+    ∷ row (codes "object") (codes "K=P") ∷ unasked ∷ []
 
 abbrev explain_words : List Text
 explain_words = codes "idlc" ∷ codes "explain" ∷ codes "Limit" ∷ []
@@ -259,7 +263,7 @@ call_ask = record {
 }
 
 abbrev call_found : List Row
-call_found = row (codes "T") (codes "t") ∷ row (codes "IOR") (codes "@r") ∷ row (codes "OP") (codes "ping") ∷ []
+call_found = row (codes "T") (codes "t") ∷ row (codes "IOR") (codes "@r") ∷ row (codes "OP") (codes "ping") ∷ unasked ∷ []
 
 -- one with a value, three seconds, five times
 abbrev long_call_words : List Text
@@ -279,7 +283,8 @@ long_call_ask = record {
 
 abbrev long_call_found : List Row
 long_call_found = row (codes "T") (codes "t") ∷ row (codes "IOR") (codes "-") ∷ row (codes "OP") (codes "add") ∷ row (codes "VALUE") (codes "[1]")
-    ∷ row_by (Signed (pos 1) (pos 86400)) (codes "wait") (codes "3") ∷ row_by (Signed (pos 1) (pos 4294967295)) (codes "repeat") (codes "5") ∷ []
+    ∷ row_by (Signed (pos 1) (pos 86400)) (codes "wait") (codes "3") ∷ row_by (Signed (pos 1) (pos 4294967295)) (codes "repeat") (codes "5")
+    ∷ unasked ∷ []
 
 module _ (orders : Bor (List (Bor Text))) where
   call_taken : takes (program_app (Names orders)) call_words ≡ true

@@ -9,12 +9,18 @@ use Rattle.clap.specs.Words.{App, Rule, Text, new_app, new_rule, with_rule, with
 abbrev pub wanted : Text → Option ValueParser → Rule
 wanted id parser = record (new_rule id) { parser = parser; required = true }
 
+-- the flag `--explain`
+abbrev pub explain_rule : Rule
+explain_rule = record (new_rule (codes "explain")) { long = Some (codes "explain"); action = Some SetTrue }
+
 -- the words of a command for the type, the byte order and the position of a value
 abbrev pub place_app : ValueParser → Text → App
 place_app orders name = with_rule
+    (with_rule
     (with_rule (with_rule (with_rule (new_app name) (wanted (codes "T") None)) (wanted (codes "NAME") None))
     (wanted (codes "ORDER") (Some orders)))
-    (wanted (codes "POS") (Some (Unsigned 0 18446744073709551615)))
+    (wanted (codes "POS") (Some (Unsigned 0 18446744073709551615))))
+    explain_rule
 
 -- the option `--text`, by which a value is text
 abbrev pub text_rule : Rule
@@ -32,7 +38,7 @@ decode_app orders = with_rule (with_rule (place_app orders (codes "decode")) (wa
 
 -- the words of a command that asks of a table alone
 abbrev pub table_app : Text → App
-table_app name = with_rule (new_app name) (wanted (codes "T") None)
+table_app name = with_rule (with_rule (new_app name) (wanted (codes "T") None)) explain_rule
 
 -- the option `-o`, which has to be there
 abbrev pub output : Rule
@@ -47,10 +53,6 @@ show_app = with_rule (table_app (codes "show")) types_rule
 
 abbrev pub upgrade_app : App
 upgrade_app = with_rule (table_app (codes "upgrade")) output
-
--- the flag `--explain`
-abbrev pub explain_rule : Rule
-explain_rule = record (new_rule (codes "explain")) { long = Some (codes "explain"); action = Some SetTrue }
 
 abbrev pub compile_app : App
 compile_app =
@@ -126,7 +128,7 @@ served_app orders = with_subcommand (with_subcommand (tables_app orders) referen
 
 -- the command that says what a reference says
 abbrev pub describe_app : App
-describe_app = with_rule (new_app (codes "reference")) (wanted (codes "IOR") None)
+describe_app = with_rule (with_rule (new_app (codes "reference")) (wanted (codes "IOR") None)) explain_rule
 
 -- the byte order of a request, which may be left out
 abbrev pub order_rule : ValueParser → Rule

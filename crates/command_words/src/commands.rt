@@ -45,6 +45,17 @@ fn pos_word<'a>(alloc: Global) -> Arg<'a>
     wanted(alloc, "POS", "The position of the first octet").value_parser(value_parser!(u64))
 }
 
+/// The flag for what else is known of a fault.
+fn explain_flag<'a>(alloc: Global) -> Arg<'a>
+    ensures rule { rule_of result ≡ explain_rule }
+    ensures local { result.global ≡ false }
+{
+    Arg::new(alloc, "explain")
+        .long("explain")
+        .help("Shows the line of a fault, and what is known of it")
+        .action(ArgAction::SetTrue)
+}
+
 /// The commands that marshal a value take the same words for its type and its place.
 fn value_command<'a>(
     alloc: Global,
@@ -57,7 +68,8 @@ fn value_command<'a>(
         .arg(wanted(alloc, "T", TABLE))?
         .arg(wanted(alloc, "NAME", "The name of a type of the table"))?
         .arg(order_word(alloc, orders))?
-        .arg(pos_word(alloc))
+        .arg(pos_word(alloc))?
+        .arg(explain_flag(alloc))
 }
 
 /// The word for a tape, in place of which a text may stand.
@@ -109,7 +121,9 @@ fn decode_command<'a>(alloc: Global, orders: &'a [&'a str]) -> Result<Command<'a
 fn table_command<'a>(alloc: Global, name: &'a str) -> Result<Command<'a>, AllocError>
     ensures { IfOk result (λ command. app_of command ≡ table_app name.entry.now) }
 {
-    Command::new(alloc, name).arg(wanted(alloc, "T", TABLE))
+    Command::new(alloc, name)
+        .arg(wanted(alloc, "T", TABLE))?
+        .arg(explain_flag(alloc))
 }
 
 /// The option for the file that is written.
@@ -145,17 +159,6 @@ fn upgrade_command<'a>(alloc: Global) -> Result<Command<'a>, AllocError>
     ensures { IfOk result (λ command. app_of command ≡ upgrade_app) }
 {
     table_command(alloc, "upgrade")?.arg(output_option(alloc, "U"))
-}
-
-/// The flag for what else is known of a fault.
-fn explain_flag<'a>(alloc: Global) -> Arg<'a>
-    ensures rule { rule_of result ≡ explain_rule }
-    ensures local { result.global ≡ false }
-{
-    Arg::new(alloc, "explain")
-        .long("explain")
-        .help("Shows the line of a fault, and what is known of it")
-        .action(ArgAction::SetTrue)
 }
 
 fn compile_command<'a>(alloc: Global) -> Result<Command<'a>, AllocError>
@@ -334,7 +337,9 @@ fn reference_word<'a>(alloc: Global) -> Arg<'a>
 fn describe_command<'a>(alloc: Global) -> Result<Command<'a>, AllocError>
     ensures { IfOk result (λ command. app_of command ≡ describe_app) }
 {
-    Command::new(alloc, "reference").arg(reference_word(alloc))
+    Command::new(alloc, "reference")
+        .arg(reference_word(alloc))?
+        .arg(explain_flag(alloc))
 }
 
 /// The option for the byte order of a request.

@@ -2,12 +2,14 @@
 #![tactic(auto)]
 
 mod commands;
+mod explained;
 mod line;
 mod matches;
 mod mistake;
 mod spoken;
 mod task;
 
+pub use explained::explains;
 pub use line::parse;
 pub use mistake::Mistake;
 pub use task::{CallTask, Form, ReferenceTask, Said, Service, Task, ValueTask};

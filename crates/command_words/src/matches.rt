@@ -158,7 +158,6 @@ fn compile<'a>(matches: &ArgMatches<'a>) -> Option<Task<'a>> {
     Some(Task::Compile {
         source: matches.get_str("F")?,
         output: matches.get_str("o")?,
-        explains: matches.get_flag("explain"),
     })
 }
 

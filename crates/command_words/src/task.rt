@@ -95,8 +95,6 @@ pub enum Task<'a> {
     Compile {
         source: &'a str,
         output: &'a str,
-        /// Whether a fault is told with all that is known of it.
-        explains: bool,
     },
 }
 

@@ -1,7 +1,8 @@
-//! What a person is told of the first fault of an IDL file: where it stands in the file as it was
+//! What a person is told of the faults of an IDL file: where each stands in the file as it was
 //! written, the line with a caret, and what is known.
 #![tactic(auto)]
 
+mod all_names;
 mod facts;
 mod grammar;
 mod lines;
@@ -10,5 +11,6 @@ mod tokens;
 mod types;
 mod words;
 
-pub use facts::{Known, Note, Spot, known_of};
-pub use lines::view;
+pub use all_names::name_faults_in;
+pub use facts::{AllKnown, Known, Note, Spot, known_of};
+pub use lines::{Look, view};

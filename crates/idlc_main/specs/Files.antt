@@ -21,5 +21,5 @@ pub record IsCompiledTo (Reads Takes : Passing) (source output line : List ℕ) 
 abbrev pub IsDone : Passing → Passing → Task → List ℕ → Type 0
 IsDone Reads Takes (Check table) line = IsCounted Reads table.now line
 IsDone Reads Takes (Upgrade table output) line = IsUpgraded Reads Takes table.now output.now line
-IsDone Reads Takes (Compile source output explains) line = IsCompiledTo Reads Takes source.now output.now line
+IsDone Reads Takes (Compile source output) line = IsCompiledTo Reads Takes source.now output.now line
 IsDone Reads Takes task line = Unit {0}

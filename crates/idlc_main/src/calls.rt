@@ -5,6 +5,7 @@ ghost use Rattle.std.specs.String.{string_bytes};
 ghost use Rattle.idlc_main.specs.Called.{IsConclusion};
 
 use crate::fault::Fault;
+use crate::listener::Listener;
 use crate::times::Times;
 use crate::told::named_fault;
 use call_commands::{CallRefusal, Ending, TextCall, Types, call_text};
@@ -185,10 +186,10 @@ fn called_by<'a, R: WholeFiles + Net + Clock + AllocGlobal>(
 pub fn called<'a, R: WholeFiles + Net + Clock + AllocGlobal>(
     rt: &R,
     task: &CallTask<'a>,
-    is_for_person: bool,
+    listener: Listener,
 ) -> Result<Concluded, Fault<'a>> {
     match load(rt, task.table) {
         Ok(loaded) => called_by(rt, &loaded, task),
-        Err(fault) => Err(named_fault(rt, task.table, fault, is_for_person)),
+        Err(fault) => Err(named_fault(rt, task.table, fault, listener)),
     }
 }

@@ -16,6 +16,8 @@ ghost use Rattle.idlc_main.specs.Called.{status_of_end};
 mod calls;
 mod descriptions;
 mod fault;
+mod known;
+mod listener;
 mod service;
 mod tasks;
 mod times;
@@ -23,13 +25,17 @@ mod told;
 
 use crate::calls::{CallEnd, Concluded, called};
 use crate::fault::Fault;
+use crate::known::known;
+use crate::listener::Listener;
 use crate::service::served;
-use crate::tasks::done;
+use crate::tasks::{done, table_in};
 use crate::told::Answer;
 use call_commands::ExceptionLine;
-use command_words::{CallTask, Mistake, Said, parse};
+use command_words::{CallTask, Mistake, Said, explains, parse};
+use fault_views::Look;
 use socket_server::Totals;
 use std::alloc::{AllocError, Global};
+use std::env::VarError;
 use std::io::IsTerminal;
 use std::net::Net;
 use std::process::ExitCode;
@@ -47,8 +53,29 @@ const RAISED: u8 = 5;
 /// That of a call that failed with a system exception.
 const FAILED: u8 = 6;
 
+/// Tells a listener who wants it what else is known of a fault, of the table of a name.
+fn tell_known<R: WholeFiles + AllocGlobal, E: io::Write>(
+    rt: &R,
+    err: &mut E,
+    fault: &Fault<'_>,
+    table: Option<&str>,
+    listener: Listener,
+) {
+    if listener.look().is_some()
+        && let Ok(Some(lines)) = known(rt, fault, table)
+    {
+        let _ = writeln!(err, "{lines}");
+    }
+}
+
 /// Tells a fault on standard error, and gives its status. Nobody hears of an error there.
-fn failed<E: io::Write>(err: &mut E, fault: &Fault<'_>) -> u8
+fn failed<R: WholeFiles + AllocGlobal, E: io::Write>(
+    rt: &R,
+    err: &mut E,
+    fault: &Fault<'_>,
+    table: Option<&str>,
+    listener: Listener,
+) -> u8
     ensures { result ≡ status_of fault.now }
 {
     let _ = match fault {
@@ -56,6 +83,7 @@ fn failed<E: io::Write>(err: &mut E, fault: &Fault<'_>) -> u8
         Fault::Words(mistake) => write!(err, "{mistake}"),
         _ => writeln!(err, "idlc: {fault}"),
     };
+    tell_known(rt, err, fault, table, listener);
     fault.status()
 }
 
@@ -66,7 +94,7 @@ fn say<O: io::Write, E: io::Write>(out: &mut O, err: &mut E, answer: &Answer) ->
     ensures said { result ≡ 0 → Appends (O.contents out.old) (O.contents out.new) (string_bytes answer.now.text) }
 {
     if out.write_all(answer.text.as_bytes()).is_err() || out.flush().is_err() {
-        return failed(err, &Fault::Unwritten);
+        return Fault::Unwritten.status();
     }
     if let Some(notice) = answer.notice {
         let _ = writeln!(err, "idlc: {notice}");
@@ -100,7 +128,7 @@ fn conclude<O: io::Write, E: io::Write>(out: &mut O, err: &mut E, concluded: &Co
     ensures said { result ≢ 3 → Appends (O.contents out.old) (O.contents out.new) (string_bytes concluded.now.text) }
 {
     if out.write_all(concluded.text.as_bytes()).is_err() || out.flush().is_err() {
-        return failed(err, &Fault::Unwritten);
+        return Fault::Unwritten.status();
     }
     let status = tell_end(err, &concluded.end);
     if let Some(times) = &concluded.times {
@@ -115,21 +143,21 @@ fn call<R: WholeFiles + Net + Clock + AllocGlobal, O: io::Write, E: io::Write>(
     task: &CallTask<'_>,
     out: &mut O,
     err: &mut E,
-    is_for_person: bool,
+    listener: Listener,
 ) -> u8
     ensures range { result ≤ 6 }
     ensures silent { result ≢ 0 → result < 3 → out.new ≡ out.old }
     ensures memory { result ≡ 4 → MayServe (O.contents out.old) (O.contents out.new) }
 {
-    match called(rt, task, is_for_person) {
+    match called(rt, task, listener) {
         Ok(concluded) => conclude(out, err, &concluded),
-        Err(fault) => failed(err, &fault),
+        Err(fault) => failed(rt, err, &fault, Some(task.table), listener),
     }
 }
 
 /// Tells a person how much was served.
-fn tell<E: io::Write>(err: &mut E, totals: &Totals, is_for_person: bool) {
-    if is_for_person {
+fn tell<E: io::Write>(err: &mut E, totals: &Totals, listener: Listener) {
+    if listener.is_person() {
         let _ = writeln!(err, "idlc: served: {totals}");
     }
 }
@@ -148,14 +176,14 @@ fn said<'a>(alloc: Global, words: &'a [&'a str]) -> Result<Said<'a>, Mistake>
 /// what was asked for, 1 for refused input, 2 for usage, 3 for files and standard output, 4 for
 /// want of memory; where an object is called, 5 for an exception of its operation and 6 for a system
 /// exception. Standard output has the answer or nothing, where calls are served the line that says so;
-/// a fault is told on standard error, for a person with all that is known of it, and to a person too
-/// how much was served.
+/// a fault is told on standard error, with all that is known of it for a listener who wants that, and
+/// to a person too how much was served.
 fn run_for<R: WholeFiles + Net + Clock + Eprint + AllocGlobal, O: io::Write, E: io::Write>(
     rt: &R,
     words: &[&str],
     out: &mut O,
     err: &mut E,
-    is_for_person: bool,
+    listener: Listener,
 ) -> u8
     ensures range { result ≤ 6 }
     ensures asked { (ask : Ask) → AsksFor (texts words.now) ask
@@ -167,20 +195,48 @@ fn run_for<R: WholeFiles + Net + Clock + Eprint + AllocGlobal, O: io::Write, E: 
 {
     match said(rt.alloc(), words) {
         Ok(Said::Help(text)) => say(out, err, &Answer::plain(text)),
-        Ok(Said::Do(task)) => match done(rt, &task, is_for_person) {
+        Ok(Said::Do(task)) => match done(rt, &task, listener) {
             Ok(answer) => say(out, err, &answer),
-            Err(fault) => failed(err, &fault),
+            Err(fault) => failed(rt, err, &fault, table_in(&task), listener),
         },
-        Ok(Said::Serve(service)) => match served(rt, out, &service, is_for_person) {
+        Ok(Said::Serve(service)) => match served(rt, out, &service, listener) {
             Ok(totals) => {
-                tell(err, &totals, is_for_person);
+                tell(err, &totals, listener);
                 DONE
             }
-            Err(fault) => failed(err, &fault),
+            Err(fault) => failed(rt, err, &fault, Some(service.table), listener),
         },
-        Ok(Said::Call(task)) => call(rt, &task, out, err, is_for_person),
-        Err(mistake) => failed(err, &Fault::from(mistake)),
+        Ok(Said::Call(task)) => call(rt, &task, out, err, listener),
+        Err(mistake) => failed(rt, err, &Fault::from(mistake), None, listener),
     }
+}
+
+/// The listener, who may ask for what else is known by words.
+fn listener_by<'a>(alloc: Global, words: &'a [&'a str], listener: Listener) -> Listener {
+    match explains(alloc, words) {
+        Ok(true) => listener.asking(),
+        Ok(false) | Err(_) => listener,
+    }
+}
+
+/// Runs the program as `run` does, for a listener.
+fn run_heard<R: WholeFiles + Net + Clock + Eprint + AllocGlobal, O: io::Write, E: io::Write>(
+    rt: &R,
+    words: &[&str],
+    out: &mut O,
+    err: &mut E,
+    listener: Listener,
+) -> u8
+    ensures range { result ≤ 6 }
+    ensures asked { (ask : Ask) → AsksFor (texts words.now) ask
+        → IsEndOf (R.reads rt.now) ask result (O.contents out.old) (O.contents out.new) }
+    ensures kept { (ask : Ask) → AsksFor (texts words.now) ask → result ≢ 0 → result ≢ 3 → out.new ≡ out.old }
+    ensures mistaken { IsMistaken (texts words.now) → ((result ≡ 2) ⊎ (result ≡ 4)) × (out.new ≡ out.old) }
+    ensures silent { result ≢ 0 → result < 3 → out.new ≡ out.old }
+    ensures memory { result ≡ 4 → MayServe (O.contents out.old) (O.contents out.new) }
+{
+    let listener = listener_by(rt.alloc(), words, listener);
+    run_for(rt, words, out, err, listener)
 }
 
 /// Runs the program on words, of which the first is its name, and gives its status: 0 where it did
@@ -202,7 +258,7 @@ pub fn run<R: WholeFiles + Net + Clock + Eprint + AllocGlobal, O: io::Write, E: 
     ensures silent { result ≢ 0 → result < 3 → out.new ≡ out.old }
     ensures memory { result ≡ 4 → MayServe (O.contents out.old) (O.contents out.new) }
 {
-    run_for(rt, words, out, err, false)
+    run_heard(rt, words, out, err, Listener::Program)
 }
 
 /// Why the program's own words can't be had.
@@ -218,23 +274,34 @@ fn own_words<R: Env + AllocGlobal>(rt: &R) -> Result<Vec<String>, Fault<'static>
     Ok(env::args(rt).map_err(wordless)?.collect(rt.alloc())?)
 }
 
+/// Who reads standard error: a person if it is a terminal. Colours are left out where the variable
+/// `NO_COLOR` is there and isn't empty.
+fn listener_at<R: Env + AllocGlobal, E: IsTerminal>(rt: &R, err: &E) -> Listener {
+    if !err.is_terminal() {
+        return Listener::Program;
+    }
+    match env::var(rt, "NO_COLOR") {
+        Ok(text) if text.is_empty() => Listener::Person(Look::Coloured),
+        Err(VarError::NotPresent) => Listener::Person(Look::Coloured),
+        Ok(_) | Err(_) => Listener::Person(Look::Plain),
+    }
+}
+
 fn main(rt: HostRuntime) -> ExitCode {
     let mut out = rt.stdout();
     let mut err = rt.stderr();
+    let listener = listener_at(&rt, &err);
     let words = match own_words(&rt) {
         Ok(words) => words,
-        Err(fault) => return ExitCode::from(failed(&mut err, &fault)),
+        Err(fault) => return ExitCode::from(failed(&rt, &mut err, &fault, None, listener)),
     };
     let texts: Result<Vec<&str>, AllocError> = words
         .iter()
         .map(|word| word.as_str())
         .collect(rt.alloc());
     let status = match texts {
-        Ok(texts) => {
-            let is_for_person = err.is_terminal();
-            run_for(&rt, texts.as_slice(), &mut out, &mut err, is_for_person)
-        }
-        Err(_) => failed(&mut err, &Fault::NoMemory),
+        Ok(texts) => run_heard(&rt, texts.as_slice(), &mut out, &mut err, listener),
+        Err(_) => failed(&rt, &mut err, &Fault::NoMemory, None, listener),
     };
     ExitCode::from(status)
 }

@@ -8,6 +8,7 @@ ghost use Rattle.idlc_main.specs.Fault.{status_of};
 ghost use Rattle.idlc_main.specs.Service.{IsServed};
 
 use crate::fault::Fault;
+use crate::listener::Listener;
 use crate::told::named_fault;
 use command_words::Service;
 use named_tables::load;
@@ -22,7 +23,7 @@ pub fn served<'a, R: WholeFiles + Net + Clock + Eprint + AllocGlobal, O: Write>(
     rt: &R,
     out: &mut O,
     service: &Service<'a>,
-    is_for_person: bool,
+    listener: Listener,
 ) -> Result<Totals, Fault<'a>>
     ensures done { OnOk result (IsServed (R.reads rt.now) service.now) }
     ensures counted { IfOk result (λ totals. totals.connections ≡ service.now.connections) }
@@ -33,7 +34,7 @@ pub fn served<'a, R: WholeFiles + Net + Clock + Eprint + AllocGlobal, O: Write>(
 {
     let loaded = match load(rt, service.table) {
         Ok(loaded) => loaded,
-        Err(fault) => return Err(named_fault(rt, service.table, fault, is_for_person)),
+        Err(fault) => return Err(named_fault(rt, service.table, fault, listener)),
     };
     let options = ServeOptions {
         port: service.port,

@@ -14,6 +14,7 @@ ghost use Rattle.idlc_main.specs.Files.{IsCompiledTo, IsDone};
 
 use crate::descriptions::described;
 use crate::fault::Fault;
+use crate::listener::Listener;
 use crate::told::{Answer, Notice, named_fault, source_fault};
 use command_words::Task;
 use fault_texts::{explanations, headings};
@@ -26,13 +27,13 @@ fn lined<'a, R: WholeFiles + AllocGlobal>(
     rt: &R,
     name: &str,
     line: Result<String, NamedFault<'a>>,
-    is_for_person: bool,
+    listener: Listener,
 ) -> Result<Answer, Fault<'a>>
     ensures { IsLined string_bytes line.entry result }
 {
     match line {
         Ok(line) => Ok(Answer::plain(line)),
-        Err(fault) => Err(named_fault(rt, name, fault, is_for_person)),
+        Err(fault) => Err(named_fault(rt, name, fault, listener)),
     }
 }
 
@@ -91,7 +92,7 @@ fn compile<'a, R: WholeFiles + AllocGlobal>(
     rt: &R,
     name: &'a str,
     output: &'a str,
-    explains: bool,
+    listener: Listener,
 ) -> Result<Answer, Fault<'a>>
     ensures compiled { IfOk result (λ answer.
         IsCompiledTo (R.reads rt.now) (R.takes rt.now) name.now output.now (string_bytes answer.text)) }
@@ -104,7 +105,7 @@ fn compile<'a, R: WholeFiles + AllocGlobal>(
     let file = match compile_file(rt.alloc(), source.as_slice()) {
         Ok(file) => file,
         Err(refusal) => {
-            return Err(source_fault(rt.alloc(), name, source.as_slice(), refusal, explains));
+            return Err(source_fault(rt.alloc(), name, source.as_slice(), refusal, listener));
         }
     };
     put_compiled(rt, output, source.as_slice(), &file)?;
@@ -118,12 +119,24 @@ fn compile<'a, R: WholeFiles + AllocGlobal>(
     })
 }
 
-/// Does what is asked for, and gives the text for standard output. For a person a fault of an IDL file
-/// is told with all that is known of it, whatever the words say.
+/// The name of the table that a task is about.
+pub fn table_in<'a>(task: &Task<'a>) -> Option<&'a str> {
+    match task {
+        Task::Value(asked) => Some(asked.table),
+        Task::Reference(asked) => Some(asked.table),
+        Task::Check { table } | Task::Show { table, .. } | Task::Upgrade { table, .. } => {
+            Some(table)
+        }
+        Task::Compile { .. } | Task::Explain { .. } | Task::Describe { .. } => None,
+    }
+}
+
+/// Does what is asked for, and gives the text for standard output. A fault of an IDL file has with it
+/// what else is known, for a listener who wants that.
 pub fn done<'a, R: WholeFiles + AllocGlobal>(
     rt: &R,
     task: &Task<'a>,
-    is_for_person: bool,
+    listener: Listener,
 ) -> Result<Answer, Fault<'a>>
     ensures value { (asked : ValueTask) → task.now ≡ Task.Value asked
         → IsAnswer (R.reads rt.now) (Value (value_ask_of asked)) result }
@@ -138,23 +151,14 @@ pub fn done<'a, R: WholeFiles + AllocGlobal>(
     ensures told { IfErr result IsTold }
 {
     match task {
-        Task::Value(asked) => lined(rt, asked.table, value_line(rt, asked), is_for_person),
-        Task::Reference(asked) => lined(rt, asked.table, reference_of(rt, asked), is_for_person),
+        Task::Value(asked) => lined(rt, asked.table, value_line(rt, asked), listener),
+        Task::Reference(asked) => lined(rt, asked.table, reference_of(rt, asked), listener),
         Task::Explain { word: Some(word) } => explained(rt, word),
         Task::Explain { word: None } => listed(rt),
         Task::Describe { reference } => described(rt, reference),
-        Task::Check { table } => lined(rt, table, accepted_of(rt, table), is_for_person),
-        Task::Show { table, types } => lined(
-            rt,
-            table,
-            listing_of(rt, table, *types),
-            is_for_person,
-        ),
+        Task::Check { table } => lined(rt, table, accepted_of(rt, table), listener),
+        Task::Show { table, types } => lined(rt, table, listing_of(rt, table, *types), listener),
         Task::Upgrade { table, output } => upgraded(rt, table, output),
-        Task::Compile {
-            source,
-            output,
-            explains,
-        } => compile(rt, source, output, *explains || is_for_person),
+        Task::Compile { source, output } => compile(rt, source, output, listener),
     }
 }

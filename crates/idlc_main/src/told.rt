@@ -4,6 +4,7 @@ ghost use Rattle.std.specs.Prelude.{◌≡◌};
 ghost use Rattle.idlc_main.specs.Fault.{IsOfNamed, IsOfSource};
 
 use crate::fault::Fault;
+use crate::listener::Listener;
 use fault_views::view;
 use idl_compiler::CompileRefusal;
 use named_tables::NamedFault;
@@ -42,40 +43,40 @@ impl Answer {
     }
 }
 
-/// The fault of an IDL file; for a person with what else is known of it, where there is memory for
-/// that.
+/// The fault of an IDL file; for a listener who wants it with what else is known, where there is
+/// memory for that.
 pub fn source_fault<'a>(
     alloc: Global,
     name: &str,
     source: &[u8],
     refusal: CompileRefusal,
-    is_for_person: bool,
+    listener: Listener,
 ) -> Fault<'a>
     ensures { IsOfSource refusal result }
 {
-    if is_for_person
+    if let Some(look) = listener.look()
         && let CompileRefusal::Fault { .. } = refusal
-        && let Ok(Some(view)) = view(alloc, name, source)
+        && let Ok(Some(view)) = view(alloc, look, name, source)
     {
         return Fault::Explained { refusal, view };
     }
     Fault::from(refusal)
 }
 
-/// The fault of an IDL file that is named as a table. For a person it is read once more.
+/// The fault of an IDL file that is named as a table. For what else is known it is read once more.
 fn source_fault_of<'a, R: WholeFiles + AllocGlobal>(
     rt: &R,
     name: &str,
     refusal: CompileRefusal,
-    is_for_person: bool,
+    listener: Listener,
 ) -> Fault<'a>
     ensures { IsOfSource refusal result }
 {
-    if !is_for_person {
+    if listener.look().is_none() {
         return Fault::from(refusal);
     }
     match read_file(rt, name) {
-        Ok(source) => source_fault(rt.alloc(), name, source.as_slice(), refusal, true),
+        Ok(source) => source_fault(rt.alloc(), name, source.as_slice(), refusal, listener),
         Err(_) => Fault::from(refusal),
     }
 }
@@ -85,12 +86,12 @@ pub fn named_fault<'a, R: WholeFiles + AllocGlobal>(
     rt: &R,
     name: &str,
     fault: NamedFault<'a>,
-    is_for_person: bool,
+    listener: Listener,
 ) -> Fault<'a>
     ensures { IsOfNamed fault.entry result }
 {
     match fault {
-        NamedFault::NotCompiled(refusal) => source_fault_of(rt, name, refusal, is_for_person),
+        NamedFault::NotCompiled(refusal) => source_fault_of(rt, name, refusal, listener),
         fault => Fault::from(fault),
     }
 }

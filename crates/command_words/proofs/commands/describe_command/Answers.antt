@@ -5,5 +5,6 @@ use Rattle.command_words.proofs.commands.describe_command.Goals as goal
 
 pub returns : goal.returns
 returns c =
-    IfOk-weaker c.arg.result _ _ (λ command h. h.shape c.reference_word.ensures.local
-    ∙ ap₂ with_rule c.new.ensures.app c.reference_word.ensures.rule) c.arg.ensures
+    IfOk-weaker c.arg-2.result _ _ (λ command h. h.shape c.explain_flag.ensures.local
+    ∙ ap₂ with_rule (c.in_ok-arg.ensures.shape c.reference_word.ensures.local
+    ∙ ap₂ with_rule c.new.ensures.app c.reference_word.ensures.rule) c.explain_flag.ensures.rule) c.arg-2.ensures

@@ -1,4 +1,4 @@
-use Rattle.std.proofs.Common.{◌≡◌, ◌∙◌, codes, refl, List, ℕ, Option, option_map}
+use Rattle.std.proofs.Common.{◌∙◌, codes, refl}
 use Rattle.clap.specs.Words.{found_of}
 use Rattle.clap.proofs.WalkLemmas.{first_value-rows}
 use Rattle.command_words.proofs.Calls.{found_is, not_lost, number_is, order_is}

@@ -1,0 +1,10 @@
+use Rattle.std.proofs.Common.{ap₂, ◌∙◌}
+use Rattle.std.proofs.lemmas.Result.{IfOk-weaker}
+use Rattle.clap.specs.Words.{with_rule}
+use Rattle.command_words.proofs.commands.table_command.Goals as goal
+
+pub returns : goal.returns
+returns c =
+    IfOk-weaker c.arg-2.result _ _ (λ command h. h.shape c.explain_flag.ensures.local
+    ∙ ap₂ with_rule (c.in_ok-arg.ensures.shape c.wanted.ensures.local
+    ∙ ap₂ with_rule c.new.ensures.app c.wanted.ensures.rule) c.explain_flag.ensures.rule) c.arg-2.ensures

@@ -1,0 +1,2 @@
+-- Which faults a person is told of.
+pub mod AllNames

@@ -1,0 +1,11 @@
+//! What a person is told of a refusal of anything but an IDL file: what it says, what is known, and
+//! what says more.
+#![tactic(auto)]
+
+mod known;
+mod parts;
+mod places;
+mod view;
+
+pub use known::table_known;
+pub use view::{number_in, refusal_view};
