@@ -68,7 +68,7 @@ impl<R: Read + Drop> Source<R> {
             reader,
             block,
             len,
-            is_due,
+            is_due: is_due || len == 0,
             grows: true,
         }
     }

@@ -130,6 +130,10 @@ pub fn dump_text<W: Words, R: Read + Drop, P: Patience, O: Write>(
             }
         }
     }
+    let left = reading.lines.octets.len();
+    if left > 0 {
+        told_line(words, alloc, &mut dump, &mut reading, left, out)?;
+    }
     if reading.stage != Stage::Behind {
         return Err(DumpFault::BadCapture {
             line: reading.number,
