@@ -2,6 +2,7 @@
 
 use crate::dump::Dump;
 use crate::fault::DumpFault;
+use crate::patience::Patience;
 use crate::source::Source;
 use crate::words::Words;
 use captures::Side;
@@ -55,23 +56,41 @@ pub(crate) fn told_ends<O: Write>(
         let text = dump.tell_end(alloc, side)?;
         put(out, text)?;
     }
+    flushed(out)
+}
+
+fn flushed<O: Write>(out: &mut O) -> Result<(), DumpFault> {
     match out.flush() {
         Ok(()) => Ok(()),
         Err(_) => Err(DumpFault::Unwritten),
     }
 }
 
+/// Looks at the next octets of a source, and tells whether there are any. Where it is read on, what was
+/// told stands on the output before.
+pub(crate) fn has_more<R: Read + Drop, O: Write>(
+    source: &mut Source<R>,
+    out: &mut O,
+) -> Result<bool, DumpFault> {
+    if source.is_due() {
+        flushed(out)?;
+    }
+    source.look()?;
+    Ok(!source.octets().is_empty())
+}
+
 /// Gives a direction the next octets of its source, and tells whether there were any.
-fn filled<R: Read + Drop>(
+fn filled<R: Read + Drop, O: Write>(
     dump: &mut Dump,
     side: Side,
     source: &mut Source<R>,
+    out: &mut O,
 ) -> Result<bool, DumpFault> {
-    if source.octets().is_empty() {
+    if !has_more(source, out)? {
         return Ok(false);
     }
     dump.add(side, source.octets())?;
-    source.go_on()?;
+    source.pass();
     Ok(true)
 }
 
@@ -83,11 +102,16 @@ struct Sources<R> {
 }
 
 impl<R: Read + Drop> Sources<R> {
-    fn fill(&mut self, dump: &mut Dump, side: Side) -> Result<bool, DumpFault> {
+    fn fill<O: Write>(
+        &mut self,
+        dump: &mut Dump,
+        side: Side,
+        out: &mut O,
+    ) -> Result<bool, DumpFault> {
         match side {
-            Side::First => filled(dump, side, &mut self.first),
+            Side::First => filled(dump, side, &mut self.first, out),
             Side::Second => match &mut self.second {
-                Some(source) => filled(dump, side, source),
+                Some(source) => filled(dump, side, source, out),
                 None => Ok(false),
             },
         }
@@ -116,30 +140,32 @@ fn gone_on<W: Words, R: Read + Drop, O: Write>(
 ) -> Result<bool, DumpFault> {
     match early(words, dump) {
         Some((reply, request)) => {
-            if !dump.is_early(words, request) && sources.fill(dump, request)? {
+            if !dump.is_early(words, request) && sources.fill(dump, request, out)? {
                 return Ok(true);
             }
             told(words, alloc, dump, reply, out)
         }
         None => {
-            if sources.fill(dump, Side::Second)? {
+            if sources.fill(dump, Side::Second, out)? {
                 return Ok(true);
             }
-            sources.fill(dump, Side::First)
+            sources.fill(dump, Side::First, out)
         }
     }
 }
 
-/// Tells the messages of one direction, or of both, each reply behind its request.
+/// Tells the messages of one direction, or of both, each reply behind its request, as soon as their octets
+/// were read. At the end of what is there it is waited as long as the patience lasts.
 ///
 /// # Errors
 /// A source can't be read, or the output written. Want of memory. What was told up to there is on the
 /// output.
-pub fn dump_octets<W: Words, R: Read + Drop, O: Write>(
+pub fn dump_octets<W: Words, R: Read + Drop, P: Patience, O: Write>(
     words: &mut W,
     alloc: Global,
     first: Source<R>,
     second: Option<Source<R>>,
+    patience: &mut P,
     out: &mut O,
 ) -> Result<(), DumpFault> {
     let mut dump = Dump::new(alloc);
@@ -151,7 +177,10 @@ pub fn dump_octets<W: Words, R: Read + Drop, O: Write>(
         if told_in_order(words, alloc, &mut dump, Side::First, out)? {
             continue;
         }
-        if !gone_on(words, alloc, &mut dump, &mut sources, out)? {
+        if gone_on(words, alloc, &mut dump, &mut sources, out)? {
+            continue;
+        }
+        if !patience.waits() {
             break;
         }
     }

@@ -13,6 +13,10 @@ pub struct Source<R> {
     block: Vec<u8>,
     /// So many octets of the block were given; none where the reader has ended.
     len: usize,
+    /// Whether it is read on before these are looked at again.
+    is_due: bool,
+    /// Whether it may go on behind its end.
+    grows: bool,
 }
 
 /// Why nothing was read.
@@ -42,7 +46,31 @@ impl<R: Read + Drop> Source<R> {
             return Err(SourceFault::NoMemory);
         };
         let len = read_block(&mut reader, &mut block)?;
-        Ok(Source { reader, block, len })
+        Ok(Source {
+            reader,
+            block,
+            len,
+            is_due: false,
+            grows: false,
+        })
+    }
+
+    /// The same, which may go on behind its end.
+    pub fn growing(self) -> Source<R> {
+        let Source {
+            reader,
+            block,
+            len,
+            is_due,
+            grows: _,
+        } = self;
+        Source {
+            reader,
+            block,
+            len,
+            is_due: is_due || len == 0,
+            grows: true,
+        }
     }
 
     /// The octets that were read last; none where there are no more.
@@ -53,9 +81,22 @@ impl<R: Read + Drop> Source<R> {
         }
     }
 
-    /// Reads on.
-    pub(crate) fn go_on(&mut self) -> Result<(), SourceFault> {
-        self.len = read_block(&mut self.reader, &mut self.block)?;
+    /// Whether the next look at its octets reads on.
+    pub(crate) fn is_due(&self) -> bool {
+        self.is_due
+    }
+
+    /// Reads on, where the octets that were read last were used.
+    pub(crate) fn look(&mut self) -> Result<(), SourceFault> {
+        if self.is_due {
+            self.len = read_block(&mut self.reader, &mut self.block)?;
+            self.is_due = self.len == 0 && self.grows;
+        }
         Ok(())
+    }
+
+    /// The octets that were read last were used.
+    pub(crate) fn pass(&mut self) {
+        self.is_due = true;
     }
 }

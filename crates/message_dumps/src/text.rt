@@ -4,7 +4,8 @@ ghost use Rattle.std.specs.Prelude.{◌≤◌, length};
 
 use crate::dump::Dump;
 use crate::fault::DumpFault;
-use crate::octets::{told, told_ends};
+use crate::octets::{has_more, told, told_ends};
+use crate::patience::Patience;
 use crate::source::Source;
 use crate::words::Words;
 use captures::{Backlog, CaptureFault, Followed, Piece, Stage, follow_line};
@@ -81,32 +82,35 @@ fn told_line<W: Words, O: Write>(
 }
 
 /// Reads on, and tells whether more came. A line that is too long is none.
-fn read_on<R: Read + Drop>(
+fn read_on<R: Read + Drop, O: Write>(
     reading: &mut Reading,
     source: &mut Source<R>,
+    out: &mut O,
 ) -> Result<bool, DumpFault> {
     if reading.lines.octets.len() > LONGEST_LINE {
         return Err(DumpFault::BadCapture {
             line: reading.number.saturating_add(1),
         });
     }
-    if source.octets().is_empty() {
+    if !has_more(source, out)? {
         return Ok(false);
     }
     reading.lines.add(source.octets())?;
-    source.go_on()?;
+    source.pass();
     Ok(true)
 }
 
-/// Tells the messages of both directions, as they went, by what tshark prints of them.
+/// Tells the messages of both directions, as they went, by what tshark prints of them. At the end of what
+/// is there it is waited as long as the patience lasts.
 ///
 /// # Errors
 /// `BadCapture` at the first line that is none of such a text. The source can't be read, or the output
 /// written. Want of memory. What was told up to there is on the output.
-pub fn dump_text<W: Words, R: Read + Drop, O: Write>(
+pub fn dump_text<W: Words, R: Read + Drop, P: Patience, O: Write>(
     words: &mut W,
     alloc: Global,
     source: Source<R>,
+    patience: &mut P,
     out: &mut O,
 ) -> Result<(), DumpFault> {
     let mut source = source;
@@ -120,11 +124,15 @@ pub fn dump_text<W: Words, R: Read + Drop, O: Write>(
         match memchr(b'\n', reading.lines.octets.as_slice()) {
             Some(len) => told_line(words, alloc, &mut dump, &mut reading, len, out)?,
             None => {
-                if !read_on(&mut reading, &mut source)? {
+                if !read_on(&mut reading, &mut source, out)? && !patience.waits() {
                     break;
                 }
             }
         }
+    }
+    let left = reading.lines.octets.len();
+    if left > 0 {
+        told_line(words, alloc, &mut dump, &mut reading, left, out)?;
     }
     if reading.stage != Stage::Behind {
         return Err(DumpFault::BadCapture {
