@@ -167,7 +167,8 @@ struct idlc_refusal {
     uint32_t node;
 };
 
-/* Where a text was refused, and the number. Lines and columns count from 1, columns in octets; of IDL the column is 0. */
+/* Where a text was refused, and the number. Lines and columns count from 1, columns in octets; 0 is told where the octets
+ * aren't UTF-8, or where no column of IDL is known. */
 struct idlc_place {
     uint32_t number;
     size_t line;

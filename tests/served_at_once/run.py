@@ -6,6 +6,7 @@ is installed, eight of its clients too.
 import concurrent.futures
 import os
 import pty
+import resource
 import shutil
 import socket
 import struct
@@ -16,7 +17,7 @@ from driver.workspace import TOP
 
 PROGRAM = TOP / "crates" / "idlc_main" / "out" / "idlc_main"
 
-CALLS = 100
+CALLS = 500
 CLOSE = b"GIOP\x01\x02\x00\x05\x00\x00\x00\x00"
 ERROR = b"GIOP\x01\x02\x00\x06\x00\x00\x00\x00"
 
@@ -63,26 +64,32 @@ def number_in(body):
 class Server:
     """The program, which serves the object of `hello.idl`."""
 
-    def __init__(self, table, connections, *words, err=subprocess.PIPE):
+    def __init__(self, table, connections, *words, err=subprocess.PIPE, files=None):
         # another process may take the port that was free a moment ago
         for _ in range(9):
-            self.start(table, connections, words, err)
+            self.start(table, connections, words, err, files)
             if self.line:
                 return
             self.process.communicate(timeout=60)
 
-    def start(self, table, connections, words, err=subprocess.PIPE):
+    def start(self, table, connections, words, err, files):
         with socket.socket() as probe:
             probe.bind(("127.0.0.1", 0))
             self.port = probe.getsockname()[1]
         self.process = subprocess.Popen(
             [PROGRAM, "serve", table, "--port", str(self.port), "--object", "K=Hello", "--connections", str(connections), *words],
             stdout=subprocess.PIPE, stderr=err, text=True,
+            preexec_fn=lambda: resource.setrlimit(resource.RLIMIT_NOFILE, (files, files)) if files else None,
         )
         self.line = self.process.stdout.readline()
 
-    def connect(self):
-        stream = socket.create_connection(("127.0.0.1", self.port), timeout=30)
+    def connect(self, room=None):
+        """A connection; with room for so few octets that are not read yet."""
+        stream = socket.socket()
+        stream.settimeout(30)
+        if room:
+            stream.setsockopt(socket.SOL_SOCKET, socket.SO_RCVBUF, room)
+        stream.connect(("127.0.0.1", self.port))
         stream.setsockopt(socket.IPPROTO_TCP, socket.TCP_NODELAY, 1)
         return stream
 
@@ -139,6 +146,18 @@ def breaking_off(table, count):
     count.add(server.end() == (0, True), "after clients that broke off")
 
 
+def few_files(table, count):
+    """More clients than the process may have files: those that can't be accepted wait, and that is told once."""
+    server = Server(table, 40, "--at-once", "64", files=16)
+    streams = [server.connect() for _ in range(40)]
+    for stream in streams:
+        count.add(call(stream, 1, "ping") == b"", "where files are wanting")
+        stream.close()
+    out, err = server.process.communicate(timeout=60)
+    told = (server.process.returncode, out, err)
+    count.add(told == (0, "", "idlc: no connection can be accepted, trying again\n"), f"where files are wanting: {told}")
+
+
 def idle(table, count):
     for words in (("--idle", "1"), ("--idle", "1", "--at-once", "2")):
         server = Server(table, 2, *words)
@@ -170,6 +189,39 @@ def unread(table, count):
                 got = read_to_end(stream)
             count.add(got is not None and got[-12:] == ERROR, f"{words}: {got}")
         count.add(server.end() == (0, True), f"{words}: after octets that stay unread")
+
+
+def text(octets):
+    """A text as it stands in a body."""
+    return struct.pack(">I", len(octets) + 1) + octets + b"\x00"
+
+
+def highest(process):
+    """The most octets of memory that the process has held."""
+    with open(f"/proc/{process.pid}/status") as status:
+        line = next(line for line in status if line.startswith("VmHWM:"))
+    return int(line.split()[1]) * 1024
+
+
+def bounded(table, count):
+    """64 clients whose large answers wait, since none of them reads."""
+    server = Server(table, 64, "--at-once", "64")
+    streams = [server.connect(room=4096) for _ in range(64)]
+    for stream in streams:
+        call(stream, 0, "ping")
+    before = highest(server.process)
+    asked = request(1, "echo", text(bytes([65]) * 1000000))
+    with concurrent.futures.ThreadPoolExecutor(64) as pool:
+        list(pool.map(lambda stream: stream.sendall(asked), streams))
+        # what is behind the head says that the answer was made
+        list(pool.map(lambda stream: received(stream, 12), streams))
+        held = (highest(server.process) - before) / 64
+        count.add(held <= 3 * 2**20, f"{held:.0f} octets of memory for a client")
+        behind = list(pool.map(lambda stream: received(stream, 12 + 4 + 1000001), streams))
+    count.add(all(octets[-3:] == b"AA\x00" for octets in behind), "large answers that had to wait")
+    for stream in streams:
+        stream.close()
+    count.add(server.end() == (0, True), "after 64 large requests")
 
 
 def status_line(table, count):
@@ -229,7 +281,7 @@ def run(test):
     table = test.room / "hello.table"
     made = test.call([PROGRAM, "compile", TOP / "examples" / "idl" / "hello.idl", "-o", table])
     count.add(made.status == 0, f"hello.idl: {made.err}")
-    for part in (one_silent, sixty_four, breaking_off, idle, unread, status_line, usage):
+    for part in (one_silent, sixty_four, bounded, breaking_off, few_files, idle, unread, status_line, usage):
         part(table, count)
     orb(table, count, test.room)
     return count

@@ -13,6 +13,7 @@ ghost use Rattle.idlc_c.specs.MessageAnswers.{HasNoMessage, HasNoReply, HasNoReq
 ghost use Rattle.idlc_c.specs.SourceAnswers.{IsFaultAt, IsIdlOf, IsOfSource};
 ghost use Rattle.idlc_c.specs.TextAnswers.{HasNoOctetsOfText, HasOctetsOfText, HasTextOfOctets, IsOctetsOfText, IsOfText, IsTextOfOctets, SaysNone};
 
+mod column;
 mod compile;
 mod handle;
 mod held;
@@ -28,6 +29,7 @@ mod source_fault;
 mod source_place;
 mod text;
 
+use crate::column::column_of;
 use crate::marshal::order;
 use crate::messages::{buffer_number, message_told};
 use crate::refusal::{Refusal, told, told_at};
@@ -99,6 +101,7 @@ pub extern "C" fn idlc_compile(
         Err(SourceFault::NoMemory) => 42,
         Err(fault) => {
             *place = fault.place();
+            place.column = column_of(alloc, source, place.line);
             47
         }
     }

@@ -1,0 +1,17 @@
+//! The column at which an IDL text is refused.
+
+use fault_views::{Spot, known_of};
+use source_places::line_start;
+use std::alloc::Global;
+
+/// The column of the first fault, which is in this line: it counts from 1, in octets. 0 where it isn't known,
+/// also for want of memory.
+pub(crate) fn column_of(alloc: Global, source: &[u8], line: usize) -> usize {
+    let Ok(Some(known)) = known_of(alloc, source) else {
+        return 0;
+    };
+    match (known.spot, line_start(source, line)) {
+        (Spot::Octet(octet), Some(start)) if start <= octet => (octet - start).saturating_add(1),
+        _ => 0,
+    }
+}
