@@ -17,7 +17,7 @@ from driver.workspace import TOP
 
 PROGRAM = TOP / "crates" / "idlc_main" / "out" / "idlc_main"
 
-CALLS = 500
+CALLS = 1000
 CLOSE = b"GIOP\x01\x02\x00\x05\x00\x00\x00\x00"
 ERROR = b"GIOP\x01\x02\x00\x06\x00\x00\x00\x00"
 
