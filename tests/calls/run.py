@@ -6,6 +6,7 @@ prints on both streams, its status, what the servers were asked, and that it end
 import importlib.util
 import pathlib
 import re
+import shutil
 import socket
 import struct
 import subprocess
@@ -217,6 +218,20 @@ def repeated(calls):
         calls.check("the third fails", (wanted, 3), (got[:2], len(server.asked)))
 
 
+def small(calls):
+    """Hostile servers take no more than 4 MiB of memory, where `time` is there to tell."""
+    timed = shutil.which("time")
+    silences = [bytes(1 << 20), b"GIOP\x01\x02\x00\x01\x00\x10\x00\x00" + bytes(1 << 20), bytes(12)]
+    scripts = [silent, dripping, flooding, deaf, *(saying(octets) for octets in silences)]
+    for script in scripts if timed else []:
+        server = peer.Peer(script)
+        words = [timed, "-f", "%M", PROGRAM, "call", calls.table, calls.ior(server.port), *ADD, "--wait", "1"]
+        done = subprocess.run([str(word) for word in words], capture_output=True, text=True, timeout=60)
+        most = int(done.stderr.split()[-1])
+        calls.count.add(done.returncode in (1, 3) and most <= 4096, f"memory: {done.returncode}, {most} KiB")
+        server.close()
+
+
 def named(calls):
     """Operations by names, references and arguments by texts and files."""
     ping = (0, "[]\n", "")
@@ -291,6 +306,6 @@ def run(test):
     if built.status:
         return Count(0, [built.out + built.err])
     calls = Calls(test)
-    for part in (both_ends, results, exceptions, forwards, closing, hostile, waiting, asked, repeated, named):
+    for part in (both_ends, results, exceptions, forwards, closing, hostile, waiting, asked, repeated, small, named):
         part(calls)
     return calls.count
