@@ -30,4 +30,4 @@ module _ (Reads : Passing) (ask : Ask) (result : Result Answer Fault) where
   answers (tasks.Check table) is value reference explanation description = absurd cc
   answers (tasks.Show table types) is value reference explanation description = absurd cc
   answers (tasks.Upgrade table output) is value reference explanation description = absurd cc
-  answers (tasks.Compile source output explains) is value reference explanation description = absurd cc
+  answers (tasks.Compile source output) is value reference explanation description = absurd cc
