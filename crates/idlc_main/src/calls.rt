@@ -80,6 +80,8 @@ struct Calling<'t, 'a> {
     reference: &'t str,
     value: &'t str,
     task: &'t CallTask<'a>,
+    /// Whether a person hears how far it is.
+    is_for_person: bool,
 }
 
 /// One call. The reference is read for it, since the call takes it.
@@ -135,8 +137,15 @@ fn conclusion(alloc: Global, ending: Ending, times: Option<Times>) -> Result<Con
     Ok(Concluded { text, end, times })
 }
 
+/// Tells a person once a second how far the calls are.
+fn tell_progress<R: Clock + Eprint>(rt: &R, times: &mut Times, is_for_person: bool) {
+    if is_for_person && times.is_due(rt) {
+        let _ = eprintln!(rt; "idlc: {times}");
+    }
+}
+
 /// Makes one call after the other, up to the first that raises an exception.
-fn repeated<'a, R: Net + Clock + AllocGlobal>(
+fn repeated<'a, R: Net + Clock + Eprint + AllocGlobal>(
     rt: &R,
     calling: &Calling<'_, 'a>,
 ) -> Result<Concluded, Fault<'a>> {
@@ -148,6 +157,7 @@ fn repeated<'a, R: Net + Clock + AllocGlobal>(
         times.begin(rt);
         ending = once(rt, &mut dialler, calling, count + 1)?;
         times.end(rt);
+        tell_progress(rt, &mut times, calling.is_for_person);
         if !is_done(&ending) {
             break;
         }
@@ -158,10 +168,11 @@ fn repeated<'a, R: Net + Clock + AllocGlobal>(
 }
 
 /// Calls an object with the table that was loaded.
-fn called_by<'a, R: WholeFiles + Net + Clock + AllocGlobal>(
+fn called_by<'a, R: WholeFiles + Net + Clock + Eprint + AllocGlobal>(
     rt: &R,
     loaded: &Loaded,
     task: &CallTask<'a>,
+    is_for_person: bool,
 ) -> Result<Concluded, Fault<'a>> {
     let reference = text_of(rt, task.reference)?;
     let value = text_of(rt, task.value.unwrap_or(NO_ARGUMENTS))?;
@@ -177,18 +188,19 @@ fn called_by<'a, R: WholeFiles + Net + Clock + AllocGlobal>(
         reference: reference.as_str().trim_ascii(),
         value: value.as_str(),
         task,
+        is_for_person,
     };
     repeated(rt, &calling)
 }
 
 /// Calls an object by the table of a name, as often as is asked for.
-pub fn called<'a, R: WholeFiles + Net + Clock + AllocGlobal>(
+pub fn called<'a, R: WholeFiles + Net + Clock + Eprint + AllocGlobal>(
     rt: &R,
     task: &CallTask<'a>,
     is_for_person: bool,
 ) -> Result<Concluded, Fault<'a>> {
     match load(rt, task.table) {
-        Ok(loaded) => called_by(rt, &loaded, task),
+        Ok(loaded) => called_by(rt, &loaded, task, is_for_person),
         Err(fault) => Err(named_fault(rt, task.table, fault, is_for_person)),
     }
 }
