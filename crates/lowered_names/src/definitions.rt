@@ -11,7 +11,7 @@ use idl_tree::names::{Leaf, Listed};
 use idl_tree::spec::Spec;
 use lowered_operations::Signature;
 use lowered_types::{BuildFault, TypeTable, declared_entry};
-use scoped_names::Names;
+use scoped_names::{Names, Scope};
 use std::alloc::Global;
 
 impl<'a> PartList<'a> {
@@ -20,7 +20,7 @@ impl<'a> PartList<'a> {
         alloc: Global,
         names: &Names<'a>,
         signatures: &[Signature],
-        scope: usize,
+        scope: Scope,
         is_set: bool,
         identifiers: &Listed<Leaf<'a>>,
     ) -> Result<(), BuildFault>
@@ -39,7 +39,7 @@ impl<'a> PartList<'a> {
         alloc: Global,
         names: &Names<'a>,
         signatures: &[Signature],
-        scope: usize,
+        scope: Scope,
         declared: &Attributes<'a>,
     ) -> Result<(), BuildFault>
         ensures { Tells result (λ u. self.new) (each (identifier_parts names.now.entries signatures.now scope
@@ -68,7 +68,7 @@ impl<'a> PartList<'a> {
         names: &Names<'a>,
         types: &TypeTable,
         signatures: &[Signature],
-        scope: usize,
+        scope: Scope,
         export: &Export<'a>,
     ) -> Result<(), BuildFault>
         ensures { Tells result (λ u. self.new)
@@ -94,7 +94,7 @@ impl<'a> PartList<'a> {
         names: &Names<'a>,
         types: &TypeTable,
         signatures: &[Signature],
-        scope: usize,
+        scope: Scope,
         exports: &[Export<'a>],
     ) -> Result<(), BuildFault>
         ensures { Tells result (λ u. self.new)
@@ -112,7 +112,7 @@ impl<'a> PartList<'a> {
         names: &Names<'a>,
         types: &TypeTable,
         signatures: &[Signature],
-        scope: usize,
+        scope: Scope,
         interface: &Interface<'a>,
     ) -> Result<(), BuildFault>
         ensures { Tells result (λ u. self.new)
@@ -131,7 +131,7 @@ impl<'a> PartList<'a> {
                     names,
                     types,
                     signatures,
-                    entry + 1,
+                    Scope(entry + 1),
                     exports.as_slice(),
                 )
             }
@@ -145,7 +145,7 @@ impl<'a> PartList<'a> {
         names: &Names<'a>,
         types: &TypeTable,
         signatures: &[Signature],
-        scope: usize,
+        scope: Scope,
         definition: &Definition<'a>,
     ) -> Result<(), BuildFault>
         ensures { Tells result (λ u. self.new)
@@ -164,7 +164,7 @@ impl<'a> PartList<'a> {
                     names,
                     types,
                     signatures,
-                    entry + 1,
+                    Scope(entry + 1),
                     m.definitions.as_slice(),
                 )
             }
@@ -178,7 +178,7 @@ impl<'a> PartList<'a> {
         names: &Names<'a>,
         types: &TypeTable,
         signatures: &[Signature],
-        scope: usize,
+        scope: Scope,
         definitions: &[Definition<'a>],
     ) -> Result<(), BuildFault>
         ensures { Tells result (λ u. self.new)
@@ -211,7 +211,7 @@ pub(crate) fn parts_of_file<'a>(
         names,
         types,
         signatures,
-        0,
+        Scope::FILE,
         spec.definitions.as_slice(),
     )?;
     Ok(list)

@@ -12,7 +12,7 @@ use idl_tree::definitions::{Direction, Operation, Param};
 use idl_tree::names::{Leaf, Listed};
 use lowered_operations::{Role, Signature};
 use lowered_types::{BuildFault, declared_entry};
-use scoped_names::Names;
+use scoped_names::{Names, Scope};
 use std::alloc::{AllocError, Global};
 
 fn is_in(direction: Direction) -> bool
@@ -159,7 +159,7 @@ impl<'a> PartList<'a> {
         alloc: Global,
         names: &Names<'a>,
         signatures: &[Signature],
-        scope: usize,
+        scope: Scope,
         o: &Operation<'a>,
     ) -> Result<(), BuildFault>
         ensures { Tells result (λ u. self.new) (operation_parts names.now.entries signatures.now scope self.old o.now) }
@@ -202,7 +202,7 @@ impl<'a> PartList<'a> {
         alloc: Global,
         names: &Names<'a>,
         signatures: &[Signature],
-        scope: usize,
+        scope: Scope,
         is_set: bool,
         identifier: Leaf<'a>,
     ) -> Result<(), BuildFault>

@@ -12,7 +12,7 @@ use crate::table::OperationTable;
 use idl_tree::definitions::{Attribute, Attributes, Direction};
 use idl_tree::names::{At, Leaf, Listed};
 use lowered_types::{BuildFault, Place, declared_entry};
-use scoped_names::Names;
+use scoped_names::{Names, Scope};
 use std::alloc::Global;
 
 /// Whether attributes that are declared together are set too.
@@ -83,7 +83,7 @@ impl OperationTable {
         self,
         alloc: Global,
         names: &Names<'a>,
-        scope: usize,
+        scope: Scope,
         number: u32,
         declared: &Attributes<'a>,
         identifier: Leaf<'a>,
@@ -105,7 +105,7 @@ impl OperationTable {
         self,
         alloc: Global,
         names: &Names<'a>,
-        scope: usize,
+        scope: Scope,
         number: u32,
         declared: &Attributes<'a>,
         identifiers: &Listed<Leaf<'a>>,
@@ -126,7 +126,7 @@ impl OperationTable {
         self,
         alloc: Global,
         names: &Names<'a>,
-        scope: usize,
+        scope: Scope,
         number: u32,
         declared: &Attributes<'a>,
     ) -> Result<OperationTable, BuildFault>
@@ -155,7 +155,7 @@ impl OperationTable {
         self,
         alloc: Global,
         names: &Names<'a>,
-        scope: usize,
+        scope: Scope,
         a: &Attribute<'a>,
     ) -> Result<OperationTable, BuildFault>
         requires { scope ≤ length names.now.entries }

@@ -9,7 +9,7 @@ ghost use Rattle.lowered_operations.specs.Frames.{all_carried, frame_added, fram
 use idl_tree::definitions::{Direction, Operation, Param};
 use idl_tree::names::{At, Listed};
 use lowered_types::{BuildFault, MemberList, TypeTable};
-use scoped_names::Names;
+use scoped_names::{Names, Scope};
 use std::alloc::Global;
 use type_graph::Node;
 use type_paths::NodeSites;
@@ -70,7 +70,7 @@ impl Carrying {
         self,
         alloc: Global,
         names: &Names<'a>,
-        scope: usize,
+        scope: Scope,
         param: &Param<'a>,
     ) -> Result<Carrying, BuildFault>
         requires { scope ≤ length names.now.entries }
@@ -87,7 +87,7 @@ impl Carrying {
         self,
         alloc: Global,
         names: &Names<'a>,
-        scope: usize,
+        scope: Scope,
         params: &Listed<Param<'a>>,
     ) -> Result<Carrying, BuildFault>
         requires { scope ≤ length names.now.entries }
@@ -106,7 +106,7 @@ fn lower_result<'a>(
     types: TypeTable,
     alloc: Global,
     names: &Names<'a>,
-    scope: usize,
+    scope: Scope,
     at: At,
     o: &Operation<'a>,
 ) -> Result<Carrying, BuildFault>
@@ -130,7 +130,7 @@ pub(crate) fn lower_carried<'a>(
     types: TypeTable,
     alloc: Global,
     names: &Names<'a>,
-    scope: usize,
+    scope: Scope,
     o: &Operation<'a>,
 ) -> Result<Carrying, BuildFault>
     requires { scope ≤ length names.now.entries }

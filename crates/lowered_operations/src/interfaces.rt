@@ -12,7 +12,7 @@ use idl_tree::definitions::{Export, Interface};
 use idl_tree::names::Leaf;
 use indexmap::IndexSet;
 use lowered_types::{BuildFault, Place, declared_entry};
-use scoped_names::Names;
+use scoped_names::{Names, Scope};
 use std::alloc::Global;
 use type_graph::Items;
 
@@ -125,7 +125,7 @@ impl OperationTable {
         self,
         alloc: Global,
         names: &Names<'a>,
-        scope: usize,
+        scope: Scope,
         export: &Export<'a>,
     ) -> Result<OperationTable, BuildFault>
         requires { scope ≤ length names.now.entries }
@@ -143,7 +143,7 @@ impl OperationTable {
         self,
         alloc: Global,
         names: &Names<'a>,
-        scope: usize,
+        scope: Scope,
         exports: &[Export<'a>],
     ) -> Result<OperationTable, BuildFault>
         requires { scope ≤ length names.now.entries }
@@ -196,7 +196,7 @@ impl OperationTable {
     {
         let first = self.operations.len();
         let table = self.with_reference(entry)?;
-        let table = table.with_exports(alloc, names, entry + 1, exports)?;
+        let table = table.with_exports(alloc, names, Scope(entry + 1), exports)?;
         let offered = offering(names, &table, alloc, entry, first)?;
         table.with_offered(entry, offered)
     }
@@ -209,7 +209,7 @@ impl OperationTable {
         self,
         alloc: Global,
         names: &Names<'a>,
-        scope: usize,
+        scope: Scope,
         interface: &Interface<'a>,
     ) -> Result<OperationTable, BuildFault>
         requires { scope ≤ length names.now.entries }

@@ -11,7 +11,7 @@ use crate::signature::Role;
 use crate::table::OperationTable;
 use idl_tree::definitions::Operation;
 use lowered_types::{BuildFault, Place, declared_entry};
-use scoped_names::Names;
+use scoped_names::{Names, Scope};
 use std::alloc::Global;
 
 impl OperationTable {
@@ -20,7 +20,7 @@ impl OperationTable {
         self,
         alloc: Global,
         names: &Names<'a>,
-        scope: usize,
+        scope: Scope,
         carried: Carried,
         o: &Operation<'a>,
     ) -> Result<OperationTable, BuildFault>
@@ -49,7 +49,7 @@ impl OperationTable {
         self,
         alloc: Global,
         names: &Names<'a>,
-        scope: usize,
+        scope: Scope,
         o: &Operation<'a>,
     ) -> Result<OperationTable, BuildFault>
         requires { scope ≤ length names.now.entries }

@@ -9,14 +9,14 @@ ghost use Rattle.lowered_operations.specs.Operations.{exception_found, get_raise
 use idl_tree::definitions::Attributes;
 use idl_tree::names::{Listed, ScopedName};
 use lowered_types::{BuildFault, Place, TypeTable, resolved};
-use scoped_names::Names;
+use scoped_names::{Names, Scope};
 use std::alloc::Global;
 
 /// The place of the exception that a name finds. Takes no memory.
 fn find_exception<'a>(
     names: &Names<'a>,
     types: &TypeTable,
-    scope: usize,
+    scope: Scope,
     name: &ScopedName<'a>,
 ) -> Result<usize, BuildFault>
     requires { scope ≤ length names.now.entries }
@@ -37,7 +37,7 @@ fn find_raised<'a>(
     names: &Names<'a>,
     types: &TypeTable,
     alloc: Global,
-    scope: usize,
+    scope: Scope,
     raises: &Listed<ScopedName<'a>>,
 ) -> Result<Vec<usize>, BuildFault>
     requires { scope ≤ length names.now.entries }
@@ -59,7 +59,7 @@ pub(crate) fn find_all_raised<'a>(
     names: &Names<'a>,
     types: &TypeTable,
     alloc: Global,
-    scope: usize,
+    scope: Scope,
     raises: &Option<Listed<ScopedName<'a>>>,
 ) -> Result<Vec<usize>, BuildFault>
     requires { scope ≤ length names.now.entries }
@@ -79,7 +79,7 @@ pub(crate) fn find_get_raised<'a>(
     names: &Names<'a>,
     types: &TypeTable,
     alloc: Global,
-    scope: usize,
+    scope: Scope,
     declared: &Attributes<'a>,
 ) -> Result<Vec<usize>, BuildFault>
     requires { scope ≤ length names.now.entries }
@@ -100,7 +100,7 @@ pub(crate) fn find_set_raised<'a>(
     names: &Names<'a>,
     types: &TypeTable,
     alloc: Global,
-    scope: usize,
+    scope: Scope,
     declared: &Attributes<'a>,
 ) -> Result<Vec<usize>, BuildFault>
     requires { scope ≤ length names.now.entries }

@@ -16,7 +16,7 @@ use crate::types::{lower_member, lower_struct, lower_type, lower_union};
 use idl_tree::definitions::{Declaration, Except, TypeDcl};
 use idl_tree::names::{At, Leaf, Listed};
 use idl_tree::types::Declarator;
-use scoped_names::Names;
+use scoped_names::{Names, Scope};
 use std::alloc::Global;
 use type_graph::Node;
 use type_paths::NodeSites;
@@ -47,7 +47,7 @@ impl TypeTable {
         self,
         alloc: Global,
         names: &Names<'a>,
-        scope: usize,
+        scope: Scope,
         d: &Declaration<'a>,
     ) -> Result<TypeTable, BuildFault>
         requires { scope ≤ length names.now.entries }
@@ -64,7 +64,7 @@ fn lower_typedef<'a>(
     names: &Names<'a>,
     table: &mut TypeTable,
     alloc: Global,
-    scope: usize,
+    scope: Scope,
     number: u32,
     declarator: &Declarator<'a>,
 ) -> Result<(), BuildFault>
@@ -80,7 +80,7 @@ fn lower_typedefs<'a>(
     names: &Names<'a>,
     table: &mut TypeTable,
     alloc: Global,
-    scope: usize,
+    scope: Scope,
     number: u32,
     declarators: &Listed<Declarator<'a>>,
 ) -> Result<(), BuildFault>
@@ -99,7 +99,7 @@ fn lower_ahead<'a>(
     names: &Names<'a>,
     table: &mut TypeTable,
     alloc: Global,
-    scope: usize,
+    scope: Scope,
     identifier: Leaf<'a>,
 ) -> Result<(), BuildFault>
     ensures { Tells result (λ u. table.new) (ahead names.now.entries table.old scope identifier.entry) }
@@ -113,7 +113,7 @@ fn lower_type_dcl<'a>(
     names: &Names<'a>,
     table: &mut TypeTable,
     alloc: Global,
-    scope: usize,
+    scope: Scope,
     t: &TypeDcl<'a>,
 ) -> Result<(), BuildFault>
     requires { scope ≤ length names.now.entries }
@@ -149,7 +149,7 @@ fn lower_except<'a>(
     names: &Names<'a>,
     table: &mut TypeTable,
     alloc: Global,
-    scope: usize,
+    scope: Scope,
     e: &Except<'a>,
 ) -> Result<(), BuildFault>
     requires { scope ≤ length names.now.entries }
@@ -157,9 +157,10 @@ fn lower_except<'a>(
 {
     let at = e.identifier.at();
     let entry = declared_entry(names, scope, e.identifier)?;
+    let inside = Scope(entry + 1);
     let mut members = id_member(alloc, at)?;
     for member in &e.members {
-        lower_member(names, table, alloc, entry + 1, member, &mut members)?;
+        lower_member(names, table, alloc, inside, member, &mut members)?;
     }
     table.add_exception(entry, members, at)
 }
@@ -169,7 +170,7 @@ fn lower_declaration<'a>(
     names: &Names<'a>,
     table: &mut TypeTable,
     alloc: Global,
-    scope: usize,
+    scope: Scope,
     d: &Declaration<'a>,
 ) -> Result<(), BuildFault>
     requires { scope ≤ length names.now.entries }

@@ -18,7 +18,7 @@ use const_values::{ConstKind, Constant};
 use idl_tree::expression::Expr;
 use idl_tree::names::{At, Listed};
 use idl_tree::types::{Label, SwitchType};
-use scoped_names::Names;
+use scoped_names::{Names, Scope};
 use std::alloc::Global;
 use std::marker::Model;
 use type_graph::{GraphLimit, Node, Values, Width};
@@ -145,7 +145,7 @@ fn add_label<'a>(
     names: &Names<'a>,
     read: &mut CaseLabels,
     alloc: Global,
-    scope: usize,
+    scope: Scope,
     switch: Switch,
     arms: &ArmList,
     label: &Label<'a>,
@@ -173,7 +173,7 @@ fn add_label<'a>(
 pub(crate) fn read_labels<'a>(
     alloc: Global,
     names: &Names<'a>,
-    scope: usize,
+    scope: Scope,
     switch: Switch,
     arms: &ArmList,
     labels: &Listed<Label<'a>>,
@@ -254,7 +254,7 @@ fn label_within(
 fn read_label<'a>(
     alloc: Global,
     names: &Names<'a>,
-    scope: usize,
+    scope: Scope,
     switch: Switch,
     expr: &Expr<'a>,
 ) -> Result<i128, BuildFault>
@@ -321,7 +321,7 @@ fn values_of(node: Option<&Node>) -> Option<Values>
 /// `OtherNames` where its name finds nothing.
 fn kind_of<'a>(
     names: &Names<'a>,
-    scope: usize,
+    scope: Scope,
     switch: &SwitchType<'a>,
 ) -> Result<Option<ConstKind>, BuildFault>
     requires { scope ≤ length names.now.entries }
@@ -375,7 +375,7 @@ fn lower_switch_type<'a>(
     names: &Names<'a>,
     table: &mut TypeTable,
     alloc: Global,
-    scope: usize,
+    scope: Scope,
     switch: &SwitchType<'a>,
 ) -> Result<u32, BuildFault>
     requires { scope ≤ length names.now.entries }
@@ -398,7 +398,7 @@ pub(crate) fn lower_switch<'a>(
     names: &Names<'a>,
     table: &mut TypeTable,
     alloc: Global,
-    scope: usize,
+    scope: Scope,
     at: At,
     switch: &SwitchType<'a>,
 ) -> Result<Switch, BuildFault>

@@ -11,7 +11,7 @@ use crate::simple::lower_param_type;
 use crate::table::TypeTable;
 use idl_tree::names::At;
 use idl_tree::types::ParamType;
-use scoped_names::Names;
+use scoped_names::{Names, Scope};
 use std::alloc::Global;
 use type_graph::Node;
 use type_paths::NodeSites;
@@ -61,7 +61,7 @@ impl TypeTable {
         self,
         alloc: Global,
         names: &Names<'a>,
-        scope: usize,
+        scope: Scope,
         t: &ParamType<'a>,
     ) -> Result<(TypeTable, u32), BuildFault>
         requires { scope ≤ length names.now.entries }

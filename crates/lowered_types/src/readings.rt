@@ -11,7 +11,7 @@ use idl_tree::const_expr::{Bound, ConstExpr};
 use idl_tree::expression::Expr;
 use idl_tree::names::{Leaf, ScopedName};
 use idl_tree::types::{Integer, IntegerSize};
-use scoped_names::{NameFault, Names};
+use scoped_names::{NameFault, Names, Scope};
 use std::alloc::Global;
 use type_graph::GraphLimit;
 
@@ -25,7 +25,7 @@ const MAX_BOUND: u32 = 4_294_967_295;
 /// `OtherNames` where it wasn't.
 pub fn declared_entry<'a>(
     names: &Names<'a>,
-    scope: usize,
+    scope: Scope,
     identifier: Leaf<'a>,
 ) -> Result<usize, BuildFault>
     ensures told { result ≡ entry_of names.now.entries scope identifier.entry }
@@ -45,7 +45,7 @@ pub fn declared_entry<'a>(
 /// `OtherNames` where it finds none.
 pub fn resolved<'a>(
     names: &Names<'a>,
-    scope: usize,
+    scope: Scope,
     name: &ScopedName<'a>,
 ) -> Result<usize, BuildFault>
     requires { scope ≤ length names.now.entries }
@@ -79,7 +79,7 @@ pub(crate) fn integer_number(integer: Integer) -> u32
 pub(crate) fn read_value<'a>(
     alloc: Global,
     names: &Names<'a>,
-    scope: usize,
+    scope: Scope,
     expr: &Expr<'a>,
 ) -> Result<Constant, BuildFault>
     requires { scope ≤ length names.now.entries }
@@ -96,7 +96,7 @@ pub(crate) fn read_value<'a>(
 fn read_number<'a>(
     alloc: Global,
     names: &Names<'a>,
-    scope: usize,
+    scope: Scope,
     expr: &Expr<'a>,
 ) -> Result<u128, BuildFault>
     requires { scope ≤ length names.now.entries }
@@ -116,7 +116,7 @@ fn read_number<'a>(
 pub(crate) fn read_bound<'a>(
     alloc: Global,
     names: &Names<'a>,
-    scope: usize,
+    scope: Scope,
     bound: &Bound<'a>,
 ) -> Result<u32, BuildFault>
     requires { scope ≤ length names.now.entries }
@@ -131,7 +131,7 @@ pub(crate) fn read_bound<'a>(
 pub(crate) fn read_bound_or_none<'a>(
     alloc: Global,
     names: &Names<'a>,
-    scope: usize,
+    scope: Scope,
     bound: &Option<Bound<'a>>,
 ) -> Result<u32, BuildFault>
     requires { scope ≤ length names.now.entries }
@@ -150,7 +150,7 @@ pub(crate) fn read_bound_or_none<'a>(
 fn read_size<'a>(
     alloc: Global,
     names: &Names<'a>,
-    scope: usize,
+    scope: Scope,
     size: &ConstExpr<'a>,
 ) -> Result<u32, BuildFault>
     requires { scope ≤ length names.now.entries }
@@ -168,7 +168,7 @@ fn read_size<'a>(
 pub(crate) fn read_sizes<'a>(
     alloc: Global,
     names: &Names<'a>,
-    scope: usize,
+    scope: Scope,
     sizes: &[ConstExpr<'a>],
 ) -> Result<Vec<u32>, BuildFault>
     requires { scope ≤ length names.now.entries }

@@ -10,7 +10,7 @@ use crate::readings::{declared_entry, integer_number, read_bound, read_bound_or_
 use crate::table::{TypeTable, find_type};
 use idl_tree::names::At;
 use idl_tree::types::{ConstType, Declarator, EnumType, ParamType, SimpleType};
-use scoped_names::Names;
+use scoped_names::{Names, Scope};
 use std::alloc::Global;
 use type_graph::{GraphLimit, Node};
 
@@ -50,7 +50,7 @@ pub(crate) fn lower_const_type<'a>(
     names: &Names<'a>,
     table: &mut TypeTable,
     alloc: Global,
-    scope: usize,
+    scope: Scope,
     t: &ConstType<'a>,
 ) -> Result<u32, BuildFault>
     requires { scope ≤ length names.now.entries }
@@ -79,7 +79,7 @@ pub(crate) fn lower_param_type<'a>(
     names: &Names<'a>,
     table: &mut TypeTable,
     alloc: Global,
-    scope: usize,
+    scope: Scope,
     t: &ParamType<'a>,
 ) -> Result<u32, BuildFault>
     requires { scope ≤ length names.now.entries }
@@ -96,7 +96,7 @@ pub(crate) fn lower_simple<'a>(
     names: &Names<'a>,
     table: &mut TypeTable,
     alloc: Global,
-    scope: usize,
+    scope: Scope,
     at: At,
     t: &SimpleType<'a>,
 ) -> Result<u32, BuildFault>
@@ -118,7 +118,7 @@ pub(crate) fn lower_arrays<'a>(
     names: &Names<'a>,
     table: &mut TypeTable,
     alloc: Global,
-    scope: usize,
+    scope: Scope,
     elem: u32,
     declarator: &Declarator<'a>,
 ) -> Result<u32, BuildFault>
@@ -139,7 +139,7 @@ pub(crate) fn lower_enum<'a>(
     names: &Names<'a>,
     table: &mut TypeTable,
     alloc: Global,
-    scope: usize,
+    scope: Scope,
     e: &EnumType<'a>,
 ) -> Result<u32, BuildFault>
     ensures { Tells result (already table.new) (enum_type names.now.entries table.old scope e.now) }

@@ -14,7 +14,7 @@ use crate::simple::{lower_arrays, lower_enum, lower_simple};
 use crate::table::TypeTable;
 use idl_tree::names::{At, Listed};
 use idl_tree::types::{Case, Declarator, Member, StructType, TypeSpec, UnionType};
-use scoped_names::Names;
+use scoped_names::{Names, Scope};
 use std::alloc::Global;
 use type_graph::{Arms, Node};
 
@@ -55,7 +55,7 @@ fn lower_declarator<'a>(
     names: &Names<'a>,
     table: &mut TypeTable,
     alloc: Global,
-    scope: usize,
+    scope: Scope,
     number: u32,
     declarator: &Declarator<'a>,
     members: &mut MemberList,
@@ -74,7 +74,7 @@ fn lower_declarators<'a>(
     names: &Names<'a>,
     table: &mut TypeTable,
     alloc: Global,
-    scope: usize,
+    scope: Scope,
     number: u32,
     declarators: &Listed<Declarator<'a>>,
     members: &mut MemberList,
@@ -98,7 +98,7 @@ pub(crate) fn lower_type<'a>(
     names: &Names<'a>,
     table: &mut TypeTable,
     alloc: Global,
-    scope: usize,
+    scope: Scope,
     at: At,
     t: &TypeSpec<'a>,
 ) -> Result<u32, BuildFault>
@@ -119,7 +119,7 @@ pub(crate) fn lower_member<'a>(
     names: &Names<'a>,
     table: &mut TypeTable,
     alloc: Global,
-    scope: usize,
+    scope: Scope,
     member: &Member<'a>,
     members: &mut MemberList,
 ) -> Result<(), BuildFault>
@@ -145,7 +145,7 @@ pub(crate) fn lower_struct<'a>(
     names: &Names<'a>,
     table: &mut TypeTable,
     alloc: Global,
-    scope: usize,
+    scope: Scope,
     s: &StructType<'a>,
 ) -> Result<u32, BuildFault>
     requires { scope ≤ length names.now.entries }
@@ -154,10 +154,11 @@ pub(crate) fn lower_struct<'a>(
     let at = s.identifier.at();
     let entry = declared_entry(names, scope, s.identifier)?;
     let number = table.declare(alloc, entry, at)?;
+    let inside = Scope(entry + 1);
     let mut members = MemberList::new(alloc);
-    lower_member(names, table, alloc, entry + 1, &s.first, &mut members)?;
+    lower_member(names, table, alloc, inside, &s.first, &mut members)?;
     for member in &s.rest {
-        lower_member(names, table, alloc, entry + 1, member, &mut members)?;
+        lower_member(names, table, alloc, inside, member, &mut members)?;
     }
     table.define_struct(number, members, at)?;
     Ok(number)
@@ -169,7 +170,7 @@ fn lower_case<'a>(
     names: &Names<'a>,
     table: &mut TypeTable,
     alloc: Global,
-    scope: usize,
+    scope: Scope,
     switch: Switch,
     case: &Case<'a>,
     arms: &mut ArmList,
@@ -191,7 +192,7 @@ pub(crate) fn lower_union<'a>(
     names: &Names<'a>,
     table: &mut TypeTable,
     alloc: Global,
-    scope: usize,
+    scope: Scope,
     u: &UnionType<'a>,
 ) -> Result<u32, BuildFault>
     requires { scope ≤ length names.now.entries }
@@ -200,11 +201,12 @@ pub(crate) fn lower_union<'a>(
     let at = u.identifier.at();
     let entry = declared_entry(names, scope, u.identifier)?;
     let number = table.declare(alloc, entry, at)?;
-    let switch = lower_switch(names, table, alloc, entry + 1, at, &u.switch)?;
+    let inside = Scope(entry + 1);
+    let switch = lower_switch(names, table, alloc, inside, at, &u.switch)?;
     let mut arms = ArmList::new(alloc);
-    lower_case(names, table, alloc, entry + 1, switch, &u.first, &mut arms)?;
+    lower_case(names, table, alloc, inside, switch, &u.first, &mut arms)?;
     for case in &u.rest {
-        lower_case(names, table, alloc, entry + 1, switch, case, &mut arms)?;
+        lower_case(names, table, alloc, inside, switch, case, &mut arms)?;
     }
     table.define_union(alloc, number, switch, &arms, at)?;
     Ok(number)

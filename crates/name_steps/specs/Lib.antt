@@ -2,4 +2,3 @@
 pub mod Steps
 pub mod Asked
 pub mod StepsKept
-pub mod inner

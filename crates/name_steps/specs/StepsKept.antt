@@ -1,30 +1,48 @@
 -- The steps that are kept, as contracts see them.
 use Rattle.std.specs.Prelude.{List, [], ◌∷◌, map}
+use Rattle.idl_tree.specs.declared.expression.Expr.{Expr}
+use Rattle.idl_tree.specs.declared.names.Leaf.{Leaf}
+use Rattle.idl_tree.specs.declared.names.ScopedName.{ScopedName}
 use Rattle.idl_tree.specs.declared.definitions.Definition.{Definition, Pragma, Declaration, Interface, Module'}
+use Rattle.name_steps.specs.declared.step.ExprStep.{ExprStep}
+use Rattle.name_steps.specs.declared.step.ExprStep.TheVariants as OfExpr
+use Rattle.name_steps.specs.declared.step.LeafStep.{LeafStep}
+use Rattle.name_steps.specs.declared.step.LeafStep.TheVariants as OfLeaf
+use Rattle.name_steps.specs.declared.step.NameStep.{NameStep}
+use Rattle.name_steps.specs.declared.step.NameStep.TheVariants as OfName
 use Rattle.name_steps.specs.declared.step.Step.{Step}
 use Rattle.name_steps.specs.declared.step.Steps.{Steps}
 use Rattle.name_steps.specs.declared.step.Step.TheVariants as Kept
 use Rattle.name_steps.specs.Steps.{Step as TreeStep, Declares, DeclaresEnum, DeclaresEnumerator, DeclaresTypedef, IsNew, DeclaresConst, DeclaresFeature, HasMember, IsUndefined, HasBase, Enters, Defines, Leaves, NamesType, NamesException, HasWorth, IsSize, Says, declaration_steps, interface_steps}
 
+abbrev pub leaf_step : LeafStep → Leaf → TreeStep
+leaf_step (OfLeaf.Declares kind) l = Declares kind l
+leaf_step OfLeaf.DeclaresEnum l = DeclaresEnum l
+leaf_step OfLeaf.DeclaresEnumerator l = DeclaresEnumerator l
+leaf_step OfLeaf.IsNew l = IsNew l
+leaf_step (OfLeaf.DeclaresFeature kind) l = DeclaresFeature kind l
+leaf_step OfLeaf.HasMember l = HasMember l
+leaf_step OfLeaf.IsUndefined l = IsUndefined l
+leaf_step OfLeaf.Enters l = Enters l
+leaf_step OfLeaf.Defines l = Defines l
+leaf_step OfLeaf.Says l = Says l
+
+abbrev pub name_step : NameStep → ScopedName → TreeStep
+name_step OfName.IsType name = NamesType name
+name_step OfName.IsException name = NamesException name
+
+abbrev pub expr_step : ExprStep → Expr → TreeStep
+expr_step OfExpr.HasWorth e = HasWorth e
+expr_step OfExpr.IsSize e = IsSize e
+
 abbrev pub step_of : Step → TreeStep
-step_of (Kept.Declares kind l) = Declares kind l
-step_of (Kept.DeclaresEnum l) = DeclaresEnum l
-step_of (Kept.DeclaresEnumerator l) = DeclaresEnumerator l
+step_of (Kept.OfLeaf what l) = leaf_step what l
+step_of (Kept.OfName what name) = name_step what name.now
+step_of (Kept.OfExpr what e) = expr_step what e.now
 step_of (Kept.DeclaresTypedef t d) = DeclaresTypedef t.now d.now
-step_of (Kept.IsNew l) = IsNew l
 step_of (Kept.DeclaresConst c) = DeclaresConst c.now
-step_of (Kept.DeclaresFeature kind l) = DeclaresFeature kind l
-step_of (Kept.HasMember l) = HasMember l
-step_of (Kept.IsUndefined l) = IsUndefined l
 step_of (Kept.HasBase l name) = HasBase l name.now
-step_of (Kept.Enters l) = Enters l
-step_of (Kept.Defines l) = Defines l
 step_of Kept.Leaves = Leaves
-step_of (Kept.NamesType name) = NamesType name.now
-step_of (Kept.NamesException name) = NamesException name.now
-step_of (Kept.HasWorth e) = HasWorth e.now
-step_of (Kept.IsSize e) = IsSize e.now
-step_of (Kept.Says l) = Says l
 
 -- the steps in order
 abbrev pub steps_in : Steps → List TreeStep

@@ -17,4 +17,4 @@ pub mod laws;
 pub mod step;
 mod type_steps;
 
-pub use step::{Step, Steps};
+pub use step::{ExprStep, LeafStep, NameStep, Step, Steps};

@@ -2,8 +2,7 @@
 
 ghost use Rattle.std.specs.Prelude.{◌≡◌, ◌++◌, ◌∷◌, [], OnOk};
 ghost use Rattle.name_steps.specs.Steps.{DeclaresConst as ConstStep, DeclaresTypedef as TypedefStep, HasBase as BaseStep, Leaves as LeavesStep};
-ghost use Rattle.name_steps.specs.StepsKept.{step_of, steps_in};
-ghost use Rattle.name_steps.specs.inner.StepsAsked.{expr_step, leaf_step, name_step};
+ghost use Rattle.name_steps.specs.StepsKept.{expr_step, leaf_step, name_step, step_of, steps_in};
 
 use idl_tree::definitions::Const;
 use idl_tree::expression::Expr;
@@ -12,65 +11,56 @@ use idl_tree::names::{Leaf, ScopedName};
 use idl_tree::types::{Declarator, TypeSpec};
 use std::alloc::{AllocError, Global};
 
-/// One thing that is asked, in the scope that was entered last and not left yet. `'t` is the tree's.
-#[derive(Clone, Copy)]
-pub enum Step<'a, 't> {
-    Declares(EntryKind, Leaf<'a>),
-    DeclaresEnum(Leaf<'a>),
-    /// An enumerator of the last enumeration.
-    DeclaresEnumerator(Leaf<'a>),
-    DeclaresTypedef(&'t TypeSpec<'a>, &'t Declarator<'a>),
-    /// The identifier is nothing yet.
-    IsNew(Leaf<'a>),
-    DeclaresConst(&'t Const<'a>),
-    /// An operation or an attribute.
-    DeclaresFeature(EntryKind, Leaf<'a>),
-    /// The scope gets a member or a parameter.
-    HasMember(Leaf<'a>),
-    /// What has the identifier has no definition yet.
-    IsUndefined(Leaf<'a>),
-    /// The interface of the identifier gets a base.
-    HasBase(Leaf<'a>, &'t ScopedName<'a>),
-    /// The scope of what has the identifier.
-    Enters(Leaf<'a>),
-    /// The scope gets its definition, of which that is the identifier.
-    Defines(Leaf<'a>),
-    Leaves,
-    NamesType(&'t ScopedName<'a>),
-    NamesException(&'t ScopedName<'a>),
-    HasWorth(&'t Expr<'a>),
-    IsSize(&'t Expr<'a>),
-    /// A pragma.
-    Says(Leaf<'a>),
-}
-
 /// What an identifier or a pragma asks alone.
 #[derive(Clone, Copy)]
-pub(crate) enum LeafStep {
+pub enum LeafStep {
+    /// The identifier is declared.
     Declares(EntryKind),
     DeclaresEnum,
+    /// An enumerator of the last enumeration.
     DeclaresEnumerator,
+    /// It is nothing yet.
     IsNew,
+    /// An operation or an attribute.
     DeclaresFeature(EntryKind),
+    /// The scope gets a member or a parameter.
     HasMember,
+    /// What has the identifier has no definition yet.
     IsUndefined,
+    /// The scope of what has the identifier.
     Enters,
+    /// The scope gets its definition, of which that is the identifier.
     Defines,
+    /// A pragma.
     Says,
 }
 
 /// What a name asks.
 #[derive(Clone, Copy)]
-pub(crate) enum NameStep {
+pub enum NameStep {
     IsType,
     IsException,
 }
 
 /// What an expression asks.
 #[derive(Clone, Copy)]
-pub(crate) enum ExprStep {
+pub enum ExprStep {
     HasWorth,
     IsSize,
+}
+
+/// One thing that is asked, in the scope that was entered last and not left yet. `'t` is the tree's.
+#[derive(Clone, Copy)]
+pub enum Step<'a, 't> {
+    OfLeaf(LeafStep, Leaf<'a>),
+    OfName(NameStep, &'t ScopedName<'a>),
+    OfExpr(ExprStep, &'t Expr<'a>),
+    DeclaresTypedef(&'t TypeSpec<'a>, &'t Declarator<'a>),
+    DeclaresConst(&'t Const<'a>),
+    /// The interface of the identifier gets a base.
+    HasBase(Leaf<'a>, &'t ScopedName<'a>),
+    /// The scope is left.
+    Leaves,
 }
 
 // Few functions hold a `Step`: each that does takes the check seconds, since what is generated for it
@@ -100,40 +90,20 @@ impl<'a, 't> Steps<'a, 't> {
         }
     }
 
-    /// The steps in order.
-    pub fn as_slice(&self) -> &[Step<'a, 't>]
-        ensures { result.now ≡ self.now.list.items }
-    {
-        self.list.as_slice()
-    }
-
     /// One step more.
     fn push(&mut self, step: Step<'a, 't>) -> Result<(), AllocError>
         ensures { OnOk result (steps_in self.new ≡ steps_in self.old ++ step_of step.entry ∷ []) }
     {
-        match self.list.push(step) {
-            Ok(()) => Ok(()),
-            Err(_) => Err(AllocError),
-        }
+        done!(self.list.reserve(1));
+        self.list.push_reserved(step);
+        Ok(())
     }
 
     /// What an identifier or a pragma asks.
     pub(crate) fn asks(&mut self, what: LeafStep, leaf: Leaf<'a>) -> Result<(), AllocError>
         ensures { OnOk result (steps_in self.new ≡ steps_in self.old ++ leaf_step what leaf.entry ∷ []) }
     {
-        let step = match what {
-            LeafStep::Declares(kind) => Step::Declares(kind, leaf),
-            LeafStep::DeclaresEnum => Step::DeclaresEnum(leaf),
-            LeafStep::DeclaresEnumerator => Step::DeclaresEnumerator(leaf),
-            LeafStep::IsNew => Step::IsNew(leaf),
-            LeafStep::DeclaresFeature(kind) => Step::DeclaresFeature(kind, leaf),
-            LeafStep::HasMember => Step::HasMember(leaf),
-            LeafStep::IsUndefined => Step::IsUndefined(leaf),
-            LeafStep::Enters => Step::Enters(leaf),
-            LeafStep::Defines => Step::Defines(leaf),
-            LeafStep::Says => Step::Says(leaf),
-        };
-        self.push(step)
+        self.push(Step::OfLeaf(what, leaf))
     }
 
     /// What a name asks.
@@ -144,11 +114,7 @@ impl<'a, 't> Steps<'a, 't> {
     ) -> Result<(), AllocError>
         ensures { OnOk result (steps_in self.new ≡ steps_in self.old ++ name_step what name.now ∷ []) }
     {
-        let step = match what {
-            NameStep::IsType => Step::NamesType(name),
-            NameStep::IsException => Step::NamesException(name),
-        };
-        self.push(step)
+        self.push(Step::OfName(what, name))
     }
 
     /// What an expression asks.
@@ -159,11 +125,7 @@ impl<'a, 't> Steps<'a, 't> {
     ) -> Result<(), AllocError>
         ensures { OnOk result (steps_in self.new ≡ steps_in self.old ++ expr_step what expr.now ∷ []) }
     {
-        let step = match what {
-            ExprStep::HasWorth => Step::HasWorth(expr),
-            ExprStep::IsSize => Step::IsSize(expr),
-        };
-        self.push(step)
+        self.push(Step::OfExpr(what, expr))
     }
 
     /// A name for a type, or for an array of it.

@@ -14,6 +14,7 @@ ghost use Rattle.name_table.specs.inner.SeveralBases.{given_then, HasNoneFrom, I
 use crate::entry::Base;
 use crate::key::Word;
 use crate::record::{Clash, Given, Heir};
+use crate::scope::Scope;
 use crate::search::Found;
 use crate::table::{Table, heir_of};
 use std::alloc::{AllocError, Global};
@@ -130,14 +131,15 @@ impl<'a> Table<'a> {
     pub(crate) fn list_declared(
         &self,
         words: &mut Vec<Word<'a>>,
-        scope: usize,
+        scope: Scope,
     ) -> Result<(), AllocError>
         ensures kept { OnOk result ((name : List ℕ) → HasWord words.old.items name → HasWord words.new.items name) }
         ensures listed { OnOk result ((n : ℕ) (name : List ℕ) →
             (own_of self.now n scope name ≡ Found.Nothing) ⊎ HasWord words.new.items name) }
     {
-        if scope < self.words.len() {
-            words.extend_from_slice(self.words[scope].as_slice())?;
+        let place = scope.0;
+        if place < self.words.len() {
+            words.extend_from_slice(self.words[place].as_slice())?;
         }
         Ok(())
     }
@@ -146,7 +148,7 @@ impl<'a> Table<'a> {
     fn words_to_merge(
         &self,
         alloc: Global,
-        inner: usize,
+        inner: Scope,
         heir: &Heir<'a>,
         base: Base,
     ) -> Result<Vec<Word<'a>>, AllocError>
@@ -165,7 +167,7 @@ impl<'a> Table<'a> {
 
     /// What is kept of a word where an interface gets one more base; nothing where it says nothing
     /// new.
-    fn given_with(&self, inner: usize, heir: &Heir<'a>, base: Base, word: Word<'a>) -> Option<Given>
+    fn given_with(&self, inner: Scope, heir: &Heir<'a>, base: Base, word: Word<'a>) -> Option<Given>
         requires kept { IsKept self.now inner heir.now }
         requires placed { base.entry < length self.now }
         ensures given { IfSome result (λ g. (t : ℕ) →
@@ -175,7 +177,7 @@ impl<'a> Table<'a> {
         let count = self.len();
         prove!(base.entry < count);
         let old = self.inherited(base.token, inner, word);
-        let new = self.within(base.token, base.entry + 1, word);
+        let new = self.within(base.token, Scope(base.entry + 1), word);
         let first = match heir.other(word) {
             Some(given) => given.token,
             None => heir.first.token,
@@ -186,7 +188,7 @@ impl<'a> Table<'a> {
     /// What is kept of all names where an interface gets one more base that has the words.
     fn others_with(
         &self,
-        inner: usize,
+        inner: Scope,
         heir: &Heir<'a>,
         base: Base,
         words: &[Word<'a>],
@@ -209,7 +211,7 @@ impl<'a> Table<'a> {
     fn heir_with(
         &self,
         alloc: Global,
-        inner: usize,
+        inner: Scope,
         heir: &Heir<'a>,
         base: Base,
         words: &[Word<'a>],
@@ -237,7 +239,7 @@ impl<'a> Table<'a> {
     }
 
     /// Whether an entry is a base already.
-    pub fn has_base(&self, inner: usize, entry: usize) -> bool
+    pub fn has_base(&self, inner: Scope, entry: usize) -> bool
         ensures { result ≡ list_any (λ b. nat_eq b.entry entry) (bases_of self.now inner) }
     {
         match heir_of(self.records.as_slice(), inner) {
@@ -247,19 +249,19 @@ impl<'a> Table<'a> {
     }
 
     /// Whether a base gives another entry of the name than those before.
-    fn differ_in(&self, inner: usize, base: Base, word: Word<'a>) -> bool
+    fn differ_in(&self, inner: Scope, base: Base, word: Word<'a>) -> bool
         requires { base.entry < length self.now }
         ensures { result ≡ differ_in self.now inner base word.entry.text.now }
     {
         let count = self.len();
         prove!(base.entry < count);
         let old = self.inherited(base.token, inner, word);
-        let new = self.within(base.token, base.entry + 1, word);
+        let new = self.within(base.token, Scope(base.entry + 1), word);
         is_one_other(old, new)
     }
 
     /// Of one of the words.
-    fn differ_in_some(&self, inner: usize, base: Base, words: &[Word<'a>]) -> bool
+    fn differ_in_some(&self, inner: Scope, base: Base, words: &[Word<'a>]) -> bool
         requires { base.entry < length self.now }
         ensures { result ≡ list_any (λ w. differ_in self.now inner base w.text.now) words.now }
     {
@@ -277,7 +279,7 @@ impl<'a> Table<'a> {
     /// # Errors
     ///
     /// `AllocError`.
-    pub fn differ(&self, alloc: Global, inner: usize, base: Base) -> Result<bool, AllocError>
+    pub fn differ(&self, alloc: Global, inner: Scope, base: Base) -> Result<bool, AllocError>
         requires placed { base.entry < length self.now }
         requires late { latest self.now < base.token }
         ensures { IfOk result (λ r. r ≡ differ self.now inner base) }
@@ -295,7 +297,7 @@ impl<'a> Table<'a> {
     fn next_heir(
         &self,
         alloc: Global,
-        inner: usize,
+        inner: Scope,
         heir: &Heir<'a>,
         base: Base,
     ) -> Result<Box<Heir<'a>>, AllocError>
@@ -316,7 +318,7 @@ impl<'a> Table<'a> {
     pub(crate) fn heir_for(
         &self,
         alloc: Global,
-        inner: usize,
+        inner: Scope,
         base: Base,
     ) -> Result<Box<Heir<'a>>, AllocError>
         requires last { HasNoneFrom self.now inner base.token }

@@ -11,6 +11,7 @@ ghost use Rattle.name_table.specs.inner.Shortcuts.{given_at, way_at as way_of_sc
 use crate::bases::list_given;
 use crate::entry::Base;
 use crate::key::Word;
+use crate::scope::Scope;
 use crate::search::Found;
 use crate::table::{Table, heir_of};
 use std::alloc::{AllocError, Global};
@@ -24,7 +25,7 @@ const WORDS_PER_ENTRY: usize = 64;
 #[derive(Clone, Copy)]
 pub(crate) struct Place {
     pub token: usize,
-    pub scope: usize,
+    pub scope: Scope,
 }
 
 /// A way from a scope to a place further down.
@@ -54,13 +55,16 @@ struct Reach {
 
 impl Place {
     /// The end of each chain.
-    const END: Place = Place { token: 0, scope: 0 };
+    const END: Place = Place {
+        token: 0,
+        scope: Scope::FILE,
+    };
 
     /// Whether two places are one.
-    fn meets(self, other: Place) -> bool
+    fn meets(&self, other: &Place) -> bool
         ensures met { IsTrue result → (es : List Entry) (name : List ℕ) →
-            given_at es name self ≡ given_at es name other }
-        ensures apart { IsFalse result → other.token ≤ self.token → 0 < self.token }
+            given_at es name self.now ≡ given_at es name other.now }
+        ensures apart { IsFalse result → other.now.token ≤ self.now.token → 0 < self.now.token }
     {
         self.token == other.token && (self.scope == other.scope || self.token == 0)
     }
@@ -87,38 +91,40 @@ impl<'a> Shortcut<'a> {
 }
 
 /// The way that is kept from a scope.
-fn way_at<'r, 'a>(ways: &'r [Option<Shortcut<'a>>], scope: usize) -> Option<&'r Shortcut<'a>>
+fn way_at<'r, 'a>(ways: &'r [Option<Shortcut<'a>>], scope: Scope) -> Option<&'r Shortcut<'a>>
     ensures { option_copied result ≡ way_of_scope ways.now scope }
 {
-    ways.get(scope)?.as_ref()
+    ways.get(scope.0)?.as_ref()
 }
 
 /// Keeps a way from a scope.
 fn keep_way<'a>(
     ways: &mut Vec<Option<Shortcut<'a>>>,
-    scope: usize,
+    scope: Scope,
     way: Shortcut<'a>,
 ) -> Result<(), AllocError>
     ensures kept { OnOk result ((q : ℕ) →
         way_of_scope ways.new.items q ≡ (if nat_eq scope q then Some way.entry else way_of_scope ways.old.items q)) }
     ensures err { OnErr result ((q : ℕ) → way_of_scope ways.new.items q ≡ way_of_scope ways.old.items q) }
 {
-    while ways.len() <= scope {
+    let number = scope.0;
+    while ways.len() <= number {
         ways.push(None)?;
     }
-    ways[scope] = Some(way);
+    ways[number] = Some(way);
     Ok(())
 }
 
 /// Drops the way that is kept from a scope.
-pub(crate) fn drop_way(ways: &mut Vec<Option<Shortcut<'_>>>, scope: usize)
+pub(crate) fn drop_way(ways: &mut Vec<Option<Shortcut<'_>>>, scope: Scope)
     ensures { (q : ℕ) →
         way_of_scope ways.new.items q ≡ (if nat_eq scope q then None else way_of_scope ways.old.items q) }
 {
-    if scope >= ways.len() {
+    let number = scope.0;
+    if number >= ways.len() {
         return;
     }
-    ways[scope] = None;
+    ways[number] = None;
 }
 
 /// Adds the words of a set.
@@ -141,9 +147,9 @@ fn set_of<'a>(alloc: Global, words: &[Word<'a>]) -> Result<BTreeSet<Word<'a>>, A
 
 impl<'a> Table<'a> {
     /// The way from a place, where there is one for the name.
-    fn way_from(&self, place: Place, word: Word<'a>) -> Option<Place>
-        ensures { IfSome result (λ next. (next.token < place.token)
-            × (given_at self.now word.entry.text.now next ≡ given_at self.now word.entry.text.now place)) }
+    fn way_from(&self, place: &Place, word: Word<'a>) -> Option<Place>
+        ensures { IfSome result (λ next. (next.token < place.now.token)
+            × (given_at self.now word.entry.text.now next ≡ given_at self.now word.entry.text.now place.now)) }
     {
         let short = way_at(self.shortcuts.as_slice(), place.scope)?;
         if short.after < place.token && !short.declares(word) {
@@ -154,8 +160,8 @@ impl<'a> Table<'a> {
     }
 
     /// A step of a search.
-    pub(crate) fn step(&self, place: Place, word: Word<'a>) -> SearchStep
-        ensures { IsSearchStep self.now word.entry.text.now place result }
+    pub(crate) fn step(&self, place: &Place, word: Word<'a>) -> SearchStep
+        ensures { IsSearchStep self.now word.entry.text.now place.now result }
     {
         if let Some(next) = self.way_from(place, word) {
             return SearchStep::On(next);
@@ -170,7 +176,7 @@ impl<'a> Table<'a> {
             return SearchStep::Done(Found::Nothing);
         }
         let token = heir.first.token;
-        let scope = heir.first.entry + 1;
+        let scope = Scope(heir.first.entry + 1);
         match self.own(token, scope, word) {
             Found::Nothing => SearchStep::On(Place { token, scope }),
             found => SearchStep::Done(found),
@@ -186,7 +192,7 @@ impl<'a> Table<'a> {
     {
         let count = self.len();
         prove!(base.entry < count);
-        let scope = base.entry + 1;
+        let scope = Scope(base.entry + 1);
         self.list_declared(words, scope)?;
         Ok(Place {
             token: base.token,
@@ -195,11 +201,11 @@ impl<'a> Table<'a> {
     }
 
     /// The place inside the first base of a place, with the words on the way.
-    fn pass(&self, words: &mut Vec<Word<'a>>, place: Place) -> Result<Place, AllocError>
+    fn pass(&self, words: &mut Vec<Word<'a>>, place: &Place) -> Result<Place, AllocError>
         ensures kept { OnOk result ((name : List ℕ) → HasWord words.old.items name → HasWord words.new.items name) }
-        ensures passes { IfOk result (Passes self.now words.new.items place) }
-        ensures earlier { IfOk result (λ next. 0 < place.token → next.token < place.token) }
-        ensures low { IfOk result (λ next. next.token ≤ place.token) }
+        ensures passes { IfOk result (Passes self.now words.new.items place.now) }
+        ensures earlier { IfOk result (λ next. 0 < place.now.token → next.token < place.now.token) }
+        ensures low { IfOk result (λ next. next.token ≤ place.now.token) }
     {
         let Some(heir) = heir_of(self.records.as_slice(), place.scope) else {
             return Ok(Place::END);
@@ -227,18 +233,18 @@ impl<'a> Table<'a> {
         let mut words = Vec::new(alloc);
         let mut near = self.enter(&mut words, one)?;
         let mut far = self.enter(&mut words, other)?;
-        while !near.meets(far) {
+        while !near.meets(&far) {
             if near.token < far.token {
-                far = self.pass(&mut words, far)?;
+                far = self.pass(&mut words, &far)?;
             } else {
-                near = self.pass(&mut words, near)?;
+                near = self.pass(&mut words, &near)?;
             }
         }
         Ok(words)
     }
 
     /// How far the longest step from a place goes.
-    fn reach(&self, place: Place) -> Option<Reach> {
+    fn reach(&self, place: &Place) -> Option<Reach> {
         if let Some(short) = way_at(self.shortcuts.as_slice(), place.scope) {
             return Some(Reach {
                 place: short.place,
@@ -250,7 +256,7 @@ impl<'a> Table<'a> {
         Some(Reach {
             place: Place {
                 token: first.token,
-                scope: first.entry.saturating_add(1),
+                scope: Scope(first.entry.saturating_add(1)),
             },
             span: 1,
             words: 0,
@@ -261,10 +267,10 @@ impl<'a> Table<'a> {
     fn span_from(&self, base: Base) -> Option<usize> {
         let inside = Place {
             token: base.token,
-            scope: base.entry.saturating_add(1),
+            scope: Scope(base.entry.saturating_add(1)),
         };
-        let one = self.reach(inside)?;
-        let two = self.reach(one.place)?;
+        let one = self.reach(&inside)?;
+        let two = self.reach(&one.place)?;
         let words = one.words.saturating_add(two.words);
         let room = self.len().saturating_mul(WORDS_PER_ENTRY);
         if one.span == two.span && self.noted.saturating_add(words) < room {
@@ -275,10 +281,10 @@ impl<'a> Table<'a> {
     }
 
     /// The longest step from a place, with the words on the way.
-    fn stride(&self, words: &mut Vec<Word<'a>>, place: Place) -> Result<Place, AllocError>
+    fn stride(&self, words: &mut Vec<Word<'a>>, place: &Place) -> Result<Place, AllocError>
         ensures kept { OnOk result ((name : List ℕ) → HasWord words.old.items name → HasWord words.new.items name) }
-        ensures passes { IfOk result (Passes self.now words.new.items place) }
-        ensures low { IfOk result (λ next. next.token ≤ place.token) }
+        ensures passes { IfOk result (Passes self.now words.new.items place.now) }
+        ensures low { IfOk result (λ next. next.token ≤ place.now.token) }
     {
         match way_at(self.shortcuts.as_slice(), place.scope) {
             Some(short) if short.after < place.token => {
@@ -290,7 +296,7 @@ impl<'a> Table<'a> {
     }
 
     /// A way from a scope over two steps of one length; none where there are no such.
-    fn way_of(&self, alloc: Global, scope: usize) -> Result<Option<Shortcut<'a>>, AllocError>
+    fn way_of(&self, alloc: Global, scope: Scope) -> Result<Option<Shortcut<'a>>, AllocError>
         ensures short { IfOk result (λ way. IfSome way (IsShort self.now scope)) }
         ensures low { IfOk result (λ way. IfSome way (λ w. w.after ≤ latest self.now)) }
     {
@@ -303,8 +309,8 @@ impl<'a> Table<'a> {
         let mut words = Vec::new(alloc);
         list_given(&mut words, heir)?;
         let inside = self.enter(&mut words, heir.first)?;
-        let half = self.stride(&mut words, inside)?;
-        let place = self.stride(&mut words, half)?;
+        let half = self.stride(&mut words, &inside)?;
+        let place = self.stride(&mut words, &half)?;
         let words = set_of(alloc, words.as_slice())?;
         Ok(Some(Shortcut {
             place,
@@ -315,7 +321,7 @@ impl<'a> Table<'a> {
     }
 
     /// Keeps a way from a scope that is a base from now on, where one is of use.
-    pub fn shorten(&mut self, alloc: Global, scope: usize) -> Result<(), AllocError>
+    pub fn shorten(&mut self, alloc: Global, scope: Scope) -> Result<(), AllocError>
         ensures { self.new ≡ self.old }
     {
         if way_at(self.shortcuts.as_slice(), scope).is_some() {

@@ -13,6 +13,7 @@ use crate::entry::{Base, Meaning};
 use crate::key::{Key, Word};
 use crate::numbered::Numbered;
 use crate::record::{Heir, Record};
+use crate::scope::Scope;
 use crate::search::{Found, Sight};
 use crate::shortcuts::{Place, SearchStep, Shortcut, drop_way};
 use const_values::{ConstKind, Constant};
@@ -48,19 +49,19 @@ impl<'a> Model for Table<'a> {
 }
 
 /// What the interface has whose scope it is, if it has bases.
-pub(crate) fn heir_of<'r, 'a>(records: &'r [Record<'a>], scope: usize) -> Option<&'r Heir<'a>>
+pub(crate) fn heir_of<'r, 'a>(records: &'r [Record<'a>], scope: Scope) -> Option<&'r Heir<'a>>
     ensures { option_copied result ≡ heir_in_records records.now scope }
 {
-    let number = scope.checked_sub(1)?;
+    let number = scope.entry()?;
     records.get(number)?.heir.as_deref()
 }
 
 /// Makes room for the words of a scope.
-fn make_room(alloc: Global, words: &mut Vec<Vec<Word<'_>>>, scope: usize) -> Result<(), AllocError>
+fn make_room(alloc: Global, words: &mut Vec<Vec<Word<'_>>>, number: usize) -> Result<(), AllocError>
     ensures same { (s : ℕ) → words_at words.new.items s ≡ words_at words.old.items s }
-    ensures there { OnOk result (scope < length words.new.items) }
+    ensures there { OnOk result (number < length words.new.items) }
 {
-    while words.len() <= scope {
+    while words.len() <= number {
         words.push(Vec::new(alloc))?;
     }
     Ok(())
@@ -70,7 +71,7 @@ fn make_room(alloc: Global, words: &mut Vec<Vec<Word<'_>>>, scope: usize) -> Res
 fn list_word<'a>(
     alloc: Global,
     words: &mut Vec<Vec<Word<'a>>>,
-    scope: usize,
+    scope: Scope,
     word: Word<'a>,
 ) -> Result<(), AllocError>
     ensures kept { (s : ℕ) (name : List ℕ) →
@@ -78,8 +79,9 @@ fn list_word<'a>(
     ensures listed { OnOk result ((name : List ℕ) →
         is_word name word.entry ≡ true → HasWord (words_at words.new.items scope) name) }
 {
-    make_room(alloc, words, scope)?;
-    words[scope].push(word)?;
+    let number = scope.0;
+    make_room(alloc, words, number)?;
+    words[number].push(word)?;
     Ok(())
 }
 
@@ -112,7 +114,7 @@ impl<'a> Table<'a> {
     }
 
     /// The scope's own entry of the name that is declared before the token.
-    pub(crate) fn own(&self, token: usize, scope: usize, word: Word<'a>) -> Found
+    pub(crate) fn own(&self, token: usize, scope: Scope, word: Word<'a>) -> Found
         ensures { result ≡ own_of self.now token scope word.entry.text.now }
     {
         match self.keys.number_of(&Key { scope, word }) {
@@ -122,12 +124,12 @@ impl<'a> Table<'a> {
     }
 
     /// What the bases that are named before the token give.
-    pub fn inherited(&self, token: usize, scope: usize, word: Word<'a>) -> Found
+    pub fn inherited(&self, token: usize, scope: Scope, word: Word<'a>) -> Found
         ensures { result ≡ inherited_by self.now token scope word.entry.text.now }
     {
         let mut place = Place { token, scope };
         loop {
-            match self.step(place, word) {
+            match self.step(&place, word) {
                 SearchStep::Done(found) => return found,
                 SearchStep::On(next) => place = next,
             }
@@ -135,7 +137,7 @@ impl<'a> Table<'a> {
     }
 
     /// What a name before the token finds in the scope and its bases.
-    pub fn within(&self, token: usize, scope: usize, word: Word<'a>) -> Found
+    pub fn within(&self, token: usize, scope: Scope, word: Word<'a>) -> Found
         ensures { result ≡ within_of self.now token scope word.entry.text.now }
     {
         match self.own(token, scope, word) {
@@ -145,7 +147,7 @@ impl<'a> Table<'a> {
     }
 
     /// What it finds in the scope, or else in those around.
-    fn outwards(&self, token: usize, scope: usize, word: Word<'a>) -> Found
+    fn outwards(&self, token: usize, scope: Scope, word: Word<'a>) -> Found
         requires { scope ≤ length self.now }
         ensures { result ≡
             within_first self.now token (outwards_from self.now scope scope) word.entry.text.now }
@@ -156,10 +158,10 @@ impl<'a> Table<'a> {
                 Found::Nothing => {}
                 found => return found,
             }
-            if place == 0 {
+            let Some(number) = place.entry() else {
                 return Found::Nothing;
-            }
-            place = self.records[place - 1].key.scope;
+            };
+            place = self.records[number].key.scope;
         }
     }
 
@@ -180,7 +182,7 @@ impl<'a> Table<'a> {
     }
 
     /// What the first identifier of a name finds that stands in the scope, whatever its case.
-    fn find_first(&self, scope: usize, name: &ScopedName<'a>) -> Found
+    fn find_first(&self, scope: Scope, name: &ScopedName<'a>) -> Found
         requires { scope ≤ length self.now }
         ensures { result ≡ within_first self.now (name_start name.now).number
             (sought_in self.now scope (is_rooted name.now)) (word (name_first name.now)) }
@@ -188,14 +190,14 @@ impl<'a> Table<'a> {
         let token = name.start().number;
         let first = Word::new(name.first().name());
         if name.is_rooted() {
-            self.within(token, 0, first)
+            self.within(token, Scope::FILE, first)
         } else {
             self.outwards(token, scope, first)
         }
     }
 
     /// What is seen where a name is sought that stands in the scope.
-    pub fn look(&self, scope: usize, name: &ScopedName<'a>) -> Sight
+    pub fn look(&self, scope: Scope, name: &ScopedName<'a>) -> Sight
         requires { scope ≤ length self.now }
         ensures seen { result ≡ sees self.now scope name.now }
         ensures placed { (e : ℕ) → result ≡ Sight.Seen e → e < length self.now }
@@ -206,7 +208,7 @@ impl<'a> Table<'a> {
             match seen {
                 Sight::Seen(entry) => {
                     let word = Word::new(identifier.name());
-                    seen = self.sight(self.within(token, entry + 1, word), word.text);
+                    seen = self.sight(self.within(token, Scope(entry + 1), word), word.text);
                 }
                 _ => return seen,
             }
@@ -259,7 +261,7 @@ impl<'a> Table<'a> {
     pub fn is_own_name(&self, key: &Key<'a>) -> bool
         ensures { result ≡ own_name_of self.now key.now.scope key.now.word.text.now }
     {
-        let Some(number) = key.scope.checked_sub(1) else {
+        let Some(number) = key.scope.entry() else {
             return false;
         };
         match self.records.get(number) {
@@ -293,7 +295,7 @@ impl<'a> Table<'a> {
     }
 
     /// The scope that an entry is declared in.
-    pub fn scope(&self, entry: usize) -> usize
+    pub fn scope(&self, entry: usize) -> Scope
         requires { entry < length self.now }
         ensures { IfSome (slice_get self.now entry) (λ e. result ≡ e.scope) }
     {
@@ -341,7 +343,7 @@ impl<'a> Table<'a> {
         &mut self,
         alloc: Global,
         prefix: &'a str,
-        scope: usize,
+        scope: Scope,
         identifier: Leaf<'a>,
         meaning: Meaning,
     ) -> Result<(), AllocError>
@@ -353,12 +355,11 @@ impl<'a> Table<'a> {
         ensures err { OnErr result (self.new ≡ self.old) }
     {
         let word = Word::new(identifier.name());
-        let key = Key { scope, word };
         list_word(alloc, &mut self.words, scope, word)?;
         self.records.reserve(1)?;
-        self.keys.push(key)?;
+        self.keys.push(Key { scope, word })?;
         self.records.push_reserved(Record {
-            key,
+            key: Key { scope, word },
             token: meaning.token,
             line: identifier.token.line,
             identifier: identifier.number,
@@ -382,18 +383,18 @@ impl<'a> Table<'a> {
     }
 
     /// The scope of what an identifier was declared as; the file's where it was declared as nothing.
-    pub fn scope_of(&self, scope: usize, identifier: Leaf<'a>) -> usize
+    pub fn scope_of(&self, scope: Scope, identifier: Leaf<'a>) -> Scope
         ensures is { result ≡ scope_of self.now scope identifier.entry }
         ensures there { result ≤ length self.now }
     {
         match self.declared(scope, identifier) {
-            Some(number) => number + 1,
-            None => 0,
+            Some(number) => Scope(number + 1),
+            None => Scope::FILE,
         }
     }
 
     /// The entry that an identifier was declared as in the scope.
-    pub fn declared(&self, scope: usize, identifier: Leaf<'a>) -> Option<usize>
+    pub fn declared(&self, scope: Scope, identifier: Leaf<'a>) -> Option<usize>
         ensures is { result ≡ named self.now scope (word identifier.entry) }
         ensures there { IfSome result (λ e. e < length self.now) }
         ensures small { IfSome result (λ e. e < 2 ^ 63) }
@@ -403,7 +404,7 @@ impl<'a> Table<'a> {
     }
 
     /// What is seen where the name of a pragma is sought that stands in a scope.
-    pub fn look_for_words(&self, token: usize, scope: usize, name: &'a str) -> Sight
+    pub fn look_for_words(&self, token: usize, scope: Scope, name: &'a str) -> Sight
         requires { scope ≤ length self.now }
         ensures { result ≡ identifiers_see self.now token scope (begins_at_root name.now) (words name.now) }
     {
@@ -413,7 +414,7 @@ impl<'a> Table<'a> {
         };
         let first = Word::new(unescaped(first));
         let found = if is_rooted(name) {
-            self.within(token, 0, first)
+            self.within(token, Scope::FILE, first)
         } else {
             self.outwards(token, scope, first)
         };
@@ -422,7 +423,7 @@ impl<'a> Table<'a> {
             match seen {
                 Sight::Seen(entry) => {
                     let word = Word::new(unescaped(word));
-                    seen = self.sight(self.within(token, entry + 1, word), word.text);
+                    seen = self.sight(self.within(token, Scope(entry + 1), word), word.text);
                 }
                 _ => return seen,
             }
@@ -435,7 +436,7 @@ impl<'a> Table<'a> {
     /// # Errors
     ///
     /// `AllocError`, and then nothing has changed.
-    pub fn add_base(&mut self, alloc: Global, inner: usize, base: Base) -> Result<(), AllocError>
+    pub fn add_base(&mut self, alloc: Global, inner: Scope, base: Base) -> Result<(), AllocError>
         requires inner { inner ≤ length self.old }
         requires placed { base.entry < length self.old }
         requires late { latest self.old < base.token }
@@ -443,7 +444,7 @@ impl<'a> Table<'a> {
         ensures count { length self.new ≡ length self.old }
         ensures err { OnErr result (self.new ≡ self.old) }
     {
-        let Some(number) = inner.checked_sub(1) else {
+        let Some(number) = inner.entry() else {
             return Ok(());
         };
         let heir = self.heir_for(alloc, inner, base)?;

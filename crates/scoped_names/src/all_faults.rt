@@ -15,7 +15,7 @@ use crate::reader::Reader;
 use idl_tree::definitions::{Definition, Module};
 use idl_tree::kinds::EntryKind;
 use idl_tree::spec::Spec;
-use name_steps::{Step, Steps};
+use name_steps::{LeafStep, Step, Steps};
 use std::alloc::{AllocError, Global};
 
 /// The faults of a specification's names: the first, as many as were asked for, and how many there
@@ -100,7 +100,7 @@ impl<'a> Reader<'a> {
     {
         let mut steps = Steps::new(alloc);
         steps.add_flat(d)?;
-        self.pass_steps(alloc, faults, steps.as_slice())
+        self.pass_steps(alloc, faults, steps.list.as_slice())
     }
 
     #[cycle(passing)]
@@ -115,7 +115,7 @@ impl<'a> Reader<'a> {
             (module_body m.now.identifier (steps_of m.now.definitions.items)) self.new faults.new) }
         ensures most { faults.new.most ≡ faults.old.most }
     {
-        let step = Step::Declares(EntryKind::Module, m.identifier);
+        let step = Step::OfLeaf(LeafStep::Declares(EntryKind::Module), m.identifier);
         self.pass_step(alloc, faults, &step)?;
         self.enter(m.identifier);
         self.pass_definitions(alloc, faults, m.definitions.as_slice())?;

@@ -10,7 +10,7 @@ use crate::fault::{Flaw, NameFault};
 use const_values::{ConstKind, Constant, applied, literal_constant, signed, text_constant};
 use idl_tree::expression::{Expr, Operator, Sign};
 use idl_tree::names::{At, ScopedName};
-use name_table::{Sight, Table};
+use name_table::{Scope, Sight, Table};
 use std::alloc::{AllocError, Global};
 
 /// The number, if it is a whole one.
@@ -84,7 +84,7 @@ pub(crate) fn found_at(table: &Table<'_>, at: At, seen: Sight) -> Result<usize, 
 /// `Unknown`, `CaseDiffers` or `Ambiguous`, at the name's first token.
 pub(crate) fn resolve<'a>(
     table: &Table<'a>,
-    scope: usize,
+    scope: Scope,
     name: &ScopedName<'a>,
 ) -> Result<usize, NameFault>
     requires { scope ≤ length table.now }
@@ -97,7 +97,7 @@ pub(crate) fn resolve<'a>(
 /// That a name finds a constant or an enumerator.
 fn test_constant<'a>(
     table: &Table<'a>,
-    scope: usize,
+    scope: Scope,
     name: &ScopedName<'a>,
 ) -> Result<(), NameFault>
     requires { scope ≤ length table.now }
@@ -114,7 +114,7 @@ fn test_constant<'a>(
 }
 
 /// That each name in an expression does, in the order of reading.
-fn test_names<'a>(table: &Table<'a>, scope: usize, expr: &Expr<'a>) -> Result<(), NameFault>
+fn test_names<'a>(table: &Table<'a>, scope: Scope, expr: &Expr<'a>) -> Result<(), NameFault>
     requires { scope ≤ length table.now }
     ensures { Checks result (names_test table.now scope expr.now) }
 {
@@ -136,7 +136,7 @@ fn test_names<'a>(table: &Table<'a>, scope: usize, expr: &Expr<'a>) -> Result<()
 /// What a name is worth, if it stands for a constant.
 fn name_worth<'a>(
     table: &Table<'a>,
-    scope: usize,
+    scope: Scope,
     name: &ScopedName<'a>,
 ) -> Result<Option<Constant>, AllocError>
     requires { scope ≤ length table.now }
@@ -155,7 +155,7 @@ fn name_worth<'a>(
 fn worth<'a>(
     table: &Table<'a>,
     alloc: Global,
-    scope: usize,
+    scope: Scope,
     expr: &Expr<'a>,
 ) -> Result<Option<Constant>, AllocError>
     requires { scope ≤ length table.now }
@@ -190,7 +190,7 @@ fn worth<'a>(
 pub(crate) fn value<'a>(
     table: &Table<'a>,
     alloc: Global,
-    scope: usize,
+    scope: Scope,
     expr: &Expr<'a>,
 ) -> Result<Constant, NameFault>
     requires { scope ≤ length table.now }
@@ -214,7 +214,7 @@ pub(crate) fn value<'a>(
 pub(crate) fn size<'a>(
     table: &Table<'a>,
     alloc: Global,
-    scope: usize,
+    scope: Scope,
     expr: &Expr<'a>,
 ) -> Result<u128, NameFault>
     requires { scope ≤ length table.now }
@@ -233,7 +233,7 @@ pub(crate) fn size<'a>(
 pub(crate) fn value_of_kind<'a>(
     table: &Table<'a>,
     alloc: Global,
-    scope: usize,
+    scope: Scope,
     kind: Option<ConstKind>,
     expr: &Expr<'a>,
 ) -> Result<Constant, NameFault>

@@ -11,13 +11,13 @@ use const_values::ConstKind;
 use idl_tree::const_expr::Bound;
 use idl_tree::names::ScopedName;
 use idl_tree::types::{ConstType, ParamType, SimpleType};
-use name_table::Table;
+use name_table::{Scope, Table};
 use std::alloc::{AllocError, Global};
 
 fn string_kind<'a>(
     table: &Table<'a>,
     alloc: Global,
-    scope: usize,
+    scope: Scope,
     bound: &Option<Bound<'a>>,
 ) -> Result<ConstKind, AllocError>
     requires { scope ≤ length table.now }
@@ -34,7 +34,7 @@ fn string_kind<'a>(
 }
 
 /// The type of constants that the name of a type stands for.
-fn name_kind<'a>(table: &Table<'a>, scope: usize, name: &ScopedName<'a>) -> Option<ConstKind>
+fn name_kind<'a>(table: &Table<'a>, scope: Scope, name: &ScopedName<'a>) -> Option<ConstKind>
     requires { scope ≤ length table.now }
     ensures { result ≡ meant_found table.now (finds table.now scope name.now) }
 {
@@ -52,7 +52,7 @@ fn name_kind<'a>(table: &Table<'a>, scope: usize, name: &ScopedName<'a>) -> Opti
 pub(crate) fn const_type_kind<'a>(
     table: &Table<'a>,
     alloc: Global,
-    scope: usize,
+    scope: Scope,
     t: &ConstType<'a>,
 ) -> Result<Option<ConstKind>, AllocError>
     requires { scope ≤ length table.now }
@@ -71,7 +71,7 @@ pub(crate) fn const_type_kind<'a>(
 fn param_type_kind<'a>(
     table: &Table<'a>,
     alloc: Global,
-    scope: usize,
+    scope: Scope,
     t: &ParamType<'a>,
 ) -> Result<Option<ConstKind>, AllocError>
     requires { scope ≤ length table.now }
@@ -91,7 +91,7 @@ fn param_type_kind<'a>(
 pub(crate) fn simple_type_kind<'a>(
     table: &Table<'a>,
     alloc: Global,
-    scope: usize,
+    scope: Scope,
     t: &SimpleType<'a>,
 ) -> Result<Option<ConstKind>, AllocError>
     requires { scope ≤ length table.now }

@@ -16,13 +16,12 @@ use const_values::{ConstKind, Constant};
 use idl_tree::expression::Expr;
 use idl_tree::kinds::EntryKind;
 use idl_tree::names::{Leaf, ScopedName};
-use name_table::{Base, Table};
+use name_table::{Base, Scope, Table};
 use std::alloc::{AllocError, Global};
 use std::marker::Model;
 
 /// The names of a specification. A contract sees the entries in order of declaration, and what
-/// pragmas say of repository ids. A scope is 0 for the file, else one more than the number of the
-/// entry whose scope it is.
+/// pragmas say of repository ids.
 pub struct Names<'a> {
     pub(crate) table: Table<'a>,
     pub(crate) ids: IdPragmas<'a>,
@@ -48,7 +47,7 @@ impl<'a> Names<'a> {
     /// # Errors
     ///
     /// `Unknown`, `CaseDiffers` or `Ambiguous`, with the line of the name's first token.
-    pub fn resolve(&self, scope: usize, name: &ScopedName<'a>) -> Result<usize, NameFault>
+    pub fn resolve(&self, scope: Scope, name: &ScopedName<'a>) -> Result<usize, NameFault>
         requires { scope ≤ length self.now.entries }
         ensures told { result ≡ resolved self.now.entries scope name.now }
         ensures finds { (entry : ℕ) → (result ≡ Ok entry) ↔ Finds self.now.entries scope name.now entry }
@@ -66,7 +65,7 @@ impl<'a> Names<'a> {
     }
 
     /// The entry that an identifier was declared as in the scope. Takes no memory.
-    pub fn declared(&self, scope: usize, identifier: Leaf<'a>) -> Option<usize>
+    pub fn declared(&self, scope: Scope, identifier: Leaf<'a>) -> Option<usize>
         ensures is { result ≡ named self.now.entries scope (word identifier.entry) }
         ensures there { IfSome result (λ e. e < length self.now.entries) }
     {
@@ -90,7 +89,7 @@ impl<'a> Names<'a> {
     }
 
     /// The scope that an entry is declared in.
-    pub fn scope(&self, entry: usize) -> usize
+    pub fn scope(&self, entry: usize) -> Scope
         requires { entry < length self.now.entries }
         ensures { IfSome (slice_get self.now.entries entry) (λ e. result ≡ e.scope) }
     {
@@ -143,7 +142,7 @@ impl<'a> Names<'a> {
     /// # Errors
     ///
     /// The fault of a name in it, `BadConstant` where it has no worth, `NoMemory`.
-    pub fn value(&self, alloc: Global, scope: usize, expr: &Expr<'a>) -> Result<Constant, NameFault>
+    pub fn value(&self, alloc: Global, scope: Scope, expr: &Expr<'a>) -> Result<Constant, NameFault>
         requires { scope ≤ length self.now.entries }
         ensures told { Gives result (value_read self.now.entries scope expr.now) }
         ensures ok { IfOk result (λ c. worth_in_scope self.now.entries scope expr.now ≡ Some c) }
@@ -156,7 +155,7 @@ impl<'a> Names<'a> {
     /// # Errors
     ///
     /// As `value`, and `BadConstant` where the worth is no such number.
-    pub fn size(&self, alloc: Global, scope: usize, expr: &Expr<'a>) -> Result<u128, NameFault>
+    pub fn size(&self, alloc: Global, scope: Scope, expr: &Expr<'a>) -> Result<u128, NameFault>
         requires { scope ≤ length self.now.entries }
         ensures told { Gives result (size_read self.now.entries scope expr.now) }
         ensures ok { IfOk result (λ n. size_in_scope self.now.entries scope expr.now ≡ Some n) }

@@ -18,7 +18,7 @@ use crate::repository_ids::IdPragmas;
 use crate::tables::Tables;
 use idl_tree::kinds::EntryKind;
 use idl_tree::names::{At, Leaf};
-use name_table::{Base, Found, Key, Meaning, Numbered, Table, Word};
+use name_table::{Base, Found, Key, Meaning, Numbered, Scope, Table, Word};
 use std::alloc::Global;
 use std::marker::Model;
 
@@ -27,12 +27,12 @@ pub(crate) struct Reader<'a> {
     tables: Tables<'a>,
     members: Members<'a>,
     /// The scopes of which a definition was read.
-    defined: Numbered<usize>,
+    defined: Numbered<Scope>,
     /// The prefix of repository ids that is set.
     prefix: &'a str,
     pub(crate) ids: IdPragmas<'a>,
     /// The scope that was entered last and not left yet.
-    scope: usize,
+    scope: Scope,
     /// The entry of the last enumeration.
     pub(crate) enumeration: usize,
 }
@@ -138,7 +138,7 @@ impl<'a> Reader<'a> {
             defined: Numbered::new(alloc),
             prefix: "",
             ids: IdPragmas::new(alloc),
-            scope: 0,
+            scope: Scope::FILE,
             enumeration: 0,
         }
     }
@@ -151,7 +151,7 @@ impl<'a> Reader<'a> {
     }
 
     /// The scope that was entered last and not left yet.
-    pub fn scope(&self) -> usize
+    pub fn scope(&self) -> Scope
         ensures is { result ≡ self.now.scope }
         ensures there { result ≤ length self.now.entries }
     {
@@ -174,10 +174,10 @@ impl<'a> Reader<'a> {
     }
 
     /// Where what has the scope is declared first.
-    fn scope_at(&self, scope: usize) -> Option<At>
+    fn scope_at(&self, scope: Scope) -> Option<At>
         ensures { result ≡ scope_at_entry self.now.entries scope }
     {
-        match scope.checked_sub(1) {
+        match scope.entry() {
             Some(number) => declared_at(self.table(), number),
             None => None,
         }
@@ -231,7 +231,7 @@ impl<'a> Reader<'a> {
                 match self.tables.add(alloc, prefix, scope, identifier, meaning) {
                     Ok(()) => Ok(()),
                     Err(_) => {
-                        self.scope = 0;
+                        self.scope = Scope::FILE;
                         Err(NameFault::NoMemory)
                     }
                 }
@@ -273,7 +273,7 @@ impl<'a> Reader<'a> {
     }
 
     /// The scope of what an identifier was declared as.
-    pub fn scope_of(&self, identifier: Leaf<'a>) -> usize
+    pub fn scope_of(&self, identifier: Leaf<'a>) -> Scope
         ensures is { result ≡ scope_of self.now.entries self.now.scope identifier.entry }
         ensures there { result ≤ length self.now.entries }
     {
@@ -294,14 +294,14 @@ impl<'a> Reader<'a> {
         self.scope = self.scope_around();
     }
 
-    fn scope_around(&self) -> usize
+    fn scope_around(&self) -> Scope
         ensures is { result ≡ around_of self.now.entries self.now.scope }
         ensures there { result ≤ length self.now.entries }
     {
         let _count = self.table().len();
-        match self.scope.checked_sub(1) {
+        match self.scope.entry() {
             Some(number) => self.table().scope(number),
-            None => 0,
+            None => Scope::FILE,
         }
     }
 
@@ -310,7 +310,7 @@ impl<'a> Reader<'a> {
     /// # Errors
     ///
     /// `Collides`, at the identifier of the definition.
-    pub fn is_undefined(&self, scope: usize, identifier: Leaf<'a>) -> Result<(), NameFault>
+    pub fn is_undefined(&self, scope: Scope, identifier: Leaf<'a>) -> Result<(), NameFault>
         ensures { Checks result (undefined_test self.now scope identifier.entry) }
     {
         if self.defined.contains(&scope) {
@@ -384,7 +384,7 @@ impl<'a> Reader<'a> {
         ensures told { Tells result self.new (prefix_set self.old self.old.scope text.entry.now at) }
         ensures kept { Keeps result self.old self.new }
     {
-        if self.scope > 0 {
+        if !self.scope.is_file() {
             return Err(NameFault::PrefixInScope { at });
         }
         self.prefix = text;
@@ -396,12 +396,12 @@ impl<'a> Reader<'a> {
         ensures { result ≡ is_defined_interface self.now entry }
     {
         let _count = self.table().len();
-        is_interface(self.table().kind(entry)) && self.defined.contains(&(entry + 1))
+        is_interface(self.table().kind(entry)) && self.defined.contains(&Scope(entry + 1))
     }
 
     /// That an entry is an interface that is defined, is no base yet, and has no other operation or
     /// attribute of a name of those before.
-    fn may_be_base(&self, alloc: Global, inner: usize, base: Base, at: At) -> Result<(), NameFault>
+    fn may_be_base(&self, alloc: Global, inner: Scope, base: Base, at: At) -> Result<(), NameFault>
         requires placed { base.entry < length self.now.entries }
         requires late { latest self.now.entries < base.token }
         ensures { Checks result (base_test self.now inner base at) }
@@ -429,7 +429,7 @@ impl<'a> Reader<'a> {
     pub fn add_base(
         &mut self,
         alloc: Global,
-        inner: usize,
+        inner: Scope,
         base: Base,
         at: At,
     ) -> Result<(), NameFault>
@@ -443,7 +443,7 @@ impl<'a> Reader<'a> {
         match self.tables.add_base(alloc, inner, base) {
             Ok(()) => Ok(()),
             Err(_) => {
-                self.scope = 0;
+                self.scope = Scope::FILE;
                 Err(NameFault::NoMemory)
             }
         }
@@ -455,7 +455,7 @@ impl<'a> Reader<'a> {
         ensures { IfSome (slice_get self.now.entries number) (λ e. result ≡ is_left_open self.now number e) }
     {
         let _count = self.table().len();
-        has_body(self.table().kind(number)) && !self.defined.contains(&(number + 1))
+        has_body(self.table().kind(number)) && !self.defined.contains(&Scope(number + 1))
     }
 
     /// That each structure and union that is declared ahead is defined.

@@ -9,7 +9,7 @@ ghost use Rattle.scoped_names.specs.Meanings.{const_end};
 ghost use Rattle.scoped_names.specs.Reading.{Checks, Keeps, Tells};
 ghost use Rattle.scoped_names.specs.inner.Rising.{Follows, Rises};
 ghost use Rattle.name_steps.specs.Steps.{definition_steps, module_body, steps_of};
-ghost use Rattle.name_steps.specs.StepsKept.{flat_steps, step_of, steps_in};
+ghost use Rattle.name_steps.specs.StepsKept.{expr_step, flat_steps, leaf_step, name_step, step_of, steps_in};
 ghost use Rattle.scoped_names.specs.Tests.{is_exception, is_type, raised_test, type_name_test};
 ghost use Rattle.idl_tree.specs.Starts.{name_start};
 
@@ -21,12 +21,13 @@ use crate::repository_ids::PragmaId;
 use const_values::{ConstKind, Constant};
 use idl_lexer::{Kind, Pragma};
 use idl_tree::definitions::{Const, Definition, Module};
+use idl_tree::expression::Expr;
 use idl_tree::kinds::EntryKind;
 use idl_tree::names::{Leaf, ScopedName};
 use idl_tree::spec::Spec;
 use idl_tree::types::{Declarator, TypeSpec};
-use name_steps::{Step, Steps};
-use name_table::{Base, Meaning};
+use name_steps::{ExprStep, LeafStep, NameStep, Step, Steps};
+use name_table::{Base, Meaning, Scope};
 use std::alloc::{AllocError, Global};
 
 /// What may stand for a type.
@@ -156,7 +157,7 @@ impl<'a> Reader<'a> {
     fn read_base(
         &mut self,
         alloc: Global,
-        inner: usize,
+        inner: Scope,
         name: &ScopedName<'a>,
     ) -> Result<(), NameFault>
         requires inner { inner ≤ length self.old.entries }
@@ -237,28 +238,58 @@ impl<'a> Reader<'a> {
         }
     }
 
-    /// A step that asks something of what is known.
-    fn read_test(&self, alloc: Global, step: &Step<'a, '_>) -> Result<(), NameFault>
-        ensures { Checks result (test_of self.now (step_of step.now)) }
+    /// What an identifier or a pragma asks.
+    fn read_leaf(
+        &mut self,
+        alloc: Global,
+        what: LeafStep,
+        leaf: Leaf<'a>,
+    ) -> Result<(), NameFault>
+        requires { Follows (latest self.old.entries) (leaf_step what leaf) }
+        ensures told { Tells result self.new (step_read self.old (leaf_step what leaf.entry)) }
+        ensures kept { Keeps result self.old self.new }
+    {
+        match what {
+            LeafStep::Declares(kind) => self.declare(alloc, leaf, kind),
+            LeafStep::DeclaresEnum => self.declare_enum(alloc, leaf),
+            LeafStep::DeclaresEnumerator => self.declare_enumerator(alloc, leaf),
+            LeafStep::IsNew => self.is_new(leaf),
+            LeafStep::DeclaresFeature(kind) => self.declare_feature(alloc, leaf, kind),
+            LeafStep::HasMember => self.add_member(leaf),
+            LeafStep::IsUndefined => self.is_undefined(self.scope_of(leaf), leaf),
+            LeafStep::Enters => {
+                self.enter(leaf);
+                Ok(())
+            }
+            LeafStep::Defines => self.define(leaf),
+            LeafStep::Says => self.read_pragma(&leaf),
+        }
+    }
+
+    /// What a name asks.
+    fn test_name(&self, what: NameStep, name: &ScopedName<'a>) -> Result<(), NameFault>
+        ensures { Checks result (test_of self.now (name_step what name.now)) }
+    {
+        match what {
+            NameStep::IsType => self.names_type(name),
+            NameStep::IsException => self.names_exception(name),
+        }
+    }
+
+    /// What an expression asks.
+    fn test_expr(&self, alloc: Global, what: ExprStep, expr: &Expr<'a>) -> Result<(), NameFault>
+        ensures { Checks result (test_of self.now (expr_step what expr.now)) }
     {
         let (table, scope) = (self.table(), self.scope());
-        match *step {
-            Step::IsNew(identifier) => self.is_new(identifier),
-            Step::IsUndefined(identifier) => {
-                self.is_undefined(self.scope_of(identifier), identifier)
-            }
-            Step::NamesType(name) => self.names_type(name),
-            Step::NamesException(name) => self.names_exception(name),
-            Step::HasWorth(expr) => {
+        match what {
+            ExprStep::HasWorth => {
                 got!(value(table, alloc, scope, expr));
-                Ok(())
             }
-            Step::IsSize(expr) => {
+            ExprStep::IsSize => {
                 got!(size(table, alloc, scope, expr));
-                Ok(())
             }
-            _ => Ok(()),
         }
+        Ok(())
     }
 
     /// One step.
@@ -268,28 +299,19 @@ impl<'a> Reader<'a> {
         ensures kept { Keeps result self.old self.new }
     {
         match *step {
-            Step::Declares(kind, identifier) => self.declare(alloc, identifier, kind),
-            Step::DeclaresEnum(identifier) => self.declare_enum(alloc, identifier),
-            Step::DeclaresEnumerator(identifier) => self.declare_enumerator(alloc, identifier),
+            Step::OfLeaf(what, leaf) => self.read_leaf(alloc, what, leaf),
+            Step::OfName(what, name) => self.test_name(what, name),
+            Step::OfExpr(what, expr) => self.test_expr(alloc, what, expr),
             Step::DeclaresTypedef(original, d) => self.declare_typedef(alloc, original, d),
             Step::DeclaresConst(c) => self.declare_const(alloc, c),
-            Step::DeclaresFeature(kind, id) => self.declare_feature(alloc, id, kind),
-            Step::HasMember(identifier) => self.add_member(identifier),
             Step::HasBase(identifier, name) => {
                 let inner = self.scope_of(identifier);
                 self.read_base(alloc, inner, name)
-            }
-            Step::Defines(identifier) => self.define(identifier),
-            Step::Says(leaf) => self.read_pragma(&leaf),
-            Step::Enters(identifier) => {
-                self.enter(identifier);
-                Ok(())
             }
             Step::Leaves => {
                 self.leave();
                 Ok(())
             }
-            _ => self.read_test(alloc, step),
         }
     }
 
@@ -316,7 +338,7 @@ impl<'a> Reader<'a> {
         ensures { Tells result self.new (steps_read self.old (flat_steps d.now)) }
     {
         steps.add_flat(d)?;
-        self.read_steps(alloc, steps.as_slice())
+        self.read_steps(alloc, steps.list.as_slice())
     }
 
     /// The same.

@@ -10,17 +10,23 @@ pub returns-in_ok-extend_from_slice-clause-listed : goal.returns-in_ok-extend_fr
 returns-in_ok-extend_from_slice-clause-listed c = λ n name.
     let inside = c.self.inside in
     let words = inside.words.items in
-    let there = words_of_item words c.args.scope c.index.result.now (omega arith) c.index.ensures in
-    subst (λ es. (own es n c.args.scope name ≡ Nothing) ⊎ HasWord c.extend_from_slice.new.self.items name) c.self.view_is
-    (behind_or c.args.words.now.items (words_at words c.args.scope) c.extend_from_slice.new.self.items name
-    (c.in_ok-extend_from_slice.ensures.items ∙ ap (λ vs. c.args.words.now.items ++ vs) (c.as_slice.ensures.value ∙ sym there)) (own_or_listed inside.records.items words c.self.invariant.0.listed c.args.scope n name))
+    let scope = c.scope.inside.0 in
+    let more = c.extend_from_slice.new.self.items in
+    let there = words_of_item words scope c.index.result.now (omega arith) c.index.ensures in
+    subst (λ s. (own c.args.self.now n s name ≡ Nothing) ⊎ HasWord more name) c.scope.view_is
+    (subst (λ es. (own es n scope name ≡ Nothing) ⊎ HasWord more name) c.self.view_is
+    (behind_or c.args.words.now.items (words_at words scope) more name
+    (c.in_ok-extend_from_slice.ensures.items ∙ ap (λ vs. c.args.words.now.items ++ vs) (c.as_slice.ensures.value ∙ sym there)) (own_or_listed inside.records.items words c.self.invariant.0.listed scope n name)))
 
-pub returns-else-scope-len-clause-listed : goal.returns-else-scope-len-clause-listed
-returns-else-scope-len-clause-listed c = λ n name.
+pub returns-else-place-len-clause-listed : goal.returns-else-place-len-clause-listed
+returns-else-place-len-clause-listed c = λ n name.
     let inside = c.self.inside in
     let words = inside.words.items in
-    subst (λ es. (own es n c.args.scope name ≡ Nothing) ⊎ HasWord c.args.words.now.items name) c.self.view_is
-    (nothing_or name (words_at words c.args.scope) c.args.words.now.items (words_past words c.args.scope (omega arith)) (own_or_listed inside.records.items words c.self.invariant.0.listed c.args.scope n name))
+    let scope = c.scope.inside.0 in
+    let now = c.args.words.now.items in
+    subst (λ s. (own c.args.self.now n s name ≡ Nothing) ⊎ HasWord now name) c.scope.view_is
+    (subst (λ es. (own es n scope name ≡ Nothing) ⊎ HasWord now name) c.self.view_is
+    (nothing_or name (words_at words scope) now (words_past words scope (omega arith)) (own_or_listed inside.records.items words c.self.invariant.0.listed scope n name)))
 
 pub returns-in_ok-extend_from_slice-clause-kept : goal.returns-in_ok-extend_from_slice-clause-kept
 returns-in_ok-extend_from_slice-clause-kept c = λ name has.

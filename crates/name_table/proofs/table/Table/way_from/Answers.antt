@@ -6,7 +6,7 @@ use Rattle.name_table.proofs.table.Table.way_from.Goals as goal
 pub returns-then-not-declares : goal.returns-then-not-declares
 returns-then-not-declares c =
     let short = c.in_ok-short.short.now in
-    let place = c.args.place in
+    let place = c.args.place.now in
     let text = c.args.word.text.now in
     let at : way_at c.self.inside.shortcuts.items place.scope ≡ Some short = sym (c.in_ok-short.ensures ∙ ap (λ ws. way_at ws place.scope) c.as_slice.ensures.value) in
     let is = subst (λ es. IsShort es place.scope short) c.self.view_is (c.self.invariant.1 place.scope short at).1 in
