@@ -5,7 +5,7 @@ use Rattle.name_table.proofs.table.Table.outwards.Given as goal
 abbrev pub invariant-loop-found : goal.invariant-loop-found
 invariant-loop-found l = record {
   inside : l.place ≤ length l.self;
-  same : within_first l.self l.token (outwards l.self l.place l.place) l.word.text.now ≡ within_first l.self l.token (outwards l.self l.scope l.scope) l.word.text.now;
+  same : within_first l.self l.token (outwards l.self l.place l.place) l.word.text.now ≡ within_first l.self l.token (outwards l.self l.fn.scope l.fn.scope) l.word.text.now;
 }
 
 abbrev pub decreases-loop-found : goal.decreases-loop-found
