@@ -11,9 +11,10 @@ use Rattle.std.proofs.lemmas.Bool.Decides.{Decides-eqb}
 use Rattle.idl_lexer.specs.declared.token.Kind.{Kind}
 use Rattle.idl_lexer.specs.declared.token.Kind.TheVariants.{Punct}
 use Rattle.idl_lexer.specs.declared.token.Token.{Token}
+use Rattle.idl_lexer.specs.Tokens.{TokenParts, parts_of}
 use Rattle.idl_tree.specs.declared.names.Leaf.{Leaf}
 use Rattle.idl_tree.specs.Levels.{highest}
-use Rattle.idl_tree.specs.Pieces.{Seen, Piece, past, behind, is_piece, kind_code, seen_from, touches_next, piece, kept, touching, mark}
+use Rattle.idl_tree.specs.Pieces.{Seen, Piece, are_same, past, behind, is_piece, kind_code, seen_from, touches_next, piece, kept, touching, mark}
 use Rattle.idl_parser.specs.inner.Reading.{Parsed, Continued}
 
 both : {a b : Bool} → a ≡ true → b ≡ true → (a && b) ≡ true
@@ -40,14 +41,14 @@ behind_this : (p : Piece) (t : Seen) (ts : List Seen) → is_piece p t ≡ true 
 behind_this p t ts e = ap (λ b. elim b as (λ _. Option (List Seen)) [ true ↦ Some ts | false ↦ None ]) e
 
 abbrev plain_piece : Kind → List ℕ → Bool → Piece
-plain_piece kind text touches = record { kind = kind; text = text; place = None; touches = touches }
+plain_piece kind text touches = record { kind = kind; text = text; token = None; touches = touches }
 
 abbrev kept_piece : Kind → List ℕ → Leaf → Piece
 kept_piece kind text l =
-    record { kind = kind; text = text; place = Some (l.number, l.token.now.line); touches = false }
+    record { kind = kind; text = text; token = Some (l.number, parts_of l.token.now); touches = false }
 
 abbrev see : ℕ → Token → List Token → Seen
-see n t ts = record { kind = t.kind; text = t.text.now; place = (n, t.line); touches = touches_next t ts }
+see n t ts = record { kind = t.kind; text = t.text.now; token = (n, parts_of t); touches = touches_next t ts }
 
 this_kind : (t : Token) (kind : Kind) → t.kind ≡ kind → nat_eq (kind_code kind) (kind_code t.kind) ≡ true
 this_kind t kind k = (Decides-eqb (kind_code kind) (kind_code t.kind)).1 (ap kind_code (sym k))
@@ -81,6 +82,12 @@ plain_read n (x ∷ ys) t kind text lt is k e =
     subst (λ l. Parsed (seen_from n (x ∷ ys)) (piece kind text) (seen_from (n + 1) l)) (sym (cut_first x ys))
     (first_plain n x ys kind text (sym (ap (λ u. u.kind) is) ∙ k) (sym (ap (λ u. u.text.now) is) ∙ e))
 
+-- a token is the same as itself
+same_itself : (t : TokenParts) → are_same t t ≡ true
+same_itself t =
+    both (both (both (both ((Decides-eqb (kind_code t.kind) (kind_code t.kind)).1 refl) ((bytes_eq-Decides t.text t.text).1 refl))
+    ((Decides-eqb t.start t.start).1 refl)) ((Decides-eqb t.«end» t.«end»).1 refl)) ((Decides-eqb t.line t.line).1 refl)
+
 -- a token that is kept
 first_kept : (n : ℕ) (t : Token) (ts : List Token) (kind : Kind) (text : List ℕ) (l : Leaf)
     → t.kind ≡ kind → t.text.now ≡ text → l.number ≡ n → l.token.now ≡ t
@@ -88,7 +95,7 @@ first_kept : (n : ℕ) (t : Token) (ts : List Token) (kind : Kind) (text : List 
 unfolding kept past
 first_kept n t ts kind text l k e num tok = record {
   spells = behind_this (kept_piece kind text l) (see n t ts) (seen_from (n + 1) ts) (both (both (both (this_kind t kind k) (this_text t text e))
-      (both ((Decides-eqb l.number n).1 num) ((Decides-eqb l.token.now.line t.line).1 (ap (λ u. u.line) tok)))) refl);
+      (both ((Decides-eqb l.number n).1 num) (subst (λ u. are_same (parts_of u) (parts_of t) ≡ true) (sym tok) (same_itself (parts_of t)))))) refl);
   on = omega arith;
 }
 

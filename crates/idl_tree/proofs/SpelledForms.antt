@@ -7,8 +7,9 @@ use Rattle.idl_lexer.specs.declared.token.Kind.{Kind}
 use Rattle.idl_lexer.specs.declared.token.Kind.TheVariants.{Ident, Keyword, Punct, Number, CharLit, TextLit, Pragma}
 use Rattle.idl_lexer.specs.declared.token.Token.{Token}
 use Rattle.idl_lexer.specs.Forms.{HasForm}
+use Rattle.idl_lexer.specs.Tokens.{TokenParts, parts_of}
 use Rattle.idl_tree.specs.declared.spec.Spec.{Spec}
-use Rattle.idl_tree.specs.Pieces.{Piece, piece, kept, keyword, mark, leaf, Seen, is_end, is_piece, is_place, kind_code, past, seen_from, Spell}
+use Rattle.idl_tree.specs.Pieces.{Piece, piece, kept, keyword, mark, leaf, Seen, are_same, is_end, is_piece, is_kept, kind_code, past, seen_from, Spell}
 use Rattle.idl_tree.specs.declared.definitions.Const.{Const}
 use Rattle.idl_tree.specs.Yields.{identifier, const_expr_yield}
 use Rattle.idl_tree.specs.TypeYields.{const_type_yield}
@@ -39,17 +40,17 @@ same_kind a b h =
 record Fits (p : Piece) (t : Seen) : Type 0 where
   kind : p.kind ≡ t.kind
   text : p.text ≡ t.text
-  place : is_place p.place t.place ≡ true
+  token : is_kept p.token t.token ≡ true
 
 fits : (p : Piece) (t : Seen) → is_piece p t ≡ true → Fits p t
 fits p t h =
     let kinds = nat_eq (kind_code p.kind) (kind_code t.kind) in
     let texts = bytes_eq p.text t.text in
-    let places = is_place p.place t.place in
-    let all = and_parts (kinds && texts && places) (not p.touches || t.touches) h in
-    let three = and_parts (kinds && texts) places all.0 in
+    let tokens = is_kept p.token t.token in
+    let all = and_parts (kinds && texts && tokens) (not p.touches || t.touches) h in
+    let three = and_parts (kinds && texts) tokens all.0 in
     let two = and_parts kinds texts three.0 in
-    record { kind = same_kind p.kind t.kind two.0; text = (bytes_eq-Decides p.text t.text).0 two.1; place = three.1 }
+    record { kind = same_kind p.kind t.kind two.0; text = (bytes_eq-Decides p.text t.text).0 two.1; token = three.1 }
 
 -- ---- pieces one behind another
 
@@ -93,11 +94,11 @@ numbers [] n tokens h = tt
 numbers (p ∷ ps) n [] h = absurd (no_more p ps h)
 numbers (p ∷ ps) n (t ∷ ts) h =
     let first = first_fits p ps _ (seen_from (n + 1) ts) h in
-    (numbered p.place n t.line first.0.place, numbers ps (n + 1) ts first.1)
+    (numbered p.token n (parts_of t) first.0.token, numbers ps (n + 1) ts first.1)
   where
-    numbered : (place : Option (ℕ × ℕ)) (n line : ℕ) → is_place place (n, line) ≡ true → IsNumbered n place
-    numbered None n line h = tt
-    numbered (Some k) n line h = eqb-true k.0 n (and_parts (nat_eq k.0 n) (nat_eq k.1 line) h).0
+    numbered : (token : Option (ℕ × TokenParts)) (n : ℕ) (seen : TokenParts) → is_kept token (n, seen) ≡ true → IsNumbered n token
+    numbered None n seen h = tt
+    numbered (Some k) n seen h = eqb-true k.0 n (and_parts (nat_eq k.0 n) (are_same k.1 seen) h).0
 
 lengths : (ps : List Piece) (n : ℕ) (tokens : List Token) → is_end (past ps (Some (seen_from n tokens))) ≡ true → length ps ≡ length tokens
 lengths [] n tokens h = sym (all_spelled tokens n h)

@@ -3,6 +3,7 @@ use Rattle.std.specs.Prelude.{◌≡◌, ℕ, ◌+◌, List, [], ◌∷◌, Opti
 use Rattle.std.specs.List.{AllByRecursion}
 use Rattle.idl_lexer.specs.declared.token.Kind.{Kind}
 use Rattle.idl_lexer.specs.Forms.{HasForm}
+use Rattle.idl_lexer.specs.Tokens.{TokenParts}
 use Rattle.idl_tree.specs.declared.names.Leaf.{Leaf}
 use Rattle.idl_tree.specs.Pieces.{Piece}
 
@@ -14,12 +15,12 @@ IsLeafOf kind l = HasForm kind l.token.now.text.now
 abbrev pub HaveForms : List Piece → Type 0
 HaveForms pieces = AllByRecursion (λ p. HasForm p.kind p.text) pieces
 
--- the place of a piece whose token has the number n, if the tree keeps one
-abbrev pub IsNumbered : ℕ → Option (ℕ × ℕ) → Type 0
+-- the token of a piece has the number n, if the tree keeps it
+abbrev pub IsNumbered : ℕ → Option (ℕ × TokenParts) → Type 0
 IsNumbered n None = Unit {0}
-IsNumbered n (Some place) = place.0 ≡ n
+IsNumbered n (Some token) = token.0 ≡ n
 
 -- the tokens that the tree keeps have the numbers of their places, where that of the first piece is n
 abbrev pub AreNumbered : ℕ → List Piece → Type 0
 AreNumbered n [] = Unit {0}
-AreNumbered n (p ∷ ps) = IsNumbered n p.place × AreNumbered (n + 1) ps
+AreNumbered n (p ∷ ps) = IsNumbered n p.token × AreNumbered (n + 1) ps

@@ -4,21 +4,22 @@ use Rattle.std.specs.Str.{bytes_eq}
 use Rattle.idl_lexer.specs.declared.token.Kind.{Kind}
 use Rattle.idl_lexer.specs.declared.token.Kind.TheVariants.{Ident, Keyword, Punct, Number, CharLit, TextLit, Pragma}
 use Rattle.idl_lexer.specs.declared.token.Token.{Token}
+use Rattle.idl_lexer.specs.Tokens.{TokenParts, parts_of}
 use Rattle.idl_tree.specs.declared.names.Leaf.{Leaf}
 
--- what a tree says of a token: its kind and its text; its number and line, where the tree keeps the token; and
--- that the next token has to touch it
+-- what a tree says of a token: its kind and its text; its number and all that the lexer says of it, where the tree
+-- keeps the token; and that the next token has to touch it
 pub record Piece : Type 0 where
   pub kind : Kind
   pub text : List ℕ
-  pub place : Option (ℕ × ℕ)
+  pub token : Option (ℕ × TokenParts)
   pub touches : Bool
 
--- a token among others: its number and its line, and whether the next token touches it
+-- a token among others: its number and what the lexer says of it, and whether the next token touches it
 pub record Seen : Type 0 where
   pub kind : Kind
   pub text : List ℕ
-  pub place : ℕ × ℕ
+  pub token : ℕ × TokenParts
   pub touches : Bool
 
 -- the next token begins where this one ends
@@ -30,7 +31,7 @@ touches_next t (u ∷ us) = nat_eq t.«end» u.start
 abbrev pub seen_from : ℕ → List Token → List Seen
 seen_from n [] = []
 seen_from n (t ∷ ts) =
-    record { kind = t.kind; text = t.text.now; place = (n, t.line); touches = touches_next t ts }
+    record { kind = t.kind; text = t.text.now; token = (n, parts_of t); touches = touches_next t ts }
     ∷ seen_from (n + 1) ts
 
 abbrev pub kind_code : Kind → ℕ
@@ -42,15 +43,21 @@ kind_code CharLit = 4
 kind_code TextLit = 5
 kind_code Pragma = 6
 
--- the place is the one that is kept, if one is
-abbrev pub is_place : Option (ℕ × ℕ) → ℕ × ℕ → Bool
-is_place None p = true
-is_place (Some k) p = nat_eq k.0 p.0 && nat_eq k.1 p.1
+-- two tokens are of one kind and one text, and stand at one place
+abbrev pub are_same : TokenParts → TokenParts → Bool
+are_same a b =
+    nat_eq (kind_code a.kind) (kind_code b.kind) && bytes_eq a.text b.text && nat_eq a.start b.start
+    && nat_eq a.«end» b.«end» && nat_eq a.line b.line
+
+-- the token is the one that is kept, if one is
+abbrev pub is_kept : Option (ℕ × TokenParts) → ℕ × TokenParts → Bool
+is_kept None t = true
+is_kept (Some k) t = nat_eq k.0 t.0 && are_same k.1 t.1
 
 -- the token is what the piece says
 abbrev pub is_piece : Piece → Seen → Bool
 is_piece p t =
-    nat_eq (kind_code p.kind) (kind_code t.kind) && bytes_eq p.text t.text && is_place p.place t.place
+    nat_eq (kind_code p.kind) (kind_code t.kind) && bytes_eq p.text t.text && is_kept p.token t.token
     && (not p.touches || t.touches)
 
 -- the tokens behind the first, which has to be what the piece says
@@ -75,12 +82,12 @@ Spell spelled tokens = is_end (past spelled (Some (seen_from 0 tokens))) ≡ tru
 
 -- the piece of a token that isn't kept, as a list
 unfoldable pub piece : Kind → List ℕ → List Piece
-piece kind text = record { kind = kind; text = text; place = None; touches = false } ∷ []
+piece kind text = record { kind = kind; text = text; token = None; touches = false } ∷ []
 
 -- the piece of a token that the tree keeps
 unfoldable pub kept : Kind → List ℕ → Leaf → List Piece
 kept kind text l =
-    record { kind = kind; text = text; place = Some (l.number, l.token.now.line); touches = false } ∷ []
+    record { kind = kind; text = text; token = Some (l.number, parts_of l.token.now); touches = false } ∷ []
 
 abbrev pub keyword : List ℕ → List Piece
 keyword word = piece Keyword word
@@ -90,7 +97,7 @@ mark text = piece Punct text
 
 -- a mark that the next token touches
 unfoldable pub touching : List ℕ → List Piece
-touching text = record { kind = Punct; text = text; place = None; touches = true } ∷ []
+touching text = record { kind = Punct; text = text; token = None; touches = true } ∷ []
 
 abbrev pub kept_keyword : List ℕ → Leaf → List Piece
 kept_keyword word l = kept Keyword word l

@@ -6,7 +6,8 @@ use Rattle.std.proofs.lemmas.Slice.Eq.{bytes_eq-Decides}
 use Rattle.idl_lexer.specs.declared.token.Kind.{Kind}
 use Rattle.idl_lexer.specs.declared.token.Kind.TheVariants.{Ident, Keyword, Punct, Number, CharLit, TextLit, Pragma}
 use Rattle.idl_tree.specs.declared.names.Leaf.{Leaf}
-use Rattle.idl_tree.specs.Pieces.{Piece, Seen, behind, is_piece, is_place, kind_code, kept, past, piece, touching}
+use Rattle.idl_lexer.specs.Tokens.{TokenParts, parts_of}
+use Rattle.idl_tree.specs.Pieces.{Piece, Seen, are_same, behind, is_piece, is_kept, kind_code, kept, past, piece, touching}
 
 -- the pieces are the first tokens, and the others stand behind them
 pub record Reads (x : List Piece) (tokens left : List Seen) : Type 0 where
@@ -104,13 +105,31 @@ pub same_kind : (a b : Kind) → nat_eq (kind_code a) (kind_code b) ≡ true →
 same_kind a b h =
     sym (kind_of-kind_code a) ∙ ap kind_of (eqb-true (kind_code a) (kind_code b) h) ∙ kind_of-kind_code b
 
-parts_of_test : (p : Piece) (s : Seen) → is_piece p s ≡ true → (p.kind ≡ s.kind) × (p.text ≡ s.text) × (is_place p.place s.place ≡ true)
+-- tokens that are told to be the same are
+pub same_parts : (a b : TokenParts) → are_same a b ≡ true → a ≡ b
+same_parts a b h =
+    let kinds = nat_eq (kind_code a.kind) (kind_code b.kind) in
+    let texts = bytes_eq a.text b.text in
+    let starts = nat_eq a.start b.start in
+    let ends = nat_eq a.«end» b.«end» in
+    let five = and_parts (kinds && texts && starts && ends) (nat_eq a.line b.line) h in
+    let four = and_parts (kinds && texts && starts) ends five.0 in
+    let three = and_parts (kinds && texts) starts four.0 in
+    let two = and_parts kinds texts three.0 in
+    let kind = same_kind a.kind b.kind two.0 in
+    let text = (bytes_eq-Decides a.text b.text).0 two.1 in
+    let start = eqb-true a.start b.start three.1 in
+    let stop = eqb-true a.«end» b.«end» four.1 in
+    let line = eqb-true a.line b.line five.1 in
+    cc
+
+parts_of_test : (p : Piece) (s : Seen) → is_piece p s ≡ true → (p.kind ≡ s.kind) × (p.text ≡ s.text) × (is_kept p.token s.token ≡ true)
 parts_of_test p s h =
     let kinds = nat_eq (kind_code p.kind) (kind_code s.kind) in
     let texts = bytes_eq p.text s.text in
-    let places = is_place p.place s.place in
-    let all = and_parts (kinds && texts && places) (not p.touches || s.touches) h in
-    let three = and_parts (kinds && texts) places all.0 in
+    let tokens = is_kept p.token s.token in
+    let all = and_parts (kinds && texts && tokens) (not p.touches || s.touches) h in
+    let three = and_parts (kinds && texts) tokens all.0 in
     let two = and_parts kinds texts three.0 in
     (same_kind p.kind s.kind two.0, (bytes_eq-Decides p.text s.text).0 two.1, three.1)
 
@@ -120,7 +139,7 @@ pub record First (p : Piece) (t r : List Seen) : Type 0 where
   pub is : t ≡ token ∷ r
   pub kind : p.kind ≡ token.kind
   pub text : p.text ≡ token.text
-  pub place : is_place p.place token.place ≡ true
+  pub kept : is_kept p.token token.token ≡ true
 
 abbrev taken : Bool → List Seen → Option (List Seen)
 taken b ts = elim b [ true ↦ Some ts | false ↦ None ]
@@ -130,7 +149,7 @@ unfolding past
 first_by true p s ts r e h =
     let parts = parts_of_test p s e in
     let rest : ts ≡ r = cc in
-    record { token = s; is = ap (λ l. s ∷ l) rest; kind = parts.0; text = parts.1; place = parts.2 }
+    record { token = s; is = ap (λ l. s ∷ l) rest; kind = parts.0; text = parts.1; kept = parts.2 }
 first_by false p s ts r e h = absurd (cc)
 
 first_of : (p : Piece) (t r : List Seen) → past (p ∷ []) (Some t) ≡ Some r → First p t r
@@ -145,17 +164,17 @@ first_begins p t r f = ap begins f.is ∙ ap (λ k. number_of k f.token.text) (s
 pub one_first : (p : Piece) (t r : List Seen) → Reads (p ∷ []) t r → First p t r
 one_first p t r h = first_of p t r h.is
 
-pub piece_first : (k : Kind) (text : List ℕ) (t r : List Seen) → Reads (piece k text) t r → First (record { kind = k; text = text; place = None; touches = false }) t r
+pub piece_first : (k : Kind) (text : List ℕ) (t r : List Seen) → Reads (piece k text) t r → First (record { kind = k; text = text; token = None; touches = false }) t r
 unfolding piece
 piece_first k text t r h = first_of _ t r h.is
 
-pub kept_first : (k : Kind) (text : List ℕ) (l : Leaf) (t r : List Seen) → Reads (kept k text l) t r → First (record { kind = k; text = text; place = Some (l.number, l.token.now.line); touches = false }) t r
+pub kept_first : (k : Kind) (text : List ℕ) (l : Leaf) (t r : List Seen) → Reads (kept k text l) t r → First (record { kind = k; text = text; token = Some (l.number, parts_of l.token.now); touches = false }) t r
 unfolding kept
 kept_first k text l t r h = first_of _ t r h.is
 
 -- where the next token has to touch the first
 abbrev pub touching_piece : List ℕ → Piece
-touching_piece text = record { kind = Punct; text = text; place = None; touches = true }
+touching_piece text = record { kind = Punct; text = text; token = None; touches = true }
 
 pub touching_first : (text : List ℕ) (t r : List Seen) → Reads (touching text) t r → First (touching_piece text) t r
 unfolding touching
@@ -165,7 +184,7 @@ touches_by : (b : Bool) (p : Piece) (s : Seen) (ts r : List Seen) → is_piece p
 unfolding past
 touches_by true p s ts r e k h =
     let kinds = nat_eq (kind_code p.kind) (kind_code s.kind) in
-    let all = and_parts (kinds && bytes_eq p.text s.text && is_place p.place s.place) (not p.touches || s.touches) e in
+    let all = and_parts (kinds && bytes_eq p.text s.text && is_kept p.token s.token) (not p.touches || s.touches) e in
     let no : (not p.touches || s.touches) ≡ s.touches = ap (λ b. not b || s.touches) k in
     sym no ∙ all.1
 touches_by false p s ts r e k h = absurd (cc)
@@ -195,24 +214,24 @@ touching_begins text t r h = first_begins _ t r (first_of _ t r h.is)
 -- ---- kept tokens in front of the same tokens are the same
 
 abbrev kept_piece : Kind → List ℕ → Leaf → Piece
-kept_piece k text l = record { kind = k; text = text; place = Some (l.number, l.token.now.line); touches = false }
+kept_piece k text l = record { kind = k; text = text; token = Some (l.number, parts_of l.token.now); touches = false }
 
 pub record SameKept (a b : Leaf) (x y : List ℕ) (r q : List Seen) : Type 0 where
   pub text : x ≡ y
   pub number : a.number ≡ b.number
-  pub line : a.token.now.line ≡ b.token.now.line
+  pub token : parts_of a.token.now ≡ parts_of b.token.now
   pub left : r ≡ q
 
 same_firsts : (k : Kind) (x y : List ℕ) (a b : Leaf) (t r q : List Seen) → First (kept_piece k x a) t r → First (kept_piece k y b) t q → SameKept a b x y r q
 same_firsts k x y a b t r q f g =
     let lists : f.token ∷ r ≡ g.token ∷ q = sym f.is ∙ g.is in
     let token : f.token ≡ g.token = cc in
-    let pf = and_parts (nat_eq a.number f.token.place.0) (nat_eq a.token.now.line f.token.place.1) f.place in
-    let pg = and_parts (nat_eq b.number g.token.place.0) (nat_eq b.token.now.line g.token.place.1) g.place in
+    let pf = and_parts (nat_eq a.number f.token.token.0) (are_same (parts_of a.token.now) f.token.token.1) f.kept in
+    let pg = and_parts (nat_eq b.number g.token.token.0) (are_same (parts_of b.token.now) g.token.token.1) g.kept in
     record {
       text = f.text ∙ ap (λ s. s.text) token ∙ sym g.text;
-      number = eqb-true _ _ pf.0 ∙ ap (λ s. s.place.0) token ∙ sym (eqb-true _ _ pg.0);
-      line = eqb-true _ _ pf.1 ∙ ap (λ s. s.place.1) token ∙ sym (eqb-true _ _ pg.1);
+      number = eqb-true _ _ pf.0 ∙ ap (λ s. s.token.0) token ∙ sym (eqb-true _ _ pg.0);
+      token = same_parts _ _ pf.1 ∙ ap (λ s. s.token.1) token ∙ sym (same_parts _ _ pg.1);
       left = cc;
     }
 

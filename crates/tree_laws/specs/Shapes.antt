@@ -1,6 +1,7 @@
 -- What a tree is but for where its parts lie in memory: the kinds of its parts, their order, and of each token that it
 -- keeps the text, the number and the line. Of names and expressions.
 use Rattle.std.specs.Prelude.{ℕ, Bool, true, false, List, [], ◌∷◌, Option, Some, None, codes}
+use Rattle.idl_lexer.specs.Tokens.{TokenParts, parts_of}
 use Rattle.idl_tree.specs.declared.names.Leaf.{Leaf}
 use Rattle.idl_tree.specs.declared.names.Listed.{Listed}
 use Rattle.idl_tree.specs.declared.names.Path.{Path}
@@ -12,10 +13,10 @@ use Rattle.idl_tree.specs.declared.const_expr.ConstExpr.{ConstExpr}
 use Rattle.idl_tree.specs.declared.const_expr.Bound.{Bound}
 use Rattle.idl_tree.specs.Yields.{operator_text, sign_text, boolean_text}
 
--- nothing; a token with its text, its number and its line; a part of a kind, which a word names; two parts in order
+-- nothing; a token with the text that it stands for, its number, and all that the lexer says of it; a part of a kind, which a word names; two parts in order
 pub data Shape : Type 0 where
   Nothing : Shape
-  Token : List ℕ → ℕ → ℕ → Shape
+  Token : List ℕ → ℕ → TokenParts → Shape
   Kind : List ℕ → Shape → Shape
   Both : Shape → Shape → Shape
 
@@ -25,7 +26,7 @@ word text = Kind text Nothing
 
 -- a token of this text
 abbrev pub token_shape : List ℕ → Leaf → Shape
-token_shape text l = Token text l.number l.token.now.line
+token_shape text l = Token text l.number (parts_of l.token.now)
 
 abbrev pub leaf_shape : Leaf → Shape
 leaf_shape l = token_shape l.token.now.text.now l
