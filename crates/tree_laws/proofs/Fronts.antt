@@ -105,6 +105,9 @@ pub same_kind : (a b : Kind) → nat_eq (kind_code a) (kind_code b) ≡ true →
 same_kind a b h =
     sym (kind_of-kind_code a) ∙ ap kind_of (eqb-true (kind_code a) (kind_code b) h) ∙ kind_of-kind_code b
 
+abbrev of_parts : Kind → List ℕ → ℕ → ℕ → ℕ → TokenParts
+of_parts kind text start stop line = record { kind = kind; text = text; start = start; «end» = stop; line = line }
+
 -- tokens that are told to be the same are
 pub same_parts : (a b : TokenParts) → are_same a b ≡ true → a ≡ b
 same_parts a b h =
@@ -116,12 +119,11 @@ same_parts a b h =
     let four = and_parts (kinds && texts && starts) ends five.0 in
     let three = and_parts (kinds && texts) starts four.0 in
     let two = and_parts kinds texts three.0 in
-    let kind = same_kind a.kind b.kind two.0 in
-    let text = (bytes_eq-Decides a.text b.text).0 two.1 in
-    let start = eqb-true a.start b.start three.1 in
-    let stop = eqb-true a.«end» b.«end» four.1 in
-    let line = eqb-true a.line b.line five.1 in
-    cc
+    ap (λ k. of_parts k a.text a.start a.«end» a.line) (same_kind a.kind b.kind two.0)
+    ∙ ap (λ t. of_parts b.kind t a.start a.«end» a.line) ((bytes_eq-Decides a.text b.text).0 two.1)
+    ∙ ap (λ n. of_parts b.kind b.text n a.«end» a.line) (eqb-true a.start b.start three.1)
+    ∙ ap (λ n. of_parts b.kind b.text b.start n a.line) (eqb-true a.«end» b.«end» four.1)
+    ∙ ap (of_parts b.kind b.text b.start b.«end») (eqb-true a.line b.line five.1)
 
 parts_of_test : (p : Piece) (s : Seen) → is_piece p s ≡ true → (p.kind ≡ s.kind) × (p.text ≡ s.text) × (is_kept p.token s.token ≡ true)
 parts_of_test p s h =

@@ -257,7 +257,7 @@ leaves_of k x y a b = record {
       let one = same_kept k x y a b t r q h e in
       let text = one.text in
       let number = one.number in
-      let line = one.line in
+      let token = one.token in
       (cc, one.left);
 }
 
