@@ -95,7 +95,7 @@ first_kept : (n : ℕ) (t : Token) (ts : List Token) (kind : Kind) (text : List 
 unfolding kept past
 first_kept n t ts kind text l k e num tok = record {
   spells = behind_this (kept_piece kind text l) (see n t ts) (seen_from (n + 1) ts) (both (both (both (this_kind t kind k) (this_text t text e))
-      (both ((Decides-eqb l.number n).1 num) (subst (λ u. are_same (parts_of u) (parts_of t) ≡ true) (sym tok) (same_itself (parts_of t)))))) refl);
+      (both ((Decides-eqb l.number n).1 num) (subst (λ u. are_same (parts_of u) (parts_of t) ≡ true) (sym tok) (same_itself (parts_of t))))) refl);
   on = omega arith;
 }
 
