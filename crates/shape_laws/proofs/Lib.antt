@@ -1,0 +1,4 @@
+pub mod Apart
+pub mod Starts
+pub mod NameStepShapes
+pub mod NameSteps

@@ -1,0 +1,4 @@
+//! Trees of one shape mean the same.
+#![tactic(auto)]
+
+pub mod laws;
