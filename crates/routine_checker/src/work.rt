@@ -198,14 +198,13 @@ impl<'g> Work<'g> {
         }
     }
 
-    /// The same of parts and the work behind them. It is quick where there is one part: nothing is
-    /// put then.
+    /// Takes the first of these parts away, or of the work behind them where there are none. A part
+    /// that is alone is never put, which would take longer.
     #[tactic(auto, using(crate::proofs::WorkLaws::first_copy))]
     fn next_of(&mut self, parts: Item<'g>) -> Result<Option<u32>, AllocError>
         ensures some { IfOk result (λ first. IfSome first
             (λ number. held parts.entry ++ work_of self.old.items.items ≡ number ∷ work_of self.new.items.items)) }
-        ensures none { IfOk result
-            (λ first. IfNone first (held parts.entry ++ work_of self.old.items.items ≡ [])) }
+        ensures none { IfOk result (λ first. IfNone first (held parts.entry ++ work_of self.old.items.items ≡ [])) }
     {
         match parts.split() {
             Some((number, n, rest)) => {
