@@ -5,8 +5,9 @@ ghost use Rattle.routine_checker.specs.Steps.{enters_times, times_left};
 
 use crate::sets::{is_within, left};
 
-/// How many times are followed one by one. Behind them the sets recur: where a relation on eight
-/// places is applied again and again, that begins after 50 times at the latest.
+/// How many times are followed one by one where the first places aren't met again soon. Behind them
+/// the sets recur: where a relation on eight places is applied again and again, that begins after 50
+/// times at the latest.
 const FOLLOWED: u32 = 64;
 
 /// The sets recur after 15 times at most, the order of a permutation of eight places.
@@ -59,8 +60,8 @@ fn left_over(n: u32, exits: &[u8], places: u8) -> u32
     }
 }
 
-/// Where a routine of these exits ends that is done `n` times, first at a place of the set.
-pub fn times_left(n: u32, exits: &[u8], places: u8) -> u8
+/// As `times_left`, where the places aren't met again soon.
+fn left_late(n: u32, exits: &[u8], places: u8) -> u8
     ensures { result ≡ times_left n exits.now places }
 {
     if n <= FOLLOWED {
@@ -71,7 +72,17 @@ pub fn times_left(n: u32, exits: &[u8], places: u8) -> u8
     left_one_by_one(more, exits, behind)
 }
 
-/// The same of where it starts.
+/// Where a routine of these exits ends that is done `n` times, first at a place of the set.
+pub fn times_left(n: u32, exits: &[u8], places: u8) -> u8
+    ensures { result ≡ times_left n exits.now places }
+{
+    match period(exits, places) {
+        Some(period) => left_one_by_one(n % period, exits, places),
+        None => left_late(n, exits, places),
+    }
+}
+
+/// The same of where it starts, behind the times that are followed.
 fn enters_behind(n: u32, entry: u8, exits: &[u8], places: u8) -> bool
     ensures { result ≡ enters_times n entry exits.now places }
 {
@@ -81,8 +92,8 @@ fn enters_behind(n: u32, entry: u8, exits: &[u8], places: u8) -> bool
     }
 }
 
-/// Whether each time it starts at one of its entries.
-pub fn enters_times(n: u32, entry: u8, exits: &[u8], places: u8) -> bool
+/// As `enters_times`, where the places aren't met again soon.
+fn enters_late(n: u32, entry: u8, exits: &[u8], places: u8) -> bool
     ensures { result ≡ enters_times n entry exits.now places }
 {
     if n <= FOLLOWED {
@@ -91,4 +102,14 @@ pub fn enters_times(n: u32, entry: u8, exits: &[u8], places: u8) -> bool
     let behind = left_one_by_one(FOLLOWED, exits, places);
     enters_one_by_one(FOLLOWED, entry, exits, places)
         && enters_behind(n - FOLLOWED, entry, exits, behind)
+}
+
+/// Whether each time it starts at one of its entries.
+pub fn enters_times(n: u32, entry: u8, exits: &[u8], places: u8) -> bool
+    ensures { result ≡ enters_times n entry exits.now places }
+{
+    match period(exits, places) {
+        Some(period) if period <= n => { enters_one_by_one(period, entry, exits, places) }
+        _ => enters_late(n, entry, exits, places),
+    }
 }

@@ -198,6 +198,24 @@ impl<'g> Work<'g> {
         }
     }
 
+    /// Takes the first of these parts away, or of the work behind them where there are none. A part
+    /// that is alone is never put, which would take longer.
+    #[tactic(auto, using(crate::proofs::WorkLaws::first_copy))]
+    fn next_of(&mut self, parts: Item<'g>) -> Result<Option<u32>, AllocError>
+        ensures some { IfOk result (λ first. IfSome first
+            (λ number. held parts.entry ++ work_of self.old.items.items ≡ number ∷ work_of self.new.items.items)) }
+        ensures none { IfOk result (λ first. IfNone first (held parts.entry ++ work_of self.old.items.items ≡ [])) }
+    {
+        match parts.split() {
+            Some((number, n, rest)) => {
+                self.put(rest)?;
+                self.put(Item::Copies { number, n: n - 1 })?;
+                Ok(Some(number))
+            }
+            None => self.next(),
+        }
+    }
+
     /// Takes the first node that the instruction wants, if nothing but opened nodes stands before
     /// it.
     fn take_one(&mut self, wanted: NodesTaken<'g>) -> Result<bool, AllocError>
@@ -207,18 +225,19 @@ impl<'g> Work<'g> {
         ensures refused { IfOk result (λ took. IsFalse took
             → taken_within 64 (wants wanted.entry) wanted.entry.nodes.now (work_of self.old.items.items) ≡ None) }
     {
+        let mut parts = Item::Numbers { numbers: &[] };
         for level in 0..64u32 {
-            let number = match self.next()? {
+            let number = match self.next_of(parts)? {
                 Some(number) => number,
                 None => return Ok(false),
             };
             if wanted.is(number) {
                 return Ok(true);
             }
-            match parts_at(wanted.nodes, number) {
-                Some(parts) => self.put(parts)?,
+            parts = match parts_at(wanted.nodes, number) {
+                Some(parts) => parts,
                 None => return Ok(false),
-            }
+            };
         }
         Ok(false)
     }

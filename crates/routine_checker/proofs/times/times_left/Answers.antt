@@ -1,10 +1,7 @@
-use Rattle.std.proofs.Common.{◌≡◌, ◌+◌, ◌-◌, sym, ap, ◌∙◌, arith}
-use Rattle.routine_checker.specs.Steps.{times_left}
-use Rattle.routine_checker.proofs.TimesLaws.{left_add}
+use Rattle.std.proofs.Common.{◌∙◌}
+use Rattle.routine_checker.proofs.TimesLaws.{left_modulo}
 use Rattle.routine_checker.proofs.times.times_left.Goals as goal
 
-pub returns : goal.returns
-returns c =
-    let cut : c.args.n ≡ 64 + (c.args.n - 64) = omega (arith, c.if-n-le-FOLLOWED.false) in
-    c.left_one_by_one-2.ensures ∙ c.left_over-more.ensures ∙ ap (times_left (c.args.n - 64) c.args.exits.now) c.left_one_by_one-behind.ensures
-    ∙ sym (left_add 64 (c.args.n - 64) c.args.exits.now c.args.places) ∙ sym (ap (λ k. times_left k c.args.exits.now c.args.places) cut)
+pub returns-in-Some : goal.returns-in-Some
+returns-in-Some c =
+    c.left_one_by_one.ensures ∙ left_modulo c.args.n c.in-Some.period c.args.exits.now c.args.places c.in-Some.ensures.2
