@@ -2,3 +2,4 @@ pub mod Apart
 pub mod Starts
 pub mod NameStepShapes
 pub mod NameSteps
+pub mod NameDefinitions
