@@ -3,3 +3,4 @@ pub mod Starts
 pub mod NameStepShapes
 pub mod NameSteps
 pub mod NameDefinitions
+pub mod NameWords
