@@ -4,3 +4,4 @@ pub mod NameStepShapes
 pub mod NameSteps
 pub mod NameDefinitions
 pub mod NameWords
+pub mod NameWorth
