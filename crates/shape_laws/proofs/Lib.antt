@@ -5,3 +5,4 @@ pub mod NameSteps
 pub mod NameDefinitions
 pub mod NameWords
 pub mod NameWorth
+pub mod NameTests
