@@ -6,3 +6,4 @@ pub mod NameDefinitions
 pub mod NameWords
 pub mod NameWorth
 pub mod NameTests
+pub mod NameReading
