@@ -1,3 +1,5 @@
 pub mod FileFacts
 pub mod TableFacts
 pub mod Texts
+pub mod OneShape
+pub mod NoTable

@@ -24,8 +24,14 @@ by_parts n (t ∷ u ∷ us) = ap (λ l. record { kind = t.kind; text = t.text.no
 same_seen : (ts us : List Token) → map parts_of ts ≡ map parts_of us → seen_from 0 ts ≡ seen_from 0 us
 same_seen ts us e = rw (by_parts 0 ts, by_parts 0 us, e) refl
 
+-- what spells tokens spells those that say the same
+pub spells_too : (ts us : List Token) (definitions : List Definition) → map parts_of ts ≡ map parts_of us
+    → Spell (definitions_spelled definitions) us → Spell (definitions_spelled definitions) ts
+spells_too ts us definitions e spelled =
+    subst (λ l. is_end (past (definitions_spelled definitions) (Some l)) ≡ true) (sym (same_seen ts us e)) spelled
+
 pub no_text : (ts us : List Token) (definitions : List Definition) → map parts_of ts ≡ map parts_of us
     → ((ds : List Definition) → Spell (definitions_spelled ds) ts → levels_of ds ≤ 64 → ⊥)
     → Spell (definitions_spelled definitions) us → levels_of definitions ≤ 64 → ⊥
 no_text ts us definitions e none spelled few =
-    none definitions (subst (λ l. is_end (past (definitions_spelled definitions) (Some l)) ≡ true) (sym (same_seen ts us e)) spelled) few
+    none definitions (spells_too ts us definitions e spelled) few

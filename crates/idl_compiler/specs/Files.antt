@@ -5,7 +5,7 @@ use Rattle.std.specs.String.{string_bytes}
 use Rattle.idl_compiler.specs.declared.fault.CompileFault.{CompileFault}
 use Rattle.idl_compiler.specs.declared.fault.CompileFault.TheVariants as Compiling
 use Rattle.idl_compiler.specs.Compiled.{IsCompiled, IsNamedTable}
-use Rattle.idl_compiler.specs.Refused.{IsRefused}
+use Rattle.idl_compiler.specs.Refused.{HasNoTable, IsRefused}
 use Rattle.position_checker.specs.Acceptance.{IsRight}
 use Rattle.idl_compiler.specs.declared.choice.Settled.{Settled}
 use Rattle.idl_compiler.specs.declared.steps.NamedTable.{NamedTable}
@@ -45,11 +45,12 @@ RefusesTable table (Fault text) = ⊥
 RefusesTable table TooLong = IsTooLong table
 RefusesTable table NoMemory = Unit {0}
 
--- a step refuses the text
+-- a step refuses the text, and it has no table
 pub record IsRefusedText (source : List ℕ) : Type 0 where
   pub fault : CompileFault
   pub refused : IsRefused source fault
   pub told : fault ≢ Compiling.NoMemory
+  pub none : HasNoTable source
 
 -- the text has a table, which is too long
 pub record HasLongTable (source : List ℕ) : Type 0 where

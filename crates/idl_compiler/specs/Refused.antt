@@ -1,6 +1,6 @@
 -- Why a text isn't compiled: the first step that finds a fault tells it, tokens before grammar, grammar before names,
 -- names before types.
-use Rattle.std.specs.Prelude.{◌≡◌, ◌≤◌, ℕ, List, Err}
+use Rattle.std.specs.Prelude.{◌≡◌, ◌≤◌, ◌⊎◌, ℕ, List, Err}
 use Rattle.idl_lexer.specs.declared.fault.LexFault.{LexFault}
 use Rattle.idl_lexer.specs.declared.fault.LexFault.TheVariants as Lexing
 use Rattle.idl_lexer.specs.declared.token.Token.{Token}
@@ -21,7 +21,8 @@ use Rattle.model_builder.specs.declared.fault.ModelFault.TheVariants as Modellin
 use Rattle.model_builder.specs.Faults.{IsFault}
 use Rattle.idl_compiler.specs.declared.fault.CompileFault.{CompileFault}
 use Rattle.idl_compiler.specs.declared.fault.CompileFault.TheVariants.{Tokens, Grammar, Names, Types, NoMemory}
-use Rattle.idl_compiler.specs.Compiled.{IsTextOf}
+use Rattle.idl_compiler.specs.declared.choice.Settled.{Settled}
+use Rattle.idl_compiler.specs.Compiled.{IsCompiled, IsTextOf}
 
 -- ---- the fault of a step as that of the compiler
 
@@ -84,3 +85,11 @@ IsRefused source (Grammar fault) = HasNoTree source
 IsRefused source (Names fault) = HasFault source (Names fault)
 IsRefused source (Types fault) = HasFault source (Types fault)
 IsRefused source NoMemory = Unit {0}
+
+-- no table is that of the text
+abbrev pub HasNoTable : List ℕ → Type 0
+HasNoTable source = (settled : Settled) → IsCompiled source settled → ⊥
+
+-- want of memory aside, no table is that of a text that is refused
+abbrev pub HasNoTableBut : List ℕ → CompileFault → Type 0
+HasNoTableBut source fault = (fault ≡ NoMemory) ⊎ HasNoTable source

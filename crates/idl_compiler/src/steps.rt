@@ -2,11 +2,12 @@
 
 ghost use Rattle.std.specs.Prelude.{◌≡◌, ◌⊎◌, IfErr, IfOk};
 ghost use Rattle.idl_compiler.specs.Compiled.{ArePartsOf, HasTable, IsCompiled, IsModelOf, IsNamedTable, IsTableOf};
-ghost use Rattle.idl_compiler.specs.Refused.{IsFaultOf, IsRefused};
+ghost use Rattle.idl_compiler.specs.Refused.{HasNoTableBut, IsFaultOf, IsRefused};
 ghost use Rattle.idl_compiler.specs.declared.fault.CompileFault.TheVariants.{NoMemory};
 
 use crate::choice::{Settled, settle};
 use crate::fault::CompileFault;
+use crate::laws::refused_has_no_table;
 use generator::plain;
 use idl_lexer::lex;
 use idl_parser::parse;
@@ -82,6 +83,16 @@ fn table_of<T: HasModel + Drop>(alloc: Global, whole: T) -> Result<NamedTable, C
     })
 }
 
+/// The table of a text, or the fault of the first step that refuses it.
+fn table_of_text(alloc: Global, source: &str) -> Result<NamedTable, CompileFault>
+    ensures compiled { IfOk result (IsNamedTable source.now) }
+    ensures refused { IfErr result (IsRefused source.now) }
+{
+    let tokens = lex(alloc, source)?;
+    let spec = parse(alloc, &tokens)?;
+    table_of(alloc, spec)
+}
+
 /// The table of an IDL file (ISO/IEC 19500-1), as a preprocessor leaves it, that the checker
 /// accepted: its types with their names, its interfaces, operations and exceptions, and the
 /// programs that marshal its values; with the names of members, enumerators, parameters and results.
@@ -91,10 +102,10 @@ fn table_of<T: HasModel + Drop>(alloc: Global, whole: T) -> Result<NamedTable, C
 pub fn compile_named(alloc: Global, source: &str) -> Result<NamedTable, CompileFault>
     ensures compiled { IfOk result (IsNamedTable source.now) }
     ensures refused { IfErr result (IsRefused source.now) }
+    ensures none { IfErr result (HasNoTableBut source.now) }
 {
-    let tokens = lex(alloc, source)?;
-    let spec = parse(alloc, &tokens)?;
-    table_of(alloc, spec)
+    refused_has_no_table();
+    table_of_text(alloc, source)
 }
 
 /// The table of an IDL file, without the names of the parts of its types.
@@ -105,6 +116,7 @@ pub fn compile_named(alloc: Global, source: &str) -> Result<NamedTable, CompileF
 pub fn compile(alloc: Global, source: &str) -> Result<Settled, CompileFault>
     ensures compiled { IfOk result (IsCompiled source.now) }
     ensures refused { IfErr result (IsRefused source.now) }
+    ensures none { IfErr result (HasNoTableBut source.now) }
 {
     match compile_named(alloc, source) {
         Ok(named) => Ok(named.settled),

@@ -103,7 +103,7 @@ opening_alike : (kind : EntryKind) (l m : Leaf) → leaf_shape l ≡ leaf_shape 
 opening_alike kind l m h =
     led (Declares kind l) (Declares kind m) (cc) (led (Enters l) (Enters m) (cc) (single (Defines l) (Defines m) cc))
 
-left : Alike (Leaves ∷ []) (Leaves ∷ [])
+pub left : Alike (Leaves ∷ []) (Leaves ∷ [])
 left = single Leaves Leaves refl
 
 mutual

@@ -1,11 +1,11 @@
 //! Laws over trees of one shape. The functions do nothing: each contract is the law.
 
-ghost use Rattle.std.specs.Prelude.{◌≡◌};
-ghost use Rattle.idl_tree.specs.declared.expression.Expr.{Expr};
-ghost use Rattle.idl_tree.specs.Starts.{leaf_at, expr_start};
-ghost use Rattle.tree_laws.specs.Shapes.{expr_shape};
+ghost use Rattle.std.specs.Prelude.{◌≡◌, List};
+ghost use Rattle.idl_tree.specs.declared.definitions.Definition.{Definition};
+ghost use Rattle.scoped_names.specs.FileNames.{names_of};
+ghost use Rattle.tree_laws.specs.DefinitionShapes.{spec_shape};
 
-/// Expressions of one shape begin at one place.
-pub fn start_is_one()
-    ensures { (a b : Expr) → expr_shape a ≡ expr_shape b → leaf_at (expr_start a) ≡ leaf_at (expr_start b) }
+/// The names of a file, and the fault of its names, are those of its shape.
+pub fn names_are_of_the_shape()
+    ensures { (definitions others : List Definition) → spec_shape definitions ≡ spec_shape others → names_of definitions ≡ names_of others }
 {}
