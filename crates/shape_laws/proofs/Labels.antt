@@ -9,7 +9,6 @@ use Rattle.idl_tree.specs.declared.types.SwitchType.TheVariants as SwitchTypes
 use Rattle.const_values.specs.declared.kind.ConstKind.TheVariants as Kinds
 use Rattle.name_table.specs.Entry.{Entry, meant_in}
 use Rattle.scoped_names.specs.Reading.{◌>>◌}
-use Rattle.lowered_types.specs.declared.labels.Switch.{Switch}
 use Rattle.lowered_types.specs.Faults.{of_names}
 use Rattle.lowered_types.specs.TypeKinds.{kind_of}
 use Rattle.lowered_types.specs.Lowered.{Lowered, already}
@@ -65,11 +64,11 @@ switch_same es w scope at to p a b h =
 
 -- ---- labels
 
-label_value_same : (es : List Entry) (scope : ℕ) (s : Switch) (a b : Expr) → expr_shape a ≡ expr_shape b → label_value es scope s a ≡ label_value es scope s b
+label_value_same : (es : List Entry) (scope : ℕ) (s : _) (a b : Expr) → expr_shape a ≡ expr_shape b → label_value es scope s a ≡ label_value es scope s b
 label_value_same es scope s a b h =
     λ i. of_names (value_same es scope a b h i) >> λ c. label_within s (expr_at a b h i) c (label_number c)
 
-pub label_same : (es : List Entry) (scope : ℕ) (s : Switch) (arms : Arms) (ls : CaseLabels) (a b : Label) → label_shape a ≡ label_shape b
+pub label_same : (es : List Entry) (scope : ℕ) (s : _) (arms : Arms) (ls : CaseLabels) (a b : Label) → label_shape a ≡ label_shape b
     → label_added es scope s arms ls a ≡ label_added es scope s arms ls b
 label_same es scope s arms ls (Labels.Case a) (Labels.Case b) h =
     let worths : const_expr_shape a ≡ const_expr_shape b = cc in

@@ -1,2 +1,9 @@
 pub mod Apart
 pub mod Starts
+pub mod PartLists
+pub mod SharedWorth
+pub mod TypeParts
+pub mod Labels
+pub mod LoweredTypes
+pub mod Operations
+pub mod OperationsOfFiles

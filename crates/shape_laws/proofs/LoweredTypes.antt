@@ -19,7 +19,6 @@ use Rattle.idl_tree.specs.Lists.{parts}
 use Rattle.name_table.specs.Entry.{Entry}
 use Rattle.scoped_names.specs.Reading.{◌>>◌}
 use Rattle.lowered_types.specs.declared.fault.BuildFault.{BuildFault}
-use Rattle.lowered_types.specs.declared.labels.Switch.{Switch}
 use Rattle.lowered_types.specs.declared.place.Place.TheVariants.{Typed}
 use Rattle.lowered_types.specs.Faults.{each}
 use Rattle.lowered_types.specs.Lowered.{Lowered, Numbered, already, opened, placed}
@@ -61,12 +60,12 @@ members_added_same es scope ms t u p a b h = λ i. p i >> λ n. with_declarators
 
 -- ---- cases
 
-labels_same : (es : List Entry) (scope : ℕ) (s : Switch) (arms : Arms) (a b : Listed Label) → listed_shape label_shape a ≡ listed_shape label_shape b
+labels_same : (es : List Entry) (scope : ℕ) (s : _) (arms : Arms) (a b : Listed Label) → listed_shape label_shape a ≡ listed_shape label_shape b
     → each (label_added es scope s arms) no_labels (parts a) ≡ each (label_added es scope s arms) no_labels (parts b)
 labels_same es scope s arms a b h =
     each_same label_shape (label_added es scope s arms) (label_added es scope s arms) (label_same es scope s arms) no_labels (parts a) (parts b) h
 
-case_added_same : (es : List Entry) (scope : ℕ) (s : Switch) (c : Cases) (a b : Listed Label) → listed_shape label_shape a ≡ listed_shape label_shape b
+case_added_same : (es : List Entry) (scope : ℕ) (s : _) (c : Cases) (a b : Listed Label) → listed_shape label_shape a ≡ listed_shape label_shape b
     → (t u : Lowered → Result Numbered BuildFault) → ((w : Lowered) → t w ≡ u w)
     → (d e : Declarator) → declarator_shape d ≡ declarator_shape e → case_added es scope s c a t d ≡ case_added es scope s c b u e
 case_added_same es scope s c a b h t u p d e k =
@@ -129,7 +128,7 @@ mutual
       members_same es scope next rest rest' rests i
   members_same es scope m a b h = absurd cc
 
-  cases_same : {n k : _} (es : List Entry) (scope : ℕ) (s : Switch) (c : Cases) (a : Row_of-Case n) (b : Row_of-Case k) → cases_shape a ≡ cases_shape b
+  cases_same : {n k : _} (es : List Entry) (scope : ℕ) (s : _) (c : Cases) (a : Row_of-Case n) (b : Row_of-Case k) → cases_shape a ≡ cases_shape b
       → with_cases es scope s c a ≡ with_cases es scope s c b
   cases_same es scope s c end_of-Case end_of-Case h = refl
   cases_same es scope s c (more_of-Case ls t d rest) (more_of-Case ms u d' rest') h =
