@@ -17,9 +17,9 @@ use Rattle.lowered_types.specs.SimpleTypes.{integer_number}
 use Rattle.tree_laws.specs.Shapes.{name_shape, leaf_shape, token_shape, const_expr_shape, expr_shape}
 use Rattle.tree_laws.specs.TypeShapes.{enum_shape, switch_shape, label_shape}
 use Rattle.shape_laws.proofs.Apart.{apart}
-use Rattle.shape_laws.proofs.SharedWorth.{value_same}
+use Rattle.shape_laws.proofs.NameTests.{integer_same, value_same}
 use Rattle.shape_laws.proofs.Starts.{leaf_same, token_at, name_at, expr_at}
-use Rattle.shape_laws.proofs.TypeParts.{entry_same, entry_found_same, type_found_same, integer_same, enum_name, enum_same}
+use Rattle.shape_laws.proofs.TypeParts.{entry_same, entry_found_same, type_found_same, enum_name, enum_same}
 
 -- ---- discriminators
 

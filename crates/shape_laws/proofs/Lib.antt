@@ -1,7 +1,13 @@
 pub mod Apart
 pub mod Starts
+pub mod NameStepShapes
+pub mod NameSteps
+pub mod NameDefinitions
+pub mod NameWords
+pub mod NameWorth
+pub mod NameTests
+pub mod NameReading
 pub mod PartLists
-pub mod SharedWorth
 pub mod TypeParts
 pub mod Labels
 pub mod LoweredTypes

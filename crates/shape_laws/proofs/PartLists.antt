@@ -12,21 +12,6 @@ use Rattle.tree_laws.specs.Shapes.{Shape, optional_shape, list_shape, listed_sha
 abbrev pub Same : {T S : Type 0} → (T → Shape) → (T → S) → (T → S) → Type 0
 Same {T = T} part f g = (x y : T) → part x ≡ part y → f x ≡ g y
 
-pub map_same : {T S : Type 0} (part : T → Shape) (f : T → S) → Same part f f → Same (list_shape part) (map f) (map f)
-map_same part f one [] [] h = refl
-map_same part f one (x ∷ xs) (y ∷ ys) h =
-    let first : part x ≡ part y = cc in
-    let rest : list_shape part xs ≡ list_shape part ys = cc in
-    λ i. one x y first i ∷ map_same part f one xs ys rest i
-map_same part f one xs ys h = absurd cc
-
-pub length_same : {T : Type 0} (part : T → Shape) → Same (list_shape part) length length
-length_same part [] [] h = refl
-length_same part (x ∷ xs) (y ∷ ys) h =
-    let rest : list_shape part xs ≡ list_shape part ys = cc in
-    λ i. suc (length_same part xs ys rest i)
-length_same part xs ys h = absurd cc
-
 -- one part behind another
 pub each_same : {S T : Type 0} (part : T → Shape) (f g : S → T → Result S BuildFault) → ((s : S) → Same part (f s) (g s))
     → (s : S) → Same (list_shape part) (each f s) (each g s)
@@ -37,11 +22,7 @@ each_same part f g one s (x ∷ xs) (y ∷ ys) h =
     λ i. one s x y first i >> λ next. each_same part f g one next xs ys rest i
 each_same part f g one s xs ys h = absurd cc
 
--- a list of one part or more is a list
-pub parts_shape : {T : Type 0} (part : T → Shape) (a b : Listed T) → listed_shape part a ≡ listed_shape part b
-    → list_shape part (parts a) ≡ list_shape part (parts b)
-parts_shape part a b h = h
-
+-- lists that may be absent
 pub parts_of_shape : {T : Type 0} (part : T → Shape) (a b : Option (Listed T)) → optional_shape (listed_shape part) a ≡ optional_shape (listed_shape part) b
     → list_shape part (parts_of a) ≡ list_shape part (parts_of b)
 parts_of_shape part None None h = refl

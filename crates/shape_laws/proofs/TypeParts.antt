@@ -28,8 +28,8 @@ use Rattle.lowered_types.specs.SimpleTypes.{entry_of, entry_found, type_found, s
 use Rattle.tree_laws.specs.Shapes.{leaf_shape, optional_shape, list_shape, listed_shape, name_shape, expr_shape, const_expr_shape, bound_shape}
 use Rattle.tree_laws.specs.TypeShapes.{integer_size_shape, integer_shape, const_type_shape, param_type_shape, simple_type_shape, declarator_shape, enum_shape}
 use Rattle.shape_laws.proofs.Apart.{apart}
-use Rattle.shape_laws.proofs.PartLists.{length_same}
-use Rattle.shape_laws.proofs.SharedWorth.{word_same, resolved_same, size_same}
+use Rattle.shape_laws.proofs.NameTests.{integer_same, resolved_same, size_same}
+use Rattle.shape_laws.proofs.NameWords.{length_same, word_same}
 use Rattle.shape_laws.proofs.Starts.{leaf_same, expr_at}
 
 -- ---- what names and expressions say
@@ -59,17 +59,6 @@ bound_or_none_same es scope (Some a) (Some b) h = bound_same es scope a b cc
 bound_or_none_same es scope a b h = absurd cc
 
 -- ---- types
-
-integer_size_same : (a b : IntegerSize) → integer_size_shape a ≡ integer_size_shape b → a ≡ b
-integer_size_same Short Short h = refl
-integer_size_same Long Long h = refl
-integer_size_same LongLong LongLong h = refl
-integer_size_same a b h = apart h refl
-
-pub integer_same : (a b : Integer) → integer_shape a ≡ integer_shape b → a ≡ b
-integer_same (Signed s) (Signed r) h = ap Signed (integer_size_same s r cc)
-integer_same (Unsigned s) (Unsigned r) h = ap Unsigned (integer_size_same s r cc)
-integer_same a b h = apart h refl
 
 bounded_same : (es : List Entry) (w : Lowered) (scope : ℕ) (a b : Option Bound) → optional_shape bound_shape a ≡ optional_shape bound_shape b
     → const_type es w scope (ConstTypes.String a) ≡ const_type es w scope (ConstTypes.String b)

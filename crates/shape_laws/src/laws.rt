@@ -2,16 +2,14 @@
 
 ghost use Rattle.std.specs.Prelude.{◌≡◌, List};
 ghost use Rattle.idl_tree.specs.declared.definitions.Definition.{Definition};
-ghost use Rattle.idl_tree.specs.declared.expression.Expr.{Expr};
-ghost use Rattle.idl_tree.specs.Starts.{leaf_at, expr_start};
-ghost use Rattle.tree_laws.specs.Shapes.{expr_shape};
-ghost use Rattle.tree_laws.specs.DefinitionShapes.{spec_shape};
-ghost use Rattle.name_table.specs.Entry.{Entry};
 ghost use Rattle.lowered_operations.specs.Definitions.{defined_by};
+ghost use Rattle.name_table.specs.Entry.{Entry};
+ghost use Rattle.scoped_names.specs.FileNames.{names_of};
+ghost use Rattle.tree_laws.specs.DefinitionShapes.{spec_shape};
 
-/// Expressions of one shape begin at one place.
-pub fn start_is_one()
-    ensures { (a b : Expr) → expr_shape a ≡ expr_shape b → leaf_at (expr_start a) ≡ leaf_at (expr_start b) }
+/// The names of a file, and the fault of its names, are those of its shape.
+pub fn names_are_of_the_shape()
+    ensures { (definitions others : List Definition) → spec_shape definitions ≡ spec_shape others → names_of definitions ≡ names_of others }
 {}
 
 /// What the types and operations of a file are lowered to, or the first fault of its types, is that of its shape.
