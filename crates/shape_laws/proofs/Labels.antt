@@ -1,5 +1,5 @@
 -- Discriminators and labels of one shape are read as the same.
-use Rattle.std.proofs.Common.{◌≡◌, ℕ, codes, List, Option, Some, None, Result, Ok, slice_get, refl, ap}
+use Rattle.std.proofs.Common.{◌≡◌, ℕ, codes, List, Some, Ok, slice_get, refl, ap}
 use Rattle.idl_tree.specs.declared.names.At.{At}
 use Rattle.idl_tree.specs.declared.expression.Expr.{Expr}
 use Rattle.idl_tree.specs.declared.types.Label.{Label}
@@ -14,7 +14,7 @@ use Rattle.lowered_types.specs.TypeKinds.{kind_of}
 use Rattle.lowered_types.specs.Lowered.{Lowered, already}
 use Rattle.lowered_types.specs.Labels.{switch_type, switch_kind, values_of, switch_of, switched, switch_at, switch_read, label_number, label_within, label_value, Arms, CaseLabels, value_added, default_added, label_added}
 use Rattle.lowered_types.specs.SimpleTypes.{integer_number}
-use Rattle.tree_laws.specs.Shapes.{name_shape, leaf_shape, token_shape, const_expr_shape, expr_shape}
+use Rattle.tree_laws.specs.Shapes.{name_shape, const_expr_shape, expr_shape}
 use Rattle.tree_laws.specs.TypeShapes.{enum_shape, switch_shape, label_shape}
 use Rattle.shape_laws.proofs.Apart.{apart}
 use Rattle.shape_laws.proofs.NameTests.{integer_same, value_same}

@@ -1,5 +1,5 @@
 -- Operations and attributes of one shape are lowered to the same.
-use Rattle.std.proofs.Common.{◌∙◌, if◌then◌else◌, ◌≡◌, ℕ, Bool, true, false, not, List, [], ◌∷◌, ◌++◌, Option, Some, None, Result, Ok, Err, refl, ap}
+use Rattle.std.proofs.Common.{◌∙◌, if◌then◌else◌, ◌≡◌, ℕ, Bool, true, false, not, List, [], ◌∷◌, ◌++◌, Option, Some, None, Ok, Err, refl, ap}
 use Rattle.std.specs.Option.{option_or}
 use Rattle.idl_tree.specs.declared.names.Leaf.{Leaf}
 use Rattle.idl_tree.specs.declared.names.Listed.{Listed}
@@ -13,22 +13,19 @@ use Rattle.idl_tree.specs.declared.definitions.Direction.TheVariants.{In, Out, I
 use Rattle.idl_tree.specs.declared.definitions.Operation.{Operation}
 use Rattle.idl_tree.specs.declared.definitions.Param.{Param}
 use Rattle.idl_tree.specs.declared.names.At.{At}
-use Rattle.idl_tree.specs.Lists.{parts}
 use Rattle.idl_tree.specs.Starts.{leaf_at}
 use Rattle.name_table.specs.Entry.{Entry}
 use Rattle.scoped_names.specs.Reading.{◌>>◌}
 use Rattle.lowered_types.specs.declared.fault.Answer.{Answer}
 use Rattle.lowered_types.specs.declared.fault.Answer.TheVariants.{Parameter}
-use Rattle.lowered_types.specs.declared.fault.BuildFault.{BuildFault}
 use Rattle.lowered_types.specs.declared.fault.BuildFault.TheVariants.{Types}
 use Rattle.lowered_types.specs.declared.fault.TypeFault.TheVariants.{BadOneway}
 use Rattle.lowered_types.specs.declared.place.Place.TheVariants.{Called}
-use Rattle.lowered_types.specs.Faults.{each}
 use Rattle.lowered_types.specs.Lowered.{Lowered, place_of}
 use Rattle.lowered_operations.specs.declared.signature.Role.TheVariants as Roles
 use Rattle.lowered_operations.specs.Oneway.{parts_of, is_in, result_answer, param_answer, raises_answer, answer_of, answer_test, oneway_test}
 use Rattle.lowered_operations.specs.Frames.{carrying, nothing_carried, with_carried, with_param, result_carried, all_carried}
-use Rattle.lowered_operations.specs.Operations.{Defined, exception_in, exception_found, with_exception, raised, with_place, with_call, with_operation, operation, with_types, is_set, get_raises, set_raises, with_get, with_access, with_attribute, attribute_identifiers, attribute}
+use Rattle.lowered_operations.specs.Operations.{Defined, exception_in, with_exception, raised, with_place, with_call, with_operation, operation, with_types, is_set, get_raises, set_raises, with_get, with_access, with_attribute, attribute_identifiers, attribute}
 use Rattle.tree_laws.specs.Shapes.{bool_shape, leaf_shape, optional_shape, list_shape, listed_shape, name_shape, names_shape}
 use Rattle.tree_laws.specs.TypeShapes.{param_type_shape}
 use Rattle.tree_laws.specs.DefinitionShapes.{attributes_shape, attribute_shape, direction_shape, param_shape, operation_shape}

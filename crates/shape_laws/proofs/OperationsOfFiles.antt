@@ -1,6 +1,5 @@
 -- Interfaces, modules and whole files of one shape are lowered to the same.
-use Rattle.std.proofs.Common.{◌≡◌, ℕ, ◌+◌, List, [], ◌∷◌, length, Option, Some, None, Ok, slice_get, refl}
-use Rattle.idl_tree.specs.declared.names.Leaf.{Leaf}
+use Rattle.std.proofs.Common.{◌≡◌, ℕ, ◌+◌, List, length, Option, Some, None, Ok, slice_get, refl}
 use Rattle.idl_tree.specs.declared.definitions.Declaration.{Declaration}
 use Rattle.idl_tree.specs.declared.definitions.Export.{Export}
 use Rattle.idl_tree.specs.declared.definitions.Export.TheVariants as Exports
@@ -9,9 +8,8 @@ use Rattle.idl_tree.specs.declared.definitions.Interface.TheVariants.{Ahead, Def
 use Rattle.idl_tree.specs.declared.definitions.Definition.{Definition, Pragma, Declaration as Declared, Interface as InterfaceDcl, Module', Row_of-Definition, end_of-Definition, more_of-Definition}
 use Rattle.name_table.specs.Entry.{Entry, bases_in}
 use Rattle.scoped_names.specs.Reading.{◌>>◌}
-use Rattle.lowered_types.specs.Faults.{each}
 use Rattle.lowered_operations.specs.Operations.{Defined, declared, undefined_yet, with_types}
-use Rattle.lowered_operations.specs.Interfaces.{export, as_reference, offering, with_interface, interface_of, identifier_of, exports_of, interface_as, interface}
+use Rattle.lowered_operations.specs.Interfaces.{export, as_reference, offering, with_interface, identifier_of, exports_of, interface_as, interface}
 use Rattle.lowered_operations.specs.Definitions.{definition, definitions_after, defined_by}
 use Rattle.tree_laws.specs.Shapes.{leaf_shape, optional_shape, list_shape}
 use Rattle.tree_laws.specs.DefinitionShapes.{declaration_shape, export_shape, interface_shape, definition_shape, definitions_shape, spec_shape}

@@ -1,6 +1,5 @@
 -- What is made of lists part by part: of lists of one shape it is the same, where it is of parts of one shape.
-use Rattle.std.proofs.Common.{suc, ◌≡◌, ℕ, List, [], ◌∷◌, length, map, Option, Some, None, Result, Ok, refl, ap}
-use Rattle.idl_tree.specs.Lists.{parts}
+use Rattle.std.proofs.Common.{◌≡◌, [], ◌∷◌, Option, Some, None, Result, refl}
 use Rattle.idl_tree.specs.declared.names.Listed.{Listed}
 use Rattle.scoped_names.specs.Reading.{◌>>◌}
 use Rattle.lowered_types.specs.declared.fault.BuildFault.{BuildFault}

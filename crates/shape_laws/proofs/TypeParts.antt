@@ -1,14 +1,10 @@
 -- Types of one shape that hold no members, arrays and enumerations are lowered to the same.
-use Rattle.std.proofs.Common.{◌≡◌, ℕ, List, [], ◌∷◌, length, Option, Some, None, Result, Ok, refl, ap}
+use Rattle.std.proofs.Common.{◌≡◌, ℕ, List, [], ◌∷◌, Option, Some, None, Ok, refl, ap}
 use Rattle.idl_tree.specs.declared.names.At.{At}
 use Rattle.idl_tree.specs.declared.names.Leaf.{Leaf}
 use Rattle.idl_tree.specs.declared.names.ScopedName.{ScopedName}
 use Rattle.idl_tree.specs.declared.const_expr.ConstExpr.{ConstExpr}
 use Rattle.idl_tree.specs.declared.const_expr.Bound.{Bound}
-use Rattle.idl_tree.specs.declared.types.IntegerSize.{IntegerSize}
-use Rattle.idl_tree.specs.declared.types.IntegerSize.TheVariants.{Short, Long, LongLong}
-use Rattle.idl_tree.specs.declared.types.Integer.{Integer}
-use Rattle.idl_tree.specs.declared.types.Integer.TheVariants.{Signed, Unsigned}
 use Rattle.idl_tree.specs.declared.types.ConstType.{ConstType}
 use Rattle.idl_tree.specs.declared.types.ConstType.TheVariants as ConstTypes
 use Rattle.idl_tree.specs.declared.types.ParamType.{ParamType}
@@ -17,7 +13,6 @@ use Rattle.idl_tree.specs.declared.types.SimpleType.{SimpleType, Plain, Sequence
 use Rattle.idl_tree.specs.declared.types.Declarator.{Declarator}
 use Rattle.idl_tree.specs.declared.types.EnumType.{EnumType}
 use Rattle.idl_tree.specs.Lists.{parts}
-use Rattle.idl_tree.specs.Starts.{leaf_at}
 use Rattle.type_graph.specs.declared.fault.GraphLimit.TheVariants.{Enumerators, Bound as BoundLimit, Size}
 use Rattle.type_graph.specs.declared.node.Node.TheVariants.{Text, Seq, Enum}
 use Rattle.name_table.specs.Entry.{Entry, named}
@@ -25,8 +20,8 @@ use Rattle.scoped_names.specs.Reading.{◌>>◌}
 use Rattle.lowered_types.specs.Faults.{at_most, max_bound, max_enumerators, max_size, of_names, or_other}
 use Rattle.lowered_types.specs.Lowered.{Lowered, Numbered, already, added_at, named_type, type_of}
 use Rattle.lowered_types.specs.SimpleTypes.{entry_of, entry_found, type_found, size_of, bound_of, bound_or_none, integer_number, const_type, param_type, simple_type, sizes_read, arrays, declarator_at, array_type, enum_type}
-use Rattle.tree_laws.specs.Shapes.{leaf_shape, optional_shape, list_shape, listed_shape, name_shape, expr_shape, const_expr_shape, bound_shape}
-use Rattle.tree_laws.specs.TypeShapes.{integer_size_shape, integer_shape, const_type_shape, param_type_shape, simple_type_shape, declarator_shape, enum_shape}
+use Rattle.tree_laws.specs.Shapes.{leaf_shape, optional_shape, list_shape, name_shape, const_expr_shape, bound_shape}
+use Rattle.tree_laws.specs.TypeShapes.{const_type_shape, param_type_shape, simple_type_shape, declarator_shape, enum_shape}
 use Rattle.shape_laws.proofs.Apart.{apart}
 use Rattle.shape_laws.proofs.NameTests.{integer_same, resolved_same, size_same}
 use Rattle.shape_laws.proofs.NameWords.{length_same, word_same}
