@@ -1,9 +1,8 @@
 -- Specifications of one shape have the same names, and the same fault of their names.
-use Rattle.std.proofs.Common.{◌≡◌, ℕ, Bool, not, ◌&&◌, if◌then◌else◌, List, [], ◌∷◌, ◌++◌, map, length, Option, Some, None, Result, Ok, Err, slice_get, refl, sym, ap, ap₂, ◌∙◌}
+use Rattle.std.proofs.Common.{◌≡◌, ℕ, not, ◌&&◌, if◌then◌else◌, List, [], ◌∷◌, ◌++◌, map, length, Option, Some, None, Ok, Err, slice_get, refl, ap, ap₂, ◌∙◌}
 use Rattle.std.specs.Str.{bytes_eq}
 use Rattle.std.specs.Option.{option_or}
 use Rattle.idl_lexer.specs.Identifiers.{words}
-use Rattle.idl_tree.specs.Starts.{leaf_at as at, name_start}
 use Rattle.idl_tree.specs.declared.names.At.{At}
 use Rattle.idl_tree.specs.declared.names.Leaf.{Leaf}
 use Rattle.idl_tree.specs.declared.names.ScopedName.{ScopedName}
@@ -12,7 +11,6 @@ use Rattle.idl_tree.specs.declared.types.TypeSpec.{TypeSpec, Simple, Struct as S
 use Rattle.idl_tree.specs.declared.definitions.Const.{Const}
 use Rattle.idl_tree.specs.declared.definitions.Definition.{Definition}
 use Rattle.idl_tree.specs.declared.kinds.EntryKind.{EntryKind}
-use Rattle.const_values.specs.declared.kind.ConstKind.{ConstKind}
 use Rattle.name_steps.specs.Steps.{Step, Declares, DeclaresEnum, DeclaresEnumerator, DeclaresTypedef, IsNew, DeclaresConst, DeclaresFeature, HasMember, IsUndefined, HasBase, Enters, Defines, Leaves, NamesType, NamesException, HasWorth, IsSize, Says, steps_of}
 use Rattle.name_table.specs.Entry.{Entry, named}
 use Rattle.name_table.specs.Entries.{plain, scope_number, scope_of}
@@ -27,7 +25,7 @@ use Rattle.scoped_names.specs.IdPragmas.{Said, SetsPrefix, Gives, said_by, said_
 use Rattle.scoped_names.specs.Meanings.{const_meant, enum_meant, enumerator_meant, typedef_meant}
 use Rattle.scoped_names.specs.Reading.{State, StateOrFault, ◌>>◌, passed}
 use Rattle.scoped_names.specs.RepositoryIds.{pragma_for}
-use Rattle.scoped_names.specs.Tests.{at_entry, found_at, is_exception, is_type, resolved, size_read, value_of_type, value_read}
+use Rattle.scoped_names.specs.Tests.{at_entry, found_at, is_exception, is_type, resolved, value_of_type}
 use Rattle.scoped_names.specs.TypeKinds.{const_type_kind}
 use Rattle.scoped_names.specs.declared.fault.NameFault.TheVariants.{Collides, PrefixDiffers}
 use Rattle.tree_laws.specs.Shapes.{leaf_shape, name_shape}
@@ -36,7 +34,7 @@ use Rattle.tree_laws.specs.DefinitionShapes.{const_shape, spec_shape}
 use Rattle.shape_laws.proofs.Apart.{apart}
 use Rattle.shape_laws.proofs.Starts.{leaf_same, name_at}
 use Rattle.shape_laws.proofs.NameWords.{kind_text, leaf_number, word_same}
-use Rattle.shape_laws.proofs.NameStepShapes.{Alike, step_shape}
+use Rattle.shape_laws.proofs.NameStepShapes.{step_shape}
 use Rattle.shape_laws.proofs.NameDefinitions.{steps_alike}
 use Rattle.shape_laws.proofs.NameTests.{bind_same, found_same, resolved_same, value_same, size_same, of_type_same, const_kind_same, simple_kind_same, typedef_meant_same, enum_meant_same, enumerator_meant_same, const_meant_same}
 
@@ -83,7 +81,8 @@ over_same k st l m h None =
 over_same k st l m h (Some e) = ap₂ (again_at k.kind st e) (word_same l m h) (leaf_same l m h)
 
 named_over : (k : Meaning) (st : State) (l m : Leaf) → leaf_shape l ≡ leaf_shape m
-    → declares_over k st l (entry_in st.entries (named st.entries st.scope (word l))) ≡ declares_over k st m (entry_in st.entries (named st.entries st.scope (word m)))
+    → declares_over k st l (entry_in st.entries (named st.entries st.scope (word l)))
+    ≡ declares_over k st m (entry_in st.entries (named st.entries st.scope (word m)))
 named_over k st l m h =
     over_same k st l m h (entry_in st.entries (named st.entries st.scope (word l)))
     ∙ ap (λ w. declares_over k st m (entry_in st.entries (named st.entries st.scope w))) (word_same l m h)

@@ -1,10 +1,9 @@
 -- Trees of one shape ask the same of their names, step by step.
-use Rattle.std.proofs.Common.{◌≡◌, ℕ, codes, List, [], ◌∷◌, ◌++◌, map, Option, Some, None, refl}
+use Rattle.std.proofs.Common.{◌≡◌, [], ◌∷◌, map, Option, Some, None, refl}
 use Rattle.std.specs.List.{flat_map}
 use Rattle.idl_tree.specs.Lists.{parts}
 use Rattle.idl_tree.specs.declared.names.Leaf.{Leaf}
 use Rattle.idl_tree.specs.declared.names.Listed.{Listed}
-use Rattle.idl_tree.specs.declared.names.ScopedName.{ScopedName}
 use Rattle.idl_tree.specs.declared.const_expr.ConstExpr.{ConstExpr}
 use Rattle.idl_tree.specs.declared.const_expr.Bound.{Bound}
 use Rattle.idl_tree.specs.declared.types.ConstType.{ConstType}
@@ -24,11 +23,11 @@ use Rattle.idl_tree.specs.declared.types.UnionType.{UnionType, UnionType', Row_o
 use Rattle.idl_tree.specs.declared.types.Member.{Member}
 use Rattle.idl_tree.specs.declared.kinds.EntryKind.{EntryKind}
 use Rattle.idl_tree.specs.declared.kinds.EntryKind.TheVariants as Kinds
-use Rattle.name_steps.specs.Steps.{Step, Declares, DeclaresEnum, DeclaresEnumerator, DeclaresTypedef, HasMember, Enters, Defines, Leaves, NamesType, HasWorth, IsSize, bound_steps, const_type_steps, param_type_steps, simple_type_steps, size_step, label_steps, typedef_steps, declarator_steps, enum_steps, switch_steps, opening, type_steps, struct_steps, union_steps, members_steps, cases_steps, member_steps}
-use Rattle.tree_laws.specs.Shapes.{Shape, leaf_shape, optional_shape, list_shape, listed_shape, name_shape, bound_shape, const_expr_shape}
+use Rattle.name_steps.specs.Steps.{Declares, DeclaresEnum, DeclaresEnumerator, DeclaresTypedef, HasMember, Enters, Defines, Leaves, NamesType, HasWorth, IsSize, bound_steps, const_type_steps, param_type_steps, simple_type_steps, size_step, label_steps, typedef_steps, declarator_steps, enum_steps, switch_steps, opening, type_steps, struct_steps, union_steps, members_steps, cases_steps, member_steps}
+use Rattle.tree_laws.specs.Shapes.{leaf_shape, optional_shape, listed_shape, bound_shape, const_expr_shape}
 use Rattle.tree_laws.specs.TypeShapes.{const_type_shape, param_type_shape, simple_type_shape, declarator_shape, enum_shape, switch_shape, label_shape, type_shape, struct_shape, union_shape, members_shape, cases_shape, member_shape}
 use Rattle.shape_laws.proofs.Apart.{apart}
-use Rattle.shape_laws.proofs.NameStepShapes.{Alike, step_shape, none, led, single, joined, flat_alike, flat_parts, map_alike, map_parts}
+use Rattle.shape_laws.proofs.NameStepShapes.{Alike, step_shape, none, led, single, joined, flat_parts, map_alike, map_parts}
 
 -- ---- types that declare nothing
 

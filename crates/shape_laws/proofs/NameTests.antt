@@ -1,6 +1,5 @@
 -- What is asked of names, expressions and types of one shape, and what is found.
-use Rattle.std.proofs.Common.{◌≡◌, ◌+◌, ℕ, Bool, if◌then◌else◌, nat_lt, cond, List, length, Option, Some, None, Result, Ok, Err, slice_get, refl, sym, ap, ap₂, ◌∙◌}
-use Rattle.idl_tree.specs.Starts.{expr_start, leaf_at as at, name_start}
+use Rattle.std.proofs.Common.{◌≡◌, ◌+◌, ℕ, Bool, if◌then◌else◌, nat_lt, cond, List, length, Option, Some, None, Result, Ok, Err, slice_get, refl, ap, ap₂, ◌∙◌}
 use Rattle.idl_tree.specs.declared.names.Leaf.{Leaf}
 use Rattle.idl_tree.specs.declared.names.ScopedName.{ScopedName}
 use Rattle.idl_tree.specs.declared.expression.Expr.{Expr, Name, Number, Character, Text, Boolean, Parenthesized', Signed', Chain', Row_of-Operand, end_of-Operand, more_of-Operand}
@@ -25,21 +24,19 @@ use Rattle.const_values.specs.declared.kind.ConstKind.{ConstKind}
 use Rattle.const_values.specs.declared.kind.ConstKind.TheVariants as Kinds
 use Rattle.name_table.specs.Entry.{Entry, worth_in}
 use Rattle.name_table.specs.declared.entry.Meaning.{Meaning}
-use Rattle.scoped_names.specs.Constants.{declarator_kind, meant_found, named_worth, of_type, worth_found, worth_in_scope}
+use Rattle.scoped_names.specs.Constants.{meant_found, named_worth, of_type, worth_found, worth_in_scope}
 use Rattle.scoped_names.specs.Meanings.{const_meant, enum_meant, enumerator_meant, typedef_meant}
 use Rattle.scoped_names.specs.Reading.{◌>>◌}
 use Rattle.scoped_names.specs.Tests.{constant_test, found_at, found_of, is_of, kind_in, names_test, operands_test, or_bad, resolved, size_read, value_of_type, value_read}
 use Rattle.scoped_names.specs.TypeKinds.{const_type_kind, known, param_type_kind, simple_type_kind, string_kind}
-use Rattle.scoped_names.specs.declared.fault.Flaw.{Flaw}
 use Rattle.scoped_names.specs.declared.fault.Flaw.TheVariants.{NoConstant, NoWorth, NotOfType, NotPositive}
-use Rattle.scoped_names.specs.declared.fault.NameFault.{NameFault}
 use Rattle.scoped_names.specs.declared.fault.NameFault.TheVariants.{NotAType}
 use Rattle.tree_laws.specs.Shapes.{leaf_shape, optional_shape, name_shape, expr_shape, operands_shape, bound_shape, const_expr_shape}
 use Rattle.tree_laws.specs.TypeShapes.{integer_size_shape, integer_shape, const_type_shape, param_type_shape, simple_type_shape, declarator_shape}
 use Rattle.tree_laws.specs.DefinitionShapes.{const_shape}
 use Rattle.shape_laws.proofs.Apart.{apart}
 use Rattle.shape_laws.proofs.Starts.{name_at, expr_at}
-use Rattle.shape_laws.proofs.NameWords.{ap₃, length_same, leaf_number, sees_same, finds_same}
+use Rattle.shape_laws.proofs.NameWords.{length_same, leaf_number, sees_same, finds_same}
 use Rattle.shape_laws.proofs.NameWorth.{worth_same, expr_pieces}
 
 -- ---- one thing and then another

@@ -1,5 +1,5 @@
 -- What leaves, names and operators of one shape say, and lists of such parts.
-use Rattle.std.proofs.Common.{◌≡◌, ℕ, Bool, true, false, codes, List, [], ◌∷◌, ◌++◌, map, length, suc, Option, Some, None, is_some, refl, sym, ap, ap₂, ◌∙◌}
+use Rattle.std.proofs.Common.{◌≡◌, ℕ, Bool, true, false, List, [], ◌∷◌, ◌++◌, map, length, suc, Option, Some, None, is_some, refl, ap, ap₂}
 use Rattle.std.specs.List.{flat_map}
 use Rattle.idl_lexer.specs.declared.token.Kind.{Kind as TokenKind}
 use Rattle.idl_lexer.specs.Tokens.{parts_of}
@@ -12,7 +12,7 @@ use Rattle.idl_tree.specs.declared.expression.Operator.TheVariants.{Or, Xor, And
 use Rattle.idl_tree.specs.declared.expression.Sign.{Sign}
 use Rattle.idl_tree.specs.declared.expression.Sign.TheVariants.{Plus, Minus}
 use Rattle.idl_tree.specs.Starts.{is_rooted, name_first, name_rest, name_start}
-use Rattle.idl_tree.specs.Yields.{boolean_text, operator_text, sign_text}
+use Rattle.idl_tree.specs.Yields.{boolean_text, sign_text}
 use Rattle.name_table.specs.Entry.{Entry}
 use Rattle.name_table.specs.Search.{finds, found_by, sees, sees_words, word}
 use Rattle.tree_laws.specs.Shapes.{Shape, Nothing, Kind, leaf_shape, root_shape, optional_shape, list_shape, name_shape, operator_shape}

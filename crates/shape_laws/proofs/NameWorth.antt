@@ -1,12 +1,11 @@
 -- What expressions of one shape are worth, and the pieces that they spell.
-use Rattle.std.proofs.Common.{◌≡◌, ℕ, Bool, false, codes, List, [], ◌∷◌, ◌++◌, ◌&&◌, Option, Some, None, ℤ, refl, sym, ap, ap₂, ◌∙◌}
-use Rattle.std.specs.List.{flat_map}
+use Rattle.std.proofs.Common.{◌≡◌, ℕ, false, codes, List, [], ◌∷◌, ◌++◌, ◌&&◌, Option, Some, None, ℤ, refl, ap, ap₂}
 use Rattle.idl_lexer.specs.declared.token.Kind.{Kind as TokenKind}
 use Rattle.idl_lexer.specs.declared.token.Kind.TheVariants.{Ident, Keyword, Punct, CharLit, TextLit, Number as Integer}
 use Rattle.idl_lexer.specs.Readings.{text_octets}
 use Rattle.idl_lexer.specs.Tokens.{parts_of}
 use Rattle.idl_tree.specs.Lists.{parts}
-use Rattle.idl_tree.specs.Pieces.{Piece, mark, leaf, kept, kept_mark, kept_keyword}
+use Rattle.idl_tree.specs.Pieces.{mark, leaf, kept}
 use Rattle.idl_tree.specs.Yields.{identifier, optional, root_yield, path_yield, name_yield, operator_yield, boolean_text, sign_text, text_yield, in_order, expr_yield, operands_yield}
 use Rattle.idl_tree.specs.declared.names.Leaf.{Leaf}
 use Rattle.idl_tree.specs.declared.names.Listed.{Listed}
@@ -17,9 +16,8 @@ use Rattle.idl_tree.specs.declared.expression.Expr.{Expr, Name, Number, Characte
 use Rattle.const_values.specs.Arithmetic.{where_true}
 use Rattle.const_values.specs.Texts.{joined_octets}
 use Rattle.const_values.specs.Worth.{NamesWorth, whole_number, whole_constant, sign_applied, operator_applied, token_worth, literal_worth, is_text, are_texts, text_worth, worth, chain_worth}
-use Rattle.const_values.specs.declared.constant.Constant.{Constant}
 use Rattle.const_values.specs.declared.constant.Constant.TheVariants as Constants
-use Rattle.tree_laws.specs.Shapes.{Shape, leaf_shape, token_shape, root_shape, optional_shape, list_shape, listed_shape, path_shape, name_shape, expr_shape, operands_shape}
+use Rattle.tree_laws.specs.Shapes.{leaf_shape, token_shape, root_shape, optional_shape, list_shape, listed_shape, path_shape, name_shape, expr_shape, operands_shape}
 use Rattle.shape_laws.proofs.Apart.{apart}
 use Rattle.shape_laws.proofs.Starts.{leaf_text}
 use Rattle.shape_laws.proofs.NameWords.{ap₃, flat_same, kind_text, leaf_kind, operator_same, sign_same, boolean_same}
