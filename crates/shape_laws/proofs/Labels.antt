@@ -50,7 +50,8 @@ switch_place : (at to : At) → at ≡ to → (a b : SwitchType) → switch_shap
 switch_place at to p (SwitchTypes.Integer a) (SwitchTypes.Integer b) h = p
 switch_place at to p SwitchTypes.Char SwitchTypes.Char h = p
 switch_place at to p SwitchTypes.Boolean SwitchTypes.Boolean h = p
-switch_place at to p (SwitchTypes.Enum a) (SwitchTypes.Enum b) h = leaf_same a.identifier b.identifier (let enums : enum_shape a ≡ enum_shape b = cc in enum_name a b enums)
+switch_place at to p (SwitchTypes.Enum a) (SwitchTypes.Enum b) h =
+    let enums : enum_shape a ≡ enum_shape b = cc in leaf_same a.identifier b.identifier (enum_name a b enums)
 switch_place at to p (SwitchTypes.Name a) (SwitchTypes.Name b) h = name_at a b cc
 switch_place at to p a b h = apart h refl
 

@@ -148,7 +148,8 @@ member_same : (es : List Entry) (scope : ℕ) (m : WithMembers) (a b : Member) �
 member_same es scope m a b h =
     let types : type_shape a.member_type ≡ type_shape b.member_type = cc in
     let declarators : listed_shape declarator_shape a.declarators ≡ listed_shape declarator_shape b.declarators = cc in
-    members_added_same es scope m.members _ _ (type_same es m.lowered scope _ _ (first_place a.declarators b.declarators declarators) a.member_type b.member_type types)
+    let place = first_place a.declarators b.declarators declarators in
+    members_added_same es scope m.members _ _ (type_same es m.lowered scope _ _ place a.member_type b.member_type types)
     a.declarators b.declarators declarators
 
 -- ---- declarations
@@ -183,9 +184,11 @@ type_dcl_same es w scope a b h = apart h refl
 -- the members of exceptions that stand at one place
 excepted : (es : List Entry) (w : Lowered) (scope : ℕ) (at to : At) → at ≡ to → (a b : Except)
     → list_shape member_shape a.members.items ≡ list_shape member_shape b.members.items
-    → each (with_member es scope) (with_members_of w (id_member at)) a.members.items ≡ each (with_member es scope) (with_members_of w (id_member to)) b.members.items
+    → each (with_member es scope) (with_members_of w (id_member at)) a.members.items
+    ≡ each (with_member es scope) (with_members_of w (id_member to)) b.members.items
 excepted es w scope at to p a b h =
-    each_same member_shape (with_member es scope) (with_member es scope) (member_same es scope) (with_members_of w (id_member at)) a.members.items b.members.items h
+    each_same member_shape (with_member es scope) (with_member es scope) (member_same es scope) (with_members_of w (id_member at))
+    a.members.items b.members.items h
     ∙ ap (λ x. each (with_member es scope) (with_members_of w (id_member x)) b.members.items) p
 
 except_same : (es : List Entry) (w : Lowered) (scope : ℕ) (a b : Except) → except_shape a ≡ except_shape b → except es w scope a ≡ except es w scope b
