@@ -7,3 +7,9 @@ pub mod NameWords
 pub mod NameWorth
 pub mod NameTests
 pub mod NameReading
+pub mod PartLists
+pub mod TypeParts
+pub mod Labels
+pub mod LoweredTypes
+pub mod Operations
+pub mod OperationsOfFiles
