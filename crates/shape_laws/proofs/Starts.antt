@@ -1,11 +1,11 @@
 -- Where names and expressions of one shape begin.
-use Rattle.std.proofs.Common.{◌≡◌, ℕ, List, [], ◌∷◌, Option, Some, None, map, refl, ap, ◌∙◌, codes}
+use Rattle.std.proofs.Common.{◌≡◌, ℕ, List, Option, Some, None, refl, ap, ◌∙◌, codes}
 use Rattle.idl_lexer.specs.Tokens.{parts_of}
 use Rattle.idl_tree.specs.declared.names.At.{At}
 use Rattle.idl_tree.specs.declared.names.Leaf.{Leaf}
 use Rattle.idl_tree.specs.declared.names.ScopedName.{ScopedName}
 use Rattle.idl_tree.specs.declared.names.ScopedName.TheVariants.{Plain, Scoped}
-use Rattle.idl_tree.specs.declared.expression.Expr.{Expr, Name, Number, Character, Text, Boolean, Parenthesized', Signed', Chain', Row_of-Operand, end_of-Operand, more_of-Operand}
+use Rattle.idl_tree.specs.declared.expression.Expr.{Expr, Name, Number, Character, Text, Boolean, Parenthesized', Signed', Chain'}
 use Rattle.idl_tree.specs.Yields.{boolean_text, sign_text}
 use Rattle.idl_tree.specs.Starts.{leaf_at, root_or, name_start, expr_start}
 use Rattle.shape_laws.proofs.Apart.{apart}
@@ -36,7 +36,10 @@ root_at a b l m h k = absurd cc
 
 pub name_at : (a b : ScopedName) → name_shape a ≡ name_shape b → leaf_at (name_start a) ≡ leaf_at (name_start b)
 name_at (Plain l) (Plain m) h = leaf_same l m cc
-name_at (Scoped p) (Scoped q) h = root_at p.value.root q.value.root p.value.first q.value.first (let roots : optional_shape root_shape p.value.root ≡ optional_shape root_shape q.value.root = cc in roots) (let first : leaf_shape p.value.first ≡ leaf_shape q.value.first = cc in first)
+name_at (Scoped p) (Scoped q) h =
+    let roots : optional_shape root_shape p.value.root ≡ optional_shape root_shape q.value.root = cc in
+    let first : leaf_shape p.value.first ≡ leaf_shape q.value.first = cc in
+    root_at p.value.root q.value.root p.value.first q.value.first roots first
 name_at a b h = apart h refl
 
 pub expr_at : (a b : Expr) → expr_shape a ≡ expr_shape b → leaf_at (expr_start a) ≡ leaf_at (expr_start b)
