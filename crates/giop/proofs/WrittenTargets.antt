@@ -7,7 +7,7 @@ use Rattle.std.proofs.lemmas.List.{map-append, take_more}
 use Rattle.type_graph.specs.declared.width.Width.TheVariants.{Two, Four}
 use Rattle.type_graph.specs.declared.width.Order.TheVariants.{Big}
 use Rattle.type_graph.specs.Words.{AllBelow, word}
-use Rattle.type_graph.specs.Value.{Bytes, count, node_at, Fits, FitAll, IsText, tape_of}
+use Rattle.type_graph.specs.Value.{count, node_at, Fits, FitAll, IsText, tape_of}
 use Rattle.type_graph.proofs.WordLaws.{all_append}
 use Rattle.giop_types.specs.TapeParts.{counted, IsCounted, tagged, IsTagged, tagged_list, AreTagged}
 use Rattle.giop_types.specs.TapeRefusal.{RefusesWriting}

@@ -1,4 +1,4 @@
-use Rattle.std.proofs.Common.{◌≡◌, ◌++◌, List, ℕ, ap, subst, sym, ◌∙◌}
+use Rattle.std.proofs.Common.{◌++◌, List, ℕ, ap, subst, sym, ◌∙◌}
 use Rattle.type_graph.specs.Words.{AllBelow}
 use Rattle.giop_types.specs.TapeParts.{tagged, IsTagged}
 use Rattle.object_references.proofs.ListLaws.{tape_more, each_more, each_at, writing_weaker}
