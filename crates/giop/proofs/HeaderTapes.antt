@@ -54,14 +54,13 @@ new_request id flags target operation =
 pub request_fits : (id flags : ℕ) (target : Tree) (operation : List ℕ) → id < 2 ^ 32 → flags < 256
     → FitsAsTarget target → IsText 0 operation
     → Fits giop_nodes (node_at giop_nodes 17) (new_request id flags target operation) 64
-request_fits id flags target operation small octet fits text =
-    (
-      small,
-      (
-        octet,
-        ((omega arith, (omega arith, (omega arith, tt))), (fits, (text, ((omega arith, no_count, tt), tt)))),
-      ),
-    )
+request_fits id flags target operation small octet fits text = (
+  small,
+  (
+    octet,
+    ((omega arith, (omega arith, (omega arith, tt))), (fits, (text, ((omega arith, no_count, tt), tt)))),
+  ),
+)
 
 -- no header with these fields
 pub header_refused : (fault : GiopFault) (order : Order) (id flags : ℕ) (target : Tree) (operation : List ℕ)

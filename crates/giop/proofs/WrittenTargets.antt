@@ -58,12 +58,11 @@ octets_below (octet ∷ more) h = (h 0, octets_below more (λ i. h (suc i)))
 
 octets_value : (octets : List ℕ) (d : ℕ) → 1 ≤ d → AllBelow 256 octets → IsCounted octets
     → Fits giop_nodes (node_at giop_nodes 10) (octets_tree octets) d
-octets_value octets d deep below short =
-    (
-      deep,
-      record { in_bound = tt; short = omega (arith, count_octets octets, short) },
-      octets_fit octets (d - 1) below,
-    )
+octets_value octets d deep below short = (
+  deep,
+  record { in_bound = tt; short = omega (arith, count_octets octets, short) },
+  octets_fit octets (d - 1) below,
+)
 
 tagged_value : (one : ℕ × List ℕ) (d : ℕ) → 1 ≤ d → AllBelow 256 one.1 → IsTagged one
     → Fits giop_nodes (node_at giop_nodes 11) (tagged_tree one) d
@@ -77,12 +76,11 @@ tagged_values (one ∷ more) d deep below h =
 
 list_value : (all : List (ℕ × List ℕ)) → AreBelow all → AreTagged all
     → Fits giop_nodes (node_at giop_nodes 12) (tagged_list_tree all) 64
-list_value all below h =
-    (
-      omega arith,
-      record { in_bound = tt; short = omega (arith, count_tagged all, h.short) },
-      tagged_values all 63 (omega arith) below h.each,
-    )
+list_value all below h = (
+  omega arith,
+  record { in_bound = tt; short = omega (arith, count_tagged all, h.short) },
+  tagged_values all 63 (omega arith) below h.each,
+)
 
 -- ---- what is put there
 
