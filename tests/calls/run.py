@@ -92,7 +92,8 @@ def exceptions(calls):
         ("a system exception cut", reply(FAILURE[:-1], 2), (1, "", "idlc: 139 OtherBody\n")),
         ("a result cut", reply(SUM[:-2]), (1, "", "idlc: 139 OtherBody\n")),
         ("a forward to nowhere", reply(b"", 3), (1, "", "idlc: 139 OtherBody\n")),
-        ("another form of address", reply(struct.pack(">H", 2), 5), (1, "", "idlc: 141 NeedsAddressingMode\n")),
+        ("no form of address", reply(struct.pack(">h", 3), 5), (1, "", "idlc: 141 NeedsAddressingMode\n")),
+        ("a form of address cut", reply(b"\0", 5), (1, "", "idlc: 139 OtherBody\n")),
         ("an id with octets that aren't printed", reply(text(b"a\n\\\xff") + bytes(8), 2),
          (6, "", "idlc: a\\x0a\\\\\\xff minor 0x00000000 COMPLETED_YES\n")),
     ]
@@ -112,6 +113,38 @@ def forwards(calls):
             servers.append(peer.Peer(saying(forwarded_to(calls, servers[-1].port, 3 + turn % 2))))
         wanted = (0, SAID, "") if count < 9 else (1, "", "idlc: 140 TooManyForwards\n")
         calls.ask(f"{count} forwards", wanted, servers[-1], *ADD)
+
+
+def profile_of(octets):
+    """The tag and the octets of the profile with which a reference in big order ends, which has one."""
+    at = 8 + struct.unpack(">I", octets[4:8])[0]
+    at += -at % 4 + 4
+    return octets[at:]
+
+
+def target_of(request):
+    """The target of a request in big order, behind its number, its flags and three octets."""
+    return request[12 + 8:request.index(struct.pack(">I", 4) + b"add\0")]
+
+
+def addresses(calls):
+    """A server that asks for a form of address is asked once more in this form."""
+    key = struct.pack(">H2xI4s", 0, 1, b"K")
+    for form in (0, 1, 2):
+        server = peer.Peer(saying(reply(struct.pack(">h", form), 5)), saying(reply(SUM)))
+        reference = bytes.fromhex(calls.ior(server.port)[4:])
+        wanted = (key, struct.pack(">H2x", 1) + profile_of(reference), struct.pack(">H2xI", 2, 0) + reference[4:])[form]
+        calls.ask(f"asked for the form {form}", (0, SAID, ""), server, *ADD)
+        targets = [target_of(octets) for octets in server.asked]
+        calls.check(f"the form {form}", [key, wanted + bytes(-len(wanted) % 4)], targets)
+    for form in (0, 1, 2):
+        server = peer.Peer(saying(reply(struct.pack(">h", form), 5)))
+        calls.ask(f"asked for {form} for ever", (1, "", "idlc: 141 NeedsAddressingMode\n"), server, *ADD)
+        calls.check(f"asked for {form} twice", 2, len(server.asked))
+    there = peer.Peer(saying(reply(struct.pack(">h", 2), 5)), saying(reply(SUM)))
+    here = peer.Peer(saying(reply(struct.pack(">h", 1), 5)), saying(forwarded_to(calls, there.port)))
+    calls.ask("asked at both objects of a forward", (0, SAID, ""), here, *ADD)
+    calls.check("both in that form", ([0, 1], [0, 2]), ([octets[21] for octets in here.asked], [octets[21] for octets in there.asked]))
 
 
 def closing(calls):
@@ -326,6 +359,6 @@ def run(test):
     if built.status:
         return Count(0, [built.out + built.err])
     calls = Calls(test)
-    for part in (both_ends, results, exceptions, forwards, closing, hostile, waiting, asked, repeated, progress, small, named):
+    for part in (both_ends, results, exceptions, forwards, addresses, closing, hostile, waiting, asked, repeated, progress, small, named):
         part(calls)
     return calls.count

@@ -142,7 +142,7 @@ def strange_octets(dumps):
         (kind, "message\n  93 BadHead\n  " + kind.hex()),
         (empty, "message\n  93 BadHead\n  " + empty.hex()),
         (reply(5, SUM), f"Reply id 5 status NO_EXCEPTION order big\n  144 NoRequest\n  {SUM.hex()}"),
-        (reply(5, b"", 5), "Reply id 5 status NEEDS_ADDRESSING_MODE order big\n  another form of address is wanted"),
+        (reply(5, b"\0\2", 5), "Reply id 5 status NEEDS_ADDRESSING_MODE order big\n  another form of address is wanted"),
         (message(4, struct.pack(">II", 7, 1)), "LocateReply id 7 status 1"),
         (message(4, struct.pack(">II", 7, 2) + b"\x07"), "LocateReply id 7 status 2\n  07"),
         (message(7, struct.pack(">I", 8)), "message\n  97 BadFragment\n  " + message(7, struct.pack(">I", 8)).hex()),

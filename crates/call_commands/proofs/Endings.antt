@@ -21,7 +21,7 @@ module _ (Told Told' : Telling) (choice : Choice) (ask : TextCall) (reference : 
   last (outcomes.Returned text) said = tt
   last (outcomes.Raised text) said = tt
   last (outcomes.Failed exception) said = tt
-  last outcomes.Readdressed said = tt
+  last (outcomes.Readdressed disposition) said = tt
 
   pub ended : (outcome : Outcome) (result : Result Ending CallRefusal) → IsEnding outcome result
       → IsSaid Told Told' choice ask reference lines (Ok (Some outcome)) lines'
@@ -29,7 +29,7 @@ module _ (Told Told' : Telling) (choice : Choice) (ask : TextCall) (reference : 
   ended outcome (Ok ending) is said =
       subst (λ (o : Option Outcome). IsSaid Told Told' choice ask reference lines (Ok o) lines') (sym is) said
   ended outcome (Err Readdressed) is said =
-      subst (λ (o : Outcome). IsSaid Told Told' choice ask reference lines (Ok (Some o)) lines') is said
+      (is.0, subst (λ (o : Outcome). IsSaid Told Told' choice ask reference lines (Ok (Some o)) lines') is.1 said)
   ended outcome (Err NoOperation) is said = absurd is
   ended outcome (Err (Unsaid fault)) is said = absurd is
   ended outcome (Err (Unanswered fault)) is said = absurd is

@@ -56,7 +56,7 @@ IsLastOutcome outcome = Unit {0}
 -- the ending of an outcome
 abbrev pub IsEnding : Outcome → Result Ending CallRefusal → Type 0
 IsEnding outcome (Ok ending) = outcome_of ending ≡ Some outcome
-IsEnding outcome (Err Readdressed) = outcome ≡ outcomes.Readdressed
+IsEnding outcome (Err Readdressed) = (disposition : ℕ) × (outcome ≡ outcomes.Readdressed disposition)
 IsEnding outcome (Err refusal) = ⊥
 
 -- how the call of an operation ends; where it isn't sent, nothing was dialled
@@ -70,7 +70,8 @@ IsCarriedOut Told Told' choice ask reference lines (Err (Unsaid fault)) lines' =
 IsCarriedOut Told Told' choice ask reference lines (Err (Unanswered fault)) lines' =
     IsSaid Told Told' choice ask reference lines (Err fault) lines'
 IsCarriedOut Told Told' choice ask reference lines (Err Readdressed) lines' =
-    IsSaid Told Told' choice ask reference lines (Ok (Some outcomes.Readdressed)) lines'
+    (disposition : ℕ)
+    × IsSaid Told Told' choice ask reference lines (Ok (Some (outcomes.Readdressed disposition))) lines'
 IsCarriedOut Told Told' choice ask reference lines (Err NoMemory) lines' = Unit {0}
 
 -- the operation that the word names was called

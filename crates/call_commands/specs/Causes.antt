@@ -38,6 +38,7 @@ cause_of_calling (calls.Unanswered fault) = cause_of_awaiting fault
 
 abbrev pub cause_of_reaching : ReachFault → Cause
 cause_of_reaching reaches.NotReached = Socket
+cause_of_reaching reaches.NotNamed = Input
 cause_of_reaching (reaches.NotCalled fault) = cause_of_calling fault
 cause_of_reaching reaches.NoMemory = Memory
 

@@ -17,7 +17,8 @@ use std::alloc::Global;
 ///
 /// # Errors
 /// `NoOperation`, `Unsaid` before anything is dialled; then as `call_object` of followed_calls says.
-/// `Readdressed` where the object is to be named in another form. Want of memory.
+/// `Readdressed` where its server asks for a form of address that there isn't, or again for one after the
+/// object was named as it asked. Want of memory.
 pub fn call_text<D: Dial>(
     types: &Types<'_>,
     alloc: Global,

@@ -21,7 +21,8 @@ pub enum CallRefusal {
     Unsaid(TextFault),
     #[error("{0}")]
     Unanswered(ObjectFault),
-    /// The object is to be named in another form.
+    /// The object is to be named in a form that there isn't, or in another one after it was named as its
+    /// server asked.
     #[error("141 NeedsAddressingMode")]
     Readdressed,
     #[error("no memory")]
@@ -83,6 +84,7 @@ fn of_reaching(fault: ReachFault) -> Cause
 {
     match fault {
         ReachFault::NotReached => Cause::Socket,
+        ReachFault::NotNamed => Cause::Input,
         ReachFault::NotCalled(fault) => of_calling(fault),
         ReachFault::NoMemory => Cause::Memory,
     }

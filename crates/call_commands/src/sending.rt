@@ -13,6 +13,7 @@ use crate::ending::Ending;
 use crate::fault::CallRefusal;
 use call_texts::{Outcome, argument_tape};
 use followed_calls::{ObjectFault, Wanted, call_object};
+use giop::Addressed;
 use giop_client::Request;
 use object_calls::Dial;
 use object_references::Ior;
@@ -35,7 +36,7 @@ fn ending_of(outcome: Outcome) -> Result<Ending, CallRefusal>
         Outcome::Returned(text) => Ok(Ending::Returned(text)),
         Outcome::Raised(text) => Ok(Ending::Raised(text)),
         Outcome::Failed(exception) => Ok(Ending::Failed(exception)),
-        Outcome::Readdressed => Err(CallRefusal::Readdressed),
+        Outcome::Readdressed(_) => Err(CallRefusal::Readdressed),
         Outcome::Forwarded(_) => unreachable!(),
     }
 }
@@ -61,7 +62,7 @@ fn said<D: Dial>(
         order: ask.order,
         id: ask.id,
         flags: flags_of(choice.oneway),
-        key: b"".as_slice(),
+        target: Addressed::Key(b"".as_slice()),
         operation: choice.name,
     };
     let wanted = Wanted {

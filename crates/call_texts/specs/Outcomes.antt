@@ -1,8 +1,9 @@
 -- What becomes of a call, by the reply to it (ISO/IEC 19500-2, GIOP message formats: reply status, reply body).
-use Rattle.std.specs.Prelude.{◌≡◌, ℕ, List, ◌++◌, Some, None}
+use Rattle.std.specs.Prelude.{◌≡◌, ℕ, List, ◌++◌, length, Some, None}
 use Rattle.std.specs.String.{string_bytes}
 use Rattle.type_graph.specs.declared.width.Order.{Order}
-use Rattle.type_graph.specs.Words.{reading}
+use Rattle.type_graph.specs.declared.width.Width.TheVariants.{Two}
+use Rattle.type_graph.specs.Words.{pad, plain_word, reading}
 use Rattle.type_graph.specs.Encoding.{Means}
 use Rattle.type_model.specs.declared.signatures.Exception.{Exception}
 use Rattle.type_model.specs.ModelRules.{Parts}
@@ -50,6 +51,15 @@ pub data IsNoneRaised (model : Parts) (exceptions : List ℕ) (answered : Answer
       → HasNoValue model.graph answered.order exception.frame answered.body_at answered.body
       → IsNoneRaised model exceptions answered
 
+-- ---- other forms of address
+
+-- The octets at a place of a message begin with this unsigned short, whatever stands in the gap before it.
+pub record BeginsWithShort (order : Order) (place : ℕ) (octets : List ℕ) (n : ℕ) : Type 0 where
+  pub gap : List ℕ
+  pub rest : List ℕ
+  pub octets_are : octets ≡ gap ++ (plain_word order Two n ++ rest)
+  pub aligned : length gap ≡ pad place 2
+
 -- ---- outcomes
 
 -- what a call is for: the types of its table with the names of their parts, the frame of the result, and the
@@ -76,7 +86,8 @@ IsOutcomeOf statuses.LocationForward called answered (Forwarded ior) =
     HoldsReference answered.order answered.body_at answered.body (reference_of ior)
 IsOutcomeOf statuses.LocationForwardPerm called answered (Forwarded ior) =
     HoldsReference answered.order answered.body_at answered.body (reference_of ior)
-IsOutcomeOf statuses.NeedsAddressingMode called answered Readdressed = Unit {0}
+IsOutcomeOf statuses.NeedsAddressingMode called answered (Readdressed disposition) =
+    BeginsWithShort answered.order answered.body_at answered.body disposition
 IsOutcomeOf status called answered outcome = ⊥
 
 -- The outcome is that of the reply.
@@ -93,7 +104,8 @@ HasNoOutcomeOf statuses.LocationForward called answered =
     (reference : Reference) → HoldsReference answered.order answered.body_at answered.body reference → ⊥
 HasNoOutcomeOf statuses.LocationForwardPerm called answered =
     (reference : Reference) → HoldsReference answered.order answered.body_at answered.body reference → ⊥
-HasNoOutcomeOf statuses.NeedsAddressingMode called answered = ⊥
+HasNoOutcomeOf statuses.NeedsAddressingMode called answered =
+    (n : ℕ) → BeginsWithShort answered.order answered.body_at answered.body n → ⊥
 
 -- its body isn't what its status says
 abbrev pub HasNoOutcome : Called → Answered → Type 0

@@ -4,6 +4,7 @@
 
 mod argument;
 mod body;
+mod disposition;
 mod outcome;
 mod parts;
 mod raised;

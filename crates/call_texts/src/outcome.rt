@@ -6,6 +6,7 @@ ghost use Rattle.giop_messages.specs.Messages.{answered_of};
 ghost use Rattle.call_texts.specs.Outcomes.{HasNoOutcome, IsOutcome, called};
 
 use crate::body::body_text;
+use crate::disposition::read_disposition;
 use crate::raised::raised_text;
 use giop_messages::{Reply, ReplyStatus};
 use giop_types::GiopTypes;
@@ -25,8 +26,9 @@ pub enum Outcome {
     Failed(SystemException),
     /// Where the object is.
     Forwarded(Ior),
-    /// The object is to be named in another form.
-    Readdressed,
+    /// The object is to be named in this form (ISO/IEC 19500-2, GIOP message formats:
+    /// AddressingDisposition), which may be none that there is.
+    Readdressed(u16),
 }
 
 /// What a reply says of a call, by the types of the frame of its result and of the exceptions that it
@@ -79,6 +81,11 @@ pub fn read_outcome(
                 Err(error) => Err(error),
             }
         }
-        ReplyStatus::NeedsAddressingMode => Ok(Some(Outcome::Readdressed)),
+        ReplyStatus::NeedsAddressingMode => {
+            match read_disposition(reply.order, place, reply.octets) {
+                Some(disposition) => Ok(Some(Outcome::Readdressed(disposition))),
+                None => Ok(None),
+            }
+        }
     }
 }

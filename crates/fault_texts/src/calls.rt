@@ -97,10 +97,11 @@ Mended: a server that answers the call.
 ";
 
 const NEEDS_ADDRESSING_MODE: &str = "141 NeedsAddressingMode
-The server wants the object named by a profile or a reference, and not by its key alone.
-Input: a reply with the status NEEDS_ADDRESSING_MODE.
-To mend it: call the object by a server that takes keys.
-Mended: a reply with another status.
+The server asks for a form of address that can't be had: one that there isn't, or once more for one
+when the object was named as it had asked. Asked once, the call is made again in that form.
+Input: a server that answers each request with the status NEEDS_ADDRESSING_MODE.
+To mend it: call the object by a server that takes the form for which it asks.
+Mended: a server that answers the second request.
 ";
 
 /// Those with the numbers 130 to 141.

@@ -8,7 +8,9 @@ use Rattle.call_texts.specs.declared.outcome.Outcome.{Outcome}
 use Rattle.call_texts.specs.declared.outcome.Outcome.TheVariants.{Returned, Raised, Failed, Forwarded, Readdressed}
 use Rattle.object_calls.specs.Lines.{Line}
 use Rattle.object_calls.specs.Talks.{Asking}
-use Rattle.followed_calls.specs.Tries.{IsCalledTwice, IsTried}
+use Rattle.followed_calls.specs.Heeded.{IsCalledHeeding, IsHeeded}
+use Rattle.followed_calls.specs.Hops.{InForm}
+use Rattle.followed_calls.specs.Tries.{IsTried}
 use Rattle.followed_calls.specs.Followed.{AreForwarded, At, IsFollowed, IsForwarded, IsLast, start}
 use Rattle.followed_calls.specs.inner.Underway.{IsUnderway}
 use Rattle.followed_calls.specs.declared.fault.ObjectFault.{ObjectFault}
@@ -23,6 +25,11 @@ one_more : (ask : Asking) (called : Called) (from : At) (hops : List At) (last t
     → AreForwarded ask called from hops last → IsForwarded ask called last to → AreForwarded ask called from (hops ++ to ∷ []) to
 one_more ask called from [] last to same step = (subst (λ (a : At). IsForwarded ask called a to) (sym same) step, refl)
 one_more ask called from (hop ∷ hops) last to chain step = (chain.0, one_more ask called hop hops last to chain.1 step)
+
+few_tries : (ask : InForm) (called : Called) (reference : Reference) (lines lines' : List Line) (tos : List Ends)
+    → IsTried ask called reference lines (Err TooMany) lines' tos → ⊥
+few_tries ask called reference lines lines' tos (inl unclosed) = unclosed.once
+few_tries ask called reference lines lines' tos (inr more) = more.again
 
 module _ (Told : List Ends → Type 0) (ask : Asking) (called : Called) (reference : Reference) (lines : List Line) where
   pub begun : IsUnderway Told Told ask called reference lines 0 reference lines
@@ -43,13 +50,13 @@ module _ (Told : List Ends → Type 0) (ask : Asking) (called : Called) (referen
     all_gone tos gone all told =
         subst Told' (append_assoc all under.last.tos tos) (gone (all ++ under.last.tos) (under.gone all told))
 
-    here : (tos : List Ends) (result : Result (Option Outcome) ObjectFault) → IsTried ask called at mid result lines' tos
-        → IsTried ask called under.last.reference under.last.lines result lines' tos
+    here : (tos : List Ends) (result : Result (Option Outcome) ObjectFault) → IsHeeded ask called at mid result lines' tos
+        → IsHeeded ask called under.last.reference under.last.lines result lines' tos
     here tos result tried =
-        subst (λ (r : Reference). IsTried ask called r under.last.lines result lines' tos) (sym under.reference_is)
-        (subst (λ (l : List Line). IsTried ask called at l result lines' tos) (sym under.lines_are) tried)
+        subst (λ (r : Reference). IsHeeded ask called r under.last.lines result lines' tos) (sym under.reference_is)
+        (subst (λ (l : List Line). IsHeeded ask called at l result lines' tos) (sym under.lines_are) tried)
 
-    pub further : (ior : Ior) → IsCalledTwice Mid Told' ask called at mid (Ok (Some (Forwarded ior))) lines'
+    pub further : (ior : Ior) → IsCalledHeeding Mid Told' ask called at mid (Ok (Some (Forwarded ior))) lines'
         → IsUnderway Told Told' ask called reference lines (count + 1) (reference_of ior) lines'
     further ior step =
         let to : At = record { reference = reference_of ior; lines = lines'; tos = under.last.tos ++ step.tos } in
@@ -62,7 +69,7 @@ module _ (Told : List Ends → Type 0) (ask : Asking) (called : Called) (referen
                 next = refl;
                 tos = step.tos;
                 tos_are = refl;
-                tried = here step.tos (Ok (Some (Forwarded ior))) step.tried;
+                heeded = here step.tos (Ok (Some (Forwarded ior))) step.heeded;
               });
           reference_is = refl;
           lines_are = refl;
@@ -72,31 +79,31 @@ module _ (Told : List Ends → Type 0) (ask : Asking) (called : Called) (referen
 
     -- it ends here
     pub ended : (result : Result (Option Outcome) ObjectFault) → count ≤ 8 → IsOther result
-        → IsCalledTwice Mid Told' ask called at mid result lines' → IsFollowed Told Told' ask called reference lines result lines'
+        → IsCalledHeeding Mid Told' ask called at mid result lines' → IsFollowed Told Told' ask called reference lines result lines'
     ended result few other step = record {
       hops = under.hops;
       last = under.last;
       forwarded = under.forwarded;
       tos = step.tos;
       gone = all_gone step.tos step.gone;
-      ends = by_result result other (here step.tos result step.tried);
+      ends = by_result result other (here step.tos result step.heeded);
     }
       where
         small : length under.hops ≤ 8
         small = subst (λ n. n ≤ 8) (sym under.count_is) few
 
-        few_enough : IsTried ask called under.last.reference under.last.lines (Err TooMany) lines' step.tos → ⊥
-        few_enough (inl unclosed) = unclosed.once
-        few_enough (inr more) = more.again
+        few_enough : IsHeeded ask called under.last.reference under.last.lines (Err TooMany) lines' step.tos → ⊥
+        few_enough (inl unasked) = few_tries _ _ _ _ _ _ unasked.tried
+        few_enough (inr other) = few_tries _ _ _ _ _ _ other.again
 
         by_result : (r : Result (Option Outcome) ObjectFault) → IsOther r
-            → IsTried ask called under.last.reference under.last.lines r lines' step.tos
+            → IsHeeded ask called under.last.reference under.last.lines r lines' step.tos
             → IsLast ask called (length under.hops) under.last r lines' step.tos
         by_result (Ok (Some (Forwarded ior))) other tried = absurd other
         by_result (Ok (Some (Returned text))) other tried = (small, tried)
         by_result (Ok (Some (Raised text))) other tried = (small, tried)
         by_result (Ok (Some (Failed exception))) other tried = (small, tried)
-        by_result (Ok (Some Readdressed)) other tried = (small, tried)
+        by_result (Ok (Some (Readdressed disposition))) other tried = (small, tried)
         by_result (Ok None) other tried = (small, tried)
         by_result (Err TooMany) other tried = absurd (few_enough tried)
         by_result (Err OtherBody) other tried = (small, tried)

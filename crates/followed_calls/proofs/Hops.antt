@@ -7,24 +7,25 @@ use Rattle.object_references.specs.References.{Reference}
 use Rattle.reference_listing.specs.Listings.{AreRows, Row}
 use Rattle.call_texts.specs.Outcomes.{Called}
 use Rattle.call_texts.specs.declared.outcome.Outcome.{Outcome}
+use Rattle.object_calls.specs.Forms.{Naming, naming}
 use Rattle.object_calls.specs.Lines.{Line, all_missed}
 use Rattle.object_calls.specs.Talks.{Asking, IsCalledBy, IsTalkBy, IsUnreached, Telling}
 use Rattle.object_calls.specs.declared.fault.ReachFault.{ReachFault}
-use Rattle.object_calls.specs.declared.fault.ReachFault.TheVariants.{NotReached, NotCalled, NoMemory as WantsMemory}
-use Rattle.followed_calls.specs.Hops.{IsCalledOnce, IsHop, IsOnce, IsOutcomeIn, just}
+use Rattle.object_calls.specs.declared.fault.ReachFault.TheVariants.{NotReached, NotNamed, NotCalled, NoMemory as WantsMemory}
+use Rattle.followed_calls.specs.Hops.{InForm, IsCalledOnce, IsHop, IsOnce, IsOutcomeIn, just}
 use Rattle.followed_calls.specs.declared.fault.ObjectFault.{ObjectFault}
 use Rattle.followed_calls.specs.declared.fault.ObjectFault.TheVariants.{Unanswered, OtherBody, TooMany, NoMemory}
 
 -- what was handed back in a call, and the call as if nothing had been before
-record IsFreed (Told Told' : List Ends → Type 0) (ask : Asking) (rows : List Row) (lines : List Line)
-    (result : Result (Option Answer) ReachFault) (lines' : List Line) : Type 0 where
+record IsFreed (Told Told' : List Ends → Type 0) (ask : Asking) (by_name : Naming) (rows : List Row)
+    (lines : List Line) (result : Result (Option Answer) ReachFault) (lines' : List Line) : Type 0 where
   tos : List Ends
   gone : (all : List Ends) → Told all → Told' (all ++ tos)
-  called : IsCalledBy (just []) (just tos) ask rows lines result lines'
+  called : IsCalledBy (just []) (just tos) ask by_name rows lines result lines'
 
-module _ (Told Told' : List Ends → Type 0) (ask : Asking) (rows : List Row) (lines lines' : List Line) where
-  freed : (result : Result (Option Answer) ReachFault) → IsCalledBy Told Told' ask rows lines result lines'
-      → IsFreed Told Told' ask rows lines result lines'
+module _ (Told Told' : List Ends → Type 0) (ask : Asking) (by_name : Naming) (rows : List Row) (lines lines' : List Line) where
+  freed : (result : Result (Option Answer) ReachFault) → IsCalledBy Told Told' ask by_name rows lines result lines'
+      → IsFreed Told Told' ask by_name rows lines result lines'
   freed (Ok answer) by = record {
     tos = by.talk.talk.to ∷ [];
     gone = by.talk.talk.gone;
@@ -67,6 +68,20 @@ module _ (Told Told' : List Ends → Type 0) (ask : Asking) (rows : List Row) (l
       };
     };
   }
+  freed (Err NotNamed) by = record {
+    tos = [];
+    gone = λ all told. subst Told' (sym (append-nil all)) (by.unnamed.unreached.gone all told);
+    called = record {
+      before = by.before;
+      iiop = by.iiop;
+      behind = by.behind;
+      rows_are = by.rows_are;
+      unnamed = record {
+        none = by.unnamed.none;
+        unreached = record { lines_are = by.unnamed.unreached.lines_are; gone = λ all none. none };
+      };
+    };
+  }
   freed (Err NotReached) vain = record {
     tos = [];
     gone = λ all told. subst Told' (sym (append-nil all)) (vain.gone all told);
@@ -82,7 +97,7 @@ module _ (Told Told' : List Ends → Type 0) (ask : Asking) (rows : List Row) (l
   }
 
 -- nothing was done
-pub undone : (Told : List Ends → Type 0) (ask : Asking) (called : Called) (reference : Reference) (lines : List Line)
+pub undone : (Told : List Ends → Type 0) (ask : InForm) (called : Called) (reference : Reference) (lines : List Line)
     → IsCalledOnce Told Told ask called reference lines (Err NoMemory) lines
 undone Told ask called reference lines = record {
   tos = [];
@@ -91,29 +106,29 @@ undone Told ask called reference lines = record {
 }
 
 -- there was no answer
-pub unanswered : (Told Told' : List Ends → Type 0) (ask : Asking) (called : Called) (reference : Reference) (rows : List Row)
+pub unanswered : (Told Told' : List Ends → Type 0) (ask : InForm) (called : Called) (reference : Reference) (rows : List Row)
     (lines lines' : List Line) (fault : ReachFault) → AreRows reference.profiles rows
-    → IsCalledBy Told Told' ask rows lines (Err fault) lines'
+    → IsCalledBy Told Told' ask.asking (naming ask.form reference) rows lines (Err fault) lines'
     → IsCalledOnce Told Told' ask called reference lines (Err (Unanswered fault)) lines'
 unanswered Told Told' ask called reference rows lines lines' fault are by =
-    let f = freed Told Told' ask rows lines lines' (Err fault) by in
+    let f = freed Told Told' ask.asking (naming ask.form reference) rows lines lines' (Err fault) by in
     record { tos = f.tos; gone = f.gone; once = record { rows = rows; rows_are = are; called = f.called } }
 
 -- none was wanted
-pub sent : (Told Told' : List Ends → Type 0) (ask : Asking) (called : Called) (reference : Reference) (rows : List Row)
-    (lines lines' : List Line) → AreRows reference.profiles rows → IsCalledBy Told Told' ask rows lines (Ok None) lines'
+pub sent : (Told Told' : List Ends → Type 0) (ask : InForm) (called : Called) (reference : Reference) (rows : List Row)
+    (lines lines' : List Line) → AreRows reference.profiles rows → IsCalledBy Told Told' ask.asking (naming ask.form reference) rows lines (Ok None) lines'
     → IsCalledOnce Told Told' ask called reference lines (Ok None) lines'
 sent Told Told' ask called reference rows lines lines' are by =
-    let f = freed Told Told' ask rows lines lines' (Ok None) by in
+    let f = freed Told Told' ask.asking (naming ask.form reference) rows lines lines' (Ok None) by in
     record { tos = f.tos; gone = f.gone; once = record { rows = rows; rows_are = are; called = f.called } }
 
 -- there was one
-pub answered : (Told Told' : List Ends → Type 0) (ask : Asking) (called : Called) (reference : Reference) (rows : List Row)
+pub answered : (Told Told' : List Ends → Type 0) (ask : InForm) (called : Called) (reference : Reference) (rows : List Row)
     (lines lines' : List Line) (answer : Answer) (result : Result (Option Outcome) ObjectFault) → AreRows reference.profiles rows
-    → IsCalledBy Told Told' ask rows lines (Ok (Some answer)) lines' → IsOutcomeIn called (answer_of answer) result
+    → IsCalledBy Told Told' ask.asking (naming ask.form reference) rows lines (Ok (Some answer)) lines' → IsOutcomeIn called (answer_of answer) result
     → IsCalledOnce Told Told' ask called reference lines result lines'
 answered Told Told' ask called reference rows lines lines' answer result are by says =
-    let f = freed Told Told' ask rows lines lines' (Ok (Some answer)) by in
+    let f = freed Told Told' ask.asking (naming ask.form reference) rows lines lines' (Ok (Some answer)) by in
     let hop : IsHop ask reference lines (Ok (Some answer)) lines' f.tos =
     record { rows = rows; rows_are = are; called = f.called } in
     record { tos = f.tos; gone = f.gone; once = by_result f.tos hop result says }

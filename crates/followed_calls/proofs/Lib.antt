@@ -1,3 +1,4 @@
 pub mod Hops
 pub mod Tries
+pub mod Heeding
 pub mod Chains

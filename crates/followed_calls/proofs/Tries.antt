@@ -9,10 +9,9 @@ use Rattle.object_references.specs.References.{Reference}
 use Rattle.call_texts.specs.Outcomes.{Called}
 use Rattle.call_texts.specs.declared.outcome.Outcome.{Outcome}
 use Rattle.object_calls.specs.Lines.{Line}
-use Rattle.object_calls.specs.Talks.{Asking}
 use Rattle.object_calls.specs.declared.fault.ReachFault.{ReachFault}
-use Rattle.object_calls.specs.declared.fault.ReachFault.TheVariants.{NotReached, NotCalled, NoMemory}
-use Rattle.followed_calls.specs.Hops.{IsCalledOnce}
+use Rattle.object_calls.specs.declared.fault.ReachFault.TheVariants.{NotReached, NotNamed, NotCalled, NoMemory}
+use Rattle.followed_calls.specs.Hops.{InForm, IsCalledOnce}
 use Rattle.followed_calls.specs.Tries.{IsCalledTwice, closes, closes_call, closes_reached, is_closed}
 use Rattle.followed_calls.specs.declared.fault.ObjectFault.{ObjectFault}
 use Rattle.followed_calls.specs.declared.fault.ObjectFault.TheVariants.{Unanswered}
@@ -32,9 +31,10 @@ closing_reached : (fault : ReachFault) → closes_reached fault ≡ true
 closing_reached (NotCalled fault) is =
     let same : fault ≡ calls.Unanswered CloseConnection = closing_call fault is in cc
 closing_reached NotReached is = absurd cc
+closing_reached NotNamed is = absurd cc
 closing_reached NoMemory is = absurd cc
 
-module _ (Told Mid Told' : List Ends → Type 0) (ask : Asking) (called : Called) (reference : Reference)
+module _ (Told Mid Told' : List Ends → Type 0) (ask : InForm) (called : Called) (reference : Reference)
     (lines mid lines' : List Line) (result : Result (Option Outcome) ObjectFault) where
   -- once was enough
   pub enough : is_closed result ≡ false → IsCalledOnce Told Told' ask called reference lines result lines'

@@ -8,7 +8,7 @@ use Rattle.call_texts.specs.declared.outcome.Outcome.{Outcome}
 use Rattle.call_texts.specs.declared.outcome.Outcome.TheVariants.{Forwarded}
 use Rattle.object_calls.specs.Lines.{Line}
 use Rattle.object_calls.specs.Talks.{Asking, Telling}
-use Rattle.followed_calls.specs.Tries.{IsTried}
+use Rattle.followed_calls.specs.Heeded.{IsHeeded}
 use Rattle.followed_calls.specs.declared.fault.ObjectFault.{ObjectFault}
 use Rattle.followed_calls.specs.declared.fault.ObjectFault.TheVariants.{TooMany}
 
@@ -24,7 +24,7 @@ pub record IsForwarded (ask : Asking) (called : Called) (from to : At) : Type 0 
   pub next : to.reference ≡ reference_of ior
   pub tos : List Ends
   pub tos_are : to.tos ≡ from.tos ++ tos
-  pub tried : IsTried ask called from.reference from.lines (Ok (Some (Forwarded ior))) to.lines tos
+  pub heeded : IsHeeded ask called from.reference from.lines (Ok (Some (Forwarded ior))) to.lines tos
 
 -- one after the other
 abbrev pub AreForwarded : Asking → Called → At → List At → At → Type 0
@@ -39,7 +39,7 @@ abbrev pub IsLast : Asking → Called → ℕ → At → Result (Option Outcome)
 IsLast ask called count last (Ok (Some (Forwarded ior))) lines' tos = ⊥
 IsLast ask called count last (Err TooMany) lines' tos = (count ≡ 9) × (lines' ≡ last.lines) × (tos ≡ [])
 IsLast ask called count last result lines' tos =
-    (count ≤ 8) × IsTried ask called last.reference last.lines result lines' tos
+    (count ≤ 8) × IsHeeded ask called last.reference last.lines result lines' tos
 
 -- The object was called where its reference says; where it was said to be elsewhere there, at most 8 times; and this is
 -- what was answered at last.

@@ -10,31 +10,41 @@ use Rattle.reference_listing.specs.Listings.{AreRows, Row}
 use Rattle.call_texts.specs.Outcomes.{Called, HasNoOutcome, IsOutcome}
 use Rattle.call_texts.specs.declared.outcome.Outcome.{Outcome}
 use Rattle.object_calls.specs.Lines.{Line}
+use Rattle.object_calls.specs.Forms.{naming}
 use Rattle.object_calls.specs.Talks.{Asking, IsCalledBy, Telling}
+use Rattle.object_calls.specs.declared.form.Form.{Form}
 use Rattle.object_calls.specs.declared.fault.ReachFault.{ReachFault}
 use Rattle.followed_calls.specs.declared.fault.ObjectFault.{ObjectFault}
 use Rattle.followed_calls.specs.declared.fault.ObjectFault.TheVariants.{Unanswered, OtherBody, TooMany, NoMemory}
+
+-- what a call asks for, and the form in which its object is named
+pub record InForm : Type 0 where
+  pub asking : Asking
+  pub form : Form
+
+abbrev pub in_form : Form → Asking → InForm
+in_form form asking = record { asking = asking; form = form }
 
 -- these were handed back, and no others
 abbrev pub just : List Ends → Telling
 just tos = λ all. all ≡ tos
 
 -- the call by the profiles of the reference; behind these lines came those, and these connections were handed back
-pub record IsHop (ask : Asking) (reference : Reference) (lines : List Line)
+pub record IsHop (ask : InForm) (reference : Reference) (lines : List Line)
     (result : Result (Option Answer) ReachFault) (lines' : List Line) (tos : List Ends) : Type 0 where
   pub rows : List Row
   pub rows_are : AreRows reference.profiles rows
-  pub called : IsCalledBy (just []) (just tos) ask rows lines result lines'
+  pub called : IsCalledBy (just []) (just tos) ask.asking (naming ask.form reference) rows lines result lines'
 
 -- it was answered with this
-pub record IsAnsweredWith (ask : Asking) (called : Called) (reference : Reference) (lines : List Line)
+pub record IsAnsweredWith (ask : InForm) (called : Called) (reference : Reference) (lines : List Line)
     (outcome : Outcome) (lines' : List Line) (tos : List Ends) : Type 0 where
   pub answer : Answer
   pub hop : IsHop ask reference lines (Ok (Some answer)) lines' tos
   pub outcome_is : IsOutcome called (answer_of answer) outcome
 
 -- with a body that isn't what the status says
-pub record IsAnsweredOddly (ask : Asking) (called : Called) (reference : Reference) (lines lines' : List Line)
+pub record IsAnsweredOddly (ask : InForm) (called : Called) (reference : Reference) (lines lines' : List Line)
     (tos : List Ends) : Type 0 where
   pub answer : Answer
   pub hop : IsHop ask reference lines (Ok (Some answer)) lines' tos
@@ -49,7 +59,7 @@ IsOutcomeIn called answered (Err NoMemory) = Unit {0}
 IsOutcomeIn called answered (Err fault) = ⊥
 
 -- how it ends; none is the outcome of a call that wants no answer
-abbrev pub IsOnce : Asking → Called → Reference → List Line → Result (Option Outcome) ObjectFault → List Line
+abbrev pub IsOnce : InForm → Called → Reference → List Line → Result (Option Outcome) ObjectFault → List Line
     → List Ends → Type 0
 IsOnce ask called reference lines (Ok (Some outcome)) lines' tos =
     IsAnsweredWith ask called reference lines outcome lines' tos
@@ -60,7 +70,7 @@ IsOnce ask called reference lines (Err TooMany) lines' tos = ⊥
 IsOnce ask called reference lines (Err NoMemory) lines' tos = Unit {0}
 
 -- By what is told before and after.
-pub record IsCalledOnce (Told Told' : Telling) (ask : Asking) (called : Called) (reference : Reference)
+pub record IsCalledOnce (Told Told' : Telling) (ask : InForm) (called : Called) (reference : Reference)
     (lines : List Line) (result : Result (Option Outcome) ObjectFault) (lines' : List Line) : Type 0 where
   pub tos : List Ends
   pub gone : (all : List Ends) → Told all → Told' (all ++ tos)

@@ -10,10 +10,10 @@ use Rattle.object_references.specs.References.{Reference}
 use Rattle.call_texts.specs.Outcomes.{Called}
 use Rattle.call_texts.specs.declared.outcome.Outcome.{Outcome}
 use Rattle.object_calls.specs.Lines.{Line}
-use Rattle.object_calls.specs.Talks.{Asking, Telling}
+use Rattle.object_calls.specs.Talks.{Telling}
 use Rattle.object_calls.specs.declared.fault.ReachFault.{ReachFault}
 use Rattle.object_calls.specs.declared.fault.ReachFault.TheVariants.{NotCalled}
-use Rattle.followed_calls.specs.Hops.{IsHop, IsOnce}
+use Rattle.followed_calls.specs.Hops.{InForm, IsHop, IsOnce}
 use Rattle.followed_calls.specs.declared.fault.ObjectFault.{ObjectFault}
 use Rattle.followed_calls.specs.declared.fault.ObjectFault.TheVariants.{Unanswered}
 
@@ -35,13 +35,13 @@ is_closed (Err (Unanswered fault)) = closes_reached fault
 is_closed result = false
 
 -- one call was made, and it wasn't so
-pub record IsUnclosed (ask : Asking) (called : Called) (reference : Reference) (lines : List Line)
+pub record IsUnclosed (ask : InForm) (called : Called) (reference : Reference) (lines : List Line)
     (result : Result (Option Outcome) ObjectFault) (lines' : List Line) (tos : List Ends) : Type 0 where
   pub unclosed : is_closed result ≡ false
   pub once : IsOnce ask called reference lines result lines' tos
 
 -- the first was closed so, and this is how the second ended
-pub record IsOnceMore (ask : Asking) (called : Called) (reference : Reference) (lines : List Line)
+pub record IsOnceMore (ask : InForm) (called : Called) (reference : Reference) (lines : List Line)
     (result : Result (Option Outcome) ObjectFault) (lines' : List Line) (tos : List Ends) : Type 0 where
   pub mid : List Line
   pub first : List Ends
@@ -50,13 +50,13 @@ pub record IsOnceMore (ask : Asking) (called : Called) (reference : Reference) (
   pub closed : IsHop ask reference lines (Err (NotCalled (calls.Unanswered CloseConnection))) mid first
   pub again : IsOnce ask called reference mid result lines' second
 
-abbrev pub IsTried : Asking → Called → Reference → List Line → Result (Option Outcome) ObjectFault → List Line
+abbrev pub IsTried : InForm → Called → Reference → List Line → Result (Option Outcome) ObjectFault → List Line
     → List Ends → Type 0
 IsTried ask called reference lines result lines' tos =
     IsUnclosed ask called reference lines result lines' tos ⊎ IsOnceMore ask called reference lines result lines' tos
 
 -- By what is told before and after.
-pub record IsCalledTwice (Told Told' : Telling) (ask : Asking) (called : Called) (reference : Reference)
+pub record IsCalledTwice (Told Told' : Telling) (ask : InForm) (called : Called) (reference : Reference)
     (lines : List Line) (result : Result (Option Outcome) ObjectFault) (lines' : List Line) : Type 0 where
   pub tos : List Ends
   pub gone : (all : List Ends) → Told all → Told' (all ++ tos)

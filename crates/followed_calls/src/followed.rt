@@ -9,7 +9,7 @@ ghost use Rattle.followed_calls.specs.Followed.{IsFollowed};
 ghost use Rattle.followed_calls.specs.Wanted.{called_of};
 
 use crate::fault::ObjectFault;
-use crate::once::call_twice;
+use crate::heeded::call_heeding;
 use crate::wanted::Wanted;
 use call_texts::Outcome;
 use giop::{Body, Giop};
@@ -20,7 +20,8 @@ use object_references::Ior;
 use std::alloc::Global;
 
 /// Calls the object that a reference names; where the reply says that it is elsewhere, there, at most
-/// 8 times. Each time it is called once more where its server closed the connection before it answered.
+/// 8 times. Each time it is called once more where its server asks for a form of address, in this form, and
+/// each of these calls is made once more where the server closed the connection before it answered.
 /// None where no answer is wanted (flags 0), and the request was sent.
 ///
 /// # Errors
@@ -44,7 +45,9 @@ pub fn call_object<D: Dial>(
 {
     let mut at = ior;
     for _count in 0u32..9 {
-        let called = match call_twice(giop, types, alloc, dial, &at, wanted, request, body, reads) {
+        let called = match call_heeding(
+            giop, types, alloc, dial, &at, wanted, request, body, reads,
+        ) {
             Ok(called) => called,
             Err(fault) => return Err(fault),
         };
@@ -56,7 +59,9 @@ pub fn call_object<D: Dial>(
             Outcome::Returned(text) => return Ok(Some(Outcome::Returned(text))),
             Outcome::Raised(text) => return Ok(Some(Outcome::Raised(text))),
             Outcome::Failed(exception) => return Ok(Some(Outcome::Failed(exception))),
-            Outcome::Readdressed => return Ok(Some(Outcome::Readdressed)),
+            Outcome::Readdressed(disposition) => {
+                return Ok(Some(Outcome::Readdressed(disposition)));
+            }
         }
     }
     Err(ObjectFault::TooMany)

@@ -3,6 +3,7 @@
 
 mod fault;
 mod followed;
+mod heeded;
 mod once;
 mod wanted;
 

@@ -7,7 +7,7 @@ ghost use Rattle.giop.specs.Made.{given_by};
 ghost use Rattle.giop_client.specs.Answers.{answer_of};
 ghost use Rattle.object_references.specs.References.{reference_of};
 ghost use Rattle.object_calls.specs.Talks.{asking};
-ghost use Rattle.followed_calls.specs.Hops.{IsCalledOnce, IsOutcomeIn};
+ghost use Rattle.followed_calls.specs.Hops.{IsCalledOnce, IsOutcomeIn, in_form};
 ghost use Rattle.followed_calls.specs.Tries.{IsCalledTwice, closes, closes_call, closes_reached};
 ghost use Rattle.followed_calls.specs.Wanted.{called_of};
 
@@ -17,7 +17,7 @@ use call_texts::{Outcome, read_outcome};
 use giop::{Body, Giop, Reply};
 use giop_client::{Answer, AwaitFault, CallFault, Request};
 use giop_types::GiopTypes;
-use object_calls::{Dial, ReachFault, call_by};
+use object_calls::{Dial, Form, ReachFault, call_by};
 use object_references::Ior;
 use reference_listing::list_reference;
 use std::alloc::Global;
@@ -55,13 +55,14 @@ fn outcome_of(
     }
 }
 
-/// Calls the object that a reference names.
+/// Calls the object that a reference names, in a form of address.
 fn call_once<D: Dial>(
     giop: &Giop,
     types: &GiopTypes,
     alloc: Global,
     dial: &mut D,
     ior: &Ior,
+    form: Form,
     wanted: &Wanted<'_>,
     request: &Request<'_>,
     body: Option<Body<'_>>,
@@ -69,7 +70,7 @@ fn call_once<D: Dial>(
 ) -> Result<Option<Outcome>, ObjectFault>
     requires body { ForSome body (λ b. IsNamed b.0.now.model.names b.1) }
     requires named { IsNamed wanted.now.table.now.model.names wanted.now.reply }
-    ensures { IsCalledOnce (D.went dial.old) (D.went dial.new) (asking request.now (given_by body.entry) reads)
+    ensures { IsCalledOnce (D.went dial.old) (D.went dial.new) (in_form form (asking request.now (given_by body.entry) reads))
         (called_of wanted.now) (reference_of ior.now) (D.lines dial.old) result (D.lines dial.new) }
 {
     let listing = match list_reference(types, alloc, ior) {
@@ -80,7 +81,9 @@ fn call_once<D: Dial>(
         giop,
         alloc,
         dial,
+        ior,
         listing.profiles.as_slice(),
+        form,
         request,
         body,
         reads,
@@ -126,11 +129,11 @@ fn is_closed(fault: ReachFault) -> bool
 {
     match fault {
         ReachFault::NotCalled(fault) => is_closed_in(fault),
-        ReachFault::NotReached | ReachFault::NoMemory => false,
+        ReachFault::NotReached | ReachFault::NotNamed | ReachFault::NoMemory => false,
     }
 }
 
-/// Calls the object that a reference names; where the server closed the connection before it answered,
+/// Calls the object that a reference names, in a form of address; where the server closed the connection before it answered,
 /// and so made no call, once more (ISO/IEC 19500-2, Connection Management).
 pub(crate) fn call_twice<D: Dial>(
     giop: &Giop,
@@ -138,6 +141,7 @@ pub(crate) fn call_twice<D: Dial>(
     alloc: Global,
     dial: &mut D,
     ior: &Ior,
+    form: Form,
     wanted: &Wanted<'_>,
     request: &Request<'_>,
     body: Option<Body<'_>>,
@@ -145,14 +149,18 @@ pub(crate) fn call_twice<D: Dial>(
 ) -> Result<Option<Outcome>, ObjectFault>
     requires body { ForSome body (λ b. IsNamed b.0.now.model.names b.1) }
     requires named { IsNamed wanted.now.table.now.model.names wanted.now.reply }
-    ensures { IsCalledTwice (D.went dial.old) (D.went dial.new) (asking request.now (given_by body.entry) reads)
+    ensures { IsCalledTwice (D.went dial.old) (D.went dial.new) (in_form form (asking request.now (given_by body.entry) reads))
         (called_of wanted.now) (reference_of ior.now) (D.lines dial.old) result (D.lines dial.new) }
 {
-    match call_once(giop, types, alloc, dial, ior, wanted, request, body, reads) {
+    match call_once(
+        giop, types, alloc, dial, ior, form, wanted, request, body, reads,
+    ) {
         Ok(outcome) => Ok(outcome),
         Err(ObjectFault::Unanswered(fault)) => {
             if is_closed(fault) {
-                return call_once(giop, types, alloc, dial, ior, wanted, request, body, reads);
+                return call_once(
+                    giop, types, alloc, dial, ior, form, wanted, request, body, reads,
+                );
             }
             Err(ObjectFault::Unanswered(fault))
         }

@@ -13,3 +13,4 @@ pub mod RoundTrips
 pub mod TargetSplits
 pub mod Targets
 pub mod Told
+pub mod WrittenTargets

@@ -1,3 +1,4 @@
+pub mod Addresses
 pub mod Fronts
 pub mod Made
 pub mod Refusal

@@ -7,3 +7,4 @@ pub(crate) mod locate;
 pub(crate) mod message;
 pub(crate) mod reply;
 pub(crate) mod request;
+pub(crate) mod target;

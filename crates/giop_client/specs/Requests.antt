@@ -5,18 +5,19 @@ use Rattle.giop_types.specs.GiopNodes.{request_header_node}
 use Rattle.giop_types.specs.Fields.{octet_trees}
 use Rattle.giop_messages.specs.declared.fault.GiopFault.{GiopFault}
 use Rattle.giop_messages.specs.Heads.{request_type}
-use Rattle.giop_messages.specs.Headers.{key_target, request_tree}
+use Rattle.giop_messages.specs.Headers.{request_tree}
 use Rattle.giop_messages.specs.Written.{Given, IsWritten}
+use Rattle.giop.specs.Addresses.{target_tree}
 use Rattle.giop.specs.Refusal.{IsNotWritten}
 use Rattle.iiop_broker.specs.Ends.{Adds, IsUnsent}
 use Rattle.giop_client.specs.declared.request.Request.{Request}
 use Rattle.giop_client.specs.declared.fault.SendFault.{SendFault}
 use Rattle.giop_client.specs.declared.fault.SendFault.TheVariants as faults
 
--- the header of the request: its fields, an object by its key, and no service contexts
+-- the header of the request: its fields, the object as it is named, and no service contexts
 abbrev pub header_of : Request → Tree
 header_of request =
-    request_tree request.id request.flags (octet_trees (0 ∷ 0 ∷ 0 ∷ [])) (key_target request.key.now)
+    request_tree request.id request.flags (octet_trees (0 ∷ 0 ∷ 0 ∷ [])) (target_tree request.target)
     request.operation.now NoTree
 
 -- the octets of the request with this body

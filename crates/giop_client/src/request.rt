@@ -8,7 +8,7 @@ ghost use Rattle.iiop_broker.specs.Ends.{Adds, IsUnsent};
 ghost use Rattle.giop_client.specs.Requests.{IsSending};
 
 use crate::fault::SendFault;
-use giop::{Body, Giop};
+use giop::{Addressed, Body, Giop};
 use iiop_broker::Output;
 use std::alloc::Global;
 use type_graph::Order;
@@ -22,8 +22,8 @@ pub struct Request<'c> {
     pub id: u32,
     /// Which answers are wanted (response_flags): 3 is all, 0 none.
     pub flags: u8,
-    /// The key of the object at its server.
-    pub key: &'c [u8],
+    /// The object, as it is named to its server.
+    pub target: Addressed<'c>,
     pub operation: &'c [u8],
 }
 
@@ -51,7 +51,7 @@ fn send<O: Output>(writer: &mut O, octets: &[u8]) -> Result<(), usize>
 /// a tape.
 ///
 /// # Errors
-/// `NotARequest` where no octets are those of the request: as `write_request` of giop refuses it,
+/// `NotARequest` where no octets are those of the request: as `write_request_to` of giop refuses it,
 /// want of memory included; then nothing is written. `WriteFailed` where a write failed.
 pub fn send_request<O: Output>(
     giop: &Giop,
@@ -64,12 +64,12 @@ pub fn send_request<O: Output>(
     ensures { IsSending request.now (given_by body.entry) (O.written writer.old) result (O.written writer.new)
         (O.failure writer.new) }
 {
-    let octets = match giop.write_request(
+    let octets = match giop.write_request_to(
         alloc,
         request.order,
         request.id,
         request.flags,
-        request.key,
+        request.target,
         request.operation,
         body,
     ) {

@@ -16,7 +16,7 @@ Shows (Returned own) text = text ≡ string_bytes own
 Shows (Raised own) text = text ≡ string_bytes own
 Shows (Failed exception) text = Unit {0}
 Shows (Forwarded reference) text = Unit {0}
-Shows Readdressed text = Unit {0}
+Shows (Readdressed disposition) text = Unit {0}
 
 -- the text of what a reply says
 pub record IsTextOfReply (called : Called) (answered : Answered) (text : List ℕ) : Type 0 where

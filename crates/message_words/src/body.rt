@@ -82,7 +82,7 @@ fn outcome_text(types: &Types<'_>, alloc: Global, outcome: Outcome) -> Result<St
         Outcome::Returned(text) | Outcome::Raised(text) => Ok(text),
         Outcome::Failed(exception) => exception_text(alloc, &exception),
         Outcome::Forwarded(ior) => forward_text(types, alloc, &ior),
-        Outcome::Readdressed => String::from_str(alloc, "another form of address is wanted"),
+        Outcome::Readdressed(_) => String::from_str(alloc, "another form of address is wanted"),
     }
 }
 

@@ -9,16 +9,20 @@ use Rattle.reference_listing.specs.declared.listing.IiopProfile.{IiopProfile}
 use Rattle.reference_listing.specs.declared.listing.ListedProfile.{ListedProfile}
 use Rattle.reference_listing.specs.declared.listing.ListedProfile.TheVariants as listed
 use Rattle.reference_listing.specs.Listings.{Row, OfIiop, iiop_of, row_of, rows_of}
+use Rattle.object_calls.specs.Forms.{IsTarget, Naming}
 use Rattle.object_calls.specs.Lines.{Line, all_missed, made, missed}
-use Rattle.object_calls.specs.Talks.{Asking, IsGivenUp, IsTalkBy, IsTalkTo, IsUnreached}
-use Rattle.object_calls.proofs.Rows.{missed_next, rows_split}
+use Rattle.type_graph.specs.Value.{Tree}
+use Rattle.object_calls.specs.Talks.{Asking, IsGivenUp, IsTalkBy, IsTalkTo, IsTo, IsUnnamed, IsUnnamedBy, IsUnreached}
+use Rattle.object_calls.proofs.Rows.{missed_next, rows_before, rows_split}
 
 module _ (Told Mid Told' : List Ends → Type 0) (ps : List ListedProfile) (i : ℕ) (p : ListedProfile)
     (within : i < length ps) (is : p ≡ get_or ps i p) (lines mid lines' : List Line)
     (vain : IsUnreached Told Mid (all_missed (rows_of (take i ps))) lines mid) where
-  pub talked : (ask : Asking) (profile : IiopProfile) → p ≡ listed.Iiop profile → (result : Result (Option Answer) CallFault)
-      → IsTalkTo Mid Told' ask (iiop_of profile) mid result lines' → IsTalkBy Told Told' ask (rows_of ps) lines result lines'
-  talked ask profile iiop result to = record {
+  pub talked : (ask : Asking) (naming : Naming) (place : ℕ) → place ≡ i → (profile : IiopProfile) → p ≡ listed.Iiop profile
+      → (result : Result (Option Answer) CallFault)
+      → IsTalkTo Mid Told' ask (IsTarget naming place (iiop_of profile)) (iiop_of profile) mid result lines'
+      → IsTalkBy Told Told' ask naming (rows_of ps) lines result lines'
+  talked ask naming place place_is profile iiop result to = record {
     before = rows_of (take i ps);
     iiop = iiop_of profile;
     behind = rows_of (drop (suc i) ps);
@@ -26,7 +30,8 @@ module _ (Told Mid Told' : List Ends → Type 0) (ps : List ListedProfile) (i : 
         ∙ ap (λ (q : ListedProfile). rows_of (take i ps) ++ row_of q ∷ rows_of (drop (suc i) ps)) iiop;
     talk = record {
       request = to.request;
-      to_object = to.to_object;
+      to_object = subst (λ (n : ℕ). IsTo (IsTarget naming n (iiop_of profile)) ask.request to.request)
+          (place_is ∙ sym (rows_before ps i within)) to.to_object;
       talk = record {
         from = to.talk.from;
         to = to.talk.to;
@@ -34,6 +39,25 @@ module _ (Told Mid Told' : List Ends → Type 0) (ps : List ListedProfile) (i : 
             ∙ ap (λ (l : List Line). l ++ made profile.body.host.items profile.body.port to.talk.from ∷ []) vain.lines_are;
         gone = λ all told. to.talk.gone all (vain.gone all told);
         called = to.talk.called;
+      };
+    };
+  }
+
+  pub unnamed : (naming : Naming) (place : ℕ) → place ≡ i → (profile : IiopProfile) → p ≡ listed.Iiop profile
+      → IsUnnamed Mid Told' (IsTarget naming place (iiop_of profile)) [] mid lines'
+      → IsUnnamedBy Told Told' naming (rows_of ps) lines lines'
+  unnamed naming place place_is profile iiop none = record {
+    before = rows_of (take i ps);
+    iiop = iiop_of profile;
+    behind = rows_of (drop (suc i) ps);
+    rows_are = rows_split ps i p within is
+        ∙ ap (λ (q : ListedProfile). rows_of (take i ps) ++ row_of q ∷ rows_of (drop (suc i) ps)) iiop;
+    unnamed = record {
+      none = subst (λ (n : ℕ). (target : Tree) → IsTarget naming n (iiop_of profile) target → ⊥)
+          (place_is ∙ sym (rows_before ps i within)) none.none;
+      unreached = record {
+        lines_are = none.unreached.lines_are ∙ append-nil mid ∙ vain.lines_are;
+        gone = λ all told. none.unreached.gone all (vain.gone all told);
       };
     };
   }

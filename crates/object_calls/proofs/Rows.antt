@@ -1,5 +1,5 @@
 -- Profiles that are gone through in order.
-use Rattle.std.proofs.Common.{◌≡◌, ℕ, suc, ◌+◌, ◌<◌, List, [], ◌∷◌, ◌++◌, length, take, drop, get_or, refl, sym, ap, ◌∙◌, subst, append_assoc, append-nil, add-one, arith}
+use Rattle.std.proofs.Common.{◌≡◌, ℕ, suc, ◌+◌, ◌<◌, List, [], ◌∷◌, ◌++◌, length, take, drop, get_or, length-take, refl, sym, ap, ◌∙◌, subst, append_assoc, append-nil, add-one, arith}
 use Rattle.std.proofs.lemmas.List.{take-append-drop}
 use Rattle.std.proofs.Math.Seq.{take-suc, drop-cons}
 use Rattle.reference_listing.specs.declared.listing.IiopProfile.{IiopProfile}
@@ -17,6 +17,14 @@ missed_append [] b = refl
 missed_append (OfIiop iiop ∷ a) b =
     ap (λ (lines : List Line). all_missed (OfIiop iiop ∷ []) ++ lines) (missed_append a b)
 missed_append (OfOther tag octets ∷ a) b = missed_append a b
+
+rows_long : (ps : List ListedProfile) → length (rows_of ps) ≡ length ps
+rows_long [] = refl
+rows_long (p ∷ ps) = ap suc (rows_long ps)
+
+-- as many rows stand before a profile as its place says
+pub rows_before : (ps : List ListedProfile) (i : ℕ) → i < length ps → length (rows_of (take i ps)) ≡ i
+rows_before ps i within = rows_long (take i ps) ∙ length-take i ps (omega (arith, within))
 
 -- the rows before a profile, its own, and those behind
 pub rows_split : (ps : List ListedProfile) (i : ℕ) (p : ListedProfile) → i < length ps → p ≡ get_or ps i p

@@ -1,5 +1,7 @@
 -- A call of an object at a port of a host, and of one that a reference names.
-use Rattle.std.specs.Prelude.{◌≡◌, ℕ, List, [], ◌∷◌, ◌++◌, Option, Result, Ok, Err}
+use Rattle.std.specs.Prelude.{◌≡◌, ℕ, List, [], ◌∷◌, ◌++◌, length, Option, Result, Ok, Err}
+use Rattle.type_graph.specs.Value.{Tree}
+use Rattle.giop.specs.Addresses.{target_tree}
 use Rattle.giop_messages.specs.Written.{Given}
 use Rattle.iiop_broker.specs.Outcomes.{Ends}
 use Rattle.giop_client.specs.Calls.{IsCalled}
@@ -7,9 +9,10 @@ use Rattle.giop_client.specs.declared.answer.Answer.{Answer}
 use Rattle.giop_client.specs.declared.request.Request.{Request}
 use Rattle.giop_client.specs.declared.fault.CallFault.{CallFault}
 use Rattle.reference_listing.specs.Listings.{Iiop, Row, OfIiop}
+use Rattle.object_calls.specs.Forms.{IsTarget, Naming}
 use Rattle.object_calls.specs.Lines.{Line, all_missed, made, missed}
 use Rattle.object_calls.specs.declared.fault.ReachFault.{ReachFault}
-use Rattle.object_calls.specs.declared.fault.ReachFault.TheVariants.{NotReached, NotCalled, NoMemory}
+use Rattle.object_calls.specs.declared.fault.ReachFault.TheVariants.{NotReached, NotNamed, NotCalled, NoMemory}
 
 -- which lists of what connections told that were handed back may be those so far
 abbrev pub Telling : Type 1
@@ -47,52 +50,74 @@ IsCalledAt Told Told' ask host port lines (Err NotReached) lines' =
     IsUnreached Told Told' (missed host port ∷ []) lines lines'
 IsCalledAt Told Told' ask host port lines (Err (NotCalled fault)) lines' =
     IsTalk Told Told' ask host port lines (Err fault) lines'
+IsCalledAt Told Told' ask host port lines (Err NotNamed) lines' = ⊥
 IsCalledAt Told Told' ask host port lines (Err NoMemory) lines' = IsUnreached Told Told' [] lines lines'
 
 -- ---- by a reference
 
--- the same request to the object with another key
-pub record IsTo (key : List ℕ) (request other : Request) : Type 0 where
+-- the same request with another target, of which this holds
+pub record IsTo (Target : Tree → Type 0) (request other : Request) : Type 0 where
   pub order_is : other.order ≡ request.order
   pub id_is : other.id ≡ request.id
   pub flags_is : other.flags ≡ request.flags
-  pub key_is : other.key.now ≡ key
+  pub target_is : Target (target_tree other.target)
   pub operation_is : other.operation.now ≡ request.operation.now
 
--- the call was made at the host and the port of a profile, of the object with its key
-pub record IsTalkTo (Told Told' : Telling) (ask : Asking) (iiop : Iiop) (lines : List Line)
+-- the call was made at the host and the port of a profile, with a target of which this holds
+pub record IsTalkTo (Told Told' : Telling) (ask : Asking) (Target : Tree → Type 0) (iiop : Iiop) (lines : List Line)
     (result : Result (Option Answer) CallFault) (lines' : List Line) : Type 0 where
   pub request : Request
-  pub to_object : IsTo iiop.body.key ask.request request
+  pub to_object : IsTo Target ask.request request
   pub talk : IsTalk Told Told' (asking request ask.body ask.reads) iiop.body.host iiop.body.port lines result lines'
 
-abbrev pub IsCalledTo : Telling → Telling → Asking → Iiop → List Line → Result (Option Answer) ReachFault
-    → List Line → Type 0
-IsCalledTo Told Told' ask iiop lines (Ok answer) lines' = IsTalkTo Told Told' ask iiop lines (Ok answer) lines'
-IsCalledTo Told Told' ask iiop lines (Err NotReached) lines' =
-    IsUnreached Told Told' (missed iiop.body.host iiop.body.port ∷ []) lines lines'
-IsCalledTo Told Told' ask iiop lines (Err (NotCalled fault)) lines' =
-    IsTalkTo Told Told' ask iiop lines (Err fault) lines'
-IsCalledTo Told Told' ask iiop lines (Err NoMemory) lines' = IsUnreached Told Told' [] lines lines'
+-- no target is so, and it wasn't dialled
+pub record IsUnnamed (Told Told' : Telling) (Target : Tree → Type 0) (vain : List Line) (lines lines' : List Line)
+    : Type 0 where
+  pub none : (target : Tree) → Target target → ⊥
+  pub unreached : IsUnreached Told Told' vain lines lines'
 
--- it was so by the first profile of IIOP whose host and port could be reached
-pub record IsTalkBy (Told Told' : Telling) (ask : Asking) (rows : List Row) (lines : List Line)
+abbrev pub IsCalledTo : Telling → Telling → Asking → (Tree → Type 0) → Iiop → List Line
+    → Result (Option Answer) ReachFault → List Line → Type 0
+IsCalledTo Told Told' ask Target iiop lines (Ok answer) lines' =
+    IsTalkTo Told Told' ask Target iiop lines (Ok answer) lines'
+IsCalledTo Told Told' ask Target iiop lines (Err NotReached) lines' =
+    IsUnreached Told Told' (missed iiop.body.host iiop.body.port ∷ []) lines lines'
+IsCalledTo Told Told' ask Target iiop lines (Err NotNamed) lines' = IsUnnamed Told Told' Target [] lines lines'
+IsCalledTo Told Told' ask Target iiop lines (Err (NotCalled fault)) lines' =
+    IsTalkTo Told Told' ask Target iiop lines (Err fault) lines'
+IsCalledTo Told Told' ask Target iiop lines (Err NoMemory) lines' = IsUnreached Told Told' [] lines lines'
+
+-- it was so by the first profile of IIOP whose host and port could be reached, whose object the target names
+pub record IsTalkBy (Told Told' : Telling) (ask : Asking) (naming : Naming) (rows : List Row) (lines : List Line)
     (result : Result (Option Answer) CallFault) (lines' : List Line) : Type 0 where
   pub before : List Row
   pub iiop : Iiop
   pub behind : List Row
   pub rows_are : rows ≡ before ++ OfIiop iiop ∷ behind
-  pub talk : IsTalkTo Told Told' ask iiop (lines ++ all_missed before) result lines'
+  pub talk : IsTalkTo Told Told' ask (IsTarget naming (length before) iiop) iiop (lines ++ all_missed before) result
+      lines'
+
+-- those before a profile were dialled in vain, and no target names the object of this one
+pub record IsUnnamedBy (Told Told' : Telling) (naming : Naming) (rows : List Row) (lines lines' : List Line)
+    : Type 0 where
+  pub before : List Row
+  pub iiop : Iiop
+  pub behind : List Row
+  pub rows_are : rows ≡ before ++ OfIiop iiop ∷ behind
+  pub unnamed : IsUnnamed Told Told' (IsTarget naming (length before) iiop) (all_missed before) lines lines'
 
 -- memory was wanted, and no call was made
 pub record IsGivenUp (Told Told' : Telling) (lines lines' : List Line) : Type 0 where
   pub vain : List Line
   pub unreached : IsUnreached Told Told' vain lines lines'
 
-abbrev pub IsCalledBy : Telling → Telling → Asking → List Row → List Line → Result (Option Answer) ReachFault
+abbrev pub IsCalledBy : Telling → Telling → Asking → Naming → List Row → List Line → Result (Option Answer) ReachFault
     → List Line → Type 0
-IsCalledBy Told Told' ask rows lines (Ok answer) lines' = IsTalkBy Told Told' ask rows lines (Ok answer) lines'
-IsCalledBy Told Told' ask rows lines (Err NotReached) lines' = IsUnreached Told Told' (all_missed rows) lines lines'
-IsCalledBy Told Told' ask rows lines (Err (NotCalled fault)) lines' =
-    IsTalkBy Told Told' ask rows lines (Err fault) lines'
-IsCalledBy Told Told' ask rows lines (Err NoMemory) lines' = IsGivenUp Told Told' lines lines'
+IsCalledBy Told Told' ask naming rows lines (Ok answer) lines' =
+    IsTalkBy Told Told' ask naming rows lines (Ok answer) lines'
+IsCalledBy Told Told' ask naming rows lines (Err NotReached) lines' =
+    IsUnreached Told Told' (all_missed rows) lines lines'
+IsCalledBy Told Told' ask naming rows lines (Err NotNamed) lines' = IsUnnamedBy Told Told' naming rows lines lines'
+IsCalledBy Told Told' ask naming rows lines (Err (NotCalled fault)) lines' =
+    IsTalkBy Told Told' ask naming rows lines (Err fault) lines'
+IsCalledBy Told Told' ask naming rows lines (Err NoMemory) lines' = IsGivenUp Told Told' lines lines'

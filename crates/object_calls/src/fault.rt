@@ -9,6 +9,9 @@ pub enum ReachFault {
     /// No connection can be made to the port of the host.
     #[error("socket")]
     NotReached,
+    /// The reference has no profile by which the object could be named in the form that is asked for.
+    #[error("141 NeedsAddressingMode")]
+    NotNamed,
     /// The connection was made.
     #[error("{0}")]
     NotCalled(CallFault),

@@ -1,74 +1,91 @@
 //! Calls of objects that references name.
 
-ghost use Rattle.std.specs.Prelude.{◌≡◌, IfOk};
+ghost use Rattle.std.specs.Prelude.{IfNone, IfSome};
 ghost use Rattle.std.specs.Option.{ForSome};
+ghost use Rattle.type_graph.specs.Value.{Tree};
 ghost use Rattle.type_model.specs.Names.{IsNamed};
+ghost use Rattle.giop.specs.Addresses.{target_tree};
 ghost use Rattle.giop.specs.Made.{given_by};
+ghost use Rattle.object_references.specs.References.{reference_of};
 ghost use Rattle.reference_listing.specs.Listings.{iiop_of, rows_of};
+ghost use Rattle.object_calls.specs.Forms.{IsProfileAt, IsTarget, naming};
 ghost use Rattle.object_calls.specs.Talks.{IsCalledBy, IsCalledTo, asking};
 
 use crate::calling::call_at;
 use crate::dial::Dial;
 use crate::fault::ReachFault;
-use giop::{Body, Giop};
+use crate::form::Form;
+use giop::{Addressed, Body, Giop, Ior, Tagged};
 use giop_client::{Answer, Request};
 use reference_listing::{IiopProfile, ListedProfile};
-use std::alloc::{AllocError, Global};
+use std::alloc::Global;
 
-/// A key and the name of an operation.
-#[derive(Drop)]
-struct Words {
-    key: Vec<u8>,
-    operation: Vec<u8>,
-}
-
-fn owned(alloc: Global, key: &[u8], operation: &[u8]) -> Result<Words, AllocError>
-    ensures key { IfOk result (λ words. words.key.items ≡ key.now) }
-    ensures operation { IfOk result (λ words. words.operation.items ≡ operation.now) }
+/// The object of the profile at a place among those of a reference, by this profile.
+fn profile_at(ior: &Ior, place: usize) -> Option<Addressed<'_>>
+    ensures found { IfSome result (λ target. IsProfileAt (reference_of ior.now).profiles place (target_tree target)) }
+    ensures none { IfNone result ((target : Tree) → IsProfileAt (reference_of ior.now).profiles place target → ⊥) }
 {
-    Ok(Words {
-        key: Vec::from_slice(alloc, key)?,
-        operation: Vec::from_slice(alloc, operation)?,
-    })
-}
-
-/// The same request with these words.
-fn with_words<'w>(words: &'w Words, request: &Request<'_>) -> Request<'w>
-    ensures order { result.order ≡ request.now.order }
-    ensures id { result.id ≡ request.now.id }
-    ensures flags { result.flags ≡ request.now.flags }
-    ensures key { result.key.now ≡ words.now.key.items }
-    ensures operation { result.operation.now ≡ words.now.operation.items }
-{
-    Request {
-        order: request.order,
-        id: request.id,
-        flags: request.flags,
-        key: words.key.as_slice(),
-        operation: words.operation.as_slice(),
+    match ior.profiles.as_slice().get(place) {
+        Some((tag, octets)) => Some(Addressed::Profile(Tagged {
+            tag: *tag,
+            octets: octets.as_slice(),
+        })),
+        None => None,
     }
 }
 
-/// Calls the object of a profile at its host and port.
+/// The object of a profile, which stands at a place among those of a reference, in a form.
+fn target_in<'w>(
+    form: Form,
+    ior: &'w Ior,
+    place: usize,
+    profile: &'w IiopProfile,
+) -> Option<Addressed<'w>>
+    ensures found { IfSome result (λ target.
+        IsTarget (naming form (reference_of ior.now)) place (iiop_of profile.now) (target_tree target)) }
+    ensures none { IfNone result ((target : Tree)
+        → IsTarget (naming form (reference_of ior.now)) place (iiop_of profile.now) target → ⊥) }
+{
+    match form {
+        Form::Key => Some(Addressed::Key(profile.body.key.as_slice())),
+        Form::Profile => profile_at(ior, place),
+        Form::Reference => Some(Addressed::Reference {
+            selected: place,
+            reference: ior,
+        }),
+    }
+}
+
+/// Calls the object of a profile, which stands at a place among those of a reference, at its host and
+/// port.
 fn call_to<D: Dial>(
     giop: &Giop,
     alloc: Global,
     dial: &mut D,
+    ior: &Ior,
+    place: usize,
     profile: &IiopProfile,
+    form: Form,
     request: &Request<'_>,
     body: Option<Body<'_>>,
     reads: u64,
 ) -> Result<Option<Answer>, ReachFault>
     requires { ForSome body (λ b. IsNamed b.0.now.model.names b.1) }
     ensures { IsCalledTo (D.went dial.old) (D.went dial.new) (asking request.now (given_by body.entry) reads)
-        (iiop_of profile.now) (D.lines dial.old) result (D.lines dial.new) }
+        (IsTarget (naming form (reference_of ior.now)) place (iiop_of profile.now)) (iiop_of profile.now)
+        (D.lines dial.old) result (D.lines dial.new) }
 {
-    let words = match owned(alloc, profile.body.key.as_slice(), request.operation) {
-        Ok(words) => words,
-        Err(_) => return Err(ReachFault::NoMemory),
+    let Some(target) = target_in(form, ior, place, profile) else {
+        return Err(ReachFault::NotNamed);
+    };
+    let to_object = Request {
+        order: request.order,
+        id: request.id,
+        flags: request.flags,
+        target,
+        operation: request.operation,
     };
     let host = profile.body.host.as_slice();
-    let to_object = with_words(&words, request);
     call_at(
         giop,
         alloc,
@@ -82,35 +99,45 @@ fn call_to<D: Dial>(
 }
 
 /// Calls the object that a reference names, by its first profile of IIOP whose host and port can be
-/// reached. The request is sent with the key of the profile. So many reads may give octets.
+/// reached. The request is sent with a target that names the object of this profile in a form. So many
+/// reads may give octets. The profiles are those of the reference, as `list_reference` lists them; for
+/// the form of keys they alone count.
 ///
 /// # Errors
-/// `NotReached` where none can be; want of memory; else as `call` of giop_client says.
+/// `NotReached` where none can be; `NotNamed` where the form is that of profiles, and the reference has
+/// none at the place; want of memory; else as `call` of giop_client says.
 pub fn call_by<D: Dial>(
     giop: &Giop,
     alloc: Global,
     dial: &mut D,
+    ior: &Ior,
     profiles: &[ListedProfile],
+    form: Form,
     request: &Request<'_>,
     body: Option<Body<'_>>,
     reads: u64,
 ) -> Result<Option<Answer>, ReachFault>
     requires { ForSome body (λ b. IsNamed b.0.now.model.names b.1) }
     ensures { IsCalledBy (D.went dial.old) (D.went dial.new) (asking request.now (given_by body.entry) reads)
-        (rows_of profiles.now) (D.lines dial.old) result (D.lines dial.new) }
+        (naming form (reference_of ior.now)) (rows_of profiles.now) (D.lines dial.old) result (D.lines dial.new) }
 {
+    let mut place = 0;
     for listed in profiles {
         match listed {
             ListedProfile::Iiop(profile) => {
-                match call_to(giop, alloc, dial, profile, request, body, reads) {
+                match call_to(
+                    giop, alloc, dial, ior, place, profile, form, request, body, reads,
+                ) {
                     Ok(answer) => return Ok(answer),
                     Err(ReachFault::NotReached) => (),
+                    Err(ReachFault::NotNamed) => return Err(ReachFault::NotNamed),
                     Err(ReachFault::NotCalled(fault)) => return Err(ReachFault::NotCalled(fault)),
                     Err(ReachFault::NoMemory) => return Err(ReachFault::NoMemory),
                 }
             }
             ListedProfile::Other { .. } => (),
         }
+        place += 1;
     }
     Err(ReachFault::NotReached)
 }

@@ -4,6 +4,7 @@ use Rattle.object_references.specs.References.{reference_of}
 use Rattle.reference_listing.specs.declared.listing.ListedProfile.{ListedProfile}
 use Rattle.reference_listing.specs.Listings.{AreRows, rows_of}
 use Rattle.object_calls.specs.Talks.{asking}
+use Rattle.followed_calls.specs.Hops.{in_form}
 use Rattle.followed_calls.specs.Wanted.{called_of}
 use Rattle.followed_calls.proofs.Hops.{answered, sent, unanswered}
 use Rattle.followed_calls.proofs.once.call_once.Goals as goal
@@ -11,7 +12,7 @@ use Rattle.followed_calls.proofs.once.call_once.Goals as goal
 pub returns-in-Some : goal.returns-in-Some
 returns-in-Some g c =
     answered (g.D.Dial.went c.args.dial.now) (g.D.Dial.went c.call_by.new.dial)
-    (asking c.args.request.now (given_by c.args.body) c.args.reads) (called_of c.args.wanted.now) (reference_of c.args.ior.now)
+    (in_form c.args.form (asking c.args.request.now (given_by c.args.body) c.args.reads)) (called_of c.args.wanted.now) (reference_of c.args.ior.now)
     (rows_of c.as_slice.result.now) (g.D.Dial.lines c.args.dial.now) (g.D.Dial.lines c.call_by.new.dial)
     c.in-Some.answer c.outcome_of.result
     (subst (λ (ps : List ListedProfile). AreRows (reference_of c.args.ior.now).profiles (rows_of ps))
@@ -20,7 +21,7 @@ returns-in-Some g c =
 pub returns : goal.returns
 returns g c =
     sent (g.D.Dial.went c.args.dial.now) (g.D.Dial.went c.call_by.new.dial)
-    (asking c.args.request.now (given_by c.args.body) c.args.reads) (called_of c.args.wanted.now) (reference_of c.args.ior.now)
+    (in_form c.args.form (asking c.args.request.now (given_by c.args.body) c.args.reads)) (called_of c.args.wanted.now) (reference_of c.args.ior.now)
     (rows_of c.as_slice.result.now) (g.D.Dial.lines c.args.dial.now) (g.D.Dial.lines c.call_by.new.dial)
     (subst (λ (ps : List ListedProfile). AreRows (reference_of c.args.ior.now).profiles (rows_of ps))
     (sym c.as_slice.ensures.value) c.in-Ok.ensures.rows_are) (rw c.in-None.is at c.in-Ok-call_by.ensures)
@@ -28,7 +29,7 @@ returns g c =
 pub returns-in-Err-call_by : goal.returns-in-Err-call_by
 returns-in-Err-call_by g c =
     unanswered (g.D.Dial.went c.args.dial.now) (g.D.Dial.went c.call_by.new.dial)
-    (asking c.args.request.now (given_by c.args.body) c.args.reads) (called_of c.args.wanted.now) (reference_of c.args.ior.now)
+    (in_form c.args.form (asking c.args.request.now (given_by c.args.body) c.args.reads)) (called_of c.args.wanted.now) (reference_of c.args.ior.now)
     (rows_of c.as_slice.result.now) (g.D.Dial.lines c.args.dial.now) (g.D.Dial.lines c.call_by.new.dial)
     c.in-Err-call_by.fault
     (subst (λ (ps : List ListedProfile). AreRows (reference_of c.args.ior.now).profiles (rows_of ps))

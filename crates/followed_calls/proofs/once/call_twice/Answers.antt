@@ -2,6 +2,7 @@ use Rattle.std.proofs.Common.{sym, ◌∙◌}
 use Rattle.giop.specs.Made.{given_by}
 use Rattle.object_references.specs.References.{reference_of}
 use Rattle.object_calls.specs.Talks.{asking}
+use Rattle.followed_calls.specs.Hops.{in_form}
 use Rattle.followed_calls.specs.Wanted.{called_of}
 use Rattle.followed_calls.proofs.Tries.{again}
 use Rattle.followed_calls.proofs.once.call_twice.Goals as goal
@@ -9,7 +10,7 @@ use Rattle.followed_calls.proofs.once.call_twice.Goals as goal
 pub returns-then-is_closed : goal.returns-then-is_closed
 returns-then-is_closed g c =
     again (g.D.Dial.went c.args.dial.now) (g.D.Dial.went c.call_once.new.dial)
-    (g.D.Dial.went c.call_once-then-is_closed.new.dial) (asking c.args.request.now (given_by c.args.body) c.args.reads)
+    (g.D.Dial.went c.call_once-then-is_closed.new.dial) (in_form c.args.form (asking c.args.request.now (given_by c.args.body) c.args.reads))
     (called_of c.args.wanted.now) (reference_of c.args.ior.now) (g.D.Dial.lines c.args.dial.now)
     (g.D.Dial.lines c.call_once.new.dial) (g.D.Dial.lines c.call_once-then-is_closed.new.dial)
     c.call_once-then-is_closed.result c.in-Err-Unanswered.fault (sym c.is_closed.ensures ∙ c.if-is_closed.true)

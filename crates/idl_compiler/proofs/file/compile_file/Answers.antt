@@ -1,6 +1,8 @@
-use Rattle.std.proofs.Common.{subst}
+use Rattle.std.proofs.Common.{rules, subst}
 use Rattle.idl_compiler.specs.Compiled.{IsCompiled}
+use Rattle.idl_compiler.specs.Refused.{HasNoTableBut, IsRefused}
 use Rattle.idl_compiler.proofs.FileFacts.{compiled, no_text}
+use Rattle.idl_compiler.proofs.NoTable.{refused_file}
 use Rattle.idl_compiler.proofs.file.compile_file.Goals as goal
 
 pub returns-in_default-clause-refused : goal.returns-in_default-clause-refused
@@ -12,3 +14,11 @@ returns-in-Ok-compile-clause-compiled c =
     compiled c.args.source.now settled c.file_of.result c.in-Ok.ensures.cases.1
     (subst (λ text. IsCompiled text settled) c.in-Ok.ensures.cases.0 c.in-Ok-compile.ensures.compiled)
     c.file_of.ensures.right c.file_of.ensures.spelled c.file_of.ensures.within c.file_of.ensures.line c.file_of.ensures.planned
+
+pub returns-in-Err : goal.returns-in-Err
+returns-in-Err c = record {
+  compiled = tt;
+  refused = refused_file c.args.source.now c.in-Err.fault c.told-in-Err.result (search rules)
+      (subst (λ t. IsRefused t c.in-Err.fault) c.in-Ok.ensures.cases.0 c.in-Err.ensures.refused)
+      (subst (λ t. HasNoTableBut t c.in-Err.fault) c.in-Ok.ensures.cases.0 c.in-Err.ensures.none) c.told-in-Err.ensures;
+}

@@ -1,4 +1,4 @@
-use Rattle.std.proofs.Common.{◌≡◌, ◌≢◌, ℕ, List, refl}
+use Rattle.std.proofs.Common.{◌≢◌, ℕ, List, refl}
 use Rattle.idl_compiler.specs.declared.choice.Settled.{Settled}
 use Rattle.idl_compiler.specs.declared.fault.CompileFault.{CompileFault}
 use Rattle.idl_compiler.specs.declared.fault.CompileFault.TheVariants.{Tokens, Grammar, Names, Types, NoMemory}
