@@ -70,8 +70,8 @@ fn call_once<D: Dial>(
 ) -> Result<Option<Outcome>, ObjectFault>
     requires body { ForSome body (λ b. IsNamed b.0.now.model.names b.1) }
     requires named { IsNamed wanted.now.table.now.model.names wanted.now.reply }
-    ensures { IsCalledOnce (D.went dial.old) (D.went dial.new) (in_form form (asking request.now (given_by body.entry) reads))
-        (called_of wanted.now) (reference_of ior.now) (D.lines dial.old) result (D.lines dial.new) }
+    ensures { IsCalledOnce (D.went dial.old) (D.went dial.new)
+        (in_form form (asking request.now (given_by body.entry) reads)) (called_of wanted.now) (reference_of ior.now) (D.lines dial.old) result (D.lines dial.new) }
 {
     let listing = match list_reference(types, alloc, ior) {
         Ok(listing) => listing,
@@ -149,8 +149,8 @@ pub(crate) fn call_twice<D: Dial>(
 ) -> Result<Option<Outcome>, ObjectFault>
     requires body { ForSome body (λ b. IsNamed b.0.now.model.names b.1) }
     requires named { IsNamed wanted.now.table.now.model.names wanted.now.reply }
-    ensures { IsCalledTwice (D.went dial.old) (D.went dial.new) (in_form form (asking request.now (given_by body.entry) reads))
-        (called_of wanted.now) (reference_of ior.now) (D.lines dial.old) result (D.lines dial.new) }
+    ensures { IsCalledTwice (D.went dial.old) (D.went dial.new)
+        (in_form form (asking request.now (given_by body.entry) reads)) (called_of wanted.now) (reference_of ior.now) (D.lines dial.old) result (D.lines dial.new) }
 {
     match call_once(
         giop, types, alloc, dial, ior, form, wanted, request, body, reads,
