@@ -1,9 +1,8 @@
 -- The profiles of a reference by their places.
-use Rattle.std.proofs.Common.{◌≡◌, ℕ, zero, suc, List, [], ◌∷◌, refl, sym, ◌∙◌, Option, Some, None, slice_get}
+use Rattle.std.proofs.Common.{◌≡◌, ℕ, zero, suc, List, [], ◌∷◌, refl, sym, ◌∙◌, Some, None, slice_get}
 use Rattle.std.specs.declared.vec.Vec.{Vec}
 use Rattle.std.specs.declared.alloc.Global.{Global}
 use Rattle.type_graph.specs.Value.{Tree}
-use Rattle.giop_messages.specs.Headers.{profile_target}
 use Rattle.object_references.specs.References.{owned_pairs}
 use Rattle.object_calls.specs.Forms.{IsProfileAt}
 
