@@ -70,8 +70,9 @@ fn call_once<D: Dial>(
 ) -> Result<Option<Outcome>, ObjectFault>
     requires body { ForSome body (λ b. IsNamed b.0.now.model.names b.1) }
     requires named { IsNamed wanted.now.table.now.model.names wanted.now.reply }
-    ensures { IsCalledOnce (D.went dial.old) (D.went dial.new) (in_form form (asking request.now (given_by body.entry) reads))
-        (called_of wanted.now) (reference_of ior.now) (D.lines dial.old) result (D.lines dial.new) }
+    ensures { IsCalledOnce (D.went dial.old) (D.went dial.new)
+        (in_form form (asking request.now (given_by body.entry) reads)) (called_of wanted.now)
+        (reference_of ior.now) (D.lines dial.old) result (D.lines dial.new) }
 {
     let listing = match list_reference(types, alloc, ior) {
         Ok(listing) => listing,
@@ -133,8 +134,8 @@ fn is_closed(fault: ReachFault) -> bool
     }
 }
 
-/// Calls the object that a reference names, in a form of address; where the server closed the connection before it answered,
-/// and so made no call, once more (ISO/IEC 19500-2, Connection Management).
+/// Calls the object that a reference names, in a form of address; where the server closed the
+/// connection before it answered, and so made no call, once more (ISO/IEC 19500-2, Connection Management).
 pub(crate) fn call_twice<D: Dial>(
     giop: &Giop,
     types: &GiopTypes,
@@ -149,8 +150,9 @@ pub(crate) fn call_twice<D: Dial>(
 ) -> Result<Option<Outcome>, ObjectFault>
     requires body { ForSome body (λ b. IsNamed b.0.now.model.names b.1) }
     requires named { IsNamed wanted.now.table.now.model.names wanted.now.reply }
-    ensures { IsCalledTwice (D.went dial.old) (D.went dial.new) (in_form form (asking request.now (given_by body.entry) reads))
-        (called_of wanted.now) (reference_of ior.now) (D.lines dial.old) result (D.lines dial.new) }
+    ensures { IsCalledTwice (D.went dial.old) (D.went dial.new)
+        (in_form form (asking request.now (given_by body.entry) reads)) (called_of wanted.now)
+        (reference_of ior.now) (D.lines dial.old) result (D.lines dial.new) }
 {
     match call_once(
         giop, types, alloc, dial, ior, form, wanted, request, body, reads,

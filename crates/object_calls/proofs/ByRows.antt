@@ -1,5 +1,5 @@
 -- Calls by the profiles of references.
-use Rattle.std.proofs.Common.{◌≡◌, ℕ, suc, ◌+◌, ◌<◌, List, [], ◌∷◌, ◌++◌, length, take, drop, get_or, refl, sym, ap, ◌∙◌, subst, append_assoc, append-nil, Option, Result}
+use Rattle.std.proofs.Common.{◌≡◌, ℕ, suc, ◌+◌, ◌<◌, List, [], ◌∷◌, ◌++◌, length, take, drop, get_or, sym, ap, ◌∙◌, subst, append_assoc, append-nil, Option, Result}
 use Rattle.std.specs.declared.vec.Vec.{Vec}
 use Rattle.std.specs.declared.alloc.Global.{Global}
 use Rattle.iiop_broker.specs.Outcomes.{Ends}
@@ -8,7 +8,7 @@ use Rattle.giop_client.specs.declared.fault.CallFault.{CallFault}
 use Rattle.reference_listing.specs.declared.listing.IiopProfile.{IiopProfile}
 use Rattle.reference_listing.specs.declared.listing.ListedProfile.{ListedProfile}
 use Rattle.reference_listing.specs.declared.listing.ListedProfile.TheVariants as listed
-use Rattle.reference_listing.specs.Listings.{Row, OfIiop, iiop_of, row_of, rows_of}
+use Rattle.reference_listing.specs.Listings.{iiop_of, row_of, rows_of}
 use Rattle.object_calls.specs.Forms.{IsTarget, Naming}
 use Rattle.object_calls.specs.Lines.{Line, all_missed, made, missed}
 use Rattle.type_graph.specs.Value.{Tree}

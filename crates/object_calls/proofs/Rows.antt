@@ -1,11 +1,9 @@
 -- Profiles that are gone through in order.
-use Rattle.std.proofs.Common.{◌≡◌, ℕ, suc, ◌+◌, ◌<◌, List, [], ◌∷◌, ◌++◌, length, take, drop, get_or, length-take, refl, sym, ap, ◌∙◌, subst, append_assoc, append-nil, add-one, arith}
-use Rattle.std.proofs.lemmas.List.{take-append-drop}
+use Rattle.std.proofs.Common.{◌≡◌, ℕ, suc, ◌+◌, ◌<◌, List, [], ◌∷◌, ◌++◌, length, take, drop, get_or, refl, sym, ap, ◌∙◌, add-one, arith}
+use Rattle.std.proofs.lemmas.List.{length-take-le, take-append-drop}
 use Rattle.std.proofs.Math.Seq.{take-suc, drop-cons}
-use Rattle.reference_listing.specs.declared.listing.IiopProfile.{IiopProfile}
 use Rattle.reference_listing.specs.declared.listing.ListedProfile.{ListedProfile}
-use Rattle.reference_listing.specs.declared.listing.ListedProfile.TheVariants as listed
-use Rattle.reference_listing.specs.Listings.{Row, OfIiop, OfOther, iiop_of, row_of, rows_of}
+use Rattle.reference_listing.specs.Listings.{Row, OfIiop, OfOther, row_of, rows_of}
 use Rattle.object_calls.specs.Lines.{Line, all_missed}
 
 pub rows_append : (a b : List ListedProfile) → rows_of (a ++ b) ≡ rows_of a ++ rows_of b
@@ -24,7 +22,7 @@ rows_long (p ∷ ps) = ap suc (rows_long ps)
 
 -- as many rows stand before a profile as its place says
 pub rows_before : (ps : List ListedProfile) (i : ℕ) → i < length ps → length (rows_of (take i ps)) ≡ i
-rows_before ps i within = rows_long (take i ps) ∙ length-take i ps (omega (arith, within))
+rows_before ps i within = rows_long (take i ps) ∙ length-take-le i ps (omega (arith, within))
 
 -- the rows before a profile, its own, and those behind
 pub rows_split : (ps : List ListedProfile) (i : ℕ) (p : ListedProfile) → i < length ps → p ≡ get_or ps i p

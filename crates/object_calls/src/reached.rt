@@ -1,6 +1,6 @@
 //! Calls of objects that references name.
 
-ghost use Rattle.std.specs.Prelude.{IfNone, IfSome};
+ghost use Rattle.std.specs.Prelude.{◌≡◌, IfNone, IfSome, option_map, slice_get};
 ghost use Rattle.std.specs.Option.{ForSome};
 ghost use Rattle.type_graph.specs.Value.{Tree};
 ghost use Rattle.type_model.specs.Names.{IsNamed};
@@ -20,12 +20,18 @@ use giop_client::{Answer, Request};
 use reference_listing::{IiopProfile, ListedProfile};
 use std::alloc::Global;
 
+fn nth_profile(profiles: &[(u32, Vec<u8>)], place: usize) -> Option<&(u32, Vec<u8>)>
+    ensures { option_map (λ p. p.now) result ≡ slice_get profiles.now place }
+{
+    profiles.get(place)
+}
+
 /// The object of the profile at a place among those of a reference, by this profile.
 fn profile_at(ior: &Ior, place: usize) -> Option<Addressed<'_>>
     ensures found { IfSome result (λ target. IsProfileAt (reference_of ior.now).profiles place (target_tree target)) }
     ensures none { IfNone result ((target : Tree) → IsProfileAt (reference_of ior.now).profiles place target → ⊥) }
 {
-    match ior.profiles.as_slice().get(place) {
+    match nth_profile(ior.profiles.as_slice(), place) {
         Some((tag, octets)) => Some(Addressed::Profile(Tagged {
             tag: *tag,
             octets: octets.as_slice(),
