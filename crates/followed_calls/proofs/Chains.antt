@@ -1,5 +1,5 @@
 -- Calls that were forwarded one after the other.
-use Rattle.std.proofs.Common.{◌≡◌, ℕ, suc, ◌+◌, ◌<◌, ◌≤◌, List, [], ◌∷◌, ◌++◌, length, refl, sym, ap, ◌∙◌, subst, append_assoc, append-nil, length-append, arith, ◌⊎◌, inl, inr, Option, Some, None, Result, Ok, Err}
+use Rattle.std.proofs.Common.{ℕ, ◌+◌, ◌≤◌, List, [], ◌∷◌, ◌++◌, length, refl, sym, ap, ◌∙◌, subst, append_assoc, append-nil, length-append, inl, inr, Option, Some, None, Result, Ok, Err}
 use Rattle.iiop_broker.specs.Outcomes.{Ends}
 use Rattle.object_references.specs.References.{Reference, reference_of}
 use Rattle.object_references.specs.declared.reference.Ior.{Ior}

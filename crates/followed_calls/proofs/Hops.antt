@@ -1,5 +1,5 @@
 -- What one call says, whatever was handed back before.
-use Rattle.std.proofs.Common.{◌≡◌, ℕ, List, [], ◌∷◌, ◌++◌, refl, sym, ap, ◌∙◌, subst, append-nil, Option, Some, None, Result, Ok, Err}
+use Rattle.std.proofs.Common.{List, [], ◌∷◌, ◌++◌, sym, ap, subst, append-nil, Option, Some, None, Result, Ok, Err}
 use Rattle.iiop_broker.specs.Outcomes.{Ends}
 use Rattle.giop_client.specs.declared.answer.Answer.{Answer}
 use Rattle.giop_client.specs.Answers.{answer_of}
@@ -8,8 +8,8 @@ use Rattle.reference_listing.specs.Listings.{AreRows, Row}
 use Rattle.call_texts.specs.Outcomes.{Called}
 use Rattle.call_texts.specs.declared.outcome.Outcome.{Outcome}
 use Rattle.object_calls.specs.Forms.{Naming, naming}
-use Rattle.object_calls.specs.Lines.{Line, all_missed}
-use Rattle.object_calls.specs.Talks.{Asking, IsCalledBy, IsTalkBy, IsUnreached, Telling}
+use Rattle.object_calls.specs.Lines.{Line}
+use Rattle.object_calls.specs.Talks.{Asking, IsCalledBy}
 use Rattle.object_calls.specs.declared.fault.ReachFault.{ReachFault}
 use Rattle.object_calls.specs.declared.fault.ReachFault.TheVariants.{NotReached, NotNamed, NotCalled, NoMemory as WantsMemory}
 use Rattle.followed_calls.specs.Hops.{InForm, IsCalledOnce, IsHop, IsOnce, IsOutcomeIn, just}

@@ -1,5 +1,5 @@
 -- Calls that are made once more.
-use Rattle.std.proofs.Common.{◌≡◌, true, false, List, ◌++◌, refl, sym, subst, append_assoc, inl, inr, Option, Result, Ok, Err}
+use Rattle.std.proofs.Common.{◌≡◌, true, false, List, ◌++◌, refl, subst, append_assoc, inl, inr, Option, Result, Err}
 use Rattle.iiop_broker.specs.Outcomes.{Ends}
 use Rattle.giop_client.specs.declared.fault.AwaitFault.{AwaitFault}
 use Rattle.giop_client.specs.declared.fault.AwaitFault.TheVariants.{CloseConnection}

@@ -1,6 +1,6 @@
 -- Calls that are made once more since the server asked for another form of address (ISO/IEC 19500-2, GIOP message
 -- formats: NEEDS_ADDRESSING_MODE).
-use Rattle.std.specs.Prelude.{◌≡◌, ◌⊎◌, ℕ, zero, suc, List, ◌++◌, Option, Some, None, Result, Ok, Err}
+use Rattle.std.specs.Prelude.{◌≡◌, ◌⊎◌, ℕ, zero, suc, List, ◌++◌, Option, Some, None, Result, Ok}
 use Rattle.iiop_broker.specs.Outcomes.{Ends}
 use Rattle.object_references.specs.References.{Reference}
 use Rattle.call_texts.specs.Outcomes.{Called}

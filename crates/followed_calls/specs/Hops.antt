@@ -1,11 +1,10 @@
 -- One call of the object that a reference names, and what its reply says.
-use Rattle.std.specs.Prelude.{◌≡◌, ℕ, List, [], ◌++◌, Option, Some, None, Result, Ok, Err}
-use Rattle.giop_messages.specs.declared.message.ReplyStatus.TheVariants as statuses
+use Rattle.std.specs.Prelude.{◌≡◌, List, [], ◌++◌, Option, Some, None, Result, Ok, Err}
 use Rattle.giop_messages.specs.Messages.{Answered}
 use Rattle.iiop_broker.specs.Outcomes.{Ends}
 use Rattle.giop_client.specs.declared.answer.Answer.{Answer}
 use Rattle.giop_client.specs.Answers.{answer_of}
-use Rattle.object_references.specs.References.{Reference, reference_of}
+use Rattle.object_references.specs.References.{Reference}
 use Rattle.reference_listing.specs.Listings.{AreRows, Row}
 use Rattle.call_texts.specs.Outcomes.{Called, HasNoOutcome, IsOutcome}
 use Rattle.call_texts.specs.declared.outcome.Outcome.{Outcome}

@@ -1,6 +1,6 @@
 -- Calls that are made once more (ISO/IEC 19500-2, Connection Management): behind CloseConnection a client may take it
 -- that the requests that have no reply weren't processed.
-use Rattle.std.specs.Prelude.{◌≡◌, ◌⊎◌, ℕ, Bool, true, false, List, ◌++◌, Option, Result, Err}
+use Rattle.std.specs.Prelude.{◌≡◌, ◌⊎◌, Bool, true, false, List, ◌++◌, Option, Result, Err}
 use Rattle.iiop_broker.specs.Outcomes.{Ends}
 use Rattle.giop_client.specs.declared.fault.AwaitFault.{AwaitFault}
 use Rattle.giop_client.specs.declared.fault.AwaitFault.TheVariants.{CloseConnection}

@@ -8,17 +8,17 @@ use Rattle.followed_calls.proofs.heeded.call_heeding.Goals as goal
 
 pub returns-in-Some : goal.returns-in-Some
 returns-in-Some g c =
-    heeded (g.D.Dial.went c.args.dial.now) (g.D.Dial.went c.call_twice.new.dial)
-    (g.D.Dial.went c.call_twice-in-Some.new.dial) (asking c.args.request.now (given_by c.args.body) c.args.reads)
+    heeded (g.D.Dial.went c.args.dial.now) (g.D.Dial.went c.call_twice-answered.new.dial)
+    (g.D.Dial.went c.call_twice.new.dial) (asking c.args.request.now (given_by c.args.body) c.args.reads)
     (called_of c.args.wanted.now) (reference_of c.args.ior.now) (g.D.Dial.lines c.args.dial.now)
-    (g.D.Dial.lines c.call_twice.new.dial) (g.D.Dial.lines c.call_twice-in-Some.new.dial)
-    c.call_twice-in-Some.result c.call_twice.result c.in-Some.form (sym c.form_in.ensures ∙ c.in-Some.is)
-    c.call_twice.ensures c.call_twice-in-Some.ensures
+    (g.D.Dial.lines c.call_twice-answered.new.dial) (g.D.Dial.lines c.call_twice.new.dial)
+    c.call_twice.result c.call_twice-answered.result c.in-Some.form (sym c.form_in.ensures ∙ c.in-Some.is)
+    c.call_twice-answered.ensures c.call_twice.ensures
 
 pub returns-in-None : goal.returns-in-None
 returns-in-None g c =
-    unasked (g.D.Dial.went c.args.dial.now) (g.D.Dial.went c.args.dial.now) (g.D.Dial.went c.call_twice.new.dial)
+    unasked (g.D.Dial.went c.args.dial.now) (g.D.Dial.went c.args.dial.now) (g.D.Dial.went c.call_twice-answered.new.dial)
     (asking c.args.request.now (given_by c.args.body) c.args.reads)
     (called_of c.args.wanted.now) (reference_of c.args.ior.now) (g.D.Dial.lines c.args.dial.now)
-    (g.D.Dial.lines c.args.dial.now) (g.D.Dial.lines c.call_twice.new.dial)
-    c.call_twice.result (sym c.form_in.ensures ∙ c.in-None.is) c.call_twice.ensures
+    (g.D.Dial.lines c.args.dial.now) (g.D.Dial.lines c.call_twice-answered.new.dial)
+    c.call_twice-answered.result (sym c.form_in.ensures ∙ c.in-None.is) c.call_twice-answered.ensures
