@@ -1,10 +1,11 @@
 //! The faults of a specification's types.
 
-ghost use Rattle.std.specs.Prelude.{◌≡◌, ◌≤◌, ◌++◌, length, false, IfOk};
+ghost use Rattle.std.specs.Prelude.{◌≡◌, ◌<◌, ◌+◌, ◌++◌, length, false, IfOk};
 ghost use Rattle.type_faults.specs.AllFaults.{AreFirst, HasFault, IsLowered, told_of};
 ghost use Rattle.type_faults.specs.Parts.{left};
 ghost use Rattle.type_faults.specs.inner.Searched.{Finds, IsFaulty, Narrows};
 
+use crate::parts::part_at;
 use crate::reading::{Reading, read_left};
 use idl_lexer::Token;
 use lowered_types::{BuildFault, TypeFault};
@@ -33,11 +34,47 @@ pub enum Found {
     Stuck,
 }
 
-/// The part with which the tokens aren't lowered any more.
+fn token_of(fault: &TypeFault) -> usize {
+    match *fault {
+        TypeFault::SelfHeld { at } => at.token,
+        TypeFault::LabelTwice { at, .. } => at.token,
+        TypeFault::LabelRange { at, .. } => at.token,
+        TypeFault::DefaultNeedless { at } => at.token,
+        TypeFault::BadSwitch { at, .. } => at.token,
+        TypeFault::Limit { at, .. } => at.token,
+        TypeFault::BadOneway { at, .. } => at.token,
+    }
+}
+
+/// The part in which a fault is told; where it has no place, what no part is.
+fn guess_part(tokens: &[Token<'_>], fault: &BuildFault) -> usize {
+    match fault {
+        BuildFault::Types(fault) => part_at(tokens, token_of(fault)),
+        BuildFault::OtherNames | BuildFault::NoMemory => tokens.len(),
+    }
+}
+
+/// A number between two: first the guess and the next one, then the middle.
+fn between(low: usize, high: usize, guess: usize) -> usize
+    requires { low + 1 < high }
+    ensures above { low < result }
+    ensures below { result < high }
+{
+    if low < guess && guess < high {
+        guess
+    } else if guess == low {
+        low + 1
+    } else {
+        low + (high - low) / 2
+    }
+}
+
+/// The part with which the tokens aren't lowered any more, maybe the one that is guessed.
 fn narrow(
     alloc: Global,
     tokens: &[Token<'_>],
     refused: &[usize],
+    guess: usize,
 ) -> Result<Option<usize>, AllocError>
     requires before { IsLowered tokens.now (left 0 refused.now tokens.now) }
     requires behind { IsFaulty tokens.now (left (length tokens.now) refused.now tokens.now) }
@@ -46,7 +83,7 @@ fn narrow(
     let mut low = 0;
     let mut high = tokens.len();
     while low + 1 < high {
-        let middle = low + (high - low) / 2;
+        let middle = between(low, high, guess);
         match read_left(alloc, tokens, middle, refused)? {
             Reading::Lowered => low = middle,
             Reading::Refused(_) => high = middle,
@@ -70,8 +107,9 @@ fn find_part(
     requires { HasFault tokens.now (left (length tokens.now) refused.now tokens.now) fault }
     ensures { IfOk result (Finds tokens.now refused.now) }
 {
+    let guess = guess_part(tokens, &fault);
     match read_left(alloc, tokens, 0, refused)? {
-        Reading::Lowered => match narrow(alloc, tokens, refused)? {
+        Reading::Lowered => match narrow(alloc, tokens, refused, guess)? {
             Some(part) => Ok(Found::Part(part, fault)),
             None => Ok(Found::Stuck),
         },

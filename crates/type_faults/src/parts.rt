@@ -202,3 +202,13 @@ pub(crate) fn left_of<'a>(
     }
     Ok(left)
 }
+
+/// In which part a token stands, by the numbers of both; it may stand before that part.
+pub(crate) fn part_at(tokens: &[Token<'_>], number: usize) -> usize {
+    let (before, _) = tokens.split_at(number.min(tokens.len()));
+    let mut scan = Scan::new();
+    for token in before {
+        scan = scan.after(token);
+    }
+    scan.parts
+}
