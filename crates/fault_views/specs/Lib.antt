@@ -1,2 +1,3 @@
 -- Which faults a person is told of.
 pub mod AllNames
+pub mod AllTypes

@@ -1,15 +1,19 @@
 //! What is known of a fault.
 
 use crate::all_names::name_faults_in;
+use crate::all_types::type_faults_in;
 use crate::grammar::of_grammar;
 use crate::names::of_names;
 use crate::tokens::of_tokens;
 use crate::types::of_types;
 use idl_compiler::{CompileFault, compile};
 use idl_lexer::{Token, lex};
+use idl_parser::ParseFault;
+use model_builder::TypeFault;
 use scoped_names::NameFaults;
 use std::alloc::{AllocError, Global};
 use std::str;
+use type_faults::TypeFaults;
 
 /// Where something stands in a source.
 #[derive(Clone, Copy, Debug, PartialEq, Eq)]
@@ -57,13 +61,16 @@ impl Known {
     }
 }
 
-/// What is known of the faults of a file: of all that its names have, or else of the first.
+/// What is known of the faults of a file: of all that its names or its types have, or else of the
+/// first.
 #[derive(Drop)]
 pub struct AllKnown {
     /// The first of them.
     pub known: Vec<Known>,
-    /// How many there are in all.
+    /// How many were found.
     pub count: u64,
+    /// Whether all were found.
+    pub is_all: bool,
 }
 
 impl AllKnown {
@@ -88,6 +95,7 @@ fn only(alloc: Global, known: Option<Known>) -> Result<AllKnown, AllocError> {
     let mut all = AllKnown {
         known: Vec::new(alloc),
         count: 1,
+        is_all: true,
     };
     if let Some(known) = known {
         all.known.push(known)?;
@@ -101,16 +109,12 @@ fn not_text(alloc: Global, octet: usize) -> Result<Known, AllocError> {
     Ok(Known::alone(1, Spot::Octet(octet), sentence))
 }
 
-/// What is known of a fault that is one of the grammar or of types.
-fn of_fault(alloc: Global, text: &str, fault: &CompileFault) -> Result<Option<Known>, AllocError> {
+/// What is known of a fault of the grammar.
+fn of_parse(alloc: Global, text: &str, fault: &ParseFault) -> Result<AllKnown, AllocError> {
     let Ok(tokens) = lex(alloc, text) else {
-        return Ok(None);
+        return only(alloc, None);
     };
-    match fault {
-        CompileFault::Grammar(fault) => of_grammar(alloc, &tokens, fault),
-        CompileFault::Types(fault) => Ok(Some(of_types(alloc, &tokens, fault)?)),
-        CompileFault::Names(_) | CompileFault::Tokens(_) | CompileFault::NoMemory => Ok(None),
-    }
+    only(alloc, of_grammar(alloc, &tokens, fault)?)
 }
 
 /// What is known of faults of names.
@@ -122,6 +126,7 @@ fn of_faults(
     let mut all = AllKnown {
         known: Vec::new(alloc),
         count: faults.count,
+        is_all: true,
     };
     for fault in faults.first.as_slice() {
         if let Some(known) = of_names(alloc, tokens, fault)? {
@@ -142,6 +147,36 @@ fn of_all_names(alloc: Global, text: &str) -> Result<AllKnown, AllocError> {
     }
 }
 
+/// What is known of faults of types, of which so many at most are told.
+fn of_each_type(
+    alloc: Global,
+    tokens: &[Token<'_>],
+    faults: &TypeFaults,
+) -> Result<AllKnown, AllocError> {
+    let found = faults.first.as_slice();
+    let mut all = AllKnown {
+        known: Vec::new(alloc),
+        count: found.len() as u64,
+        is_all: faults.is_all,
+    };
+    for fault in found.iter().take(MOST) {
+        all.add(of_types(alloc, tokens, fault)?)?;
+    }
+    Ok(all)
+}
+
+/// What is known of the faults of a text's types. The first is told alone where no part of the text
+/// is refused: one of a type that holds itself, or of a path.
+fn of_all_types(alloc: Global, text: &str, first: &TypeFault) -> Result<AllKnown, AllocError> {
+    let Ok(tokens) = lex(alloc, text) else {
+        return only(alloc, None);
+    };
+    match type_faults_in(alloc, text, MOST + 1) {
+        Ok(faults) if !faults.first.is_empty() => of_each_type(alloc, &tokens, &faults),
+        _ => only(alloc, Some(of_types(alloc, &tokens, first)?)),
+    }
+}
+
 /// What is known of the faults of an IDL file; None where it has none. Of one that wants memory
 /// nothing is known.
 pub fn known_of(alloc: Global, source: &[u8]) -> Result<Option<AllKnown>, AllocError> {
@@ -156,7 +191,9 @@ pub fn known_of(alloc: Global, source: &[u8]) -> Result<Option<AllKnown>, AllocE
         Ok(_) => return Ok(None),
         Err(CompileFault::Tokens(fault)) => only(alloc, of_tokens(alloc, text, fault)?)?,
         Err(CompileFault::Names(_)) => of_all_names(alloc, text)?,
-        Err(fault) => only(alloc, of_fault(alloc, text, &fault)?)?,
+        Err(CompileFault::Grammar(fault)) => of_parse(alloc, text, &fault)?,
+        Err(CompileFault::Types(fault)) => of_all_types(alloc, text, &fault)?,
+        Err(CompileFault::NoMemory) => only(alloc, None)?,
     };
     Ok(Some(all))
 }

@@ -3,6 +3,7 @@
 #![tactic(auto)]
 
 mod all_names;
+mod all_types;
 mod facts;
 mod grammar;
 mod lines;
@@ -12,5 +13,6 @@ mod types;
 mod words;
 
 pub use all_names::name_faults_in;
+pub use all_types::type_faults_in;
 pub use facts::{AllKnown, Known, Note, Spot, known_of};
 pub use lines::{Look, view};

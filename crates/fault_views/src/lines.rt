@@ -155,7 +155,9 @@ fn push_known(
 fn push_count(lines: &mut String, alloc: Global, all: &AllKnown) -> Result<(), AllocError> {
     let told = all.known.len() as u64;
     match all.count.saturating_sub(told) {
-        0 => Ok(()),
+        0 if all.is_all => Ok(()),
+        0 => lines.push_str("\nand maybe more faults"),
+        _ if !all.is_all => lines.push_str("\nand more faults"),
         1 => lines.push_str("\nand one fault more"),
         more => lines.push_str(format!(in alloc; "\nand {more} faults more")?.as_str()),
     }
@@ -180,7 +182,8 @@ fn lines_of(
 }
 
 /// What a person is told of the faults of an IDL file, in lines of which the last has no end: of all
-/// faults of its names, 20 at most and how many more there are, or else of its first fault. Each is
+/// faults of its names, 20 at most and how many more there are; or of its types, 20 at most and
+/// whether there are more; or else of its first fault. Each is
 /// `FILE:LINE:COLUMN: ` and a sentence, with file and line as the line markers have them; the line of
 /// the source with a caret; the places of other declarations; and what says more. None where the
 /// file has no fault, or nothing is known of it.

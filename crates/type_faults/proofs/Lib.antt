@@ -1,0 +1,5 @@
+pub mod Found
+pub mod Leaving
+pub mod PragmaText
+pub mod Refused
+pub mod Texts

@@ -1,0 +1,4 @@
+-- Which faults the types of a specification have, beside the first.
+pub mod Parts
+pub mod AllFaults
+pub mod inner

@@ -1,0 +1,2 @@
+-- What the code keeps.
+pub mod Searched
