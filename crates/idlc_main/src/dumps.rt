@@ -117,6 +117,44 @@ fn grown<T: Read + Drop>(source: Source<T>, grows: bool) -> Source<T> {
     if grows { source.growing() } else { source }
 }
 
+/// The octets of both directions, in a file each.
+fn capture_in_two<'a, R: CaptureFiles + AllocGlobal>(
+    rt: &R,
+    file: &'a str,
+    back: &'a str,
+    follows: bool,
+) -> Result<Capture<R::Reader>, Fault<'a>> {
+    let first = match direction_of(rt, file) {
+        Ok(first) => grown(first, follows),
+        Err(fault) => return Err(fault),
+    };
+    match direction_of(rt, back) {
+        Ok(second) => Ok(Capture {
+            form: CaptureForm::Octets,
+            first,
+            second: Some(grown(second, follows)),
+            follows,
+        }),
+        Err(fault) => Err(fault),
+    }
+}
+
+fn capture_in_one<'a, R: CaptureFiles + AllocGlobal>(
+    rt: &R,
+    file: &'a str,
+    follows: bool,
+) -> Result<Capture<R::Reader>, Fault<'a>> {
+    match source_of(rt, file) {
+        Ok((first, form)) => Ok(Capture {
+            form,
+            first: grown(first, follows),
+            second: None,
+            follows,
+        }),
+        Err(fault) => Err(fault),
+    }
+}
+
 /// A capture, of one file or of two. Standard input ends at its end.
 fn capture_of<'a, R: CaptureFiles + AllocGlobal>(
     rt: &R,
@@ -124,37 +162,26 @@ fn capture_of<'a, R: CaptureFiles + AllocGlobal>(
 ) -> Result<Capture<R::Reader>, Fault<'a>> {
     let file = file_in(task.file);
     let follows = task.follow && file != INPUT;
-    let (first, form, second) = match task.back {
-        Some(back) => {
-            let first = direction_of(rt, file)?;
-            let second = direction_of(rt, file_in(Some(back)))?;
-            (first, CaptureForm::Octets, Some(grown(second, follows)))
-        }
-        None => {
-            let (first, form) = source_of(rt, file)?;
-            (first, form, None)
-        }
-    };
-    Ok(Capture {
-        form,
-        first: grown(first, follows),
-        second,
-        follows,
-    })
+    match task.back {
+        Some(back) => capture_in_two(rt, file, file_in(Some(back)), follows),
+        None => capture_in_one(rt, file, follows),
+    }
 }
 
-/// Loads the table, and opens the capture.
+/// Loads the table, and opens the capture. The table's fault is told first.
 pub fn open_capture<'a, R: WholeFiles + CaptureFiles + AllocGlobal>(
     rt: &R,
     task: &DumpTask<'a>,
     listener: Listener,
 ) -> Result<Opened<R::Reader>, Fault<'a>> {
-    let loaded = match load(rt, task.table) {
-        Ok(loaded) => loaded,
-        Err(fault) => return Err(named_fault(rt, task.table, fault, listener)),
-    };
-    let capture = capture_of(rt, task)?;
-    Ok(Opened { loaded, capture })
+    let capture = capture_of(rt, task);
+    match load(rt, task.table) {
+        Ok(loaded) => match capture {
+            Ok(capture) => Ok(Opened { loaded, capture }),
+            Err(fault) => Err(fault),
+        },
+        Err(fault) => Err(named_fault(rt, task.table, fault, listener)),
+    }
 }
 
 /// Tells the messages of a capture.
