@@ -14,12 +14,22 @@ sys.path[:0] = [str(pathlib.Path(__file__).resolve().parent), str(TOP / "example
 from files import KINDS  # noqa: E402
 from search import made  # noqa: E402
 
+# a run longer than this many seconds is done so often, and the quickest counts
+LONG, TIMES = 1, 5
+
 # how many files are made at random, and how many of them are told
 SEEDS = 300
 TOLD = 3
 
 
 def measured(room, octets):
+    """What is found of a file, of several long runs in the quickest."""
+    found = measured_once(room, octets)
+    times = TIMES - 1 if found[1] > LONG else 0
+    return min([found] + [measured_once(room, octets) for _ in range(times)], key=lambda it: it[1])
+
+
+def measured_once(room, octets):
     """What the command says of a file, seconds of a processor, and MiB that it holds at most."""
     path = pathlib.Path(room) / "hostile.table"
     path.write_bytes(octets)
