@@ -9,10 +9,13 @@ ghost use Rattle.tree_laws.specs.DefinitionShapes.{spec_shape};
 
 /// The names of a file, and the fault of its names, are those of its shape.
 pub fn names_are_of_the_shape()
-    ensures { (definitions others : List Definition) → spec_shape definitions ≡ spec_shape others → names_of definitions ≡ names_of others }
+    ensures { (definitions others : List Definition) → spec_shape definitions ≡ spec_shape others
+        → names_of definitions ≡ names_of others }
 {}
 
 /// What the types and operations of a file are lowered to, or the first fault of its types, is that of its shape.
 pub fn types_are_of_the_shape()
-    ensures { (entries : List Entry) (definitions others : List Definition) → spec_shape definitions ≡ spec_shape others → defined_by entries definitions ≡ defined_by entries others }
+    ensures { (entries : List Entry) (definitions others : List Definition)
+        → spec_shape definitions ≡ spec_shape others
+        → defined_by entries definitions ≡ defined_by entries others }
 {}

@@ -13,7 +13,8 @@ use Rattle.idl_tree.specs.declared.const_expr.ConstExpr.{ConstExpr}
 use Rattle.idl_tree.specs.declared.const_expr.Bound.{Bound}
 use Rattle.idl_tree.specs.Yields.{operator_text, sign_text, boolean_text}
 
--- nothing; a token with the text that it stands for, its number, and all that the lexer says of it; a part of a kind, which a word names; two parts in order
+-- nothing; a token with the text that it stands for, its number, and all that the lexer says of it; a part of a kind,
+-- which a word names; two parts in order
 pub data Shape : Type 0 where
   Nothing : Shape
   Token : List ℕ → ℕ → TokenParts → Shape

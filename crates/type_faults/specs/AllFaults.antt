@@ -97,7 +97,7 @@ told_by part = told_of part.1
 -- ---- what is told of all
 
 -- no part more is found where these are left out: there is nothing to read, or what is left isn't lowered even where
--- all parts are left out. A specification whose names have no fault meets neither.
+-- all parts are left out
 abbrev pub IsStuck : List Token → List ℕ → Type 0
 IsStuck tokens refused =
     ((kept : ℕ) × Reads tokens (left kept refused tokens) Nothing)

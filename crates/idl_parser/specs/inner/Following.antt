@@ -21,7 +21,8 @@ pub record Going (goes : List Seen → Bool) (one : List Seen → Way) (start no
 -- a sequence, which is a level
 abbrev pub sequence_way : ℕ → List Seen → Way
 sequence_way room t =
-    opened room (λ left. and_then (open_sequence_way t) (λ u. and_then (simple_type_way left u) (λ v. end_sequence_way left v)))
+    opened room (λ left. and_then (open_sequence_way t)
+    (λ u. and_then (simple_type_way left u) (λ v. end_sequence_way left v)))
 
 -- a union behind the type of its discriminator
 abbrev pub union_body_way : ℕ → List Seen → Way
@@ -45,7 +46,8 @@ raising_way false t = settable_way t
 -- a module without what tells that it is one
 abbrev pub module_way : ℕ → List Seen → Way
 module_way left t =
-    and_then (named_way (codes "module") t) (λ u. and_then (mark_taken (codes "{") u) (λ v. and_then (definitions_way left v)
+    and_then (named_way (codes "module") t)
+    (λ u. and_then (mark_taken (codes "{") u) (λ v. and_then (definitions_way left v)
     (λ w. and_then (mark_taken (codes "}") w) (λ x. mark_taken (codes ";") x))))
 
 -- ---- parts between braces, one or more

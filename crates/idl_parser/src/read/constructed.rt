@@ -163,7 +163,8 @@ fn structure<'a>(
 pub(crate) fn read_struct<'a>(cursor: &mut Cursor<'a>, room: usize) -> Result<StructType<'a>, Stop>
     ensures spells { IfOk result (λ s. Parsed cursor.old (struct_yield s) cursor.new) }
     ensures levels { IfOk result (λ s. struct_levels s ≤ room) }
-    ensures way { IfOk result (λ _. opened room (λ left. struct_way (type_way left) left cursor.old) ≡ Some cursor.new) }
+    ensures way { IfOk result (λ _.
+        opened room (λ left. struct_way (type_way left) left cursor.old) ≡ Some cursor.new) }
     ensures stops { IfErr result (Ends (opened room (λ left. struct_way (type_way left) left cursor.old))) }
 {
     let (name, left) = got!(read_opened(cursor, "struct", room));

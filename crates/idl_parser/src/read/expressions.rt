@@ -233,8 +233,10 @@ fn read_operands<'a>(
     ensures spells { IfOk result (λ rest. Continued cursor.old (flat_map operand_yield rest.items) cursor.new) }
     ensures groups { IfOk result (λ rest. AllByRecursion (IsOperandOf shifts level) rest.items) }
     ensures levels { IfOk result (λ rest. highest operand_levels rest.items ≤ room) }
-    ensures way { IfOk result (λ _. operands_way (level_way (inside_way room) shifts (5 - level)) shifts level cursor.old ≡ Some cursor.new) }
-    ensures stops { IfErr result (Ends (operands_way (level_way (inside_way room) shifts (5 - level)) shifts level cursor.old)) }
+    ensures way { IfOk result (λ _.
+        operands_way (level_way (inside_way room) shifts (5 - level)) shifts level cursor.old ≡ Some cursor.new) }
+    ensures stops { IfErr result (Ends
+        (operands_way (level_way (inside_way room) shifts (5 - level)) shifts level cursor.old)) }
 {
     let mut rest = Vec::new(cursor.alloc());
     'parts: while let Some(operator) = operator_of(cursor, level, shifts) {

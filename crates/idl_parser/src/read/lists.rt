@@ -83,7 +83,8 @@ pub(crate) fn read_opened<'a>(
     ensures spells { IfOk result (λ o. Parsed cursor.old
         (keyword word.now ++ identifier o.0 ++ mark (codes "{")) cursor.new) }
     ensures levels { IfOk result (λ o. suc o.1 ≡ room) }
-    ensures way { IfOk result (λ o. and_then (named_way word.now cursor.old) (mark_taken (codes "{")) ≡ Some cursor.new) }
+    ensures way { IfOk result (λ o.
+        and_then (named_way word.now cursor.old) (mark_taken (codes "{")) ≡ Some cursor.new) }
     ensures stops { IfErr result (Ends (opened_way word.now room cursor.old)) }
 {
     let name = got!(read_named(cursor, word));

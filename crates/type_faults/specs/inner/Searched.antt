@@ -36,7 +36,8 @@ pub record HasRoom (s : Scan) : Type 0 where
 -- what there is to read of definitions under the names of others
 abbrev pub ReadAs : List Definition → List Definition → Reading → Type 0
 ReadAs own definitions Lowered =
-    (names : FileNames) × AreNames own names × ((lowered : Defined) × (defined_by names.entries definitions ≡ Ok lowered))
+    (names : FileNames) × AreNames own names
+    × ((lowered : Defined) × (defined_by names.entries definitions ≡ Ok lowered))
 ReadAs own definitions (Refused fault) =
     (names : FileNames) × AreNames own names × (defined_by names.entries definitions ≡ Err fault)
 ReadAs own definitions NothingRead = (fault : NameFault) × (names_of own ≡ Err fault)
