@@ -1,13 +1,15 @@
 -- What was found for the words of a call tells what is called.
-use Rattle.std.proofs.Common.{◌≡◌, ◌∙◌, ◌<◌, ◌^◌, ◌↔◌, inl, inr, ℕ, Some, None, codes, sym, refl}
+use Rattle.std.proofs.Common.{◌≡◌, ◌∙◌, ◌<◌, ◌^◌, ◌↔◌, ◌⊎◌, inl, inr, ℕ, Bool, true, false, List, Option, Some, None, codes, length, ap, sym, refl, arith, option_map}
 use Rattle.std.specs.Str.Parse.{IsNumeral, digits_value, without_leading_plus}
-use Rattle.clap.specs.Words.{Text, first_of, first_value, one_text, rows_of}
+use Rattle.clap.specs.Words.{Text, first_of, first_value, one_of, one_text, rows_of}
 use Rattle.clap.specs.declared.parser.matches.Found.{Found}
 use Rattle.clap.proofs.WalkLemmas.{first_value-rows, one_text-rows}
 use Rattle.type_graph.specs.declared.width.Order.{Order}
 use Rattle.type_graph.specs.declared.width.Order.TheVariants.{Big, Little}
-use Rattle.command_words.specs.Words.{TellsOption, TellsOrder}
-use Rattle.command_words.proofs.Requests.{order_of, same_some}
+use Rattle.command_words.specs.Ask.{CallAsk, call_ask_of}
+use Rattle.command_words.specs.declared.task.CallTask.{CallTask}
+use Rattle.command_words.specs.Words.{TellsCall, TellsOption, TellsOrder, word_of, word_of_flag}
+use Rattle.command_words.proofs.Requests.{different, order_of, same_some}
 
 module _ (found : Found) where
   -- the number is that of the option, or that of none
@@ -30,6 +32,12 @@ module _ (found : Found) where
       → (result ≡ Little) ↔ (first_value found (codes "order") ≡ Some (codes "little")) → result ≡ order
   order_is order result (inl is) little = order_of _ result order (first_value-rows found (codes "order") ∙ is) little
   order_is order result (inr left_out) little = no_little result little left_out.0 ∙ sym left_out.1
+
+  -- a flag that stands there, or doesn't
+  pub flag_is : (id : Text) (flag result : Bool) → one_of id (rows_of found) ≡ Some (word_of_flag flag)
+      → (one_text found id ≡ Some (codes "true") → result ≡ true) → (one_text found id ≡ Some (codes "false") → result ≡ false) → result ≡ flag
+  flag_is id true result is on off = on (one_text-rows found id ∙ is)
+  flag_is id false result is on off = off (one_text-rows found id ∙ is)
 
   pub found_is : (id a b : Text) → Some a ≡ first_value found id → first_of id (rows_of found) ≡ Some b → a ≡ b
   found_is id a b is there = same_some (first_value found id) a b (sym is) (first_value-rows found id ∙ there)

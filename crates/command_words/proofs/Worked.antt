@@ -1,19 +1,19 @@
 -- What a few lines of words ask for.
-use Rattle.std.proofs.Common.{inl, inr, ◌≡◌, ◌&&◌, refl, ap, true, pos, List, [], ◌∷◌, Some, None, codes, arith, Bor}
+use Rattle.std.proofs.Common.{inl, inr, ◌≡◌, ◌&&◌, refl, ap, true, false, pos, List, [], ◌∷◌, Some, None, codes, arith, Bor}
 use Rattle.std.specs.List.{list_any}
 use Rattle.std.specs.Str.{bytes_eq}
 use Rattle.clap.specs.Words.{Row, Text, reading_of, subcommand_of, takes}
 use Rattle.clap.specs.declared.builder.value_parser.ValueParser.{ValueParser}
-use Rattle.clap.specs.declared.builder.value_parser.ValueParser.TheVariants.{Bool, Names, Signed, String}
+use Rattle.clap.specs.declared.builder.value_parser.ValueParser.TheVariants.{Bool as AsBool, Names, Signed, String}
 use Rattle.clap.specs.declared.parser.matches.ValueSource.TheVariants.{CommandLine, DefaultValue}
 use Rattle.clap.proofs.OnLiterals.{clap_on_literals}
 use Rattle.type_graph.specs.declared.width.Order.TheVariants.{Big}
 use Rattle.table_commands.specs.declared.values.Way.TheVariants.{Encode}
-use Rattle.command_words.specs.Ask.{Ask, CallAsk, Explanation, Reference, Value}
+use Rattle.command_words.specs.Ask.{Ask, CallAsk, DumpAsk, Explanation, Reference, Value}
 use Rattle.command_words.specs.declared.task.Form.TheVariants.{Hex, Text as AsText}
 use Rattle.command_words.specs.Commands.{program_app}
 use Rattle.command_words.specs.Spoken.{spoken}
-use Rattle.command_words.specs.Words.{AsksFor, AsksForCall, IsReadAs, IsReadAsCall, Tells, TellsCall, texts}
+use Rattle.command_words.specs.Words.{AsksFor, AsksForCall, AsksForDump, IsReadAs, IsReadAsCall, IsReadAsDump, Tells, TellsCall, TellsDump, texts}
 
 abbrev words : List Text
 words = codes "idlc" ∷ codes "encode" ∷ codes "builtin" ∷ codes "S" ∷ codes "big" ∷ codes "12" ∷ codes "07" ∷ []
@@ -40,7 +40,7 @@ row id word = row_by String id word
 
 -- the flag `--explain` isn't there
 abbrev unasked : Row
-unasked = record (row_by Bool (codes "explain") (codes "false")) { source = Some DefaultValue }
+unasked = record (row_by AsBool (codes "explain") (codes "false")) { source = Some DefaultValue }
 
 abbrev found : List Row
 found = row (codes "T") (codes "builtin") ∷ row (codes "NAME") (codes "S") ∷ row (codes "ORDER") (codes "big") ∷ row (codes "POS") (codes "12")
@@ -360,3 +360,61 @@ call_words_ask orders takes_orders = rw takes_orders.is_of_names (call_read take
 
 pub long_call_words_ask : AsksForCall long_call_words long_call_ask
 long_call_words_ask orders takes_orders = rw takes_orders.is_of_names (long_call_read takes_orders.names)
+
+-- a capture of standard input
+abbrev dump_words : List Text
+dump_words = codes "idlc" ∷ codes "dump" ∷ codes "t" ∷ []
+
+abbrev dump_ask : DumpAsk
+dump_ask = record { table = codes "t"; file = None; back = None; follow = false }
+
+abbrev dump_found : List Row
+dump_found = row (codes "T") (codes "t") ∷ unasked ∷ record (row_by AsBool (codes "follow") (codes "false")) { source = Some DefaultValue } ∷ []
+
+-- one in two files that go on
+abbrev two_files_words : List Text
+two_files_words = codes "idlc" ∷ codes "dump" ∷ codes "t" ∷ codes "there" ∷ codes "back" ∷ codes "--follow" ∷ []
+
+abbrev two_files_ask : DumpAsk
+two_files_ask = record { table = codes "t"; file = Some (codes "there"); back = Some (codes "back"); follow = true }
+
+abbrev two_files_found : List Row
+two_files_found = row (codes "T") (codes "t") ∷ row (codes "FILE") (codes "there") ∷ row (codes "BACK") (codes "back")
+    ∷ row_by AsBool (codes "follow") (codes "true") ∷ unasked ∷ []
+
+module _ (orders : Bor (List (Bor Text))) where
+  dump_taken : takes (program_app (Names orders)) dump_words ≡ true
+  unfolding clap_on_literals
+  dump_taken = refl
+
+  is_dump : subcommand_of (program_app (Names orders)) dump_words ≡ Some (codes "dump", dump_found)
+  unfolding clap_on_literals
+  is_dump = refl
+
+  dump_tells : TellsDump dump_found dump_ask
+  unfolding clap_on_literals
+  dump_tells = record { table = refl; file = refl; back = refl; follow = refl }
+
+  two_files_taken : takes (program_app (Names orders)) two_files_words ≡ true
+  unfolding clap_on_literals
+  two_files_taken = refl
+
+  is_two_files : subcommand_of (program_app (Names orders)) two_files_words ≡ Some (codes "dump", two_files_found)
+  unfolding clap_on_literals
+  is_two_files = refl
+
+  two_files_tells : TellsDump two_files_found two_files_ask
+  unfolding clap_on_literals
+  two_files_tells = record { table = refl; file = refl; back = refl; follow = refl }
+
+  pub dump_read : IsReadAsDump (program_app (Names orders)) dump_words dump_ask
+  dump_read = record { taken = dump_taken; rows = dump_found; command = is_dump; tells = dump_tells }
+
+  pub two_files_read : IsReadAsDump (program_app (Names orders)) two_files_words two_files_ask
+  two_files_read = record { taken = two_files_taken; rows = two_files_found; command = is_two_files; tells = two_files_tells }
+
+pub dump_words_ask : AsksForDump dump_words dump_ask
+dump_words_ask orders takes_orders = rw takes_orders.is_of_names (dump_read takes_orders.names)
+
+pub two_files_words_ask : AsksForDump two_files_words two_files_ask
+two_files_words_ask orders takes_orders = rw takes_orders.is_of_names (two_files_read takes_orders.names)

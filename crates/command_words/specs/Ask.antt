@@ -1,5 +1,5 @@
 -- What a run may be asked for.
-use Rattle.std.specs.Prelude.{ℕ, List, Option, Some, None, codes, option_map}
+use Rattle.std.specs.Prelude.{ℕ, Bool, List, Option, Some, None, codes, option_map}
 use Rattle.type_graph.specs.declared.width.Order.{Order}
 use Rattle.table_commands.specs.Answer.{Ask as Marshalling, ask_of as marshalling_of}
 use Rattle.table_commands.specs.References.{ReferenceParts, reference_parts_of}
@@ -7,6 +7,7 @@ use Rattle.command_words.specs.declared.task.Form.{Form}
 use Rattle.command_words.specs.declared.task.ValueTask.{ValueTask}
 use Rattle.command_words.specs.declared.task.ReferenceTask.{ReferenceTask}
 use Rattle.command_words.specs.declared.task.CallTask.{CallTask}
+use Rattle.command_words.specs.declared.task.DumpTask.{DumpTask}
 use Rattle.command_words.specs.declared.task.Task.{Task}
 use Rattle.command_words.specs.declared.task.Task.TheVariants as tasks
 use Rattle.command_words.specs.Way.{name_of}
@@ -31,6 +32,13 @@ pub record CallAsk : Type 0 where
   pub order : Order
   pub wait : ℕ
   pub repeat : ℕ
+
+-- what a capture says
+pub record DumpAsk : Type 0 where
+  pub table : List ℕ
+  pub file : Option (List ℕ)
+  pub back : Option (List ℕ)
+  pub follow : Bool
 
 pub data Ask : Type 0 where
   Value : ValueAsk → Ask
@@ -59,6 +67,14 @@ call_ask_of asked = record {
   order = asked.order;
   wait = asked.wait;
   repeat = asked.repeat;
+}
+
+abbrev pub dump_ask_of : DumpTask → DumpAsk
+dump_ask_of asked = record {
+  table = asked.table.now;
+  file = option_map (λ text. text.now) asked.file;
+  back = option_map (λ text. text.now) asked.back;
+  follow = asked.follow;
 }
 
 -- what a task answers, but for tables

@@ -163,8 +163,22 @@ called_app = with_rule
 abbrev pub call_app : ValueParser → App
 call_app orders = with_rule (with_rule (with_rule called_app (order_rule orders)) wait_rule) repeat_rule
 
--- the commands, of which a run has to name one
-abbrev pub program_app : ValueParser → App
-program_app orders = with_subcommand
+-- the flag `--follow`
+abbrev pub follow_rule : Rule
+follow_rule = record (new_rule (codes "follow")) { long = Some (codes "follow"); action = Some SetTrue }
+
+-- the command that tells what a capture says, of one file or two
+abbrev pub dump_app : App
+dump_app = with_rule
+    (with_rule (with_rule (table_app (codes "dump")) (new_rule (codes "FILE"))) (new_rule (codes "BACK")))
+    follow_rule
+
+-- all commands of objects and their references
+abbrev pub objects_app : ValueParser → App
+objects_app orders = with_subcommand
     (with_subcommand (with_subcommand (served_app orders) explain_app.top) describe_app.top)
     (call_app orders).top
+
+-- the commands, of which a run has to name one
+abbrev pub program_app : ValueParser → App
+program_app orders = with_subcommand (objects_app orders) dump_app.top

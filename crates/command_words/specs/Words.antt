@@ -1,5 +1,5 @@
 -- What the words of a run ask for, as clap reads them by the rules of the commands.
-use Rattle.std.specs.Prelude.{◌≡◌, ◌≢◌, ◌<◌, ◌^◌, ◌⊎◌, ℕ, true, List, [], ◌∷◌, map, Option, Some, None, is_some, codes}
+use Rattle.std.specs.Prelude.{◌≡◌, ◌≢◌, ◌<◌, ◌^◌, ◌⊎◌, ℕ, Bool, true, false, List, [], ◌∷◌, map, Option, Some, None, is_some, codes}
 use Rattle.std.specs.Borrow.{Bor}
 use Rattle.std.specs.List.{All}
 use Rattle.std.specs.Str.Parse.{IsNumeral, digits_value, without_leading_plus}
@@ -14,7 +14,7 @@ use Rattle.table_commands.specs.declared.values.Way.{Way}
 use Rattle.table_commands.specs.declared.values.Way.TheVariants.{Encode, Decode}
 use Rattle.command_words.specs.declared.task.Form.{Form}
 use Rattle.command_words.specs.declared.task.Form.TheVariants as forms
-use Rattle.command_words.specs.Ask.{Ask, CallAsk, Description, Explanation, Reference, ReferenceAsk, Value, ValueAsk, command_of}
+use Rattle.command_words.specs.Ask.{Ask, CallAsk, DumpAsk, Description, Explanation, Reference, ReferenceAsk, Value, ValueAsk, command_of}
 use Rattle.command_words.specs.Commands.{program_app}
 use Rattle.command_words.specs.Spoken.{spoken}
 
@@ -126,6 +126,31 @@ AreReadAsCall words ask = (orders : ValueParser) → TakesOrders orders → IsRe
 -- it takes the words of a run as they are spoken
 abbrev pub AsksForCall : List Text → CallAsk → Type 0
 AsksForCall words ask = AreReadAsCall (spoken words) ask
+
+-- what is found for a flag that stands there, or doesn't
+abbrev pub word_of_flag : Bool → Text
+word_of_flag true = codes "true"
+word_of_flag false = codes "false"
+
+pub record TellsDump (rows : List Row) (ask : DumpAsk) : Type 0 where
+  pub table : first_of (codes "T") rows ≡ Some ask.table
+  pub file : first_of (codes "FILE") rows ≡ ask.file
+  pub back : first_of (codes "BACK") rows ≡ ask.back
+  pub follow : one_of (codes "follow") rows ≡ Some (word_of_flag ask.follow)
+
+pub record IsReadAsDump (app : App) (words : List Text) (ask : DumpAsk) : Type 0 where
+  pub taken : takes app words ≡ true
+  pub rows : List Row
+  pub command : subcommand_of app words ≡ Some (codes "dump", rows)
+  pub tells : TellsDump rows ask
+
+-- clap takes the words, and they ask what this capture says
+abbrev pub AreReadAsDump : List Text → DumpAsk → Type 0
+AreReadAsDump words ask = (orders : ValueParser) → TakesOrders orders → IsReadAsDump (program_app orders) words ask
+
+-- it takes the words of a run as they are spoken
+abbrev pub AsksForDump : List Text → DumpAsk → Type 0
+AsksForDump words ask = AreReadAsDump (spoken words) ask
 
 -- it takes the words of a run as they are spoken
 abbrev pub AsksFor : List Text → Ask → Type 0

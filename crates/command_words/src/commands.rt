@@ -3,7 +3,7 @@
 ghost use Rattle.std.specs.Prelude.{◌≡◌, pos, codes, IfOk, Some, None, false};
 ghost use Rattle.clap.specs.Words.{app_of, new_rule, rule_of};
 ghost use Rattle.clap.specs.declared.builder.value_parser.ValueParser.TheVariants.{Names, Signed, Unsigned};
-ghost use Rattle.command_words.specs.Commands.{at_once_rule, call_app, called_app, compile_app, decode_app, describe_app, encode_app, explain_app, explain_rule, first_app, idle_rule, option_rule, order_rule, output, place_app, program_app, reference_app, repeat_rule, serve_app, served_app, show_app, table_app, tables_app, text_flag as flag_of_text, text_rule, types_rule, upgrade_app, value_app, wait_rule, wanted};
+ghost use Rattle.command_words.specs.Commands.{at_once_rule, call_app, called_app, compile_app, decode_app, describe_app, dump_app, encode_app, explain_app, explain_rule, first_app, follow_rule, idle_rule, objects_app, option_rule, order_rule, output, place_app, program_app, reference_app, repeat_rule, serve_app, served_app, show_app, table_app, tables_app, text_flag as flag_of_text, text_rule, types_rule, upgrade_app, value_app, wait_rule, wanted};
 
 use clap::{Arg, ArgAction, Command, value_parser};
 use std::alloc::{AllocError, Global};
@@ -398,9 +398,39 @@ fn call_command<'a>(alloc: Global, orders: &'a [&'a str]) -> Result<Command<'a>,
         .arg(repeat_option(alloc))
 }
 
-/// The whole program.
-pub(crate) fn program<'a>(alloc: Global, orders: &'a [&'a str]) -> Result<Command<'a>, AllocError>
-    ensures { IfOk result (λ program. app_of program ≡ program_app (Names orders.entry)) }
+/// A word that names a capture, which may be left out.
+fn capture_word<'a>(alloc: Global, id: &'a str, help: &'a str) -> Arg<'a>
+    ensures rule { rule_of result ≡ new_rule id.entry.now }
+    ensures local { result.global ≡ false }
+{
+    Arg::new(alloc, id).help(help)
+}
+
+/// The flag for captures that go on.
+fn follow_flag<'a>(alloc: Global) -> Arg<'a>
+    ensures rule { rule_of result ≡ follow_rule }
+    ensures local { result.global ≡ false }
+{
+    Arg::new(alloc, "follow")
+        .long("follow")
+        .help("Waits for more at the end of FILE and of BACK, until it is killed")
+        .action(ArgAction::SetTrue)
+}
+
+fn dump_command<'a>(alloc: Global) -> Result<Command<'a>, AllocError>
+    ensures { IfOk result (λ command. app_of command ≡ dump_app) }
+{
+    let file = "A capture; -, or none: standard input";
+    let back = "The octets of the other direction, where FILE has those of one";
+    table_command(alloc, "dump")?
+        .arg(capture_word(alloc, "FILE", file))?
+        .arg(capture_word(alloc, "BACK", back))?
+        .arg(follow_flag(alloc))
+}
+
+/// The commands but the last one.
+fn commands_of_calls<'a>(alloc: Global, orders: &'a [&'a str]) -> Result<Command<'a>, AllocError>
+    ensures { IfOk result (λ program. app_of program ≡ objects_app (Names orders.entry)) }
 {
     let objects = commands_of_objects(alloc, orders)?;
     let explain = explain_command(alloc)?;
@@ -409,4 +439,13 @@ pub(crate) fn program<'a>(alloc: Global, orders: &'a [&'a str]) -> Result<Comman
     let describes = explains.subcommand(describe.about("Says what a reference says"))?;
     let call = call_command(alloc, orders)?;
     describes.subcommand(call.about("Calls an object, and prints what it replies"))
+}
+
+/// The whole program.
+pub(crate) fn program<'a>(alloc: Global, orders: &'a [&'a str]) -> Result<Command<'a>, AllocError>
+    ensures { IfOk result (λ program. app_of program ≡ program_app (Names orders.entry)) }
+{
+    let calls = commands_of_calls(alloc, orders)?;
+    let dump = dump_command(alloc)?;
+    calls.subcommand(dump.about("Tells what a capture of messages says"))
 }

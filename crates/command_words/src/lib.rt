@@ -12,4 +12,4 @@ mod task;
 pub use explained::explains;
 pub use line::parse;
 pub use mistake::Mistake;
-pub use task::{CallTask, Form, ReferenceTask, Said, Service, Task, ValueTask};
+pub use task::{CallTask, DumpTask, Form, ReferenceTask, Said, Service, Task, ValueTask};

@@ -2,14 +2,15 @@
 
 ghost use Rattle.std.specs.Prelude.{◌≡◌, ◌≢◌, codes, IsErr, IsErrAnd, IfErr, List, MatchResult, Ok, Err, Some, true};
 ghost use Rattle.clap.specs.Words.{kind_of, Row, subcommand_rows_of};
-ghost use Rattle.command_words.specs.Ask.{Ask, CallAsk, ask_of, call_ask_of};
+ghost use Rattle.command_words.specs.Ask.{Ask, CallAsk, DumpAsk, ask_of, call_ask_of, dump_ask_of};
 ghost use Rattle.command_words.specs.Mistake.{IsOfWords};
-ghost use Rattle.command_words.specs.Words.{AreReadAs, AreReadAsCall, AreRefused, AsksFor, AsksForCall, IsMistaken, TellsCall, texts};
+ghost use Rattle.command_words.specs.Words.{AreReadAs, AreReadAsCall, AreReadAsDump, AreRefused, AsksFor, AsksForCall, AsksForDump, IsMistaken, TellsCall, TellsDump, texts};
 ghost use Rattle.command_words.specs.declared.task.CallTask.{CallTask};
+ghost use Rattle.command_words.specs.declared.task.DumpTask.{DumpTask};
 ghost use Rattle.command_words.specs.declared.task.Task.{Task};
 
 use crate::commands::program;
-use crate::matches::{call_in, service_in, task_in};
+use crate::matches::{call_in, dump_in, service_in, task_in};
 use crate::mistake::Mistake;
 use crate::spoken::spoken;
 use crate::task::Said;
@@ -86,6 +87,21 @@ fn called_or_served<'a>(matches: &ArgMatches<'a>) -> Result<Said<'a>, Mistake>
     }
 }
 
+/// Words that ask for no task ask what a capture says, for a call, or to serve calls.
+fn dumped_or_called<'a>(matches: &ArgMatches<'a>) -> Result<Said<'a>, Mistake>
+    ensures unclear { (rows : List Row) → subcommand_rows_of matches.now ≡ Some (codes "encode", rows)
+        → result ≡ Err Mistake.HexOrText }
+    ensures called { (ask : CallAsk) (rows : List Row) → subcommand_rows_of matches.now ≡ Some (codes "call", rows)
+        → TellsCall rows ask → (task : CallTask) × (result ≡ Ok (Said.Call task)) × (call_ask_of task ≡ ask) }
+    ensures dumped { (ask : DumpAsk) (rows : List Row) → subcommand_rows_of matches.now ≡ Some (codes "dump", rows)
+        → TellsDump rows ask → (task : DumpTask) × (result ≡ Ok (Said.Dump task)) × (dump_ask_of task ≡ ask) }
+{
+    match dump_in(matches) {
+        Some(task) => Ok(Said::Dump(task)),
+        None => called_or_served(matches),
+    }
+}
+
 /// What words say, as `clap` reads them.
 fn read<'a>(alloc: Global, words: &'a [&'a str]) -> Result<Said<'a>, Mistake>
     ensures asked { (ask : Ask) → AreReadAs (texts words.now) ask → MatchResult result
@@ -94,13 +110,16 @@ fn read<'a>(alloc: Global, words: &'a [&'a str]) -> Result<Said<'a>, Mistake>
     ensures called { (ask : CallAsk) → AreReadAsCall (texts words.now) ask → MatchResult result
         (λ said. (task : CallTask) × (said ≡ Said.Call task) × (call_ask_of task ≡ ask))
         (λ fault. fault ≡ Mistake.NoMemory) }
+    ensures dumped { (ask : DumpAsk) → AreReadAsDump (texts words.now) ask → MatchResult result
+        (λ said. (task : DumpTask) × (said ≡ Said.Dump task) × (dump_ask_of task ≡ ask))
+        (λ fault. fault ≡ Mistake.NoMemory) }
     ensures mistaken { AreRefused (texts words.now) → IsErrAnd result IsOfWords }
 {
     match program(alloc, ORDERS.as_slice())?.try_get_matches_from(words) {
         Err(error) => help_or_fault(alloc, has_order(words), error),
         Ok(matches) => match task_in(&matches) {
             Some(task) => Ok(Said::Do(task)),
-            None => called_or_served(&matches),
+            None => dumped_or_called(&matches),
         },
     }
 }
@@ -115,6 +134,9 @@ pub fn parse<'a>(alloc: Global, words: &'a [&'a str]) -> Result<Said<'a>, Mistak
         (λ fault. fault ≡ Mistake.NoMemory) }
     ensures called { (ask : CallAsk) → AsksForCall (texts words.now) ask → MatchResult result
         (λ said. (task : CallTask) × (said ≡ Said.Call task) × (call_ask_of task ≡ ask))
+        (λ fault. fault ≡ Mistake.NoMemory) }
+    ensures dumped { (ask : DumpAsk) → AsksForDump (texts words.now) ask → MatchResult result
+        (λ said. (task : DumpTask) × (said ≡ Said.Dump task) × (dump_ask_of task ≡ ask))
         (λ fault. fault ≡ Mistake.NoMemory) }
     ensures mistaken { IsMistaken (texts words.now) → IsErrAnd result IsOfWords }
 {

@@ -4,10 +4,10 @@ ghost use Rattle.std.specs.Prelude.{◌≡◌, ◌<◌, ◌^◌, ◌↔◌, IsSo
 ghost use Rattle.std.specs.Str.Parse.{IsNumeral, digits_value, without_leading_plus};
 ghost use Rattle.clap.specs.Words.{rows_of, Row, subcommand_rows_of};
 ghost use Rattle.clap.specs.Matches.{found_of, first_value, one_text};
-ghost use Rattle.command_words.specs.Ask.{Ask, CallAsk, Description, Explanation, Reference, ReferenceAsk, Value, ValueAsk, ask_of, call_ask_of, command_of};
-ghost use Rattle.command_words.specs.Words.{IsUnclear, Tells, TellsCall, TellsDescription, TellsPlace, TellsReference, TellsRefusal, TellsValue};
+ghost use Rattle.command_words.specs.Ask.{Ask, CallAsk, DumpAsk, Description, Explanation, Reference, ReferenceAsk, Value, ValueAsk, ask_of, call_ask_of, command_of, dump_ask_of};
+ghost use Rattle.command_words.specs.Words.{IsUnclear, Tells, TellsCall, TellsDump, TellsDescription, TellsPlace, TellsReference, TellsRefusal, TellsValue};
 
-use crate::task::{CallTask, Form, ReferenceTask, Service, Task, ValueTask};
+use crate::task::{CallTask, DumpTask, Form, ReferenceTask, Service, Task, ValueTask};
 use clap::ArgMatches;
 use table_commands::{ReferenceRequest, ValueRequest, Way};
 use type_graph::Order;
@@ -168,6 +168,7 @@ pub(crate) fn task_in<'a>(matches: &ArgMatches<'a>) -> Option<Task<'a>>
     ensures unclear { (rows : List Row) → subcommand_rows_of matches.now ≡ Some (codes "encode", rows)
         → IsUnclear rows → result ≡ None }
     ensures called { (rows : List Row) → subcommand_rows_of matches.now ≡ Some (codes "call", rows) → result ≡ None }
+    ensures dumped { (rows : List Row) → subcommand_rows_of matches.now ≡ Some (codes "dump", rows) → result ≡ None }
 {
     let (name, words) = matches.subcommand()?;
     match name {
@@ -256,4 +257,30 @@ pub(crate) fn call_in<'a>(matches: &ArgMatches<'a>) -> Option<CallTask<'a>>
         return None;
     }
     call(words)
+}
+
+fn dump<'a>(words: &ArgMatches<'a>) -> Option<DumpTask<'a>>
+    ensures { (ask : DumpAsk) → TellsDump (rows_of (found_of words.now)) ask
+        → IsSomeAnd result (λ task. dump_ask_of task ≡ ask) }
+{
+    Some(DumpTask {
+        table: words.get_str("T")?,
+        file: words.get_str("FILE"),
+        back: words.get_str("BACK"),
+        follow: words.get_flag("follow"),
+    })
+}
+
+/// The capture of which the words ask what it says.
+pub(crate) fn dump_in<'a>(matches: &ArgMatches<'a>) -> Option<DumpTask<'a>>
+    ensures asked { (ask : DumpAsk) (rows : List Row) → subcommand_rows_of matches.now ≡ Some (codes "dump", rows)
+        → TellsDump rows ask → IsSomeAnd result (λ task. dump_ask_of task ≡ ask) }
+    ensures other { (rows : List Row) → subcommand_rows_of matches.now ≡ Some (codes "encode", rows) → result ≡ None }
+    ensures called { (rows : List Row) → subcommand_rows_of matches.now ≡ Some (codes "call", rows) → result ≡ None }
+{
+    let (name, words) = matches.subcommand()?;
+    if name != "dump" {
+        return None;
+    }
+    dump(words)
 }

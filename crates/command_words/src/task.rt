@@ -66,6 +66,19 @@ pub struct CallTask<'a> {
     pub repeat: u32,
 }
 
+/// A capture of the messages of a connection.
+#[derive(Clone, Copy)]
+pub struct DumpTask<'a> {
+    /// The name of the table.
+    pub table: &'a str,
+    /// The file that has it, standard input where none is named.
+    pub file: Option<&'a str>,
+    /// The file of the other direction, where the first has one alone.
+    pub back: Option<&'a str>,
+    /// Whether the files may go on behind their ends.
+    pub follow: bool,
+}
+
 /// What a run is asked to do.
 #[derive(Clone, Copy)]
 pub enum Task<'a> {
@@ -106,4 +119,5 @@ pub enum Said<'a> {
     Do(Task<'a>),
     Serve(Service<'a>),
     Call(CallTask<'a>),
+    Dump(DumpTask<'a>),
 }

@@ -71,14 +71,14 @@ returns-clause-mistaken c mistaken =
       app_is = c.in_ok-program.ensures
 
       by_cause : AreMistakes (fault_of (program_app (Names c.as_slice.result)) (texts c.args.words.now))
-          ⊎ AreUnclear (program_app (Names c.as_slice.result)) (texts c.args.words.now) → IsErrAnd c.called_or_served.result IsOfWords
+          ⊎ AreUnclear (program_app (Names c.as_slice.result)) (texts c.args.words.now) → IsErrAnd c.dumped_or_called.result IsOfWords
       by_cause (inl wrong) =
           let mistakes : AreMistakes (fault_of (app_of c.in_ok-program.field-0) (texts c.args.words.now)) =
           subst (λ app. AreMistakes (fault_of app (texts c.args.words.now))) (sym app_is) wrong in
           absurd (no_mistakes _ mistakes (c.in-Ok.ensures.kinds (ap is_simple_and_free app_is)))
       by_cause (inr are) =
           let command = (c.in-Ok.ensures.matches (ap is_simple app_is)).1 ∙ ap (λ app. subcommand_of app (texts c.args.words.now)) app_is ∙ are.command in
-          let told = c.called_or_served.ensures.unclear are.rows command in rw told tt
+          let told = c.dumped_or_called.ensures.unclear are.rows command in rw told tt
 
 pub returns-in-Err-clause-called : goal.returns-in-Err-clause-called
 returns-in-Err-clause-called c ask asks =
@@ -102,5 +102,30 @@ returns-clause-called c ask asks =
     let app_is : app_of c.in_ok-program.field-0 ≡ program_app (Names c.as_slice.result) = c.in_ok-program.ensures in
     let read = asks (Names c.as_slice.result) orders in
     let command = (c.in-Ok.ensures.matches (ap is_simple app_is)).1 ∙ ap (λ app. subcommand_of app (texts c.args.words.now)) app_is ∙ read.command in
-    let told = c.called_or_served.ensures.called ask read.rows command read.tells in
+    let told = c.dumped_or_called.ensures.called ask read.rows command read.tells in
+    rw told.1 (told.0, refl, told.2)
+
+pub returns-in-Err-clause-dumped : goal.returns-in-Err-clause-dumped
+returns-in-Err-clause-dumped c ask asks =
+    let orders : TakesOrders (Names c.as_slice.result) = record { names = c.as_slice.result; is_of_names = refl; are_orders = search rules } in
+    let app_is : app_of c.in_ok-program.field-0 ≡ program_app (Names c.as_slice.result) = c.in_ok-program.ensures in
+    let read = asks (Names c.as_slice.result) orders in
+    let none = c.help_or_fault.ensures.memory (c.in-Err.ensures.passes (ap (λ app. takes app (texts c.args.words.now)) app_is ∙ read.taken)) in
+    rw none refl
+
+pub returns-in-Some-clause-dumped : goal.returns-in-Some-clause-dumped
+returns-in-Some-clause-dumped c ask asks =
+    let orders : TakesOrders (Names c.as_slice.result) = record { names = c.as_slice.result; is_of_names = refl; are_orders = search rules } in
+    let app_is : app_of c.in_ok-program.field-0 ≡ program_app (Names c.as_slice.result) = c.in_ok-program.ensures in
+    let read = asks (Names c.as_slice.result) orders in
+    let command = (c.in-Ok.ensures.matches (ap is_simple app_is)).1 ∙ ap (λ app. subcommand_of app (texts c.args.words.now)) app_is ∙ read.command in
+    let none = c.in-Some.ensures.dumped read.rows command in absurd cc
+
+pub returns-clause-dumped : goal.returns-clause-dumped
+returns-clause-dumped c ask asks =
+    let orders : TakesOrders (Names c.as_slice.result) = record { names = c.as_slice.result; is_of_names = refl; are_orders = search rules } in
+    let app_is : app_of c.in_ok-program.field-0 ≡ program_app (Names c.as_slice.result) = c.in_ok-program.ensures in
+    let read = asks (Names c.as_slice.result) orders in
+    let command = (c.in-Ok.ensures.matches (ap is_simple app_is)).1 ∙ ap (λ app. subcommand_of app (texts c.args.words.now)) app_is ∙ read.command in
+    let told = c.dumped_or_called.ensures.dumped ask read.rows command read.tells in
     rw told.1 (told.0, refl, told.2)
