@@ -4,7 +4,9 @@ prints on both streams, its status, what the servers were asked, and that it end
 `./idlc` proves and builds what is missing of the program.
 """
 import importlib.util
+import os
 import pathlib
+import pty
 import re
 import shutil
 import socket
@@ -251,6 +253,24 @@ def repeated(calls):
         calls.check("the third fails", (wanted, 3), (got[:2], len(server.asked)))
 
 
+def progress(calls):
+    """A line a second on a terminal, where each call takes six tenths of one."""
+
+    def slow(server, stream):
+        for _ in range(4):
+            number = server.take(stream)
+            time.sleep(0.6)
+            stream.sendall(reply(SUM, 0, number))
+
+    ours, theirs = pty.openpty()
+    words = [str(word) for word in (PROGRAM, "call", calls.table, calls.ior(peer.Peer(slow).port), *ADD, "--repeat", "4")]
+    done = subprocess.run(words, stdout=subprocess.PIPE, stderr=theirs, text=True, timeout=60)
+    os.close(theirs)
+    told = re.findall(r"idlc: (\d+) calls, \d+ a second", os.read(ours, 65536).decode())
+    os.close(ours)
+    calls.check("on a terminal", (0, SAID, ["2", "4", "4"]), (done.returncode, done.stdout, told))
+
+
 def small(calls):
     """Hostile servers take no more than 4 MiB of memory, where `time` is there to tell."""
     timed = shutil.which("time")
@@ -339,6 +359,6 @@ def run(test):
     if built.status:
         return Count(0, [built.out + built.err])
     calls = Calls(test)
-    for part in (both_ends, results, exceptions, forwards, addresses, closing, hostile, waiting, asked, repeated, small, named):
+    for part in (both_ends, results, exceptions, forwards, addresses, closing, hostile, waiting, asked, repeated, progress, small, named):
         part(calls)
     return calls.count

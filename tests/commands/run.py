@@ -86,6 +86,16 @@ profile 0 IIOP 1.2 order big
   key as text K"""
 
 
+URL_DIGITS = "0000000000000001" "0000000000000001" "0000000000000020" "000102000000000a6c6f63616c686f7374000fa0000000014b00000000000000"
+LISTED_URL = f"""IOR:{URL_DIGITS}
+type 
+profile 0 IIOP 1.2 order big
+  host localhost
+  port 4000
+  key 4b
+  key as text K"""
+
+
 def listed_references(runs):
     """What references say, of a word, of a file, and of standard input, which is empty here."""
     runs.write("p.ior", REFERENCE.encode() + b"\r\n")
@@ -98,6 +108,10 @@ def listed_references(runs):
     runs.expect(1, "", "idlc: 94 BadIor", "reference", "@none.ior")
     runs.expect(1, "", "idlc: 94 BadIor", "reference", "-")
     runs.expect(3, "", "idlc: cannot read missing.ior", "reference", "@missing.ior")
+    runs.write("url.ior", b"\tcorbaloc:iiop:1.0@localhost:4000/K\n")
+    runs.expect(0, LISTED_URL, "", "reference", "corbaloc::localhost:4000/K")
+    runs.expect(0, LISTED_URL, "", "reference", "@url.ior")
+    runs.expect(1, "", "idlc: 130 BadCorbaloc", "reference", "corbaloc:rir:/K")
 
 
 def compiled_files(runs):

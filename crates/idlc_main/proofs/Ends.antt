@@ -3,22 +3,22 @@ use Rattle.std.proofs.Common.{◌≡◌, refl, sym, ◌∙◌, subst, ℕ, ◌�
 use Rattle.std.specs.Io.KnownBytes.{Appends}
 use Rattle.idlc_main.specs.declared.told.Answer.{Answer}
 use Rattle.idlc_main.specs.declared.fault.Fault.{Fault}
-use Rattle.idlc_main.specs.declared.fault.Fault.TheVariants.{Words, NotText, Refused, Unsaid, NotCompiled, Explained, NotReference, NotSpelled, NoOperation, NotCalled, NotServed, Socket, NoRefusal, Unwritten, NoMemory}
+use Rattle.idlc_main.specs.declared.fault.Fault.TheVariants.{Words, NotText, Refused, Unsaid, NotCompiled, Explained, NotSpelled, NotCapture, CutShort, NoOperation, NotCalled, NotServed, Socket, NoRefusal, Unwritten, NoMemory}
 use Rattle.command_words.specs.declared.mistake.Mistake.{Mistake}
 use Rattle.command_words.specs.declared.mistake.Mistake.TheVariants as mistakes
 use Rattle.idl_compiler.specs.declared.refusal.CompileRefusal.{CompileRefusal}
 use Rattle.idl_compiler.specs.declared.refusal.CompileRefusal.TheVariants as sources
 use Rattle.named_tables.specs.declared.fault.NamedFault.{NamedFault}
 use Rattle.named_tables.specs.declared.fault.NamedFault.TheVariants as tables
-use Rattle.idlc_main.specs.Fault.{IsOfNamed, fault_of_source, fault_of_words, status_of, status_of_reference, status_of_refusal}
+use Rattle.idlc_main.specs.Fault.{IsOfNamed, fault_of_source, fault_of_words, status_of, status_of_refusal, status_of_spelling}
 use Rattle.table_commands.specs.Named.{Passing}
 use Rattle.table_commands.specs.declared.refusal.Refusal.{Refusal}
 use Rattle.table_commands.specs.declared.refusal.Refusal.TheVariants as refusals
 use Rattle.command_words.specs.Ask.{Ask, Description, Explanation, Reference, Value}
 use Rattle.idlc_main.specs.Answer.{IsAnswer, IsEndOf, IsExplanationFault, IsFaultOf, IsStrange}
 use Rattle.idlc_main.specs.Descriptions.{IsDescriptionFault}
-use Rattle.object_references.specs.declared.fault.ReferenceFault.{ReferenceFault}
-use Rattle.object_references.specs.declared.fault.ReferenceFault.TheVariants as references
+use Rattle.spelled_references.specs.declared.fault.SpellingFault.{SpellingFault}
+use Rattle.spelled_references.specs.declared.fault.SpellingFault.TheVariants as spellings
 
 -- a refusal is of the input, or of files or memory
 statuses : (refusal : Refusal) → (status_of_refusal refusal ≡ 1) ⊎ (3 ≤ status_of_refusal refusal)
@@ -102,17 +102,19 @@ ends_meant Reads word old new (Refused refusal) status is told = absurd told
 ends_meant Reads word old new (Unsaid text) status is told = absurd told
 ends_meant Reads word old new (NotCompiled refusal) status is told = absurd told
 ends_meant Reads word old new (Explained refusal view) status is told = absurd told
-ends_meant Reads word old new (NotReference other) status is told = absurd told
 ends_meant Reads word old new (NotSpelled other) status is told = absurd told
+ends_meant Reads word old new (NotCapture other) status is told = absurd told
+ends_meant Reads word old new (CutShort other) status is told = absurd told
 ends_meant Reads word old new (NoOperation other) status is told = absurd told
 ends_meant Reads word old new (NotCalled other) status is told = absurd told
 ends_meant Reads word old new (NotServed other) status is told = absurd told
 ends_meant Reads word old new Socket status is told = absurd told
 ends_meant Reads word old new Unwritten status is told = absurd told
 
-reference_statuses : (fault : ReferenceFault) → (status_of_reference fault ≡ 1) ⊎ (3 ≤ status_of_reference fault)
-reference_statuses references.BadIor = inl refl
-reference_statuses references.NoMemory = inr (omega arith)
+spelling_statuses : (fault : SpellingFault) → (status_of_spelling fault ≡ 1) ⊎ (3 ≤ status_of_spelling fault)
+spelling_statuses spellings.BadIor = inl refl
+spelling_statuses spellings.BadCorbaloc = inl refl
+spelling_statuses spellings.NoMemory = inr (omega arith)
 
 -- there is no reference, or memory was wanted
 ends_described : (Reads : Passing) (word : List ℕ) (old new : Option (List ℕ)) (fault : Fault) (status : ℕ) → status ≡ status_of fault
@@ -120,15 +122,16 @@ ends_described : (Reads : Passing) (word : List ℕ) (old new : Option (List ℕ
 ends_described Reads word old new (Refused refusal) status is told =
     ends_named Reads (Description word) old new (Refused refusal) status is (statuses refusal) told
 ends_described Reads word old new (Unsaid text) status is told = absurd told
-ends_described Reads word old new (NotReference fault) status is told =
-    ends_named Reads (Description word) old new (NotReference fault) status is (reference_statuses fault) told
+ends_described Reads word old new (NotSpelled fault) status is told =
+    ends_named Reads (Description word) old new (NotSpelled fault) status is (spelling_statuses fault) told
 ends_described Reads word old new NoMemory status is told = ends_else Reads (Description word) old new status (omega arith)
 ends_described Reads word old new (NoRefusal other) status is told = absurd told
 ends_described Reads word old new (Words mistake) status is told = absurd told
 ends_described Reads word old new NotText status is told = absurd told
 ends_described Reads word old new (NotCompiled refusal) status is told = absurd told
 ends_described Reads word old new (Explained refusal view) status is told = absurd told
-ends_described Reads word old new (NotSpelled other) status is told = absurd told
+ends_described Reads word old new (NotCapture other) status is told = absurd told
+ends_described Reads word old new (CutShort other) status is told = absurd told
 ends_described Reads word old new (NoOperation other) status is told = absurd told
 ends_described Reads word old new (NotCalled other) status is told = absurd told
 ends_described Reads word old new (NotServed other) status is told = absurd told

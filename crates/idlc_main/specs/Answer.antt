@@ -31,12 +31,12 @@ abbrev pub Explains : Option (List ℕ) → List ℕ → Type 0
 Explains (Some word) lines = AreExplained word lines
 Explains None lines = lines ≡ lines_below 256
 
--- the line that answers; of a reference the lines are as its listing prints them
+-- the line that answers; of a reference the lines behind the one in digits are as its listing prints them
 abbrev pub IsLine : Passing → Ask → List ℕ → Type 0
 IsLine Reads (Value ask) line = IsValueLine Reads ask line
 IsLine Reads (Reference ask) line = IsReferenceOf Reads ask line
 IsLine Reads (Explanation word) lines = Explains word lines
-IsLine Reads (Description word) lines = IsDescribed Reads word
+IsLine Reads (Description word) lines = IsDescribed Reads word lines
 
 -- the fault that answers for a value or a reference, by what the table of a name tells
 pub record IsNamedFault (Tells : NamedFault → Type 0) (fault : Fault) : Type 0 where

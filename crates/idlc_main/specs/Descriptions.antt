@@ -1,16 +1,16 @@
 -- What is told of the reference that a word stands for.
 use Rattle.std.specs.Prelude.{◌⊎◌, ℕ, List}
 use Rattle.std.specs.Str.{IsTrimAscii}
-use Rattle.object_references.specs.References.{Reference}
-use Rattle.object_references.specs.Texts.{Spells}
-use Rattle.object_references.specs.declared.fault.ReferenceFault.{ReferenceFault}
-use Rattle.object_references.specs.declared.fault.ReferenceFault.TheVariants.{BadIor, NoMemory as WantsMemory}
+use Rattle.spelled_references.specs.Described.{IsDescription}
+use Rattle.spelled_references.specs.Refusal.{SpellsNone}
+use Rattle.spelled_references.specs.declared.fault.SpellingFault.{SpellingFault}
+use Rattle.spelled_references.specs.declared.fault.SpellingFault.TheVariants.{BadIor, BadCorbaloc, NoMemory as WantsMemory}
 use Rattle.table_commands.specs.Named.{Passing}
 use Rattle.named_tables.specs.Values.{HasNoInput, IsTextFor}
 use Rattle.named_tables.specs.declared.fault.NamedFault.TheVariants as named
 use Rattle.value_text.specs.declared.fault.Refusal.{Refusal as TextFault}
 use Rattle.idlc_main.specs.declared.fault.Fault.{Fault}
-use Rattle.idlc_main.specs.declared.fault.Fault.TheVariants.{Refused, NotReference, NoMemory}
+use Rattle.idlc_main.specs.declared.fault.Fault.TheVariants.{Refused, NotSpelled, NoMemory}
 
 -- the text that a word stands for, without the blanks around it
 pub record IsBareText (Reads : Passing) (word text : List ℕ) : Type 0 where
@@ -18,30 +18,30 @@ pub record IsBareText (Reads : Passing) (word text : List ℕ) : Type 0 where
   pub stands : IsTextFor Reads word whole
   pub bare : IsTrimAscii whole text
 
--- it spells a reference
-pub record IsDescribed (Reads : Passing) (word : List ℕ) : Type 0 where
+-- lines of the reference that it spells
+pub record IsDescribed (Reads : Passing) (word lines : List ℕ) : Type 0 where
   pub text : List ℕ
   pub is : IsBareText Reads word text
-  pub reference : Reference
-  pub spells : Spells text reference
+  pub described : IsDescription text lines
 
 -- it spells none
 pub record IsUnspelled (Reads : Passing) (word : List ℕ) : Type 0 where
   pub text : List ℕ
   pub is : IsBareText Reads word text
-  pub none : (reference : Reference) → Spells text reference → ⊥
+  pub none : SpellsNone text
 
 -- its file is none of text
 abbrev pub IsNoText : Passing → List ℕ → Type 0
 IsNoText Reads word = (fault : TextFault) × HasNoInput Reads word (named.Unsaid fault)
 
-abbrev pub IsNoReference : Passing → List ℕ → ReferenceFault → Type 0
+abbrev pub IsNoReference : Passing → List ℕ → SpellingFault → Type 0
 IsNoReference Reads word BadIor = IsUnspelled Reads word ⊎ IsNoText Reads word
+IsNoReference Reads word BadCorbaloc = IsUnspelled Reads word
 IsNoReference Reads word WantsMemory = Unit {0}
 
 -- the word's file can't be read, or what the word stands for is no reference
 abbrev pub IsDescriptionFault : Passing → List ℕ → Fault → Type 0
 IsDescriptionFault Reads word (Refused refusal) = HasNoInput Reads word (named.Refused refusal)
-IsDescriptionFault Reads word (NotReference fault) = IsNoReference Reads word fault
+IsDescriptionFault Reads word (NotSpelled fault) = IsNoReference Reads word fault
 IsDescriptionFault Reads word NoMemory = Unit {0}
 IsDescriptionFault Reads word fault = ⊥

@@ -6,8 +6,6 @@ use Rattle.idl_compiler.specs.declared.refusal.CompileRefusal.{CompileRefusal}
 use Rattle.idl_compiler.specs.declared.refusal.CompileRefusal.TheVariants as compile_refusals
 use Rattle.table_commands.specs.declared.refusal.Refusal.{Refusal}
 use Rattle.table_commands.specs.declared.refusal.Refusal.TheVariants as refusals
-use Rattle.object_references.specs.declared.fault.ReferenceFault.{ReferenceFault}
-use Rattle.object_references.specs.declared.fault.ReferenceFault.TheVariants as references
 use Rattle.call_commands.specs.Causes.{cause_of}
 use Rattle.call_commands.specs.declared.fault.CallRefusal.{CallRefusal}
 use Rattle.call_commands.specs.declared.fault.Cause.{Cause}
@@ -19,17 +17,13 @@ use Rattle.socket_server.specs.declared.fault.ServeFault.TheVariants as serve_fa
 use Rattle.named_tables.specs.declared.fault.NamedFault.{NamedFault}
 use Rattle.named_tables.specs.declared.fault.NamedFault.TheVariants as named
 use Rattle.idlc_main.specs.declared.fault.Fault.{Fault}
-use Rattle.idlc_main.specs.declared.fault.Fault.TheVariants.{Words, NotText, Refused, Unsaid, NotCompiled, Explained, NotReference, NotSpelled, NoOperation, NotCalled, NotServed, Socket, NoRefusal, Unwritten, NoMemory}
+use Rattle.idlc_main.specs.declared.fault.Fault.TheVariants.{Words, NotText, Refused, Unsaid, NotCompiled, Explained, NotSpelled, NotCapture, CutShort, NoOperation, NotCalled, NotServed, Socket, NoRefusal, Unwritten, NoMemory}
 
 abbrev pub status_of_refusal : Refusal → ℕ
 status_of_refusal (refusals.Unread file) = 3
 status_of_refusal (refusals.Unwritten file) = 3
 status_of_refusal refusals.NoMemory = 4
 status_of_refusal refusal = 1
-
-abbrev pub status_of_reference : ReferenceFault → ℕ
-status_of_reference references.BadIor = 1
-status_of_reference references.NoMemory = 4
 
 abbrev pub status_of_spelling : SpellingFault → ℕ
 status_of_spelling spellings.NoMemory = 4
@@ -43,8 +37,9 @@ status_of (Refused refusal) = status_of_refusal refusal
 status_of (Unsaid fault) = 1
 status_of (NotCompiled refusal) = 1
 status_of (Explained refusal view) = 1
-status_of (NotReference fault) = status_of_reference fault
 status_of (NotSpelled fault) = status_of_spelling fault
+status_of (NotCapture file) = 1
+status_of (CutShort fault) = 3
 status_of (NoOperation word) = 1
 status_of (NotCalled refusal) = 1
 status_of (NotServed fault) = 1

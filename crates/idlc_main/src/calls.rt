@@ -81,6 +81,8 @@ struct Calling<'t, 'a> {
     reference: &'t str,
     value: &'t str,
     task: &'t CallTask<'a>,
+    /// Who hears how far it is.
+    listener: Listener,
 }
 
 /// One call. The reference is read for it, since the call takes it.
@@ -136,8 +138,15 @@ fn conclusion(alloc: Global, ending: Ending, times: Option<Times>) -> Result<Con
     Ok(Concluded { text, end, times })
 }
 
+/// Tells a person once a second how far the calls are.
+fn tell_progress<R: Clock + Eprint>(rt: &R, times: &mut Times, listener: Listener) {
+    if listener.is_person() && times.is_due(rt) {
+        let _ = eprintln!(rt; "idlc: {times}");
+    }
+}
+
 /// Makes one call after the other, up to the first that raises an exception.
-fn repeated<'a, R: Net + Clock + AllocGlobal>(
+fn repeated<'a, R: Net + Clock + Eprint + AllocGlobal>(
     rt: &R,
     calling: &Calling<'_, 'a>,
 ) -> Result<Concluded, Fault<'a>> {
@@ -149,6 +158,7 @@ fn repeated<'a, R: Net + Clock + AllocGlobal>(
         times.begin(rt);
         ending = once(rt, &mut dialler, calling, count + 1)?;
         times.end(rt);
+        tell_progress(rt, &mut times, calling.listener);
         if !is_done(&ending) {
             break;
         }
@@ -159,10 +169,11 @@ fn repeated<'a, R: Net + Clock + AllocGlobal>(
 }
 
 /// Calls an object with the table that was loaded.
-fn called_by<'a, R: WholeFiles + Net + Clock + AllocGlobal>(
+fn called_by<'a, R: WholeFiles + Net + Clock + Eprint + AllocGlobal>(
     rt: &R,
     loaded: &Loaded,
     task: &CallTask<'a>,
+    listener: Listener,
 ) -> Result<Concluded, Fault<'a>> {
     let reference = text_of(rt, task.reference)?;
     let value = text_of(rt, task.value.unwrap_or(NO_ARGUMENTS))?;
@@ -178,18 +189,19 @@ fn called_by<'a, R: WholeFiles + Net + Clock + AllocGlobal>(
         reference: reference.as_str().trim_ascii(),
         value: value.as_str(),
         task,
+        listener,
     };
     repeated(rt, &calling)
 }
 
 /// Calls an object by the table of a name, as often as is asked for.
-pub fn called<'a, R: WholeFiles + Net + Clock + AllocGlobal>(
+pub fn called<'a, R: WholeFiles + Net + Clock + Eprint + AllocGlobal>(
     rt: &R,
     task: &CallTask<'a>,
     listener: Listener,
 ) -> Result<Concluded, Fault<'a>> {
     match load(rt, task.table) {
-        Ok(loaded) => called_by(rt, &loaded, task),
+        Ok(loaded) => called_by(rt, &loaded, task, listener),
         Err(fault) => Err(named_fault(rt, task.table, fault, listener)),
     }
 }

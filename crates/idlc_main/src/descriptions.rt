@@ -1,6 +1,7 @@
 //! What references say.
 
-ghost use Rattle.std.specs.Prelude.{◌≡◌, IfErr, OnOk};
+ghost use Rattle.std.specs.Prelude.{IfErr, IfOk};
+ghost use Rattle.std.specs.String.{string_bytes};
 ghost use Rattle.command_words.specs.Ask.{Description};
 ghost use Rattle.named_tables.specs.Values.{IsTextFor};
 ghost use Rattle.idlc_main.specs.Answer.{IsAnswer};
@@ -11,8 +12,7 @@ use crate::fault::Fault;
 use crate::told::Answer;
 use giop_types::GiopTypes;
 use named_tables::{NamedFault, source_in, text_in};
-use object_references::ReferenceFault;
-use reference_listing::reference_lines;
+use spelled_references::{SpellingFault, described_reference};
 use table_commands::WholeFiles;
 
 /// The lines of the reference that a text spells, which a word stands for.
@@ -22,13 +22,14 @@ fn described_text<'a, R: WholeFiles + AllocGlobal>(
     text: &str,
 ) -> Result<Answer, Fault<'a>>
     requires { IsTextFor (R.reads rt.now) word.now text.now }
-    ensures described { OnOk result (IsDescribed (R.reads rt.now) word.now) }
+    ensures described { IfOk result (λ answer.
+        IsDescribed (R.reads rt.now) word.now (string_bytes answer.text)) }
     ensures refused { IfErr result (IsDescriptionFault (R.reads rt.now) word.now) }
 {
     let types = GiopTypes::new(rt.alloc())?;
-    match reference_lines(&types, rt.alloc(), text.trim_ascii()) {
+    match described_reference(&types, rt.alloc(), text.trim_ascii()) {
         Ok(lines) => Ok(Answer::plain(lines)),
-        Err(fault) => Err(Fault::NotReference(fault)),
+        Err(fault) => Err(Fault::NotSpelled(fault)),
     }
 }
 
@@ -46,7 +47,7 @@ pub fn described<'a, R: WholeFiles + AllocGlobal>(
     match text_in(rt, file) {
         Ok(text) => described_text(rt, word, text.as_str()),
         Err(NamedFault::Refused(refusal)) => Err(Fault::Refused(refusal)),
-        Err(NamedFault::Unsaid(_)) => Err(Fault::NotReference(ReferenceFault::BadIor)),
+        Err(NamedFault::Unsaid(_)) => Err(Fault::NotSpelled(SpellingFault::BadIor)),
         Err(NamedFault::NotCompiled(_)) => unreachable!(),
     }
 }

@@ -1,14 +1,14 @@
 //! Why a run of the program didn't do what was asked for.
 
 ghost use Rattle.std.specs.Prelude.{◌≡◌, ◌≤◌};
-ghost use Rattle.idlc_main.specs.Fault.{fault_of_named, fault_of_service, fault_of_source, fault_of_words, fault_of_call, status_of_reference, status_of_refusal, status_of_spelling};
+ghost use Rattle.idlc_main.specs.Fault.{fault_of_named, fault_of_service, fault_of_source, fault_of_words, fault_of_call, status_of_refusal, status_of_spelling};
 ghost use Rattle.idlc_main.specs.declared.fault.Fault.TheVariants.{NoMemory, NotSpelled, Refused};
 
 use call_commands::{CallRefusal, Cause};
 use command_words::Mistake;
 use idl_compiler::CompileRefusal;
+use message_dumps::DumpFault;
 use named_tables::NamedFault;
-use object_references::ReferenceFault;
 use socket_server::ServeFault;
 use spelled_references::SpellingFault;
 use std::alloc::AllocError;
@@ -72,12 +72,17 @@ pub enum Fault<'a> {
         refusal: CompileRefusal,
         view: String,
     },
-    /// A text spells no reference.
-    #[error(transparent)]
-    NotReference(ReferenceFault),
     /// A text spells no reference, in digits or as a URL.
     #[error(transparent)]
     NotSpelled(SpellingFault),
+    /// A file is no capture of messages.
+    #[error("142 BadCapture {}", Plain(.file))]
+    NotCapture {
+        file: &'a str,
+    },
+    /// Messages of a capture were told, but not to its end.
+    #[error(transparent)]
+    CutShort(DumpFault),
     /// The object that is to be called has no operation of the name.
     #[error("no operation {}", Plain(.word))]
     NoOperation {
@@ -117,16 +122,6 @@ fn refused_status(refusal: &Refusal<'_>) -> u8
     }
 }
 
-fn reference_status(fault: &ReferenceFault) -> u8
-    ensures status { result ≡ status_of_reference fault.now }
-    ensures range { (1 ≤ result) × (result ≤ 4) }
-{
-    match fault {
-        ReferenceFault::BadIor => 1,
-        ReferenceFault::NoMemory => 4,
-    }
-}
-
 fn spelling_status(fault: &SpellingFault) -> u8
     ensures status { result ≡ status_of_spelling fault.now }
     ensures range { (1 ≤ result) × (result ≤ 4) }
@@ -148,16 +143,16 @@ impl<'a> Fault<'a> {
     {
         match self {
             Fault::Refused(refusal) => refused_status(refusal),
-            Fault::NotReference(fault) => reference_status(fault),
             Fault::NotSpelled(fault) => spelling_status(fault),
             Fault::Unsaid(_)
             | Fault::NotCompiled(_)
             | Fault::Explained { .. }
+            | Fault::NotCapture { .. }
             | Fault::NoOperation { .. }
             | Fault::NotCalled(_)
             | Fault::NotServed(_) => 1,
             Fault::Words(_) | Fault::NotText | Fault::NoRefusal { .. } => 2,
-            Fault::Socket | Fault::Unwritten => 3,
+            Fault::Socket | Fault::Unwritten | Fault::CutShort(_) => 3,
             Fault::NoMemory => 4,
         }
     }

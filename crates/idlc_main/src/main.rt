@@ -15,6 +15,7 @@ ghost use Rattle.idlc_main.specs.Called.{status_of_end};
 
 mod calls;
 mod descriptions;
+mod dumps;
 mod fault;
 mod known;
 mod listener;
@@ -24,6 +25,7 @@ mod times;
 mod told;
 
 use crate::calls::{CallEnd, Concluded, called};
+use crate::dumps::dumped;
 use crate::fault::Fault;
 use crate::known::known;
 use crate::listener::Listener;
@@ -31,7 +33,8 @@ use crate::service::served;
 use crate::tasks::{done, table_in};
 use crate::told::Answer;
 use call_commands::ExceptionLine;
-use command_words::{CallTask, Mistake, Said, explains, parse};
+use command_words::{CallTask, DumpTask, Mistake, Said, explains, parse};
+use dump_commands::CaptureFiles;
 use fault_views::Look;
 use socket_server::Totals;
 use std::alloc::{AllocError, Global};
@@ -138,7 +141,7 @@ fn conclude<O: io::Write, E: io::Write>(out: &mut O, err: &mut E, concluded: &Co
 }
 
 /// Calls an object, tells what came of it, and gives the status.
-fn call<R: WholeFiles + Net + Clock + AllocGlobal, O: io::Write, E: io::Write>(
+fn call<R: WholeFiles + Net + Clock + Eprint + AllocGlobal, O: io::Write, E: io::Write>(
     rt: &R,
     task: &CallTask<'_>,
     out: &mut O,
@@ -151,6 +154,24 @@ fn call<R: WholeFiles + Net + Clock + AllocGlobal, O: io::Write, E: io::Write>(
 {
     match called(rt, task, listener) {
         Ok(concluded) => conclude(out, err, &concluded),
+        Err(fault) => failed(rt, err, &fault, Some(task.table), listener),
+    }
+}
+
+/// Tells what a capture says, and gives the status.
+fn tell_capture<R: WholeFiles + CaptureFiles + Clock + AllocGlobal, O: io::Write, E: io::Write>(
+    rt: &R,
+    task: &DumpTask<'_>,
+    out: &mut O,
+    err: &mut E,
+    listener: Listener,
+) -> u8
+    ensures range { result ≤ 4 }
+    ensures silent { result ≢ 0 → result < 3 → out.new ≡ out.old }
+    ensures memory { result ≡ 4 → MayServe (O.contents out.old) (O.contents out.new) }
+{
+    match dumped(rt, task, out, listener) {
+        Ok(()) => DONE,
         Err(fault) => failed(rt, err, &fault, Some(task.table), listener),
     }
 }
@@ -178,13 +199,11 @@ fn said<'a>(alloc: Global, words: &'a [&'a str]) -> Result<Said<'a>, Mistake>
 /// exception. Standard output has the answer or nothing, where calls are served the line that says so;
 /// a fault is told on standard error, with all that is known of it for a listener who wants that, and
 /// to a person too how much was served.
-fn run_for<R: WholeFiles + Net + Clock + Eprint + AllocGlobal, O: io::Write, E: io::Write>(
-    rt: &R,
-    words: &[&str],
-    out: &mut O,
-    err: &mut E,
-    listener: Listener,
-) -> u8
+fn run_for<
+    R: WholeFiles + CaptureFiles + Net + Clock + Eprint + AllocGlobal,
+    O: io::Write,
+    E: io::Write,
+>(rt: &R, words: &[&str], out: &mut O, err: &mut E, listener: Listener) -> u8
     ensures range { result ≤ 6 }
     ensures asked { (ask : Ask) → AsksFor (texts words.now) ask
         → IsEndOf (R.reads rt.now) ask result (O.contents out.old) (O.contents out.new) }
@@ -207,6 +226,7 @@ fn run_for<R: WholeFiles + Net + Clock + Eprint + AllocGlobal, O: io::Write, E: 
             Err(fault) => failed(rt, err, &fault, Some(service.table), listener),
         },
         Ok(Said::Call(task)) => call(rt, &task, out, err, listener),
+        Ok(Said::Dump(task)) => tell_capture(rt, &task, out, err, listener),
         Err(mistake) => failed(rt, err, &Fault::from(mistake), None, listener),
     }
 }
@@ -220,13 +240,11 @@ fn listener_by<'a>(alloc: Global, words: &'a [&'a str], listener: Listener) -> L
 }
 
 /// Runs the program as `run` does, for a listener.
-fn run_heard<R: WholeFiles + Net + Clock + Eprint + AllocGlobal, O: io::Write, E: io::Write>(
-    rt: &R,
-    words: &[&str],
-    out: &mut O,
-    err: &mut E,
-    listener: Listener,
-) -> u8
+fn run_heard<
+    R: WholeFiles + CaptureFiles + Net + Clock + Eprint + AllocGlobal,
+    O: io::Write,
+    E: io::Write,
+>(rt: &R, words: &[&str], out: &mut O, err: &mut E, listener: Listener) -> u8
     ensures range { result ≤ 6 }
     ensures asked { (ask : Ask) → AsksFor (texts words.now) ask
         → IsEndOf (R.reads rt.now) ask result (O.contents out.old) (O.contents out.new) }
@@ -244,12 +262,11 @@ fn run_heard<R: WholeFiles + Net + Clock + Eprint + AllocGlobal, O: io::Write, E
 /// want of memory; where an object is called, 5 for an exception of its operation and 6 for a system
 /// exception. Standard output has the answer or nothing, where calls are served the line that says so;
 /// a fault is told on standard error.
-pub fn run<R: WholeFiles + Net + Clock + Eprint + AllocGlobal, O: io::Write, E: io::Write>(
-    rt: &R,
-    words: &[&str],
-    out: &mut O,
-    err: &mut E,
-) -> u8
+pub fn run<
+    R: WholeFiles + CaptureFiles + Net + Clock + Eprint + AllocGlobal,
+    O: io::Write,
+    E: io::Write,
+>(rt: &R, words: &[&str], out: &mut O, err: &mut E) -> u8
     ensures range { result ≤ 6 }
     ensures asked { (ask : Ask) → AsksFor (texts words.now) ask
         → IsEndOf (R.reads rt.now) ask result (O.contents out.old) (O.contents out.new) }

@@ -10,6 +10,8 @@ pub struct Times {
     count: u32,
     begun: Option<Instant>,
     since: Option<Instant>,
+    /// When this was told last.
+    told: Option<Instant>,
     all: Duration,
     least: Duration,
     most: Duration,
@@ -29,6 +31,7 @@ impl Times {
             count: 0,
             begun,
             since: begun,
+            told: begun,
             all: Duration::ZERO,
             least: Duration::MAX,
             most: Duration::ZERO,
@@ -47,6 +50,15 @@ impl Times {
         self.all = passed(clock, self.begun);
         self.least = self.least.min(one);
         self.most = self.most.max(one);
+    }
+
+    /// Whether a second has passed since this was told, at first since the begin. Then it counts as told.
+    pub fn is_due<R: Clock>(&mut self, clock: &R) -> bool {
+        if passed(clock, self.told) < Duration::from_secs(1) {
+            return false;
+        }
+        self.told = Instant::now(clock).ok();
+        true
     }
 }
 

@@ -41,3 +41,8 @@ pub returns-in-Ok-Call-clause-asked : goal.returns-in-Ok-Call-clause-asked
 returns-in-Ok-Call-clause-asked g c ask asks =
     let found = c.in-Ok-Call.ensures.asked ask asks in
     let same = found.1 in absurd cc
+
+pub returns-in-Ok-Dump-clause-asked : goal.returns-in-Ok-Dump-clause-asked
+returns-in-Ok-Dump-clause-asked g c ask asks =
+    let found = c.in-Ok-Dump.ensures.asked ask asks in
+    let same = found.1 in absurd cc

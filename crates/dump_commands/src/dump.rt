@@ -1,0 +1,100 @@
+//! Captures told.
+
+ghost use Rattle.std.specs.Prelude.{◌≡◌, IfErr};
+ghost use Rattle.dump_commands.specs.Faults.{IsUntold};
+
+use crate::capture::{Capture, CaptureNames, open_capture};
+use crate::fault::CaptureFault;
+use crate::files::CaptureFiles;
+use captures::CaptureForm;
+use giop::Giop;
+use giop_types::GiopTypes;
+use message_dumps::{DumpFault, Patience, dump_octets, dump_text};
+use message_words::{TableWords, Types};
+use part_names::PartNames;
+use position_checker::Accepted;
+use std::io::{Read, Write};
+use std::thread;
+use std::time::{Clock, Duration};
+
+/// Looks again ten times a second, where a capture may go on.
+#[derive(Drop)]
+struct Looks<'r, R> {
+    clock: &'r R,
+    follows: bool,
+}
+
+impl<R: Clock> Patience for Looks<'_, R> {
+    fn waits(&mut self) -> bool {
+        if self.follows {
+            thread::sleep(self.clock, Duration::from_millis(100));
+        }
+        self.follows
+    }
+}
+
+/// Tells a capture by types.
+fn told_by<R: Clock + AllocGlobal, T: Read + Drop, O: Write>(
+    rt: &R,
+    types: Types<'_>,
+    capture: Capture<T>,
+    out: &mut O,
+) -> Result<(), DumpFault> {
+    let Capture {
+        form,
+        first,
+        second,
+        follows,
+    } = capture;
+    let mut looks = Looks { clock: rt, follows };
+    let mut words = TableWords::new(rt.alloc(), types);
+    match form {
+        CaptureForm::Octets => dump_octets(&mut words, rt.alloc(), first, second, &mut looks, out),
+        CaptureForm::Text => dump_text(&mut words, rt.alloc(), first, &mut looks, out),
+    }
+}
+
+/// Tells a capture by a table.
+fn told<R: Clock + AllocGlobal, T: Read + Drop, O: Write>(
+    rt: &R,
+    table: &Accepted,
+    names: &PartNames,
+    capture: Capture<T>,
+    out: &mut O,
+) -> Result<(), DumpFault> {
+    let giop = Giop::new(rt.alloc())?;
+    let own = GiopTypes::new(rt.alloc())?;
+    let nameless = PartNames::new(rt.alloc(), Vec::new(rt.alloc()));
+    let types = Types {
+        giop: &giop,
+        types: &own,
+        table,
+        names,
+        nameless: &nameless,
+    };
+    told_by(rt, types, capture, out)
+}
+
+/// Tells the messages of a capture, each as soon as it was read, by the types of a table.
+///
+/// # Errors
+/// A file can't be read, or is no capture: then nothing is told. What cuts a dump short: then messages were
+/// told up to there. Want of memory.
+pub fn dump_capture<'a, R: CaptureFiles + Clock + AllocGlobal, O: Write>(
+    rt: &R,
+    table: &Accepted,
+    names: &PartNames,
+    files: &CaptureNames<'a>,
+    out: &mut O,
+) -> Result<(), CaptureFault<'a>>
+    ensures untold { IfErr result (λ fault. IsUntold fault → out.new ≡ out.old) }
+{
+    let capture = match open_capture(rt, files) {
+        Ok(capture) => capture,
+        Err(fault) => return Err(fault),
+    };
+    match told(rt, table, names, capture, out) {
+        Ok(()) => Ok(()),
+        Err(fault) => Err(CaptureFault::CutShort(fault)),
+    }
+}

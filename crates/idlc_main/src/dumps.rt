@@ -1,0 +1,64 @@
+//! What captures say.
+
+ghost use Rattle.std.specs.Prelude.{◌≡◌, ◌⊎◌, IfErr};
+ghost use Rattle.idlc_main.specs.Fault.{status_of};
+
+use crate::fault::Fault;
+use crate::listener::Listener;
+use crate::told::named_fault;
+use command_words::DumpTask;
+use dump_commands::{CaptureFault, CaptureFiles, CaptureNames, dump_capture};
+use message_dumps::DumpFault;
+use named_tables::{Loaded, load};
+use std::io::Write;
+use std::time::Clock;
+use table_commands::{Refusal, WholeFiles};
+
+/// The fault of a capture that was told up to there.
+fn cut_short(fault: DumpFault) -> Fault<'static>
+    ensures { status_of result ≡ 3 }
+{
+    match fault {
+        DumpFault::Unwritten => Fault::Unwritten,
+        fault => Fault::CutShort(fault),
+    }
+}
+
+/// Tells a capture by the table that was loaded.
+fn dumped_by<'a, R: CaptureFiles + Clock + AllocGlobal, O: Write>(
+    rt: &R,
+    loaded: &Loaded,
+    task: &DumpTask<'a>,
+    out: &mut O,
+) -> Result<(), Fault<'a>>
+    ensures { IfErr result (λ fault. (status_of fault ≡ 3) ⊎ (out.new ≡ out.old)) }
+{
+    let names = CaptureNames {
+        file: task.file,
+        back: task.back,
+        follows: task.follow,
+    };
+    match dump_capture(rt, &loaded.table, &loaded.names, &names, out) {
+        Ok(()) => Ok(()),
+        Err(CaptureFault::Unread { file }) => Err(Fault::Refused(Refusal::Unread { file })),
+        Err(CaptureFault::NotCapture { file }) => Err(Fault::NotCapture { file }),
+        Err(CaptureFault::NoMemory) => Err(Fault::NoMemory),
+        Err(CaptureFault::CutShort(fault)) => Err(cut_short(fault)),
+    }
+}
+
+/// Tells a capture by the table of a name, each message as soon as it was read. The table's fault is told
+/// before one of the capture.
+pub fn dumped<'a, R: WholeFiles + CaptureFiles + Clock + AllocGlobal, O: Write>(
+    rt: &R,
+    task: &DumpTask<'a>,
+    out: &mut O,
+    listener: Listener,
+) -> Result<(), Fault<'a>>
+    ensures { IfErr result (λ fault. (status_of fault ≡ 3) ⊎ (out.new ≡ out.old)) }
+{
+    match load(rt, task.table) {
+        Ok(loaded) => dumped_by(rt, &loaded, task, out),
+        Err(fault) => Err(named_fault(rt, task.table, fault, listener)),
+    }
+}
