@@ -186,6 +186,35 @@ impl<'a> Reader<'a> {
         }
         Ok(())
     }
+
+    /// A whole specification, before which nothing was read.
+    fn pass_whole(
+        &mut self,
+        alloc: Global,
+        faults: &mut NameFaults,
+        spec: &Spec<'a>,
+    ) -> Result<(), AllocError>
+        requires { self.old ≡ nothing_yet }
+        ensures heard { IfOk result (λ done. Hears faults.old (all_faults spec.now.definitions.items) faults.new) }
+        ensures most { faults.new.most ≡ faults.old.most }
+    {
+        // which is a number, so no token's number passes the largest
+        let _count = spec.tokens.len();
+        self.pass_definitions(alloc, faults, spec.definitions.as_slice())?;
+        self.hear_left(faults)?;
+        Ok(())
+    }
+}
+
+// Few functions hold a whole reader, whose type is listed at each of their places.
+
+/// The same, by a reader of its own.
+fn hear_all(alloc: Global, spec: &Spec<'_>, faults: &mut NameFaults) -> Result<(), AllocError>
+    ensures heard { IfOk result (λ done. Hears faults.old (all_faults spec.now.definitions.items) faults.new) }
+    ensures most { faults.new.most ≡ faults.old.most }
+{
+    let mut reader = Reader::new(alloc);
+    reader.pass_whole(alloc, faults, spec)
 }
 
 /// All faults of a specification's names, where each step of reading that is refused is passed over:
@@ -198,11 +227,7 @@ pub fn name_faults(alloc: Global, spec: &Spec<'_>, most: usize) -> Result<NameFa
     ensures count { IfOk result (λ faults. faults.count
         ≡ min (length (all_faults spec.now.definitions.items)) 18446744073709551615) }
 {
-    // which is a number, so no token's number passes the largest
-    let _count = spec.tokens.len();
-    let mut reader = Reader::new(alloc);
     let mut faults = NameFaults::new(alloc, most);
-    reader.pass_definitions(alloc, &mut faults, spec.definitions.as_slice())?;
-    reader.hear_left(&mut faults)?;
+    hear_all(alloc, spec, &mut faults)?;
     Ok(faults)
 }

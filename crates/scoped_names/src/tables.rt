@@ -13,7 +13,6 @@ use std::marker::Model;
 
 /// The entries, and the same entries once more, among which nothing but operations and attributes is
 /// found, so that no type hides one. A contract sees the entries.
-#[derive(Drop)]
 pub(crate) struct Tables<'a> {
     all: Table<'a>,
     features: Table<'a>,
@@ -29,6 +28,22 @@ impl<'a> Model for Tables<'a> {
     ghost view = { λ t. t.all };
 
     ghost invariant = { λ t. t.features ≡ features_of t.all };
+}
+
+/// Lets go of all entries of a table.
+fn clear(alloc: Global, table: &mut Table<'_>)
+    ensures { table.new ≡ [] }
+{
+    *table = Table::new(alloc);
+}
+
+impl<'a> Drop for Tables<'a> {
+    fn drop(self) {
+        let Tables {
+            all: _,
+            features: _,
+        } = self;
+    }
 }
 
 impl<'a> Tables<'a> {
@@ -53,7 +68,8 @@ impl<'a> Tables<'a> {
     pub fn into_all(self) -> Table<'a>
         ensures { result ≡ self.entry }
     {
-        self.all
+        let Tables { all, features: _ } = self;
+        all
     }
 
     /// One entry more, of a name that is new in its scope. Where memory is refused between the two
@@ -78,7 +94,8 @@ impl<'a> Tables<'a> {
         match self.all.add(alloc, prefix, scope, identifier, meaning) {
             Ok(()) => Ok(()),
             Err(refused) => {
-                *self = Tables::new(alloc);
+                clear(alloc, &mut self.all);
+                clear(alloc, &mut self.features);
                 Err(refused)
             }
         }
@@ -99,7 +116,8 @@ impl<'a> Tables<'a> {
         match self.all.add_base(alloc, inner, base) {
             Ok(()) => Ok(()),
             Err(refused) => {
-                *self = Tables::new(alloc);
+                clear(alloc, &mut self.all);
+                clear(alloc, &mut self.features);
                 Err(refused)
             }
         }
