@@ -107,7 +107,7 @@ static void refusals(void)
     must(compile("struct S {\n  longer x;\n};") == IDLC_FAULTY_IDL && place.number == IDLC_UNKNOWN, "unknown");
     must(place.line == 2 && place.column == 3 && table.loaded, "its line and column");
     must(compile("@") == IDLC_FAULTY_IDL && is_placed(IDLC_BAD_CHAR, 1, 1), "no character of IDL");
-    must(compile("struct") == IDLC_FAULTY_IDL && is_placed(IDLC_END_OF_FILE, 1, 0), "the end");
+    must(compile("  struct") == IDLC_FAULTY_IDL && is_placed(IDLC_END_OF_FILE, 1, 3), "the end");
     must(compile("union U switch(boolean) {case TRUE: case TRUE: long x;};") == IDLC_FAULTY_IDL, "labels");
     must(is_placed(IDLC_LABEL_TWICE, 1, 42), "a label twice");
     must(compile("\xff") == IDLC_FAULTY_IDL && is_placed(IDLC_BAD_CHAR, 0, 0), "no text");
