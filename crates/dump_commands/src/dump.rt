@@ -13,6 +13,7 @@ use message_dumps::{DumpFault, Patience, dump_octets, dump_text};
 use message_words::{TableWords, Types};
 use part_names::PartNames;
 use position_checker::Accepted;
+use std::alloc::{AllocError, Global};
 use std::io::{Read, Write};
 use std::thread;
 use std::time::{Clock, Duration};
@@ -33,8 +34,40 @@ impl<R: Clock> Patience for Looks<'_, R> {
     }
 }
 
+/// What is told by beside a table.
+#[derive(Drop)]
+struct Own {
+    giop: Giop,
+    types: GiopTypes,
+    nameless: PartNames,
+}
+
+impl Own {
+    fn new(alloc: Global) -> Result<Own, AllocError> {
+        let giop = Giop::new(alloc)?;
+        let types = GiopTypes::new(alloc)?;
+        let nameless = PartNames::new(alloc, Vec::new(alloc));
+        Ok(Own {
+            giop,
+            types,
+            nameless,
+        })
+    }
+
+    /// With the types of a table.
+    fn with<'a>(&'a self, table: &'a Accepted, names: &'a PartNames) -> Types<'a> {
+        Types {
+            giop: &self.giop,
+            types: &self.types,
+            table,
+            names,
+            nameless: &self.nameless,
+        }
+    }
+}
+
 /// Tells a capture by types.
-fn told_by<R: Clock + AllocGlobal, T: Read + Drop, O: Write>(
+fn told<R: Clock + AllocGlobal, T: Read + Drop, O: Write>(
     rt: &R,
     types: Types<'_>,
     capture: Capture<T>,
@@ -52,27 +85,6 @@ fn told_by<R: Clock + AllocGlobal, T: Read + Drop, O: Write>(
         CaptureForm::Octets => dump_octets(&mut words, rt.alloc(), first, second, &mut looks, out),
         CaptureForm::Text => dump_text(&mut words, rt.alloc(), first, &mut looks, out),
     }
-}
-
-/// Tells a capture by a table.
-fn told<R: Clock + AllocGlobal, T: Read + Drop, O: Write>(
-    rt: &R,
-    table: &Accepted,
-    names: &PartNames,
-    capture: Capture<T>,
-    out: &mut O,
-) -> Result<(), DumpFault> {
-    let giop = Giop::new(rt.alloc())?;
-    let own = GiopTypes::new(rt.alloc())?;
-    let nameless = PartNames::new(rt.alloc(), Vec::new(rt.alloc()));
-    let types = Types {
-        giop: &giop,
-        types: &own,
-        table,
-        names,
-        nameless: &nameless,
-    };
-    told_by(rt, types, capture, out)
 }
 
 /// Tells the messages of a capture, each as soon as it was read, by the types of a table.
@@ -93,7 +105,11 @@ pub fn dump_capture<'a, R: CaptureFiles + Clock + AllocGlobal, O: Write>(
         Ok(capture) => capture,
         Err(fault) => return Err(fault),
     };
-    match told(rt, table, names, capture, out) {
+    let own = match Own::new(rt.alloc()) {
+        Ok(own) => own,
+        Err(_) => return Err(CaptureFault::NoMemory),
+    };
+    match told(rt, own.with(table, names), capture, out) {
         Ok(()) => Ok(()),
         Err(fault) => Err(CaptureFault::CutShort(fault)),
     }
