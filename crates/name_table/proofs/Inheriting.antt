@@ -100,14 +100,14 @@ fuel es low (suc bound) (suc k) (suc e) kb sk =
 
 -- one scope further outwards
 pub next_scope : (records : List Record) (es : List Entry) → entries_in records ≡ es → AreNestedRecords records → (token e : ℕ) (name : List ℕ) (r : Record) → slice_get records e ≡ Some r
-    → within_first es token (outwards es (suc e) (suc e)) name ≡ or_else (within es token (suc e) name) (within_first es token (outwards es r.key.scope r.key.scope) name)
+    → within_first es token (outwards es (suc e) (suc e)) name ≡ or_else (within es token (suc e) name) (within_first es token (outwards es r.key.scope.0 r.key.scope.0) name)
 next_scope records es is nested token e name r there =
     let low : (k : ℕ) → around es (suc k) ≤ k = λ k. subst (λ xs. around xs (suc k) ≤ k) is (nested_within records nested k) in
-    let here : around es (suc e) ≡ r.key.scope = sym (ap (λ xs. around xs (suc e)) is) ∙ ap scope_in (slice_get-map entry_of records e ∙ ap (option_map entry_of) there) in
+    let here : around es (suc e) ≡ r.key.scope.0 = sym (ap (λ xs. around xs (suc e)) is) ∙ ap scope_in (slice_get-map entry_of records e ∙ ap (option_map entry_of) there) in
     ap (λ xs. or_else (within es token (suc e) name) (within_first es token xs name))
     (fuel es low e e (around es (suc e)) (omega arith) (low e) ∙ ap (λ s. outwards es s s) here)
 
-pub scope_behind : (records : List Record) → AreNestedRecords records → (e : ℕ) (r : Record) → slice_get records e ≡ Some r → r.key.scope ≤ e
+pub scope_behind : (records : List Record) → AreNestedRecords records → (e : ℕ) (r : Record) → slice_get records e ≡ Some r → r.key.scope.0 ≤ e
 scope_behind records nested e r there = nested e r there
 
 pub or_else_nothing : (a : Found) → or_else a Nothing ≡ a

@@ -46,9 +46,9 @@ named_keys test records scope name same =
     ∙ sym (position_map (is_named scope name) entry_of records)
 
 -- keys that differ are those of entries that differ
-module _ (eq : Key → Key → Bool) (same : (a b : Record) → eq a.key b.key ≡ is_named a.key.scope a.key.word.text.now (entry_of b)) where
+module _ (eq : Key → Key → Bool) (same : (a b : Record) → eq a.key b.key ≡ is_named a.key.scope.0 a.key.word.text.now (entry_of b)) where
   apart : (r : Record) (rs : List Record) → AllByRecursion (λ k. eq r.key k ≡ false) (map key_of rs)
-      → AllByRecursion (λ e. is_named r.key.scope r.key.word.text.now e ≡ false) (map entry_of rs)
+      → AllByRecursion (λ e. is_named r.key.scope.0 r.key.word.text.now e ≡ false) (map entry_of rs)
   apart r [] h = tt
   apart r (x ∷ xs) (first, rest) = (sym (same r x) ∙ first, apart r xs rest)
 

@@ -253,13 +253,13 @@ module _ (keys : List Key) (records : List Record) (words : List (Vec Word Globa
   nested_after : AreNestedRecords after
   nested_after k x h = by (same_or k e)
     where
-      by : (k ≡ e) ⊎ (k ≡ e → ⊥) → x.key.scope ≤ k
+      by : (k ≡ e) ⊎ (k ≡ e → ⊥) → x.key.scope.0 ≤ k
       by (inr ne) = tied.nested k x (sym (get_other records e k changed ne) ∙ h)
       by (inl is) =
           let found : Some changed ≡ Some x = sym (get_here records e r changed there) ∙ ap (slice_get after) (sym is) ∙ h in
           let same : changed ≡ x = cc in
           let low = tied.nested e r there in
-          subst (λ y. y.key.scope ≤ k) same (omega arith)
+          subst (λ y. y.key.scope.0 ≤ k) same (omega arith)
 
   pub tied_more : AreTied keys after words
   tied_more = record {

@@ -71,9 +71,9 @@ heir_push : (records : List Record) (r : Record) → r.heir ≡ None → (s : �
 heir_push records r plain zero = refl
 heir_push records r plain (suc k) = get_push heir_in records r k (ap unboxed plain)
 
-nested_push : (records : List Record) (r : Record) (n : ℕ) → r.key.scope ≤ length records + n → ((k : ℕ) (x : Record) → slice_get records k ≡ Some x → x.key.scope ≤ k + n)
-    → (k : ℕ) (x : Record) → slice_get (records ++ r ∷ []) k ≡ Some x → x.key.scope ≤ k + n
-nested_push [] r n low nested zero x h = let same : r ≡ x = cc in subst (λ y. y.key.scope ≤ 0 + n) same low
+nested_push : (records : List Record) (r : Record) (n : ℕ) → r.key.scope.0 ≤ length records + n → ((k : ℕ) (x : Record) → slice_get records k ≡ Some x → x.key.scope.0 ≤ k + n)
+    → (k : ℕ) (x : Record) → slice_get (records ++ r ∷ []) k ≡ Some x → x.key.scope.0 ≤ k + n
+nested_push [] r n low nested zero x h = let same : r ≡ x = cc in subst (λ y. y.key.scope.0 ≤ 0 + n) same low
 nested_push [] r n low nested (suc k) x h = cc
 nested_push (y ∷ ys) r n low nested zero x h = nested 0 x h
 nested_push (y ∷ ys) r n low nested (suc k) x h =
@@ -81,7 +81,7 @@ nested_push (y ∷ ys) r n low nested (suc k) x h =
     omega arith
 
 module _ (keys : List Key) (records : List Record) (words : List (Vec Word Global)) (tied : AreTied keys records words)
-    (r : Record) (low : r.key.scope ≤ length records) (plain : r.heir ≡ None) (late : latest (entries_in records) ≤ r.token) where
+    (r : Record) (low : r.key.scope.0 ≤ length records) (plain : r.heir ≡ None) (late : latest (entries_in records) ≤ r.token) where
   es : List Entry
   es = entries_in records
 
@@ -101,7 +101,7 @@ module _ (keys : List Key) (records : List Record) (words : List (Vec Word Globa
       omega arith
 
   listed_push : (more : List (Vec Word Global)) → ((s : ℕ) (name : List ℕ) → HasWord (words_at words s) name → HasWord (words_at more s) name)
-      → ((name : List ℕ) → is_word name r.key.word ≡ true → HasWord (words_at more r.key.scope) name) → AreListed (records ++ r ∷ []) more
+      → ((name : List ℕ) → is_word name r.key.word ≡ true → HasWord (words_at more r.key.scope.0) name) → AreListed (records ++ r ∷ []) more
   listed_push more kept new s k name h =
       by (named (entries_in records) s name) (is_named s name (entry_of r)) refl refl
       (sym (ap (λ xs. named xs s name) (entries_push records r) ∙ named_push (entries_in records) (entry_of r) s name) ∙ h)
@@ -110,8 +110,8 @@ module _ (keys : List Key) (records : List Record) (words : List (Vec Word Globa
           → or_place o (cond b (Some (length (entries_in records))) None) ≡ Some k → HasWord (words_at more s) name
       by (Some j) b is t e = kept s name (tied.listed s j name is)
       by None true is t e =
-          let two = and_parts (nat_eq s r.key.scope) (same_but_for_case name r.key.word.text.now) t in
-          subst (λ x. HasWord (words_at more x) name) (sym (eqb-true s r.key.scope two.0)) (new name two.1)
+          let two = and_parts (nat_eq s r.key.scope.0) (same_but_for_case name r.key.word.text.now) t in
+          subst (λ x. HasWord (words_at more x) name) (sym (eqb-true s r.key.scope.0 two.0)) (new name two.1)
       by None false is t e = cc
 
   by_heir_push : (t s : ℕ) (name : List ℕ) (h : Option Heir) → heir_of records s ≡ h
@@ -138,7 +138,7 @@ module _ (keys : List Key) (records : List Record) (words : List (Vec Word Globa
 
   pub tied_push : (more_keys : List Key) → more_keys ≡ keys ++ r.key ∷ [] → (more : List (Vec Word Global))
       → ((s : ℕ) (name : List ℕ) → HasWord (words_at words s) name → HasWord (words_at more s) name)
-      → ((name : List ℕ) → is_word name r.key.word ≡ true → HasWord (words_at more r.key.scope) name) → AreTied more_keys (records ++ r ∷ []) more
+      → ((name : List ℕ) → is_word name r.key.word ≡ true → HasWord (words_at more r.key.scope.0) name) → AreTied more_keys (records ++ r ∷ []) more
   tied_push more_keys keyed more kept new = record {
     keyed = keyed ∙ ap (λ ks. ks ++ r.key ∷ []) tied.keyed ∙ sym (map_push key_of records r);
     nested = λ k x h.

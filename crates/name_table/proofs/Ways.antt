@@ -141,7 +141,7 @@ entered es t s next ws name is (inr has) = inr has
 entered es t s next ws name is (inl none) = inl (ap (λ x. within es t x name) is ∙ ap (λ x. or_else x (inherited es t s name)) none)
 
 -- down to the first base, but for the words of which later bases say something else
-pub passed : (es : List Entry) (place next : Place) (heir : Heir) (ws vs : List Word) → IsKept es place.scope heir → heir.first.token < place.token
+pub passed : (es : List Entry) (place next : Place) (heir : Heir) (ws vs : List Word) → IsKept es place.scope.0 heir → heir.first.token < place.token
     → ((name : List ℕ) → (lookup (is_word name) heir.others.entries ≡ None) ⊎ HasWord ws name) → ((name : List ℕ) → HasWord ws name → HasWord vs name)
     → LeadsTo es heir.first vs next → Passes es vs place next
 passed es place next heir ws vs kept lt listed more leads name = by (listed name) (leads name)
@@ -170,7 +170,7 @@ way_over es scope heir inside half place gs ws us vs way there after_is kept giv
       subst (λ p. (inherited es token scope name ≡ given_at es name p) ⊎ HasWord way.words.keys name) (sym there)
       (or_more vs way.words.keys name
       (or_then us vs name
-      (or_then ws us name (passed es (record { token = token; scope = scope }) inside heir gs ws kept (omega arith) given more_ws leads name) more_us (first name))
+      (or_then ws us name (passed es (record { token = token; scope = record { 0 = scope } }) inside heir gs ws kept (omega arith) given more_ws leads name) more_us (first name))
       more_vs (second name))
       all);
 }

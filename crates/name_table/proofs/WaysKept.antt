@@ -20,13 +20,13 @@ ways_like es fs ways longer kept here there q way at =
       omega arith,
       record {
         earlier = is.earlier;
-        same = λ t after name. by t name (is.same t after name) (there way.place.token way.place.scope name (omega arith));
+        same = λ t after name. by t name (is.same t after name) (there way.place.token way.place.scope.0 name (omega arith));
       },
     )
   where
-    by : (t : ℕ) (name : List ℕ) → (inherited es t q name ≡ inherited es way.place.token way.place.scope name) ⊎ HasWord way.words.keys name
-        → inherited fs way.place.token way.place.scope name ≡ inherited es way.place.token way.place.scope name
-        → (inherited fs t q name ≡ inherited fs way.place.token way.place.scope name) ⊎ HasWord way.words.keys name
+    by : (t : ℕ) (name : List ℕ) → (inherited es t q name ≡ inherited es way.place.token way.place.scope.0 name) ⊎ HasWord way.words.keys name
+        → inherited fs way.place.token way.place.scope.0 name ≡ inherited es way.place.token way.place.scope.0 name
+        → (inherited fs t q name ≡ inherited fs way.place.token way.place.scope.0 name) ⊎ HasWord way.words.keys name
     by t name (inr has) e = inr has
     by t name (inl is) e = inl (here q way at t name ∙ is ∙ sym e)
 

@@ -14,6 +14,7 @@ ghost use Rattle.name_table.specs.inner.SeveralBases.{given_then, HasNoneFrom, I
 use crate::entry::Base;
 use crate::key::Word;
 use crate::record::{Clash, Given, Heir};
+use crate::scope::Scope;
 use crate::search::Found;
 use crate::table::{Table, heir_of};
 use std::alloc::{AllocError, Global};
@@ -130,14 +131,14 @@ impl<'a> Table<'a> {
     pub(crate) fn list_declared(
         &self,
         words: &mut Vec<Word<'a>>,
-        scope: usize,
+        scope: Scope,
     ) -> Result<(), AllocError>
         ensures kept { OnOk result ((name : List ℕ) → HasWord words.old.items name → HasWord words.new.items name) }
         ensures listed { OnOk result ((n : ℕ) (name : List ℕ) →
-            (own_of self.now n scope name ≡ Found.Nothing) ⊎ HasWord words.new.items name) }
+            (own_of self.now n scope.0 name ≡ Found.Nothing) ⊎ HasWord words.new.items name) }
     {
-        if scope < self.words.len() {
-            words.extend_from_slice(self.words[scope].as_slice())?;
+        if scope.0 < self.words.len() {
+            words.extend_from_slice(self.words[scope.0].as_slice())?;
         }
         Ok(())
     }
@@ -146,17 +147,17 @@ impl<'a> Table<'a> {
     fn words_to_merge(
         &self,
         alloc: Global,
-        inner: usize,
+        inner: Scope,
         heir: &Heir<'a>,
         base: Base,
     ) -> Result<Vec<Word<'a>>, AllocError>
-        requires kept { IsKept self.now inner heir.now }
-        requires last { HasNoneFrom self.now inner base.token }
+        requires kept { IsKept self.now inner.0 heir.now }
+        requires last { HasNoneFrom self.now inner.0 base.token }
         requires first { heir.now.first.entry < length self.now }
         requires earlier { heir.now.first.token < base.token }
         requires placed { base.entry < length self.now }
         ensures { IfOk result (λ words. (name : List ℕ) →
-            SaysNothingNew self.now inner base name ⊎ HasWord words.items name) }
+            SaysNothingNew self.now inner.0 base name ⊎ HasWord words.items name) }
     {
         let mut words = self.words_apart(alloc, heir.first, base)?;
         list_given(&mut words, heir)?;
@@ -165,17 +166,17 @@ impl<'a> Table<'a> {
 
     /// What is kept of a word where an interface gets one more base; nothing where it says nothing
     /// new.
-    fn given_with(&self, inner: usize, heir: &Heir<'a>, base: Base, word: Word<'a>) -> Option<Given>
-        requires kept { IsKept self.now inner heir.now }
+    fn given_with(&self, inner: Scope, heir: &Heir<'a>, base: Base, word: Word<'a>) -> Option<Given>
+        requires kept { IsKept self.now inner.0 heir.now }
         requires placed { base.entry < length self.now }
         ensures given { IfSome result (λ g. (t : ℕ) →
-            given_before t g ≡ with_more self.now inner base t word.entry.text.now) }
-        ensures same { result ≡ None → SaysNothingNew self.now inner base word.entry.text.now }
+            given_before t g ≡ with_more self.now inner.0 base t word.entry.text.now) }
+        ensures same { result ≡ None → SaysNothingNew self.now inner.0 base word.entry.text.now }
     {
         let count = self.len();
         prove!(base.entry < count);
         let old = self.inherited(base.token, inner, word);
-        let new = self.within(base.token, base.entry + 1, word);
+        let new = self.within(base.token, Scope(base.entry + 1), word);
         let first = match heir.other(word) {
             Some(given) => given.token,
             None => heir.first.token,
@@ -186,15 +187,15 @@ impl<'a> Table<'a> {
     /// What is kept of all names where an interface gets one more base that has the words.
     fn others_with(
         &self,
-        inner: usize,
+        inner: Scope,
         heir: &Heir<'a>,
         base: Base,
         words: &[Word<'a>],
     ) -> Result<BTreeMap<Word<'a>, Given>, AllocError>
-        requires kept { IsKept self.now inner heir.now }
+        requires kept { IsKept self.now inner.0 heir.now }
         requires placed { base.entry < length self.now }
-        requires covers { (name : List ℕ) → SaysNothingNew self.now inner base name ⊎ HasWord words.now name }
-        ensures { IfOk result (λ others. IsDone self.now inner base heir.now.others.entries others.entries []) }
+        requires covers { (name : List ℕ) → SaysNothingNew self.now inner.0 base name ⊎ HasWord words.now name }
+        ensures { IfOk result (λ others. IsDone self.now inner.0 base heir.now.others.entries others.entries []) }
     {
         let mut others = heir.others.clone()?;
         for word in words {
@@ -209,18 +210,18 @@ impl<'a> Table<'a> {
     fn heir_with(
         &self,
         alloc: Global,
-        inner: usize,
+        inner: Scope,
         heir: &Heir<'a>,
         base: Base,
         words: &[Word<'a>],
     ) -> Result<Box<Heir<'a>>, AllocError>
-        requires kept { IsKept self.now inner heir.now }
-        requires last { HasNoneFrom self.now inner base.token }
+        requires kept { IsKept self.now inner.0 heir.now }
+        requires last { HasNoneFrom self.now inner.0 base.token }
         requires placed { base.entry < length self.now }
-        requires covers { (name : List ℕ) → SaysNothingNew self.now inner base name ⊎ HasWord words.now name }
+        requires covers { (name : List ℕ) → SaysNothingNew self.now inner.0 base name ⊎ HasWord words.now name }
         ensures first { IfOk result (λ h. h.value.first ≡ heir.now.first) }
         ensures later { IfOk result (λ h. h.value.later.items ≡ heir.now.later.items ++ base ∷ []) }
-        ensures merges { IfOk result (λ h. Merges self.now inner base h.value) }
+        ensures merges { IfOk result (λ h. Merges self.now inner.0 base h.value) }
     {
         let others = self.others_with(inner, heir, base, words)?;
         let mut later = Vec::new(alloc);
@@ -237,8 +238,8 @@ impl<'a> Table<'a> {
     }
 
     /// Whether an entry is a base already.
-    pub fn has_base(&self, inner: usize, entry: usize) -> bool
-        ensures { result ≡ list_any (λ b. nat_eq b.entry entry) (bases_of self.now inner) }
+    pub fn has_base(&self, inner: Scope, entry: usize) -> bool
+        ensures { result ≡ list_any (λ b. nat_eq b.entry entry) (bases_of self.now inner.0) }
     {
         match heir_of(self.records.as_slice(), inner) {
             Some(heir) => is_base_of(heir, entry),
@@ -247,21 +248,21 @@ impl<'a> Table<'a> {
     }
 
     /// Whether a base gives another entry of the name than those before.
-    fn differ_in(&self, inner: usize, base: Base, word: Word<'a>) -> bool
+    fn differ_in(&self, inner: Scope, base: Base, word: Word<'a>) -> bool
         requires { base.entry < length self.now }
-        ensures { result ≡ differ_in self.now inner base word.entry.text.now }
+        ensures { result ≡ differ_in self.now inner.0 base word.entry.text.now }
     {
         let count = self.len();
         prove!(base.entry < count);
         let old = self.inherited(base.token, inner, word);
-        let new = self.within(base.token, base.entry + 1, word);
+        let new = self.within(base.token, Scope(base.entry + 1), word);
         is_one_other(old, new)
     }
 
     /// Of one of the words.
-    fn differ_in_some(&self, inner: usize, base: Base, words: &[Word<'a>]) -> bool
+    fn differ_in_some(&self, inner: Scope, base: Base, words: &[Word<'a>]) -> bool
         requires { base.entry < length self.now }
-        ensures { result ≡ list_any (λ w. differ_in self.now inner base w.text.now) words.now }
+        ensures { result ≡ list_any (λ w. differ_in self.now inner.0 base w.text.now) words.now }
     {
         for word in words {
             if self.differ_in(inner, base, *word) {
@@ -277,10 +278,10 @@ impl<'a> Table<'a> {
     /// # Errors
     ///
     /// `AllocError`.
-    pub fn differ(&self, alloc: Global, inner: usize, base: Base) -> Result<bool, AllocError>
+    pub fn differ(&self, alloc: Global, inner: Scope, base: Base) -> Result<bool, AllocError>
         requires placed { base.entry < length self.now }
         requires late { latest self.now < base.token }
-        ensures { IfOk result (λ r. r ≡ differ self.now inner base) }
+        ensures { IfOk result (λ r. r ≡ differ self.now inner.0 base) }
     {
         match heir_of(self.records.as_slice(), inner) {
             Some(heir) => {
@@ -295,18 +296,18 @@ impl<'a> Table<'a> {
     fn next_heir(
         &self,
         alloc: Global,
-        inner: usize,
+        inner: Scope,
         heir: &Heir<'a>,
         base: Base,
     ) -> Result<Box<Heir<'a>>, AllocError>
-        requires kept { IsKept self.now inner heir.now }
-        requires last { HasNoneFrom self.now inner base.token }
+        requires kept { IsKept self.now inner.0 heir.now }
+        requires last { HasNoneFrom self.now inner.0 base.token }
         requires placed { base.entry < length self.now }
         requires first { heir.now.first.entry < length self.now }
         requires earlier { heir.now.first.token < base.token }
         ensures first { IfOk result (λ h. h.value.first ≡ heir.now.first) }
         ensures later { IfOk result (λ h. h.value.later.items ≡ heir.now.later.items ++ base ∷ []) }
-        ensures merges { IfOk result (λ h. Merges self.now inner base h.value) }
+        ensures merges { IfOk result (λ h. Merges self.now inner.0 base h.value) }
     {
         let words = self.words_to_merge(alloc, inner, heir, base)?;
         self.heir_with(alloc, inner, heir, base, words.as_slice())
@@ -316,15 +317,15 @@ impl<'a> Table<'a> {
     pub(crate) fn heir_for(
         &self,
         alloc: Global,
-        inner: usize,
+        inner: Scope,
         base: Base,
     ) -> Result<Box<Heir<'a>>, AllocError>
-        requires last { HasNoneFrom self.now inner base.token }
+        requires last { HasNoneFrom self.now inner.0 base.token }
         requires placed { base.entry < length self.now }
         ensures with_it { IfOk result (λ h.
-            h.value.first ∷ h.value.later.items ≡ bases_of self.now inner ++ base ∷ []) }
+            h.value.first ∷ h.value.later.items ≡ bases_of self.now inner.0 ++ base ∷ []) }
         ensures low { IfOk result (λ h. h.value.first.token ≤ base.token) }
-        ensures merges { IfOk result (λ h. Merges self.now inner base h.value) }
+        ensures merges { IfOk result (λ h. Merges self.now inner.0 base h.value) }
     {
         match heir_of(self.records.as_slice(), inner) {
             Some(old) => self.next_heir(alloc, inner, old, base),

@@ -4,6 +4,8 @@ ghost use Rattle.std.specs.Prelude.{◌≡◌, map};
 ghost use Rattle.std.specs.Char.{to_ascii_lowercase};
 ghost use Rattle.name_table.specs.inner.Codes.{code_of};
 
+use crate::scope::Scope;
+
 /// A word. Words that differ only in the case of their letters are equal.
 #[derive(Clone, Copy)]
 pub struct Word<'a> {
@@ -16,7 +18,7 @@ pub struct Word<'a> {
 /// A word in a scope.
 #[derive(Clone, Copy, PartialEq, Eq, PartialOrd, Ord)]
 pub struct Key<'a> {
-    pub scope: usize,
+    pub scope: Scope,
     pub word: Word<'a>,
 }
 

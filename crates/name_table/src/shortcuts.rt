@@ -11,6 +11,7 @@ ghost use Rattle.name_table.specs.inner.Shortcuts.{given_at, way_at as way_of_sc
 use crate::bases::list_given;
 use crate::entry::Base;
 use crate::key::Word;
+use crate::scope::Scope;
 use crate::search::Found;
 use crate::table::{Table, heir_of};
 use std::alloc::{AllocError, Global};
@@ -24,7 +25,7 @@ const WORDS_PER_ENTRY: usize = 64;
 #[derive(Clone, Copy)]
 pub(crate) struct Place {
     pub token: usize,
-    pub scope: usize,
+    pub scope: Scope,
 }
 
 /// A way from a scope to a place further down.
@@ -54,7 +55,10 @@ struct Reach {
 
 impl Place {
     /// The end of each chain.
-    const END: Place = Place { token: 0, scope: 0 };
+    const END: Place = Place {
+        token: 0,
+        scope: Scope::FILE,
+    };
 
     /// Whether two places are one.
     fn meets(self, other: Place) -> bool
@@ -87,38 +91,38 @@ impl<'a> Shortcut<'a> {
 }
 
 /// The way that is kept from a scope.
-fn way_at<'r, 'a>(ways: &'r [Option<Shortcut<'a>>], scope: usize) -> Option<&'r Shortcut<'a>>
-    ensures { option_copied result ≡ way_of_scope ways.now scope }
+fn way_at<'r, 'a>(ways: &'r [Option<Shortcut<'a>>], scope: Scope) -> Option<&'r Shortcut<'a>>
+    ensures { option_copied result ≡ way_of_scope ways.now scope.0 }
 {
-    ways.get(scope)?.as_ref()
+    ways.get(scope.0)?.as_ref()
 }
 
 /// Keeps a way from a scope.
 fn keep_way<'a>(
     ways: &mut Vec<Option<Shortcut<'a>>>,
-    scope: usize,
+    scope: Scope,
     way: Shortcut<'a>,
 ) -> Result<(), AllocError>
     ensures kept { OnOk result ((q : ℕ) →
-        way_of_scope ways.new.items q ≡ (if nat_eq scope q then Some way.entry else way_of_scope ways.old.items q)) }
+        way_of_scope ways.new.items q ≡ (if nat_eq scope.0 q then Some way.entry else way_of_scope ways.old.items q)) }
     ensures err { OnErr result ((q : ℕ) → way_of_scope ways.new.items q ≡ way_of_scope ways.old.items q) }
 {
-    while ways.len() <= scope {
+    while ways.len() <= scope.0 {
         ways.push(None)?;
     }
-    ways[scope] = Some(way);
+    ways[scope.0] = Some(way);
     Ok(())
 }
 
 /// Drops the way that is kept from a scope.
-pub(crate) fn drop_way(ways: &mut Vec<Option<Shortcut<'_>>>, scope: usize)
+pub(crate) fn drop_way(ways: &mut Vec<Option<Shortcut<'_>>>, scope: Scope)
     ensures { (q : ℕ) →
-        way_of_scope ways.new.items q ≡ (if nat_eq scope q then None else way_of_scope ways.old.items q) }
+        way_of_scope ways.new.items q ≡ (if nat_eq scope.0 q then None else way_of_scope ways.old.items q) }
 {
-    if scope >= ways.len() {
+    if scope.0 >= ways.len() {
         return;
     }
-    ways[scope] = None;
+    ways[scope.0] = None;
 }
 
 /// Adds the words of a set.
@@ -170,7 +174,7 @@ impl<'a> Table<'a> {
             return SearchStep::Done(Found::Nothing);
         }
         let token = heir.first.token;
-        let scope = heir.first.entry + 1;
+        let scope = Scope(heir.first.entry + 1);
         match self.own(token, scope, word) {
             Found::Nothing => SearchStep::On(Place { token, scope }),
             found => SearchStep::Done(found),
@@ -186,7 +190,7 @@ impl<'a> Table<'a> {
     {
         let count = self.len();
         prove!(base.entry < count);
-        let scope = base.entry + 1;
+        let scope = Scope(base.entry + 1);
         self.list_declared(words, scope)?;
         Ok(Place {
             token: base.token,
@@ -250,7 +254,7 @@ impl<'a> Table<'a> {
         Some(Reach {
             place: Place {
                 token: first.token,
-                scope: first.entry.saturating_add(1),
+                scope: Scope(first.entry.saturating_add(1)),
             },
             span: 1,
             words: 0,
@@ -261,7 +265,7 @@ impl<'a> Table<'a> {
     fn span_from(&self, base: Base) -> Option<usize> {
         let inside = Place {
             token: base.token,
-            scope: base.entry.saturating_add(1),
+            scope: Scope(base.entry.saturating_add(1)),
         };
         let one = self.reach(inside)?;
         let two = self.reach(one.place)?;
@@ -290,8 +294,8 @@ impl<'a> Table<'a> {
     }
 
     /// A way from a scope over two steps of one length; none where there are no such.
-    fn way_of(&self, alloc: Global, scope: usize) -> Result<Option<Shortcut<'a>>, AllocError>
-        ensures short { IfOk result (λ way. IfSome way (IsShort self.now scope)) }
+    fn way_of(&self, alloc: Global, scope: Scope) -> Result<Option<Shortcut<'a>>, AllocError>
+        ensures short { IfOk result (λ way. IfSome way (IsShort self.now scope.0)) }
         ensures low { IfOk result (λ way. IfSome way (λ w. w.after ≤ latest self.now)) }
     {
         let Some(heir) = heir_of(self.records.as_slice(), scope) else {
@@ -315,7 +319,7 @@ impl<'a> Table<'a> {
     }
 
     /// Keeps a way from a scope that is a base from now on, where one is of use.
-    pub fn shorten(&mut self, alloc: Global, scope: usize) -> Result<(), AllocError>
+    pub fn shorten(&mut self, alloc: Global, scope: Scope) -> Result<(), AllocError>
         ensures { self.new ≡ self.old }
     {
         if way_at(self.shortcuts.as_slice(), scope).is_some() {

@@ -13,6 +13,7 @@ use crate::entry::{Base, Meaning};
 use crate::key::{Key, Word};
 use crate::numbered::Numbered;
 use crate::record::{Heir, Record};
+use crate::scope::Scope;
 use crate::search::{Found, Sight};
 use crate::shortcuts::{Place, SearchStep, Shortcut, drop_way};
 use const_values::{ConstKind, Constant};
@@ -48,19 +49,19 @@ impl<'a> Model for Table<'a> {
 }
 
 /// What the interface has whose scope it is, if it has bases.
-pub(crate) fn heir_of<'r, 'a>(records: &'r [Record<'a>], scope: usize) -> Option<&'r Heir<'a>>
-    ensures { option_copied result ≡ heir_in_records records.now scope }
+pub(crate) fn heir_of<'r, 'a>(records: &'r [Record<'a>], scope: Scope) -> Option<&'r Heir<'a>>
+    ensures { option_copied result ≡ heir_in_records records.now scope.0 }
 {
-    let number = scope.checked_sub(1)?;
+    let number = scope.entry()?;
     records.get(number)?.heir.as_deref()
 }
 
 /// Makes room for the words of a scope.
-fn make_room(alloc: Global, words: &mut Vec<Vec<Word<'_>>>, scope: usize) -> Result<(), AllocError>
+fn make_room(alloc: Global, words: &mut Vec<Vec<Word<'_>>>, scope: Scope) -> Result<(), AllocError>
     ensures same { (s : ℕ) → words_at words.new.items s ≡ words_at words.old.items s }
-    ensures there { OnOk result (scope < length words.new.items) }
+    ensures there { OnOk result (scope.0 < length words.new.items) }
 {
-    while words.len() <= scope {
+    while words.len() <= scope.0 {
         words.push(Vec::new(alloc))?;
     }
     Ok(())
@@ -70,16 +71,16 @@ fn make_room(alloc: Global, words: &mut Vec<Vec<Word<'_>>>, scope: usize) -> Res
 fn list_word<'a>(
     alloc: Global,
     words: &mut Vec<Vec<Word<'a>>>,
-    scope: usize,
+    scope: Scope,
     word: Word<'a>,
 ) -> Result<(), AllocError>
     ensures kept { (s : ℕ) (name : List ℕ) →
         HasWord (words_at words.old.items s) name → HasWord (words_at words.new.items s) name }
     ensures listed { OnOk result ((name : List ℕ) →
-        is_word name word.entry ≡ true → HasWord (words_at words.new.items scope) name) }
+        is_word name word.entry ≡ true → HasWord (words_at words.new.items scope.0) name) }
 {
     make_room(alloc, words, scope)?;
-    words[scope].push(word)?;
+    words[scope.0].push(word)?;
     Ok(())
 }
 
@@ -112,8 +113,8 @@ impl<'a> Table<'a> {
     }
 
     /// The scope's own entry of the name that is declared before the token.
-    pub(crate) fn own(&self, token: usize, scope: usize, word: Word<'a>) -> Found
-        ensures { result ≡ own_of self.now token scope word.entry.text.now }
+    pub(crate) fn own(&self, token: usize, scope: Scope, word: Word<'a>) -> Found
+        ensures { result ≡ own_of self.now token scope.0 word.entry.text.now }
     {
         match self.keys.number_of(&Key { scope, word }) {
             Some(number) if self.records[number].token < token => Found::One(number),
@@ -122,8 +123,8 @@ impl<'a> Table<'a> {
     }
 
     /// What the bases that are named before the token give.
-    pub fn inherited(&self, token: usize, scope: usize, word: Word<'a>) -> Found
-        ensures { result ≡ inherited_by self.now token scope word.entry.text.now }
+    pub fn inherited(&self, token: usize, scope: Scope, word: Word<'a>) -> Found
+        ensures { result ≡ inherited_by self.now token scope.0 word.entry.text.now }
     {
         let mut place = Place { token, scope };
         loop {
@@ -135,8 +136,8 @@ impl<'a> Table<'a> {
     }
 
     /// What a name before the token finds in the scope and its bases.
-    pub fn within(&self, token: usize, scope: usize, word: Word<'a>) -> Found
-        ensures { result ≡ within_of self.now token scope word.entry.text.now }
+    pub fn within(&self, token: usize, scope: Scope, word: Word<'a>) -> Found
+        ensures { result ≡ within_of self.now token scope.0 word.entry.text.now }
     {
         match self.own(token, scope, word) {
             Found::Nothing => self.inherited(token, scope, word),
@@ -145,10 +146,10 @@ impl<'a> Table<'a> {
     }
 
     /// What it finds in the scope, or else in those around.
-    fn outwards(&self, token: usize, scope: usize, word: Word<'a>) -> Found
-        requires { scope ≤ length self.now }
+    fn outwards(&self, token: usize, scope: Scope, word: Word<'a>) -> Found
+        requires { scope.0 ≤ length self.now }
         ensures { result ≡
-            within_first self.now token (outwards_from self.now scope scope) word.entry.text.now }
+            within_first self.now token (outwards_from self.now scope.0 scope.0) word.entry.text.now }
     {
         let mut place = scope;
         loop {
@@ -156,10 +157,10 @@ impl<'a> Table<'a> {
                 Found::Nothing => {}
                 found => return found,
             }
-            if place == 0 {
+            let Some(number) = place.entry() else {
                 return Found::Nothing;
-            }
-            place = self.records[place - 1].key.scope;
+            };
+            place = self.records[number].key.scope;
         }
     }
 
@@ -180,24 +181,24 @@ impl<'a> Table<'a> {
     }
 
     /// What the first identifier of a name finds that stands in the scope, whatever its case.
-    fn find_first(&self, scope: usize, name: &ScopedName<'a>) -> Found
-        requires { scope ≤ length self.now }
+    fn find_first(&self, scope: Scope, name: &ScopedName<'a>) -> Found
+        requires { scope.0 ≤ length self.now }
         ensures { result ≡ within_first self.now (name_start name.now).number
-            (sought_in self.now scope (is_rooted name.now)) (word (name_first name.now)) }
+            (sought_in self.now scope.0 (is_rooted name.now)) (word (name_first name.now)) }
     {
         let token = name.start().number;
         let first = Word::new(name.first().name());
         if name.is_rooted() {
-            self.within(token, 0, first)
+            self.within(token, Scope::FILE, first)
         } else {
             self.outwards(token, scope, first)
         }
     }
 
     /// What is seen where a name is sought that stands in the scope.
-    pub fn look(&self, scope: usize, name: &ScopedName<'a>) -> Sight
-        requires { scope ≤ length self.now }
-        ensures seen { result ≡ sees self.now scope name.now }
+    pub fn look(&self, scope: Scope, name: &ScopedName<'a>) -> Sight
+        requires { scope.0 ≤ length self.now }
+        ensures seen { result ≡ sees self.now scope.0 name.now }
         ensures placed { (e : ℕ) → result ≡ Sight.Seen e → e < length self.now }
     {
         let token = name.start().number;
@@ -206,7 +207,7 @@ impl<'a> Table<'a> {
             match seen {
                 Sight::Seen(entry) => {
                     let word = Word::new(identifier.name());
-                    seen = self.sight(self.within(token, entry + 1, word), word.text);
+                    seen = self.sight(self.within(token, Scope(entry + 1), word), word.text);
                 }
                 _ => return seen,
             }
@@ -257,9 +258,9 @@ impl<'a> Table<'a> {
     /// Whether it is the name of the scope itself, which can't be declared in it. The scope of an
     /// operation has no name.
     pub fn is_own_name(&self, key: &Key<'a>) -> bool
-        ensures { result ≡ own_name_of self.now key.now.scope key.now.word.text.now }
+        ensures { result ≡ own_name_of self.now key.now.scope.0 key.now.word.text.now }
     {
-        let Some(number) = key.scope.checked_sub(1) else {
+        let Some(number) = key.scope.entry() else {
             return false;
         };
         match self.records.get(number) {
@@ -293,9 +294,9 @@ impl<'a> Table<'a> {
     }
 
     /// The scope that an entry is declared in.
-    pub fn scope(&self, entry: usize) -> usize
+    pub fn scope(&self, entry: usize) -> Scope
         requires { entry < length self.now }
-        ensures { IfSome (slice_get self.now entry) (λ e. result ≡ e.scope) }
+        ensures { IfSome (slice_get self.now entry) (λ e. result.0 ≡ e.scope) }
     {
         self.record(entry).key.scope
     }
@@ -341,15 +342,15 @@ impl<'a> Table<'a> {
         &mut self,
         alloc: Global,
         prefix: &'a str,
-        scope: usize,
+        scope: Scope,
         identifier: Leaf<'a>,
         meaning: Meaning,
     ) -> Result<(), AllocError>
-        requires scope { scope ≤ length self.old }
-        requires new { named self.old scope (word identifier) ≡ None }
+        requires scope { scope.0 ≤ length self.old }
+        requires new { named self.old scope.0 (word identifier) ≡ None }
         requires late { latest self.old ≤ meaning.token }
         ensures added { OnOk result (self.new ≡
-            self.old ++ entry_declared meaning prefix.entry.now scope identifier.entry ∷ []) }
+            self.old ++ entry_declared meaning prefix.entry.now scope.0 identifier.entry ∷ []) }
         ensures err { OnErr result (self.new ≡ self.old) }
     {
         let word = Word::new(identifier.name());
@@ -382,19 +383,19 @@ impl<'a> Table<'a> {
     }
 
     /// The scope of what an identifier was declared as; the file's where it was declared as nothing.
-    pub fn scope_of(&self, scope: usize, identifier: Leaf<'a>) -> usize
-        ensures is { result ≡ scope_of self.now scope identifier.entry }
-        ensures there { result ≤ length self.now }
+    pub fn scope_of(&self, scope: Scope, identifier: Leaf<'a>) -> Scope
+        ensures is { result.0 ≡ scope_of self.now scope.0 identifier.entry }
+        ensures there { result.0 ≤ length self.now }
     {
         match self.declared(scope, identifier) {
-            Some(number) => number + 1,
-            None => 0,
+            Some(number) => Scope(number + 1),
+            None => Scope::FILE,
         }
     }
 
     /// The entry that an identifier was declared as in the scope.
-    pub fn declared(&self, scope: usize, identifier: Leaf<'a>) -> Option<usize>
-        ensures is { result ≡ named self.now scope (word identifier.entry) }
+    pub fn declared(&self, scope: Scope, identifier: Leaf<'a>) -> Option<usize>
+        ensures is { result ≡ named self.now scope.0 (word identifier.entry) }
         ensures there { IfSome result (λ e. e < length self.now) }
         ensures small { IfSome result (λ e. e < 2 ^ 63) }
     {
@@ -403,9 +404,9 @@ impl<'a> Table<'a> {
     }
 
     /// What is seen where the name of a pragma is sought that stands in a scope.
-    pub fn look_for_words(&self, token: usize, scope: usize, name: &'a str) -> Sight
-        requires { scope ≤ length self.now }
-        ensures { result ≡ identifiers_see self.now token scope (begins_at_root name.now) (words name.now) }
+    pub fn look_for_words(&self, token: usize, scope: Scope, name: &'a str) -> Sight
+        requires { scope.0 ≤ length self.now }
+        ensures { result ≡ identifiers_see self.now token scope.0 (begins_at_root name.now) (words name.now) }
     {
         let mut words = Identifiers::new(name);
         let Some(first) = words.next() else {
@@ -413,7 +414,7 @@ impl<'a> Table<'a> {
         };
         let first = Word::new(unescaped(first));
         let found = if is_rooted(name) {
-            self.within(token, 0, first)
+            self.within(token, Scope::FILE, first)
         } else {
             self.outwards(token, scope, first)
         };
@@ -422,7 +423,7 @@ impl<'a> Table<'a> {
             match seen {
                 Sight::Seen(entry) => {
                     let word = Word::new(unescaped(word));
-                    seen = self.sight(self.within(token, entry + 1, word), word.text);
+                    seen = self.sight(self.within(token, Scope(entry + 1), word), word.text);
                 }
                 _ => return seen,
             }
@@ -435,15 +436,15 @@ impl<'a> Table<'a> {
     /// # Errors
     ///
     /// `AllocError`, and then nothing has changed.
-    pub fn add_base(&mut self, alloc: Global, inner: usize, base: Base) -> Result<(), AllocError>
-        requires inner { inner ≤ length self.old }
+    pub fn add_base(&mut self, alloc: Global, inner: Scope, base: Base) -> Result<(), AllocError>
+        requires inner { inner.0 ≤ length self.old }
         requires placed { base.entry < length self.old }
         requires late { latest self.old < base.token }
-        ensures told { OnOk result (self.new ≡ with_base self.old inner base) }
+        ensures told { OnOk result (self.new ≡ with_base self.old inner.0 base) }
         ensures count { length self.new ≡ length self.old }
         ensures err { OnErr result (self.new ≡ self.old) }
     {
-        let Some(number) = inner.checked_sub(1) else {
+        let Some(number) = inner.entry() else {
             return Ok(());
         };
         let heir = self.heir_for(alloc, inner, base)?;

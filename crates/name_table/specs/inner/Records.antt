@@ -21,7 +21,7 @@ heir_bases (Some h) = h.value.first ∷ h.value.later.items
 
 abbrev pub entry_of : Record → Entry
 entry_of r = record {
-  scope = r.key.scope;
+  scope = r.key.scope.0;
   name = r.key.word.text.now;
   token = r.token;
   kind = r.kind;
@@ -85,7 +85,7 @@ ArePlaced records = (scope token base : ℕ) →
 
 -- the scope of an entry is that of an earlier one
 abbrev pub AreNestedRecords : List Record → Type 0
-AreNestedRecords records = (k : ℕ) (r : Record) → slice_get records k ≡ Some r → r.key.scope ≤ k
+AreNestedRecords records = (k : ℕ) (r : Record) → slice_get records k ≡ Some r → r.key.scope.0 ≤ k
 
 -- some of the words is the name, whatever its case
 abbrev pub HasWord : List Word → List ℕ → Type 0

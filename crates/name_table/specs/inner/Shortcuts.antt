@@ -14,7 +14,7 @@ use Rattle.name_table.specs.Search.{inherited, within}
 
 -- what the bases of a scope give that are named before a token
 abbrev pub given_at : List Entry → List ℕ → Place → Found
-given_at es name place = inherited es place.token place.scope name
+given_at es name place = inherited es place.token place.scope.0 name
 
 -- a step of a search gives its end, or a place further down that gives the same
 abbrev pub IsSearchStep : List Entry → List ℕ → Place → SearchStep → Type 0
@@ -34,7 +34,7 @@ Passes es words place next = (name : List ℕ) → (given_at es name place ≡ g
 pub record IsShort (es : List Entry) (scope : ℕ) (short : Shortcut) : Type 0 where
   pub earlier : short.place.token ≤ short.after
   pub same : (token : ℕ) → short.after < token
-      → Passes es short.words.keys (record { token = token; scope = scope }) short.place
+      → Passes es short.words.keys (record { token = token; scope = record { 0 = scope } }) short.place
 
 abbrev pub way_in : Option (Option Shortcut) → Option Shortcut
 way_in None = None

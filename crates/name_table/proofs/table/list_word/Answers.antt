@@ -17,7 +17,7 @@ returns-in_err-make_room-clause-kept c = λ s name h. subst (λ ws. HasWord ws n
 pub returns-in_err-push-clause-kept : goal.returns-in_err-push-clause-kept
 returns-in_err-push-clause-kept c =
     let words = c.make_room.new.words.items in
-    let scope = c.args.scope in
+    let scope = c.args.scope.0 in
     let old = words_of_item words scope c.index_mut.result.now c.in_ok-make_room.ensures.there c.index_mut.ensures.value in
     λ s name h. kept_set words scope c.push.new.self (λ name. subst (λ ws. HasWord ws name) (old ∙ sym c.in_err-push.ensures.items)) s name
     (subst (λ ws. HasWord ws name) (sym (c.in_ok-make_room.ensures.same s)) h)
@@ -25,7 +25,7 @@ returns-in_err-push-clause-kept c =
 pub returns-clause-kept : goal.returns-clause-kept
 returns-clause-kept c =
     let words = c.make_room.new.words.items in
-    let scope = c.args.scope in
+    let scope = c.args.scope.0 in
     let old = words_of_item words scope c.index_mut.result.now c.in_ok-make_room.ensures.there c.index_mut.ensures.value in
     λ s name h. grown words scope c.index_mut.result.now c.push.new.self c.args.word old c.in_ok-push.ensures.items s name
     (subst (λ ws. HasWord ws name) (sym (c.in_ok-make_room.ensures.same s)) h)
@@ -33,6 +33,6 @@ returns-clause-kept c =
 pub returns-clause-listed : goal.returns-clause-listed
 returns-clause-listed c =
     let words = c.make_room.new.words.items in
-    let scope = c.args.scope in
+    let scope = c.args.scope.0 in
     λ name is. subst (λ ws. HasWord ws name) (sym (listed_set words scope c.push.new.self c.in_ok-make_room.ensures.there ∙ c.in_ok-push.ensures.items))
     (HasWord_last c.index_mut.result.now.items c.args.word name is)

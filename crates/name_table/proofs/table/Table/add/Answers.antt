@@ -13,8 +13,8 @@ pub push-requires : goal.push-requires
 push-requires c =
     let inside = c.self.inside in
     let es = c.args.self.now in
-    position_is inside.keys inside.records.items es c.self.view_is c.self.invariant.0.keyed _ c.args.scope c.new-word.result.text.now (λ r. refl)
-    ∙ ap (named es c.args.scope) (c.new-word.ensures ∙ c.name.ensures) ∙ c.requires.new
+    position_is inside.keys inside.records.items es c.self.view_is c.self.invariant.0.keyed _ c.args.scope.0 c.new-word.result.text.now (λ r. refl)
+    ∙ ap (named es c.args.scope.0) (c.new-word.ensures ∙ c.name.ensures) ∙ c.requires.new
 
 pub invariant_of-self-2 : goal.invariant_of-self-2
 invariant_of-self-2 c =
@@ -60,7 +60,7 @@ returns-clause-added c =
       prefix = c.args.prefix;
       heir = None;
     } in
-    let one = entry_declared m c.args.prefix.now c.args.scope l in
+    let one = entry_declared m c.args.prefix.now c.args.scope.0 l in
     ap entries_in (c.push_reserved.ensures.items ∙ ap (λ rs. rs ++ r ∷ []) c.in_ok-reserve.ensures.items)
     ∙ entries_push inside.records.items r ∙ ap (λ es. es ++ entry_of r ∷ []) c.self.view_is
     ∙ ap (λ n. let e : Entry = record one { name = n } in c.args.self.now ++ e ∷ []) (c.new-word.ensures ∙ c.name.ensures)

@@ -11,13 +11,13 @@ returns-in-Some c =
     let same : length keys ≡ length records = ap length c.self.invariant.0.keyed ∙ length-map records key_of in
     let here = c.in-Some.ensures in
     own_found keys records c.args.self.now c.self.view_is c.self.invariant.0.keyed _ c.in-Some.number
-    (sym c.number_of.ensures.is ∙ c.in-Some.is) c.args.scope c.args.word.text.now (λ r. refl)
+    (sym c.number_of.ensures.is ∙ c.in-Some.is) c.args.scope.0 c.args.word.text.now (λ r. refl)
     c.args.token c.index.result.now (omega (arith, same, here.there)) c.index.ensures c.if-index-token.true
 
 pub returns-in_default-2 : goal.returns-in_default-2
 returns-in_default-2 c =
     own_none c.self.inside.keys c.self.inside.records.items c.args.self.now c.self.view_is c.self.invariant.0.keyed _
-    (sym c.number_of.ensures.is ∙ c.in_default.is) c.args.scope c.args.word.text.now (λ r. refl) c.args.token
+    (sym c.number_of.ensures.is ∙ c.in_default.is) c.args.scope.0 c.args.word.text.now (λ r. refl) c.args.token
 
 pub returns-in_default : goal.returns-in_default
 returns-in_default c =
@@ -26,5 +26,5 @@ returns-in_default c =
     let same : length keys ≡ length records = ap length c.self.invariant.0.keyed ∙ length-map records key_of in
     let here = c.in-Some.ensures in
     own_behind keys records c.args.self.now c.self.view_is c.self.invariant.0.keyed _ c.in-Some.number
-    (sym c.number_of.ensures.is ∙ c.in-Some.is) c.args.scope c.args.word.text.now (λ r. refl)
+    (sym c.number_of.ensures.is ∙ c.in-Some.is) c.args.scope.0 c.args.word.text.now (λ r. refl)
     c.args.token c.index.result.now (omega (arith, same, here.there)) c.index.ensures c.if-index-token.false

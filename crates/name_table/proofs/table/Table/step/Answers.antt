@@ -8,8 +8,8 @@ pub overflow_add-scope : goal.overflow_add-scope
 overflow_add-scope c =
     let records = c.self.inside.records.items in
     let placed : c.in-Some-heir_of.heir.now.first.entry < length records =
-    first_placed records c.self.invariant.0.placed c.args.place.scope c.in-Some-heir_of.heir.now
-    (sym (c.in-Some-heir_of.ensures ∙ ap (λ xs. heir_of xs c.args.place.scope) c.as_slice.ensures.value)) in
+    first_placed records c.self.invariant.0.placed c.args.place.scope.0 c.in-Some-heir_of.heir.now
+    (sym (c.in-Some-heir_of.ensures ∙ ap (λ xs. heir_of xs c.args.place.scope.0) c.as_slice.ensures.value)) in
     omega arith
 
 pub returns-in-Nothing : goal.returns-in-Nothing
@@ -23,8 +23,8 @@ returns-in-Nothing c =
       omega arith,
       ap (λ s. inherited es base.token s text) next
           ∙ ap (λ found. or_else found rest) nothing
-          ∙ from_first_base c.self.inside.records.items es c.self.view_is c.self.invariant.0.searched c.args.place.token c.args.place.scope text c.in-Some-heir_of.heir.now
-          (sym (c.in-Some-heir_of.ensures ∙ ap (λ xs. heir_of xs c.args.place.scope) c.as_slice.ensures.value))
+          ∙ from_first_base c.self.inside.records.items es c.self.view_is c.self.invariant.0.searched c.args.place.token c.args.place.scope.0 text c.in-Some-heir_of.heir.now
+          (sym (c.in-Some-heir_of.ensures ∙ ap (λ xs. heir_of xs c.args.place.scope.0) c.as_slice.ensures.value))
           (sym c.in_default-other.ensures)
           (omega arith),
     )

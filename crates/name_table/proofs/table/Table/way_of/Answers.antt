@@ -14,15 +14,15 @@ enter-requires c =
     let records = c.self.inside.records.items in
     let count : length c.args.self.now ≡ length records = sym (ap length c.self.view_is) ∙ length-map records entry_of in
     let placed : c.in-Some.heir.now.first.entry < length records =
-    first_placed records c.self.invariant.0.placed c.args.scope c.in-Some.heir.now
-    (sym (c.in-Some.ensures ∙ ap (λ xs. heir_of xs c.args.scope) c.as_slice.ensures.value)) in
+    first_placed records c.self.invariant.0.placed c.args.scope.0 c.in-Some.heir.now
+    (sym (c.in-Some.ensures ∙ ap (λ xs. heir_of xs c.args.scope.0) c.as_slice.ensures.value)) in
     omega arith
 
 pub returns-clause-short : goal.returns-clause-short
 returns-clause-short c =
     let es = c.args.self.now in
     let h = c.in-Some.heir.now in
-    let scope = c.args.scope in
+    let scope = c.args.scope.0 in
     let kept : IsKept es scope h = subst (λ xs. IsKept xs scope h) c.self.view_is
     (kept_of c.self.inside.records.items c.self.invariant.0.searched scope h (sym (c.in-Some.ensures ∙ ap (λ xs. heir_of xs scope) c.as_slice.ensures.value))) in
     way_over es scope h c.in_ok-inside.inside c.in_ok-half.half c.in_ok-place.place
@@ -35,7 +35,7 @@ returns-clause-short c =
 pub returns-clause-low : goal.returns-clause-low
 returns-clause-low c =
     let records = c.self.inside.records.items in
-    let scope = c.args.scope in
+    let scope = c.args.scope.0 in
     let h = c.in-Some.heir.now in
     subst (λ xs. h.first.token ≤ latest xs) c.self.view_is
     (bases_low (entries_in records) scope h.first.token h.first.entry
