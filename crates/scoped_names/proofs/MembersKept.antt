@@ -14,7 +14,7 @@ place_at places None = None
 place_at places (Some k) = slice_get places k
 
 -- what is kept of a key is where its member is declared
-pub members_kept : (test : Key → Bool) (ks : List Key) (places : List At) (scope : ℕ) (name : List ℕ) → ((k : Key) → (nat_eq scope k.scope && same_but_for_case name k.word.text.now) ≡ test k) → length ks ≡ length places
+pub members_kept : (test : Key → Bool) (ks : List Key) (places : List At) (scope : ℕ) (name : List ℕ) → ((k : Key) → (nat_eq scope k.scope.0 && same_but_for_case name k.word.text.now) ≡ test k) → length ks ≡ length places
     → member_named (members_of ks places) scope name ≡ place_at places (position test ks)
 members_kept test [] places scope name same h = refl
 members_kept test (k ∷ ks) [] scope name same h = absurd (omega arith)
@@ -41,7 +41,7 @@ abbrev after : Option At → At → Bool → Option At
 after others a b = if b then Some a else others
 
 -- a name that no member has is that of no key
-pub members_none : (test : Key → Bool) (ks : List Key) (places : List At) (scope : ℕ) (name : List ℕ) → ((k : Key) → (nat_eq scope k.scope && same_but_for_case name k.word.text.now) ≡ test k) → length ks ≡ length places
+pub members_none : (test : Key → Bool) (ks : List Key) (places : List At) (scope : ℕ) (name : List ℕ) → ((k : Key) → (nat_eq scope k.scope.0 && same_but_for_case name k.word.text.now) ≡ test k) → length ks ≡ length places
     → member_named (members_of ks places) scope name ≡ None → position test ks ≡ None
 members_none test [] places scope name same h none = refl
 members_none test (k ∷ ks) [] scope name same h none = absurd (omega arith)

@@ -10,7 +10,7 @@ use crate::fault::{Flaw, NameFault};
 use const_values::{ConstKind, Constant, applied, literal_constant, signed, text_constant};
 use idl_tree::expression::{Expr, Operator, Sign};
 use idl_tree::names::{At, ScopedName};
-use name_table::{Sight, Table};
+use name_table::{Scope, Sight, Table};
 use std::alloc::{AllocError, Global};
 
 /// The number, if it is a whole one.
@@ -84,11 +84,11 @@ pub(crate) fn found_at(table: &Table<'_>, at: At, seen: Sight) -> Result<usize, 
 /// `Unknown`, `CaseDiffers` or `Ambiguous`, at the name's first token.
 pub(crate) fn resolve<'a>(
     table: &Table<'a>,
-    scope: usize,
+    scope: Scope,
     name: &ScopedName<'a>,
 ) -> Result<usize, NameFault>
-    requires { scope ≤ length table.now }
-    ensures told { result ≡ resolved table.now scope name.now }
+    requires { scope.0 ≤ length table.now }
+    ensures told { result ≡ resolved table.now scope.0 name.now }
     ensures placed { IfOk result (λ entry. entry < length table.now) }
 {
     found_at(table, name.start().at(), table.look(scope, name))
@@ -97,11 +97,11 @@ pub(crate) fn resolve<'a>(
 /// That a name finds a constant or an enumerator.
 fn test_constant<'a>(
     table: &Table<'a>,
-    scope: usize,
+    scope: Scope,
     name: &ScopedName<'a>,
 ) -> Result<(), NameFault>
-    requires { scope ≤ length table.now }
-    ensures { Checks result (constant_test table.now scope name.now) }
+    requires { scope.0 ≤ length table.now }
+    ensures { Checks result (constant_test table.now scope.0 name.now) }
 {
     let entry = got!(resolve(table, scope, name));
     match table.constant(entry) {
@@ -114,9 +114,9 @@ fn test_constant<'a>(
 }
 
 /// That each name in an expression does, in the order of reading.
-fn test_names<'a>(table: &Table<'a>, scope: usize, expr: &Expr<'a>) -> Result<(), NameFault>
-    requires { scope ≤ length table.now }
-    ensures { Checks result (names_test table.now scope expr.now) }
+fn test_names<'a>(table: &Table<'a>, scope: Scope, expr: &Expr<'a>) -> Result<(), NameFault>
+    requires { scope.0 ≤ length table.now }
+    ensures { Checks result (names_test table.now scope.0 expr.now) }
 {
     match expr {
         Expr::Name(name) => test_constant(table, scope, name),
@@ -136,11 +136,11 @@ fn test_names<'a>(table: &Table<'a>, scope: usize, expr: &Expr<'a>) -> Result<()
 /// What a name is worth, if it stands for a constant.
 fn name_worth<'a>(
     table: &Table<'a>,
-    scope: usize,
+    scope: Scope,
     name: &ScopedName<'a>,
 ) -> Result<Option<Constant>, AllocError>
-    requires { scope ≤ length table.now }
-    ensures { IfOk result (λ c. c ≡ named_worth table.now scope name.now) }
+    requires { scope.0 ≤ length table.now }
+    ensures { IfOk result (λ c. c ≡ named_worth table.now scope.0 name.now) }
 {
     match resolve(table, scope, name) {
         Ok(entry) => match table.constant(entry) {
@@ -155,11 +155,11 @@ fn name_worth<'a>(
 fn worth<'a>(
     table: &Table<'a>,
     alloc: Global,
-    scope: usize,
+    scope: Scope,
     expr: &Expr<'a>,
 ) -> Result<Option<Constant>, AllocError>
-    requires { scope ≤ length table.now }
-    ensures { IfOk result (λ c. c ≡ worth (named_worth table.now scope) expr.now) }
+    requires { scope.0 ≤ length table.now }
+    ensures { IfOk result (λ c. c ≡ worth (named_worth table.now scope.0) expr.now) }
 {
     match expr {
         Expr::Name(name) => name_worth(table, scope, name),
@@ -190,11 +190,11 @@ fn worth<'a>(
 pub(crate) fn value<'a>(
     table: &Table<'a>,
     alloc: Global,
-    scope: usize,
+    scope: Scope,
     expr: &Expr<'a>,
 ) -> Result<Constant, NameFault>
-    requires { scope ≤ length table.now }
-    ensures { Gives result (value_read table.now scope expr.now) }
+    requires { scope.0 ≤ length table.now }
+    ensures { Gives result (value_read table.now scope.0 expr.now) }
 {
     got!(test_names(table, scope, expr));
     match room!(worth(table, alloc, scope, expr)) {
@@ -214,11 +214,11 @@ pub(crate) fn value<'a>(
 pub(crate) fn size<'a>(
     table: &Table<'a>,
     alloc: Global,
-    scope: usize,
+    scope: Scope,
     expr: &Expr<'a>,
 ) -> Result<u128, NameFault>
-    requires { scope ≤ length table.now }
-    ensures { Gives result (size_read table.now scope expr.now) }
+    requires { scope.0 ≤ length table.now }
+    ensures { Gives result (size_read table.now scope.0 expr.now) }
 {
     match &got!(value(table, alloc, scope, expr)) {
         Constant::Integer(value) if *value > 0 => Ok(value.unsigned_abs()),
@@ -233,12 +233,12 @@ pub(crate) fn size<'a>(
 pub(crate) fn value_of_kind<'a>(
     table: &Table<'a>,
     alloc: Global,
-    scope: usize,
+    scope: Scope,
     kind: Option<ConstKind>,
     expr: &Expr<'a>,
 ) -> Result<Constant, NameFault>
-    requires { scope ≤ length table.now }
-    ensures { Gives result (value_of_type kind table.now scope expr.now) }
+    requires { scope.0 ≤ length table.now }
+    ensures { Gives result (value_of_type kind table.now scope.0 expr.now) }
 {
     let constant = got!(value(table, alloc, scope, expr));
     match kind {

@@ -6,10 +6,11 @@ ghost use Rattle.scoped_names.specs.declared.fault.NameFault.TheVariants.{NoMemo
 use idl_tree::kinds::EntryKind;
 use idl_tree::names::At;
 use std::alloc::{AllocError, AllocFailed};
-use thiserror::Error;
+use std::error::Error;
+use std::fmt::{Debug, Display, Error as FmtError, Formatter, Write};
 
 /// Why an expression isn't what has to stand in its place.
-#[derive(Clone, Copy, Debug)]
+#[derive(Clone, Copy)]
 pub enum Flaw {
     /// A name in it is that of no constant and no enumerator.
     NoConstant,
@@ -23,7 +24,7 @@ pub enum Flaw {
 }
 
 /// Why an entry can't be a base.
-#[derive(Clone, Copy, Debug)]
+#[derive(Clone, Copy)]
 pub enum Unfit {
     /// It is no interface that was defined before.
     NotDefined,
@@ -35,72 +36,61 @@ pub enum Unfit {
 
 /// The first fault in the order of reading. It is told where a name begins, or an expression, or at
 /// the identifier that is declared.
-#[derive(Clone, Copy, Debug, Drop, Error)]
+#[derive(Clone, Copy, Drop)]
 pub enum NameFault {
     /// Nothing of the name is declared before it, or a type that was declared ahead is never
     /// defined.
-    #[error("20 Unknown line {at}")]
     Unknown {
         at: At,
     },
     /// The scope has another declaration of the name, or the name is that of the scope itself, or a
     /// second definition. The other declaration is told where it is one.
-    #[error("21 Collides line {at}")]
     Collides {
         at: At,
         other: Option<At>,
     },
     /// The name is declared in another case.
-    #[error("22 CaseDiffers line {at}")]
     CaseDiffers {
         at: At,
         other: Option<At>,
     },
     /// Two bases of an interface give different entries, of which these are the first two.
-    #[error("23 Ambiguous line {at}")]
     Ambiguous {
         at: At,
         one: Option<At>,
         other: Option<At>,
     },
     /// The name is that of no type, or of no exception where one has to stand.
-    #[error("24 NotAType line {at}")]
     NotAType {
         at: At,
         found: Option<EntryKind>,
     },
     /// Two pragmas give a name different ids or versions. The first of them is told too.
-    #[error("25 IdTwice line {at}")]
     IdTwice {
         at: At,
         other: At,
     },
     /// A constant expression has no value, or none that its place allows.
-    #[error("26 BadConstant line {at}")]
     BadConstant {
         at: At,
         why: Flaw,
     },
     /// A base is no interface that was defined before, or is listed twice, or has an operation or
     /// attribute of the name of another base's.
-    #[error("27 BadBase line {at}")]
     BadBase {
         at: At,
         why: Unfit,
     },
     /// A prefix stands in a scope other than the file's.
-    #[error("28 PrefixInScope line {at}")]
     PrefixInScope {
         at: At,
     },
     /// A type that was declared ahead appears again under another prefix.
-    #[error("29 PrefixDiffers line {at}")]
     PrefixDiffers {
         at: At,
         other: Option<At>,
     },
     /// Memory was refused.
-    #[error("no memory")]
     NoMemory,
 }
 
@@ -129,7 +119,43 @@ impl NameFault {
             None => 0,
         }
     }
+
+    /// Its number and its name.
+    fn title(self) -> &'static str {
+        match self {
+            NameFault::Unknown { .. } => "20 Unknown",
+            NameFault::Collides { .. } => "21 Collides",
+            NameFault::CaseDiffers { .. } => "22 CaseDiffers",
+            NameFault::Ambiguous { .. } => "23 Ambiguous",
+            NameFault::NotAType { .. } => "24 NotAType",
+            NameFault::IdTwice { .. } => "25 IdTwice",
+            NameFault::BadConstant { .. } => "26 BadConstant",
+            NameFault::BadBase { .. } => "27 BadBase",
+            NameFault::PrefixInScope { .. } => "28 PrefixInScope",
+            NameFault::PrefixDiffers { .. } => "29 PrefixDiffers",
+            NameFault::NoMemory => "no memory",
+        }
+    }
 }
+
+// Derived, the two would write each fault apart, and take longer to prove than anything else here.
+
+impl Display for NameFault {
+    fn fmt<W: Write>(&self, f: &mut Formatter<W>) -> Result<(), FmtError> {
+        match self.at() {
+            Some(at) => write!(f, "{} line {at}", self.title()),
+            None => f.write_str(self.title()),
+        }
+    }
+}
+
+impl Debug for NameFault {
+    fn fmt<W: Write>(&self, f: &mut Formatter<W>) -> Result<(), FmtError> {
+        Display::fmt(self, f)
+    }
+}
+
+impl Error for NameFault {}
 
 impl From<AllocError> for NameFault {
     ghost from_gives = { λ _ e. e ≡ NoMemory };

@@ -11,17 +11,17 @@ use const_values::ConstKind;
 use idl_tree::const_expr::Bound;
 use idl_tree::names::ScopedName;
 use idl_tree::types::{ConstType, ParamType, SimpleType};
-use name_table::Table;
+use name_table::{Scope, Table};
 use std::alloc::{AllocError, Global};
 
 fn string_kind<'a>(
     table: &Table<'a>,
     alloc: Global,
-    scope: usize,
+    scope: Scope,
     bound: &Option<Bound<'a>>,
 ) -> Result<ConstKind, AllocError>
-    requires { scope ≤ length table.now }
-    ensures { IfOk result (λ kind. kind ≡ string_kind_of table.now scope bound.now) }
+    requires { scope.0 ≤ length table.now }
+    ensures { IfOk result (λ kind. kind ≡ string_kind_of table.now scope.0 bound.now) }
 {
     let Some(bound) = bound else {
         return Ok(ConstKind::String(None));
@@ -34,9 +34,9 @@ fn string_kind<'a>(
 }
 
 /// The type of constants that the name of a type stands for.
-fn name_kind<'a>(table: &Table<'a>, scope: usize, name: &ScopedName<'a>) -> Option<ConstKind>
-    requires { scope ≤ length table.now }
-    ensures { result ≡ meant_found table.now (finds table.now scope name.now) }
+fn name_kind<'a>(table: &Table<'a>, scope: Scope, name: &ScopedName<'a>) -> Option<ConstKind>
+    requires { scope.0 ≤ length table.now }
+    ensures { result ≡ meant_found table.now (finds table.now scope.0 name.now) }
 {
     match resolve(table, scope, name) {
         Ok(entry) => table.stands_for(entry),
@@ -52,11 +52,11 @@ fn name_kind<'a>(table: &Table<'a>, scope: usize, name: &ScopedName<'a>) -> Opti
 pub(crate) fn const_type_kind<'a>(
     table: &Table<'a>,
     alloc: Global,
-    scope: usize,
+    scope: Scope,
     t: &ConstType<'a>,
 ) -> Result<Option<ConstKind>, AllocError>
-    requires { scope ≤ length table.now }
-    ensures { IfOk result (λ kind. kind ≡ const_kind_of table.now scope t.now) }
+    requires { scope.0 ≤ length table.now }
+    ensures { IfOk result (λ kind. kind ≡ const_kind_of table.now scope.0 t.now) }
 {
     Ok(match t {
         ConstType::Integer(integer) => Some(ConstKind::Integer(*integer)),
@@ -71,11 +71,11 @@ pub(crate) fn const_type_kind<'a>(
 fn param_type_kind<'a>(
     table: &Table<'a>,
     alloc: Global,
-    scope: usize,
+    scope: Scope,
     t: &ParamType<'a>,
 ) -> Result<Option<ConstKind>, AllocError>
-    requires { scope ≤ length table.now }
-    ensures { IfOk result (λ kind. kind ≡ param_kind_of table.now scope t.now) }
+    requires { scope.0 ≤ length table.now }
+    ensures { IfOk result (λ kind. kind ≡ param_kind_of table.now scope.0 t.now) }
 {
     match t {
         ParamType::Plain(plain) => const_type_kind(table, alloc, scope, plain),
@@ -91,11 +91,11 @@ fn param_type_kind<'a>(
 pub(crate) fn simple_type_kind<'a>(
     table: &Table<'a>,
     alloc: Global,
-    scope: usize,
+    scope: Scope,
     t: &SimpleType<'a>,
 ) -> Result<Option<ConstKind>, AllocError>
-    requires { scope ≤ length table.now }
-    ensures { IfOk result (λ kind. kind ≡ simple_kind_of table.now scope t.now) }
+    requires { scope.0 ≤ length table.now }
+    ensures { IfOk result (λ kind. kind ≡ simple_kind_of table.now scope.0 t.now) }
 {
     match t {
         SimpleType::Plain(plain) => param_type_kind(table, alloc, scope, plain),

@@ -39,6 +39,6 @@ mod tables;
 pub use all_faults::{NameFaults, name_faults};
 pub use fault::{Flaw, NameFault, Unfit};
 pub use idl_tree::kinds::EntryKind;
-pub use name_table::Base;
+pub use name_table::{Base, Scope};
 pub use names::Names;
 pub use specification::bind;

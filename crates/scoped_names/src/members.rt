@@ -46,7 +46,7 @@ impl<'a> Members<'a> {
 
     /// Where the scope's member of the word is declared.
     pub fn at(&self, key: &Key<'a>) -> Option<At>
-        ensures { result ≡ member_named self.now key.now.scope key.now.word.text.now }
+        ensures { result ≡ member_named self.now key.now.scope.0 key.now.word.text.now }
     {
         match self.keys.number_of(key) {
             Some(number) => Some(self.places[number]),
@@ -60,7 +60,7 @@ impl<'a> Members<'a> {
     ///
     /// `AllocError`, and then nothing has changed.
     pub fn push(&mut self, key: Key<'a>, at: At) -> Result<(), AllocError>
-        requires { member_named self.old key.scope key.word.text.now ≡ None }
+        requires { member_named self.old key.scope.0 key.word.text.now ≡ None }
         ensures pushed { OnOk result (self.new ≡ self.old ++ member_of key.entry at ∷ []) }
         ensures err { OnErr result (self.new ≡ self.old) }
     {

@@ -16,13 +16,12 @@ use const_values::{ConstKind, Constant};
 use idl_tree::expression::Expr;
 use idl_tree::kinds::EntryKind;
 use idl_tree::names::{Leaf, ScopedName};
-use name_table::{Base, Table};
+use name_table::{Base, Scope, Table};
 use std::alloc::{AllocError, Global};
 use std::marker::Model;
 
 /// The names of a specification. A contract sees the entries in order of declaration, and what
-/// pragmas say of repository ids. A scope is 0 for the file, else one more than the number of the
-/// entry whose scope it is.
+/// pragmas say of repository ids.
 pub struct Names<'a> {
     pub(crate) table: Table<'a>,
     pub(crate) ids: IdPragmas<'a>,
@@ -48,10 +47,10 @@ impl<'a> Names<'a> {
     /// # Errors
     ///
     /// `Unknown`, `CaseDiffers` or `Ambiguous`, with the line of the name's first token.
-    pub fn resolve(&self, scope: usize, name: &ScopedName<'a>) -> Result<usize, NameFault>
-        requires { scope ≤ length self.now.entries }
-        ensures told { result ≡ resolved self.now.entries scope name.now }
-        ensures finds { (entry : ℕ) → (result ≡ Ok entry) ↔ Finds self.now.entries scope name.now entry }
+    pub fn resolve(&self, scope: Scope, name: &ScopedName<'a>) -> Result<usize, NameFault>
+        requires { scope.0 ≤ length self.now.entries }
+        ensures told { result ≡ resolved self.now.entries scope.0 name.now }
+        ensures finds { (entry : ℕ) → (result ≡ Ok entry) ↔ Finds self.now.entries scope.0 name.now entry }
         ensures placed { IfOk result (λ entry. entry < length self.now.entries) }
     {
         resolve(&self.table, scope, name)
@@ -66,8 +65,8 @@ impl<'a> Names<'a> {
     }
 
     /// The entry that an identifier was declared as in the scope. Takes no memory.
-    pub fn declared(&self, scope: usize, identifier: Leaf<'a>) -> Option<usize>
-        ensures is { result ≡ named self.now.entries scope (word identifier.entry) }
+    pub fn declared(&self, scope: Scope, identifier: Leaf<'a>) -> Option<usize>
+        ensures is { result ≡ named self.now.entries scope.0 (word identifier.entry) }
         ensures there { IfSome result (λ e. e < length self.now.entries) }
     {
         self.table.declared(scope, identifier)
@@ -90,9 +89,9 @@ impl<'a> Names<'a> {
     }
 
     /// The scope that an entry is declared in.
-    pub fn scope(&self, entry: usize) -> usize
+    pub fn scope(&self, entry: usize) -> Scope
         requires { entry < length self.now.entries }
-        ensures { IfSome (slice_get self.now.entries entry) (λ e. result ≡ e.scope) }
+        ensures { IfSome (slice_get self.now.entries entry) (λ e. result.0 ≡ e.scope) }
     {
         self.table.scope(entry)
     }
@@ -143,10 +142,10 @@ impl<'a> Names<'a> {
     /// # Errors
     ///
     /// The fault of a name in it, `BadConstant` where it has no worth, `NoMemory`.
-    pub fn value(&self, alloc: Global, scope: usize, expr: &Expr<'a>) -> Result<Constant, NameFault>
-        requires { scope ≤ length self.now.entries }
-        ensures told { Gives result (value_read self.now.entries scope expr.now) }
-        ensures ok { IfOk result (λ c. worth_in_scope self.now.entries scope expr.now ≡ Some c) }
+    pub fn value(&self, alloc: Global, scope: Scope, expr: &Expr<'a>) -> Result<Constant, NameFault>
+        requires { scope.0 ≤ length self.now.entries }
+        ensures told { Gives result (value_read self.now.entries scope.0 expr.now) }
+        ensures ok { IfOk result (λ c. worth_in_scope self.now.entries scope.0 expr.now ≡ Some c) }
     {
         value(&self.table, alloc, scope, expr)
     }
@@ -156,10 +155,10 @@ impl<'a> Names<'a> {
     /// # Errors
     ///
     /// As `value`, and `BadConstant` where the worth is no such number.
-    pub fn size(&self, alloc: Global, scope: usize, expr: &Expr<'a>) -> Result<u128, NameFault>
-        requires { scope ≤ length self.now.entries }
-        ensures told { Gives result (size_read self.now.entries scope expr.now) }
-        ensures ok { IfOk result (λ n. size_in_scope self.now.entries scope expr.now ≡ Some n) }
+    pub fn size(&self, alloc: Global, scope: Scope, expr: &Expr<'a>) -> Result<u128, NameFault>
+        requires { scope.0 ≤ length self.now.entries }
+        ensures told { Gives result (size_read self.now.entries scope.0 expr.now) }
+        ensures ok { IfOk result (λ n. size_in_scope self.now.entries scope.0 expr.now ≡ Some n) }
     {
         size(&self.table, alloc, scope, expr)
     }

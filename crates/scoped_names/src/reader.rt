@@ -18,7 +18,7 @@ use crate::repository_ids::IdPragmas;
 use crate::tables::Tables;
 use idl_tree::kinds::EntryKind;
 use idl_tree::names::{At, Leaf};
-use name_table::{Base, Found, Key, Meaning, Numbered, Table, Word};
+use name_table::{Base, Found, Key, Meaning, Numbered, Scope, Table, Word};
 use std::alloc::Global;
 use std::marker::Model;
 
@@ -32,7 +32,7 @@ pub(crate) struct Reader<'a> {
     prefix: &'a str,
     pub(crate) ids: IdPragmas<'a>,
     /// The scope that was entered last and not left yet.
-    scope: usize,
+    scope: Scope,
     /// The entry of the last enumeration.
     pub(crate) enumeration: usize,
 }
@@ -43,9 +43,9 @@ impl<'a> Model for Reader<'a> {
 
     ghost Value = { State };
 
-    ghost view = { λ r. record { entries = r.tables; members = r.members; defined = r.defined; prefix = r.prefix.now; given = r.ids; scope = r.scope; enumeration = r.enumeration } };
+    ghost view = { λ r. record { entries = r.tables; members = r.members; defined = r.defined; prefix = r.prefix.now; given = r.ids; scope = r.scope.0; enumeration = r.enumeration } };
 
-    ghost invariant = { λ r. r.scope ≤ length r.tables };
+    ghost invariant = { λ r. r.scope.0 ≤ length r.tables };
 }
 
 /// Whether what was declared as this may be declared again as that.
@@ -138,7 +138,7 @@ impl<'a> Reader<'a> {
             defined: Numbered::new(alloc),
             prefix: "",
             ids: IdPragmas::new(alloc),
-            scope: 0,
+            scope: Scope::FILE,
             enumeration: 0,
         }
     }
@@ -151,9 +151,9 @@ impl<'a> Reader<'a> {
     }
 
     /// The scope that was entered last and not left yet.
-    pub fn scope(&self) -> usize
-        ensures is { result ≡ self.now.scope }
-        ensures there { result ≤ length self.now.entries }
+    pub fn scope(&self) -> Scope
+        ensures is { result.0 ≡ self.now.scope }
+        ensures there { result.0 ≤ length self.now.entries }
     {
         self.scope
     }
@@ -174,10 +174,10 @@ impl<'a> Reader<'a> {
     }
 
     /// Where what has the scope is declared first.
-    fn scope_at(&self, scope: usize) -> Option<At>
-        ensures { result ≡ scope_at_entry self.now.entries scope }
+    fn scope_at(&self, scope: Scope) -> Option<At>
+        ensures { result ≡ scope_at_entry self.now.entries scope.0 }
     {
-        match scope.checked_sub(1) {
+        match scope.entry() {
             Some(number) => declared_at(self.table(), number),
             None => None,
         }
@@ -231,7 +231,7 @@ impl<'a> Reader<'a> {
                 match self.tables.add(alloc, prefix, scope, identifier, meaning) {
                     Ok(()) => Ok(()),
                     Err(_) => {
-                        self.scope = 0;
+                        self.scope = Scope::FILE;
                         Err(NameFault::NoMemory)
                     }
                 }
@@ -273,9 +273,9 @@ impl<'a> Reader<'a> {
     }
 
     /// The scope of what an identifier was declared as.
-    pub fn scope_of(&self, identifier: Leaf<'a>) -> usize
-        ensures is { result ≡ scope_of self.now.entries self.now.scope identifier.entry }
-        ensures there { result ≤ length self.now.entries }
+    pub fn scope_of(&self, identifier: Leaf<'a>) -> Scope
+        ensures is { result.0 ≡ scope_of self.now.entries self.now.scope identifier.entry }
+        ensures there { result.0 ≤ length self.now.entries }
     {
         self.table().scope_of(self.scope, identifier)
     }
@@ -294,14 +294,14 @@ impl<'a> Reader<'a> {
         self.scope = self.scope_around();
     }
 
-    fn scope_around(&self) -> usize
-        ensures is { result ≡ around_of self.now.entries self.now.scope }
-        ensures there { result ≤ length self.now.entries }
+    fn scope_around(&self) -> Scope
+        ensures is { result.0 ≡ around_of self.now.entries self.now.scope }
+        ensures there { result.0 ≤ length self.now.entries }
     {
         let _count = self.table().len();
-        match self.scope.checked_sub(1) {
+        match self.scope.entry() {
             Some(number) => self.table().scope(number),
-            None => 0,
+            None => Scope::FILE,
         }
     }
 
@@ -310,10 +310,10 @@ impl<'a> Reader<'a> {
     /// # Errors
     ///
     /// `Collides`, at the identifier of the definition.
-    pub fn is_undefined(&self, scope: usize, identifier: Leaf<'a>) -> Result<(), NameFault>
-        ensures { Checks result (undefined_test self.now scope identifier.entry) }
+    pub fn is_undefined(&self, scope: Scope, identifier: Leaf<'a>) -> Result<(), NameFault>
+        ensures { Checks result (undefined_test self.now scope.0 identifier.entry) }
     {
-        if self.defined.contains(&scope) {
+        if self.defined.contains(&scope.0) {
             return Err(NameFault::Collides {
                 at: identifier.at(),
                 other: self.scope_at(scope),
@@ -333,7 +333,7 @@ impl<'a> Reader<'a> {
     {
         let scope = self.scope;
         self.is_undefined(scope, identifier)?;
-        room!(self.defined.insert(scope));
+        room!(self.defined.insert(scope.0));
         Ok(())
     }
 
@@ -384,7 +384,7 @@ impl<'a> Reader<'a> {
         ensures told { Tells result self.new (prefix_set self.old self.old.scope text.entry.now at) }
         ensures kept { Keeps result self.old self.new }
     {
-        if self.scope > 0 {
+        if self.scope.0 > 0 {
             return Err(NameFault::PrefixInScope { at });
         }
         self.prefix = text;
@@ -401,10 +401,10 @@ impl<'a> Reader<'a> {
 
     /// That an entry is an interface that is defined, is no base yet, and has no other operation or
     /// attribute of a name of those before.
-    fn may_be_base(&self, alloc: Global, inner: usize, base: Base, at: At) -> Result<(), NameFault>
+    fn may_be_base(&self, alloc: Global, inner: Scope, base: Base, at: At) -> Result<(), NameFault>
         requires placed { base.entry < length self.now.entries }
         requires late { latest self.now.entries < base.token }
-        ensures { Checks result (base_test self.now inner base at) }
+        ensures { Checks result (base_test self.now inner.0 base at) }
     {
         if !self.is_defined_interface(base.entry) {
             let why = Unfit::NotDefined;
@@ -429,21 +429,21 @@ impl<'a> Reader<'a> {
     pub fn add_base(
         &mut self,
         alloc: Global,
-        inner: usize,
+        inner: Scope,
         base: Base,
         at: At,
     ) -> Result<(), NameFault>
-        requires inner { inner ≤ length self.old.entries }
+        requires inner { inner.0 ≤ length self.old.entries }
         requires placed { base.entry < length self.old.entries }
         requires late { latest self.old.entries < base.token }
-        ensures told { Tells result self.new (with_base_at self.old inner base at) }
+        ensures told { Tells result self.new (with_base_at self.old inner.0 base at) }
         ensures kept { Keeps result self.old self.new }
     {
         got!(self.may_be_base(alloc, inner, base, at));
         match self.tables.add_base(alloc, inner, base) {
             Ok(()) => Ok(()),
             Err(_) => {
-                self.scope = 0;
+                self.scope = Scope::FILE;
                 Err(NameFault::NoMemory)
             }
         }

@@ -26,7 +26,7 @@ use idl_tree::names::{Leaf, ScopedName};
 use idl_tree::spec::Spec;
 use idl_tree::types::{Declarator, TypeSpec};
 use name_steps::{Step, Steps};
-use name_table::{Base, Meaning};
+use name_table::{Base, Meaning, Scope};
 use std::alloc::{AllocError, Global};
 
 /// What may stand for a type.
@@ -156,12 +156,12 @@ impl<'a> Reader<'a> {
     fn read_base(
         &mut self,
         alloc: Global,
-        inner: usize,
+        inner: Scope,
         name: &ScopedName<'a>,
     ) -> Result<(), NameFault>
-        requires inner { inner ≤ length self.old.entries }
+        requires inner { inner.0 ≤ length self.old.entries }
         requires late { latest self.old.entries < (name_start name.now).number }
-        ensures told { Tells result self.new (base_added self.old inner name.now) }
+        ensures told { Tells result self.new (base_added self.old inner.0 name.now) }
         ensures kept { Keeps result self.old self.new }
     {
         let entry = got!(resolve(self.table(), self.scope(), name));

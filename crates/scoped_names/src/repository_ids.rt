@@ -11,7 +11,7 @@ ghost use Rattle.scoped_names.specs.IdPragmas.{is_same_given};
 
 use crate::fault::NameFault;
 use idl_tree::names::At;
-use name_table::{Numbered, Table};
+use name_table::{Numbered, Scope, Table};
 use std::alloc::{AllocError, Global};
 use std::marker::Model;
 
@@ -63,9 +63,8 @@ pub(crate) fn path_to<'a>(
 {
     let _count = table.len();
     let mut names = Vec::new(alloc);
-    let mut scope = entry + 1;
-    while scope > 0 {
-        let outer = scope - 1;
+    let mut scope = Scope(entry + 1);
+    while let Some(outer) = scope.entry() {
         names.push(table.name(outer))?;
         scope = table.scope(outer);
     }

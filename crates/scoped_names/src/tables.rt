@@ -7,7 +7,7 @@ ghost use Rattle.name_table.specs.Features.{differ as differ_by, features_of};
 ghost use Rattle.name_table.specs.Search.{inherited as inherited_by, word};
 
 use idl_tree::names::Leaf;
-use name_table::{Base, Found, Meaning, Table, Word};
+use name_table::{Base, Found, Meaning, Scope, Table, Word};
 use std::alloc::{AllocError, Global};
 use std::marker::Model;
 
@@ -62,15 +62,15 @@ impl<'a> Tables<'a> {
         &mut self,
         alloc: Global,
         prefix: &'a str,
-        scope: usize,
+        scope: Scope,
         identifier: Leaf<'a>,
         meaning: Meaning,
     ) -> Result<(), AllocError>
-        requires scope { scope ≤ length self.old }
-        requires new { named self.old scope (word identifier) ≡ None }
+        requires scope { scope.0 ≤ length self.old }
+        requires new { named self.old scope.0 (word identifier) ≡ None }
         requires late { latest self.old ≤ meaning.token }
         ensures added { OnOk result (self.new ≡
-            self.old ++ entry_declared meaning prefix.entry.now scope identifier.entry ∷ []) }
+            self.old ++ entry_declared meaning prefix.entry.now scope.0 identifier.entry ∷ []) }
     {
         let feature = meaning.as_feature();
         self.features
@@ -85,14 +85,14 @@ impl<'a> Tables<'a> {
     }
 
     /// Puts a base behind those that an interface has. A refusal leaves what it leaves of `add`.
-    pub fn add_base(&mut self, alloc: Global, inner: usize, base: Base) -> Result<(), AllocError>
-        requires inner { inner ≤ length self.old }
+    pub fn add_base(&mut self, alloc: Global, inner: Scope, base: Base) -> Result<(), AllocError>
+        requires inner { inner.0 ≤ length self.old }
         requires placed { base.entry < length self.old }
         requires late { latest self.old < base.token }
-        ensures told { OnOk result (self.new ≡ with_base self.old inner base) }
+        ensures told { OnOk result (self.new ≡ with_base self.old inner.0 base) }
         ensures count { OnOk result (length self.new ≡ length self.old) }
     {
-        let scope = base.entry.saturating_add(1);
+        let scope = Scope(base.entry.saturating_add(1));
         self.features.shorten(alloc, scope)?;
         self.all.shorten(alloc, scope)?;
         self.features.add_base(alloc, inner, base)?;
@@ -106,18 +106,18 @@ impl<'a> Tables<'a> {
     }
 
     /// Which operation or attribute of the word a scope inherits.
-    pub fn inherited(&self, token: usize, scope: usize, word: Word<'a>) -> Found
-        ensures { result ≡ inherited_by (features_of self.now) token scope word.entry.text.now }
+    pub fn inherited(&self, token: usize, scope: Scope, word: Word<'a>) -> Found
+        ensures { result ≡ inherited_by (features_of self.now) token scope.0 word.entry.text.now }
     {
         self.features.inherited(token, scope, word)
     }
 
     /// Whether a base that is named behind all others has another operation or attribute of some name
     /// than those before.
-    pub fn differ(&self, alloc: Global, inner: usize, base: Base) -> Result<bool, AllocError>
+    pub fn differ(&self, alloc: Global, inner: Scope, base: Base) -> Result<bool, AllocError>
         requires placed { base.entry < length self.now }
         requires late { latest self.now < base.token }
-        ensures { IfOk result (λ r. r ≡ differ_by (features_of self.now) inner base) }
+        ensures { IfOk result (λ r. r ≡ differ_by (features_of self.now) inner.0 base) }
     {
         self.features.differ(alloc, inner, base)
     }

@@ -5,7 +5,7 @@ use Rattle.idl_tree.specs.declared.names.At.{At}
 use Rattle.scoped_names.specs.Reading.{Member}
 
 abbrev pub member_of : Key → At → Member
-member_of k at = record { scope = k.scope; name = k.word.text.now; at = at }
+member_of k at = record { scope = k.scope.0; name = k.word.text.now; at = at }
 
 abbrev pub members_of : List Key → List At → List Member
 members_of [] places = []

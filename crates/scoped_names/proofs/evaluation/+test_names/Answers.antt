@@ -8,7 +8,7 @@ use Rattle.scoped_names.proofs.evaluation.+test_names.Goals as goal
 pub loop-part-init : goal.loop-part-init
 loop-part-init t c =
     let es = c.args.table.now in
-    let scope = c.args.scope in
+    let scope = c.args.scope.0 in
     let first : names_test es scope c.in-Chain.first.value ≡ Ok tt =
     sym (ap (names_test es scope) c.deref-in-Chain.ensures) ∙ c.in_ok-test_names-in-Chain.ensures in
     ap (all (operand_test es scope)) c.deref-part-items.ensures.value

@@ -37,13 +37,13 @@ worth-requires-in-loop-part t c =
 
 pub loop-part-init : goal.loop-part-init
 loop-part-init t c =
-    let names = named_worth c.args.table.now c.args.scope in
+    let names = named_worth c.args.table.now c.args.scope.0 in
     chain_begins names c.in-Chain.first c.in-Chain.rest c.args.expr.now c.deref-in-Chain.result.now c.in_ok-worth-in-Chain.field-0 c.deref-part-items.result.now c.whole-value-in-Chain.result
     c.in-Chain.is c.deref-in-Chain.ensures c.deref-part-items.ensures.value c.in_ok-worth-in-Chain.ensures c.whole-value-in-Chain.ensures
 
 pub loop-part-preserved : goal.loop-part-preserved
 loop-part-preserved t c =
-    let names = named_worth c.args.table.now c.args.scope in
+    let names = named_worth c.args.table.now c.args.scope.0 in
     let xs = c.deref-part-items.result.now in
     let k = c.loop-part.part-index in
     let lt : k < length xs = omega arith in

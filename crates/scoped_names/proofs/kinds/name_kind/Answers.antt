@@ -9,5 +9,5 @@ pub returns-in-Ok : goal.returns-in-Ok
 returns-in-Ok c =
     let es = c.args.table.now in
     let name = c.args.name.now in
-    let both = found_finds es (at (name_start name)) (sees es c.args.scope name) c.in-Ok.entry in
+    let both = found_finds es (at (name_start name)) (sees es c.args.scope.0 name) c.in-Ok.entry in
     c.stands_for.ensures ∙ sym (ap (meant_found es) (both.0 (sym c.resolve.ensures.told ∙ c.in-Ok.is)))

@@ -10,14 +10,14 @@ returns-in-Some c =
     let places = c.self.inside.places.items in
     let x = c.index.result.now in
     let here : slice_get places c.in-Some.number ≡ Some x = slice_get_read places (length places) c.in-Some.number x refl (omega (arith, c.in-Some.ensures.there, c.self.invariant)) c.index.ensures in
-    sym (sym (ap (λ ms. member_named ms key.scope key.word.text.now) c.self.view_is)
-    ∙ members_kept _ c.self.inside.keys places key.scope key.word.text.now (λ k. refl) c.self.invariant
+    sym (sym (ap (λ ms. member_named ms key.scope.0 key.word.text.now) c.self.view_is)
+    ∙ members_kept _ c.self.inside.keys places key.scope.0 key.word.text.now (λ k. refl) c.self.invariant
     ∙ ap (place_at places) (sym c.number_of.ensures.is ∙ c.in-Some.is) ∙ here)
 
 pub returns-in-None : goal.returns-in-None
 returns-in-None c =
     let key = c.args.key.now in
     let places = c.self.inside.places.items in
-    sym (sym (ap (λ ms. member_named ms key.scope key.word.text.now) c.self.view_is)
-    ∙ members_kept _ c.self.inside.keys places key.scope key.word.text.now (λ k. refl) c.self.invariant
+    sym (sym (ap (λ ms. member_named ms key.scope.0 key.word.text.now) c.self.view_is)
+    ∙ members_kept _ c.self.inside.keys places key.scope.0 key.word.text.now (λ k. refl) c.self.invariant
     ∙ ap (place_at places) (sym c.number_of.ensures.is ∙ c.in-None.is))

@@ -7,8 +7,8 @@ use Rattle.scoped_names.proofs.members.Members.push.Goals as goal
 pub push-requires : goal.push-requires
 push-requires c =
     let key = c.args.key in
-    members_none _ c.self.inside.keys c.self.inside.places.items key.scope key.word.text.now (λ k. refl) c.self.invariant
-    (ap (λ ms. member_named ms key.scope key.word.text.now) c.self.view_is ∙ c.requires)
+    members_none _ c.self.inside.keys c.self.inside.places.items key.scope.0 key.word.text.now (λ k. refl) c.self.invariant
+    (ap (λ ms. member_named ms key.scope.0 key.word.text.now) c.self.view_is ∙ c.requires)
 
 pub returns-clause-pushed : goal.returns-clause-pushed
 returns-clause-pushed c =

@@ -8,7 +8,7 @@ use Rattle.scoped_names.proofs.names.Names.resolve.Goals as goal
 pub returns-clause-finds : goal.returns-clause-finds
 returns-clause-finds c = λ entry.
     let es = c.args.self.now.entries in
-    let scope = c.args.scope in
+    let scope = c.args.scope.0 in
     let name = c.args.name.now in
     let told : c.resolve.result ≡ resolved es scope name =
     c.resolve.ensures.told ∙ ap (λ n. resolved n.entries scope name) c.self.view_is in

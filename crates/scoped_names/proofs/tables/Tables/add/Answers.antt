@@ -17,7 +17,7 @@ add-requires-clause-scope c =
 
 pub add-requires-clause-new : goal.add-requires-clause-new
 add-requires-clause-new c =
-    let scope = c.args.scope in
+    let scope = c.args.scope.0 in
     let name = word c.args.identifier in
     ap (λ es. named es scope name) c.self.invariant
     ∙ named_features c.self.inside.all scope name ∙ ap (λ es. named es scope name) c.self.view_is ∙ c.requires.new
@@ -36,7 +36,7 @@ add-requires-clause-late c =
 pub invariant_of-self-in-Ok : goal.invariant_of-self-in-Ok
 invariant_of-self-in-Ok c =
     let table = c.self.inside.all in
-    let made : Meaning → Entry = λ m. entry_declared m c.args.prefix.now c.args.scope c.args.identifier in
+    let made : Meaning → Entry = λ m. entry_declared m c.args.prefix.now c.args.scope.0 c.args.identifier in
     let feature = made c.as_feature-feature.result in
     let entry = made c.args.meaning in
     let is : feature ≡ as_feature entry = ap made c.as_feature-feature.ensures in

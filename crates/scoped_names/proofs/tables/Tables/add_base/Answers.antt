@@ -30,7 +30,7 @@ add_base-requires-clause-late c =
 
 pub invariant_of-self-in-Ok : goal.invariant_of-self-in-Ok
 invariant_of-self-in-Ok c =
-    let inner = c.args.inner in
+    let inner = c.args.inner.0 in
     let base = c.args.base in
     let more = c.in-Ok.ensures.told ∙ ap (λ es. with_base es inner base) c.shorten-2.ensures in
     c.in_ok-add_base.ensures.told
