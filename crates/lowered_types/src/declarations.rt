@@ -16,7 +16,7 @@ use crate::types::{lower_member, lower_struct, lower_type, lower_union};
 use idl_tree::definitions::{Declaration, Except, TypeDcl};
 use idl_tree::names::{At, Leaf, Listed};
 use idl_tree::types::Declarator;
-use scoped_names::Names;
+use scoped_names::{Names, Scope};
 use std::alloc::Global;
 use type_graph::Node;
 use type_paths::NodeSites;
@@ -47,11 +47,11 @@ impl TypeTable {
         self,
         alloc: Global,
         names: &Names<'a>,
-        scope: usize,
+        scope: Scope,
         d: &Declaration<'a>,
     ) -> Result<TypeTable, BuildFault>
-        requires { scope ≤ length names.now.entries }
-        ensures { Tells result (λ table. table) (declaration names.now.entries self scope d.now) }
+        requires { scope.0 ≤ length names.now.entries }
+        ensures { Tells result (λ table. table) (declaration names.now.entries self scope.0 d.now) }
     {
         let mut table = self;
         lower_declaration(names, &mut table, alloc, scope, d)?;
@@ -64,12 +64,12 @@ fn lower_typedef<'a>(
     names: &Names<'a>,
     table: &mut TypeTable,
     alloc: Global,
-    scope: usize,
+    scope: Scope,
     number: u32,
     declarator: &Declarator<'a>,
 ) -> Result<(), BuildFault>
-    requires { scope ≤ length names.now.entries }
-    ensures { Tells result (λ u. table.new) (with_typedef names.now.entries scope number table.old declarator.now) }
+    requires { scope.0 ≤ length names.now.entries }
+    ensures { Tells result (λ u. table.new) (with_typedef names.now.entries scope.0 number table.old declarator.now) }
 {
     let number = lower_arrays(names, table, alloc, scope, number, declarator)?;
     let entry = declared_entry(names, scope, declarator.identifier)?;
@@ -80,13 +80,13 @@ fn lower_typedefs<'a>(
     names: &Names<'a>,
     table: &mut TypeTable,
     alloc: Global,
-    scope: usize,
+    scope: Scope,
     number: u32,
     declarators: &Listed<Declarator<'a>>,
 ) -> Result<(), BuildFault>
-    requires { scope ≤ length names.now.entries }
+    requires { scope.0 ≤ length names.now.entries }
     ensures { Tells result (λ u. table.new)
-        (each (with_typedef names.now.entries scope number) table.old (parts declarators.now)) }
+        (each (with_typedef names.now.entries scope.0 number) table.old (parts declarators.now)) }
 {
     for declarator in declarators.iter() {
         lower_typedef(names, table, alloc, scope, number, declarator)?;
@@ -99,10 +99,10 @@ fn lower_ahead<'a>(
     names: &Names<'a>,
     table: &mut TypeTable,
     alloc: Global,
-    scope: usize,
+    scope: Scope,
     identifier: Leaf<'a>,
 ) -> Result<(), BuildFault>
-    ensures { Tells result (λ u. table.new) (ahead names.now.entries table.old scope identifier.entry) }
+    ensures { Tells result (λ u. table.new) (ahead names.now.entries table.old scope.0 identifier.entry) }
 {
     let entry = declared_entry(names, scope, identifier)?;
     table.declare(alloc, entry, identifier.at())?;
@@ -113,11 +113,11 @@ fn lower_type_dcl<'a>(
     names: &Names<'a>,
     table: &mut TypeTable,
     alloc: Global,
-    scope: usize,
+    scope: Scope,
     t: &TypeDcl<'a>,
 ) -> Result<(), BuildFault>
-    requires { scope ≤ length names.now.entries }
-    ensures { Tells result (λ u. table.new) (type_dcl names.now.entries table.old scope t.now) }
+    requires { scope.0 ≤ length names.now.entries }
+    ensures { Tells result (λ u. table.new) (type_dcl names.now.entries table.old scope.0 t.now) }
 {
     match t {
         TypeDcl::Typedef {
@@ -149,17 +149,18 @@ fn lower_except<'a>(
     names: &Names<'a>,
     table: &mut TypeTable,
     alloc: Global,
-    scope: usize,
+    scope: Scope,
     e: &Except<'a>,
 ) -> Result<(), BuildFault>
-    requires { scope ≤ length names.now.entries }
-    ensures { Tells result (λ u. table.new) (except names.now.entries table.old scope e.now) }
+    requires { scope.0 ≤ length names.now.entries }
+    ensures { Tells result (λ u. table.new) (except names.now.entries table.old scope.0 e.now) }
 {
     let at = e.identifier.at();
     let entry = declared_entry(names, scope, e.identifier)?;
+    let inside = Scope(entry + 1);
     let mut members = id_member(alloc, at)?;
     for member in &e.members {
-        lower_member(names, table, alloc, entry + 1, member, &mut members)?;
+        lower_member(names, table, alloc, inside, member, &mut members)?;
     }
     table.add_exception(entry, members, at)
 }
@@ -169,11 +170,11 @@ fn lower_declaration<'a>(
     names: &Names<'a>,
     table: &mut TypeTable,
     alloc: Global,
-    scope: usize,
+    scope: Scope,
     d: &Declaration<'a>,
 ) -> Result<(), BuildFault>
-    requires { scope ≤ length names.now.entries }
-    ensures { Tells result (λ u. table.new) (declaration names.now.entries table.old scope d.now) }
+    requires { scope.0 ≤ length names.now.entries }
+    ensures { Tells result (λ u. table.new) (declaration names.now.entries table.old scope.0 d.now) }
 {
     match d {
         Declaration::TypeDcl(t) => lower_type_dcl(names, table, alloc, scope, t),

@@ -18,7 +18,7 @@ use const_values::{ConstKind, Constant};
 use idl_tree::expression::Expr;
 use idl_tree::names::{At, Listed};
 use idl_tree::types::{Label, SwitchType};
-use scoped_names::Names;
+use scoped_names::{Names, Scope};
 use std::alloc::Global;
 use std::marker::Model;
 use type_graph::{GraphLimit, Node, Values, Width};
@@ -145,13 +145,13 @@ fn add_label<'a>(
     names: &Names<'a>,
     read: &mut CaseLabels,
     alloc: Global,
-    scope: usize,
+    scope: Scope,
     switch: Switch,
     arms: &ArmList,
     label: &Label<'a>,
 ) -> Result<(), BuildFault>
-    requires { scope ≤ length names.now.entries }
-    ensures { Tells result (λ u. read.new) (label_added names.now.entries scope switch arms.now read.old label.now) }
+    requires { scope.0 ≤ length names.now.entries }
+    ensures { Tells result (λ u. read.new) (label_added names.now.entries scope.0 switch arms.now read.old label.now) }
 {
     match label {
         Label::Case(value) => {
@@ -173,14 +173,14 @@ fn add_label<'a>(
 pub(crate) fn read_labels<'a>(
     alloc: Global,
     names: &Names<'a>,
-    scope: usize,
+    scope: Scope,
     switch: Switch,
     arms: &ArmList,
     labels: &Listed<Label<'a>>,
 ) -> Result<CaseLabels, BuildFault>
-    requires { scope ≤ length names.now.entries }
+    requires { scope.0 ≤ length names.now.entries }
     ensures { Tells result (λ ls. ls)
-        (each (label_added names.now.entries scope switch arms.now) no_labels (parts labels.now)) }
+        (each (label_added names.now.entries scope.0 switch arms.now) no_labels (parts labels.now)) }
 {
     let mut read = CaseLabels::new(alloc);
     for label in labels.iter() {
@@ -254,12 +254,12 @@ fn label_within(
 fn read_label<'a>(
     alloc: Global,
     names: &Names<'a>,
-    scope: usize,
+    scope: Scope,
     switch: Switch,
     expr: &Expr<'a>,
 ) -> Result<i128, BuildFault>
-    requires { scope ≤ length names.now.entries }
-    ensures { Tells result (λ n. n) (label_value names.now.entries scope switch expr.now) }
+    requires { scope.0 ≤ length names.now.entries }
+    ensures { Tells result (λ n. n) (label_value names.now.entries scope.0 switch expr.now) }
 {
     let constant = read_value(alloc, names, scope, expr)?;
     let at = expr.start().at();
@@ -321,11 +321,11 @@ fn values_of(node: Option<&Node>) -> Option<Values>
 /// `OtherNames` where its name finds nothing.
 fn kind_of<'a>(
     names: &Names<'a>,
-    scope: usize,
+    scope: Scope,
     switch: &SwitchType<'a>,
 ) -> Result<Option<ConstKind>, BuildFault>
-    requires { scope ≤ length names.now.entries }
-    ensures { result ≡ switch_kind names.now.entries scope switch.now }
+    requires { scope.0 ≤ length names.now.entries }
+    ensures { result ≡ switch_kind names.now.entries scope.0 switch.now }
 {
     Ok(match switch {
         SwitchType::Integer(integer) => Some(ConstKind::Integer(*integer)),
@@ -375,11 +375,11 @@ fn lower_switch_type<'a>(
     names: &Names<'a>,
     table: &mut TypeTable,
     alloc: Global,
-    scope: usize,
+    scope: Scope,
     switch: &SwitchType<'a>,
 ) -> Result<u32, BuildFault>
-    requires { scope ≤ length names.now.entries }
-    ensures { Tells result (already table.new) (switch_type names.now.entries table.old scope switch.now) }
+    requires { scope.0 ≤ length names.now.entries }
+    ensures { Tells result (already table.new) (switch_type names.now.entries table.old scope.0 switch.now) }
 {
     match switch {
         SwitchType::Integer(integer) => Ok(integer_number(*integer)),
@@ -398,12 +398,12 @@ pub(crate) fn lower_switch<'a>(
     names: &Names<'a>,
     table: &mut TypeTable,
     alloc: Global,
-    scope: usize,
+    scope: Scope,
     at: At,
     switch: &SwitchType<'a>,
 ) -> Result<Switch, BuildFault>
-    requires { scope ≤ length names.now.entries }
-    ensures { Tells result (switched table.new) (switch_read names.now.entries table.old scope at switch.now) }
+    requires { scope.0 ≤ length names.now.entries }
+    ensures { Tells result (switched table.new) (switch_read names.now.entries table.old scope.0 at switch.now) }
 {
     let number = lower_switch_type(names, table, alloc, scope, switch)?;
     let kind = kind_of(names, scope, switch)?;

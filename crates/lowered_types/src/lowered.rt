@@ -11,7 +11,7 @@ use crate::simple::lower_param_type;
 use crate::table::TypeTable;
 use idl_tree::names::At;
 use idl_tree::types::ParamType;
-use scoped_names::Names;
+use scoped_names::{Names, Scope};
 use std::alloc::Global;
 use type_graph::Node;
 use type_paths::NodeSites;
@@ -61,11 +61,11 @@ impl TypeTable {
         self,
         alloc: Global,
         names: &Names<'a>,
-        scope: usize,
+        scope: Scope,
         t: &ParamType<'a>,
     ) -> Result<(TypeTable, u32), BuildFault>
-        requires { scope ≤ length names.now.entries }
-        ensures { Tells result (λ r. already r.0 r.1) (param_type names.now.entries self scope t.now) }
+        requires { scope.0 ≤ length names.now.entries }
+        ensures { Tells result (λ r. already r.0 r.1) (param_type names.now.entries self scope.0 t.now) }
     {
         let mut table = self;
         let number = lower_param_type(names, &mut table, alloc, scope, t)?;

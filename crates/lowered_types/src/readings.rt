@@ -11,7 +11,7 @@ use idl_tree::const_expr::{Bound, ConstExpr};
 use idl_tree::expression::Expr;
 use idl_tree::names::{Leaf, ScopedName};
 use idl_tree::types::{Integer, IntegerSize};
-use scoped_names::{NameFault, Names};
+use scoped_names::{NameFault, Names, Scope};
 use std::alloc::Global;
 use type_graph::GraphLimit;
 
@@ -25,10 +25,10 @@ const MAX_BOUND: u32 = 4_294_967_295;
 /// `OtherNames` where it wasn't.
 pub fn declared_entry<'a>(
     names: &Names<'a>,
-    scope: usize,
+    scope: Scope,
     identifier: Leaf<'a>,
 ) -> Result<usize, BuildFault>
-    ensures told { result ≡ entry_of names.now.entries scope identifier.entry }
+    ensures told { result ≡ entry_of names.now.entries scope.0 identifier.entry }
     ensures there { IfOk result (λ e. e < length names.now.entries) }
     ensures small { IfOk result (λ e. suc e < 2 ^ 64) }
 {
@@ -45,11 +45,11 @@ pub fn declared_entry<'a>(
 /// `OtherNames` where it finds none.
 pub fn resolved<'a>(
     names: &Names<'a>,
-    scope: usize,
+    scope: Scope,
     name: &ScopedName<'a>,
 ) -> Result<usize, BuildFault>
-    requires { scope ≤ length names.now.entries }
-    ensures told { result ≡ entry_found names.now.entries scope name.now }
+    requires { scope.0 ≤ length names.now.entries }
+    ensures told { result ≡ entry_found names.now.entries scope.0 name.now }
     ensures there { IfOk result (λ e. e < length names.now.entries) }
 {
     match names.resolve(scope, name) {
@@ -79,11 +79,11 @@ pub(crate) fn integer_number(integer: Integer) -> u32
 pub(crate) fn read_value<'a>(
     alloc: Global,
     names: &Names<'a>,
-    scope: usize,
+    scope: Scope,
     expr: &Expr<'a>,
 ) -> Result<Constant, BuildFault>
-    requires { scope ≤ length names.now.entries }
-    ensures { Tells result (λ c. c) (of_names (value_read names.now.entries scope expr.now)) }
+    requires { scope.0 ≤ length names.now.entries }
+    ensures { Tells result (λ c. c) (of_names (value_read names.now.entries scope.0 expr.now)) }
 {
     match names.value(alloc, scope, expr) {
         Ok(constant) => Ok(constant),
@@ -96,11 +96,11 @@ pub(crate) fn read_value<'a>(
 fn read_number<'a>(
     alloc: Global,
     names: &Names<'a>,
-    scope: usize,
+    scope: Scope,
     expr: &Expr<'a>,
 ) -> Result<u128, BuildFault>
-    requires { scope ≤ length names.now.entries }
-    ensures { Tells result (λ n. n) (of_names (size_read names.now.entries scope expr.now)) }
+    requires { scope.0 ≤ length names.now.entries }
+    ensures { Tells result (λ n. n) (of_names (size_read names.now.entries scope.0 expr.now)) }
 {
     match names.size(alloc, scope, expr) {
         Ok(n) => Ok(n),
@@ -116,11 +116,11 @@ fn read_number<'a>(
 pub(crate) fn read_bound<'a>(
     alloc: Global,
     names: &Names<'a>,
-    scope: usize,
+    scope: Scope,
     bound: &Bound<'a>,
 ) -> Result<u32, BuildFault>
-    requires { scope ≤ length names.now.entries }
-    ensures { Tells result (λ n. n) (bound_of names.now.entries scope bound.now) }
+    requires { scope.0 ≤ length names.now.entries }
+    ensures { Tells result (λ n. n) (bound_of names.now.entries scope.0 bound.now) }
 {
     let most = read_number(alloc, names, scope, &bound.expr)?;
     let at = bound.expr.start().at();
@@ -131,11 +131,11 @@ pub(crate) fn read_bound<'a>(
 pub(crate) fn read_bound_or_none<'a>(
     alloc: Global,
     names: &Names<'a>,
-    scope: usize,
+    scope: Scope,
     bound: &Option<Bound<'a>>,
 ) -> Result<u32, BuildFault>
-    requires { scope ≤ length names.now.entries }
-    ensures { Tells result (λ n. n) (bound_or_none names.now.entries scope bound.now) }
+    requires { scope.0 ≤ length names.now.entries }
+    ensures { Tells result (λ n. n) (bound_or_none names.now.entries scope.0 bound.now) }
 {
     match bound {
         Some(bound) => read_bound(alloc, names, scope, bound),
@@ -150,11 +150,11 @@ pub(crate) fn read_bound_or_none<'a>(
 fn read_size<'a>(
     alloc: Global,
     names: &Names<'a>,
-    scope: usize,
+    scope: Scope,
     size: &ConstExpr<'a>,
 ) -> Result<u32, BuildFault>
-    requires { scope ≤ length names.now.entries }
-    ensures { Tells result (λ n. n) (size_of names.now.entries scope size.now) }
+    requires { scope.0 ≤ length names.now.entries }
+    ensures { Tells result (λ n. n) (size_of names.now.entries scope.0 size.now) }
 {
     let count = read_number(alloc, names, scope, &size.expr)?;
     let at = size.expr.start().at();
@@ -168,11 +168,11 @@ fn read_size<'a>(
 pub(crate) fn read_sizes<'a>(
     alloc: Global,
     names: &Names<'a>,
-    scope: usize,
+    scope: Scope,
     sizes: &[ConstExpr<'a>],
 ) -> Result<Vec<u32>, BuildFault>
-    requires { scope ≤ length names.now.entries }
-    ensures { Tells result (λ counts. counts.items) (sizes_read names.now.entries scope sizes.now) }
+    requires { scope.0 ≤ length names.now.entries }
+    ensures { Tells result (λ counts. counts.items) (sizes_read names.now.entries scope.0 sizes.now) }
 {
     let mut counts = Vec::new(alloc);
     for size in sizes {

@@ -10,7 +10,7 @@ use crate::readings::{declared_entry, integer_number, read_bound, read_bound_or_
 use crate::table::{TypeTable, find_type};
 use idl_tree::names::At;
 use idl_tree::types::{ConstType, Declarator, EnumType, ParamType, SimpleType};
-use scoped_names::Names;
+use scoped_names::{Names, Scope};
 use std::alloc::Global;
 use type_graph::{GraphLimit, Node};
 
@@ -50,11 +50,11 @@ pub(crate) fn lower_const_type<'a>(
     names: &Names<'a>,
     table: &mut TypeTable,
     alloc: Global,
-    scope: usize,
+    scope: Scope,
     t: &ConstType<'a>,
 ) -> Result<u32, BuildFault>
-    requires { scope ≤ length names.now.entries }
-    ensures { Tells result (already table.new) (const_type names.now.entries table.old scope t.now) }
+    requires { scope.0 ≤ length names.now.entries }
+    ensures { Tells result (already table.new) (const_type names.now.entries table.old scope.0 t.now) }
 {
     match t {
         ConstType::Integer(integer) => Ok(integer_number(*integer)),
@@ -79,11 +79,11 @@ pub(crate) fn lower_param_type<'a>(
     names: &Names<'a>,
     table: &mut TypeTable,
     alloc: Global,
-    scope: usize,
+    scope: Scope,
     t: &ParamType<'a>,
 ) -> Result<u32, BuildFault>
-    requires { scope ≤ length names.now.entries }
-    ensures { Tells result (already table.new) (param_type names.now.entries table.old scope t.now) }
+    requires { scope.0 ≤ length names.now.entries }
+    ensures { Tells result (already table.new) (param_type names.now.entries table.old scope.0 t.now) }
 {
     match t {
         ParamType::Plain(plain) => lower_const_type(names, table, alloc, scope, plain),
@@ -96,12 +96,12 @@ pub(crate) fn lower_simple<'a>(
     names: &Names<'a>,
     table: &mut TypeTable,
     alloc: Global,
-    scope: usize,
+    scope: Scope,
     at: At,
     t: &SimpleType<'a>,
 ) -> Result<u32, BuildFault>
-    requires { scope ≤ length names.now.entries }
-    ensures { Tells result (already table.new) (simple_type names.now.entries table.old scope at t.now) }
+    requires { scope.0 ≤ length names.now.entries }
+    ensures { Tells result (already table.new) (simple_type names.now.entries table.old scope.0 at t.now) }
 {
     match t {
         SimpleType::Plain(plain) => lower_param_type(names, table, alloc, scope, plain),
@@ -118,13 +118,13 @@ pub(crate) fn lower_arrays<'a>(
     names: &Names<'a>,
     table: &mut TypeTable,
     alloc: Global,
-    scope: usize,
+    scope: Scope,
     elem: u32,
     declarator: &Declarator<'a>,
 ) -> Result<u32, BuildFault>
-    requires { scope ≤ length names.now.entries }
+    requires { scope.0 ≤ length names.now.entries }
     ensures { Tells result (already table.new)
-        (array_type names.now.entries scope (already table.old elem) declarator.now) }
+        (array_type names.now.entries scope.0 (already table.old elem) declarator.now) }
 {
     let counts = read_sizes(alloc, names, scope, declarator.sizes.as_slice())?;
     let at = declarator.identifier.at();
@@ -139,10 +139,10 @@ pub(crate) fn lower_enum<'a>(
     names: &Names<'a>,
     table: &mut TypeTable,
     alloc: Global,
-    scope: usize,
+    scope: Scope,
     e: &EnumType<'a>,
 ) -> Result<u32, BuildFault>
-    ensures { Tells result (already table.new) (enum_type names.now.entries table.old scope e.now) }
+    ensures { Tells result (already table.new) (enum_type names.now.entries table.old scope.0 e.now) }
 {
     let at = e.identifier.at();
     let entry = declared_entry(names, scope, e.identifier)?;

@@ -10,7 +10,7 @@ use crate::place::Place;
 use crate::readings::resolved;
 use basic_types::basic_nodes;
 use idl_tree::names::{At, ScopedName};
-use scoped_names::Names;
+use scoped_names::{Names, Scope};
 use std::alloc::Global;
 use std::marker::Model;
 use type_graph::{GraphLimit, Members, Node};
@@ -301,11 +301,11 @@ impl TypeTable {
 pub(crate) fn find_type<'a>(
     names: &Names<'a>,
     table: &TypeTable,
-    scope: usize,
+    scope: Scope,
     name: &ScopedName<'a>,
 ) -> Result<u32, BuildFault>
-    requires { scope ≤ length names.now.entries }
-    ensures { result ≡ type_found names.now.entries table.now scope name.now }
+    requires { scope.0 ≤ length names.now.entries }
+    ensures { result ≡ type_found names.now.entries table.now scope.0 name.now }
 {
     let entry = resolved(names, scope, name)?;
     match table.type_at(entry) {

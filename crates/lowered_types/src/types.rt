@@ -14,7 +14,7 @@ use crate::simple::{lower_arrays, lower_enum, lower_simple};
 use crate::table::TypeTable;
 use idl_tree::names::{At, Listed};
 use idl_tree::types::{Case, Declarator, Member, StructType, TypeSpec, UnionType};
-use scoped_names::Names;
+use scoped_names::{Names, Scope};
 use std::alloc::Global;
 use type_graph::{Arms, Node};
 
@@ -55,14 +55,14 @@ fn lower_declarator<'a>(
     names: &Names<'a>,
     table: &mut TypeTable,
     alloc: Global,
-    scope: usize,
+    scope: Scope,
     number: u32,
     declarator: &Declarator<'a>,
     members: &mut MemberList,
 ) -> Result<(), BuildFault>
-    requires { scope ≤ length names.now.entries }
+    requires { scope.0 ≤ length names.now.entries }
     ensures { Tells result (λ u. with_members_of table.new members.new)
-        (with_declarator names.now.entries scope number (with_members_of table.old members.old) declarator.now) }
+        (with_declarator names.now.entries scope.0 number (with_members_of table.old members.old) declarator.now) }
 {
     let at = declarator.identifier.at();
     let number = lower_arrays(names, table, alloc, scope, number, declarator)?;
@@ -74,14 +74,14 @@ fn lower_declarators<'a>(
     names: &Names<'a>,
     table: &mut TypeTable,
     alloc: Global,
-    scope: usize,
+    scope: Scope,
     number: u32,
     declarators: &Listed<Declarator<'a>>,
     members: &mut MemberList,
 ) -> Result<(), BuildFault>
-    requires { scope ≤ length names.now.entries }
+    requires { scope.0 ≤ length names.now.entries }
     ensures { Tells result (λ u. with_members_of table.new members.new)
-        (with_declarators names.now.entries scope (already table.old number) members.old declarators.now) }
+        (with_declarators names.now.entries scope.0 (already table.old number) members.old declarators.now) }
 {
     for declarator in declarators.iter() {
         lower_declarator(names, table, alloc, scope, number, declarator, members)?;
@@ -98,12 +98,12 @@ pub(crate) fn lower_type<'a>(
     names: &Names<'a>,
     table: &mut TypeTable,
     alloc: Global,
-    scope: usize,
+    scope: Scope,
     at: At,
     t: &TypeSpec<'a>,
 ) -> Result<u32, BuildFault>
-    requires { scope ≤ length names.now.entries }
-    ensures { Tells result (already table.new) (type_spec names.now.entries table.old scope at t.now) }
+    requires { scope.0 ≤ length names.now.entries }
+    ensures { Tells result (already table.new) (type_spec names.now.entries table.old scope.0 at t.now) }
 {
     match t {
         TypeSpec::Simple(simple) => lower_simple(names, table, alloc, scope, at, simple),
@@ -119,13 +119,13 @@ pub(crate) fn lower_member<'a>(
     names: &Names<'a>,
     table: &mut TypeTable,
     alloc: Global,
-    scope: usize,
+    scope: Scope,
     member: &Member<'a>,
     members: &mut MemberList,
 ) -> Result<(), BuildFault>
-    requires { scope ≤ length names.now.entries }
+    requires { scope.0 ≤ length names.now.entries }
     ensures { Tells result (λ u. with_members_of table.new members.new)
-        (with_member names.now.entries scope (with_members_of table.old members.old) member.now) }
+        (with_member names.now.entries scope.0 (with_members_of table.old members.old) member.now) }
 {
     let at = member.declarators.first.identifier.at();
     let number = lower_type(names, table, alloc, scope, at, &member.member_type)?;
@@ -145,19 +145,20 @@ pub(crate) fn lower_struct<'a>(
     names: &Names<'a>,
     table: &mut TypeTable,
     alloc: Global,
-    scope: usize,
+    scope: Scope,
     s: &StructType<'a>,
 ) -> Result<u32, BuildFault>
-    requires { scope ≤ length names.now.entries }
-    ensures { Tells result (already table.new) (struct_type names.now.entries table.old scope s.now) }
+    requires { scope.0 ≤ length names.now.entries }
+    ensures { Tells result (already table.new) (struct_type names.now.entries table.old scope.0 s.now) }
 {
     let at = s.identifier.at();
     let entry = declared_entry(names, scope, s.identifier)?;
     let number = table.declare(alloc, entry, at)?;
+    let inside = Scope(entry + 1);
     let mut members = MemberList::new(alloc);
-    lower_member(names, table, alloc, entry + 1, &s.first, &mut members)?;
+    lower_member(names, table, alloc, inside, &s.first, &mut members)?;
     for member in &s.rest {
-        lower_member(names, table, alloc, entry + 1, member, &mut members)?;
+        lower_member(names, table, alloc, inside, member, &mut members)?;
     }
     table.define_struct(number, members, at)?;
     Ok(number)
@@ -169,14 +170,14 @@ fn lower_case<'a>(
     names: &Names<'a>,
     table: &mut TypeTable,
     alloc: Global,
-    scope: usize,
+    scope: Scope,
     switch: Switch,
     case: &Case<'a>,
     arms: &mut ArmList,
 ) -> Result<(), BuildFault>
-    requires { scope ≤ length names.now.entries }
+    requires { scope.0 ≤ length names.now.entries }
     ensures { Tells result (λ u. cases_of table.new arms.new)
-        (with_case_of names.now.entries scope switch (cases_of table.old arms.old) case.now) }
+        (with_case_of names.now.entries scope.0 switch (cases_of table.old arms.old) case.now) }
 {
     let at = case.declarator.identifier.at();
     let labels = read_labels(alloc, names, scope, switch, arms, &case.labels)?;
@@ -191,20 +192,21 @@ pub(crate) fn lower_union<'a>(
     names: &Names<'a>,
     table: &mut TypeTable,
     alloc: Global,
-    scope: usize,
+    scope: Scope,
     u: &UnionType<'a>,
 ) -> Result<u32, BuildFault>
-    requires { scope ≤ length names.now.entries }
-    ensures { Tells result (already table.new) (union_type names.now.entries table.old scope u.now) }
+    requires { scope.0 ≤ length names.now.entries }
+    ensures { Tells result (already table.new) (union_type names.now.entries table.old scope.0 u.now) }
 {
     let at = u.identifier.at();
     let entry = declared_entry(names, scope, u.identifier)?;
     let number = table.declare(alloc, entry, at)?;
-    let switch = lower_switch(names, table, alloc, entry + 1, at, &u.switch)?;
+    let inside = Scope(entry + 1);
+    let switch = lower_switch(names, table, alloc, inside, at, &u.switch)?;
     let mut arms = ArmList::new(alloc);
-    lower_case(names, table, alloc, entry + 1, switch, &u.first, &mut arms)?;
+    lower_case(names, table, alloc, inside, switch, &u.first, &mut arms)?;
     for case in &u.rest {
-        lower_case(names, table, alloc, entry + 1, switch, case, &mut arms)?;
+        lower_case(names, table, alloc, inside, switch, case, &mut arms)?;
     }
     table.define_union(alloc, number, switch, &arms, at)?;
     Ok(number)

@@ -7,7 +7,7 @@ use Rattle.lowered_types.proofs.labels.read_labels.Given as goal
 
 abbrev pub invariant-loop-label : goal.invariant-loop-label
 invariant-loop-label l = record {
-  inside : l.scope ≤ length l.names.entries;
-  told : each (label_added l.names.entries l.scope l.switch l.arms) l.read (parts_left l.label-iterator)
-      ≡ each (label_added l.names.entries l.scope l.switch l.arms) no_labels (parts l.labels);
+  inside : l.scope.0 ≤ length l.names.entries;
+  told : each (label_added l.names.entries l.scope.0 l.switch l.arms) l.read (parts_left l.label-iterator)
+      ≡ each (label_added l.names.entries l.scope.0 l.switch l.arms) no_labels (parts l.labels);
 }
