@@ -11,7 +11,7 @@ use idl_tree::names::{Leaf, Listed};
 use idl_tree::spec::Spec;
 use lowered_operations::Signature;
 use lowered_types::{BuildFault, TypeTable, declared_entry};
-use scoped_names::Names;
+use scoped_names::{Names, Scope};
 use std::alloc::Global;
 
 impl<'a> PartList<'a> {
@@ -20,12 +20,12 @@ impl<'a> PartList<'a> {
         alloc: Global,
         names: &Names<'a>,
         signatures: &[Signature],
-        scope: usize,
+        scope: Scope,
         is_set: bool,
         identifiers: &Listed<Leaf<'a>>,
     ) -> Result<(), BuildFault>
         ensures { Tells result (λ u. self.new)
-            (each (identifier_parts names.now.entries signatures.now scope is_set) self.old (parts identifiers.now)) }
+            (each (identifier_parts names.now.entries signatures.now scope.0 is_set) self.old (parts identifiers.now)) }
     {
         for identifier in identifiers.iter() {
             self.name_attribute(alloc, names, signatures, scope, is_set, *identifier)?;
@@ -39,10 +39,10 @@ impl<'a> PartList<'a> {
         alloc: Global,
         names: &Names<'a>,
         signatures: &[Signature],
-        scope: usize,
+        scope: Scope,
         declared: &Attributes<'a>,
     ) -> Result<(), BuildFault>
-        ensures { Tells result (λ u. self.new) (each (identifier_parts names.now.entries signatures.now scope
+        ensures { Tells result (λ u. self.new) (each (identifier_parts names.now.entries signatures.now scope.0
             (are_set declared.now)) self.old (attribute_identifiers declared.now)) }
     {
         match declared {
@@ -68,11 +68,11 @@ impl<'a> PartList<'a> {
         names: &Names<'a>,
         types: &TypeTable,
         signatures: &[Signature],
-        scope: usize,
+        scope: Scope,
         export: &Export<'a>,
     ) -> Result<(), BuildFault>
         ensures { Tells result (λ u. self.new)
-            (export_parts names.now.entries types.now signatures.now scope self.old export.now) }
+            (export_parts names.now.entries types.now signatures.now scope.0 self.old export.now) }
     {
         match export {
             Export::Pragma(_) => Ok(()),
@@ -94,11 +94,11 @@ impl<'a> PartList<'a> {
         names: &Names<'a>,
         types: &TypeTable,
         signatures: &[Signature],
-        scope: usize,
+        scope: Scope,
         exports: &[Export<'a>],
     ) -> Result<(), BuildFault>
         ensures { Tells result (λ u. self.new)
-            (each (export_parts names.now.entries types.now signatures.now scope) self.old exports.now) }
+            (each (export_parts names.now.entries types.now signatures.now scope.0) self.old exports.now) }
     {
         for export in exports {
             self.name_export(alloc, names, types, signatures, scope, export)?;
@@ -112,11 +112,11 @@ impl<'a> PartList<'a> {
         names: &Names<'a>,
         types: &TypeTable,
         signatures: &[Signature],
-        scope: usize,
+        scope: Scope,
         interface: &Interface<'a>,
     ) -> Result<(), BuildFault>
         ensures { Tells result (λ u. self.new)
-            (interface_parts names.now.entries types.now signatures.now scope self.old interface.now) }
+            (interface_parts names.now.entries types.now signatures.now scope.0 self.old interface.now) }
     {
         match interface {
             Interface::Ahead(_) => Ok(()),
@@ -131,7 +131,7 @@ impl<'a> PartList<'a> {
                     names,
                     types,
                     signatures,
-                    entry + 1,
+                    Scope(entry + 1),
                     exports.as_slice(),
                 )
             }
@@ -145,11 +145,11 @@ impl<'a> PartList<'a> {
         names: &Names<'a>,
         types: &TypeTable,
         signatures: &[Signature],
-        scope: usize,
+        scope: Scope,
         definition: &Definition<'a>,
     ) -> Result<(), BuildFault>
         ensures { Tells result (λ u. self.new)
-            (definition_parts names.now.entries types.now signatures.now scope self.old definition.now) }
+            (definition_parts names.now.entries types.now signatures.now scope.0 self.old definition.now) }
     {
         match definition {
             Definition::Pragma(_) => Ok(()),
@@ -164,7 +164,7 @@ impl<'a> PartList<'a> {
                     names,
                     types,
                     signatures,
-                    entry + 1,
+                    Scope(entry + 1),
                     m.definitions.as_slice(),
                 )
             }
@@ -178,11 +178,11 @@ impl<'a> PartList<'a> {
         names: &Names<'a>,
         types: &TypeTable,
         signatures: &[Signature],
-        scope: usize,
+        scope: Scope,
         definitions: &[Definition<'a>],
     ) -> Result<(), BuildFault>
         ensures { Tells result (λ u. self.new)
-            (each (definition_parts names.now.entries types.now signatures.now scope) self.old definitions.now) }
+            (each (definition_parts names.now.entries types.now signatures.now scope.0) self.old definitions.now) }
     {
         for definition in definitions {
             self.name_definition(alloc, names, types, signatures, scope, definition)?;
@@ -211,7 +211,7 @@ pub(crate) fn parts_of_file<'a>(
         names,
         types,
         signatures,
-        0,
+        Scope::FILE,
         spec.definitions.as_slice(),
     )?;
     Ok(list)

@@ -12,7 +12,7 @@ use idl_tree::definitions::{Direction, Operation, Param};
 use idl_tree::names::{Leaf, Listed};
 use lowered_operations::{Role, Signature};
 use lowered_types::{BuildFault, declared_entry};
-use scoped_names::Names;
+use scoped_names::{Names, Scope};
 use std::alloc::{AllocError, Global};
 
 fn is_in(direction: Direction) -> bool
@@ -159,10 +159,11 @@ impl<'a> PartList<'a> {
         alloc: Global,
         names: &Names<'a>,
         signatures: &[Signature],
-        scope: usize,
+        scope: Scope,
         o: &Operation<'a>,
     ) -> Result<(), BuildFault>
-        ensures { Tells result (λ u. self.new) (operation_parts names.now.entries signatures.now scope self.old o.now) }
+        ensures { Tells result (λ u. self.new)
+            (operation_parts names.now.entries signatures.now scope.0 self.old o.now) }
     {
         let entry = declared_entry(names, scope, o.identifier)?;
         match request_of(signatures, entry, Role::Operation) {
@@ -202,12 +203,12 @@ impl<'a> PartList<'a> {
         alloc: Global,
         names: &Names<'a>,
         signatures: &[Signature],
-        scope: usize,
+        scope: Scope,
         is_set: bool,
         identifier: Leaf<'a>,
     ) -> Result<(), BuildFault>
         ensures { Tells result (λ u. self.new)
-            (identifier_parts names.now.entries signatures.now scope is_set self.old identifier.entry) }
+            (identifier_parts names.now.entries signatures.now scope.0 is_set self.old identifier.entry) }
     {
         let entry = declared_entry(names, scope, identifier)?;
         match request_of(signatures, entry, Role::Getting) {

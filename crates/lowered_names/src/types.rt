@@ -14,7 +14,7 @@ use idl_tree::types::{
     Case, Declarator, EnumType, Member, StructType, SwitchType, TypeSpec, UnionType,
 };
 use lowered_types::{BuildFault, TypeTable, declared_entry};
-use scoped_names::Names;
+use scoped_names::{Names, Scope};
 use std::alloc::{AllocError, Global};
 
 impl<'a> NameList<'a> {
@@ -91,10 +91,10 @@ impl<'a> PartList<'a> {
         alloc: Global,
         names: &Names<'a>,
         types: &TypeTable,
-        scope: usize,
+        scope: Scope,
         e: &EnumType<'a>,
     ) -> Result<(), BuildFault>
-        ensures { Tells result (λ u. self.new) (enum_parts names.now.entries types.now scope self.old e.now) }
+        ensures { Tells result (λ u. self.new) (enum_parts names.now.entries types.now scope.0 self.old e.now) }
     {
         let entry = declared_entry(names, scope, e.identifier)?;
         let mut enumerators = NameList::new(alloc);
@@ -107,10 +107,10 @@ impl<'a> PartList<'a> {
         alloc: Global,
         names: &Names<'a>,
         types: &TypeTable,
-        scope: usize,
+        scope: Scope,
         switch: &SwitchType<'a>,
     ) -> Result<(), BuildFault>
-        ensures { Tells result (λ u. self.new) (switch_parts names.now.entries types.now scope self.old switch.now) }
+        ensures { Tells result (λ u. self.new) (switch_parts names.now.entries types.now scope.0 self.old switch.now) }
     {
         match switch {
             SwitchType::Enum(e) => self.name_enum(alloc, names, types, scope, e),
@@ -126,10 +126,10 @@ impl<'a> PartList<'a> {
         alloc: Global,
         names: &Names<'a>,
         types: &TypeTable,
-        scope: usize,
+        scope: Scope,
         t: &TypeSpec<'a>,
     ) -> Result<(), BuildFault>
-        ensures { Tells result (λ u. self.new) (type_parts names.now.entries types.now scope self.old t.now) }
+        ensures { Tells result (λ u. self.new) (type_parts names.now.entries types.now scope.0 self.old t.now) }
     {
         match t {
             TypeSpec::Simple(_) => Ok(()),
@@ -146,11 +146,11 @@ impl<'a> PartList<'a> {
         alloc: Global,
         names: &Names<'a>,
         types: &TypeTable,
-        scope: usize,
+        scope: Scope,
         members: &[Member<'a>],
     ) -> Result<(), BuildFault>
         ensures { Tells result (λ u. self.new)
-            (each (member_parts names.now.entries types.now scope) self.old members.now) }
+            (each (member_parts names.now.entries types.now scope.0) self.old members.now) }
     {
         for member in members {
             self.name_type(alloc, names, types, scope, &member.member_type)?;
@@ -164,11 +164,11 @@ impl<'a> PartList<'a> {
         alloc: Global,
         names: &Names<'a>,
         types: &TypeTable,
-        scope: usize,
+        scope: Scope,
         cases: &[Case<'a>],
     ) -> Result<(), BuildFault>
         ensures { Tells result (λ u. self.new)
-            (each (case_parts names.now.entries types.now scope) self.old cases.now) }
+            (each (case_parts names.now.entries types.now scope.0) self.old cases.now) }
     {
         for case in cases {
             self.name_type(alloc, names, types, scope, &case.member_type)?;
@@ -182,15 +182,16 @@ impl<'a> PartList<'a> {
         alloc: Global,
         names: &Names<'a>,
         types: &TypeTable,
-        scope: usize,
+        scope: Scope,
         s: &StructType<'a>,
     ) -> Result<(), BuildFault>
-        ensures { Tells result (λ u. self.new) (struct_parts names.now.entries types.now scope self.old s.now) }
+        ensures { Tells result (λ u. self.new) (struct_parts names.now.entries types.now scope.0 self.old s.now) }
     {
         let entry = declared_entry(names, scope, s.identifier)?;
         self.add_typed(types, entry, struct_names(alloc, s)?)?;
-        self.name_type(alloc, names, types, entry + 1, &s.first.member_type)?;
-        self.name_members(alloc, names, types, entry + 1, s.rest.as_slice())
+        let inside = Scope(entry + 1);
+        self.name_type(alloc, names, types, inside, &s.first.member_type)?;
+        self.name_members(alloc, names, types, inside, s.rest.as_slice())
     }
 
     #[cycle(types)]
@@ -199,16 +200,17 @@ impl<'a> PartList<'a> {
         alloc: Global,
         names: &Names<'a>,
         types: &TypeTable,
-        scope: usize,
+        scope: Scope,
         u: &UnionType<'a>,
     ) -> Result<(), BuildFault>
-        ensures { Tells result (λ x. self.new) (union_parts names.now.entries types.now scope self.old u.now) }
+        ensures { Tells result (λ x. self.new) (union_parts names.now.entries types.now scope.0 self.old u.now) }
     {
         let entry = declared_entry(names, scope, u.identifier)?;
         self.add_typed(types, entry, union_names(alloc, u)?)?;
-        self.name_switch(alloc, names, types, entry + 1, &u.switch)?;
-        self.name_type(alloc, names, types, entry + 1, &u.first.member_type)?;
-        self.name_cases(alloc, names, types, entry + 1, u.rest.as_slice())
+        let inside = Scope(entry + 1);
+        self.name_switch(alloc, names, types, inside, &u.switch)?;
+        self.name_type(alloc, names, types, inside, &u.first.member_type)?;
+        self.name_cases(alloc, names, types, inside, u.rest.as_slice())
     }
 
     fn name_type_dcl(
@@ -216,10 +218,10 @@ impl<'a> PartList<'a> {
         alloc: Global,
         names: &Names<'a>,
         types: &TypeTable,
-        scope: usize,
+        scope: Scope,
         t: &TypeDcl<'a>,
     ) -> Result<(), BuildFault>
-        ensures { Tells result (λ u. self.new) (type_dcl_parts names.now.entries types.now scope self.old t.now) }
+        ensures { Tells result (λ u. self.new) (type_dcl_parts names.now.entries types.now scope.0 self.old t.now) }
     {
         match t {
             TypeDcl::Typedef { original, .. } => self.name_type(
@@ -237,14 +239,14 @@ impl<'a> PartList<'a> {
         alloc: Global,
         names: &Names<'a>,
         types: &TypeTable,
-        scope: usize,
+        scope: Scope,
         x: &Except<'a>,
     ) -> Result<(), BuildFault>
-        ensures { Tells result (λ u. self.new) (except_parts names.now.entries types.now scope self.old x.now) }
+        ensures { Tells result (λ u. self.new) (except_parts names.now.entries types.now scope.0 self.old x.now) }
     {
         let entry = declared_entry(names, scope, x.identifier)?;
         self.add_raised(types, entry, except_names(alloc, x)?)?;
-        self.name_members(alloc, names, types, entry + 1, x.members.as_slice())
+        self.name_members(alloc, names, types, Scope(entry + 1), x.members.as_slice())
     }
 
     /// What a declaration of a module or an interface declares.
@@ -256,11 +258,11 @@ impl<'a> PartList<'a> {
         alloc: Global,
         names: &Names<'a>,
         types: &TypeTable,
-        scope: usize,
+        scope: Scope,
         declaration: &Declaration<'a>,
     ) -> Result<(), BuildFault>
         ensures { Tells result (λ u. self.new)
-            (declaration_parts names.now.entries types.now scope self.old declaration.now) }
+            (declaration_parts names.now.entries types.now scope.0 self.old declaration.now) }
     {
         match declaration {
             Declaration::TypeDcl(t) => self.name_type_dcl(alloc, names, types, scope, t),

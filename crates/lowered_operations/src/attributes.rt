@@ -12,7 +12,7 @@ use crate::table::OperationTable;
 use idl_tree::definitions::{Attribute, Attributes, Direction};
 use idl_tree::names::{At, Leaf, Listed};
 use lowered_types::{BuildFault, Place, declared_entry};
-use scoped_names::Names;
+use scoped_names::{Names, Scope};
 use std::alloc::Global;
 
 /// Whether attributes that are declared together are set too.
@@ -83,14 +83,14 @@ impl OperationTable {
         self,
         alloc: Global,
         names: &Names<'a>,
-        scope: usize,
+        scope: Scope,
         number: u32,
         declared: &Attributes<'a>,
         identifier: Leaf<'a>,
     ) -> Result<OperationTable, BuildFault>
-        requires { scope ≤ length names.now.entries }
+        requires { scope.0 ≤ length names.now.entries }
         ensures { Tells result (λ table. table)
-            (with_attribute names.now.entries scope number declared.now self identifier.entry) }
+            (with_attribute names.now.entries scope.0 number declared.now self identifier.entry) }
     {
         let at = identifier.at();
         let get = find_get_raised(names, &self.types, alloc, scope, declared)?;
@@ -105,14 +105,14 @@ impl OperationTable {
         self,
         alloc: Global,
         names: &Names<'a>,
-        scope: usize,
+        scope: Scope,
         number: u32,
         declared: &Attributes<'a>,
         identifiers: &Listed<Leaf<'a>>,
     ) -> Result<OperationTable, BuildFault>
-        requires { scope ≤ length names.now.entries }
+        requires { scope.0 ≤ length names.now.entries }
         ensures { Tells result (λ table. table)
-            (each (with_attribute names.now.entries scope number declared.now) self (parts identifiers.now)) }
+            (each (with_attribute names.now.entries scope.0 number declared.now) self (parts identifiers.now)) }
     {
         let mut table = self;
         for identifier in identifiers.iter() {
@@ -126,13 +126,13 @@ impl OperationTable {
         self,
         alloc: Global,
         names: &Names<'a>,
-        scope: usize,
+        scope: Scope,
         number: u32,
         declared: &Attributes<'a>,
     ) -> Result<OperationTable, BuildFault>
-        requires { scope ≤ length names.now.entries }
+        requires { scope.0 ≤ length names.now.entries }
         ensures { Tells result (λ table. table)
-            (each (with_attribute names.now.entries scope number declared.now) self
+            (each (with_attribute names.now.entries scope.0 number declared.now) self
             (attribute_identifiers declared.now)) }
     {
         match declared {
@@ -155,11 +155,11 @@ impl OperationTable {
         self,
         alloc: Global,
         names: &Names<'a>,
-        scope: usize,
+        scope: Scope,
         a: &Attribute<'a>,
     ) -> Result<OperationTable, BuildFault>
-        requires { scope ≤ length names.now.entries }
-        ensures { Tells result (λ table. table) (attribute names.now.entries scope self a.now) }
+        requires { scope.0 ≤ length names.now.entries }
+        ensures { Tells result (λ table. table) (attribute names.now.entries scope.0 self a.now) }
     {
         let OperationTable {
             types,

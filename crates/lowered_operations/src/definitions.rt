@@ -8,7 +8,7 @@ use crate::table::OperationTable;
 use idl_tree::definitions::Definition;
 use idl_tree::spec::Spec;
 use lowered_types::{BuildFault, declared_entry};
-use scoped_names::Names;
+use scoped_names::{Names, Scope};
 use std::alloc::Global;
 
 impl OperationTable {
@@ -17,11 +17,11 @@ impl OperationTable {
         self,
         alloc: Global,
         names: &Names<'a>,
-        scope: usize,
+        scope: Scope,
         definition: &Definition<'a>,
     ) -> Result<OperationTable, BuildFault>
-        requires { scope ≤ length names.now.entries }
-        ensures { Tells result (λ table. table) (definition_after names.now.entries scope self definition.now) }
+        requires { scope.0 ≤ length names.now.entries }
+        ensures { Tells result (λ table. table) (definition_after names.now.entries scope.0 self definition.now) }
     {
         match definition {
             Definition::Pragma(_) => Ok(self),
@@ -29,7 +29,8 @@ impl OperationTable {
             Definition::Interface(i) => self.with_interface(alloc, names, scope, i),
             Definition::Module(m) => {
                 let entry = declared_entry(names, scope, m.identifier)?;
-                self.with_definitions(alloc, names, entry + 1, m.definitions.as_slice())
+                let inside = Scope(entry + 1);
+                self.with_definitions(alloc, names, inside, m.definitions.as_slice())
             }
         }
     }
@@ -40,11 +41,12 @@ impl OperationTable {
         self,
         alloc: Global,
         names: &Names<'a>,
-        scope: usize,
+        scope: Scope,
         definitions: &[Definition<'a>],
     ) -> Result<OperationTable, BuildFault>
-        requires { scope ≤ length names.now.entries }
-        ensures { Tells result (λ table. table) (each (definition_after names.now.entries scope) self definitions.now) }
+        requires { scope.0 ≤ length names.now.entries }
+        ensures { Tells result (λ table. table)
+            (each (definition_after names.now.entries scope.0) self definitions.now) }
     {
         let mut table = self;
         for definition in definitions {
@@ -66,5 +68,5 @@ pub fn lower_file<'a>(
     ensures { Tells result (λ table. table) (defined_by names.now.entries spec.now.definitions.items) }
 {
     let table = OperationTable::new(alloc, names.len())?;
-    table.with_definitions(alloc, names, 0, spec.definitions.as_slice())
+    table.with_definitions(alloc, names, Scope::FILE, spec.definitions.as_slice())
 }

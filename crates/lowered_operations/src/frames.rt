@@ -9,7 +9,7 @@ ghost use Rattle.lowered_operations.specs.Frames.{all_carried, frame_added, fram
 use idl_tree::definitions::{Direction, Operation, Param};
 use idl_tree::names::{At, Listed};
 use lowered_types::{BuildFault, MemberList, TypeTable};
-use scoped_names::Names;
+use scoped_names::{Names, Scope};
 use std::alloc::Global;
 use type_graph::Node;
 use type_paths::NodeSites;
@@ -70,11 +70,11 @@ impl Carrying {
         self,
         alloc: Global,
         names: &Names<'a>,
-        scope: usize,
+        scope: Scope,
         param: &Param<'a>,
     ) -> Result<Carrying, BuildFault>
-        requires { scope ≤ length names.now.entries }
-        ensures { Tells result (λ c. c) (with_param names.now.entries scope self param.now) }
+        requires { scope.0 ≤ length names.now.entries }
+        ensures { Tells result (λ c. c) (with_param names.now.entries scope.0 self param.now) }
     {
         let Carrying { types, carried } = self;
         let at = param.identifier.at();
@@ -87,11 +87,11 @@ impl Carrying {
         self,
         alloc: Global,
         names: &Names<'a>,
-        scope: usize,
+        scope: Scope,
         params: &Listed<Param<'a>>,
     ) -> Result<Carrying, BuildFault>
-        requires { scope ≤ length names.now.entries }
-        ensures { Tells result (λ c. c) (each (with_param names.now.entries scope) self (parts params.now)) }
+        requires { scope.0 ≤ length names.now.entries }
+        ensures { Tells result (λ c. c) (each (with_param names.now.entries scope.0) self (parts params.now)) }
     {
         let mut carrying = self;
         for param in params.iter() {
@@ -106,12 +106,12 @@ fn lower_result<'a>(
     types: TypeTable,
     alloc: Global,
     names: &Names<'a>,
-    scope: usize,
+    scope: Scope,
     at: At,
     o: &Operation<'a>,
 ) -> Result<Carrying, BuildFault>
-    requires { scope ≤ length names.now.entries }
-    ensures { Tells result (λ c. c) (result_carried names.now.entries types scope at o.now.result_type) }
+    requires { scope.0 ≤ length names.now.entries }
+    ensures { Tells result (λ c. c) (result_carried names.now.entries types scope.0 at o.now.result_type) }
 {
     let carried = Carried::new(alloc);
     let Some(t) = &o.result_type else {
@@ -130,11 +130,11 @@ pub(crate) fn lower_carried<'a>(
     types: TypeTable,
     alloc: Global,
     names: &Names<'a>,
-    scope: usize,
+    scope: Scope,
     o: &Operation<'a>,
 ) -> Result<Carrying, BuildFault>
-    requires { scope ≤ length names.now.entries }
-    ensures { Tells result (λ c. c) (all_carried names.now.entries types scope o.now) }
+    requires { scope.0 ≤ length names.now.entries }
+    ensures { Tells result (λ c. c) (all_carried names.now.entries types scope.0 o.now) }
 {
     let at = o.identifier.at();
     let carrying = lower_result(types, alloc, names, scope, at, o)?;

@@ -12,7 +12,7 @@ use idl_tree::definitions::{Export, Interface};
 use idl_tree::names::Leaf;
 use indexmap::IndexSet;
 use lowered_types::{BuildFault, Place, declared_entry};
-use scoped_names::Names;
+use scoped_names::{Names, Scope};
 use std::alloc::Global;
 use type_graph::Items;
 
@@ -125,11 +125,11 @@ impl OperationTable {
         self,
         alloc: Global,
         names: &Names<'a>,
-        scope: usize,
+        scope: Scope,
         export: &Export<'a>,
     ) -> Result<OperationTable, BuildFault>
-        requires { scope ≤ length names.now.entries }
-        ensures { Tells result (λ table. table) (exported names.now.entries scope self export.now) }
+        requires { scope.0 ≤ length names.now.entries }
+        ensures { Tells result (λ table. table) (exported names.now.entries scope.0 self export.now) }
     {
         match export {
             Export::Pragma(_) => Ok(self),
@@ -143,11 +143,11 @@ impl OperationTable {
         self,
         alloc: Global,
         names: &Names<'a>,
-        scope: usize,
+        scope: Scope,
         exports: &[Export<'a>],
     ) -> Result<OperationTable, BuildFault>
-        requires { scope ≤ length names.now.entries }
-        ensures { Tells result (λ table. table) (each (exported names.now.entries scope) self exports.now) }
+        requires { scope.0 ≤ length names.now.entries }
+        ensures { Tells result (λ table. table) (each (exported names.now.entries scope.0) self exports.now) }
     {
         let mut table = self;
         for export in exports {
@@ -196,7 +196,7 @@ impl OperationTable {
     {
         let first = self.operations.len();
         let table = self.with_reference(entry)?;
-        let table = table.with_exports(alloc, names, entry + 1, exports)?;
+        let table = table.with_exports(alloc, names, Scope(entry + 1), exports)?;
         let offered = offering(names, &table, alloc, entry, first)?;
         table.with_offered(entry, offered)
     }
@@ -209,11 +209,11 @@ impl OperationTable {
         self,
         alloc: Global,
         names: &Names<'a>,
-        scope: usize,
+        scope: Scope,
         interface: &Interface<'a>,
     ) -> Result<OperationTable, BuildFault>
-        requires { scope ≤ length names.now.entries }
-        ensures { Tells result (λ table. table) (interface_after names.now.entries scope self interface.now) }
+        requires { scope.0 ≤ length names.now.entries }
+        ensures { Tells result (λ table. table) (interface_after names.now.entries scope.0 self interface.now) }
     {
         let entry = declared_entry(names, scope, identifier_of(interface))?;
         match exports_of(interface) {

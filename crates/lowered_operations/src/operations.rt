@@ -11,7 +11,7 @@ use crate::signature::Role;
 use crate::table::OperationTable;
 use idl_tree::definitions::Operation;
 use lowered_types::{BuildFault, Place, declared_entry};
-use scoped_names::Names;
+use scoped_names::{Names, Scope};
 use std::alloc::Global;
 
 impl OperationTable {
@@ -20,12 +20,12 @@ impl OperationTable {
         self,
         alloc: Global,
         names: &Names<'a>,
-        scope: usize,
+        scope: Scope,
         carried: Carried,
         o: &Operation<'a>,
     ) -> Result<OperationTable, BuildFault>
-        requires { scope ≤ length names.now.entries }
-        ensures { Tells result (λ table. table) (with_operation names.now.entries scope self carried o.now) }
+        requires { scope.0 ≤ length names.now.entries }
+        ensures { Tells result (λ table. table) (with_operation names.now.entries scope.0 self carried o.now) }
     {
         let at = o.identifier.at();
         let raises = find_all_raised(names, &self.types, alloc, scope, &o.raises)?;
@@ -49,11 +49,11 @@ impl OperationTable {
         self,
         alloc: Global,
         names: &Names<'a>,
-        scope: usize,
+        scope: Scope,
         o: &Operation<'a>,
     ) -> Result<OperationTable, BuildFault>
-        requires { scope ≤ length names.now.entries }
-        ensures { Tells result (λ table. table) (operation names.now.entries scope self o.now) }
+        requires { scope.0 ≤ length names.now.entries }
+        ensures { Tells result (λ table. table) (operation names.now.entries scope.0 self o.now) }
     {
         check_oneway(o)?;
         let OperationTable {

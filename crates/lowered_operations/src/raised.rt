@@ -9,18 +9,18 @@ ghost use Rattle.lowered_operations.specs.Operations.{exception_found, get_raise
 use idl_tree::definitions::Attributes;
 use idl_tree::names::{Listed, ScopedName};
 use lowered_types::{BuildFault, Place, TypeTable, resolved};
-use scoped_names::Names;
+use scoped_names::{Names, Scope};
 use std::alloc::Global;
 
 /// The place of the exception that a name finds. Takes no memory.
 fn find_exception<'a>(
     names: &Names<'a>,
     types: &TypeTable,
-    scope: usize,
+    scope: Scope,
     name: &ScopedName<'a>,
 ) -> Result<usize, BuildFault>
-    requires { scope ≤ length names.now.entries }
-    ensures { result ≡ exception_found names.now.entries types.now scope name.now }
+    requires { scope.0 ≤ length names.now.entries }
+    ensures { result ≡ exception_found names.now.entries types.now scope.0 name.now }
 {
     let entry = resolved(names, scope, name)?;
     match types.place(entry) {
@@ -37,11 +37,11 @@ fn find_raised<'a>(
     names: &Names<'a>,
     types: &TypeTable,
     alloc: Global,
-    scope: usize,
+    scope: Scope,
     raises: &Listed<ScopedName<'a>>,
 ) -> Result<Vec<usize>, BuildFault>
-    requires { scope ≤ length names.now.entries }
-    ensures { Tells result (λ found. found.items) (raised names.now.entries types.now scope (parts raises.now)) }
+    requires { scope.0 ≤ length names.now.entries }
+    ensures { Tells result (λ found. found.items) (raised names.now.entries types.now scope.0 (parts raises.now)) }
 {
     let mut places = Vec::new(alloc);
     for name in raises.iter() {
@@ -59,11 +59,11 @@ pub(crate) fn find_all_raised<'a>(
     names: &Names<'a>,
     types: &TypeTable,
     alloc: Global,
-    scope: usize,
+    scope: Scope,
     raises: &Option<Listed<ScopedName<'a>>>,
 ) -> Result<Vec<usize>, BuildFault>
-    requires { scope ≤ length names.now.entries }
-    ensures { Tells result (λ found. found.items) (raised names.now.entries types.now scope (parts_of raises.now)) }
+    requires { scope.0 ≤ length names.now.entries }
+    ensures { Tells result (λ found. found.items) (raised names.now.entries types.now scope.0 (parts_of raises.now)) }
 {
     match raises {
         Some(raises) => find_raised(names, types, alloc, scope, raises),
@@ -79,11 +79,12 @@ pub(crate) fn find_get_raised<'a>(
     names: &Names<'a>,
     types: &TypeTable,
     alloc: Global,
-    scope: usize,
+    scope: Scope,
     declared: &Attributes<'a>,
 ) -> Result<Vec<usize>, BuildFault>
-    requires { scope ≤ length names.now.entries }
-    ensures { Tells result (λ found. found.items) (raised names.now.entries types.now scope (get_raises declared.now)) }
+    requires { scope.0 ≤ length names.now.entries }
+    ensures { Tells result (λ found. found.items)
+        (raised names.now.entries types.now scope.0 (get_raises declared.now)) }
 {
     match declared {
         Attributes::Readonly { raises, .. } => find_raised(names, types, alloc, scope, raises),
@@ -100,11 +101,12 @@ pub(crate) fn find_set_raised<'a>(
     names: &Names<'a>,
     types: &TypeTable,
     alloc: Global,
-    scope: usize,
+    scope: Scope,
     declared: &Attributes<'a>,
 ) -> Result<Vec<usize>, BuildFault>
-    requires { scope ≤ length names.now.entries }
-    ensures { Tells result (λ found. found.items) (raised names.now.entries types.now scope (set_raises declared.now)) }
+    requires { scope.0 ≤ length names.now.entries }
+    ensures { Tells result (λ found. found.items)
+        (raised names.now.entries types.now scope.0 (set_raises declared.now)) }
 {
     match declared {
         Attributes::Get { set, .. } => find_all_raised(names, types, alloc, scope, set),

@@ -9,7 +9,7 @@ use crate::signature::{Offered, Role, Signature};
 use idl_tree::definitions::Declaration;
 use idl_tree::names::At;
 use lowered_types::{BuildFault, Place, TypeTable};
-use scoped_names::Names;
+use scoped_names::{Names, Scope};
 use std::alloc::Global;
 use std::marker::Model;
 use type_graph::Items;
@@ -126,11 +126,11 @@ impl OperationTable {
         self,
         alloc: Global,
         names: &Names<'a>,
-        scope: usize,
+        scope: Scope,
         d: &Declaration<'a>,
     ) -> Result<OperationTable, BuildFault>
-        requires { scope ≤ length names.now.entries }
-        ensures { Tells result (λ table. table) (declared names.now.entries scope self d.now) }
+        requires { scope.0 ≤ length names.now.entries }
+        ensures { Tells result (λ table. table) (declared names.now.entries scope.0 self d.now) }
     {
         let OperationTable {
             types,

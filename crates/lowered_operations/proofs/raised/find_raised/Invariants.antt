@@ -8,7 +8,7 @@ use Rattle.lowered_operations.proofs.raised.find_raised.Given as goal
 -- the places so far, and those of the names that are left
 abbrev pub invariant-loop-name : goal.invariant-loop-name
 invariant-loop-name l = record {
-  inside : l.scope ≤ length l.names.entries;
-  told : each (with_exception l.names.entries l.types l.scope) l.places.items (parts_left l.name-iterator)
-      ≡ each (with_exception l.names.entries l.types l.scope) [] (parts l.raises);
+  inside : l.scope.0 ≤ length l.names.entries;
+  told : each (with_exception l.names.entries l.types l.scope.0) l.places.items (parts_left l.name-iterator)
+      ≡ each (with_exception l.names.entries l.types l.scope.0) [] (parts l.raises);
 }

@@ -5,5 +5,5 @@ use Rattle.lowered_names.proofs.list.PartList.+definitions.Given as goal
 
 abbrev pub invariant-name_definitions-loop-definition : goal.invariant-name_definitions-loop-definition
 invariant-name_definitions-loop-definition l =
-    each (definition_parts l.names.entries l.types l.signatures l.scope) l.self (drop l.definition-index l.definitions)
-    ≡ each (definition_parts l.names.entries l.types l.signatures l.scope) l.fn.self l.definitions
+    each (definition_parts l.names.entries l.types l.signatures l.scope.0) l.self (drop l.definition-index l.definitions)
+    ≡ each (definition_parts l.names.entries l.types l.signatures l.scope.0) l.fn.self l.definitions

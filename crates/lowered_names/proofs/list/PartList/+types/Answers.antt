@@ -14,13 +14,13 @@ name_struct-returns-in_err-entry t c =
     let es = c.args.names.now.entries in
     let w = c.args.types.now in
     let s = c.args.s.now in
-    rw (p.1, p.2) (inr (struct_told es w c.args.scope c.args.self.now s
-    ∙ stops (entry_of es c.args.scope (out-StructType s).identifier) _ (struct_of es w c.args.self.now (first_of s) (rest_of s)) (sym c.in_err-entry.ensures.told)))
+    rw (p.1, p.2) (inr (struct_told es w c.args.scope.0 c.args.self.now s
+    ∙ stops (entry_of es c.args.scope.0 (out-StructType s).identifier) _ (struct_of es w c.args.self.now (first_of s) (rest_of s)) (sym c.in_err-entry.ensures.told)))
 
 pub name_struct-returns : goal.name_struct-returns
 name_struct-returns t c =
     subst (Tells c.name_members.result _)
-    (struct_walked c.args.names.now.entries c.args.types.now c.args.scope c.args.self.now c.args.s.now c.in_ok-entry.entry c.add_typed.new.self c.name_type.new.self
+    (struct_walked c.args.names.now.entries c.args.types.now c.args.scope.0 c.args.self.now c.args.s.now c.in_ok-entry.entry c.add_typed.new.self c.name_type.new.self
     c.in_ok-struct_names.field-0 c.deref.result.now c.as_slice.result.now c.in_ok-entry.ensures.told c.in_ok-struct_names.ensures c.in_ok-add_typed.ensures
     c.deref.ensures c.in_ok-name_type.ensures c.as_slice.ensures.value)
     c.name_members.ensures
@@ -31,13 +31,13 @@ name_union-returns-in_err-entry t c =
     let es = c.args.names.now.entries in
     let w = c.args.types.now in
     let u = c.args.u.now in
-    rw (p.1, p.2) (inr (union_told es w c.args.scope c.args.self.now u
-    ∙ stops (entry_of es c.args.scope (out-UnionType u).identifier) _ (union_of es w c.args.self.now (out-UnionType u).switch (first_case u) (more_cases u)) (sym c.in_err-entry.ensures.told)))
+    rw (p.1, p.2) (inr (union_told es w c.args.scope.0 c.args.self.now u
+    ∙ stops (entry_of es c.args.scope.0 (out-UnionType u).identifier) _ (union_of es w c.args.self.now (out-UnionType u).switch (first_case u) (more_cases u)) (sym c.in_err-entry.ensures.told)))
 
 pub name_union-returns : goal.name_union-returns
 name_union-returns t c =
     subst (Tells c.name_cases.result _)
-    (union_walked c.args.names.now.entries c.args.types.now c.args.scope c.args.self.now c.args.u.now c.in_ok-entry.entry c.add_typed.new.self c.name_switch.new.self c.name_type.new.self
+    (union_walked c.args.names.now.entries c.args.types.now c.args.scope.0 c.args.self.now c.args.u.now c.in_ok-entry.entry c.add_typed.new.self c.name_switch.new.self c.name_type.new.self
     c.in_ok-union_names.field-0 c.deref.result.now c.as_slice.result.now c.in_ok-entry.ensures.told c.in_ok-union_names.ensures c.in_ok-add_typed.ensures
     c.in_ok-name_switch.ensures c.deref.ensures c.in_ok-name_type.ensures c.as_slice.ensures.value)
     c.name_cases.ensures

@@ -10,7 +10,7 @@ returns-in-Silent c =
     let es = c.args.names.now.entries in
     let ops = c.args.signatures.now in
     subst (Tells c.name_silent.result _)
-    (sym (ap (λ a. each (identifier_parts es ops c.args.scope (is_set a)) c.args.self.now (attribute_identifiers a)) c.in-Silent.is))
+    (sym (ap (λ a. each (identifier_parts es ops c.args.scope.0 (is_set a)) c.args.self.now (attribute_identifiers a)) c.in-Silent.is))
     c.name_silent.ensures
 
 pub returns-in-Readonly : goal.returns-in-Readonly
@@ -18,8 +18,8 @@ returns-in-Readonly c =
     let es = c.args.names.now.entries in
     let ops = c.args.signatures.now in
     subst (Tells c.name_attribute.result _)
-    (each_one (identifier_parts es ops c.args.scope false) c.args.self.now c.in-Readonly.identifier
-    ∙ sym (ap (λ a. each (identifier_parts es ops c.args.scope (is_set a)) c.args.self.now (attribute_identifiers a)) c.in-Readonly.is))
+    (each_one (identifier_parts es ops c.args.scope.0 false) c.args.self.now c.in-Readonly.identifier
+    ∙ sym (ap (λ a. each (identifier_parts es ops c.args.scope.0 (is_set a)) c.args.self.now (attribute_identifiers a)) c.in-Readonly.is))
     c.name_attribute.ensures
 
 pub returns-in-Get : goal.returns-in-Get
@@ -27,8 +27,8 @@ returns-in-Get c =
     let es = c.args.names.now.entries in
     let ops = c.args.signatures.now in
     subst (Tells c.name_attribute-in-Get.result _)
-    (each_one (identifier_parts es ops c.args.scope true) c.args.self.now c.in-Get.identifier
-    ∙ sym (ap (λ a. each (identifier_parts es ops c.args.scope (is_set a)) c.args.self.now (attribute_identifiers a)) c.in-Get.is))
+    (each_one (identifier_parts es ops c.args.scope.0 true) c.args.self.now c.in-Get.identifier
+    ∙ sym (ap (λ a. each (identifier_parts es ops c.args.scope.0 (is_set a)) c.args.self.now (attribute_identifiers a)) c.in-Get.is))
     c.name_attribute-in-Get.ensures
 
 pub returns-in-Set : goal.returns-in-Set
@@ -36,6 +36,6 @@ returns-in-Set c =
     let es = c.args.names.now.entries in
     let ops = c.args.signatures.now in
     subst (Tells c.name_attribute-in-Set.result _)
-    (each_one (identifier_parts es ops c.args.scope true) c.args.self.now c.in-Set.identifier
-    ∙ sym (ap (λ a. each (identifier_parts es ops c.args.scope (is_set a)) c.args.self.now (attribute_identifiers a)) c.in-Set.is))
+    (each_one (identifier_parts es ops c.args.scope.0 true) c.args.self.now c.in-Set.identifier
+    ∙ sym (ap (λ a. each (identifier_parts es ops c.args.scope.0 (is_set a)) c.args.self.now (attribute_identifiers a)) c.in-Set.is))
     c.name_attribute-in-Set.ensures

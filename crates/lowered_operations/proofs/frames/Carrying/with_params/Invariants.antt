@@ -7,7 +7,7 @@ use Rattle.lowered_operations.proofs.frames.Carrying.with_params.Given as goal
 
 abbrev pub invariant-loop-param : goal.invariant-loop-param
 invariant-loop-param l = record {
-  inside : l.scope ≤ length l.names.entries;
-  told : each (with_param l.names.entries l.scope) l.carrying (parts_left l.param-iterator)
-      ≡ each (with_param l.names.entries l.scope) l.fn.self (parts l.params);
+  inside : l.scope.0 ≤ length l.names.entries;
+  told : each (with_param l.names.entries l.scope.0) l.carrying (parts_left l.param-iterator)
+      ≡ each (with_param l.names.entries l.scope.0) l.fn.self (parts l.params);
 }

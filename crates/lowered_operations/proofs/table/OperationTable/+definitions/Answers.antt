@@ -24,6 +24,6 @@ with_definitions-with_definition-requires t c =
 pub with_definition-returns-in_ok-entry-in-Module : goal.with_definition-returns-in_ok-entry-in-Module
 with_definition-returns-in_ok-entry-in-Module t c =
     subst (Tells c.with_definitions.result (λ table. table))
-    (module_entered c.args.names.now.entries c.args.scope c.args.self c.in-Module.m c.args.definition.now c.as_slice.result.now c.in_ok-entry-in-Module.entry
+    (module_entered c.args.names.now.entries c.args.scope.0 c.args.self c.in-Module.m c.args.definition.now c.as_slice.result.now c.in_ok-entry-in-Module.entry
     c.in-Module.is c.as_slice.ensures.value c.in_ok-entry-in-Module.ensures.told)
     c.with_definitions.ensures

@@ -7,9 +7,9 @@ use Rattle.lowered_operations.proofs.table.OperationTable.+definitions.Given as 
 
 abbrev pub invariant-with_definitions-loop-definition : goal.invariant-with_definitions-loop-definition
 invariant-with_definitions-loop-definition l = record {
-  inside : l.scope ≤ length l.names.entries;
-  told : each (definition l.names.entries l.scope) l.table (drop l.definition-index l.definitions)
-      ≡ each (definition l.names.entries l.scope) l.fn.self l.definitions;
+  inside : l.scope.0 ≤ length l.names.entries;
+  told : each (definition l.names.entries l.scope.0) l.table (drop l.definition-index l.definitions)
+      ≡ each (definition l.names.entries l.scope.0) l.fn.self l.definitions;
 }
 
 abbrev pub decreases-with_definition : goal.decreases-with_definition

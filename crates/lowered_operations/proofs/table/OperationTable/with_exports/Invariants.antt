@@ -5,7 +5,7 @@ use Rattle.lowered_operations.proofs.table.OperationTable.with_exports.Given as 
 
 abbrev pub invariant-loop-export : goal.invariant-loop-export
 invariant-loop-export l = record {
-  inside : l.scope ≤ length l.names.entries;
-  told : each (export l.names.entries l.scope) l.table (drop l.export-index l.exports)
-      ≡ each (export l.names.entries l.scope) l.fn.self l.exports;
+  inside : l.scope.0 ≤ length l.names.entries;
+  told : each (export l.names.entries l.scope.0) l.table (drop l.export-index l.exports)
+      ≡ each (export l.names.entries l.scope.0) l.fn.self l.exports;
 }

@@ -7,7 +7,7 @@ use Rattle.lowered_operations.proofs.table.OperationTable.with_silent.Given as g
 
 abbrev pub invariant-loop-identifier : goal.invariant-loop-identifier
 invariant-loop-identifier l = record {
-  inside : l.scope ≤ length l.names.entries;
-  told : each (with_attribute l.names.entries l.scope l.number l.declared) l.table (parts_left l.identifier-iterator)
-      ≡ each (with_attribute l.names.entries l.scope l.number l.declared) l.fn.self (parts l.identifiers);
+  inside : l.scope.0 ≤ length l.names.entries;
+  told : each (with_attribute l.names.entries l.scope.0 l.number l.declared) l.table (parts_left l.identifier-iterator)
+      ≡ each (with_attribute l.names.entries l.scope.0 l.number l.declared) l.fn.self (parts l.identifiers);
 }
