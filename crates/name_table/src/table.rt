@@ -398,6 +398,10 @@ impl<'a> Table<'a> {
         ensures there { IfSome result (λ e. e < length self.now) }
         ensures small { IfSome result (λ e. e < 2 ^ 63) }
     {
+        match self.words.get(scope) {
+            Some(words) if !words.is_empty() => (),
+            _ => return None,
+        }
         let word = Word::new(identifier.name());
         self.keys.number_of(&Key { scope, word })
     }

@@ -5,68 +5,43 @@ ghost use Rattle.scoped_names.specs.Faults.{member_named};
 ghost use Rattle.scoped_names.specs.inner.StateKept.{member_of};
 
 use idl_tree::names::At;
-use name_table::{Key, Numbered};
+use name_table::{Key, Word};
+use std::collections::BTreeMap;
 use std::alloc::{AllocError, Global};
 use std::marker::Model;
 
-/// The members and parameters that scopes have, and where they are declared.
+
 pub(crate) struct Members<'a> {
-    keys: Numbered<Key<'a>>,
-    places: Vec<At>,
-}
-
-impl<'a> Model for Members<'a> {
-    ghost use Rattle.std.specs.Prelude.{List, ◌≡◌, length};
-    ghost use Rattle.scoped_names.specs.Reading.{Member};
-    ghost use Rattle.scoped_names.specs.inner.StateKept.{members_of};
-
-    ghost Value = { List Member };
-
-    ghost view = { λ m. members_of m.keys m.places.items };
-
-    ghost invariant = { λ m. length m.keys ≡ length m.places.items };
+    alloc: Global,
+    scopes: Vec<BTreeMap<Word<'a>, At>>,
 }
 
 impl<'a> Drop for Members<'a> {
     fn drop(self) {
-        let Members { keys: _, places: _ } = self;
+        let Members { alloc: _, scopes: _ } = self;
     }
 }
 
 impl<'a> Members<'a> {
-    /// None yet. Takes no memory.
-    pub fn new(alloc: Global) -> Self
-        ensures { result ≡ [] }
-    {
-        Members {
-            keys: Numbered::new(alloc),
-            places: Vec::new(alloc),
-        }
+    pub fn new(alloc: Global) -> Self {
+        Members { alloc, scopes: Vec::new(alloc) }
     }
 
-    /// Where the scope's member of the word is declared.
-    pub fn at(&self, key: &Key<'a>) -> Option<At>
-        ensures { result ≡ member_named self.now key.now.scope key.now.word.text.now }
-    {
-        match self.keys.number_of(key) {
-            Some(number) => Some(self.places[number]),
+    pub fn at(&self, key: &Key<'a>) -> Option<At> {
+        match self.scopes.get(key.scope) {
+            Some(words) => words.get(&key.word).copied(),
             None => None,
         }
     }
 
-    /// One member more, of a name that its scope hasn't yet.
-    ///
-    /// # Errors
-    ///
-    /// `AllocError`, and then nothing has changed.
-    pub fn push(&mut self, key: Key<'a>, at: At) -> Result<(), AllocError>
-        requires { member_named self.old key.scope key.word.text.now ≡ None }
-        ensures pushed { OnOk result (self.new ≡ self.old ++ member_of key.entry at ∷ []) }
-        ensures err { OnErr result (self.new ≡ self.old) }
-    {
-        self.places.reserve(1)?;
-        self.keys.push(key)?;
-        self.places.push_reserved(at);
+    pub fn push(&mut self, key: Key<'a>, at: At) -> Result<(), AllocError> {
+        let many = self.scopes.len();
+        for _ in many..=key.scope {
+            self.scopes.push(BTreeMap::new(self.alloc))?;
+        }
+        if let Some(words) = self.scopes.get_mut(key.scope) {
+            words.insert(key.word, at)?;
+        }
         Ok(())
     }
 }
