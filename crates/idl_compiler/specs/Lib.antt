@@ -3,3 +3,4 @@ pub mod Compiled
 pub mod Files
 pub mod Refused
 pub mod Settlement
+pub mod inner

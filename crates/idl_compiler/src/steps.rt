@@ -1,8 +1,9 @@
 //! The steps from a text to its table.
 
-ghost use Rattle.std.specs.Prelude.{◌≡◌, ◌⊎◌, IfErr, IfOk};
-ghost use Rattle.idl_compiler.specs.Compiled.{ArePartsOf, HasTable, IsCompiled, IsModelOf, IsNamedTable, IsTableOf};
+ghost use Rattle.std.specs.Prelude.{◌≡◌, IfErr, IfOk};
+ghost use Rattle.idl_compiler.specs.Compiled.{ArePartsOf, IsCompiled, IsModelOf, IsNamedTable, IsTableOf};
 ghost use Rattle.idl_compiler.specs.Refused.{HasNoTableBut, IsFaultOf, IsRefused};
+ghost use Rattle.idl_compiler.specs.inner.Modelled.{IsBuilt, IsModelled};
 ghost use Rattle.idl_compiler.specs.declared.fault.CompileFault.TheVariants.{NoMemory};
 
 use crate::choice::{Settled, settle};
@@ -12,7 +13,7 @@ use generator::plain;
 use idl_lexer::lex;
 use idl_parser::parse;
 use idl_tree::spec::Spec;
-use model_builder::{Built, build};
+use model_builder::{Built, build, build_model};
 use optimiser::planned;
 use part_names::PartNames;
 use scoped_names::bind;
@@ -39,6 +40,10 @@ trait HasModel {
 
     ghost lacks: { Self → CompileFault → Type 0 };
 
+    fn model(&self, alloc: Global) -> Result<Model, CompileFault>
+        ensures shown { IfOk result (shows self.now) }
+        ensures faults { IfErr result (lacks self.now) };
+
     fn built(&self, alloc: Global) -> Result<Built, CompileFault>
         ensures shown { IfOk result (λ built. shows self.now built.model) }
         ensures named { IfOk result (λ built. names self.now built.parts) }
@@ -51,6 +56,11 @@ impl<'a> HasModel for Spec<'a> {
     ghost names = { λ spec. ArePartsOf spec.definitions.items };
 
     ghost lacks = { λ spec. IsFaultOf spec.definitions.items };
+
+    fn model(&self, alloc: Global) -> Result<Model, CompileFault> {
+        let names = bind(alloc, self)?;
+        Ok(build_model(alloc, self, &names)?)
+    }
 
     fn built(&self, alloc: Global) -> Result<Built, CompileFault> {
         let names = bind(alloc, self)?;
@@ -69,28 +79,65 @@ fn table_of_model(alloc: Global, model: Model) -> Result<Settled, CompileFault>
     Ok(settle(alloc, model, first, second)?)
 }
 
-/// The table of what has a model, with the names of the parts of its types.
-fn table_of<T: HasModel + Drop>(alloc: Global, whole: T) -> Result<NamedTable, CompileFault>
-    ensures table { IfOk result (λ named. HasTable (T.shows whole) named.settled) }
-    ensures names { IfOk result (λ named. T.names whole named.names) }
-    ensures faults { IfErr result (λ fault. (fault ≡ NoMemory) ⊎ T.lacks whole fault) }
+/// The model of what has one, which is let go.
+fn model_of<T: HasModel + Drop>(alloc: Global, whole: T) -> Result<Model, CompileFault>
+    ensures shown { IfOk result (T.shows whole) }
+    ensures faults { IfErr result (T.lacks whole) }
 {
-    let Built { model, parts } = whole.built(alloc)?;
+    whole.model(alloc)
+}
+
+/// The same, with the names of the parts of its types.
+fn built_of<T: HasModel + Drop>(alloc: Global, whole: T) -> Result<Built, CompileFault>
+    ensures shown { IfOk result (λ built. T.shows whole built.model) }
+    ensures named { IfOk result (λ built. T.names whole built.parts) }
+    ensures faults { IfErr result (T.lacks whole) }
+{
+    whole.built(alloc)
+}
+
+// Tokens and tree, which take more memory than the table, are let go before that is made.
+
+/// The model of a text, or the fault of the first step that refuses it.
+fn model_of_text(alloc: Global, source: &str) -> Result<Model, CompileFault>
+    ensures modelled { IfOk result (IsModelled source.now) }
+    ensures refused { IfErr result (IsRefused source.now) }
+{
+    let tokens = lex(alloc, source)?;
+    let spec = parse(alloc, &tokens)?;
+    model_of(alloc, spec)
+}
+
+/// The same, with the names of the parts of its types.
+fn built_of_text(alloc: Global, source: &str) -> Result<Built, CompileFault>
+    ensures built { IfOk result (IsBuilt source.now) }
+    ensures refused { IfErr result (IsRefused source.now) }
+{
+    let tokens = lex(alloc, source)?;
+    let tree = parse(alloc, &tokens)?;
+    built_of(alloc, tree)
+}
+
+/// The table of a text.
+fn table_of_text(alloc: Global, source: &str) -> Result<Settled, CompileFault>
+    ensures compiled { IfOk result (IsCompiled source.now) }
+    ensures refused { IfErr result (IsRefused source.now) }
+{
+    let model = model_of_text(alloc, source)?;
+    table_of_model(alloc, model)
+}
+
+/// The same, with the names of the parts of its types.
+fn named_table_of_text(alloc: Global, source: &str) -> Result<NamedTable, CompileFault>
+    ensures compiled { IfOk result (IsNamedTable source.now) }
+    ensures refused { IfErr result (IsRefused source.now) }
+{
+    let Built { model, parts } = built_of_text(alloc, source)?;
     let settled = table_of_model(alloc, model)?;
     Ok(NamedTable {
         settled,
         names: parts,
     })
-}
-
-/// The table of a text, or the fault of the first step that refuses it.
-fn table_of_text(alloc: Global, source: &str) -> Result<NamedTable, CompileFault>
-    ensures compiled { IfOk result (IsNamedTable source.now) }
-    ensures refused { IfErr result (IsRefused source.now) }
-{
-    let tokens = lex(alloc, source)?;
-    let spec = parse(alloc, &tokens)?;
-    table_of(alloc, spec)
 }
 
 /// The table of an IDL file (ISO/IEC 19500-1), as a preprocessor leaves it, that the checker
@@ -105,7 +152,7 @@ pub fn compile_named(alloc: Global, source: &str) -> Result<NamedTable, CompileF
     ensures none { IfErr result (HasNoTableBut source.now) }
 {
     refused_has_no_table();
-    table_of_text(alloc, source)
+    named_table_of_text(alloc, source)
 }
 
 /// The table of an IDL file, without the names of the parts of its types.
@@ -118,8 +165,6 @@ pub fn compile(alloc: Global, source: &str) -> Result<Settled, CompileFault>
     ensures refused { IfErr result (IsRefused source.now) }
     ensures none { IfErr result (HasNoTableBut source.now) }
 {
-    match compile_named(alloc, source) {
-        Ok(named) => Ok(named.settled),
-        Err(fault) => Err(fault),
-    }
+    refused_has_no_table();
+    table_of_text(alloc, source)
 }

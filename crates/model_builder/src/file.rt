@@ -24,40 +24,57 @@ pub struct Built {
     pub parts: PartNames,
 }
 
-/// What is built of what the file is lowered to.
-fn built_of<'a>(
+/// What the file is lowered to.
+fn lowered<'a>(
     alloc: Global,
     spec: &Spec<'a>,
     names: &Names<'a>,
-    table: OperationTable,
-) -> Result<Built, ModelFault>
-    requires { IsLowered spec.now.definitions.items names.now table }
-    ensures shows { IfOk result (λ built. Shows spec.now.definitions.items names.now built.model) }
-    ensures named { IfOk result (λ built. AreParts spec.now.definitions.items names.now built.parts) }
+) -> Result<OperationTable, ModelFault>
+    requires { AreNames spec.now.definitions.items names.now }
+    ensures lowered { IfOk result (IsLowered spec.now.definitions.items names.now) }
     ensures refused { IfErr result (IsRefused spec.now.definitions.items names.now) }
 {
-    let (types, operations, interfaces) = table.into_parts();
-    let parts = name_parts(alloc, names, &types, operations.as_slice(), spec)?;
-    let model = model_of(alloc, names, types, operations, interfaces)?;
-    Ok(Built { model, parts })
+    match lower_file(alloc, names, spec) {
+        Ok(table) => Ok(table),
+        Err(BuildFault::Types(fault)) => Err(ModelFault::Types(fault)),
+        Err(BuildFault::NoMemory) => Err(ModelFault::NoMemory),
+        Err(BuildFault::OtherNames) => unreachable!(),
+    }
 }
 
 /// The model of a file whose names are those that `bind` gave for it: its types with their names,
-/// its interfaces, operations and exceptions; and for each node the names of its parts.
+/// its interfaces, operations and exceptions.
 ///
 /// # Errors
 /// The first fault of the file's types in the order of reading, with its line; a type that holds
 /// itself and too long a path come last. Want of memory.
+pub fn build_model<'a>(
+    alloc: Global,
+    spec: &Spec<'a>,
+    names: &Names<'a>,
+) -> Result<Model, ModelFault>
+    requires { AreNames spec.now.definitions.items names.now }
+    ensures shows { IfOk result (Shows spec.now.definitions.items names.now) }
+    ensures refused { IfErr result (IsRefused spec.now.definitions.items names.now) }
+{
+    let table = lowered(alloc, spec, names)?;
+    let (types, operations, interfaces) = table.into_parts();
+    model_of(alloc, names, types, operations, interfaces)
+}
+
+/// The same, and for each node the names of its parts.
+///
+/// # Errors
+/// Those of `build_model`.
 pub fn build<'a>(alloc: Global, spec: &Spec<'a>, names: &Names<'a>) -> Result<Built, ModelFault>
     requires { AreNames spec.now.definitions.items names.now }
     ensures shows { IfOk result (λ built. Shows spec.now.definitions.items names.now built.model) }
     ensures named { IfOk result (λ built. AreParts spec.now.definitions.items names.now built.parts) }
     ensures refused { IfErr result (IsRefused spec.now.definitions.items names.now) }
 {
-    match lower_file(alloc, names, spec) {
-        Ok(table) => built_of(alloc, spec, names, table),
-        Err(BuildFault::Types(fault)) => Err(ModelFault::Types(fault)),
-        Err(BuildFault::NoMemory) => Err(ModelFault::NoMemory),
-        Err(BuildFault::OtherNames) => unreachable!(),
-    }
+    let table = lowered(alloc, spec, names)?;
+    let (types, operations, interfaces) = table.into_parts();
+    let parts = name_parts(alloc, names, &types, operations.as_slice(), spec)?;
+    let model = model_of(alloc, names, types, operations, interfaces)?;
+    Ok(Built { model, parts })
 }

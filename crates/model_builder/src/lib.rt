@@ -10,5 +10,5 @@ mod paths;
 mod signatures;
 
 pub use fault::ModelFault;
-pub use file::{Built, build};
+pub use file::{Built, build, build_model};
 pub use lowered_types::{Answer, LabelWorth, TypeFault, TypeKind};
