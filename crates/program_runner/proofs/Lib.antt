@@ -3,6 +3,7 @@ pub mod TurnedWords
 pub mod Gaps
 pub mod Places
 pub mod Calls
+pub mod Left
 pub mod Agreement
 pub mod PassAgreement
 pub mod WordAgreement
