@@ -1,5 +1,6 @@
 -- What is known of a value and of a fault, put together.
 use Rattle.std.proofs.Common.{◌≡◌, ◌<◌, ◌≤◌, ◌∙◌, sym, subst, ℕ, List, ◌++◌, All, length, map, take, drop, refl}
+use Rattle.std.specs.Bool.{OnFalse}
 use Rattle.std.proofs.lemmas.List.{take-append-drop}
 use Rattle.std.proofs.lemmas.List.Elements.{All-contains, All-map}
 use Rattle.type_graph.specs.declared.node.Node.{Node}
@@ -9,7 +10,7 @@ use Rattle.type_graph.specs.Value.{Tree, Fits, node_at, tape_of}
 use Rattle.type_graph.specs.Encoding.{Means}
 use Rattle.type_model.specs.ModelRules.{IsModel, Parts}
 use Rattle.type_model.specs.Names.{IsNamed}
-use Rattle.program_runner.specs.Refusal.{OnlyIf}
+use Rattle.program_runner.specs.Refusal.{wants_memory}
 use Rattle.program_runner.specs.declared.fault.RunFault.{RunFault}
 use Rattle.program_runner.specs.declared.fault.RunFault.TheVariants as runs
 use Rattle.call_texts.specs.Bodies.{IsTextOfBody, Labels}
@@ -27,18 +28,6 @@ pub in_lent : (model lent : Parts) (graph : List Node) (node : ℕ) → lent ≡
     → IsNamed model.names node → node < length graph
 in_lent model lent graph node model_is graph_is rules named =
     subst (λ (nodes : List Node). node < length nodes) (sym graph_is) (in_graph model (subst IsModel model_is rules) node named)
-
-pub not_for_memory : (fault : RunFault) (P : Type 0) → (fault ≡ runs.NoMemory → ⊥) → OnlyIf fault P → P
-not_for_memory runs.NoMemory P other h = absurd (other refl)
-not_for_memory runs.Short P other h = h
-not_for_memory runs.BadBool P other h = h
-not_for_memory runs.BadEnum P other h = h
-not_for_memory runs.BadLength P other h = h
-not_for_memory runs.NoTerminator P other h = h
-not_for_memory runs.ZeroInside P other h = h
-not_for_memory runs.OverBound P other h = h
-not_for_memory runs.TooDeep P other h = h
-not_for_memory runs.TapeLeft P other h = h
 
 -- what was read is the tape of a value
 pub is_tape : (graph lent : List Node) (order : Order) (node place : ℕ) (tape slice front : List ℕ) → lent ≡ graph → slice ≡ tape

@@ -1,8 +1,9 @@
 -- What a fault says.
+use Rattle.std.specs.Prelude.{Bool, true, false}
 use Rattle.captures.specs.declared.fault.CaptureFault.{CaptureFault}
-use Rattle.captures.specs.declared.fault.CaptureFault.TheVariants.{BadCapture, NoMemory}
+use Rattle.captures.specs.declared.fault.CaptureFault.TheVariants.{NoMemory}
 
--- the fact holds, unless memory was wanted
-abbrev pub OnlyIf : CaptureFault → Type 0 → Type 0
-OnlyIf BadCapture P = P
-OnlyIf NoMemory P = Unit {0}
+-- whether memory was wanted
+abbrev pub wants_memory : CaptureFault → Bool
+wants_memory NoMemory = true
+wants_memory fault = false

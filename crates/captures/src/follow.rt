@@ -1,9 +1,10 @@
 //! The text that `tshark -q -z follow,tcp,raw,N` prints of a connection, line by line.
 
 ghost use Rattle.std.specs.Prelude.{◌≡◌, codes, nat_eq, IfOk, IfErr, None};
+ghost use Rattle.std.specs.Bool.{OnFalse};
 ghost use Rattle.std.specs.List.{starts_with};
 ghost use Rattle.captures.specs.Follows.{followed_of, follows, in_body as body_of, is_rule as is_rule_in, is_second as is_second_in, names_second as names_second_in, piece_of};
-ghost use Rattle.captures.specs.Refusal.{OnlyIf};
+ghost use Rattle.captures.specs.Refusal.{wants_memory};
 
 use crate::fault::CaptureFault;
 use hex::FromHexError;
@@ -70,7 +71,7 @@ fn is_second(line: &[u8]) -> bool
 /// The octets that digits are.
 fn octets_of(alloc: Global, side: Side, digits: &[u8]) -> Result<Piece, CaptureFault>
     ensures found { IfOk result (λ piece. piece_of side digits.now ≡ Some (piece.side, piece.octets.items)) }
-    ensures refused { IfErr result (λ fault. OnlyIf fault (piece_of side digits.now ≡ None)) }
+    ensures refused { IfErr result (λ fault. OnFalse (wants_memory fault) (piece_of side digits.now ≡ None)) }
 {
     match hex::decode(alloc, digits) {
         Ok(octets) => Ok(Piece { side, octets }),
@@ -82,7 +83,7 @@ fn octets_of(alloc: Global, side: Side, digits: &[u8]) -> Result<Piece, CaptureF
 /// A line that stands behind that of the second node.
 fn in_body(alloc: Global, line: &[u8]) -> Result<Followed, CaptureFault>
     ensures found { IfOk result (λ said. body_of line.now ≡ Some (followed_of said)) }
-    ensures refused { IfErr result (λ fault. OnlyIf fault (body_of line.now ≡ None)) }
+    ensures refused { IfErr result (λ fault. OnFalse (wants_memory fault) (body_of line.now ≡ None)) }
 {
     if is_rule(line) {
         return Ok(Followed {
@@ -118,7 +119,7 @@ fn bare(stage: Stage) -> Followed
 /// `BadCapture` where it is no line of that stage. Want of memory.
 pub fn follow_line(alloc: Global, stage: Stage, line: &[u8]) -> Result<Followed, CaptureFault>
     ensures found { IfOk result (λ said. follows stage line.now ≡ Some (followed_of said)) }
-    ensures refused { IfErr result (λ fault. OnlyIf fault (follows stage line.now ≡ None)) }
+    ensures refused { IfErr result (λ fault. OnFalse (wants_memory fault) (follows stage line.now ≡ None)) }
 {
     match stage {
         Stage::Before if line.is_empty() => Ok(bare(Stage::Before)),

@@ -1,8 +1,9 @@
 -- What a fault says.
+use Rattle.std.specs.Prelude.{Bool, true, false}
 use Rattle.corbaloc.specs.declared.fault.CorbalocFault.{CorbalocFault}
-use Rattle.corbaloc.specs.declared.fault.CorbalocFault.TheVariants.{BadCorbaloc, NoMemory}
+use Rattle.corbaloc.specs.declared.fault.CorbalocFault.TheVariants.{NoMemory}
 
--- want of memory is the cause, or the fact holds
-abbrev pub OnlyIf : CorbalocFault → Type 0 → Type 0
-OnlyIf NoMemory fact = Unit {0}
-OnlyIf BadCorbaloc fact = fact
+-- whether memory was wanted
+abbrev pub wants_memory : CorbalocFault → Bool
+wants_memory NoMemory = true
+wants_memory fault = false

@@ -1,9 +1,10 @@
 //! Keys of objects.
 
 ghost use Rattle.std.specs.Prelude.{◌≡◌, ◌<◌, ◌∷◌, nat_lt, length, if◌then◌else◌, None, Some, IfOk, IfErr, IfSome, IfNone, option_map};
+ghost use Rattle.std.specs.Bool.{OnFalse};
 ghost use Rattle.std.specs.Char.{digit_value};
 ghost use Rattle.corbaloc.specs.Places.{escaped, key_of as key_in};
-ghost use Rattle.corbaloc.specs.Refusal.{OnlyIf};
+ghost use Rattle.corbaloc.specs.Refusal.{wants_memory};
 
 use crate::fault::CorbalocFault;
 use std::alloc::Global;
@@ -56,7 +57,7 @@ fn first_of(text: &[u8]) -> Option<(u8, &[u8])>
 /// `BadCorbaloc` where no two digits stand behind a `%`. Want of memory.
 pub(crate) fn key_of(alloc: Global, text: &[u8]) -> Result<Vec<u8>, CorbalocFault>
     ensures found { IfOk result (λ key. key_in text.now ≡ Some key.items) }
-    ensures refused { IfErr result (λ fault. OnlyIf fault (key_in text.now ≡ None)) }
+    ensures refused { IfErr result (λ fault. OnFalse (wants_memory fault) (key_in text.now ≡ None)) }
 {
     let mut key = Vec::new(alloc);
     let mut left = text;

@@ -1,9 +1,10 @@
 //! Places of objects.
 
 ghost use Rattle.std.specs.Prelude.{◌≡◌, IfOk, IfErr, option_map};
+ghost use Rattle.std.specs.Bool.{OnFalse};
 ghost use Rattle.corbaloc.specs.Places.{Place, SpellsCorbaloc, behind_protocol as behind_protocol_of, cut as cut_of, is_protocol as is_protocol_word, past_protocol as past_protocol_of, past_scheme as past_scheme_of};
 ghost use Rattle.corbaloc.specs.Views.{place_of};
-ghost use Rattle.corbaloc.specs.Refusal.{OnlyIf};
+ghost use Rattle.corbaloc.specs.Refusal.{wants_memory};
 
 use crate::address::address_of;
 use crate::cut::cut;
@@ -62,7 +63,7 @@ fn behind_protocol(text: &str) -> Option<&str>
 /// `BadCorbaloc` where the text is no such URL. Want of memory.
 pub fn read_corbaloc(alloc: Global, text: &str) -> Result<Location, CorbalocFault>
     ensures found { IfOk result (λ location. SpellsCorbaloc text.now (place_of location)) }
-    ensures refused { IfErr result (λ fault. OnlyIf fault ((place : Place) → SpellsCorbaloc text.now place → ⊥)) }
+    ensures refused { IfErr result (λ fault. OnFalse (wants_memory fault) ((place : Place) → SpellsCorbaloc text.now place → ⊥)) }
 {
     let Some(rest) = behind_protocol(text) else {
         return Err(CorbalocFault::BadCorbaloc);

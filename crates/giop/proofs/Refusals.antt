@@ -1,10 +1,11 @@
 -- Why none are made, from why a part of them isn't.
 use Rattle.std.proofs.Common.{◌≡◌, ℕ, ◌+◌, ◌<◌, List, ◌++◌, length, length-append, replicate, Option, refl, ap, ◌∙◌, arith}
+use Rattle.std.specs.Bool.{OnFalse}
 use Rattle.std.proofs.lemmas.List.{length-replicate}
 use Rattle.type_graph.specs.declared.width.Order.{Order}
 use Rattle.program_runner.specs.declared.fault.RunFault.{RunFault}
 use Rattle.program_runner.specs.declared.fault.RunFault.TheVariants as runs
-use Rattle.program_runner.specs.Refusal.{OnlyIf}
+use Rattle.program_runner.specs.Refusal.{wants_memory}
 use Rattle.giop_messages.specs.Heads.{max_size}
 use Rattle.giop_messages.specs.declared.fault.GiopFault.{GiopFault}
 use Rattle.giop_messages.specs.declared.fault.GiopFault.TheVariants as faults
@@ -12,19 +13,6 @@ use Rattle.giop_messages.specs.Faults.{IsMemoryOr}
 use Rattle.giop_messages.specs.Written.{Given, IsBody, head_octets}
 use Rattle.giop.specs.Made.{IsHeader, IsLong, IsNotMade}
 use Rattle.giop.proofs.MadeFacts.{length_made}
-
--- a run that isn't refused for memory
-pub not_for_memory : (fault : RunFault) (P : Type 0) → (fault ≡ runs.NoMemory → ⊥) → OnlyIf fault P → P
-not_for_memory runs.NoMemory P other h = absurd (other refl)
-not_for_memory runs.Short P other h = h
-not_for_memory runs.BadBool P other h = h
-not_for_memory runs.BadEnum P other h = h
-not_for_memory runs.BadLength P other h = h
-not_for_memory runs.NoTerminator P other h = h
-not_for_memory runs.ZeroInside P other h = h
-not_for_memory runs.OverBound P other h = h
-not_for_memory runs.TooDeep P other h = h
-not_for_memory runs.TapeLeft P other h = h
 
 pub memory_or : (wanted fault : GiopFault) (P Q : Type 0) → (P → Q) → IsMemoryOr wanted fault P → IsMemoryOr wanted fault Q
 memory_or wanted faults.NoMemory P Q f h = tt

@@ -1,10 +1,11 @@
 //! The types of GIOP at hand, and the calls on references.
 
 ghost use Rattle.std.specs.Prelude.{◌≡◌, ℕ, List, IfOk, IfErr};
+ghost use Rattle.std.specs.Bool.{OnFalse};
 ghost use Rattle.std.specs.String.{string_bytes};
 ghost use Rattle.object_references.specs.Profiles.{IsProfile};
 ghost use Rattle.object_references.specs.References.{Reference, reference_of};
-ghost use Rattle.object_references.specs.Refusal.{OnlyIf};
+ghost use Rattle.object_references.specs.Refusal.{wants_memory};
 ghost use Rattle.object_references.specs.Texts.{IsTextOf, Spells};
 ghost use Rattle.giop_types.specs.GiopModel.{giop_table};
 
@@ -68,7 +69,7 @@ impl Giop {
     ) -> Result<Vec<u8>, ReferenceFault>
         ensures written { IfOk result (λ octets. IsProfile host.now port key.now octets.items) }
         ensures refused { IfErr result (λ fault.
-            OnlyIf fault ((octets : List ℕ) → IsProfile host.now port key.now octets → ⊥)) }
+            OnFalse (wants_memory fault) ((octets : List ℕ) → IsProfile host.now port key.now octets → ⊥)) }
     {
         object_references::profile(&self.types, alloc, host, port, key)
     }
@@ -81,7 +82,7 @@ impl Giop {
     pub fn ior_to_text(&self, alloc: Global, ior: &Ior) -> Result<String, ReferenceFault>
         ensures text { IfOk result (λ text. IsTextOf (reference_of ior.now) (string_bytes text)) }
         ensures refused { IfErr result (λ fault.
-            OnlyIf fault ((text : List ℕ) → IsTextOf (reference_of ior.now) text → ⊥)) }
+            OnFalse (wants_memory fault) ((text : List ℕ) → IsTextOf (reference_of ior.now) text → ⊥)) }
     {
         object_references::ior_to_text(&self.types, alloc, ior)
     }
@@ -94,7 +95,7 @@ impl Giop {
     pub fn ior_from_text(&self, alloc: Global, text: &str) -> Result<Ior, ReferenceFault>
         ensures found { IfOk result (λ ior. Spells text.now (reference_of ior)) }
         ensures refused { IfErr result (λ fault.
-            OnlyIf fault ((reference : Reference) → Spells text.now reference → ⊥)) }
+            OnFalse (wants_memory fault) ((reference : Reference) → Spells text.now reference → ⊥)) }
     {
         object_references::ior_from_text(&self.types, alloc, text)
     }

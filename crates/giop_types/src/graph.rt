@@ -1,9 +1,10 @@
 //! The nodes of the types.
 
 ghost use Rattle.std.specs.Prelude.{◌≡◌, [], ◌∷◌, ◌++◌, pos, None, IfOk, OnOk};
+ghost use Rattle.std.specs.Bool.{OnFalse};
 ghost use Rattle.type_graph.specs.declared.node.Node.TheVariants.{Struct, Union, Frame};
 ghost use Rattle.type_graph.specs.GraphRules.{IsGraph};
-ghost use Rattle.type_graph.specs.Refusal.{OnlyIf};
+ghost use Rattle.type_graph.specs.Refusal.{wants_memory};
 ghost use Rattle.giop_types.specs.GiopNodes.{body_nodes, giop_nodes, header_nodes, request_nodes};
 
 use basic_types::{
@@ -147,7 +148,7 @@ fn nodes(alloc: Global) -> Result<Vec<Node>, AllocError>
 /// The rules hold, so that only memory can have been the cause.
 #[tactic(auto, using(crate::proofs::GraphFacts::giop_is_graph))]
 fn memory_of(fault: GraphFault) -> AllocError
-    requires { OnlyIf fault (IsGraph giop_nodes → ⊥) }
+    requires { OnFalse (wants_memory fault) (IsGraph giop_nodes → ⊥) }
 {
     match fault {
         GraphFault::NoMemory => AllocError,

@@ -1,7 +1,8 @@
 //! The names of the types, and the model of all.
 
 ghost use Rattle.std.specs.Prelude.{◌≡◌, [], ◌∷◌, ◌++◌, IfOk, OnOk};
-ghost use Rattle.type_graph.specs.Refusal.{OnlyIf};
+ghost use Rattle.std.specs.Bool.{OnFalse};
+ghost use Rattle.type_graph.specs.Refusal.{wants_memory};
 ghost use Rattle.type_model.specs.ModelRules.{IsModel};
 ghost use Rattle.giop_types.specs.GiopModel.{body_names, call_names, giop_model, giop_names, locate_names, operation_names};
 
@@ -87,7 +88,7 @@ fn names(alloc: Global) -> Result<Vec<(Name, u32)>, AllocError>
 /// The rules hold, so that only memory can have been the cause.
 #[tactic(auto, using(crate::proofs::ModelFacts::giop_is_model))]
 fn memory_of(fault: GraphFault) -> AllocError
-    requires { OnlyIf fault (IsModel giop_model → ⊥) }
+    requires { OnFalse (wants_memory fault) (IsModel giop_model → ⊥) }
 {
     match fault {
         GraphFault::NoMemory => AllocError,

@@ -1,9 +1,10 @@
 //! The types at hand.
 
 ghost use Rattle.std.specs.Prelude.{◌≡◌, ◌≤◌, ◌++◌, ℕ, List, length, take, IsTrue, IfOk, IfErr};
+ghost use Rattle.std.specs.Bool.{OnFalse};
 ghost use Rattle.type_graph.specs.Words.{reading, writing};
 ghost use Rattle.type_graph.specs.Encoding.{Means};
-ghost use Rattle.program_runner.specs.Refusal.{OnlyIf};
+ghost use Rattle.program_runner.specs.Refusal.{wants_memory};
 ghost use Rattle.giop_types.specs.GiopModel.{giop_table};
 ghost use Rattle.giop_types.specs.GiopNodes.{giop_nodes};
 ghost use Rattle.giop_types.specs.Named.{has_name};
@@ -73,7 +74,7 @@ impl GiopTypes {
         ensures found { IfOk result
             (λ r. Means giop_nodes (reading order) 64 node pos r.0.items (take r.1 octets.now)) }
         ensures within { IfOk result (λ r. r.1 ≤ length octets.now) }
-        ensures refused { IfErr result (λ fault. OnlyIf fault ((tape front rest : List ℕ) → octets.now ≡ front ++ rest
+        ensures refused { IfErr result (λ fault. OnFalse (wants_memory fault) ((tape front rest : List ℕ) → octets.now ≡ front ++ rest
             → Means giop_nodes (reading order) 64 node pos tape front → ⊥)) }
     {
         self.accepted.read(alloc, node, order, pos, octets)
@@ -94,7 +95,7 @@ impl GiopTypes {
     ) -> Result<Vec<u8>, RunFault>
         requires { IsTrue (has_name node) }
         ensures found { IfOk result (λ octets. Means giop_nodes (writing order) 64 node pos tape.now octets.items) }
-        ensures refused { IfErr result (λ fault. OnlyIf fault ((octets : List ℕ)
+        ensures refused { IfErr result (λ fault. OnFalse (wants_memory fault) ((octets : List ℕ)
             → Means giop_nodes (writing order) 64 node pos tape.now octets → ⊥)) }
     {
         self.accepted.write(alloc, node, order, pos, tape)

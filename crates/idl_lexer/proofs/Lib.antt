@@ -8,7 +8,6 @@ pub mod Characters
 pub mod OneForm
 pub mod Paths
 pub mod OneFault
-pub mod Refusals
 pub mod Files
 pub mod ScopedNames
 pub mod Readings

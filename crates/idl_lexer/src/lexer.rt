@@ -1,13 +1,14 @@
 //! The tokens of a whole source, one step after another.
 
 ghost use Rattle.std.specs.Prelude.{◌≡◌, ◌<◌, ◌≤◌, ◌-◌, ◌++◌, ◌∷◌, [], ℕ, List, length, take, drop, slice_index, slice_range, false, IfErr, IfOk};
+ghost use Rattle.std.specs.Bool.{OnFalse};
 ghost use Rattle.idl_lexer.specs.declared.fault.LexFault.TheVariants.{NoMemory};
 ghost use Rattle.idl_lexer.specs.declared.token.Token.{Token};
 ghost use Rattle.idl_lexer.specs.Lexemes.{HasNoForm};
 ghost use Rattle.idl_lexer.specs.inner.Steps.{HasNoWord, IsLexeme};
 ghost use Rattle.idl_lexer.specs.Punctuation.{is_punctuation};
 ghost use Rattle.idl_lexer.specs.Faults.{IsFault, IsFaultAt, IsWordFault};
-ghost use Rattle.idl_lexer.specs.Refusal.{OnlyIf};
+ghost use Rattle.idl_lexer.specs.Refusal.{wants_memory};
 ghost use Rattle.idl_lexer.specs.Forms.{Begins};
 ghost use Rattle.idl_lexer.specs.Tokens.{HaveLines, Lexed};
 
@@ -108,8 +109,8 @@ fn add<'a>(tokens: &mut Vec<Token<'a>>, token: Token<'a>) -> Result<(), LexFault
 pub fn lex(alloc: Global, source: &str) -> Result<Vec<Token<'_>>, LexFault>
     ensures lexed { IfOk result (λ tokens. Lexed source.now tokens.items) }
     ensures lines { IfOk result (λ tokens. HaveLines source.now tokens.items) }
-    ensures refused { IfErr result (λ fault. OnlyIf fault ((tokens : List Token) → Lexed source.now tokens → ⊥)) }
-    ensures told { IfErr result (λ fault. OnlyIf fault (IsFault source.now fault)) }
+    ensures refused { IfErr result (λ fault. OnFalse (wants_memory fault) ((tokens : List Token) → Lexed source.now tokens → ⊥)) }
+    ensures told { IfErr result (λ fault. OnFalse (wants_memory fault) (IsFault source.now fault)) }
 {
     let octets = source.as_bytes();
     let mut tokens = Vec::new(alloc);

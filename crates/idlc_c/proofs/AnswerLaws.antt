@@ -1,15 +1,16 @@
 -- What a number says of the answer behind it.
 use Rattle.std.proofs.Common.{ℕ, ◌≤◌, arith}
+use Rattle.std.specs.Bool.{OnFalse}
 use Rattle.std.specs.Prelude.{Result, Ok, Err, IfErr}
 use Rattle.program_runner.specs.declared.fault.RunFault.{RunFault}
 use Rattle.program_runner.specs.declared.fault.RunFault.TheVariants as runs
-use Rattle.program_runner.specs.Refusal.{OnlyIf}
+use Rattle.program_runner.specs.Refusal.{wants_memory}
 use Rattle.idlc_c.specs.declared.refusal.Refusal.{Refusal}
 use Rattle.idlc_c.specs.declared.refusal.Refusal.TheVariants.{NoMemory, NotLoaded, NotNamed, NoRoom, TooLong, NoTable, NotRight, NoValue, NoText}
 use Rattle.idlc_c.specs.Numbers.{number_of_run, number_of_answer}
 use Rattle.idlc_c.specs.Answers.{RefusesValue}
 
-pub run_none : {V : Type 0} (fault : RunFault) → 60 ≤ number_of_run fault → OnlyIf fault V → V
+pub run_none : {V : Type 0} (fault : RunFault) → 60 ≤ number_of_run fault → OnFalse (wants_memory fault) V → V
 run_none runs.Short e s = s
 run_none runs.BadBool e s = s
 run_none runs.BadEnum e s = s

@@ -1,17 +1,18 @@
 -- What answers say.
 use Rattle.std.specs.Prelude.{◌≡◌, ℕ, Bool, true, false, ◌<◌, ◌≤◌, ◌⊎◌, List, ◌++◌, length, slice_get, take, Some}
+use Rattle.std.specs.Bool.{OnFalse}
 use Rattle.type_graph.specs.declared.width.Order.{Order}
 use Rattle.type_graph.specs.declared.width.Order.TheVariants.{Big, Little}
 use Rattle.type_graph.specs.Words.{reading, writing}
 use Rattle.type_graph.specs.Encoding.{Means}
 use Rattle.table_file.specs.Table.{TableParts, IsTable}
 use Rattle.table_file.specs.TableSpelling.{Spells, SpellsOld}
-use Rattle.table_file.specs.Refusal.{OnlyIf as OnlyIfFile}
+use Rattle.table_file.specs.Refusal.{wants_memory as file_wants_memory}
 use Rattle.routine_checker.specs.declared.fault.CheckFault.{CheckFault}
-use Rattle.routine_checker.specs.Refusal.{OnlyIf as OnlyIfCheck}
+use Rattle.routine_checker.specs.Refusal.{wants_memory as check_wants_memory}
 use Rattle.position_checker.specs.Acceptance.{IsLone}
 use Rattle.position_checker.specs.Verdict.{table_fault}
-use Rattle.program_runner.specs.Refusal.{OnlyIf as OnlyIfRun}
+use Rattle.program_runner.specs.Refusal.{wants_memory as run_wants_memory}
 use Rattle.idlc_c.specs.declared.refusal.RefusalPlace.{RefusalPlace}
 use Rattle.idlc_c.specs.declared.refusal.Refusal.{Refusal}
 use Rattle.idlc_c.specs.declared.refusal.Refusal.TheVariants.{NoMemory, NotNamed, NoRoom, TooLong, NoTable, NotRight, NoValue}
@@ -47,8 +48,8 @@ pub record IsFaultyAt (octets : List ℕ) (place : RefusalPlace) : Type 0 where
 abbrev pub RefusesFile : List ℕ → Refusal → Type 0
 RefusesFile octets NoMemory = Unit {0}
 RefusesFile octets TooLong = 16777216 < length octets
-RefusesFile octets (NoTable fault) = OnlyIfFile fault (IsNoFile octets)
-RefusesFile octets (NotRight fault) = OnlyIfCheck fault (IsFaulty octets fault)
+RefusesFile octets (NoTable fault) = OnFalse (file_wants_memory fault) (IsNoFile octets)
+RefusesFile octets (NotRight fault) = OnFalse (check_wants_memory fault) (IsFaulty octets fault)
 RefusesFile octets refusal = ⊥
 
 -- the tape encodes so many octets
@@ -88,7 +89,7 @@ abbrev pub RefusesValue : Type 0 → (ℕ → Type 0) → Type 0 → Refusal →
 RefusesValue unnamed long none NoMemory = Unit {0}
 RefusesValue unnamed long none NotNamed = unnamed
 RefusesValue unnamed long none (NoRoom needed) = long needed
-RefusesValue unnamed long none (NoValue fault) = OnlyIfRun fault none
+RefusesValue unnamed long none (NoValue fault) = OnFalse (run_wants_memory fault) none
 RefusesValue unnamed long none refusal = ⊥
 
 -- why a name isn't handed over: none stands there, or it has a length

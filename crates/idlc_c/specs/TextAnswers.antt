@@ -1,5 +1,6 @@
 -- What answers about values as texts say.
 use Rattle.std.specs.Prelude.{◌≡◌, ℕ, ◌≤◌, ◌⊎◌, List, length, take}
+use Rattle.std.specs.Bool.{OnFalse}
 use Rattle.std.specs.Str.{IsUtf8}
 use Rattle.json.specs.Lex.{tokens}
 use Rattle.json.specs.Print.{print}
@@ -9,7 +10,7 @@ use Rattle.type_graph.specs.Words.{reading, writing}
 use Rattle.type_graph.specs.Value.{Tree, Fits, node_at, tape_of}
 use Rattle.type_graph.specs.Encoding.{Means}
 use Rattle.table_file.specs.Table.{TableParts}
-use Rattle.program_runner.specs.Refusal.{OnlyIf as OnlyIfRun}
+use Rattle.program_runner.specs.Refusal.{wants_memory as run_wants_memory}
 use Rattle.value_text.specs.Says.{StandsFor}
 use Rattle.value_text.specs.Texts.{text_at}
 use Rattle.idlc_c.specs.declared.refusal.Refusal.{Refusal}
@@ -77,7 +78,7 @@ abbrev pub RefusesSaid : Type 0 → (ℕ → Type 0) → Type 0 → Type 0 → R
 RefusesSaid unnamed long none unsaid NoMemory = Unit {0}
 RefusesSaid unnamed long none unsaid NotNamed = unnamed
 RefusesSaid unnamed long none unsaid (NoRoom needed) = long needed
-RefusesSaid unnamed long none unsaid (NoValue fault) = OnlyIfRun fault none
+RefusesSaid unnamed long none unsaid (NoValue fault) = OnFalse (run_wants_memory fault) none
 RefusesSaid unnamed long none unsaid (NoText fault) = unsaid
 RefusesSaid unnamed long none unsaid refusal = ⊥
 

@@ -1,4 +1,5 @@
 -- What a fault says, and what faults of other calls are here.
+use Rattle.std.specs.Prelude.{Bool, true, false}
 use Rattle.program_runner.specs.declared.fault.RunFault.{RunFault}
 use Rattle.program_runner.specs.declared.fault.RunFault.TheVariants as runs
 use Rattle.giop_types.specs.declared.tapes.fault.TapeFault.{TapeFault}
@@ -6,10 +7,10 @@ use Rattle.giop_types.specs.declared.tapes.fault.TapeFault.TheVariants as tapes
 use Rattle.object_references.specs.declared.fault.ReferenceFault.{ReferenceFault}
 use Rattle.object_references.specs.declared.fault.ReferenceFault.TheVariants.{BadIor, NoMemory}
 
--- want of memory is the cause, or the fact holds
-abbrev pub OnlyIf : ReferenceFault → Type 0 → Type 0
-OnlyIf NoMemory fact = Unit {0}
-OnlyIf BadIor fact = fact
+-- whether memory was wanted
+abbrev pub wants_memory : ReferenceFault → Bool
+wants_memory NoMemory = true
+wants_memory fault = false
 
 abbrev pub of_run : RunFault → ReferenceFault
 of_run runs.NoMemory = NoMemory

@@ -1,11 +1,12 @@
 //! Values in encapsulations, read and written as tapes.
 
 ghost use Rattle.std.specs.Prelude.{◌≡◌, ◌∷◌, ℕ, List, IfOk, IfErr, IfSome, IfNone, IsTrue};
+ghost use Rattle.std.specs.Bool.{OnFalse};
 ghost use Rattle.type_graph.specs.declared.width.Order.{Order};
 ghost use Rattle.type_graph.specs.Value.{Tree};
 ghost use Rattle.giop_types.specs.Named.{has_name};
 ghost use Rattle.object_references.specs.Encapsulations.{Encapsulates, flag_of, HasTape, IsOfTape};
-ghost use Rattle.object_references.specs.Refusal.{OnlyIf};
+ghost use Rattle.object_references.specs.Refusal.{wants_memory};
 
 use crate::fault::ReferenceFault;
 use giop_types::GiopTypes;
@@ -53,7 +54,7 @@ pub(crate) fn read_encapsulation(
 ) -> Result<Vec<u8>, ReferenceFault>
     requires { IsTrue (has_name node) }
     ensures found { IfOk result (λ tape. HasTape node octets.now tape.items) }
-    ensures refused { IfErr result (λ fault. OnlyIf fault ((value : Tree) → Encapsulates node value octets.now → ⊥)) }
+    ensures refused { IfErr result (λ fault. OnFalse (wants_memory fault) ((value : Tree) → Encapsulates node value octets.now → ⊥)) }
 {
     let Some((order, behind)) = split_flag(octets) else {
         return Err(ReferenceFault::BadIor);
@@ -73,7 +74,7 @@ pub(crate) fn write_encapsulation(
 ) -> Result<Vec<u8>, ReferenceFault>
     requires { IsTrue (has_name node) }
     ensures written { IfOk result (λ octets. IsOfTape node tape.now octets.items) }
-    ensures refused { IfErr result (λ fault. OnlyIf fault ((octets : List ℕ) → IsOfTape node tape.now octets → ⊥)) }
+    ensures refused { IfErr result (λ fault. OnFalse (wants_memory fault) ((octets : List ℕ) → IsOfTape node tape.now octets → ⊥)) }
 {
     let mut octets = match types.write(alloc, node, ByteOrder::Big, BEHIND_FLAG, tape) {
         Ok(body) => body,

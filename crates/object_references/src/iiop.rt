@@ -1,10 +1,11 @@
 //! The profiles of IIOP written.
 
 ghost use Rattle.std.specs.Prelude.{◌≡◌, ℕ, List, IfOk, IfErr, OnOk};
+ghost use Rattle.std.specs.Bool.{OnFalse};
 ghost use Rattle.giop_types.specs.TapeParts.{IsCounted};
 ghost use Rattle.giop_types.specs.TapeRefusal.{RefusesWriting};
 ghost use Rattle.object_references.specs.Profiles.{IsProfile, profile_tape as tape_of_profile};
-ghost use Rattle.object_references.specs.Refusal.{OnlyIf};
+ghost use Rattle.object_references.specs.Refusal.{wants_memory};
 
 use crate::encapsulation::write_encapsulation;
 use crate::fault::ReferenceFault;
@@ -55,7 +56,7 @@ pub fn profile(
     key: &[u8],
 ) -> Result<Vec<u8>, ReferenceFault>
     ensures written { IfOk result (λ octets. IsProfile host.now port key.now octets.items) }
-    ensures refused { IfErr result (λ fault. OnlyIf fault ((octets : List ℕ)
+    ensures refused { IfErr result (λ fault. OnFalse (wants_memory fault) ((octets : List ℕ)
         → IsProfile host.now port key.now octets → ⊥)) }
 {
     match profile_tape(alloc, host, port, key) {

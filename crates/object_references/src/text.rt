@@ -1,11 +1,12 @@
 //! References as text.
 
 ghost use Rattle.std.specs.Prelude.{◌≡◌, ℕ, List, Ok, IfOk, IfErr, IfSome, IfNone};
+ghost use Rattle.std.specs.Bool.{OnFalse};
 ghost use Rattle.std.specs.String.{string_bytes};
 ghost use Rattle.hex.specs.Hex.{decode_of};
 ghost use Rattle.object_references.specs.Encapsulations.{Encapsulates, IsWritten};
 ghost use Rattle.object_references.specs.References.{Reference, reference_of, reference_tree};
-ghost use Rattle.object_references.specs.Refusal.{OnlyIf};
+ghost use Rattle.object_references.specs.Refusal.{wants_memory};
 ghost use Rattle.object_references.specs.Texts.{HasDigits, IsTextOf, Spells, spelled};
 
 use crate::encapsulation::{read_encapsulation, write_encapsulation};
@@ -21,7 +22,7 @@ const WORD: &str = "IOR:";
 /// The encapsulation of a reference.
 fn write_reference(types: &GiopTypes, alloc: Global, ior: &Ior) -> Result<Vec<u8>, ReferenceFault>
     ensures written { IfOk result (λ octets. IsWritten 13 (reference_tree (reference_of ior.now)) octets.items) }
-    ensures refused { IfErr result (λ fault. OnlyIf fault ((octets : List ℕ)
+    ensures refused { IfErr result (λ fault. OnFalse (wants_memory fault) ((octets : List ℕ)
         → IsWritten 13 (reference_tree (reference_of ior.now)) octets → ⊥)) }
 {
     let mut tape = Vec::new(alloc);
@@ -48,7 +49,7 @@ fn text_of(alloc: Global, octets: &[u8]) -> Result<String, AllocError>
 /// `BadIor` where the id holds a zero, or a part is too long for its count. Want of memory.
 pub fn ior_to_text(types: &GiopTypes, alloc: Global, ior: &Ior) -> Result<String, ReferenceFault>
     ensures text { IfOk result (λ text. IsTextOf (reference_of ior.now) (string_bytes text)) }
-    ensures refused { IfErr result (λ fault. OnlyIf fault ((text : List ℕ)
+    ensures refused { IfErr result (λ fault. OnFalse (wants_memory fault) ((text : List ℕ)
         → IsTextOf (reference_of ior.now) text → ⊥)) }
 {
     match write_reference(types, alloc, ior) {
@@ -76,7 +77,7 @@ fn digits_in(text: &[u8]) -> Option<&[u8]>
 /// The octets that digits spell.
 fn octets_of(alloc: Global, digits: &[u8]) -> Result<Vec<u8>, ReferenceFault>
     ensures found { IfOk result (λ octets. decode_of digits.now ≡ Ok octets.items) }
-    ensures refused { IfErr result (λ fault. OnlyIf fault ((octets : List ℕ) → decode_of digits.now ≡ Ok octets → ⊥)) }
+    ensures refused { IfErr result (λ fault. OnFalse (wants_memory fault) ((octets : List ℕ) → decode_of digits.now ≡ Ok octets → ⊥)) }
 {
     match hex::decode(alloc, digits) {
         Ok(octets) => Ok(octets),
@@ -88,7 +89,7 @@ fn octets_of(alloc: Global, digits: &[u8]) -> Result<Vec<u8>, ReferenceFault>
 /// The reference in an encapsulation.
 fn read_reference(types: &GiopTypes, alloc: Global, octets: &[u8]) -> Result<Ior, ReferenceFault>
     ensures found { IfOk result (λ ior. Encapsulates 13 (reference_tree (reference_of ior)) octets.now) }
-    ensures refused { IfErr result (λ fault. OnlyIf fault ((reference : Reference)
+    ensures refused { IfErr result (λ fault. OnFalse (wants_memory fault) ((reference : Reference)
         → Encapsulates 13 (reference_tree reference) octets.now → ⊥)) }
 {
     let tape = match read_encapsulation(types, alloc, OBJECT, octets) {
@@ -108,7 +109,7 @@ fn read_reference(types: &GiopTypes, alloc: Global, octets: &[u8]) -> Result<Ior
 /// `BadIor` where the text spells no reference. Want of memory.
 pub fn ior_from_text(types: &GiopTypes, alloc: Global, text: &str) -> Result<Ior, ReferenceFault>
     ensures found { IfOk result (λ ior. Spells text.now (reference_of ior)) }
-    ensures refused { IfErr result (λ fault. OnlyIf fault ((reference : Reference) → Spells text.now reference → ⊥)) }
+    ensures refused { IfErr result (λ fault. OnFalse (wants_memory fault) ((reference : Reference) → Spells text.now reference → ⊥)) }
 {
     let Some(digits) = digits_in(text.as_bytes()) else {
         return Err(ReferenceFault::BadIor);

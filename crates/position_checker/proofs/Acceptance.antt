@@ -1,5 +1,6 @@
 -- What an accepted table answers.
 use Rattle.std.proofs.Common.{◌≡◌, ◌↔◌, ℕ, Bool, true, false, ◌&&◌, ◌==◌, List, [], ◌++◌, get_or, Some, slice_get, Result, Ok, Err, refl, sym, subst, IfOk}
+use Rattle.std.specs.Bool.{OnFalse}
 use Rattle.std.specs.Prelude.{IfErr}
 use Rattle.std.proofs.lemmas.Bool.{eqb-true}
 use Rattle.std.proofs.lemmas.Option.{slice_get-get_or}
@@ -16,12 +17,13 @@ use Rattle.routine_checker.specs.Right.{AreRight}
 use Rattle.routine_checker.proofs.SetLaws.{among_all}
 use Rattle.program_runner.specs.declared.fault.RunFault.{RunFault}
 use Rattle.program_runner.specs.declared.fault.RunFault.TheVariants.{Short, BadBool, BadEnum, BadLength, NoTerminator, ZeroInside, OverBound, TooDeep, TapeLeft, NoMemory}
-use Rattle.program_runner.specs.Refusal.{OnlyIf}
+use Rattle.program_runner.specs.Refusal.{wants_memory}
 use Rattle.program_runner.specs.Buffers.{IsPut}
 use Rattle.table_file.specs.declared.table.Which.{Which}
 use Rattle.table_file.specs.declared.table.Which.TheVariants.{First, Second}
 use Rattle.table_file.specs.Table.{TableParts, program_at}
 use Rattle.position_checker.specs.Acceptance.{IsRight, Serves}
+use Rattle.type_graph.proofs.Refusals.{only_if_weaker}
 
 -- the routine that serves a node is one of the node, and may start everywhere
 record IsServing (program : List Routine) (node number : ℕ) : Type 0 where
@@ -69,18 +71,6 @@ served_relates table node program number right serves =
     relates table.model.graph (program_at table program) node number (right_at table program right) serves.first_is
 
 -- what a fault stands for may be put more weakly
-only_if_weaker : (fault : RunFault) (P Q : Type 0) → (P → Q) → OnlyIf fault P → OnlyIf fault Q
-only_if_weaker NoMemory P Q f h = tt
-only_if_weaker Short P Q f h = f h
-only_if_weaker BadBool P Q f h = f h
-only_if_weaker BadEnum P Q f h = f h
-only_if_weaker BadLength P Q f h = f h
-only_if_weaker NoTerminator P Q f h = f h
-only_if_weaker ZeroInside P Q f h = f h
-only_if_weaker OverBound P Q f h = f h
-only_if_weaker TooDeep P Q f h = f h
-only_if_weaker TapeLeft P Q f h = f h
-
 if_err_weaker : {A : Type 0} {E : Type 0} (P Q : E → Type 0) → ((e : E) → P e → Q e) → (r : Result A E) → IfErr r P → IfErr r Q
 if_err_weaker P Q f (Ok x) h = tt
 if_err_weaker P Q f (Err e) h = f e h
@@ -108,10 +98,10 @@ module _ (table : TableParts) (right : IsRight table) (order : Order) (node : �
 
   -- what no routine writes is no value
   pub write_refused : {A : Type 0} (tape : List ℕ) (r : Result A RunFault)
-      → IfErr r (λ fault. OnlyIf fault ((octets : List ℕ) → Runs routines (writing order) 64 routine p tape octets → ⊥))
-      → IfErr r (λ fault. OnlyIf fault ((octets : List ℕ) → Means table.model.graph (writing order) 64 node p tape octets → ⊥))
+      → IfErr r (λ fault. OnFalse (wants_memory fault) ((octets : List ℕ) → Runs routines (writing order) 64 routine p tape octets → ⊥))
+      → IfErr r (λ fault. OnFalse (wants_memory fault) ((octets : List ℕ) → Means table.model.graph (writing order) 64 node p tape octets → ⊥))
   write_refused tape r h =
-      if_err_weaker _ _ (λ fault refused. only_if_weaker fault _ _ (λ none octets means. none octets ((related (writing order) tape octets).1 means)) refused) r h
+      if_err_weaker _ _ (λ fault refused. only_if_weaker (wants_memory fault) _ _ (λ none octets means. none octets ((related (writing order) tape octets).1 means)) refused) r h
 
   -- what the routine reads is the value's
   pub read_found : {A : Type 0} {E : Type 0} (tape_of front_of : A → List ℕ) (r : Result A E)
@@ -127,7 +117,7 @@ module _ (table : TableParts) (right : IsRight table) (order : Order) (node : �
 
   -- what no routine reads is no value
   pub read_refused : {A : Type 0} (octets : List ℕ) (r : Result A RunFault)
-      → IfErr r (λ fault. OnlyIf fault ((tape front rest : List ℕ) → octets ≡ front ++ rest → Runs routines (reading order) 64 routine p tape front → ⊥))
-      → IfErr r (λ fault. OnlyIf fault ((tape front rest : List ℕ) → octets ≡ front ++ rest → Means table.model.graph (reading order) 64 node p tape front → ⊥))
+      → IfErr r (λ fault. OnFalse (wants_memory fault) ((tape front rest : List ℕ) → octets ≡ front ++ rest → Runs routines (reading order) 64 routine p tape front → ⊥))
+      → IfErr r (λ fault. OnFalse (wants_memory fault) ((tape front rest : List ℕ) → octets ≡ front ++ rest → Means table.model.graph (reading order) 64 node p tape front → ⊥))
   read_refused octets r h =
-      if_err_weaker _ _ (λ fault refused. only_if_weaker fault _ _ (λ none tape front rest e means. none tape front rest e ((related (reading order) tape front).1 means)) refused) r h
+      if_err_weaker _ _ (λ fault refused. only_if_weaker (wants_memory fault) _ _ (λ none tape front rest e means. none tape front rest e ((related (reading order) tape front).1 means)) refused) r h

@@ -1,5 +1,6 @@
 -- The routes of the nodes that have names.
 use Rattle.std.proofs.Common.{◌≡◌, ◌<◌, ◌+◌, ◌≢◌, ℕ, true, false, List, length, map, take, take_all, get_or, set, Option, Some, None, is_some, IfSome, All, Contains, refl, sym, ap, subst, ◌∙◌, inl, inr, arith, slice_get, option_map, IsSome}
+use Rattle.std.specs.Bool.{OnFalse}
 use Rattle.std.proofs.lemmas.Bool.{cases_eq, cases_lt}
 use Rattle.std.proofs.lemmas.List.{get_or-set_same, get_or-set_other, length-set, length-map}
 use Rattle.std.proofs.Math.ListN.{get_or-eq_default}
@@ -12,11 +13,11 @@ use Rattle.table_file.specs.declared.table.Which.TheVariants.{First}
 use Rattle.table_file.specs.Table.{TableParts, IsTable, program_at}
 use Rattle.routine_checker.specs.declared.fault.CheckFault.{CheckFault}
 use Rattle.position_checker.specs.Acceptance.{IsLone, Uses}
-use Rattle.routine_checker.specs.Refusal.{OnlyIf}
-use Rattle.routine_checker.proofs.CheckCode.{only_if}
+use Rattle.routine_checker.specs.Refusal.{wants_memory}
 use Rattle.position_checker.proofs.Lone.{lone_serves}
 use Rattle.position_checker.specs.declared.routes.Route.{Route}
 use Rattle.position_checker.specs.inner.Routes.{IsRoute, AreRoutes}
+use Rattle.type_graph.proofs.Refusals.{only_if_weaker}
 
 abbrev pub nodes_of : TableParts → List ℕ
 nodes_of table = map (λ name. name.1) table.model.names
@@ -140,12 +141,12 @@ module _ (table : TableParts) (rules : IsTable table) where
 
   -- a name whose node isn't served is in no lone table
   pub lone_refused : (place : ℕ) (name : List ℕ) (node : ℕ) (fault : CheckFault) → slice_get table.model.names place ≡ Some (name, node)
-      → OnlyIf fault ((program : Which) → slice_get table.uses place ≡ Some program → IsSome (served_by (program_at table program) node) → ⊥) → OnlyIf fault (IsLone table → ⊥)
+      → OnFalse (wants_memory fault) ((program : Which) → slice_get table.uses place ≡ Some program → IsSome (served_by (program_at table program) node) → ⊥) → OnFalse (wants_memory fault) (IsLone table → ⊥)
   lone_refused place name node fault named refused =
       let within : place < length table.uses = omega (arith, slice_get_within table.model.names place (name, node) named, rules.uses.each) in
       let is : (lone : IsLone table) → slice_get table.uses place ≡ Some First = λ lone.
       slice_get-get_or table.uses place First within ∙ ap (λ (u : Which). Some u) (lone.uses place First within) in
-      only_if fault _ _ (λ unserved lone. unserved First (is lone) (lone_serves table lone First node refl (node_within place name node named))) refused
+      only_if_weaker (wants_memory fault) _ _ (λ unserved lone. unserved First (is lone) (lone_serves table lone First node refl (node_within place name node named))) refused
 
   -- each node of a name is served
   pub all_served : (routes : List (Option Route)) → AreRoutes table routes → (node : ℕ) (program : Which) → Uses table node program → IsSome (served_by (program_at table program) node)

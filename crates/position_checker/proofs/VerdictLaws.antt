@@ -1,26 +1,19 @@
 -- The verdict on a table, from those on its parts.
 use Rattle.std.proofs.Common.{◌≡◌, ℕ, zero, suc, ◌<◌, ◌+◌, ◌-◌, List, [], length, Option, Some, None, slice_get, Result, OnOk, IfErr, ap, ◌∙◌, arith}
+use Rattle.std.specs.Bool.{OnFalse}
 use Rattle.std.proofs.lemmas.Result.{MatchResult-weaker, on_ok_weaker}
 use Rattle.std.specs.Option.{option_or}
 use Rattle.type_graph.specs.declared.node.Node.{Node}
 use Rattle.marshal_program.specs.declared.instr.Routine.{Routine}
 use Rattle.routine_checker.specs.declared.fault.CheckFault.{CheckFault}
 use Rattle.routine_checker.specs.declared.fault.CheckFault.TheVariants as faults
-use Rattle.routine_checker.specs.Refusal.{OnlyIf}
-use Rattle.routine_checker.proofs.CheckCode.{only_if}
+use Rattle.routine_checker.specs.Refusal.{wants_memory}
 use Rattle.routine_checker.specs.Steps.{program_fault, name_fault}
 use Rattle.table_file.specs.declared.table.Which.{Which}
 use Rattle.table_file.specs.declared.table.Which.TheVariants.{First, Second}
 use Rattle.table_file.specs.Table.{TableParts, program_at}
 use Rattle.position_checker.specs.Verdict.{routines_fault, named_fault, names_fault, table_fault}
-
--- what holds anyway holds of a fault
-pub only_if_holds : (fault : CheckFault) (P : Type 0) → P → OnlyIf fault P
-only_if_holds fault P h = only_if fault (Unit {0}) P (λ t. h) (always fault)
-  where
-    always : (f : CheckFault) → OnlyIf f (Unit {0})
-    always faults.NoMemory = tt
-    always f = tt
+use Rattle.type_graph.proofs.Refusals.{only_if_weaker}
 
 -- a program without routines has no fault
 pub empty_has_none : (which : ℕ) (graph : List Node) (program : List Routine) → program ≡ [] → program_fault which graph program ≡ None
@@ -78,8 +71,8 @@ module _ (table : TableParts) where
   names_pass r first second h = on_ok_weaker r (names_are_last None first second) h
 
   pub names_told : {A : Type 0} (r : Result A CheckFault) → routines_fault table First ≡ None → routines_fault table Second ≡ None
-      → IfErr r (λ fault. OnlyIf fault (names_fault table (length table.uses) ≡ Some fault))
-      → IfErr r (λ fault. OnlyIf fault (table_fault table ≡ Some fault))
+      → IfErr r (λ fault. OnFalse (wants_memory fault) (names_fault table (length table.uses) ≡ Some fault))
+      → IfErr r (λ fault. OnFalse (wants_memory fault) (table_fault table ≡ Some fault))
   names_told r first second h =
       MatchResult-weaker r h (λ x t. t)
-      (λ fault. only_if fault (names_fault table (length table.uses) ≡ Some fault) (table_fault table ≡ Some fault) (names_are_last (Some fault) first second))
+      (λ fault. only_if_weaker (wants_memory fault) (names_fault table (length table.uses) ≡ Some fault) (table_fault table ≡ Some fault) (names_are_last (Some fault) first second))

@@ -1,10 +1,11 @@
 //! A table that was accepted, and its calls.
 
 ghost use Rattle.std.specs.Prelude.{◌≡◌, ◌≢◌, ◌≤◌, ◌++◌, ◌↔◌, ℕ, List, length, take, All, Contains, IsTrue, IfOk, IfErr, IfSome, IfNone, OnErr, Some};
+ghost use Rattle.std.specs.Bool.{OnFalse};
 ghost use Rattle.type_graph.specs.Words.{reading, writing};
 ghost use Rattle.type_graph.specs.Encoding.{Means};
 ghost use Rattle.type_model.specs.Names.{IsNamed};
-ghost use Rattle.program_runner.specs.Refusal.{OnlyIf as OnlyIfRun};
+ghost use Rattle.program_runner.specs.Refusal.{wants_memory as run_wants_memory};
 ghost use Rattle.program_runner.specs.Buffers.{IsPut};
 ghost use Rattle.table_file.specs.declared.table.Which.{Which};
 ghost use Rattle.position_checker.specs.Acceptance.{IsRight, Serves, Uses};
@@ -112,7 +113,7 @@ impl Accepted {
         requires { IsNamed self.now.model.names node }
         ensures found { IfOk result (λ octets.
             Means self.now.model.graph (writing order) 64 node pos tape.now octets.items) }
-        ensures refused { IfErr result (λ fault. OnlyIfRun fault
+        ensures refused { IfErr result (λ fault. OnFalse (run_wants_memory fault)
             ((octets : List ℕ) → Means self.now.model.graph (writing order) 64 node pos tape.now octets → ⊥)) }
     {
         let Route { program, routine } = self.serving(node);
@@ -143,7 +144,7 @@ impl Accepted {
         ensures found { IfOk result (λ r.
             Means self.now.model.graph (reading order) 64 node pos r.0.items (take r.1 octets.now)) }
         ensures within { IfOk result (λ r. r.1 ≤ length octets.now) }
-        ensures refused { IfErr result (λ fault. OnlyIfRun fault
+        ensures refused { IfErr result (λ fault. OnFalse (run_wants_memory fault)
             ((tape front rest : List ℕ) → octets.now ≡ front ++ rest
             → Means self.now.model.graph (reading order) 64 node pos tape front → ⊥)) }
     {
@@ -177,7 +178,7 @@ impl Accepted {
         ensures found { IfOk result (λ put. IsPut
             (λ octets. Means self.now.model.graph (writing order) 64 node pos tape.now octets)
             put.len buffer.old buffer.new) }
-        ensures refused { IfErr result (λ fault. OnlyIfRun fault
+        ensures refused { IfErr result (λ fault. OnFalse (run_wants_memory fault)
             ((octets : List ℕ) → Means self.now.model.graph (writing order) 64 node pos tape.now octets → ⊥)) }
         ensures kept { OnErr result (buffer.new ≡ buffer.old) }
     {
@@ -206,7 +207,7 @@ impl Accepted {
             (λ tape. Means self.now.model.graph (reading order) 64 node pos tape (take r.1 octets.now))
             r.0.len buffer.old buffer.new) }
         ensures within { IfOk result (λ r. r.1 ≤ length octets.now) }
-        ensures refused { IfErr result (λ fault. OnlyIfRun fault
+        ensures refused { IfErr result (λ fault. OnFalse (run_wants_memory fault)
             ((tape front rest : List ℕ) → octets.now ≡ front ++ rest
             → Means self.now.model.graph (reading order) 64 node pos tape front → ⊥)) }
         ensures kept { OnErr result (buffer.new ≡ buffer.old) }

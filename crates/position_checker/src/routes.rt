@@ -1,7 +1,8 @@
 //! The routines that serve the nodes of names.
 
 ghost use Rattle.std.specs.Prelude.{◌≡◌, ◌<◌, ℕ, length, slice_get, IfOk, IfErr, OnOk, IsSome, Some, None};
-ghost use Rattle.routine_checker.specs.Refusal.{OnlyIf};
+ghost use Rattle.std.specs.Bool.{OnFalse};
+ghost use Rattle.routine_checker.specs.Refusal.{wants_memory};
 ghost use Rattle.routine_checker.specs.Steps.{name_fault};
 ghost use Rattle.marshal_program.specs.Served.{served_by};
 ghost use Rattle.table_file.specs.declared.table.Which.{Which};
@@ -58,7 +59,7 @@ fn found(table: &Table, serving: &Serving, program: Which, node: u32) -> Result<
     requires node { node < length table.now.model.graph }
     ensures program { IfOk result (λ route. route.program ≡ program) }
     ensures served { IfOk result (λ route. served_by (program_at table.now program) node ≡ Some route.routine) }
-    ensures refused { IfErr result (λ fault. OnlyIf fault
+    ensures refused { IfErr result (λ fault. OnFalse (wants_memory fault)
         (IsSome (served_by (program_at table.now program) node) → ⊥)) }
     ensures accepted { OnOk result (name_fault (program_at table.now program) node ≡ None) }
     ensures fault { IfErr result (λ fault. name_fault (program_at table.now program) node ≡ Some fault) }
@@ -79,7 +80,7 @@ fn named(table: &Table, serving: &Serving, place: usize, node: u32) -> Result<Ro
     requires place { place < length table.now.uses }
     ensures used { IfOk result (λ route. slice_get table.now.uses place ≡ Some route.program) }
     ensures served { IfOk result (λ route. served_by (program_at table.now route.program) node ≡ Some route.routine) }
-    ensures refused { IfErr result (λ fault. OnlyIf fault
+    ensures refused { IfErr result (λ fault. OnFalse (wants_memory fault)
         ((program : Which) → slice_get table.now.uses place ≡ Some program
         → IsSome (served_by (program_at table.now program) node) → ⊥)) }
     ensures accepted { OnOk result ((program : Which) → slice_get table.now.uses place ≡ Some program
@@ -98,9 +99,9 @@ pub(crate) fn routes_of(alloc: Global, table: &Table) -> Result<Vec<Option<Route
     ensures routes { IfOk result (λ routes. AreRoutes table.now routes.items) }
     ensures served { OnOk result ((node : ℕ) (program : Which) → Uses table.now node program
         → IsSome (served_by (program_at table.now program) node)) }
-    ensures refused { IfErr result (λ fault. OnlyIf fault (IsLone table.now → ⊥)) }
+    ensures refused { IfErr result (λ fault. OnFalse (wants_memory fault) (IsLone table.now → ⊥)) }
     ensures accepted { OnOk result (names_fault table.now (length table.now.uses) ≡ None) }
-    ensures fault { IfErr result (λ fault. OnlyIf fault (names_fault table.now (length table.now.uses) ≡ Some fault)) }
+    ensures fault { IfErr result (λ fault. OnFalse (wants_memory fault) (names_fault table.now (length table.now.uses) ≡ Some fault)) }
 {
     let serving = Serving::new(alloc, table)?;
     let mut routes = vec![in alloc; None; table.model().graph().nodes().len()]?;

@@ -1,9 +1,10 @@
 //! Tables, judged.
 
 ghost use Rattle.std.specs.Prelude.{◌≡◌, ◌≢◌, [], None, Some, IfOk, IfErr, OnOk};
+ghost use Rattle.std.specs.Bool.{OnFalse};
 ghost use Rattle.marshal_program.specs.Plain.{plain_program};
 ghost use Rattle.marshal_program.specs.Joined.{joined_program};
-ghost use Rattle.routine_checker.specs.Refusal.{OnlyIf};
+ghost use Rattle.routine_checker.specs.Refusal.{wants_memory};
 ghost use Rattle.routine_checker.specs.Right.{AreRight};
 ghost use Rattle.table_file.specs.Table.{program_at};
 ghost use Rattle.position_checker.specs.Acceptance.{IsLone, IsRight};
@@ -26,13 +27,13 @@ pub struct Refused {
 /// The routines of one of the two programs. One without routines is right.
 fn check_program(alloc: Global, table: &Table, which: Which) -> Result<(), CheckFault>
     ensures right { OnOk result (AreRight table.now.model.graph (program_at table.now which)) }
-    ensures empty { IfErr result (λ fault. OnlyIf fault (program_at table.now which ≢ [])) }
-    ensures plain { IfErr result (λ fault. OnlyIf fault
+    ensures empty { IfErr result (λ fault. OnFalse (wants_memory fault) (program_at table.now which ≢ [])) }
+    ensures plain { IfErr result (λ fault. OnFalse (wants_memory fault)
         (program_at table.now which ≢ plain_program table.now.model.graph)) }
-    ensures joined { IfErr result (λ fault. OnlyIf fault
+    ensures joined { IfErr result (λ fault. OnFalse (wants_memory fault)
         (program_at table.now which ≢ joined_program table.now.model.graph)) }
     ensures accepted { OnOk result (routines_fault table.now which ≡ None) }
-    ensures fault { IfErr result (λ fault. OnlyIf fault (routines_fault table.now which ≡ Some fault)) }
+    ensures fault { IfErr result (λ fault. OnFalse (wants_memory fault) (routines_fault table.now which ≡ Some fault)) }
 {
     let program = table.program(which);
     if program.routines().is_empty() {
@@ -44,9 +45,9 @@ fn check_program(alloc: Global, table: &Table, which: Which) -> Result<(), Check
 fn judge(alloc: Global, table: &Table) -> Result<Vec<Option<Route>>, CheckFault>
     ensures right { OnOk result (IsRight table.now) }
     ensures routes { IfOk result (λ routes. AreRoutes table.now routes.items) }
-    ensures lone { IfErr result (λ fault. OnlyIf fault (IsLone table.now → ⊥)) }
+    ensures lone { IfErr result (λ fault. OnFalse (wants_memory fault) (IsLone table.now → ⊥)) }
     ensures accepted { OnOk result (table_fault table.now ≡ None) }
-    ensures fault { IfErr result (λ fault. OnlyIf fault (table_fault table.now ≡ Some fault)) }
+    ensures fault { IfErr result (λ fault. OnFalse (wants_memory fault) (table_fault table.now ≡ Some fault)) }
 {
     match check_program(alloc, table, Which::First) {
         Ok(()) => (),
@@ -72,9 +73,9 @@ pub fn check(alloc: Global, table: Table) -> Result<Accepted, Refused>
     ensures kept { IfOk result (λ accepted. accepted ≡ table) }
     ensures right { IfOk result IsRight }
     ensures handed_back { IfErr result (λ refused. refused.table ≡ table) }
-    ensures lone { IfErr result (λ refused. OnlyIf refused.fault (IsLone table → ⊥)) }
+    ensures lone { IfErr result (λ refused. OnFalse (wants_memory refused.fault) (IsLone table → ⊥)) }
     ensures accepted { OnOk result (table_fault table ≡ None) }
-    ensures fault { IfErr result (λ refused. OnlyIf refused.fault (table_fault table ≡ Some refused.fault)) }
+    ensures fault { IfErr result (λ refused. OnFalse (wants_memory refused.fault) (table_fault table ≡ Some refused.fault)) }
 {
     match judge(alloc, &table) {
         Ok(routes) => Ok(Accepted { table, routes }),

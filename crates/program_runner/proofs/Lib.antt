@@ -15,3 +15,4 @@ pub mod NumberAgreement
 pub mod DiscAgreement
 pub mod RunAgreement
 pub mod WholeRuns
+pub mod Refusals

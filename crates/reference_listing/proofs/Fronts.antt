@@ -1,5 +1,6 @@
 -- Octets that begin with the body of a profile.
 use Rattle.std.proofs.Common.{◌≡◌, ℕ, zero, suc, Bool, true, false, not, List, [], ◌∷◌, ◌++◌, take, drop, Option, Some, None, Result, Ok, Err, IfOk, IfNone, refl, sym, ap, ◌∙◌, subst}
+use Rattle.std.specs.Bool.{OnFalse}
 use mathlib.Core.Bool.{beq}
 use Rattle.std.specs.declared.alloc.AllocError.{AllocError}
 use Rattle.std.proofs.lemmas.List.{take-append-drop}
@@ -17,7 +18,7 @@ use Rattle.giop_types.specs.declared.tapes.fault.TapeFault.TheVariants as tapes
 use Rattle.giop_types.specs.TapeRefusal.{RefusesReading}
 use Rattle.program_runner.specs.declared.fault.RunFault.{RunFault}
 use Rattle.program_runner.specs.declared.fault.RunFault.TheVariants as runs
-use Rattle.program_runner.specs.Refusal.{OnlyIf}
+use Rattle.program_runner.specs.Refusal.{wants_memory}
 use Rattle.object_references.specs.Profiles.{Body, body_node, body_tree}
 use Rattle.object_references.specs.Encapsulations.{flag_of}
 use Rattle.object_references.proofs.Encapsulated.{orders_same}
@@ -27,18 +28,6 @@ use Rattle.reference_listing.proofs.Shapes.{body_value}
 use Rattle.reference_listing.proofs.Splits.{bodies_once}
 
 -- ---- faults that aren't want of memory
-
-pub not_for_memory : (fault : RunFault) (P : Type 0) → (fault ≡ runs.NoMemory → ⊥) → OnlyIf fault P → P
-not_for_memory runs.NoMemory P other h = absurd (other refl)
-not_for_memory runs.Short P other h = h
-not_for_memory runs.BadBool P other h = h
-not_for_memory runs.BadEnum P other h = h
-not_for_memory runs.BadLength P other h = h
-not_for_memory runs.NoTerminator P other h = h
-not_for_memory runs.ZeroInside P other h = h
-not_for_memory runs.OverBound P other h = h
-not_for_memory runs.TooDeep P other h = h
-not_for_memory runs.TapeLeft P other h = h
 
 pub no_tape : (fault : TapeFault) (P : Type 0) → (fault ≡ tapes.NoMemory → ⊥) → RefusesReading fault P → P
 no_tape tapes.NoMemory P other h = absurd (other refl)

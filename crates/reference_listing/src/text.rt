@@ -1,8 +1,9 @@
 //! Texts of references listed.
 
 ghost use Rattle.std.specs.Prelude.{OnOk, IfErr};
+ghost use Rattle.std.specs.Bool.{OnFalse};
 ghost use Rattle.object_references.specs.References.{Reference};
-ghost use Rattle.object_references.specs.Refusal.{OnlyIf};
+ghost use Rattle.object_references.specs.Refusal.{wants_memory};
 ghost use Rattle.object_references.specs.Texts.{Spells};
 
 use crate::list::list_reference;
@@ -26,7 +27,7 @@ pub fn reference_lines(
     text: &str,
 ) -> Result<String, ReferenceFault>
     ensures spelled { OnOk result ((reference : Reference) × Spells text.now reference) }
-    ensures refused { IfErr result (λ fault. OnlyIf fault ((reference : Reference) → Spells text.now reference → ⊥)) }
+    ensures refused { IfErr result (λ fault. OnFalse (wants_memory fault) ((reference : Reference) → Spells text.now reference → ⊥)) }
 {
     let ior = match ior_from_text(types, alloc, text) {
         Ok(ior) => ior,

@@ -1,5 +1,6 @@
 -- Faults that aren't want of memory, and what is read.
 use Rattle.std.proofs.Common.{◌≡◌, ℕ, List, ◌++◌, take, drop, Option, Some, None, IfSome, IfNone, refl, sym, subst}
+use Rattle.std.specs.Bool.{OnFalse}
 use Rattle.std.proofs.lemmas.List.{take-append-drop}
 use Rattle.type_graph.specs.declared.width.Order.{Order}
 use Rattle.type_graph.specs.Words.{reading}
@@ -11,21 +12,9 @@ use Rattle.giop_types.specs.declared.tapes.fault.TapeFault.TheVariants as tapes
 use Rattle.giop_types.specs.TapeRefusal.{RefusesReading}
 use Rattle.program_runner.specs.declared.fault.RunFault.{RunFault}
 use Rattle.program_runner.specs.declared.fault.RunFault.TheVariants as runs
-use Rattle.program_runner.specs.Refusal.{OnlyIf}
+use Rattle.program_runner.specs.Refusal.{wants_memory}
 use Rattle.reply_bodies.specs.Bodies.{BeginsWith}
 use Rattle.reply_bodies.specs.inner.Tapes.{HasTape}
-
-pub not_for_memory : (fault : RunFault) (P : Type 0) → (fault ≡ runs.NoMemory → ⊥) → OnlyIf fault P → P
-not_for_memory runs.NoMemory P other h = absurd (other refl)
-not_for_memory runs.Short P other h = h
-not_for_memory runs.BadBool P other h = h
-not_for_memory runs.BadEnum P other h = h
-not_for_memory runs.BadLength P other h = h
-not_for_memory runs.NoTerminator P other h = h
-not_for_memory runs.ZeroInside P other h = h
-not_for_memory runs.OverBound P other h = h
-not_for_memory runs.TooDeep P other h = h
-not_for_memory runs.TapeLeft P other h = h
 
 pub no_tape : (fault : TapeFault) (P : Type 0) → (fault ≡ tapes.NoMemory → ⊥) → RefusesReading fault P → P
 no_tape tapes.NoMemory P other h = absurd (other refl)

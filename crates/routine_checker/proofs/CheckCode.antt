@@ -1,5 +1,6 @@
 -- The faults of a routine and of a program, as the code meets them.
 use Rattle.std.proofs.Common.{◌≡◌, ◌≢◌, ℕ, zero, suc, ◌+◌, ◌-◌, ◌<◌, ◌≤◌, true, false, List, length, drop, drop-cons, get_or, Option, Some, None, if◌then◌else◌, refl, sym, ap, ◌∙◌, arith}
+use Rattle.std.specs.Bool.{OnFalse}
 use Rattle.std.proofs.lemmas.Bool.{lt-ltb, le-ltb}
 use Rattle.std.proofs.lemmas.List.{drop_all}
 use Rattle.std.proofs.lemmas.Option.{none-some}
@@ -10,26 +11,7 @@ use Rattle.routine_checker.specs.declared.fault.CheckFault.{CheckFault}
 use Rattle.routine_checker.specs.declared.fault.CheckFault.TheVariants.{WrongWork, WrongPadding, EntryOutside, ExitsTooSmall, NoRoutine, NamedEntryNotFull, NoMemory}
 use Rattle.routine_checker.specs.Sets.{has}
 use Rattle.routine_checker.specs.Steps.{entry_fault, or_else, entries_fault, routine_fault, routines_fault, program_fault, place_of}
-use Rattle.routine_checker.specs.Refusal.{OnlyIf}
-
--- what a fault means follows from what it says
-pub only_if : (fault : CheckFault) (P Q : Type 0) → (P → Q) → OnlyIf fault P → OnlyIf fault Q
-only_if NoMemory P Q f h = tt
-only_if (WrongWork at instr) P Q f h = f h
-only_if (WrongPadding at instr) P Q f h = f h
-only_if (EntryOutside at instr) P Q f h = f h
-only_if (ExitsTooSmall at entry) P Q f h = f h
-only_if (NoRoutine node) P Q f h = f h
-only_if (NamedEntryNotFull node) P Q f h = f h
-
-pub refuses : (fault : CheckFault) (P : Type 0) → P → OnlyIf fault P
-refuses NoMemory P h = tt
-refuses (WrongWork at instr) P h = h
-refuses (WrongPadding at instr) P h = h
-refuses (EntryOutside at instr) P h = h
-refuses (ExitsTooSmall at entry) P h = h
-refuses (NoRoutine node) P h = h
-refuses (NamedEntryNotFull node) P h = h
+use Rattle.routine_checker.specs.Refusal.{wants_memory}
 
 module _ (graph : List Node) (program : List Routine) (at : RoutinePlace) (routine : Routine) where
   -- the node isn't there

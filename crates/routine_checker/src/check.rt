@@ -1,12 +1,13 @@
 //! The routines of a program, judged one after the other, and the nodes that have names.
 
 ghost use Rattle.std.specs.Prelude.{◌≡◌, ◌≢◌, ◌≤◌, ◌<◌, ℕ, List, drop, length, IfOk, IfErr, OnOk, Some, None, Ok, Err};
+ghost use Rattle.std.specs.Bool.{OnFalse};
 ghost use Rattle.marshal_program.specs.Plain.{plain_program};
 ghost use Rattle.marshal_program.specs.Joined.{joined_program};
 ghost use Rattle.routine_checker.specs.Steps.{followed, entry_fault, routine_fault, program_fault};
 ghost use Rattle.routine_checker.specs.inner.Noted.{AreCounts};
 ghost use Rattle.routine_checker.specs.inner.Progress.{work_behind, state_of, IsTaken};
-ghost use Rattle.routine_checker.specs.Refusal.{OnlyIf};
+ghost use Rattle.routine_checker.specs.Refusal.{wants_memory};
 ghost use Rattle.routine_checker.specs.Right.{AreRight};
 
 use crate::fault::{CheckFault, RoutinePlace};
@@ -142,7 +143,7 @@ fn check_routine(
     requires code { length routine.now.code ≤ 65536 }
     ensures ok { OnOk result (routine_fault graph.now program.now at routine.now ≡ None) }
     ensures refused { IfErr result
-        (λ fault. OnlyIf fault (routine_fault graph.now program.now at routine.now ≡ Some fault)) }
+        (λ fault. OnFalse (wants_memory fault) (routine_fault graph.now program.now at routine.now ≡ Some fault)) }
 {
     if routine.node as usize >= nodes {
         return Err(CheckFault::WrongWork { at, instr: 0 });
@@ -174,10 +175,10 @@ pub fn check_routines(
     which: u8,
 ) -> Result<(), CheckFault>
     ensures right { OnOk result (AreRight graph.now program.now) }
-    ensures plain { IfErr result (λ fault. OnlyIf fault (program.now ≢ plain_program graph.now)) }
-    ensures joined { IfErr result (λ fault. OnlyIf fault (program.now ≢ joined_program graph.now)) }
+    ensures plain { IfErr result (λ fault. OnFalse (wants_memory fault) (program.now ≢ plain_program graph.now)) }
+    ensures joined { IfErr result (λ fault. OnFalse (wants_memory fault) (program.now ≢ joined_program graph.now)) }
     ensures accepted { OnOk result (program_fault which graph.now program.now ≡ None) }
-    ensures fault { IfErr result (λ fault. OnlyIf fault (program_fault which graph.now program.now ≡ Some fault)) }
+    ensures fault { IfErr result (λ fault. OnFalse (wants_memory fault) (program_fault which graph.now program.now ≡ Some fault)) }
 {
     let nodes = graph.nodes().len();
     let routines = program.routines();

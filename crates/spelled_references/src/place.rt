@@ -1,8 +1,9 @@
 //! References to objects of places.
 
 ghost use Rattle.std.specs.Prelude.{◌≡◌, ◌∷◌, [], IfOk, IfErr};
+ghost use Rattle.std.specs.Bool.{OnFalse};
 ghost use Rattle.object_references.specs.References.{Reference, reference_of};
-ghost use Rattle.object_references.specs.Refusal.{OnlyIf};
+ghost use Rattle.object_references.specs.Refusal.{wants_memory};
 ghost use Rattle.corbaloc.specs.Views.{place_of};
 ghost use Rattle.spelled_references.specs.Spelled.{IsOfPlace};
 
@@ -32,7 +33,7 @@ pub(crate) fn reference_at(
     location: &Location,
 ) -> Result<Ior, ReferenceFault>
     ensures found { IfOk result (λ ior. IsOfPlace (place_of location.now) (reference_of ior)) }
-    ensures refused { IfErr result (λ fault. OnlyIf fault ((reference : Reference)
+    ensures refused { IfErr result (λ fault. OnFalse (wants_memory fault) ((reference : Reference)
         → IsOfPlace (place_of location.now) reference → ⊥)) }
 {
     let host = location.host.as_str().as_bytes();

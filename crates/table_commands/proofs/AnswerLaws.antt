@@ -1,16 +1,17 @@
 -- What is answered to a request.
 use Rattle.std.proofs.Common.{◌≡◌, List, ℕ, Contains, Result, Ok, Err, IfOk, IfErr, IsErr}
+use Rattle.std.specs.Bool.{OnFalse}
 use Rattle.hex.specs.Hex.{decode_of}
 use Rattle.table_file.specs.Table.{TableParts}
 use Rattle.table_commands.specs.declared.refusal.Refusal.{Refusal}
 use Rattle.table_commands.specs.declared.refusal.Refusal.TheVariants.{Unread, Unwritten, NoTable, NotRight, TooLong, NoType, BadHex, Refused, BadObject, NoInterface, NoReference, NoMemory}
 use Rattle.table_commands.specs.Answer.{Ask, IsLine, IsRefusalOf}
 use Rattle.table_commands.specs.Lines.{Prints, HasNoAnswer}
-use Rattle.table_commands.specs.Refusal.{OnlyIf, IsOfRun}
+use Rattle.table_commands.specs.Refusal.{wants_memory, IsOfRun}
 
 module _ (table : TableParts) (ask : Ask) (node : ℕ) (named : Contains table.model.names (ask.name, node)) where
   -- the digits are none
-  pub bad_digits : (refusal : Refusal) → OnlyIf refusal ((refusal ≡ BadHex) × IsErr (decode_of ask.input)) → IsRefusalOf table ask refusal
+  pub bad_digits : (refusal : Refusal) → OnFalse (wants_memory refusal) ((refusal ≡ BadHex) × IsErr (decode_of ask.input)) → IsRefusalOf table ask refusal
   bad_digits NoMemory h = tt
   bad_digits BadHex h = record { node = node; named = named; bad = h.1 }
   bad_digits (NoTable fault) h = absurd cc
@@ -33,7 +34,7 @@ module _ (table : TableParts) (ask : Ask) (node : ℕ) (named : Contains table.m
     line_of text_of (Err refusal) prints = tt
 
     -- the run was refused
-    refused : (refusal : Refusal) → IsOfRun refusal × OnlyIf refusal (HasNoAnswer table.model.graph node ask.way ask.order ask.pos input)
+    refused : (refusal : Refusal) → IsOfRun refusal × OnFalse (wants_memory refusal) (HasNoAnswer table.model.graph node ask.way ask.order ask.pos input)
         → IsRefusalOf table ask refusal
     refused NoMemory h = tt
     refused (Refused fault) h = record { node = node; named = named; input = input; digits_are = digits_are; none = h.1 }
@@ -49,7 +50,7 @@ module _ (table : TableParts) (ask : Ask) (node : ℕ) (named : Contains table.m
     refused (NoReference fault) h = absurd h.0
 
     pub refusal_of : {A : Type 0} (r : Result A Refusal)
-        → IfErr r (λ refusal. IsOfRun refusal × OnlyIf refusal (HasNoAnswer table.model.graph node ask.way ask.order ask.pos input))
+        → IfErr r (λ refusal. IsOfRun refusal × OnFalse (wants_memory refusal) (HasNoAnswer table.model.graph node ask.way ask.order ask.pos input))
         → IfErr r (IsRefusalOf table ask)
     refusal_of (Ok line) h = tt
     refusal_of (Err refusal) h = refused refusal h

@@ -1,12 +1,13 @@
 -- The reference that is asked for, and why there is none.
 use Rattle.std.proofs.Common.{◌≡◌, ℕ, List, Some, sym, ap, ◌∙◌, subst}
+use Rattle.std.specs.Bool.{OnFalse}
 use Rattle.type_model.specs.declared.signatures.Interface.{Interface}
 use Rattle.type_model.specs.ModelRules.{Parts}
 use Rattle.object_references.specs.declared.fault.ReferenceFault.{ReferenceFault}
 use Rattle.object_references.specs.declared.fault.ReferenceFault.TheVariants as faults
 use Rattle.object_references.specs.References.{Reference}
 use Rattle.object_references.specs.Profiles.{IsProfile}
-use Rattle.object_references.specs.Refusal.{OnlyIf}
+use Rattle.object_references.specs.Refusal.{wants_memory}
 use Rattle.object_references.specs.Texts.{IsTextOf}
 use Rattle.object_references.proofs.ProfileLaws.{profile_once}
 use Rattle.table_commands.specs.declared.refusal.Refusal.{Refusal}
@@ -50,7 +51,7 @@ text_of_it model ask key name id interface o found e text t =
 
 by_fault : (model : Parts) (ask : ReferenceParts) (key name id : List ℕ) (interface : Interface) (fault : ReferenceFault)
     → IsObject ask.object key name → interface_named name model.interfaces ≡ Some interface → id ≡ interface.id
-    → OnlyIf fault ((text : List ℕ) → IsReferenceText ask.host ask.port key id text → ⊥)
+    → OnFalse (wants_memory fault) ((text : List ℕ) → IsReferenceText ask.host ask.port key id text → ⊥)
     → IsReferenceRefusal model ask (refusal_of_reference fault)
 by_fault model ask key name id interface faults.NoMemory o found e h = tt
 by_fault model ask key name id interface faults.BadIor o found e h =
@@ -59,6 +60,6 @@ by_fault model ask key name id interface faults.BadIor o found e h =
 pub refused : (model : Parts) (ask : ReferenceParts) (key name id : List ℕ) (interface : Interface) (fault : ReferenceFault)
     (refusal : Refusal) → refusal ≡ refusal_of_reference fault → IsObject ask.object key name
     → interface_named name model.interfaces ≡ Some interface → id ≡ interface.id
-    → OnlyIf fault ((text : List ℕ) → IsReferenceText ask.host ask.port key id text → ⊥) → IsReferenceRefusal model ask refusal
+    → OnFalse (wants_memory fault) ((text : List ℕ) → IsReferenceText ask.host ask.port key id text → ⊥) → IsReferenceRefusal model ask refusal
 refused model ask key name id interface fault refusal is o found e h =
     subst (λ (r : Refusal). IsReferenceRefusal model ask r) (sym is) (by_fault model ask key name id interface fault o found e h)

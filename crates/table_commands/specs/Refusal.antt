@@ -1,4 +1,5 @@
 -- What the faults of other calls are to a command.
+use Rattle.std.specs.Prelude.{Bool, true, false}
 use Rattle.program_runner.specs.declared.fault.RunFault.{RunFault}
 use Rattle.program_runner.specs.declared.fault.RunFault.TheVariants as runs
 use Rattle.marshal_program.specs.declared.fault.TableFault.{TableFault}
@@ -26,10 +27,10 @@ abbrev pub refusal_of_reference : ReferenceFault → Refusal
 refusal_of_reference references.NoMemory = NoMemory
 refusal_of_reference fault = NoReference fault
 
--- want of memory is the cause, or the fact holds
-abbrev pub OnlyIf : Refusal → Type 0 → Type 0
-OnlyIf NoMemory fact = Unit {0}
-OnlyIf refusal fact = fact
+-- whether memory was wanted
+abbrev pub wants_memory : Refusal → Bool
+wants_memory NoMemory = true
+wants_memory fault = false
 
 -- a refusal that a run may have
 abbrev pub IsOfRun : Refusal → Type 0

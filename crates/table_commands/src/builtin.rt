@@ -1,8 +1,9 @@
 //! The sample table `builtin`.
 
 ghost use Rattle.std.specs.Prelude.{◌≡◌, [], IfOk};
+ghost use Rattle.std.specs.Bool.{OnFalse};
 ghost use Rattle.type_graph.specs.GraphRules.{IsGraph};
-ghost use Rattle.type_graph.specs.Refusal.{OnlyIf as OnlyIfGraph};
+ghost use Rattle.type_graph.specs.Refusal.{wants_memory as graph_wants_memory};
 ghost use Rattle.type_model.specs.ModelRules.{IsModel};
 ghost use Rattle.table_commands.specs.Sample.{everywhere, sample_model, sample_nodes, sample_program, sample_table};
 
@@ -16,7 +17,7 @@ use type_model::{Model, Name};
 /// The rules hold, so that only memory can have been the cause.
 #[tactic(auto, using(crate::proofs::SampleRules::sample_is_graph))]
 fn graph_memory(fault: GraphFault) -> AllocError
-    requires { OnlyIfGraph fault (IsGraph sample_nodes → ⊥) }
+    requires { OnFalse (graph_wants_memory fault) (IsGraph sample_nodes → ⊥) }
 {
     match fault {
         GraphFault::NoMemory => AllocError,
@@ -27,7 +28,7 @@ fn graph_memory(fault: GraphFault) -> AllocError
 /// The rules hold, so that only memory can have been the cause.
 #[tactic(auto, using(crate::proofs::SampleRules::sample_is_model))]
 fn model_memory(fault: GraphFault) -> AllocError
-    requires { OnlyIfGraph fault (IsModel sample_model → ⊥) }
+    requires { OnFalse (graph_wants_memory fault) (IsModel sample_model → ⊥) }
 {
     match fault {
         GraphFault::NoMemory => AllocError,

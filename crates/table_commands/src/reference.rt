@@ -1,9 +1,10 @@
 //! The line of a reference to an object of a table's interface.
 
 ghost use Rattle.std.specs.Prelude.{◌≡◌, ℕ, List, [], ◌∷◌, ◌++◌, IfOk, IfErr};
+ghost use Rattle.std.specs.Bool.{OnFalse};
 ghost use Rattle.std.specs.String.{string_bytes};
 ghost use Rattle.object_references.specs.References.{reference_of};
-ghost use Rattle.object_references.specs.Refusal.{OnlyIf};
+ghost use Rattle.object_references.specs.Refusal.{wants_memory};
 ghost use Rattle.table_commands.specs.References.{IsReferenceLine, IsReferenceText, reference_parts_of, reference_with};
 ghost use Rattle.table_commands.specs.NoReference.{IsReferenceRefusal};
 
@@ -47,7 +48,7 @@ fn reference_text(
     id: &str,
 ) -> Result<String, ReferenceFault>
     ensures text { IfOk result (λ text. IsReferenceText host.now port key.now id.now (string_bytes text)) }
-    ensures refused { IfErr result (λ fault. OnlyIf fault ((text : List ℕ)
+    ensures refused { IfErr result (λ fault. OnFalse (wants_memory fault) ((text : List ℕ)
         → IsReferenceText host.now port key.now id.now text → ⊥)) }
 {
     let types = GiopTypes::new(alloc)?;

@@ -1,13 +1,14 @@
 //! Values of a table, from tapes to octets and back.
 
 ghost use Rattle.std.specs.Prelude.{◌≡◌, [], ◌∷◌, ◌++◌, List, ℕ, IfOk, IfErr, IsErr, Ok};
+ghost use Rattle.std.specs.Bool.{OnFalse};
 ghost use Rattle.std.specs.String.{string_bytes};
 ghost use Rattle.std.specs.Fmt.{decimal};
 ghost use Rattle.hex.specs.Hex.{decode_of, encode_lower};
 ghost use Rattle.type_model.specs.Names.{IsNamed};
 ghost use Rattle.table_commands.specs.Answer.{IsLine, IsRefusalOf, ask_of};
 ghost use Rattle.table_commands.specs.Lines.{PrintsOctets, PrintsTape, Prints, HasNoOctets, HasNoTape, HasNoAnswer};
-ghost use Rattle.table_commands.specs.Refusal.{OnlyIf, IsOfRun};
+ghost use Rattle.table_commands.specs.Refusal.{wants_memory, IsOfRun};
 
 use crate::refusal::Refusal;
 use hex::FromHexError;
@@ -40,7 +41,7 @@ pub struct ValueRequest<'a> {
 pub fn octets_of<'a>(alloc: Global, text: &str) -> Result<Vec<u8>, Refusal<'a>>
     ensures ok { IfOk result (λ octets. decode_of text.now ≡ Ok octets.items) }
     ensures err { IfErr result (λ refusal.
-        OnlyIf refusal ((refusal ≡ Refusal.BadHex) × IsErr (decode_of text.now))) }
+        OnFalse (wants_memory refusal) ((refusal ≡ Refusal.BadHex) × IsErr (decode_of text.now))) }
 {
     match hex::decode(alloc, text) {
         Ok(octets) => Ok(octets),
@@ -77,7 +78,7 @@ fn encode<'a>(
     requires { IsNamed table.now.model.names node }
     ensures ok { IfOk result (λ line. PrintsOctets table.now.model.graph request.now.order node request.now.pos tape.now
         (string_bytes line)) }
-    ensures err { IfErr result (λ refusal. IsOfRun refusal × OnlyIf refusal
+    ensures err { IfErr result (λ refusal. IsOfRun refusal × OnFalse (wants_memory refusal)
         (HasNoOctets table.now.model.graph request.now.order node request.now.pos tape.now)) }
 {
     let octets = table.write(alloc, node, request.order, request.pos, tape)?;
@@ -94,7 +95,7 @@ fn decode<'a>(
     requires { IsNamed table.now.model.names node }
     ensures ok { IfOk result (λ line. PrintsTape table.now.model.graph request.now.order node request.now.pos octets.now
         (string_bytes line)) }
-    ensures err { IfErr result (λ refusal. IsOfRun refusal × OnlyIf refusal
+    ensures err { IfErr result (λ refusal. IsOfRun refusal × OnFalse (wants_memory refusal)
         (HasNoTape table.now.model.graph request.now.order node request.now.pos octets.now)) }
 {
     let (tape, taken) = table.read(alloc, node, request.order, request.pos, octets)?;
@@ -112,7 +113,7 @@ fn answer<'a>(
     requires { IsNamed table.now.model.names node }
     ensures ok { IfOk result (λ line. Prints table.now.model.graph node
         request.now.way request.now.order request.now.pos input.now (string_bytes line)) }
-    ensures err { IfErr result (λ refusal. IsOfRun refusal × OnlyIf refusal
+    ensures err { IfErr result (λ refusal. IsOfRun refusal × OnFalse (wants_memory refusal)
         (HasNoAnswer table.now.model.graph node request.now.way request.now.order request.now.pos input.now)) }
 {
     match request.way {

@@ -1,5 +1,6 @@
 -- What is decoded of a whole list of octets.
 use Rattle.std.proofs.Common.{◌≡◌, ◌≢◌, ℕ, zero, suc, List, [], ◌∷◌, length, replicate, Option, Some, None, Result, Ok, Err, refl, sym, ap, ◌∙◌, subst, inl, inr}
+use Rattle.std.specs.Bool.{OnFalse}
 use Rattle.std.proofs.lemmas.List.{append-nil}
 use Rattle.std.specs.Prelude.{◌⊎◌, IfOk, IfErr}
 use Rattle.std.specs.Fmt.{◌++?◌}
@@ -11,18 +12,18 @@ use Rattle.table_file.specs.Table.{TableParts, IsTable}
 use Rattle.table_file.specs.TableSpelling.{Spells, SpellsOld, spelled_which}
 use Rattle.table_file.specs.Octets.{spelled_run}
 use Rattle.table_file.specs.inner.Reading.{BeginsWithNone, Reads, Whole, beside}
-use Rattle.table_file.specs.Refusal.{OnlyIf}
+use Rattle.table_file.specs.Refusal.{wants_memory}
 use Rattle.table_file.specs.inner.Joins.{joins_assoc, parted}
 use Rattle.table_file.specs.inner.ListCodes.{run_at}
 use Rattle.table_file.specs.inner.TableCodes.{MostFields, OldFields, TableFields, all_first, behind_start, body_fields, model_from, most_code, of_parts, old_code, one_fields, spelled_body, spelled_fields, spelled_most, spelled_old_body, spelled_old_fields, table_fields, table_from, whole}
 use Rattle.table_file.specs.inner.PartCodes.{model_fields}
 use Rattle.table_file.specs.inner.Decoding.{IsOldBody, fields_of}
-use Rattle.table_file.proofs.ReadLaws.{only_if, only_if_then}
+use Rattle.type_graph.proofs.Refusals.{only_if_weaker, only_if_holds}
 
 -- what follows of every fault
-pub if_err_only : {T : Type 0} (r : Result T TableFault) (P Q : Type 0) → (P → Q) → IfErr r (λ fault. OnlyIf fault P) → IfErr r (λ fault. OnlyIf fault Q)
+pub if_err_only : {T : Type 0} (r : Result T TableFault) (P Q : Type 0) → (P → Q) → IfErr r (λ fault. OnFalse (wants_memory fault) P) → IfErr r (λ fault. OnFalse (wants_memory fault) Q)
 if_err_only (Ok x) P Q f h = tt
-if_err_only (Err fault) P Q f h = only_if_then fault P Q f h
+if_err_only (Err fault) P Q f h = only_if_weaker (wants_memory fault) P Q f h
 
 abbrev pub IsOne : {A : Type 0} → (A → Option (List ℕ)) → Type 0
 IsOne {A} f = (a b : A) (x y octets : List ℕ) → f a ++? Some x ≡ Some octets → f b ++? Some y ≡ Some octets → (a ≡ b) × (x ≡ y)
@@ -49,10 +50,10 @@ whole_read {A} f one octets r (Err fault) old new start reads kept refused =
     elim refused [
       | inl is ↦
           let read = subst (λ s. Reads f s (Some octets) new) is from in
-          only_if_then fault (BeginsWithNone f octets) ((x : A) → f x ≡ Some octets → ⊥) (λ none x e. none x [] (whole (f x) octets e)) read.reads
+          only_if_weaker (wants_memory fault) (BeginsWithNone f octets) ((x : A) → f x ≡ Some octets → ⊥) (λ none x e. none x [] (whole (f x) octets e)) read.reads
       | inr is ↦
           let read = subst (λ s. Reads f s (Some octets) new) is.1 from in
-          only_if fault ((x : A) → f x ≡ Some octets → ⊥) (left_over f one is.0 new octets read is.2)
+          only_if_holds (wants_memory fault) ((x : A) → f x ≡ Some octets → ⊥) (left_over f one is.0 new octets read is.2)
     ]
 
 -- ---- all but the uses, and then those
@@ -63,7 +64,7 @@ no_most octets none = λ x rest e.
     none x.0 p.0 p.2
 
 pub most_fails : (fault : TableFault) (old new : Option (List ℕ)) → Reads spelled_most (Err fault) old new → Reads spelled_fields (Err fault) old new
-most_fails fault (Some octets) new r = record { reads = only_if_then fault (BeginsWithNone spelled_most octets) (BeginsWithNone spelled_fields octets) (no_most octets) r.reads }
+most_fails fault (Some octets) new r = record { reads = only_if_weaker (wants_memory fault) (BeginsWithNone spelled_most octets) (BeginsWithNone spelled_fields octets) (no_most octets) r.reads }
 most_fails fault None new r = record { reads = tt }
 
 no_uses : (most : MostFields) (mid octets : List ℕ) → spelled_most most ++? Some mid ≡ Some octets → BeginsWithNone (spelled_run (length most.0.1.0) spelled_which) mid
@@ -85,8 +86,8 @@ behind most (Ok uses) None (Some m) new one two = absurd one.reads
 behind most (Ok uses) None None (Some rest) one two = absurd two.reads
 behind most (Ok uses) None None None one two = record { reads = tt }
 behind most (Err fault) (Some octets) (Some m) new one two =
-    record { reads = only_if_then fault (BeginsWithNone (spelled_run (length most.0.1.0) spelled_which) m) (BeginsWithNone spelled_fields octets) (no_uses most m octets one.reads) two.reads }
-behind most (Err fault) (Some octets) None new one two = record { reads = only_if fault (BeginsWithNone spelled_fields octets) (no_most octets one.reads) }
+    record { reads = only_if_weaker (wants_memory fault) (BeginsWithNone (spelled_run (length most.0.1.0) spelled_which) m) (BeginsWithNone spelled_fields octets) (no_uses most m octets one.reads) two.reads }
+behind most (Err fault) (Some octets) None new one two = record { reads = only_if_holds (wants_memory fault) (BeginsWithNone spelled_fields octets) (no_most octets one.reads) }
 behind most (Err fault) None mid new one two = record { reads = tt }
 
 pub uses_read : (most : MostFields) (count : ℕ) (r : Result (List Which) TableFault) (q : Result TableFields TableFault) (old mid new : Option (List ℕ)) → count ≡ length most.0.1.0 → q ≡ beside most r

@@ -8,7 +8,8 @@ use Rattle.table_file.specs.inner.Reading.{BeginsWithNone, Reads}
 use Rattle.table_file.specs.inner.Joins.{joins_assoc, nothing_before, split, parted}
 use Rattle.table_file.specs.inner.Codes.{IsCode, word_code}
 use Rattle.table_file.specs.inner.ListCodes.{run_at, run_of, each_long}
-use Rattle.table_file.proofs.ReadLaws.{only_if, only_if_then}
+use Rattle.type_graph.proofs.Refusals.{only_if_weaker, only_if_holds}
+use Rattle.table_file.specs.Refusal.{wants_memory}
 
 -- what was read of a run of so many
 abbrev pub SoFarBy : {A : Type 0} → ℕ → (A → Option (List ℕ)) → List A → Option (List ℕ) → Option (List ℕ) → Type 0
@@ -66,8 +67,8 @@ one_more n f code done now x None None None l push s r = record { so_far = tt }
 pub next_fails : {A : Type 0} (n : ℕ) (f : A → Option (List ℕ)) → IsCode f → (done : List A) (fault : TableFault) (old mid new : Option (List ℕ)) → length done < n
     → SoFar n f done old mid → Reads f (Err fault) mid new → Reads (spelled_run n f) (Err fault) old new
 next_fails n f code done fault (Some octets) (Some m) new l s r =
-    record { reads = only_if_then fault (BeginsWithNone f m) (BeginsWithNone (spelled_run n f) octets) (no_run n f code done m octets l s.so_far) r.reads }
-next_fails n f code done fault (Some octets) None new l s r = record { reads = only_if fault (BeginsWithNone (spelled_run n f) octets) s.so_far }
+    record { reads = only_if_weaker (wants_memory fault) (BeginsWithNone f m) (BeginsWithNone (spelled_run n f) octets) (no_run n f code done m octets l s.so_far) r.reads }
+next_fails n f code done fault (Some octets) None new l s r = record { reads = only_if_holds (wants_memory fault) (BeginsWithNone (spelled_run n f) octets) s.so_far }
 next_fails n f code done fault None mid new l s r = record { reads = tt }
 
 -- all were read
@@ -91,7 +92,7 @@ no_list f n mid octets e none = λ xs rest ex.
 pub count_fails : {A : Type 0} (f : A → Option (List ℕ)) (fault : TableFault) (old new : Option (List ℕ))
     → Reads spelled_word (Err fault) old new → Reads (spelled_list f) (Err fault) old new
 count_fails f fault (Some octets) new r = record {
-  reads = only_if_then fault (BeginsWithNone spelled_word octets) (BeginsWithNone (spelled_list f) octets) (λ none xs rest e.
+  reads = only_if_weaker (wants_memory fault) (BeginsWithNone spelled_word octets) (BeginsWithNone (spelled_list f) octets) (λ none xs rest e.
       let p = parted (spelled_word (length xs)) (spelled_each f xs) (Some rest) octets e in
       none (length xs) p.0 p.2) r.reads;
 }
@@ -116,9 +117,9 @@ list_reads f n (Ok xs) None (Some m) new c r = absurd c.reads
 list_reads f n (Ok xs) None None (Some rest) c r = absurd r.reads
 list_reads f n (Ok xs) None None None c r = record { reads = tt }
 list_reads f n (Err fault) (Some octets) (Some m) new c r =
-    record { reads = only_if_then fault (BeginsWithNone (spelled_run n f) m) (BeginsWithNone (spelled_list f) octets) (no_list f n m octets c.reads) r.reads }
+    record { reads = only_if_weaker (wants_memory fault) (BeginsWithNone (spelled_run n f) m) (BeginsWithNone (spelled_list f) octets) (no_list f n m octets c.reads) r.reads }
 list_reads f n (Err fault) (Some octets) None new c r = record {
-  reads = only_if fault (BeginsWithNone (spelled_list f) octets) (λ ys rest e.
+  reads = only_if_holds (wants_memory fault) (BeginsWithNone (spelled_list f) octets) (λ ys rest e.
       let p = parted (spelled_word (length ys)) (spelled_each f ys) (Some rest) octets e in
       c.reads (length ys) p.0 p.2);
 }
@@ -128,7 +129,7 @@ list_reads f n (Err fault) None mid new c r = record { reads = tt }
 pub too_many : {A : Type 0} (f : A → Option (List ℕ)) → IsCode f → (n : ℕ) (fault : TableFault) (old new : Option (List ℕ))
     → IfSome old (λ octets. length octets < n) → Reads (spelled_run n f) (Err fault) old new
 too_many f code n fault (Some octets) new short = record {
-  reads = only_if fault (BeginsWithNone (spelled_run n f) octets) (λ xs rest e.
+  reads = only_if_holds (wants_memory fault) (BeginsWithNone (spelled_run n f) octets) (λ xs rest e.
       let p = run_at n f xs rest octets e in
       let q = split (spelled_each f xs) (Some rest) octets p.1 in
       let l = each_long f code xs q.0 q.2 in

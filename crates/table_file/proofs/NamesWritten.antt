@@ -1,12 +1,13 @@
 -- Lists that are written place by place.
 use Rattle.std.proofs.Common.{◌≡◌, ℕ, zero, suc, ◌+◌, List, [], ◌∷◌, drop, Option, Some, None, sym, ap, ◌∙◌, add-one}
+use Rattle.std.specs.Bool.{OnFalse}
 use Rattle.std.specs.Prelude.{slice_get}
 use Rattle.std.specs.Fmt.{◌++?◌}
 use Rattle.marshal_program.specs.declared.fault.TableFault.{TableFault}
 use Rattle.table_file.specs.Octets.{spelled_each}
-use Rattle.table_file.specs.Refusal.{OnlyIf}
+use Rattle.table_file.specs.Refusal.{wants_memory}
 use Rattle.table_file.specs.inner.Joins.{joins_assoc}
-use Rattle.table_file.proofs.ReadLaws.{only_if_then}
+use Rattle.type_graph.proofs.Refusals.{only_if_weaker}
 
 drop_at : {A : Type 0} (xs : List A) (i : ℕ) (x : A) → slice_get xs i ≡ Some x → drop i xs ≡ x ∷ drop (suc i) xs
 drop_at [] i x e = absurd (cc)
@@ -25,8 +26,8 @@ next_written f xs i next x old out now at n wrote so_far =
     ap (λ j. Some now ++? spelled_each f (drop j xs)) (n ∙ add-one i) ∙ ap (λ o. o ++? spelled_each f (drop (suc i) xs)) (sym wrote) ∙ sym (next_of f xs i x out at) ∙ so_far
 
 pub not_written : {A : Type 0} (f : A → Option (List ℕ)) (xs : List A) (i : ℕ) (x : A) (old out : List ℕ) (fault : TableFault) → slice_get xs i ≡ Some x
-    → OnlyIf fault (Some out ++? f x ≡ None) → Some out ++? spelled_each f (drop i xs) ≡ Some old ++? spelled_each f xs
-    → OnlyIf fault (Some old ++? spelled_each f xs ≡ None)
+    → OnFalse (wants_memory fault) (Some out ++? f x ≡ None) → Some out ++? spelled_each f (drop i xs) ≡ Some old ++? spelled_each f xs
+    → OnFalse (wants_memory fault) (Some old ++? spelled_each f xs ≡ None)
 not_written f xs i x old out fault at none so_far =
-    only_if_then fault (Some out ++? f x ≡ None) (Some old ++? spelled_each f xs ≡ None)
+    only_if_weaker (wants_memory fault) (Some out ++? f x ≡ None) (Some old ++? spelled_each f xs ≡ None)
     (λ e. sym so_far ∙ next_of f xs i x out at ∙ ap (λ o. o ++? spelled_each f (drop (suc i) xs)) e) none

@@ -1,29 +1,21 @@
 -- Parts that are read one behind the other.
 use Rattle.std.proofs.Common.{◌≡◌, ℕ, ◌<◌, ◌≤◌, ◌+◌, List, ◌++◌, length, length-append, Option, Some, None, Result, Ok, Err, sym, ap, ◌∙◌, arith}
+use Rattle.std.specs.Bool.{OnFalse}
 use Rattle.std.specs.Prelude.{IfSome}
 use Rattle.std.specs.Fmt.{◌++?◌}
 use Rattle.marshal_program.specs.declared.fault.TableFault.{TableFault}
 use Rattle.marshal_program.specs.declared.fault.TableFault.TheVariants.{NoMemory}
 use Rattle.table_file.specs.Octets.{spelled_pair}
 use Rattle.table_file.specs.inner.Reading.{BeginsWithNone, Reads, Takes, beside}
-use Rattle.table_file.specs.Refusal.{OnlyIf}
+use Rattle.table_file.specs.Refusal.{wants_memory}
 use Rattle.table_file.specs.inner.Joins.{joins_assoc, split, parted}
 use Rattle.table_file.specs.inner.Codes.{IsCode}
-
--- a fact is no less than is asked
-pub only_if : (fault : TableFault) (P : Type 0) → P → OnlyIf fault P
-only_if NoMemory P p = tt
-only_if fault P p = p
-
--- what follows from the fact
-pub only_if_then : (fault : TableFault) (P Q : Type 0) → (P → Q) → OnlyIf fault P → OnlyIf fault Q
-only_if_then NoMemory P Q f p = tt
-only_if_then fault P Q f p = f p
+use Rattle.type_graph.proofs.Refusals.{only_if_weaker, only_if_holds}
 
 -- where nothing of one kind stands, nothing of another does
 pub fails_as : {A B : Type 0} (f : A → Option (List ℕ)) (g : B → Option (List ℕ)) (fault : TableFault) (old new : Option (List ℕ))
     → ((octets : List ℕ) → BeginsWithNone f octets → BeginsWithNone g octets) → Reads f (Err fault) old new → Reads g (Err fault) old new
-fails_as f g fault (Some octets) new step r = record { reads = only_if_then fault (BeginsWithNone f octets) (BeginsWithNone g octets) (step octets) r.reads }
+fails_as f g fault (Some octets) new step r = record { reads = only_if_weaker (wants_memory fault) (BeginsWithNone f octets) (BeginsWithNone g octets) (step octets) r.reads }
 fails_as f g fault None new step r = record { reads = tt }
 
 -- the first of two isn't there
@@ -57,9 +49,9 @@ then_reads f g code a (Ok b) None (Some m) new one two = absurd one.reads
 then_reads f g code a (Ok b) None None (Some rest) one two = absurd two.reads
 then_reads f g code a (Ok b) None None None one two = record { reads = tt }
 then_reads f g code a (Err fault) (Some octets) (Some m) new one two =
-    record { reads = only_if_then fault (BeginsWithNone g m) (BeginsWithNone (spelled_pair f g) octets) (no_second f g code a m octets one.reads) two.reads }
+    record { reads = only_if_weaker (wants_memory fault) (BeginsWithNone g m) (BeginsWithNone (spelled_pair f g) octets) (no_second f g code a m octets one.reads) two.reads }
 then_reads f g code a (Err fault) (Some octets) None new one two =
-    record { reads = only_if fault (BeginsWithNone (spelled_pair f g) octets) (no_first f g octets one.reads) }
+    record { reads = only_if_holds (wants_memory fault) (BeginsWithNone (spelled_pair f g) octets) (no_first f g octets one.reads) }
 then_reads f g code a (Err fault) None mid new one two = record { reads = tt }
 
 -- ---- what is taken
@@ -68,7 +60,7 @@ then_reads f g code a (Err fault) None mid new one two = record { reads = tt }
 pub short_fails : {A : Type 0} (f : A → Option (List ℕ)) (k : ℕ) → ((a : A) (s : List ℕ) → f a ≡ Some s → k ≤ length s)
     → (fault : TableFault) (old new : Option (List ℕ)) → IfSome old (λ octets. length octets < k) → Reads f (Err fault) old new
 short_fails f k long fault (Some octets) new short = record {
-  reads = only_if fault (BeginsWithNone f octets) (λ x rest e.
+  reads = only_if_holds (wants_memory fault) (BeginsWithNone f octets) (λ x rest e.
       let p = split (f x) (Some rest) octets e in
       let l = long x p.0 p.2 in
       let all : length (p.0 ++ p.1) ≡ length octets = ap length p.4 in

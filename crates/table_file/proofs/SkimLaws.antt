@@ -1,5 +1,6 @@
 -- Parts that are read past and not kept.
 use Rattle.std.proofs.Common.{◌≡◌, ◌≢◌, ℕ, ◌<◌, ◌≤◌, ◌+◌, ◌-◌, ◌^◌, List, [], ◌∷◌, ◌++◌, length, length-append, Option, Some, None, Result, Ok, Err, refl, sym, ◌∙◌, subst, inl, inr, arith}
+use Rattle.std.specs.Bool.{OnFalse}
 use Rattle.std.specs.Prelude.{◌⊎◌, min, sum_by}
 use Rattle.std.specs.Fmt.{◌++?◌}
 use Rattle.std.proofs.lemmas.List.Sums.{sum_by_push}
@@ -8,7 +9,7 @@ use Rattle.type_graph.specs.declared.node.Node.{Node}
 use Rattle.type_graph.specs.GraphRules.{IsGraph}
 use Rattle.table_file.specs.declared.lists.Size.{Size}
 use Rattle.table_file.specs.Octets.{spelled_each, spelled_list, spelled_pair, spelled_run, spelled_word}
-use Rattle.table_file.specs.Refusal.{OnlyIf}
+use Rattle.table_file.specs.Refusal.{wants_memory}
 use Rattle.table_file.specs.Spelling.{spelled_node, spelled_program}
 use Rattle.table_file.specs.inner.Joins.{parted}
 use Rattle.table_file.specs.inner.ListCodes.{list_code}
@@ -17,12 +18,13 @@ use Rattle.table_file.specs.inner.PartCodes.{model_fields}
 use Rattle.table_file.specs.inner.Codes.{IsCode}
 use Rattle.table_file.specs.inner.Reading.{BeginsWithNone, Reads, beside}
 use Rattle.table_file.specs.inner.Skimming.{AreBoth, BeginsWithNoGraph, IsAtMost, IsMostSize, IsRunSize, IsSize, IsTableSize, IsTold, Skims, no_weight, spelled_named, weight_both}
-use Rattle.table_file.proofs.ReadLaws.{fails_as, no_first, only_if, only_if_then, then_reads, via_fails, via_reads}
+use Rattle.table_file.proofs.ReadLaws.{fails_as, no_first, then_reads, via_fails, via_reads}
 use Rattle.table_file.proofs.ListReads.{SoFar, all_read, list_reads, next_fails, nothing_so_far, one_more}
 use Rattle.table_file.proofs.Decoded.{IsOne, NoBody, NoOldBody, left_over, no_most, nothing_left, uses_read}
 use Rattle.table_file.specs.declared.table.Which.{Which}
 use Rattle.table_file.specs.TableSpelling.{spelled_which}
 use Rattle.table_file.specs.inner.TableCodes.{MostFields, spelled_fields, spelled_most, whole}
+use Rattle.type_graph.proofs.Refusals.{only_if_weaker, only_if_holds}
 
 -- what is told of what was read
 pub skims_by : {A R : Type 0} (f : A → Option (List ℕ)) (Fits : R → A → Type 0) (r : Result A TableFault) (told : Result R TableFault) (old new : Option (List ℕ))
@@ -216,9 +218,9 @@ uses_skim told count other q old mid new c is one two =
 
 -- ---- the nodes at the front
 
-pub front_fails : (octets : List ℕ) (new : Option (List ℕ)) (fault : TableFault) → Reads (spelled_list spelled_node) (Err fault) (Some octets) new → OnlyIf fault (BeginsWithNoGraph octets)
+pub front_fails : (octets : List ℕ) (new : Option (List ℕ)) (fault : TableFault) → Reads (spelled_list spelled_node) (Err fault) (Some octets) new → OnFalse (wants_memory fault) (BeginsWithNoGraph octets)
 front_fails octets new fault read =
-    only_if_then fault (BeginsWithNone (spelled_list spelled_node) octets) (BeginsWithNoGraph octets) (λ none nodes rest e graph. none nodes rest e) read.reads
+    only_if_weaker (wants_memory fault) (BeginsWithNone (spelled_list spelled_node) octets) (BeginsWithNoGraph octets) (λ none nodes rest e graph. none nodes rest e) read.reads
 
 pub front_breaks : (octets : List ℕ) (nodes : List Node) (new : Option (List ℕ)) → Reads (spelled_list spelled_node) (Ok nodes) (Some octets) new → (IsGraph nodes → ⊥) → BeginsWithNoGraph octets
 front_breaks octets nodes (Some left) read breaks = λ others rest e graph.
@@ -242,21 +244,21 @@ front_no_old_body octets none = λ table rules body.
 -- ---- a whole file
 
 module _ {A R : Type 0} (f : A → Option (List ℕ)) (one : IsOne f) (octets : List ℕ) (P : R → A → Type 0) (told : Result R TableFault) (new : Option (List ℕ)) (s : Skims f P told (Some octets) new) where
-  fault_by : (fault : TableFault) → (r : Result A TableFault) → Reads f r (Some octets) new → IsTold P (Err fault) r → OnlyIf fault ((x : A) → f x ≡ Some octets → ⊥)
+  fault_by : (fault : TableFault) → (r : Result A TableFault) → Reads f r (Some octets) new → IsTold P (Err fault) r → OnFalse (wants_memory fault) ((x : A) → f x ≡ Some octets → ⊥)
   fault_by fault (Ok y) reads fits = absurd fits
   fault_by fault (Err other) reads same =
-      subst (λ told. OnlyIf told ((x : A) → f x ≡ Some octets → ⊥)) (sym same)
-      (only_if_then other (BeginsWithNone f octets) ((x : A) → f x ≡ Some octets → ⊥) (λ none x e. none x [] (whole (f x) octets e)) reads.reads)
+      subst (λ told. OnFalse (wants_memory told) ((x : A) → f x ≡ Some octets → ⊥)) (sym same)
+      (only_if_weaker (wants_memory other) (BeginsWithNone f octets) ((x : A) → f x ≡ Some octets → ⊥) (λ none x e. none x [] (whole (f x) octets e)) reads.reads)
 
   more_left_by : (t : R) → new ≢ Some [] → (r : Result A TableFault) → Reads f r (Some octets) new → IsTold P (Ok t) r → (x : A) → f x ≡ Some octets → ⊥
   more_left_by t more (Ok y) reads fits = left_over f one y new octets reads more
   more_left_by t more (Err fault) reads fits = absurd fits
 
   -- what is refused is nothing's spelling
-  pub skim_refuses : (fault : TableFault) → (told ≡ Err fault) ⊎ ((t : R) × (told ≡ Ok t) × (new ≢ Some [])) → OnlyIf fault ((x : A) → f x ≡ Some octets → ⊥)
+  pub skim_refuses : (fault : TableFault) → (told ≡ Err fault) ⊎ ((t : R) × (told ≡ Ok t) × (new ≢ Some [])) → OnFalse (wants_memory fault) ((x : A) → f x ≡ Some octets → ⊥)
   skim_refuses fault cause = elim cause [
     | inl is ↦ fault_by fault s.read s.reads (subst (λ q. IsTold P q s.read) is s.fits)
-    | inr is ↦ only_if fault ((x : A) → f x ≡ Some octets → ⊥) (more_left_by is.0 is.2 s.read s.reads (subst (λ q. IsTold P q s.read) is.1 s.fits))
+    | inr is ↦ only_if_holds (wants_memory fault) ((x : A) → f x ≡ Some octets → ⊥) (more_left_by is.0 is.2 s.read s.reads (subst (λ q. IsTold P q s.read) is.1 s.fits))
   ]
 
   passes_by : (t : R) → new ≡ Some [] → (r : Result A TableFault) → Reads f r (Some octets) new → IsTold P (Ok t) r → (x : A) × (f x ≡ Some octets) × P t x

@@ -1,5 +1,6 @@
 -- Texts, which are octets of ASCII.
 use Rattle.std.proofs.Common.{◌≡◌, ℕ, zero, suc, ◌<◌, Bool, true, false, List, [], ◌∷◌, ◌++◌, length, get_or, Option, Some, None, Result, Ok, Err, refl, sym, ap, ◌∙◌, nat_lt, arith}
+use Rattle.std.specs.Bool.{OnFalse}
 use Rattle.std.proofs.lemmas.Bool.{ltb-true}
 use Rattle.std.specs.Bool.{then_some}
 use Rattle.std.specs.Fmt.{◌++?◌}
@@ -8,10 +9,11 @@ use Rattle.std.specs.Prelude.{IfOk, IfErr, OnOk, ◌&&◌}
 use Rattle.marshal_program.specs.declared.fault.TableFault.{TableFault}
 use Rattle.table_file.specs.Octets.{spelled_ascii, spelled_each, spelled_run}
 use Rattle.table_file.specs.inner.Reading.{BeginsWithNone, Reads, Takes}
-use Rattle.table_file.specs.Refusal.{OnlyIf}
+use Rattle.table_file.specs.Refusal.{wants_memory}
 use Rattle.table_file.specs.inner.Joins.{split, passed, same_fronts}
 use Rattle.table_file.specs.inner.ListCodes.{run_at, run_of}
-use Rattle.table_file.proofs.ReadLaws.{only_if_then, taken_reads}
+use Rattle.table_file.proofs.ReadLaws.{taken_reads}
+use Rattle.type_graph.proofs.Refusals.{only_if_weaker}
 
 abbrev pub all_ascii : List ℕ → Bool
 all_ascii = list_all (λ n. nat_lt n 128)
@@ -57,18 +59,18 @@ no_ascii n front rest octets l cut bad = λ xs behind e.
 -- what the octets of a name make of them
 abbrev pub IsNameOf : List ℕ → Result (List ℕ) TableFault → Type 0
 IsNameOf octets (Ok name) = (name ≡ octets) × (all_ascii octets ≡ true)
-IsNameOf octets (Err fault) = OnlyIf fault (all_ascii octets ≡ false)
+IsNameOf octets (Err fault) = OnFalse (wants_memory fault) (all_ascii octets ≡ false)
 
 pub ascii_reads : (n : ℕ) (front : List ℕ) (r : Result (List ℕ) TableFault) (old new : Option (List ℕ)) → Takes n front old new → IsNameOf front r
     → Reads (spelled_run n spelled_ascii) r old new
 ascii_reads n front (Ok name) old new t is =
     taken_reads (spelled_run n spelled_ascii) name n front old new (ap (λ x. spelled_run n spelled_ascii x) is.0 ∙ ascii_run n front t.long is.1) t
 ascii_reads n front (Err fault) (Some octets) (Some rest) t is =
-    record { reads = only_if_then fault (all_ascii front ≡ false) (BeginsWithNone (spelled_run n spelled_ascii) octets) (no_ascii n front rest octets t.long t.takes) is }
+    record { reads = only_if_weaker (wants_memory fault) (all_ascii front ≡ false) (BeginsWithNone (spelled_run n spelled_ascii) octets) (no_ascii n front rest octets t.long t.takes) is }
 ascii_reads n front (Err fault) (Some octets) None t is = absurd t.takes
 ascii_reads n front (Err fault) None new t is = record { reads = tt }
 
 pub is_name_of : (octets : List ℕ) (r : Result (List ℕ) TableFault) → IfOk r (λ name. name ≡ octets) → OnOk r (all_ascii octets ≡ true)
-    → IfErr r (λ fault. OnlyIf fault (all_ascii octets ≡ false)) → IsNameOf octets r
+    → IfErr r (λ fault. OnFalse (wants_memory fault) (all_ascii octets ≡ false)) → IsNameOf octets r
 is_name_of octets (Ok name) kept ascii refused = (kept, ascii)
 is_name_of octets (Err fault) kept ascii refused = refused

@@ -8,7 +8,8 @@ use Rattle.table_file.specs.Octets.{Tagged, spelled_tagged}
 use Rattle.table_file.specs.inner.Reading.{BeginsWithNone, Reads, Takes}
 use Rattle.table_file.specs.inner.Joins.{joins_assoc}
 use Rattle.table_file.specs.inner.Variants.{IsKind, kind_at, of_kind, no_kind}
-use Rattle.table_file.proofs.ReadLaws.{only_if, only_if_then}
+use Rattle.type_graph.proofs.Refusals.{only_if_weaker, only_if_holds}
+use Rattle.table_file.specs.Refusal.{wants_memory}
 
 -- what is made of the fields
 abbrev pub made : {A F : Type 0} → (F → A) → Result F TableFault → Result A TableFault
@@ -36,7 +37,7 @@ module _ {A F : Type 0} {tagged : A → Tagged} {tag : ℕ} {fields : F → Opti
   by_tag (Ok x) (Some octets) (Some m) None t r = record { reads = no_fields m octets t.takes r.reads }
   by_tag (Err fault) (Some octets) (Some m) new t r = record {
     reads =
-        only_if_then fault (BeginsWithNone fields m) (BeginsWithNone (λ a. spelled_tagged (tagged a)) octets)
+        only_if_weaker (wants_memory fault) (BeginsWithNone fields m) (BeginsWithNone (λ a. spelled_tagged (tagged a)) octets)
         (no_fields m octets t.takes) r.reads;
   }
   by_tag r (Some octets) None new t q = absurd t.takes
@@ -63,7 +64,7 @@ pub no_kind_reads : {A : Type 0} (tagged : A → Tagged) (many : ℕ) → ((a : 
     → Reads (λ a. spelled_tagged (tagged a)) (Err fault) old new
 no_kind_reads tagged many few tag le fault (Some octets) (Some m) new t = record {
   reads =
-      only_if fault (BeginsWithNone (λ a. spelled_tagged (tagged a)) octets)
+      only_if_holds (wants_memory fault) (BeginsWithNone (λ a. spelled_tagged (tagged a)) octets)
       (λ a rest e. no_kind tagged many few tag le a rest m (e ∙ ap Some t.takes));
 }
 no_kind_reads tagged many few tag le fault (Some octets) None new t = absurd t.takes

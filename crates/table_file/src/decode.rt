@@ -1,10 +1,11 @@
 //! The table of a file's octets.
 
 ghost use Rattle.std.specs.Prelude.{◌≡◌, ◌⊎◌, ℕ, List, ◌∷◌, Some, IfOk, IfErr, OnErr};
+ghost use Rattle.std.specs.Bool.{OnFalse};
 ghost use Rattle.table_file.specs.Table.{IsTable, TableParts};
 ghost use Rattle.table_file.specs.TableSpelling.{Spells, SpellsOld};
 ghost use Rattle.table_file.specs.inner.Reading.{Reads, Whole};
-ghost use Rattle.table_file.specs.Refusal.{OnlyIf};
+ghost use Rattle.table_file.specs.Refusal.{wants_memory};
 ghost use Rattle.table_file.specs.inner.TableCodes.{spelled_body, spelled_fields, spelled_old_fields};
 ghost use Rattle.table_file.specs.inner.Decoding.{IsOldBody};
 
@@ -45,7 +46,7 @@ fn read_old(alloc: Global, octets: &[u8]) -> Result<OldDraft, TableFault>
 /// The table of what stands behind the start of a file of version 2.
 fn decode_body(alloc: Global, octets: &[u8]) -> Result<Table, TableFault>
     ensures spelled { IfOk result (λ table. spelled_body table ≡ Some octets.now) }
-    ensures refused { IfErr result (λ fault. OnlyIf fault ((table : TableParts) → IsTable table
+    ensures refused { IfErr result (λ fault. OnFalse (wants_memory fault) ((table : TableParts) → IsTable table
         → spelled_body table ≡ Some octets.now → ⊥)) }
 {
     skim_whole(alloc, octets)?;
@@ -56,7 +57,7 @@ fn decode_body(alloc: Global, octets: &[u8]) -> Result<Table, TableFault>
 /// The same of version 1.
 fn decode_old(alloc: Global, octets: &[u8]) -> Result<Table, TableFault>
     ensures spelled { IfOk result (λ table. IsOldBody table octets.now) }
-    ensures refused { IfErr result (λ fault. OnlyIf fault ((table : TableParts) → IsTable table
+    ensures refused { IfErr result (λ fault. OnFalse (wants_memory fault) ((table : TableParts) → IsTable table
         → IsOldBody table octets.now → ⊥)) }
 {
     skim_old(alloc, octets)?;
@@ -84,7 +85,7 @@ fn start_of(octets: &[u8]) -> Result<(u8, &[u8]), TableFault>
 /// `EmptyRoutine` and `RankRises`, in this order; or want of memory.
 pub fn decode_table(alloc: Global, octets: &[u8]) -> Result<Table, TableFault>
     ensures spelled { IfOk result (λ table. Spells table octets.now ⊎ SpellsOld table octets.now) }
-    ensures refused { IfErr result (λ fault. OnlyIf fault ((table : TableParts) → IsTable table
+    ensures refused { IfErr result (λ fault. OnFalse (wants_memory fault) ((table : TableParts) → IsTable table
         → Spells table octets.now ⊎ SpellsOld table octets.now → ⊥)) }
 {
     let (version, rest) = start_of(octets)?;

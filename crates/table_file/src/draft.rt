@@ -1,12 +1,13 @@
 //! What was read of a table file, before the rules of tables are tested.
 
 ghost use Rattle.std.specs.Prelude.{◌≡◌, IfOk, IfErr, OnErr};
+ghost use Rattle.std.specs.Bool.{OnFalse};
 ghost use Rattle.marshal_program.specs.declared.fault.TableFault.TheVariants.{NoMemory};
 ghost use Rattle.marshal_program.specs.ProgramRules.{IsProgram};
 ghost use Rattle.type_graph.specs.GraphRules.{IsGraph};
 ghost use Rattle.type_model.specs.ModelRules.{IsModel};
 ghost use Rattle.table_file.specs.Table.{IsTable};
-ghost use Rattle.table_file.specs.Refusal.{OnlyIf};
+ghost use Rattle.table_file.specs.Refusal.{wants_memory};
 ghost use Rattle.table_file.specs.inner.TableCodes.{model_from, table_from};
 ghost use Rattle.table_file.specs.inner.Decoding.{fields_of, table_fault};
 
@@ -46,7 +47,7 @@ fn fault_of(fault: GraphFault) -> TableFault
 
 pub(crate) fn graph_of(alloc: Global, nodes: Items<Node>) -> Result<Graph, TableFault>
     ensures kept { IfOk result (λ graph. graph ≡ nodes) }
-    ensures refused { IfErr result (λ fault. OnlyIf fault (IsGraph nodes → ⊥)) }
+    ensures refused { IfErr result (λ fault. OnFalse (wants_memory fault) (IsGraph nodes → ⊥)) }
 {
     match Graph::from_nodes(alloc, nodes.into_vec()) {
         Ok(graph) => Ok(graph),
@@ -56,7 +57,7 @@ pub(crate) fn graph_of(alloc: Global, nodes: Items<Node>) -> Result<Graph, Table
 
 fn model_of(alloc: Global, draft: ModelDraft) -> Result<Model, TableFault>
     ensures kept { IfOk result (λ model. model ≡ model_from draft) }
-    ensures refused { IfErr result (λ fault. OnlyIf fault (IsModel (model_from draft) → ⊥)) }
+    ensures refused { IfErr result (λ fault. OnFalse (wants_memory fault) (IsModel (model_from draft) → ⊥)) }
 {
     let (nodes, (names, (interfaces, (operations, exceptions)))) = draft;
     let graph = graph_of(alloc, nodes)?;
@@ -101,7 +102,7 @@ fn programs_of(
 /// `BadNumber`, then `EmptyRoutine`, then `RankRises` of both programs; or want of memory.
 pub(crate) fn finish(alloc: Global, draft: TableDraft) -> Result<Table, TableFault>
     ensures kept { IfOk result (λ table. table ≡ table_from draft) }
-    ensures refused { IfErr result (λ fault. OnlyIf fault (IsTable (table_from draft) → ⊥)) }
+    ensures refused { IfErr result (λ fault. OnFalse (wants_memory fault) (IsTable (table_from draft) → ⊥)) }
 {
     let ((model, (first, second)), uses) = draft;
     let model = model_of(alloc, model)?;

@@ -1,12 +1,13 @@
 //! The octets of a table.
 
 ghost use Rattle.std.specs.Prelude.{◌≡◌, ◌<◌, ℕ, List, length, Some, IfOk, IfErr};
+ghost use Rattle.std.specs.Bool.{OnFalse};
 ghost use Rattle.std.specs.Fmt.{◌++?◌};
 ghost use Rattle.table_file.specs.Octets.{spelled_each, spelled_list};
 ghost use Rattle.table_file.specs.Spelling.{spelled_exception, spelled_interface, spelled_model, spelled_name, spelled_operation, spelled_program};
 ghost use Rattle.table_file.specs.TableSpelling.{Spells, spelled_start, spelled_table, spelled_which};
 ghost use Rattle.table_file.specs.inner.Reading.{Writes};
-ghost use Rattle.table_file.specs.Refusal.{OnlyIf};
+ghost use Rattle.table_file.specs.Refusal.{wants_memory};
 
 use crate::lists::{write_count, write_each, write_list};
 use crate::part::Part;
@@ -92,7 +93,7 @@ fn write_table(table: &Table, out: &mut Vec<u8>) -> Result<(), TableFault>
 /// want of memory.
 pub fn encode_table(alloc: Global, table: &Table) -> Result<Vec<u8>, TableFault>
     ensures spelled { IfOk result (λ octets. Spells table.now octets.items) }
-    ensures refused { IfErr result (λ fault. OnlyIf fault ((octets : List ℕ) → Spells table.now octets → ⊥)) }
+    ensures refused { IfErr result (λ fault. OnFalse (wants_memory fault) ((octets : List ℕ) → Spells table.now octets → ⊥)) }
 {
     let mut out = Vec::new(alloc);
     match write_table(table, &mut out) {

@@ -2,13 +2,14 @@
 //! a limit, is refused with nothing stored.
 
 ghost use Rattle.std.specs.Prelude.{◌≡◌, List, Some, IfErr};
+ghost use Rattle.std.specs.Bool.{OnFalse};
 ghost use Rattle.marshal_program.specs.declared.instr.Routine.{Routine};
 ghost use Rattle.marshal_program.specs.ProgramRules.{IsProgram};
 ghost use Rattle.type_graph.specs.GraphRules.{IsGraph};
 ghost use Rattle.table_file.specs.Octets.{spelled_pair};
 ghost use Rattle.table_file.specs.Spelling.{spelled_program};
 ghost use Rattle.table_file.specs.Table.{IsTable, TableParts};
-ghost use Rattle.table_file.specs.Refusal.{OnlyIf};
+ghost use Rattle.table_file.specs.Refusal.{wants_memory};
 ghost use Rattle.table_file.specs.inner.PartCodes.{ModelFields, spelled_model_fields};
 ghost use Rattle.table_file.specs.inner.TableCodes.{spelled_body, spelled_fields, spelled_most, spelled_old_fields};
 ghost use Rattle.table_file.specs.inner.Decoding.{IsOldBody};
@@ -92,7 +93,7 @@ fn skim_old_fields(cursor: &mut Cursor<'_>) -> Result<(ModelSize, Size), TableFa
 
 /// Refuses more nodes or members than a graph may have.
 fn check_nodes(model: ModelSize) -> Result<(), TableFault>
-    ensures { IfErr result (λ fault. OnlyIf fault ((x : ModelFields) → IsModelSize model x → IsGraph x.0 → ⊥)) }
+    ensures { IfErr result (λ fault. OnFalse (wants_memory fault) ((x : ModelFields) → IsModelSize model x → IsGraph x.0 → ⊥)) }
 {
     if model.0.count > MAX_NODES || model.0.weight > MAX_MEMBERS {
         return Err(TableFault::BadNumber);
@@ -102,7 +103,7 @@ fn check_nodes(model: ModelSize) -> Result<(), TableFault>
 
 /// Refuses more routines or instructions than a program may have.
 fn check_program(program: Size) -> Result<(), TableFault>
-    ensures { IfErr result (λ fault. OnlyIf fault ((x : List Routine) → IsProgramSize program x → IsProgram x → ⊥)) }
+    ensures { IfErr result (λ fault. OnFalse (wants_memory fault) ((x : List Routine) → IsProgramSize program x → IsProgram x → ⊥)) }
 {
     if program.count > MAX_ROUTINES || program.weight > MAX_INSTRS {
         return Err(TableFault::BadNumber);
@@ -112,7 +113,7 @@ fn check_program(program: Size) -> Result<(), TableFault>
 
 /// Judges the nodes at the front of many octets, before names are kept behind them.
 fn check_front(alloc: Global, octets: &[u8]) -> Result<(), TableFault>
-    ensures { IfErr result (λ fault. OnlyIf fault (BeginsWithNoGraph octets.now)) }
+    ensures { IfErr result (λ fault. OnFalse (wants_memory fault) (BeginsWithNoGraph octets.now)) }
 {
     if octets.len() < LARGE {
         return Ok(());
@@ -129,7 +130,7 @@ fn check_front(alloc: Global, octets: &[u8]) -> Result<(), TableFault>
 /// # Errors
 /// What is told while the octets are read, then `Trailing`, then `BadNumber`; or want of memory.
 pub(crate) fn skim_whole(alloc: Global, octets: &[u8]) -> Result<(), TableFault>
-    ensures { IfErr result (λ fault. OnlyIf fault ((table : TableParts) → IsTable table
+    ensures { IfErr result (λ fault. OnFalse (wants_memory fault) ((table : TableParts) → IsTable table
         → spelled_body table ≡ Some octets.now → ⊥)) }
 {
     let mut cursor = Cursor::new(alloc, octets);
@@ -143,7 +144,7 @@ pub(crate) fn skim_whole(alloc: Global, octets: &[u8]) -> Result<(), TableFault>
 
 /// The same of version 1.
 pub(crate) fn skim_old(alloc: Global, octets: &[u8]) -> Result<(), TableFault>
-    ensures { IfErr result (λ fault. OnlyIf fault ((table : TableParts) → IsTable table
+    ensures { IfErr result (λ fault. OnFalse (wants_memory fault) ((table : TableParts) → IsTable table
         → IsOldBody table octets.now → ⊥)) }
 {
     let mut cursor = Cursor::new(alloc, octets);

@@ -1,11 +1,12 @@
 //! Texts: names and repository ids.
 
 ghost use Rattle.std.specs.Prelude.{◌≡◌, length, true, false, nat_lt, IfOk, IfErr, OnOk};
+ghost use Rattle.std.specs.Bool.{OnFalse};
 ghost use Rattle.std.specs.List.{list_all};
 ghost use Rattle.table_file.specs.Octets.{spelled_ascii, spelled_each, spelled_run, spelled_text};
 ghost use Rattle.table_file.specs.inner.Reading.{Reads, Writes};
 ghost use Rattle.table_file.specs.inner.Skimming.{IsAtMost, Skims, no_weight};
-ghost use Rattle.table_file.specs.Refusal.{OnlyIf};
+ghost use Rattle.table_file.specs.Refusal.{wants_memory};
 
 use crate::cursor::Cursor;
 use crate::lists::write_count;
@@ -25,7 +26,7 @@ fn is_ascii(octets: &[u8]) -> bool
 fn name_of(alloc: Global, octets: &[u8]) -> Result<Name, TableFault>
     ensures kept { IfOk result (λ name. name ≡ octets.now) }
     ensures ascii { OnOk result (list_all (λ n. nat_lt n 128) octets.now ≡ true) }
-    ensures refused { IfErr result (λ fault. OnlyIf fault (list_all (λ n. nat_lt n 128) octets.now ≡ false)) }
+    ensures refused { IfErr result (λ fault. OnFalse (wants_memory fault) (list_all (λ n. nat_lt n 128) octets.now ≡ false)) }
 {
     if !is_ascii(octets) {
         return Err(TableFault::NotATable);

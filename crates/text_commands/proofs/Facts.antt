@@ -1,5 +1,6 @@
 -- What is known of a value and of a refusal, put together.
 use Rattle.std.proofs.Common.{◌≡◌, ◌<◌, ◌≤◌, ◌∙◌, ap, sym, subst, append_assoc, ℕ, List, [], ◌∷◌, ◌++◌, All, Contains, length, map, take, IfOk, IfErr, IsErr, Result, Ok, Err}
+use Rattle.std.specs.Bool.{OnFalse}
 use Rattle.std.specs.Fmt.{decimal}
 use Rattle.json.specs.Print.{print}
 use Rattle.escaped_json.specs.Escaped.{escaped}
@@ -12,12 +13,12 @@ use Rattle.type_graph.specs.Value.{Tree, Fits, node_at, tape_of}
 use Rattle.type_graph.specs.Encoding.{Means}
 use Rattle.type_model.specs.ModelRules.{IsModel, Parts}
 use Rattle.type_model.specs.Names.{IsNamed}
-use Rattle.program_runner.specs.Refusal.{OnlyIf as OnlyIfRun}
+use Rattle.program_runner.specs.Refusal.{wants_memory as run_wants_memory}
 use Rattle.program_runner.specs.declared.fault.RunFault.{RunFault}
 use Rattle.program_runner.specs.declared.fault.RunFault.TheVariants as runs
 use Rattle.table_file.specs.Table.{TableParts}
 use Rattle.table_commands.specs.Answer.{Ask}
-use Rattle.table_commands.specs.Refusal.{OnlyIf, refusal_of_run}
+use Rattle.table_commands.specs.Refusal.{wants_memory, refusal_of_run}
 use Rattle.table_commands.specs.Lines.{HasNoOctets, HasNoTape}
 use Rattle.table_commands.specs.declared.refusal.Refusal.{Refusal}
 use Rattle.table_commands.specs.declared.refusal.Refusal.TheVariants.{Unread, Unwritten, NoTable, NotRight, TooLong, NoType, BadHex, Refused, BadObject, NoInterface, NoReference, NoMemory}
@@ -66,7 +67,7 @@ text_is labels graph lent node order pos tape slice octets line taken graph_is t
 pub behind : (count text words line : List ℕ) → line ≡ count ++ 32 ∷ words → words ≡ text ++ 10 ∷ [] → line ≡ count ++ 32 ∷ text ++ 10 ∷ []
 behind count text words line is words_are = is ∙ ap (λ (w : List ℕ). count ++ 32 ∷ w) words_are ∙ sym (append_assoc count (32 ∷ text) (10 ∷ []))
 
-pub of_run : (fault : RunFault) (fact : Type 0) → OnlyIfRun fault fact → IsOfRun (Other (refusal_of_run fault)) fact
+pub of_run : (fault : RunFault) (fact : Type 0) → OnFalse (run_wants_memory fault) fact → IsOfRun (Other (refusal_of_run fault)) fact
 of_run runs.NoMemory fact h = tt
 of_run fault fact h = h
 
@@ -97,7 +98,7 @@ module _ (labels : Labels) (graph : List Node) (node : ℕ) (ask : Ask) where
   refused_run way fact none (Other (NoReference fault)) h = absurd h
 
   -- the digits are none
-  pub bad_digits : (refusal : Refusal) → OnlyIf refusal ((refusal ≡ BadHex) × IsErr (decode_of ask.input))
+  pub bad_digits : (refusal : Refusal) → OnFalse (wants_memory refusal) ((refusal ≡ BadHex) × IsErr (decode_of ask.input))
       → IsRefusalAt Decode labels graph node ask (Other refusal)
   bad_digits NoMemory h = tt
   bad_digits BadHex h = h.1

@@ -1,3 +1,4 @@
+pub mod Refusals
 pub mod Held
 pub mod LevelLaws
 pub mod HeldEach

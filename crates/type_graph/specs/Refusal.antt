@@ -1,5 +1,5 @@
 -- When a list of nodes is refused, and where it breaks the rules.
-use Rattle.std.specs.Prelude.{◌≡◌, ℕ, suc, ◌<◌, ℤ, ◌≤ℤ◌, List, length, Option, All, IfSome}
+use Rattle.std.specs.Prelude.{◌≡◌, ℕ, suc, ◌<◌, ℤ, ◌≤ℤ◌, List, length, Option, All, IfSome, Bool, true, false}
 use Rattle.type_graph.specs.declared.fault.GraphFault.{GraphFault}
 use Rattle.type_graph.specs.declared.fault.GraphFault.TheVariants.{NoMemory}
 use Rattle.type_graph.specs.declared.fault.NodeRule.{NodeRule}
@@ -11,10 +11,10 @@ use Rattle.type_graph.specs.declared.node.Node.TheVariants.{Integer, Enum, Seq, 
 use Rattle.type_graph.specs.Value.{node_at, IsNumber}
 use Rattle.type_graph.specs.GraphRules.{IsNode, IsPart, IsShallow, IsWide, all_members, label_at}
 
--- want of memory is the cause, or the fact holds
-abbrev pub OnlyIf : GraphFault → Type 0 → Type 0
-OnlyIf NoMemory fact = Unit {0}
-OnlyIf fault fact = fact
+-- whether memory was wanted
+abbrev pub wants_memory : GraphFault → Bool
+wants_memory NoMemory = true
+wants_memory fault = false
 
 -- the label at a place is no value of the discriminator
 pub record IsOutside (switch : Node) (arms : List (ℤ × ℕ)) (place : ℕ) : Type 0 where

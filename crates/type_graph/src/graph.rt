@@ -1,8 +1,9 @@
 //! The graph of types: a list of nodes that keeps the rules of a graph.
 
 ghost use Rattle.std.specs.Prelude.{◌≡◌, ◌<◌, ℕ, length, slice_get, IfSome, IfNone, IfOk, IfErr, Some};
+ghost use Rattle.std.specs.Bool.{OnFalse};
 ghost use Rattle.type_graph.specs.GraphRules.{IsNode, IsGraph};
-ghost use Rattle.type_graph.specs.Refusal.{OnlyIf};
+ghost use Rattle.type_graph.specs.Refusal.{wants_memory};
 ghost use Rattle.type_graph.specs.declared.width.Width.{Width};
 ghost use Rattle.type_graph.specs.Value.{node_at, tape_of};
 ghost use Rattle.type_graph.specs.Walks.{lead_of};
@@ -49,7 +50,7 @@ impl Graph {
     pub fn from_nodes(alloc: Global, nodes: Vec<Node>) -> Result<Graph, GraphFault>
         ensures kept { IfOk result (λ graph. graph ≡ nodes.items) }
         ensures rules { IfOk result IsGraph }
-        ensures refused { IfErr result (λ fault. OnlyIf fault (IsGraph nodes.items → ⊥)) }
+        ensures refused { IfErr result (λ fault. OnFalse (wants_memory fault) (IsGraph nodes.items → ⊥)) }
     {
         if let Some(fault) = find_fault(alloc, &nodes)? {
             return Err(fault.at_line(0));

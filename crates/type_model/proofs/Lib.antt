@@ -1,4 +1,3 @@
 pub mod NameLaws
 pub mod ModelLaws
-pub mod Refusals
 pub mod NameOrder

@@ -2,9 +2,10 @@
 //! exceptions.
 
 ghost use Rattle.std.specs.Prelude.{◌≡◌, ◌≢◌, ◌<◌, ◌↔◌, ℕ, All, Contains, length, slice_get, IsSomeAnd, IfNone, IfOk, IfErr, IsTrue, Some};
+ghost use Rattle.std.specs.Bool.{OnFalse};
 ghost use Rattle.type_model.specs.ModelRules.{AreDeclared, BeginsWithId, IsException, IsFrame, IsInterface, IsModel, IsNamedFrame, IsOperation, parts_of};
 ghost use Rattle.type_model.specs.Names.{IsNamed};
-ghost use Rattle.type_graph.specs.Refusal.{OnlyIf};
+ghost use Rattle.type_graph.specs.Refusal.{wants_memory};
 
 use crate::names::{Name, NameTable};
 use crate::signatures::{Exception, Interface, Operation};
@@ -139,7 +140,7 @@ impl Model {
         ensures kept { IfOk result (λ model. model ≡ parts_of graph names interfaces operations exceptions) }
         ensures rules { IfOk result IsModel }
         ensures refused { IfErr result
-            (λ fault. OnlyIf fault (IsModel (parts_of graph names interfaces operations exceptions) → ⊥)) }
+            (λ fault. OnFalse (wants_memory fault) (IsModel (parts_of graph names interfaces operations exceptions) → ⊥)) }
     {
         let names = NameTable::new(alloc, names, graph.nodes().len())?;
         let nodes = graph.nodes();

@@ -1,12 +1,13 @@
 //! Names, and the table that looks them up.
 
 ghost use Rattle.std.specs.Prelude.{◌≡◌, ◌≢◌, ◌<◌, ◌≤◌, ◌↔◌, ℕ, List, All, Contains, length, slice_get, slice_index_or, map, IfSome, IfNone, IfOk, IfErr, OnOk, IsTrue, Some, true, false};
+ghost use Rattle.std.specs.Bool.{OnFalse};
 ghost use Rattle.std.specs.String.{string_bytes};
 ghost use Rattle.std.specs.List.Sorted.{IsSorted};
 ghost use Rattle.type_model.specs.Names.{AreDistinct, AreNames, AreMarks, IsNamed, IsOrder, name_at};
 ghost use Rattle.type_model.specs.inner.Texts.{octets_of};
 ghost use Rattle.type_model.specs.inner.Keys.{AreKeys, Differ, key_cmp, place_of};
-ghost use Rattle.type_graph.specs.Refusal.{OnlyIf};
+ghost use Rattle.type_graph.specs.Refusal.{wants_memory};
 
 use arrayvec::ArrayString;
 use std::alloc::{AllocError, Global};
@@ -125,7 +126,7 @@ fn sorted(alloc: Global, names: &[(Name, u32)]) -> Result<Vec<(&str, usize)>, Al
 fn places_of(alloc: Global, keys: &[(&str, usize)]) -> Result<Vec<usize>, GraphFault>
     ensures places { IfOk result (λ places. places.items ≡ map place_of keys.now) }
     ensures differ { OnOk result (Differ keys.now (length keys.now)) }
-    ensures refused { IfErr result (λ fault. OnlyIf fault (Differ keys.now (length keys.now) → ⊥)) }
+    ensures refused { IfErr result (λ fault. OnFalse (wants_memory fault) (Differ keys.now (length keys.now) → ⊥)) }
 {
     let mut places = Vec::new(alloc);
     places.reserve(keys.len())?;
@@ -143,7 +144,7 @@ fn places_of(alloc: Global, keys: &[(&str, usize)]) -> Result<Vec<usize>, GraphF
 fn order_of(alloc: Global, names: &[(Name, u32)]) -> Result<Vec<usize>, GraphFault>
     ensures order { IfOk result (λ order. IsOrder names.now order.items) }
     ensures distinct { OnOk result (AreDistinct names.now) }
-    ensures refused { IfErr result (λ fault. OnlyIf fault (AreDistinct names.now → ⊥)) }
+    ensures refused { IfErr result (λ fault. OnFalse (wants_memory fault) (AreDistinct names.now → ⊥)) }
 {
     let keys = sorted(alloc, names)?;
     let order = places_of(alloc, keys.as_slice())?;
@@ -155,7 +156,7 @@ fn marks_of(alloc: Global, names: &[(Name, u32)], count: usize) -> Result<Vec<bo
     ensures marks { IfOk result (λ marks. AreMarks (map (λ name. name.1) names.now) marks.items) }
     ensures within { OnOk result (All (λ number. number < count) (map (λ name. name.1) names.now)) }
     ensures refused { IfErr result
-        (λ fault. OnlyIf fault (All (λ number. number < count) (map (λ name. name.1) names.now) → ⊥)) }
+        (λ fault. OnFalse (wants_memory fault) (All (λ number. number < count) (map (λ name. name.1) names.now) → ⊥)) }
 {
     let mut marks = vec![in alloc; false; count]?;
     for place in 0..names.len() {
@@ -180,7 +181,7 @@ impl NameTable {
     ) -> Result<NameTable, GraphFault>
         ensures kept { IfOk result (λ table. table ≡ names) }
         ensures rules { OnOk result (AreNames count names) }
-        ensures refused { IfErr result (λ fault. OnlyIf fault (AreNames count names → ⊥)) }
+        ensures refused { IfErr result (λ fault. OnFalse (wants_memory fault) (AreNames count names → ⊥)) }
     {
         let names = names.into_vec();
         let order = order_of(alloc, names.as_slice())?;

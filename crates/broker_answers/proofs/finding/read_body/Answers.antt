@@ -1,5 +1,5 @@
 use Rattle.giop_messages.specs.Messages.{asked_of}
-use Rattle.giop.proofs.Refusals.{not_for_memory}
+use Rattle.program_runner.proofs.Refusals.{not_for_memory}
 use Rattle.broker_answers.proofs.Readings.{read_is, unread}
 use Rattle.broker_answers.proofs.finding.read_body.Goals as goal
 

@@ -1,5 +1,6 @@
 use Rattle.std.proofs.Common.{rules, string_bytes}
-use Rattle.call_texts.proofs.Facts.{in_lent, not_for_memory, text_is}
+use Rattle.program_runner.proofs.Refusals.{not_for_memory}
+use Rattle.call_texts.proofs.Facts.{in_lent, text_is}
 use Rattle.call_texts.proofs.body.body_text.Goals as goal
 
 pub returns-in_default : goal.returns-in_default

@@ -1,5 +1,5 @@
 use Rattle.giop_messages.specs.Messages.{answered_of}
-use Rattle.call_texts.proofs.Facts.{not_for_memory}
+use Rattle.program_runner.proofs.Refusals.{not_for_memory}
 use Rattle.call_texts.proofs.Ids.{id_tape_is, no_id}
 use Rattle.call_texts.proofs.raised.id_tape.Goals as goal
 

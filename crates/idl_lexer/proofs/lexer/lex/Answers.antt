@@ -7,7 +7,7 @@ use Rattle.idl_lexer.specs.Tokens.{Lexed}
 use Rattle.idl_lexer.specs.Lexemes.{HasNoForm}
 use Rattle.idl_lexer.specs.Faults.{IsFault, IsFaultAt}
 use Rattle.idl_lexer.proofs.Paths.{none_lexed}
-use Rattle.idl_lexer.proofs.Refusals.{OnlyIf-holds}
+use Rattle.std.proofs.lemmas.Bool.{OnFalse_from}
 use Rattle.idl_lexer.proofs.Lexing.{Reads, Reads-token, Reads-skip, lexeme_begins, lexeme_skips, lexeme_within}
 use Rattle.idl_lexer.proofs.lexer.lex.Goals as goal
 
@@ -39,7 +39,7 @@ returns-in_err-found-clause-refused c =
     let front = c.split_at.ensures.front ∙ ap (take c.loop-at.at) c.as_bytes-octets.ensures.value in
     let back = c.split_at.ensures.back ∙ ap (drop c.loop-at.at) c.as_bytes-octets.ensures.value in
     let none : (tokens : List Token) → Lexed c.args.source.now tokens → ⊥ = λ tokens lexed. none_lexed c.args.source.now _ _ c.loop-at.at c.loop-at.tokens.items tokens front back (rw c.as_bytes-octets.ensures.value at c.loop-at-test.true) c.in_err-found.ensures.refused c.loop-at.invariant.lexed lexed in
-    rw p.1 (OnlyIf-holds _ none)
+    rw p.1 (OnFalse_from _ _ (λ other. none))
 
 first_fault : (source before rest : List ℕ) (at line : ℕ) (tokens : List Token) (fault : LexFault) → before ≡ take at source → rest ≡ drop at source → at < length source → Reads source tokens at line → HasNoForm before rest → IsFaultAt before rest line fault → IsFault source fault
 first_fault source before rest at line tokens fault front back within reads nothing told = record {
@@ -57,4 +57,4 @@ returns-in_err-found-clause-told c =
     let front = c.split_at.ensures.front ∙ ap (take c.loop-at.at) c.as_bytes-octets.ensures.value in
     let back = c.split_at.ensures.back ∙ ap (drop c.loop-at.at) c.as_bytes-octets.ensures.value in
     let is : IsFault c.args.source.now c.in_err-found.field-0.0 = first_fault c.args.source.now _ _ c.loop-at.at c.loop-at.line c.loop-at.tokens.items _ front back (rw c.as_bytes-octets.ensures.value at c.loop-at-test.true) c.loop-at.invariant c.in_err-found.ensures.refused c.in_err-found.ensures.told in
-    rw (p.1, p.2) (OnlyIf-holds _ is)
+    rw (p.1, p.2) (OnFalse_from _ _ (λ other. is))

@@ -1,11 +1,13 @@
 use Rattle.object_references.specs.References.{reference_of}
-use Rattle.object_references.proofs.Faults.{reading_refused, weaker}
+use Rattle.object_references.proofs.Faults.{reading_refused}
 use Rattle.object_references.proofs.ReferenceTapes.{reference_read, reference_there}
 use Rattle.object_references.proofs.text.read_reference.Goals as goal
+use Rattle.type_graph.proofs.Refusals.{only_if_weaker}
+use Rattle.object_references.specs.Refusal.{wants_memory}
 
 pub returns-in-Err-clause-refused : goal.returns-in-Err-clause-refused
 returns-in-Err-clause-refused c =
-    weaker c.in-Err.fault _ _ (λ none reference. none _) c.in-Err.ensures.refused
+    only_if_weaker (wants_memory c.in-Err.fault) _ _ (λ none reference. none _) c.in-Err.ensures.refused
 
 pub returns-in-Ok-reference_in-clause-found : goal.returns-in-Ok-reference_in-clause-found
 returns-in-Ok-reference_in-clause-found c =

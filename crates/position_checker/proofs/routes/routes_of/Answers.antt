@@ -6,8 +6,10 @@ use Rattle.table_file.specs.declared.table.Which.{Which}
 use Rattle.table_file.specs.declared.table.Which.TheVariants.{First}
 use Rattle.position_checker.specs.Verdict.{names_fault}
 use Rattle.position_checker.proofs.RouteLaws.{routes_next, routes_done, lone_refused, all_served}
-use Rattle.position_checker.proofs.VerdictLaws.{names_next, names_first, only_if_holds}
+use Rattle.position_checker.proofs.VerdictLaws.{names_next, names_first}
 use Rattle.position_checker.proofs.routes.routes_of.Goals as goal
+use Rattle.type_graph.proofs.Refusals.{only_if_holds}
+use Rattle.routine_checker.specs.Refusal.{wants_memory}
 
 pub returns-in-Err-clause-refused : goal.returns-in-Err-clause-refused
 returns-in-Err-clause-refused c =
@@ -27,7 +29,7 @@ returns-in-Err-clause-fault c =
     let within : place < length table.uses = omega (arith, c.loop-place-test.true, c.loop-place.auto.place-end, ap (λ (us : List Which). length us) c.uses-place-end.ensures.value) in
     let program = get_or table.uses place First in
     let used = slice_get-get_or table.uses place First within in
-    only_if_holds c.in-Err.fault _
+    only_if_holds (wants_memory c.in-Err.fault) _
     (names_first table place c.pair-node.result.0.now node program c.in-Err.fault within named used c.loop-place.invariant.1 (c.in-Err.ensures.fault program used))
 
 pub loop-place-preserved : goal.loop-place-preserved

@@ -1,4 +1,5 @@
-use Rattle.reply_bodies.proofs.Faults.{none_read, not_for_memory, tape_read}
+use Rattle.program_runner.proofs.Refusals.{not_for_memory}
+use Rattle.reply_bodies.proofs.Faults.{none_read, tape_read}
 use Rattle.reply_bodies.proofs.tape.tape_at.Goals as goal
 
 pub returns-in-Ok-clause-found : goal.returns-in-Ok-clause-found

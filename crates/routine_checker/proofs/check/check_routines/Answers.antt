@@ -6,8 +6,10 @@ use Rattle.routine_checker.specs.Steps.{routine_fault, routines_fault, program_f
 use Rattle.routine_checker.proofs.Sound.{sound}
 use Rattle.routine_checker.proofs.PlainPasses.{plain_passes}
 use Rattle.routine_checker.proofs.JoinedPasses.{joined_passes}
-use Rattle.routine_checker.proofs.CheckCode.{only_if, routines_first, routines_all, not_refused}
+use Rattle.routine_checker.proofs.CheckCode.{routines_first, routines_all, not_refused}
 use Rattle.routine_checker.proofs.check.check_routines.Goals as goal
+use Rattle.type_graph.proofs.Refusals.{only_if_weaker}
+use Rattle.routine_checker.specs.Refusal.{wants_memory}
 
 -- the fault of the routine is that of the program
 refused : (c : goal.After-drop-counts-in-Err-3) → routine_fault c.args.graph.now c.routines-routines.result.now (place_of c.args.which c.loop-number.number) c.index-routines-number.result ≡ Some c.in-Err.fault → program_fault c.args.which c.args.graph.now c.args.program.now ≡ Some c.in-Err.fault
@@ -23,14 +25,14 @@ pub returns-in-Err-clause-plain : goal.returns-in-Err-clause-plain
 returns-in-Err-clause-plain c =
     let graph = c.args.graph.now in
     let program = c.args.program.now in
-    only_if c.in-Err.fault (routine_fault graph c.routines-routines.result.now (place_of c.args.which c.loop-number.number) c.index-routines-number.result ≡ Some c.in-Err.fault) (program ≢ plain_program graph)
+    only_if_weaker (wants_memory c.in-Err.fault) (routine_fault graph c.routines-routines.result.now (place_of c.args.which c.loop-number.number) c.index-routines-number.result ≡ Some c.in-Err.fault) (program ≢ plain_program graph)
     (λ e. not_refused c.args.which graph program (plain_program graph) c.in-Err.fault (plain_passes c.args.which graph c.nodes-nodes.ensures.rules) (refused c e)) c.in-Err.ensures.refused
 
 pub returns-in-Err-clause-joined : goal.returns-in-Err-clause-joined
 returns-in-Err-clause-joined c =
     let graph = c.args.graph.now in
     let program = c.args.program.now in
-    only_if c.in-Err.fault (routine_fault graph c.routines-routines.result.now (place_of c.args.which c.loop-number.number) c.index-routines-number.result ≡ Some c.in-Err.fault) (program ≢ joined_program graph)
+    only_if_weaker (wants_memory c.in-Err.fault) (routine_fault graph c.routines-routines.result.now (place_of c.args.which c.loop-number.number) c.index-routines-number.result ≡ Some c.in-Err.fault) (program ≢ joined_program graph)
     (λ e. not_refused c.args.which graph program (joined_program graph) c.in-Err.fault (joined_passes c.args.which graph c.nodes-nodes.ensures.rules) (refused c e)) c.in-Err.ensures.refused
 
 pub returns-clause-right : goal.returns-clause-right
@@ -43,7 +45,7 @@ returns-clause-right c =
 pub returns-in-Err-clause-fault : goal.returns-in-Err-clause-fault
 returns-in-Err-clause-fault c =
     let fault = c.in-Err.fault in
-    only_if fault (routine_fault c.args.graph.now c.routines-routines.result.now (place_of c.args.which c.loop-number.number) c.index-routines-number.result ≡ Some fault) (program_fault c.args.which c.args.graph.now c.args.program.now ≡ Some fault)
+    only_if_weaker (wants_memory fault) (routine_fault c.args.graph.now c.routines-routines.result.now (place_of c.args.which c.loop-number.number) c.index-routines-number.result ≡ Some fault) (program_fault c.args.which c.args.graph.now c.args.program.now ≡ Some fault)
     (refused c) c.in-Err.ensures.refused
 
 pub returns-clause-accepted : goal.returns-clause-accepted

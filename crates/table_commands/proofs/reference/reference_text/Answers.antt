@@ -1,11 +1,13 @@
 use Rattle.object_references.specs.References.{reference_of}
-use Rattle.object_references.proofs.Faults.{err_weaker, weaker}
+use Rattle.object_references.proofs.Faults.{err_weaker}
 use Rattle.table_commands.proofs.References.{no_profile, text_there}
 use Rattle.table_commands.proofs.reference.reference_text.Goals as goal
+use Rattle.type_graph.proofs.Refusals.{only_if_weaker}
+use Rattle.object_references.specs.Refusal.{wants_memory}
 
 pub returns-in-Err-clause-refused : goal.returns-in-Err-clause-refused
 returns-in-Err-clause-refused c =
-    weaker c.in-Err.fault _ _
+    only_if_weaker (wants_memory c.in-Err.fault) _ _
     (no_profile c.args.host.now c.args.key.now c.args.id.now c.as_bytes.result.now c.as_bytes-2.result.now c.args.port
     c.as_bytes.ensures.value c.as_bytes-2.ensures.value) c.in-Err.ensures.refused
 

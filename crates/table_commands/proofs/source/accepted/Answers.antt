@@ -1,8 +1,9 @@
 use Rattle.std.proofs.Common.{◌⊎◌, ℕ, List, sym, subst}
+use Rattle.std.specs.Bool.{OnFalse}
 use Rattle.table_file.specs.Table.{TableParts}
 use Rattle.table_file.specs.TableSpelling.{Spells, SpellsOld}
 use Rattle.position_checker.specs.Acceptance.{IsLone}
-use Rattle.routine_checker.specs.Refusal.{OnlyIf}
+use Rattle.routine_checker.specs.Refusal.{wants_memory}
 use Rattle.table_commands.specs.Files.{RefusesFile}
 use Rattle.routine_checker.specs.declared.fault.CheckFault.{CheckFault}
 use Rattle.routine_checker.specs.declared.fault.CheckFault.TheVariants as checks
@@ -19,7 +20,7 @@ of_check (checks.NoRoutine node) = tt
 of_check (checks.NamedEntryNotFull node) = tt
 
 -- a table that the checker refuses for another cause than memory isn't one that it never refuses
-not_right : (octets : List ℕ) (table : TableParts) → Spells table octets ⊎ SpellsOld table octets → (fault : CheckFault) → OnlyIf fault (IsLone table → ⊥) → RefusesFile octets (refusal_of_check fault)
+not_right : (octets : List ℕ) (table : TableParts) → Spells table octets ⊎ SpellsOld table octets → (fault : CheckFault) → OnFalse (wants_memory fault) (IsLone table → ⊥) → RefusesFile octets (refusal_of_check fault)
 not_right octets table spelled checks.NoMemory another = tt
 not_right octets table spelled (checks.WrongWork at instr) another = record { table = table; spelled = spelled; another = another }
 not_right octets table spelled (checks.WrongPadding at instr) another = record { table = table; spelled = spelled; another = another }

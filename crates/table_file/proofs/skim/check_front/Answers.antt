@@ -5,9 +5,10 @@ use Rattle.table_file.specs.Octets.{spelled_list}
 use Rattle.table_file.specs.Spelling.{spelled_node}
 use Rattle.table_file.specs.inner.Reading.{Reads}
 use Rattle.table_file.specs.inner.Skimming.{BeginsWithNoGraph}
-use Rattle.table_file.proofs.ReadLaws.{only_if_then}
 use Rattle.table_file.proofs.SkimLaws.{front_breaks, front_fails}
 use Rattle.table_file.proofs.skim.check_front.Goals as goal
+use Rattle.type_graph.proofs.Refusals.{only_if_weaker}
+use Rattle.table_file.specs.Refusal.{wants_memory}
 
 pub returns-in_err-nodes : goal.returns-in_err-nodes
 returns-in_err-nodes c =
@@ -24,4 +25,4 @@ returns-in_err-graph_of c =
     let nodes = c.in_ok-nodes.nodes in
     let left = c.read.new.cursor in
     let read = subst (λ o. Reads (spelled_list spelled_node) (Ok nodes) o left) c.new-cursor.ensures c.in_ok-nodes.ensures in
-    rw (p.1, p.2) (only_if_then c.in_err-graph_of.field-0.0 (IsGraph nodes → ⊥) (BeginsWithNoGraph octets) (front_breaks octets nodes left read) c.in_err-graph_of.ensures.refused)
+    rw (p.1, p.2) (only_if_weaker (wants_memory c.in_err-graph_of.field-0.0) (IsGraph nodes → ⊥) (BeginsWithNoGraph octets) (front_breaks octets nodes left read) c.in_err-graph_of.ensures.refused)

@@ -1,8 +1,9 @@
 use Rattle.std.proofs.Common.{rules, ◌≡◌, ◌<◌, length, subst, List, ℕ}
+use Rattle.std.specs.Bool.{OnFalse}
 use Rattle.std.proofs.lemmas.Result.{err_from_is_err_and}
 use Rattle.type_graph.specs.Value.{node_at, tape_of}
 use Rattle.idl_value.specs.View.{tree_of}
-use Rattle.program_runner.specs.Refusal.{OnlyIf}
+use Rattle.program_runner.specs.Refusal.{wants_memory}
 use Rattle.table_commands.specs.Lines.{HasNoOctets}
 use Rattle.text_commands.proofs.Facts.{in_lent, of_run}
 use Rattle.text_commands.proofs.marshal.encode_value.Goals as goal
@@ -19,4 +20,4 @@ returns-in_err-octets-clause-err c =
     let none = λ (tape : List ℕ). HasNoOctets graph c.args.request.now.order c.args.node c.args.request.now.pos tape in
     let p = err_from_is_err_and c.from_residual-in_err-octets.result c.from_residual-in_err-octets.ensures.1 in
     rw (p.1, p.2) (of_run fault (none (tape_of graph (node_at graph c.args.node) (tree_of c.args.value.now)))
-    (subst (λ (tape : List ℕ). OnlyIf fault (none tape)) tape_is c.in_err-octets.ensures.refused))
+    (subst (λ (tape : List ℕ). OnFalse (wants_memory fault) (none tape)) tape_is c.in_err-octets.ensures.refused))

@@ -1,4 +1,4 @@
-use Rattle.giop.proofs.Refusals.{not_for_memory}
+use Rattle.program_runner.proofs.Refusals.{not_for_memory}
 use Rattle.giop.proofs.ProfileParts.{none_held, tape_held}
 use Rattle.giop.proofs.reading.profile.tape_in.Goals as goal
 

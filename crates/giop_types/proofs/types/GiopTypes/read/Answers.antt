@@ -1,8 +1,9 @@
 use Rattle.std.proofs.Common.{◌≡◌, ◌++◌, ℕ, List, IfErr, sym, subst}
+use Rattle.std.specs.Bool.{OnFalse}
 use Rattle.type_graph.specs.Words.{reading}
 use Rattle.type_graph.specs.Encoding.{Means}
 use Rattle.type_model.specs.Names.{IsNamed}
-use Rattle.program_runner.specs.Refusal.{OnlyIf}
+use Rattle.program_runner.specs.Refusal.{wants_memory}
 use Rattle.table_file.specs.Table.{TableParts}
 use Rattle.giop_types.proofs.Named.{named}
 use Rattle.giop_types.proofs.types.GiopTypes.read.Goals as goal
@@ -12,5 +13,5 @@ read-requires c = subst (λ (t : TableParts). IsNamed t.model.names c.args.node)
 
 pub returns-clause-refused : goal.returns-clause-refused
 returns-clause-refused c =
-    subst (λ (t : TableParts). IfErr c.read.result (λ fault. OnlyIf fault ((tape front rest : List ℕ) → c.args.octets.now ≡ front ++ rest
+    subst (λ (t : TableParts). IfErr c.read.result (λ fault. OnFalse (wants_memory fault) ((tape front rest : List ℕ) → c.args.octets.now ≡ front ++ rest
     → Means t.model.graph (reading c.args.order) 64 c.args.node c.args.pos tape front → ⊥))) c.self.invariant c.read.ensures.refused

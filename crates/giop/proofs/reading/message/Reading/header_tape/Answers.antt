@@ -1,5 +1,5 @@
 use Rattle.giop.proofs.Places.{tape_found, no_tape}
-use Rattle.giop.proofs.Refusals.{not_for_memory}
+use Rattle.program_runner.proofs.Refusals.{not_for_memory}
 use Rattle.giop.proofs.reading.message.Reading.header_tape.Goals as goal
 
 pub returns-in-Ok-clause-found : goal.returns-in-Ok-clause-found

@@ -2,7 +2,7 @@ use Rattle.std.proofs.Common.{ap, refl}
 use Rattle.giop_messages.specs.declared.fault.GiopFault.TheVariants.{BadBody}
 use Rattle.giop.specs.Made.{given_by}
 use Rattle.giop.proofs.Bodies.{refused_body}
-use Rattle.giop.proofs.Refusals.{not_for_memory}
+use Rattle.program_runner.proofs.Refusals.{not_for_memory}
 use Rattle.giop.proofs.writing.message.Writing.behind.Goals as goal
 
 pub returns-in_default-fault-clause-refused : goal.returns-in_default-fault-clause-refused

@@ -1,6 +1,7 @@
 use Rattle.std.proofs.Common.{◌≡◌, ℕ, List, length, ap, sym, ◌∙◌, subst, arith}
 use Rattle.type_graph.specs.declared.width.Order.{Order}
-use Rattle.giop.proofs.Refusals.{not_for_memory, without_body, too_long}
+use Rattle.program_runner.proofs.Refusals.{not_for_memory}
+use Rattle.giop.proofs.Refusals.{without_body, too_long}
 use Rattle.giop.specs.Made.{IsHeader, given_by}
 use Rattle.giop.proofs.writing.message.Writing.write.Goals as goal
 
