@@ -1,8 +1,9 @@
 //! Arguments.
 
 ghost use Rattle.std.specs.Prelude.{◌<◌, length, IfOk, IfErr};
+ghost use Rattle.std.specs.Bool.{OnFalse};
 ghost use Rattle.type_model.specs.Names.{IsNamed};
-ghost use Rattle.value_text.specs.Refusal.{RefusesText};
+ghost use Rattle.value_text.specs.Refusal.{wants_memory};
 ghost use Rattle.call_texts.specs.Bodies.{IsTapeOfText, SaysNone};
 
 use crate::parts::packed;
@@ -21,7 +22,8 @@ fn tape_in(
 ) -> Result<Vec<u8>, ReadFault>
     requires { node < length graph.now }
     ensures said { IfOk result (λ tape. IsTapeOfText names.now graph.now node text.now tape.items) }
-    ensures refused { IfErr result (λ fault. RefusesText fault (SaysNone names.now graph.now node text.now)) }
+    ensures refused { IfErr result (λ fault. OnFalse (wants_memory fault)
+        (SaysNone names.now graph.now node text.now)) }
 {
     let value = match read(alloc, graph, names, node, text) {
         Ok(value) => value,
@@ -47,7 +49,7 @@ pub fn argument_tape(
     requires { IsNamed table.now.model.names node }
     ensures said { IfOk result (λ tape. IsTapeOfText names.now table.now.model.graph node text.now tape.items) }
     ensures refused { IfErr result (λ fault.
-        RefusesText fault (SaysNone names.now table.now.model.graph node text.now)) }
+        OnFalse (wants_memory fault) (SaysNone names.now table.now.model.graph node text.now)) }
 {
     tape_in(alloc, table.table().model().graph(), names, node, text)
 }

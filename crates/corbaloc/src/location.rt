@@ -63,7 +63,8 @@ fn behind_protocol(text: &str) -> Option<&str>
 /// `BadCorbaloc` where the text is no such URL. Want of memory.
 pub fn read_corbaloc(alloc: Global, text: &str) -> Result<Location, CorbalocFault>
     ensures found { IfOk result (λ location. SpellsCorbaloc text.now (place_of location)) }
-    ensures refused { IfErr result (λ fault. OnFalse (wants_memory fault) ((place : Place) → SpellsCorbaloc text.now place → ⊥)) }
+    ensures refused { IfErr result (λ fault. OnFalse (wants_memory fault)
+        ((place : Place) → SpellsCorbaloc text.now place → ⊥)) }
 {
     let Some(rest) = behind_protocol(text) else {
         return Err(CorbalocFault::BadCorbaloc);

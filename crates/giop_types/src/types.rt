@@ -74,7 +74,8 @@ impl GiopTypes {
         ensures found { IfOk result
             (λ r. Means giop_nodes (reading order) 64 node pos r.0.items (take r.1 octets.now)) }
         ensures within { IfOk result (λ r. r.1 ≤ length octets.now) }
-        ensures refused { IfErr result (λ fault. OnFalse (wants_memory fault) ((tape front rest : List ℕ) → octets.now ≡ front ++ rest
+        ensures refused { IfErr result (λ fault. OnFalse (wants_memory fault)
+            ((tape front rest : List ℕ) → octets.now ≡ front ++ rest
             → Means giop_nodes (reading order) 64 node pos tape front → ⊥)) }
     {
         self.accepted.read(alloc, node, order, pos, octets)

@@ -109,7 +109,8 @@ fn add<'a>(tokens: &mut Vec<Token<'a>>, token: Token<'a>) -> Result<(), LexFault
 pub fn lex(alloc: Global, source: &str) -> Result<Vec<Token<'_>>, LexFault>
     ensures lexed { IfOk result (λ tokens. Lexed source.now tokens.items) }
     ensures lines { IfOk result (λ tokens. HaveLines source.now tokens.items) }
-    ensures refused { IfErr result (λ fault. OnFalse (wants_memory fault) ((tokens : List Token) → Lexed source.now tokens → ⊥)) }
+    ensures refused { IfErr result (λ fault. OnFalse (wants_memory fault)
+        ((tokens : List Token) → Lexed source.now tokens → ⊥)) }
     ensures told { IfErr result (λ fault. OnFalse (wants_memory fault) (IsFault source.now fault)) }
 {
     let octets = source.as_bytes();

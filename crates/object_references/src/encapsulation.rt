@@ -54,7 +54,8 @@ pub(crate) fn read_encapsulation(
 ) -> Result<Vec<u8>, ReferenceFault>
     requires { IsTrue (has_name node) }
     ensures found { IfOk result (λ tape. HasTape node octets.now tape.items) }
-    ensures refused { IfErr result (λ fault. OnFalse (wants_memory fault) ((value : Tree) → Encapsulates node value octets.now → ⊥)) }
+    ensures refused { IfErr result (λ fault. OnFalse (wants_memory fault)
+        ((value : Tree) → Encapsulates node value octets.now → ⊥)) }
 {
     let Some((order, behind)) = split_flag(octets) else {
         return Err(ReferenceFault::BadIor);
@@ -74,7 +75,8 @@ pub(crate) fn write_encapsulation(
 ) -> Result<Vec<u8>, ReferenceFault>
     requires { IsTrue (has_name node) }
     ensures written { IfOk result (λ octets. IsOfTape node tape.now octets.items) }
-    ensures refused { IfErr result (λ fault. OnFalse (wants_memory fault) ((octets : List ℕ) → IsOfTape node tape.now octets → ⊥)) }
+    ensures refused { IfErr result (λ fault. OnFalse (wants_memory fault)
+        ((octets : List ℕ) → IsOfTape node tape.now octets → ⊥)) }
 {
     let mut octets = match types.write(alloc, node, ByteOrder::Big, BEHIND_FLAG, tape) {
         Ok(body) => body,

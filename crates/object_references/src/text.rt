@@ -77,7 +77,8 @@ fn digits_in(text: &[u8]) -> Option<&[u8]>
 /// The octets that digits spell.
 fn octets_of(alloc: Global, digits: &[u8]) -> Result<Vec<u8>, ReferenceFault>
     ensures found { IfOk result (λ octets. decode_of digits.now ≡ Ok octets.items) }
-    ensures refused { IfErr result (λ fault. OnFalse (wants_memory fault) ((octets : List ℕ) → decode_of digits.now ≡ Ok octets → ⊥)) }
+    ensures refused { IfErr result (λ fault. OnFalse (wants_memory fault)
+        ((octets : List ℕ) → decode_of digits.now ≡ Ok octets → ⊥)) }
 {
     match hex::decode(alloc, digits) {
         Ok(octets) => Ok(octets),
@@ -109,7 +110,8 @@ fn read_reference(types: &GiopTypes, alloc: Global, octets: &[u8]) -> Result<Ior
 /// `BadIor` where the text spells no reference. Want of memory.
 pub fn ior_from_text(types: &GiopTypes, alloc: Global, text: &str) -> Result<Ior, ReferenceFault>
     ensures found { IfOk result (λ ior. Spells text.now (reference_of ior)) }
-    ensures refused { IfErr result (λ fault. OnFalse (wants_memory fault) ((reference : Reference) → Spells text.now reference → ⊥)) }
+    ensures refused { IfErr result (λ fault. OnFalse (wants_memory fault)
+        ((reference : Reference) → Spells text.now reference → ⊥)) }
 {
     let Some(digits) = digits_in(text.as_bytes()) else {
         return Err(ReferenceFault::BadIor);

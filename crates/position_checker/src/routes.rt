@@ -101,7 +101,8 @@ pub(crate) fn routes_of(alloc: Global, table: &Table) -> Result<Vec<Option<Route
         → IsSome (served_by (program_at table.now program) node)) }
     ensures refused { IfErr result (λ fault. OnFalse (wants_memory fault) (IsLone table.now → ⊥)) }
     ensures accepted { OnOk result (names_fault table.now (length table.now.uses) ≡ None) }
-    ensures fault { IfErr result (λ fault. OnFalse (wants_memory fault) (names_fault table.now (length table.now.uses) ≡ Some fault)) }
+    ensures fault { IfErr result (λ fault. OnFalse (wants_memory fault)
+        (names_fault table.now (length table.now.uses) ≡ Some fault)) }
 {
     let serving = Serving::new(alloc, table)?;
     let mut routes = vec![in alloc; None; table.model().graph().nodes().len()]?;

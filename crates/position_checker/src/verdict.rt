@@ -33,7 +33,8 @@ fn check_program(alloc: Global, table: &Table, which: Which) -> Result<(), Check
     ensures joined { IfErr result (λ fault. OnFalse (wants_memory fault)
         (program_at table.now which ≢ joined_program table.now.model.graph)) }
     ensures accepted { OnOk result (routines_fault table.now which ≡ None) }
-    ensures fault { IfErr result (λ fault. OnFalse (wants_memory fault) (routines_fault table.now which ≡ Some fault)) }
+    ensures fault { IfErr result (λ fault. OnFalse (wants_memory fault)
+        (routines_fault table.now which ≡ Some fault)) }
 {
     let program = table.program(which);
     if program.routines().is_empty() {
@@ -75,7 +76,8 @@ pub fn check(alloc: Global, table: Table) -> Result<Accepted, Refused>
     ensures handed_back { IfErr result (λ refused. refused.table ≡ table) }
     ensures lone { IfErr result (λ refused. OnFalse (wants_memory refused.fault) (IsLone table → ⊥)) }
     ensures accepted { OnOk result (table_fault table ≡ None) }
-    ensures fault { IfErr result (λ refused. OnFalse (wants_memory refused.fault) (table_fault table ≡ Some refused.fault)) }
+    ensures fault { IfErr result (λ refused. OnFalse (wants_memory refused.fault)
+        (table_fault table ≡ Some refused.fault)) }
 {
     match judge(alloc, &table) {
         Ok(routes) => Ok(Accepted { table, routes }),

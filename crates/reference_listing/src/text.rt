@@ -27,7 +27,8 @@ pub fn reference_lines(
     text: &str,
 ) -> Result<String, ReferenceFault>
     ensures spelled { OnOk result ((reference : Reference) × Spells text.now reference) }
-    ensures refused { IfErr result (λ fault. OnFalse (wants_memory fault) ((reference : Reference) → Spells text.now reference → ⊥)) }
+    ensures refused { IfErr result (λ fault. OnFalse (wants_memory fault)
+        ((reference : Reference) → Spells text.now reference → ⊥)) }
 {
     let ior = match ior_from_text(types, alloc, text) {
         Ok(ior) => ior,

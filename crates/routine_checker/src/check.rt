@@ -178,7 +178,8 @@ pub fn check_routines(
     ensures plain { IfErr result (λ fault. OnFalse (wants_memory fault) (program.now ≢ plain_program graph.now)) }
     ensures joined { IfErr result (λ fault. OnFalse (wants_memory fault) (program.now ≢ joined_program graph.now)) }
     ensures accepted { OnOk result (program_fault which graph.now program.now ≡ None) }
-    ensures fault { IfErr result (λ fault. OnFalse (wants_memory fault) (program_fault which graph.now program.now ≡ Some fault)) }
+    ensures fault { IfErr result (λ fault. OnFalse (wants_memory fault)
+        (program_fault which graph.now program.now ≡ Some fault)) }
 {
     let nodes = graph.nodes().len();
     let routines = program.routines();

@@ -93,7 +93,8 @@ fn write_table(table: &Table, out: &mut Vec<u8>) -> Result<(), TableFault>
 /// want of memory.
 pub fn encode_table(alloc: Global, table: &Table) -> Result<Vec<u8>, TableFault>
     ensures spelled { IfOk result (λ octets. Spells table.now octets.items) }
-    ensures refused { IfErr result (λ fault. OnFalse (wants_memory fault) ((octets : List ℕ) → Spells table.now octets → ⊥)) }
+    ensures refused { IfErr result (λ fault. OnFalse (wants_memory fault)
+        ((octets : List ℕ) → Spells table.now octets → ⊥)) }
 {
     let mut out = Vec::new(alloc);
     match write_table(table, &mut out) {

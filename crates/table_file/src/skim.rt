@@ -93,7 +93,8 @@ fn skim_old_fields(cursor: &mut Cursor<'_>) -> Result<(ModelSize, Size), TableFa
 
 /// Refuses more nodes or members than a graph may have.
 fn check_nodes(model: ModelSize) -> Result<(), TableFault>
-    ensures { IfErr result (λ fault. OnFalse (wants_memory fault) ((x : ModelFields) → IsModelSize model x → IsGraph x.0 → ⊥)) }
+    ensures { IfErr result (λ fault. OnFalse (wants_memory fault)
+        ((x : ModelFields) → IsModelSize model x → IsGraph x.0 → ⊥)) }
 {
     if model.0.count > MAX_NODES || model.0.weight > MAX_MEMBERS {
         return Err(TableFault::BadNumber);
@@ -103,7 +104,8 @@ fn check_nodes(model: ModelSize) -> Result<(), TableFault>
 
 /// Refuses more routines or instructions than a program may have.
 fn check_program(program: Size) -> Result<(), TableFault>
-    ensures { IfErr result (λ fault. OnFalse (wants_memory fault) ((x : List Routine) → IsProgramSize program x → IsProgram x → ⊥)) }
+    ensures { IfErr result (λ fault. OnFalse (wants_memory fault)
+        ((x : List Routine) → IsProgramSize program x → IsProgram x → ⊥)) }
 {
     if program.count > MAX_ROUTINES || program.weight > MAX_INSTRS {
         return Err(TableFault::BadNumber);

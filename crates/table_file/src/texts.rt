@@ -26,7 +26,8 @@ fn is_ascii(octets: &[u8]) -> bool
 fn name_of(alloc: Global, octets: &[u8]) -> Result<Name, TableFault>
     ensures kept { IfOk result (λ name. name ≡ octets.now) }
     ensures ascii { OnOk result (list_all (λ n. nat_lt n 128) octets.now ≡ true) }
-    ensures refused { IfErr result (λ fault. OnFalse (wants_memory fault) (list_all (λ n. nat_lt n 128) octets.now ≡ false)) }
+    ensures refused { IfErr result (λ fault. OnFalse (wants_memory fault)
+        (list_all (λ n. nat_lt n 128) octets.now ≡ false)) }
 {
     if !is_ascii(octets) {
         return Err(TableFault::NotATable);

@@ -24,7 +24,7 @@ use Rattle.table_commands.specs.declared.refusal.Refusal.{Refusal}
 use Rattle.table_commands.specs.declared.refusal.Refusal.TheVariants.{Unread, Unwritten, NoTable, NotRight, TooLong, NoType, BadHex, Refused, BadObject, NoInterface, NoReference, NoMemory}
 use Rattle.table_commands.specs.declared.values.Way.{Way}
 use Rattle.table_commands.specs.declared.values.Way.TheVariants.{Encode, Decode}
-use Rattle.value_text.specs.Refusal.{RefusesText}
+use Rattle.value_text.specs.Refusal.{wants_memory as text_wants_memory}
 use Rattle.value_text.specs.Texts.{text_at}
 use Rattle.value_text.specs.declared.fault.ReadFault.{ReadFault}
 use Rattle.value_text.specs.declared.fault.ReadFault.TheVariants as texts
@@ -73,7 +73,7 @@ of_run fault fact h = h
 
 module _ (labels : Labels) (graph : List Node) (node : ℕ) (ask : Ask) where
   -- the text says no value
-  pub unsaid : (fault : ReadFault) → RefusesText fault (SaysNone labels graph node ask)
+  pub unsaid : (fault : ReadFault) → OnFalse (text_wants_memory fault) (SaysNone labels graph node ask)
       → IsRefusalAt Encode labels graph node ask (refusal_of_read fault)
   unsaid texts.NoMemory h = tt
   unsaid (texts.Refused fault) h = h

@@ -140,7 +140,8 @@ impl Model {
         ensures kept { IfOk result (λ model. model ≡ parts_of graph names interfaces operations exceptions) }
         ensures rules { IfOk result IsModel }
         ensures refused { IfErr result
-            (λ fault. OnFalse (wants_memory fault) (IsModel (parts_of graph names interfaces operations exceptions) → ⊥)) }
+            (λ fault. OnFalse (wants_memory fault)
+                (IsModel (parts_of graph names interfaces operations exceptions) → ⊥)) }
     {
         let names = NameTable::new(alloc, names, graph.nodes().len())?;
         let nodes = graph.nodes();

@@ -1,8 +1,9 @@
 -- When a text is refused.
+use Rattle.std.specs.Prelude.{Bool, true, false}
 use Rattle.value_text.specs.declared.fault.ReadFault.{ReadFault}
-use Rattle.value_text.specs.declared.fault.ReadFault.TheVariants.{Refused, NoMemory}
+use Rattle.value_text.specs.declared.fault.ReadFault.TheVariants.{NoMemory}
 
--- for want of memory, or for another cause, and then the fact holds
-abbrev pub RefusesText : ReadFault → Type 0 → Type 0
-RefusesText NoMemory fact = Unit {0}
-RefusesText (Refused refusal) fact = fact
+-- whether memory was wanted
+abbrev pub wants_memory : ReadFault → Bool
+wants_memory NoMemory = true
+wants_memory fault = false

@@ -2,6 +2,7 @@
 #![tactic(auto)]
 
 ghost use Rattle.std.specs.Prelude.{◌≡◌, ◌<◌, ◌↔◌, length, IfOk, IfErr, OnOk, IsErrOf};
+ghost use Rattle.std.specs.Bool.{OnFalse};
 ghost use Rattle.std.specs.String.{string_bytes};
 ghost use Rattle.json.specs.Lex.{tokens};
 ghost use Rattle.json.specs.Print as json_text;
@@ -9,7 +10,7 @@ ghost use Rattle.escaped_json.specs.Escaped.{escaped};
 ghost use Rattle.type_graph.specs.Value.{Tree, node_at, Fits};
 ghost use Rattle.idl_value.specs.View.{tree_of};
 ghost use Rattle.value_text.specs.Texts.{text_at};
-ghost use Rattle.value_text.specs.Refusal.{RefusesText};
+ghost use Rattle.value_text.specs.Refusal.{wants_memory};
 ghost use Rattle.value_text.specs.Says.{StandsFor};
 ghost use Rattle.value_text.specs.inner.Refusing.{RefusesAs, AreSound};
 
@@ -104,7 +105,7 @@ pub fn read(
 ) -> Result<Value, ReadFault>
     requires { node < length graph.now }
     ensures says { IfOk result (λ value. StandsFor names.now graph.now node (tree_of value) (tokens text.now)) }
-    ensures refused { IfErr result (λ fault. RefusesText fault ((value : Tree)
+    ensures refused { IfErr result (λ fault. OnFalse (wants_memory fault) ((value : Tree)
         → StandsFor names.now graph.now node value (tokens text.now) → ⊥)) }
 {
     let lookup = Lookup::new(alloc, names, graph.nodes().len() as u32)?;
