@@ -141,7 +141,7 @@ impl Model {
         ensures rules { IfOk result IsModel }
         ensures refused { IfErr result
             (λ fault. OnFalse (wants_memory fault)
-                (IsModel (parts_of graph names interfaces operations exceptions) → ⊥)) }
+            (IsModel (parts_of graph names interfaces operations exceptions) → ⊥)) }
     {
         let names = NameTable::new(alloc, names, graph.nodes().len())?;
         let nodes = graph.nodes();

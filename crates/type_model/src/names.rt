@@ -157,7 +157,7 @@ fn marks_of(alloc: Global, names: &[(Name, u32)], count: usize) -> Result<Vec<bo
     ensures within { OnOk result (All (λ number. number < count) (map (λ name. name.1) names.now)) }
     ensures refused { IfErr result
         (λ fault. OnFalse (wants_memory fault)
-            (All (λ number. number < count) (map (λ name. name.1) names.now) → ⊥)) }
+        (All (λ number. number < count) (map (λ name. name.1) names.now) → ⊥)) }
 {
     let mut marks = vec![in alloc; false; count]?;
     for place in 0..names.len() {
