@@ -289,6 +289,18 @@ own_or_listed records words listed s n w = by (named (entries_in records) s w) r
     by None is = inl (ap (declared_before (entries_in records) n) is)
     by (Some k) is = inr (listed s k w is)
 
+-- a scope that lists no word has no entry
+pub bare : (records : List Record) (words : List (Vec Word Global)) → AreListed records words → (s : ℕ) (w : List ℕ) → words_at words s ≡ [] → named (entries_in records) s w ≡ None
+bare records words listed s w none = by (named (entries_in records) s w) refl
+  where
+    by : (o : Option ℕ) → named (entries_in records) s w ≡ o → o ≡ None
+    by None is = refl
+    by (Some k) is = absurd (none_left (words_at words s) w none (listed s k w is))
+
+pub none_long : {X : Type 0} (xs : List X) → length xs ≡ 0 → xs ≡ []
+none_long [] h = refl
+none_long (x ∷ xs) h = absurd (omega arith)
+
 pub behind_or : {P : Type 0} (ws vs new : List Word) (w : List ℕ) → new ≡ ws ++ vs → P ⊎ HasWord vs w → P ⊎ HasWord new w
 behind_or ws vs new w is (inl p) = inl p
 behind_or ws vs new w is (inr has) = inr (subst (λ xs. HasWord xs w) (sym is) (HasWord_behind ws vs w has))

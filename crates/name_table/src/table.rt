@@ -112,10 +112,24 @@ impl<'a> Table<'a> {
         }
     }
 
+    /// Whether a scope declares nothing, as that of most structures.
+    fn is_bare(&self, scope: Scope) -> bool
+        ensures { result ≡ true → (name : List ℕ) → named self.now scope.0 name ≡ None }
+    {
+        if scope.0 < self.words.len() {
+            self.words[scope.0].is_empty()
+        } else {
+            true
+        }
+    }
+
     /// The scope's own entry of the name that is declared before the token.
     pub(crate) fn own(&self, token: usize, scope: Scope, word: Word<'a>) -> Found
         ensures { result ≡ own_of self.now token scope.0 word.entry.text.now }
     {
+        if self.is_bare(scope) {
+            return Found::Nothing;
+        }
         match self.keys.number_of(&Key { scope, word }) {
             Some(number) if self.records[number].token < token => Found::One(number),
             _ => Found::Nothing,
@@ -399,6 +413,9 @@ impl<'a> Table<'a> {
         ensures there { IfSome result (λ e. e < length self.now) }
         ensures small { IfSome result (λ e. e < 2 ^ 63) }
     {
+        if self.is_bare(scope) {
+            return None;
+        }
         let word = Word::new(identifier.name());
         self.keys.number_of(&Key { scope, word })
     }
