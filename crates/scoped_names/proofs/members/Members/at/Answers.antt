@@ -1,23 +1,21 @@
-use Rattle.std.proofs.Common.{◌≡◌, ◌∙◌, Some, length, slice_get, refl, sym, ap, arith}
-use Rattle.std.proofs.lemmas.Option.{slice_get_read}
+use Rattle.std.proofs.Common.{◌∙◌, sym, ap, arith}
+use Rattle.std.specs.BTreeMap.{is_at}
+use Rattle.std.specs.Map.{lookup}
+use Rattle.name_table.specs.inner.Keys.{word_cmp}
 use Rattle.scoped_names.specs.Faults.{member_named}
-use Rattle.scoped_names.proofs.MembersKept.{members_kept, place_at}
+use Rattle.scoped_names.proofs.MembersKept.{none_past, places_read}
 use Rattle.scoped_names.proofs.members.Members.at.Goals as goal
 
-pub returns-in-Some : goal.returns-in-Some
-returns-in-Some c =
+pub returns-then-key-len : goal.returns-then-key-len
+returns-then-key-len c =
     let key = c.args.key.now in
-    let places = c.self.inside.places.items in
-    let x = c.index.result.now in
-    let here : slice_get places c.in-Some.number ≡ Some x = slice_get_read places (length places) c.in-Some.number x refl (omega (arith, c.in-Some.ensures.there, c.self.invariant)) c.index.ensures in
-    sym (sym (ap (λ ms. member_named ms key.scope.0 key.word.text.now) c.self.view_is)
-    ∙ members_kept _ c.self.inside.keys places key.scope.0 key.word.text.now (λ k. refl) c.self.invariant
-    ∙ ap (place_at places) (sym c.number_of.ensures.is ∙ c.in-Some.is) ∙ here)
+    let scopes = c.self.inside.scopes.items in
+    let there = places_read scopes key.scope.0 c.index.result.now (omega arith) c.index.ensures in
+    c.copied.ensures ∙ c.get.ensures.value ∙ ap (lookup (is_at (word_cmp key.word))) (sym there)
+    ∙ c.self.invariant key.scope.0 key.word ∙ ap (λ ms. member_named ms key.scope.0 key.word.text.now) c.self.view_is
 
-pub returns-in-None : goal.returns-in-None
-returns-in-None c =
+pub returns-else-key-len : goal.returns-else-key-len
+returns-else-key-len c =
     let key = c.args.key.now in
-    let places = c.self.inside.places.items in
-    sym (sym (ap (λ ms. member_named ms key.scope.0 key.word.text.now) c.self.view_is)
-    ∙ members_kept _ c.self.inside.keys places key.scope.0 key.word.text.now (λ k. refl) c.self.invariant
-    ∙ ap (place_at places) (sym c.number_of.ensures.is ∙ c.in-None.is))
+    ap (lookup (is_at (word_cmp key.word))) (sym (none_past c.self.inside.scopes.items key.scope.0 (omega arith)))
+    ∙ c.self.invariant key.scope.0 key.word ∙ ap (λ ms. member_named ms key.scope.0 key.word.text.now) c.self.view_is
