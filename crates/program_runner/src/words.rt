@@ -1,7 +1,6 @@
 //! Gaps, and numbers in a byte order.
 
 ghost use Rattle.std.specs.Prelude.{◌≡◌, ◌<◌};
-ghost use Rattle.type_graph.specs.declared.width.Order.TheVariants.{Big};
 ghost use Rattle.type_graph.specs.declared.width.Width.TheVariants.{Four};
 ghost use Rattle.type_graph.specs.Words.{octets_in, plain_word, pad};
 
@@ -16,12 +15,12 @@ pub fn gap_at(place: u64, to: Width) -> usize
     ((k - place % k) % k) as usize
 }
 
-/// The number that has in big order the octets of this one in an order.
-pub fn in_big_order(order: Order, n: u32) -> u32
-    ensures { plain_word Big Four result ≡ plain_word order Four n }
+/// The octets of an unsigned long.
+pub fn long_octets(order: Order, n: u32) -> [u8; 4]
+    ensures { result ≡ plain_word order Four n }
 {
     match order {
-        Order::Big => n,
-        Order::Little => n.swap_bytes(),
+        Order::Big => n.to_be_bytes(),
+        Order::Little => n.to_le_bytes(),
     }
 }
