@@ -11,7 +11,7 @@ pub(crate) fn octet_at(tokens: &[Token<'_>], number: usize) -> usize {
     match tokens.get(number) {
         Some(token) => token.start,
         None => match tokens.last() {
-            Some(token) => token.end,
+            Some(token) => token.end().unwrap_or(token.start),
             None => 0,
         },
     }

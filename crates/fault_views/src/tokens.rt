@@ -73,7 +73,7 @@ fn last_start(alloc: Global, front: &[u8]) -> Option<usize> {
     };
     match lex(alloc, text) {
         Ok(tokens) => match tokens.last() {
-            Some(token) if token.end == front.len() => Some(token.start),
+            Some(token) if token.end() == Some(front.len()) => Some(token.start),
             _ => Some(front.len()),
         },
         Err(_) => None,

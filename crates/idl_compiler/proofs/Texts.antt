@@ -2,7 +2,7 @@
 use Rattle.std.proofs.Common.{◌≡◌, ◌≤◌, ℕ, ◌+◌, Bool, true, false, List, [], ◌∷◌, Some, ap, map, refl, subst, sym}
 use Rattle.std.specs.Prelude.{nat_eq}
 use Rattle.idl_lexer.specs.declared.token.Token.{Token}
-use Rattle.idl_lexer.specs.Tokens.{TokenParts, parts_of}
+use Rattle.idl_lexer.specs.Tokens.{TokenParts, end_of, parts_of}
 use Rattle.idl_tree.specs.declared.definitions.Definition.{Definition}
 use Rattle.idl_tree.specs.Pieces.{Seen, Spell, is_end, past, seen_from}
 use Rattle.idl_tree.specs.DefinitionYields.{definitions_spelled}
@@ -19,7 +19,7 @@ seen_parts n (p ∷ ps) = record { kind = p.kind; text = p.text; token = (n, p);
 by_parts : (n : ℕ) (ts : List Token) → seen_from n ts ≡ seen_parts n (map parts_of ts)
 by_parts n [] = refl
 by_parts n (t ∷ []) = refl
-by_parts n (t ∷ u ∷ us) = ap (λ l. record { kind = t.kind; text = t.text.now; token = (n, parts_of t); touches = nat_eq t.«end» u.start } ∷ l) (by_parts (n + 1) (u ∷ us))
+by_parts n (t ∷ u ∷ us) = ap (λ l. record { kind = t.kind; text = t.text.now; token = (n, parts_of t); touches = nat_eq (end_of t) u.start } ∷ l) (by_parts (n + 1) (u ∷ us))
 
 same_seen : (ts us : List Token) → map parts_of ts ≡ map parts_of us → seen_from 0 ts ≡ seen_from 0 us
 same_seen ts us e = rw (by_parts 0 ts, by_parts 0 us, e) refl

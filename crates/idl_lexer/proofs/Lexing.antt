@@ -1,5 +1,5 @@
 -- How a source that is read up to some place is read further.
-use Rattle.std.proofs.Common.{◌≡◌, ◌∙◌, ℕ, zero, suc, ◌+◌, ◌-◌, ◌<◌, ◌≤◌, List, [], ◌∷◌, ◌++◌, Some, None, cond, length, take, drop, slice_range, count_by, length-drop, ap, subst, refl, arith}
+use Rattle.std.proofs.Common.{◌≡◌, ◌∙◌, ℕ, zero, suc, ◌+◌, ◌-◌, ◌<◌, ◌≤◌, List, [], ◌∷◌, ◌++◌, Some, None, cond, length, take, drop, slice_range, count_by, length-drop, ap, subst, sym, refl, arith}
 use Rattle.std.proofs.Math.Seq.{take-add}
 use Rattle.std.proofs.lemmas.List.Elements.{All-append}
 use Rattle.std.proofs.lemmas.List.{length-take}
@@ -11,18 +11,18 @@ use Rattle.idl_lexer.specs.Octets.{is_line_feed}
 use Rattle.idl_lexer.specs.inner.Steps.{IsLexeme}
 use Rattle.idl_lexer.specs.Forms.{Begins}
 use Rattle.idl_lexer.specs.Gaps.{Skips, none, more}
-use Rattle.idl_lexer.specs.Tokens.{HaveLines, LexedPart, StandsIn, line_at}
+use Rattle.idl_lexer.specs.Tokens.{HaveLines, LexedPart, StandsIn, end_of, line_at}
 use Rattle.idl_lexer.proofs.Inside.{Begins-on_line}
 
 -- a gap grows
 pub LexedPart-skip : (source : List ℕ) (from : ℕ) (ts : List Token) (j n k : ℕ) → LexedPart source from ts j → Skips (take j source) (drop j source) n → k ≡ j + n → LexedPart source from ts k
 LexedPart-skip source from [] j n k gap skip e = more j n k gap skip e
-LexedPart-skip source from (t ∷ ts) j n k (gap, stands, rest) skip e = (gap, stands, LexedPart-skip source t.«end» ts j n k rest skip e)
+LexedPart-skip source from (t ∷ ts) j n k (gap, stands, rest) skip e = (gap, stands, LexedPart-skip source (end_of t) ts j n k rest skip e)
 
 -- a token is added
-pub LexedPart-token : (source : List ℕ) (from : ℕ) (ts : List Token) (t : Token) → LexedPart source from ts t.start → StandsIn source t → LexedPart source from (ts ++ t ∷ []) t.«end»
+pub LexedPart-token : (source : List ℕ) (from : ℕ) (ts : List Token) (t : Token) → LexedPart source from ts t.start → StandsIn source t → LexedPart source from (ts ++ t ∷ []) (end_of t)
 LexedPart-token source from [] t gap stands = (gap, stands, none)
-LexedPart-token source from (u ∷ us) t (gap, first, rest) stands = (gap, first, LexedPart-token source u.«end» us t rest stands)
+LexedPart-token source from (u ∷ us) t (gap, first, rest) stands = (gap, first, LexedPart-token source (end_of u) us t rest stands)
 
 -- what a step has read, up to some place and its line
 pub record Reads (source : List ℕ) (tokens : List Token) (at line : ℕ) : Type 0 where
@@ -44,15 +44,15 @@ line-le source tokens at line r =
 -- a token's line is that of its start, and it has no line feed
 pub Reads-token :
     (source : List ℕ) (tokens : List Token) (t : Token) (at end line : ℕ)
-    → Reads source tokens at line → t.start ≡ at → t.«end» ≡ end → t.line ≡ line → at < end → end ≤ length source
+    → Reads source tokens at line → t.start ≡ at → end_of t ≡ end → t.line ≡ line → at < end → end ≤ length source
     → t.text.now ≡ slice_range source at end → Begins t.kind (take at source) (drop at source) (end - at)
     → Reads source (tokens ++ t ∷ []) end line
 Reads-token source tokens t at end line r starts ends counts rises within text form =
     let stands : StandsIn source t = record {
       rises = omega arith;
       within = omega arith;
-      text = rw (starts, ends) text;
-      form = rw (starts, ends) form;
+      text = subst (λ (e : ℕ). t.text.now ≡ slice_range source t.start e) (sym ends) (rw starts text);
+      form = subst (λ (e : ℕ). Begins t.kind (take t.start source) (drop t.start source) (e - t.start)) (sym ends) (rw starts form);
     } in
     let here : LexedPart source 0 tokens t.start = rw starts r.lexed in
     let flat : count_by is_line_feed (take (end - at) (drop at source)) ≡ 0 =

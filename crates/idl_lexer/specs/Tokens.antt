@@ -9,19 +9,23 @@ use Rattle.idl_lexer.specs.Words.{unescaped}
 use Rattle.idl_lexer.specs.Forms.{Begins}
 use Rattle.idl_lexer.specs.Gaps.{IsGap}
 
+-- where the source goes on behind a token
+abbrev pub end_of : Token → ℕ
+end_of t = t.start + length t.text.now
+
 -- the token is what its span says
 pub record StandsIn (source : List ℕ) (t : Token) : Type 0 where
-  pub rises : t.start < t.«end»
-  pub within : t.«end» ≤ length source
-  pub text : t.text.now ≡ slice_range source t.start t.«end»
-  pub form : Begins t.kind (take t.start source) (drop t.start source) (t.«end» - t.start)
+  pub rises : t.start < end_of t
+  pub within : end_of t ≤ length source
+  pub text : t.text.now ≡ slice_range source t.start (end_of t)
+  pub form : Begins t.kind (take t.start source) (drop t.start source) (end_of t - t.start)
 
 -- from one place to another the source consists of these tokens, and of what is skippable before,
 -- between and after them
 abbrev pub LexedPart : List ℕ → ℕ → List Token → ℕ → Type 0
 LexedPart source from [] stop = IsGap source from stop
 LexedPart source from (t ∷ ts) stop =
-    IsGap source from t.start × StandsIn source t × LexedPart source t.«end» ts stop
+    IsGap source from t.start × StandsIn source t × LexedPart source (end_of t) ts stop
 
 -- the tokens of a whole source
 abbrev pub Lexed : List ℕ → List Token → Type 0
@@ -44,7 +48,7 @@ pub record TokenParts : Type 0 where
   pub line : ℕ
 
 abbrev pub parts_of : Token → TokenParts
-parts_of t = record { kind = t.kind; text = t.text.now; start = t.start; «end» = t.«end»; line = t.line }
+parts_of t = record { kind = t.kind; text = t.text.now; start = t.start; «end» = end_of t; line = t.line }
 
 -- the name that a token stands for: of an identifier without one leading underscore
 abbrev pub name_of : Kind → List ℕ → List ℕ

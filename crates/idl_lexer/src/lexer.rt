@@ -10,7 +10,7 @@ ghost use Rattle.idl_lexer.specs.Punctuation.{is_punctuation};
 ghost use Rattle.idl_lexer.specs.Faults.{IsFault, IsFaultAt, IsWordFault};
 ghost use Rattle.idl_lexer.specs.Refusal.{wants_memory};
 ghost use Rattle.idl_lexer.specs.Forms.{Begins};
-ghost use Rattle.idl_lexer.specs.Tokens.{HaveLines, Lexed};
+ghost use Rattle.idl_lexer.specs.Tokens.{HaveLines, Lexed, end_of};
 
 use crate::comment::block_comment;
 use crate::directive::directive;
@@ -77,14 +77,13 @@ fn token(source: &str, kind: Kind, start: usize, end: usize, line: usize) -> Tok
     ensures kind { result.kind ≡ kind }
     ensures text { result.text.now ≡ slice_range source.now start end }
     ensures start { result.start ≡ start }
-    ensures stop { result.end ≡ end }
+    ensures stop { end_of result ≡ end }
     ensures line { result.line ≡ line }
 {
     Token {
         kind,
         text: &source[start..end],
         start,
-        end,
         line,
     }
 }

@@ -20,21 +20,21 @@ pub enum Kind {
     Pragma,
 }
 
-/// A token: its text is the source from `start` to `end`, counted in octets, and `line` counts
-/// from 1. A text that isn't one token of the kind makes none.
+/// A token: its text is the source from `start` on, counted in octets, and `line` counts from 1. A
+/// text that isn't one token of the kind makes none.
 #[derive(Clone, Copy, Debug, PartialEq, Eq)]
 pub struct Token<'a> {
     pub kind: Kind,
     pub text: &'a str,
     pub start: usize,
-    pub end: usize,
     pub line: usize,
     pub ghost form: { HasForm kind text.now },
 }
 
 impl<'a> Token<'a> {
-    ghost use Rattle.std.specs.Prelude.{◌≡◌};
-    ghost use Rattle.idl_lexer.specs.Tokens.{name_of};
+    ghost use Rattle.std.specs.Prelude.{◌≡◌, ◌<◌, ◌^◌, nat_eq};
+    ghost use Rattle.std.specs.Option.{SomeIff};
+    ghost use Rattle.idl_lexer.specs.Tokens.{end_of, name_of};
 
     /// The name that an identifier stands for: its text without one leading underscore, which only
     /// keeps the word from being a keyword (escaped identifiers). The text of any other token as it
@@ -45,6 +45,25 @@ impl<'a> Token<'a> {
         match self.kind {
             Kind::Ident => self.text.strip_prefix('_').unwrap_or(self.text),
             _ => self.text,
+        }
+    }
+
+    /// Where the source goes on behind the token, if a `usize` can tell. No field has it, since a
+    /// file has many tokens.
+    pub fn end(&self) -> Option<usize>
+        ensures { SomeIff result (end_of self.now < 2 ^ 64) (end_of self.now) }
+    {
+        self.start.checked_add(self.text.len())
+    }
+
+    /// Whether another token begins where this one ends.
+    pub fn touches(&self, next: &Token<'_>) -> bool
+        ensures { result ≡ nat_eq (end_of self.now) next.now.start }
+    {
+        let start = next.start;
+        match self.end() {
+            Some(end) => end == start,
+            None => false,
         }
     }
 }

@@ -11,7 +11,7 @@ use Rattle.std.proofs.lemmas.Bool.Decides.{Decides-eqb}
 use Rattle.idl_lexer.specs.declared.token.Kind.{Kind}
 use Rattle.idl_lexer.specs.declared.token.Kind.TheVariants.{Punct}
 use Rattle.idl_lexer.specs.declared.token.Token.{Token}
-use Rattle.idl_lexer.specs.Tokens.{TokenParts, parts_of}
+use Rattle.idl_lexer.specs.Tokens.{TokenParts, end_of, parts_of}
 use Rattle.idl_tree.specs.declared.names.Leaf.{Leaf}
 use Rattle.idl_tree.specs.Levels.{highest}
 use Rattle.idl_tree.specs.Pieces.{Seen, Piece, are_same, past, behind, is_piece, kind_code, seen_from, touches_next, piece, kept, touching, mark}
@@ -108,23 +108,23 @@ kept_read n (x ∷ ys) kind text l lt is k e num =
     (first_kept n x ys kind text l (sym (ap (λ u. u.kind) is) ∙ k) (sym (ap (λ u. u.text.now) is) ∙ e) num is)
 
 -- a mark that the next token touches
-first_touching : (n : ℕ) (t u : Token) (us : List Token) (text : List ℕ) → t.kind ≡ Punct → t.text.now ≡ text → t.«end» ≡ u.start
+first_touching : (n : ℕ) (t u : Token) (us : List Token) (text : List ℕ) → t.kind ≡ Punct → t.text.now ≡ text → end_of t ≡ u.start
     → Parsed (seen_from n (t ∷ u ∷ us)) (touching text) (seen_from (n + 1) (u ∷ us))
 unfolding touching past
 first_touching n t u us text k e touch = record {
-  spells = behind_this (plain_piece Punct text true) (see n t (u ∷ us)) (seen_from (n + 1) (u ∷ us)) (both (both (both (this_kind t Punct k) (this_text t text e)) refl) ((Decides-eqb t.«end» u.start).1 touch));
+  spells = behind_this (plain_piece Punct text true) (see n t (u ∷ us)) (seen_from (n + 1) (u ∷ us)) (both (both (both (this_kind t Punct k) (this_text t text e)) refl) ((Decides-eqb (end_of t) u.start).1 touch));
   on = omega arith;
 }
 
 pub touching_read : (n : ℕ) (xs : List Token) (t u : Token) (text : List ℕ)
-    → t ≡ get_or xs 0 t → 1 < length xs → u ≡ get_or xs 1 u → t.kind ≡ Punct → t.text.now ≡ text → t.«end» ≡ u.start
+    → t ≡ get_or xs 0 t → 1 < length xs → u ≡ get_or xs 1 u → t.kind ≡ Punct → t.text.now ≡ text → end_of t ≡ u.start
     → Parsed (seen_from n xs) (touching text) (seen_from (n + 1) (take (length xs - 1) (drop 1 xs)))
 touching_read n [] t u text is lt more k e touch = absurd (omega arith)
 touching_read n (x ∷ []) t u text is lt more k e touch = absurd (omega arith)
 touching_read n (x ∷ y ∷ ys) t u text is lt more k e touch =
     subst (λ r. Parsed (seen_from n (x ∷ y ∷ ys)) (touching text) (seen_from (n + 1) r)) (sym (cut_first x (y ∷ ys)))
     (first_touching n x y ys text (sym (ap (λ v. v.kind) is) ∙ k) (sym (ap (λ v. v.text.now) is) ∙ e)
-    (sym (ap (λ v. v.«end») is) ∙ touch ∙ ap (λ v. v.start) more))
+    (sym (ap (λ v. end_of v) is) ∙ touch ∙ ap (λ v. v.start) more))
 
 -- ---- lists
 

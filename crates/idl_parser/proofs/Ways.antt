@@ -10,6 +10,7 @@ use Rattle.std.proofs.lemmas.Slice.Eq.{bytes_eq-Decides}
 use Rattle.idl_lexer.specs.declared.token.Kind.{Kind}
 use Rattle.idl_lexer.specs.declared.token.Token.{Token}
 use Rattle.idl_lexer.specs.declared.token.Kind.TheVariants.{Punct}
+use Rattle.idl_lexer.specs.Tokens.{end_of}
 use Rattle.idl_tree.specs.Pieces.{Seen, kind_code, seen_from, touching}
 use Rattle.tree_laws.proofs.Fronts.{same_kind}
 use Rattle.idl_tree.specs.declared.expression.Operator.{Operator}
@@ -205,21 +206,21 @@ no_touch false true = refl
 no_touch false false = refl
 
 touches_so : (text : List ℕ) (n : ℕ) (xs : List Token) (t u : Token) → t ≡ get_or xs 0 t → 1 < length xs → u ≡ get_or xs 1 u
-    → sees_touching text (seen_from n xs) ≡ (this_kind Punct t && bytes_eq text t.text.now && nat_eq t.«end» u.start)
+    → sees_touching text (seen_from n xs) ≡ (this_kind Punct t && bytes_eq text t.text.now && nat_eq (end_of t) u.start)
 unfolding sees_touching
 touches_so text n [] t u is lt more = absurd (omega arith)
 touches_so text n (x ∷ []) t u is lt more = absurd (omega arith)
 touches_so text n (x ∷ y ∷ ys) t u is lt more = rw (is, more) refl
 
 pub touches : (text : List ℕ) (n : ℕ) (xs : List Token) (t u : Token) → t ≡ get_or xs 0 t → 1 < length xs → u ≡ get_or xs 1 u
-    → this_token Punct text t ≡ true → sees_touching text (seen_from n xs) ≡ nat_eq t.«end» u.start
+    → this_token Punct text t ≡ true → sees_touching text (seen_from n xs) ≡ nat_eq (end_of t) u.start
 touches text n xs t u is lt more h =
-    touches_so text n xs t u is lt more ∙ and_then_true (this_kind Punct t) (bytes_eq text t.text.now) (nat_eq t.«end» u.start) h
+    touches_so text n xs t u is lt more ∙ and_then_true (this_kind Punct t) (bytes_eq text t.text.now) (nat_eq (end_of t) u.start) h
 
 pub touches_not : (text : List ℕ) (n : ℕ) (xs : List Token) (t u : Token) → t ≡ get_or xs 0 t → 1 < length xs → u ≡ get_or xs 1 u
     → this_token Punct text t ≡ false → sees_touching text (seen_from n xs) ≡ false
 touches_not text n xs t u is lt more h =
-    touches_so text n xs t u is lt more ∙ and_then_false (this_kind Punct t) (bytes_eq text t.text.now) (nat_eq t.«end» u.start) h
+    touches_so text n xs t u is lt more ∙ and_then_false (this_kind Punct t) (bytes_eq text t.text.now) (nat_eq (end_of t) u.start) h
 
 pub one_touches_not : (text : List ℕ) (n : ℕ) (xs : List Token) → length xs ≤ 1 → sees_touching text (seen_from n xs) ≡ false
 unfolding sees_touching
@@ -244,9 +245,9 @@ unfolding sees_touching
 touching_taken text n [] h = absurd (cc (one_touches_not text n [] (omega arith)))
 touching_taken text n (x ∷ []) h = absurd (cc (one_touches_not text n (x ∷ []) (omega arith)))
 touching_taken text n (x ∷ y ∷ ys) h =
-    let all = all_three (this_kind Punct x) (bytes_eq text x.text.now) (nat_eq x.«end» y.start) h in
+    let all = all_three (this_kind Punct x) (bytes_eq text x.text.now) (nat_eq (end_of x) y.start) h in
     touching_read n (x ∷ y ∷ ys) x y text refl (omega arith) refl (sym (same_kind Punct x.kind all.0))
-    (sym ((bytes_eq-Decides text x.text.now).0 all.1)) ((Decides-eqb x.«end» y.start).0 all.2)
+    (sym ((bytes_eq-Decides text x.text.now).0 all.1)) ((Decides-eqb (end_of x) y.start).0 all.2)
 
 pub shift_seen : (n : ℕ) (xs : List Token) (u : Token) → sees_touching (codes ">") (seen_from n xs) ≡ true → 1 < length xs → u ≡ get_or xs 1 u
     → sees_shift (seen_from n xs) ≡ this_token Punct (codes ">") u

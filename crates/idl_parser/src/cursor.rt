@@ -210,7 +210,7 @@ impl<'a> Cursor<'a> {
         let Some(second) = self.rest.get(1) else {
             return false;
         };
-        is_this(first, Kind::Punct, ">") && first.end == second.start
+        is_this(first, Kind::Punct, ">") && first.touches(second)
     }
 
     /// Whether two `>` that touch are next.

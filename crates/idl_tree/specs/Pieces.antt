@@ -4,7 +4,7 @@ use Rattle.std.specs.Str.{bytes_eq}
 use Rattle.idl_lexer.specs.declared.token.Kind.{Kind}
 use Rattle.idl_lexer.specs.declared.token.Kind.TheVariants.{Ident, Keyword, Punct, Number, CharLit, TextLit, Pragma}
 use Rattle.idl_lexer.specs.declared.token.Token.{Token}
-use Rattle.idl_lexer.specs.Tokens.{TokenParts, parts_of}
+use Rattle.idl_lexer.specs.Tokens.{TokenParts, end_of, parts_of}
 use Rattle.idl_tree.specs.declared.names.Leaf.{Leaf}
 
 -- what a tree says of a token: its kind and its text; its number and all that the lexer says of it, where the tree
@@ -25,7 +25,7 @@ pub record Seen : Type 0 where
 -- the next token begins where this one ends
 abbrev pub touches_next : Token → List Token → Bool
 touches_next t [] = false
-touches_next t (u ∷ us) = nat_eq t.«end» u.start
+touches_next t (u ∷ us) = nat_eq (end_of t) u.start
 
 -- tokens, of which the first has the number n
 abbrev pub seen_from : ℕ → List Token → List Seen

@@ -26,7 +26,7 @@ use Rattle.name_steps.proofs.ListedSteps.{module_listed}
 abbrev leaf : Leaf → (k : Kind) → (text : List ℕ) → HasForm k text → ℕ → ℕ → Leaf
 leaf l k text form number at = record {
   token = record l.token {
-    now = record { kind = k; text = record l.token.now.text { now = text }; start = l.token.now.start; «end» = l.token.now.«end»; line = at; form = form };
+    now = record { kind = k; text = record l.token.now.text { now = text }; start = l.token.now.start; line = at; form = form };
   };
   number = number;
 }

@@ -1,7 +1,7 @@
 -- The parts of a specification, as its tokens show them: each declaration, attribute and operation, from its first
 -- token to its semicolon, numbered from 0. Modules and interfaces are gone into: their heads, which end with a brace or
 -- a semicolon, and the braces belong to no part. Nor do pragmas.
-use Rattle.std.specs.Prelude.{ℕ, ◌+◌, ◌-◌, Bool, true, false, not, ◌&&◌, ◌||◌, nat_eq, nat_lt, if◌then◌else◌, List, [], ◌∷◌, map, codes}
+use Rattle.std.specs.Prelude.{ℕ, ◌+◌, ◌-◌, Bool, true, false, not, ◌&&◌, ◌||◌, nat_eq, nat_lt, if◌then◌else◌, List, [], ◌∷◌, length, map, codes}
 use Rattle.std.specs.List.{list_any}
 use Rattle.std.specs.Str.{bytes_eq}
 use Rattle.idl_lexer.specs.declared.token.Kind.TheVariants.{Pragma}
@@ -72,7 +72,9 @@ is_left_out kept refused part = not (nat_lt part kept) || list_any (λ n. nat_eq
 
 -- a token in the place of one that is left out: a pragma, which declares nothing, at the same place
 abbrev pub seen_as : Bool → TokenParts → TokenParts
-seen_as true t = record t { kind = Pragma; text = codes "#pragma prefix \"\"" }
+seen_as true t =
+    let text = codes "#pragma prefix \"\"" in
+    record t { kind = Pragma; text = text; «end» = t.start + length text }
 seen_as false t = t
 
 abbrev pub without : ℕ → List ℕ → Scan → List TokenParts → List TokenParts

@@ -179,7 +179,6 @@ fn seen_or_pragma<'a>(is_left_out: bool, token: &Token<'a>) -> Token<'a>
         kind: Kind::Pragma,
         text: PRAGMA,
         start: token.start,
-        end: token.end,
         line: token.line,
     }
 }
