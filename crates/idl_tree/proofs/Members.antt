@@ -18,7 +18,7 @@ use Rattle.idl_tree.proofs.Rows.{struct_walk, union_walk}
 abbrev struct_of : Leaf → Box Member Global → Vec Member Global → StructType
 struct_of name first rest = roll-StructType (record { identifier = name; first = first; rest = rest })
 
-abbrev union_of : Leaf → SwitchType → Box Case Global → Vec Case Global → UnionType
+abbrev union_of : Leaf → Box SwitchType Global → Box Case Global → Vec Case Global → UnionType
 union_of name switch first rest =
     roll-UnionType (record { identifier = name; switch = switch; first = first; rest = rest })
 
@@ -45,17 +45,17 @@ struct_nests name first rest =
     (λ id p m shape row. refl) refl (λ n m row. refl) refl (λ m ms. refl) (struct_of name first rest)
     ∙ ap (λ s. suc (max (member_levels s.first.value) (highest member_levels s.rest.items))) (out-roll-StructType (record { identifier = name; first = first; rest = rest }))
 
-pub union_yields : (name : Leaf) (switch : SwitchType) (first : Box Case Global) (rest : Vec Case Global)
-    → union_yield (union_of name switch first rest) ≡ union_pieces name switch first.value (flat_map case_yield rest.items)
+pub union_yields : (name : Leaf) (switch : Box SwitchType Global) (first : Box Case Global) (rest : Vec Case Global)
+    → union_yield (union_of name switch first rest) ≡ union_pieces name switch.value first.value (flat_map case_yield rest.items)
 union_yields name switch first rest =
     union_walk union_yield (λ n row. cases_yield row) union_pieces [] (λ c others. case_yield c ++ others) (flat_map case_yield)
     (λ id s p c shape row. refl) refl (λ n c row. refl) refl (λ c cs. refl) (union_of name switch first rest)
-    ∙ ap (λ u. union_pieces u.identifier u.switch u.first.value (flat_map case_yield u.rest.items)) (out-roll-UnionType (record { identifier = name; switch = switch; first = first; rest = rest }))
+    ∙ ap (λ u. union_pieces u.identifier u.switch.value u.first.value (flat_map case_yield u.rest.items)) (out-roll-UnionType (record { identifier = name; switch = switch; first = first; rest = rest }))
 
-pub union_nests : (name : Leaf) (switch : SwitchType) (first : Box Case Global) (rest : Vec Case Global)
+pub union_nests : (name : Leaf) (switch : Box SwitchType Global) (first : Box Case Global) (rest : Vec Case Global)
     → union_levels (union_of name switch first rest)
-    ≡ suc (max (switch_levels switch) (max (case_levels first.value) (highest case_levels rest.items)))
+    ≡ suc (max (switch_levels switch.value) (max (case_levels first.value) (highest case_levels rest.items)))
 union_nests name switch first rest =
     union_walk union_levels (λ n row. cases_levels row) (λ id s c most. suc (max (switch_levels s) (max (case_levels c) most))) 0 (λ c most. max (case_levels c) most) (highest case_levels)
     (λ id s p c shape row. refl) refl (λ n c row. refl) refl (λ c cs. refl) (union_of name switch first rest)
-    ∙ ap (λ u. suc (max (switch_levels u.switch) (max (case_levels u.first.value) (highest case_levels u.rest.items)))) (out-roll-UnionType (record { identifier = name; switch = switch; first = first; rest = rest }))
+    ∙ ap (λ u. suc (max (switch_levels u.switch.value) (max (case_levels u.first.value) (highest case_levels u.rest.items)))) (out-roll-UnionType (record { identifier = name; switch = switch; first = first; rest = rest }))

@@ -84,14 +84,14 @@ struct_walk whole walk around none one list made row_end row_more list_end list_
     ∙ ap (around (out-StructType s).identifier m) (members_walk walk none one list row_end row_more list_end list_more _ _ ∙ ap list (items_hidden-the_row-Member-0 (out-StructType s).rest))
 
 pub union_walk {ℓ} : {A B : Type ℓ} (whole : UnionType → A) (walk : (n : Count) → Row_of-Case n → B) (around : Leaf → SwitchType → Case → B → A) (none : B) (one : Case → B → B) (list : List Case → B)
-    → ((name : Leaf) (switch : SwitchType) (p : Box (Unit {0}) Global) (c : Case) (shape : Shape) (row : Row_of-Case (parts_of shape)) → whole (UnionType' name switch p c.labels c.member_type c.declarator shape row) ≡ around name switch c (walk _ row))
+    → ((name : Leaf) (switch : Box SwitchType Global) (p : Box (Unit {0}) Global) (c : Case) (shape : Shape) (row : Row_of-Case (parts_of shape)) → whole (UnionType' name switch p c.labels c.member_type c.declarator shape row) ≡ around name switch.value c (walk _ row))
     → (walk _ end_of-Case ≡ none) → ((n : Count) (x : Case) (row : Row_of-Case n) → walk _ (more_of-Case x.labels x.member_type x.declarator row) ≡ one x (walk _ row))
     → (list [] ≡ none) → ((x : Case) (xs : List Case) → list (x ∷ xs) ≡ one x (list xs))
-    → (u : UnionType) → whole u ≡ around (out-UnionType u).identifier (out-UnionType u).switch (out-UnionType u).first.value (list (out-UnionType u).rest.items)
+    → (u : UnionType) → whole u ≡ around (out-UnionType u).identifier (out-UnionType u).switch.value (out-UnionType u).first.value (list (out-UnionType u).rest.items)
 union_walk whole walk around none one list made row_end row_more list_end list_more u =
     let c = (out-UnionType u).first.value in
     ap whole (is-UnionType' u) ∙ made _ _ _ c _ _
-    ∙ ap (around (out-UnionType u).identifier (out-UnionType u).switch c) (cases_walk walk none one list row_end row_more list_end list_more _ _ ∙ ap list (items_hidden-the_row-Case-1 (out-UnionType u).rest))
+    ∙ ap (around (out-UnionType u).identifier (out-UnionType u).switch.value c) (cases_walk walk none one list row_end row_more list_end list_more _ _ ∙ ap list (items_hidden-the_row-Case-1 (out-UnionType u).rest))
 
 pub module_walk {ℓ} : {A B : Type ℓ} (whole : Definition → A) (walk : (n : Count) → Row_of-Definition n → B) (around : Leaf → B → A) (none : B) (one : Definition → B → B) (list : List Definition → B)
     → ((name : Leaf) (shape : Shape) (row : Row_of-Definition (parts_of shape)) → whole (Module' name shape row) ≡ around name (walk _ row))

@@ -58,7 +58,7 @@ abbrev mutual
   -- an enumeration in a switch is inside its union
   pub union_levels : UnionType → ℕ
   union_levels (UnionType' id switch p labels t declarator shape rest) =
-      suc (max (switch_levels switch) (max
+      suc (max (switch_levels switch.value) (max
       (max (highest_listed label_levels labels) (max (type_levels t) (declarator_levels declarator)))
       (cases_levels rest)))
 

@@ -97,7 +97,7 @@ abbrev mutual
   pub union_yield : UnionType → List Piece
   union_yield (UnionType' id switch p labels t declarator shape rest) =
       keyword (codes "union") ++ identifier id ++ keyword (codes "switch") ++ mark (codes "(")
-      ++ switch_yield switch ++ mark (codes ")") ++ mark (codes "{")
+      ++ switch_yield switch.value ++ mark (codes ")") ++ mark (codes "{")
       ++ (in_order label_yield labels ++ type_yield t ++ declarator_yield declarator ++ mark (codes ";"))
       ++ cases_yield rest ++ mark (codes "}")
 

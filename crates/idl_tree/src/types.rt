@@ -105,7 +105,8 @@ pub struct Member<'a> {
 #[cycle(types)]
 pub struct UnionType<'a> {
     pub identifier: Leaf<'a>,
-    pub switch: SwitchType<'a>,
+    /// In a box, so that no member of a structure is as large as a union.
+    pub switch: Box<SwitchType<'a>>,
     pub first: Box<Case<'a>>,
     pub rest: Vec<Case<'a>>,
 }

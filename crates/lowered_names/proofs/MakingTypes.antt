@@ -295,7 +295,7 @@ mutual
       let at = leaf_at id in
       let (e, is, h1) = then_done (entry_of es scope id) _ n h in
       let (o, opens, h2) = then_done (opened w e at) _ n h1 in
-      let (s, switches, h3) = then_done (switch_read es o.lowered (e + 1) at switch) _ n h2 in
+      let (s, switches, h3) = then_done (switch_read es o.lowered (e + 1) at switch.value) _ n h2 in
       let start = cases_of s.lowered no_arms in
       let type : Lowered → Result Numbered BuildFault = λ v. type_spec es v (e + 1) (declarator_at d) t in
       let (first, begins, h4) = then_done (case_added es (e + 1) s.switch start labels type d) _ n h3 in
@@ -305,7 +305,7 @@ mutual
       let (m, counts, sets) = then_done (counted c.lowered (length c.arms.arms) at) _ b h6 in
       let own : Naming = λ v ops ps. type_parts es v (e + 1) ps t in
       let behind : Naming = λ v ops ps. cases_parts es v (e + 1) ps rest in
-      let chosen : Naming = λ v ops ps. switch_parts es v (e + 1) ps switch in
+      let chosen : Naming = λ v ops ps. switch_parts es v (e + 1) ps switch.value in
       let cases : Naming = λ v ops ps. own v ops ps >> λ next. behind v ops next in
       let inner : Naming = λ v ops ps. chosen v ops ps >> λ next. cases v ops next in
       let names = name_of d ∷ names_of_cases rest in
@@ -314,7 +314,7 @@ mutual
       (λ k typed_as. type_makes es s.lowered (e + 1) (declarator_at d) t k typed_as) begins)
       (cases_make es (e + 1) s.switch first rest c others) in
       let whole = makes_on chosen cases o.lowered s.lowered c.lowered
-      (switch_makes es o.lowered (e + 1) at switch s switches) body.makes in
+      (switch_makes es o.lowered (e + 1) at switch.value s switches) body.makes in
       let node = Union s.switch.number (map numbered_arm c.arms.arms) (default_number c.arms.default) in
       let has : HaveNames node (length names) =
       union_names s.switch.number c.arms (length (names_of_cases rest)) body.most in
@@ -327,7 +327,7 @@ mutual
       subst (λ z. Makes (λ v ops ps. union_parts es v scope ps (UnionType' id switch p labels t d shape rest))
       w z.lowered) same
       (makes_at (entry_of es scope id) e
-      (λ x v ops ps. typed v x names ps >> λ own. switch_parts es v (x + 1) own switch >> λ s.
+      (λ x v ops ps. typed v x names ps >> λ own. switch_parts es v (x + 1) own switch.value >> λ s.
       type_parts es v (x + 1) s t >> λ next. cases_parts es v (x + 1) next rest) w b is
       (makes_back (λ v ops ps. typed v e names ps) inner w c.lowered b last
       (makes_from inner w o.lowered c.lowered made.stays whole)))

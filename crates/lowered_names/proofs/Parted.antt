@@ -248,9 +248,9 @@ mutual
   pub union_named : (es : List Entry) (w : Lowered) (scope : ℕ) (u : UnionType) → HavePlaces es w → Good es scope (union_steps u) → (ps : List Part) → AllApart ps
       → IsNamed (union_parts es w scope ps u)
   union_named es w scope (UnionType' id switch p labels t d shape rest) placed g ps all =
-      let chosen = switch_steps switch in
+      let chosen = switch_steps switch.value in
       let first = flat_map label_steps (parts labels) ++ type_steps t ++ declarator_steps d in
-      let switch_closed : Closed chosen = closed (switch_asks {ls = []} switch) in
+      let switch_closed : Closed chosen = closed (switch_asks {ls = []} switch.value) in
       let front = both_closed switch_closed (whole_case_closed labels t d) in
       let rest_closed : Closed (cases_steps rest) = closed (cases_ask {ls = []} rest) in
       let (there, body) = opened es scope Kinds.Union id ((chosen ++ first) ++ cases_steps rest) (both_closed front rest_closed) g in
@@ -270,7 +270,7 @@ mutual
       named_by (entry_of es scope id) there.number _ (entry_told es scope id there.number there.is)
       (named_then (typed w there.number names ps) _
       (typed_named w there.number names (placed_as es w scope id Kinds.Union placed there) (inside_apart es inner names ((chosen ++ first) ++ cases_steps rest) body picked) ps all)
-      (λ own apart. named_then (switch_parts es w inner own switch) _ (switch_named es w inner switch placed begun.0 own apart)
+      (λ own apart. named_then (switch_parts es w inner own switch.value) _ (switch_named es w inner switch.value placed begun.0 own apart)
       (λ s more. named_then (type_parts es w inner s t) _ (type_named es w inner t placed parted.1 s more)
       (λ next all. cases_named es w inner rest placed both.1 next all))))
 

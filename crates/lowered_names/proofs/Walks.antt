@@ -114,7 +114,7 @@ abbrev one_case : Case → NamedWalk → NamedWalk
 one_case x rest = record { names = case_name x ∷ rest.names; walk = λ es w scope ps. case_parts es w scope ps x >> λ next. rest.walk es w scope next }
 
 pub union_told : (es : List Entry) (w : Lowered) (scope : ℕ) (ps : List Part) (u : UnionType) → union_parts es w scope ps u
-    ≡ union_named es w scope ps (out-UnionType u).identifier (out-UnionType u).switch (out-UnionType u).first.value (out-UnionType u).rest.items
+    ≡ union_named es w scope ps (out-UnionType u).identifier (out-UnionType u).switch.value (out-UnionType u).first.value (out-UnionType u).rest.items
 union_told es w scope ps u =
     ap (λ walk. walk es w scope ps) (union_walk {A = Walk} {B = NamedWalk} (λ t es w scope ps. union_parts es w scope ps t)
     (λ n row. record { names = names_of_cases row; walk = λ es w scope ps. cases_parts es w scope ps row }) around_union ended one_case
@@ -129,9 +129,9 @@ more_cases u = (out-UnionType u).rest.items
 
 pub union_typed : (es : List Entry) (w : Lowered) (scope : ℕ) (ps : List Part) (u : UnionType) (e : ℕ) (own : List Part) (names : List (List ℕ))
     → Ok e ≡ entry_of es scope (out-UnionType u).identifier → names ≡ all_case_names u → typed w e names ps ≡ Ok own
-    → union_parts es w scope ps u ≡ union_in es w e (out-UnionType u).switch (first_case u) (more_cases u) own
+    → union_parts es w scope ps u ≡ union_in es w e (out-UnionType u).switch.value (first_case u) (more_cases u) own
 union_typed es w scope ps u e own names told called is =
-    let switch = (out-UnionType u).switch in
+    let switch = (out-UnionType u).switch.value in
     union_told es w scope ps u
     ∙ goes_on (entry_of es scope (out-UnionType u).identifier) e (union_of es w ps switch (first_case u) (more_cases u)) (sym told)
     ∙ goes_on (typed w e (case_name (first_case u) ∷ map case_name (more_cases u)) ps) own (union_in es w e switch (first_case u) (more_cases u))
@@ -139,13 +139,13 @@ union_typed es w scope ps u e own names told called is =
 
 pub union_walked : (es : List Entry) (w : Lowered) (scope : ℕ) (ps : List Part) (u : UnionType) (e : ℕ) (own chosen first : List Part) (names : List (List ℕ)) (x : Case) (rest : List Case)
     → Ok e ≡ entry_of es scope (out-UnionType u).identifier → names ≡ all_case_names u → typed w e names ps ≡ Ok own
-    → switch_parts es w (e + 1) own (out-UnionType u).switch ≡ Ok chosen
+    → switch_parts es w (e + 1) own (out-UnionType u).switch.value ≡ Ok chosen
     → x ≡ first_case u → type_parts es w (e + 1) chosen x.member_type ≡ Ok first → rest ≡ more_cases u
     → each (case_parts es w (e + 1)) first rest ≡ union_parts es w scope ps u
 union_walked es w scope ps u e own chosen first names x rest told called is switches same typed_first all =
     ap (each (case_parts es w (e + 1)) first) all
     ∙ sym (union_typed es w scope ps u e own names told called is
-    ∙ goes_on (switch_parts es w (e + 1) own (out-UnionType u).switch) chosen (union_behind es w e (first_case u) (more_cases u)) switches
+    ∙ goes_on (switch_parts es w (e + 1) own (out-UnionType u).switch.value) chosen (union_behind es w e (first_case u) (more_cases u)) switches
     ∙ goes_on (type_parts es w (e + 1) chosen (first_case u).member_type) first (λ f. each (case_parts es w (e + 1)) f (more_cases u))
     (sym (ap (λ c. type_parts es w (e + 1) chosen c.member_type) same) ∙ typed_first))
 

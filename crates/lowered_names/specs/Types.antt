@@ -128,7 +128,7 @@ abbrev mutual
   union_parts es w scope ps (UnionType' id switch p labels t declarator shape rest) =
       entry_of es scope id >> λ e.
       typed w e (name_of declarator ∷ names_of_cases rest) ps >> λ own.
-      switch_parts es w (e + 1) own switch >> λ s.
+      switch_parts es w (e + 1) own switch.value >> λ s.
       type_parts es w (e + 1) s t >> λ first. cases_parts es w (e + 1) first rest
 
   pub members_parts : {n : _} → List Entry → Lowered → ℕ → List Part → Row_of-Member n → Parted

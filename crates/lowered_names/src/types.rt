@@ -208,7 +208,8 @@ impl<'a> PartList<'a> {
         let entry = declared_entry(names, scope, u.identifier)?;
         self.add_typed(types, entry, union_names(alloc, u)?)?;
         let inside = Scope(entry + 1);
-        self.name_switch(alloc, names, types, inside, &u.switch)?;
+        let chosen: &SwitchType<'a> = &u.switch;
+        self.name_switch(alloc, names, types, inside, chosen)?;
         self.name_type(alloc, names, types, inside, &u.first.member_type)?;
         self.name_cases(alloc, names, types, inside, u.rest.as_slice())
     }

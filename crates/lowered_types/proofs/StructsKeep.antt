@@ -305,10 +305,10 @@ mutual
   pub union_keeps : (es : List Entry) (g : List Introduction) (begun : ℕ → Type 0) (w : Lowered) (scope : ℕ) (u : UnionType) → Keeps es g begun w
       → AllSettled es g scope (union_steps u) → Fine (Wrote es (behind es g scope (union_steps u)) begun w) (union_type es w scope u)
   union_keeps es g begun w scope (UnionType' id switch p labels t declarator shape rest) i settled =
-      let chosen = switch_steps switch in
+      let chosen = switch_steps switch.value in
       let first = flat_map label_steps (parts labels) ++ type_steps t ++ declarator_steps declarator in
       let others = cases_steps rest in
-      let chosen_closed = closed (switch_asks {ls = []} switch) in
+      let chosen_closed = closed (switch_asks {ls = []} switch.value) in
       let first_closed = both_closed (both_closed (each_closed label_steps label_closed (parts labels)) (type_closed t)) (declarator_closed declarator) in
       let front_closed = both_closed chosen_closed first_closed in
       let body = inside es g scope id Kinds.Union ((chosen ++ first) ++ others) (both_closed front_closed (cases_closed rest)) settled in
@@ -331,8 +331,8 @@ mutual
       (given wrote (entry_of es scope id) e _ (entry_is es scope id e body.is)
       (and_then (Begins es at begun w e) wrote (opened w e (leaf_at id)) _
       (begins_fine es g begun w scope (leaf_at id) id Kinds.Union d e i refl body.is body.new (definition_entered es g begun w scope id Kinds.Union d e i refl body.is body.new)) (λ o b.
-      and_then (Chosen es behind_switch now o.lowered) wrote (switch_read es o.lowered (e + 1) (leaf_at id) switch) _
-      (switch_keeps es at now o.lowered (e + 1) (leaf_at id) switch b.keeps front.0) (λ s chose.
+      and_then (Chosen es behind_switch now o.lowered) wrote (switch_read es o.lowered (e + 1) (leaf_at id) switch.value) _
+      (switch_keeps es at now o.lowered (e + 1) (leaf_at id) switch.value b.keeps front.0) (λ s chose.
       let start : HasCases es behind_switch now o.lowered s.switch (cases_of s.lowered no_arms) =
       record { keeps = chose.keeps; later = chose.later; switch = chose.switch; arms = no_arms_right s.lowered.nodes s.switch } in
       and_then (HasCases es behind_first now o.lowered s.switch) wrote

@@ -107,7 +107,7 @@ abbrev CaseWalk : Type 0
 CaseWalk = List Entry → ℕ → Switch → Cases → Result Cases BuildFault
 
 pub union_told : (es : List Entry) (w : Lowered) (scope : ℕ) (u : UnionType) → union_type es w scope u ≡
-    union_all es w scope (out-UnionType u).identifier (out-UnionType u).switch (out-UnionType u).first.value (out-UnionType u).rest.items
+    union_all es w scope (out-UnionType u).identifier (out-UnionType u).switch.value (out-UnionType u).first.value (out-UnionType u).rest.items
 union_told es w scope u =
     ap (λ walk. walk es w scope) (union_walk {A = TypeWalk} {B = CaseWalk} (λ t es w scope. union_type es w scope t)
     (λ n row es scope s c. with_cases es scope s c row)
@@ -163,7 +163,7 @@ abbrev pub union_id : UnionType → Leaf
 union_id u = (out-UnionType u).identifier
 
 abbrev pub switch_of : UnionType → SwitchType
-switch_of u = (out-UnionType u).switch
+switch_of u = (out-UnionType u).switch.value
 
 abbrev pub first_case : UnionType → Case
 first_case u = (out-UnionType u).first.value

@@ -134,7 +134,7 @@ abbrev mutual
   union_type es w scope (UnionType' id switch p labels t declarator shape rest) =
       entry_of es scope id >> λ e.
       opened w e (leaf_at id) >> λ o.
-      switch_read es o.lowered (e + 1) (leaf_at id) switch >> λ s.
+      switch_read es o.lowered (e + 1) (leaf_at id) switch.value >> λ s.
       case_added es (e + 1) s.switch (cases_of s.lowered no_arms) labels
       (λ v. type_spec es v (e + 1) (declarator_at declarator) t) declarator >> λ first.
       with_cases es (e + 1) s.switch first rest >> λ c.

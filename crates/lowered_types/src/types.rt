@@ -13,7 +13,7 @@ use crate::readings::declared_entry;
 use crate::simple::{lower_arrays, lower_enum, lower_simple};
 use crate::table::TypeTable;
 use idl_tree::names::{At, Listed};
-use idl_tree::types::{Case, Declarator, Member, StructType, TypeSpec, UnionType};
+use idl_tree::types::{Case, Declarator, Member, StructType, SwitchType, TypeSpec, UnionType};
 use scoped_names::{Names, Scope};
 use std::alloc::Global;
 use type_graph::{Arms, Node};
@@ -202,7 +202,8 @@ pub(crate) fn lower_union<'a>(
     let entry = declared_entry(names, scope, u.identifier)?;
     let number = table.declare(alloc, entry, at)?;
     let inside = Scope(entry + 1);
-    let switch = lower_switch(names, table, alloc, inside, at, &u.switch)?;
+    let chosen: &SwitchType<'a> = &u.switch;
+    let switch = lower_switch(names, table, alloc, inside, at, chosen)?;
     let mut arms = ArmList::new(alloc);
     lower_case(names, table, alloc, inside, switch, &u.first, &mut arms)?;
     for case in &u.rest {

@@ -227,7 +227,7 @@ mutual
 
   pub union_asks : {ls : List Leaf} (u : UnionType) → Asks ls (union_yield u) (union_steps u)
   union_asks (UnionType' id switch p labels t declarator shape rest) =
-      let chosen = begun (joined (word (codes "switch")) (quiet (codes "("))) (switch_asks switch) in
+      let chosen = begun (joined (word (codes "switch")) (quiet (codes "("))) (switch_asks switch.value) in
       let first = ended (joined (joined (labels_ask labels) (type_asks t)) (declarator_asks declarator)) (quiet (codes ";")) in
       let cases = joined (joined (ended (ended chosen (quiet (codes ")"))) (quiet (codes "{"))) first) (cases_ask rest) in
       body_asks (codes "union") Kinds.Union id (defines id (ended cases (quiet (codes "}"))))

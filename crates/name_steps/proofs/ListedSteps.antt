@@ -27,7 +27,7 @@ struct_listed s =
 
 pub union_listed : (u : UnionType)
     → union_steps u
-    ≡ union_body (out-UnionType u).identifier (out-UnionType u).switch (out-UnionType u).first.value (flat_map case_steps (out-UnionType u).rest.items)
+    ≡ union_body (out-UnionType u).identifier (out-UnionType u).switch.value (out-UnionType u).first.value (flat_map case_steps (out-UnionType u).rest.items)
 union_listed u =
     union_walk union_steps (λ n row. cases_steps row) union_body [] (λ c others. case_steps c ++ others) (flat_map case_steps)
     (λ id s p c shape row. refl) refl (λ n c row. refl) refl (λ c cs. refl) u

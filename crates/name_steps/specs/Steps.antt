@@ -145,7 +145,7 @@ abbrev mutual
 
   pub union_steps : UnionType → List Step
   union_steps (UnionType' id switch p labels t declarator shape rest) =
-      opening Kinds.Union id ++ switch_steps switch
+      opening Kinds.Union id ++ switch_steps switch.value
       ++ (flat_map label_steps (parts labels) ++ type_steps t ++ declarator_steps declarator)
       ++ cases_steps rest ++ Leaves ∷ []
 

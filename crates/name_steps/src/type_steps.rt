@@ -203,7 +203,8 @@ impl<'a, 't> Steps<'a, 't> {
         ensures { OnOk result (steps_in self.new ≡ steps_in self.old ++ union_steps u.now) }
     {
         done!(self.open(EntryKind::Union, u.identifier));
-        done!(self.add_switch(&u.switch));
+        let chosen: &'t SwitchType<'a> = &u.switch;
+        done!(self.add_switch(chosen));
         done!(self.add_case(&u.first));
         done!(self.add_cases(u.rest.as_slice()));
         self.leaves()

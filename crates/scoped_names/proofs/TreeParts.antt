@@ -124,18 +124,18 @@ struct_holds es scope s h =
     record { entry = n; is = is; inner = (both.0, each_holds es (suc n) member_steps member_closed v.rest.items both.1) }
 
 pub union_holds : (es : List Entry) (scope : ℕ) (u : UnionType) → AllHold es scope (union_steps u)
-    → Inside es scope (out-UnionType u).identifier (λ inner. AllHold es inner (switch_steps (out-UnionType u).switch) × AllHold es inner (case_steps (out-UnionType u).first.value)
+    → Inside es scope (out-UnionType u).identifier (λ inner. AllHold es inner (switch_steps (out-UnionType u).switch.value) × AllHold es inner (case_steps (out-UnionType u).first.value)
     × AllByRecursion (λ c. AllHold es inner (case_steps c)) (out-UnionType u).rest.items)
 union_holds es scope u h =
     let v = out-UnionType u in
     let others = flat_map case_steps v.rest.items in
     let cases = each_closed case_steps case_closed v.rest.items in
     let steps = subst (AllHold es scope) (union_listed u) h in
-    let front = both_closed (switch_closed v.switch) (case_closed v.first.value) in
-    let (n, is, body) = inside_holds es scope v.identifier (Defines v.identifier ∷ ((switch_steps v.switch ++ case_steps v.first.value) ++ others))
+    let front = both_closed (switch_closed v.switch.value) (case_closed v.first.value) in
+    let (n, is, body) = inside_holds es scope v.identifier (Defines v.identifier ∷ ((switch_steps v.switch.value ++ case_steps v.first.value) ++ others))
     (defining_closed v.identifier (both_closed front cases)) steps.1 in
-    let last = both_hold es (suc n) (switch_steps v.switch ++ case_steps v.first.value) others front body.1 in
-    let first = both_hold es (suc n) (switch_steps v.switch) (case_steps v.first.value) (switch_closed v.switch) last.0 in
+    let last = both_hold es (suc n) (switch_steps v.switch.value ++ case_steps v.first.value) others front body.1 in
+    let first = both_hold es (suc n) (switch_steps v.switch.value) (case_steps v.first.value) (switch_closed v.switch.value) last.0 in
     record { entry = n; is = is; inner = (first.0, first.1, each_holds es (suc n) case_steps case_closed v.rest.items last.1) }
 
 pub except_holds : (es : List Entry) (scope : ℕ) (e : Except) → AllHold es scope (except_steps e)

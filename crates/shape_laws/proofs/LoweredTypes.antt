@@ -101,7 +101,7 @@ mutual
       → union_type es w scope a ≡ union_type es w scope b
   union_same es w scope (UnionType' l s p ls t d form rest) (UnionType' m r q ms u d' form' rest') h =
       let names : leaf_shape l ≡ leaf_shape m = cc in
-      let switches : switch_shape s ≡ switch_shape r = cc in
+      let switches : switch_shape s.value ≡ switch_shape r.value = cc in
       let labels : listed_shape label_shape ls ≡ listed_shape label_shape ms = cc in
       let types : type_shape t ≡ type_shape u = cc in
       let declarators : declarator_shape d ≡ declarator_shape d' = cc in
@@ -109,7 +109,7 @@ mutual
       let at = leaf_same l m names in
       let place = declarator_place d d' declarators in
       λ i. entry_same es scope l m names i >> λ e. opened w e (at i) >> λ o.
-      switch_same es o.lowered (e + 1) _ _ at s r switches i >> λ switch.
+      switch_same es o.lowered (e + 1) _ _ at s.value r.value switches i >> λ switch.
       case_added_same es (e + 1) switch.switch (cases_of switch.lowered no_arms) ls ms labels
       (λ v. type_spec es v (e + 1) (declarator_at d) t) (λ v. type_spec es v (e + 1) (declarator_at d') u)
       (λ v. type_same es v (e + 1) _ _ place t u types) d d' declarators i >> λ first.

@@ -120,7 +120,7 @@ mutual
 
   pub union_alike : (a b : UnionType) → union_shape a ≡ union_shape b → Alike (union_steps a) (union_steps b)
   union_alike (UnionType' l s p ls t d form rest) (UnionType' m r q ms u e form' rest') h =
-      joined (joined (joined (joined (opening_alike Kinds.Union l m cc) (switch_alike s r cc))
+      joined (joined (joined (joined (opening_alike Kinds.Union l m cc) (switch_alike s.value r.value cc))
       (joined (joined (labels_alike ls ms cc) (type_alike t u cc)) (declarator_alike d e cc)))
       (cases_alike rest rest' cc)) left
 

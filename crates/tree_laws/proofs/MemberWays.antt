@@ -210,7 +210,7 @@ mutual
 
   pub union_taken : (a : UnionType) → UnionTaken a
   union_taken (UnionType' id switch p ls t d shape rest) = record {
-    by = λ left few. takes_union left id switch ls t d rest (type_taken t) (cases_taken rest) (omega (arith, few)) (omega (arith, few)) (omega (arith, few)) (omega (arith, few)) (omega (arith, few));
+    by = λ left few. takes_union left id switch.value ls t d rest (type_taken t) (cases_taken rest) (omega (arith, few)) (omega (arith, few)) (omega (arith, few)) (omega (arith, few)) (omega (arith, few));
   }
 
   cases_taken : {n : _} (rest : Row_of-Case n) → CasesTaken rest

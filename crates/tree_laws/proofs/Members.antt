@@ -150,7 +150,7 @@ mutual
   pub same_union : (a b : UnionType) → Same (union_yield a) (union_yield b) (union_shape a ≡ union_shape b) Any
   same_union (UnionType' id switch p ls t d shape rest) (UnionType' id' switch' p' ks u e shape' others) =
       so (λ h. let x = h.0.0 in let y = h.0.1 in let z = h.1 in cc)
-      (ended (mark (codes "}")) (next (next (same_union_front id id' switch switch') (same_case_front ls t (same_type t) d ks u e)) (same_cases rest others)) (piece_among Punct (codes "}") _ refl))
+      (ended (mark (codes "}")) (next (next (same_union_front id id' switch.value switch'.value) (same_case_front ls t (same_type t) d ks u e)) (same_cases rest others)) (piece_among Punct (codes "}") _ refl))
 
   same_cases : {n m : _} (rest : Row_of-Case n) (others : Row_of-Case m) → Same (cases_yield rest) (cases_yield others) (cases_shape rest ≡ cases_shape others) BraceEnds
   same_cases end_of-Case end_of-Case = so (λ u. refl) (fixed [])

@@ -77,7 +77,7 @@ abbrev mutual
 
   pub union_shape : UnionType → Shape
   union_shape (UnionType' id switch p labels t declarator shape rest) =
-      Both (Both (Both (leaf_shape id) (switch_shape switch))
+      Both (Both (Both (leaf_shape id) (switch_shape switch.value))
       (Both (Both (listed_shape label_shape labels) (type_shape t)) (declarator_shape declarator)))
       (cases_shape rest)
 

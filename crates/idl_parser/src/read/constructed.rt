@@ -15,7 +15,7 @@ ghost use Rattle.idl_tree.specs.TypeLevels.{label_levels, member_levels, case_le
 
 use crate::cursor::Cursor;
 use crate::read::expressions::read_expr;
-use crate::read::lists::{add, first_boxed, read_listed, read_named, read_opened};
+use crate::read::lists::{add, boxed, first_boxed, read_listed, read_named, read_opened};
 use crate::read::types::{read_declarator, read_enum, read_simple_type, read_switch};
 use crate::stop::Stop;
 use idl_lexer::Kind;
@@ -258,9 +258,10 @@ fn union_of<'a>(
 {
     let mut rest = cases;
     let first = got!(first_boxed(cursor.alloc(), &mut rest));
+    let chosen = got!(boxed(cursor.alloc(), switch));
     Ok(UnionType {
         identifier: name,
-        switch,
+        switch: chosen,
         first,
         rest,
     })

@@ -152,7 +152,7 @@ lower_union-returns-in_err-switch t c =
     let opens = ap (opened w e) (sym c.at-at.ensures) ∙ c.in_ok-number.ensures in
     rw (p.1, p.2) (or_told c.in_err-switch.ensures (λ is. union_opened es w scope u e o told opens
     ∙ stops (switch_read es o.lowered (e + 1) (leaf_at (union_id u)) (switch_of u)) _ (union_switched es (union_id u) (first_case u) (more_cases u) e o)
-    (ap (λ at. switch_read es o.lowered (e + 1) at (switch_of u)) (sym c.at-at.ensures) ∙ is)))
+    (ap (λ at. switch_read es o.lowered (e + 1) at (switch_of u)) (sym c.at-at.ensures) ∙ ap (switch_read es o.lowered (e + 1) c.at-at.result) (sym c.deref-chosen.ensures) ∙ is)))
 
 pub lower_union-returns-in_err-lower_case : goal.lower_union-returns-in_err-lower_case
 lower_union-returns-in_err-lower_case t c =
@@ -166,7 +166,7 @@ lower_union-returns-in_err-lower_case t c =
     let o = already c.declare.new.self c.in_ok-number.number in
     let opens = ap (opened w e) (sym c.at-at.ensures) ∙ c.in_ok-number.ensures in
     let sw = switched c.lower_switch.new.table c.in_ok-switch.switch in
-    let switches = ap (λ at. switch_read es o.lowered (e + 1) at (switch_of u)) (sym c.at-at.ensures) ∙ c.in_ok-switch.ensures in
+    let switches = ap (λ at. switch_read es o.lowered (e + 1) at (switch_of u)) (sym c.at-at.ensures) ∙ ap (switch_read es o.lowered (e + 1) c.at-at.result) (sym c.deref-chosen.ensures) ∙ c.in_ok-switch.ensures in
     let same = first_cases es (e + 1) sw.switch c.lower_switch.new.table c.new-arms.result c.deref.result.now (first_case u) c.new-arms.ensures c.deref.ensures in
     rw (p.1, p.2) (or_told c.in_err-lower_case.ensures (λ is. union_chosen es w scope u e o sw told opens switches
     ∙ stops (with_case_of es (e + 1) sw.switch (cases_of sw.lowered no_arms) (first_case u)) _ (union_more es (union_id u) (more_cases u) e o sw.switch) (same ∙ is)))
@@ -183,7 +183,7 @@ lower_union-returns-in_err-lower_case-2 t c =
     let o = already c.declare.new.self c.in_ok-number.number in
     let opens = ap (opened w e) (sym c.at-at.ensures) ∙ c.in_ok-number.ensures in
     let sw = switched c.lower_switch.new.table c.in_ok-switch.switch in
-    let switches = ap (λ at. switch_read es o.lowered (e + 1) at (switch_of u)) (sym c.at-at.ensures) ∙ c.in_ok-switch.ensures in
+    let switches = ap (λ at. switch_read es o.lowered (e + 1) at (switch_of u)) (sym c.at-at.ensures) ∙ ap (switch_read es o.lowered (e + 1) c.at-at.result) (sym c.deref-chosen.ensures) ∙ c.in_ok-switch.ensures in
     let m = cases_of c.lower_case.new.table c.lower_case.new.arms in
     let same = first_cases es (e + 1) sw.switch c.lower_switch.new.table c.new-arms.result c.deref.result.now (first_case u) c.new-arms.ensures c.deref.ensures in
     let first : with_case_of es (e + 1) sw.switch (cases_of sw.lowered no_arms) (first_case u) ≡ Ok m = same ∙ c.in_ok-lower_case.ensures in
@@ -208,7 +208,7 @@ lower_union-returns-in_err-define_union t c =
     let o = already c.declare.new.self c.in_ok-number.number in
     let opens = ap (opened w e) (sym c.at-at.ensures) ∙ c.in_ok-number.ensures in
     let sw = switched c.lower_switch.new.table c.in_ok-switch.switch in
-    let switches = ap (λ at. switch_read es o.lowered (e + 1) at (switch_of u)) (sym c.at-at.ensures) ∙ c.in_ok-switch.ensures in
+    let switches = ap (λ at. switch_read es o.lowered (e + 1) at (switch_of u)) (sym c.at-at.ensures) ∙ ap (switch_read es o.lowered (e + 1) c.at-at.result) (sym c.deref-chosen.ensures) ∙ c.in_ok-switch.ensures in
     let m = cases_of c.lower_case.new.table c.lower_case.new.arms in
     let same = first_cases es (e + 1) sw.switch c.lower_switch.new.table c.new-arms.result c.deref.result.now (first_case u) c.new-arms.ensures c.deref.ensures in
     let first : with_case_of es (e + 1) sw.switch (cases_of sw.lowered no_arms) (first_case u) ≡ Ok m = same ∙ c.in_ok-lower_case.ensures in
@@ -232,7 +232,7 @@ lower_union-returns t c =
     let o = already c.declare.new.self c.in_ok-number.number in
     let opens = ap (opened w e) (sym c.at-at.ensures) ∙ c.in_ok-number.ensures in
     let sw = switched c.lower_switch.new.table c.in_ok-switch.switch in
-    let switches = ap (λ at. switch_read es o.lowered (e + 1) at (switch_of u)) (sym c.at-at.ensures) ∙ c.in_ok-switch.ensures in
+    let switches = ap (λ at. switch_read es o.lowered (e + 1) at (switch_of u)) (sym c.at-at.ensures) ∙ ap (switch_read es o.lowered (e + 1) c.at-at.result) (sym c.deref-chosen.ensures) ∙ c.in_ok-switch.ensures in
     let m = cases_of c.lower_case.new.table c.lower_case.new.arms in
     let same = first_cases es (e + 1) sw.switch c.lower_switch.new.table c.new-arms.result c.deref.result.now (first_case u) c.new-arms.ensures c.deref.ensures in
     let first : with_case_of es (e + 1) sw.switch (cases_of sw.lowered no_arms) (first_case u) ≡ Ok m = same ∙ c.in_ok-lower_case.ensures in

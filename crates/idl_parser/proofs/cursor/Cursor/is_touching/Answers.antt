@@ -12,7 +12,7 @@ returns-in_default-get c = rw (← c.self.view_is) (sym (one_touches_not (codes 
 pub returns-then-is_this : goal.returns-then-is_this
 returns-then-is_this c =
     let next = c.in-Some-get.ensures.lookup in
-    rw (← c.self.view_is) (sym (touches (codes ">") c.self.inside.number c.self.inside.rest.now c.in-Some.first.now c.in-Some-get.second.now c.in-Some.ensures.item.1 next.3.0 next.1 (sym c.is_this.ensures ∙ c.if-is_this.true)))
+    rw (← c.self.view_is) (c.touches.ensures ∙ sym (touches (codes ">") c.self.inside.number c.self.inside.rest.now c.in-Some.first.now c.in-Some-get.second.now c.in-Some.ensures.item.1 next.3.0 next.1 (sym c.is_this.ensures ∙ c.if-is_this.true)))
 
 pub returns-else-is_this : goal.returns-else-is_this
 returns-else-is_this c =

@@ -33,12 +33,12 @@ add_union-returns t c =
     let u = out-UnionType c.args.u.now in
     let old = steps_in c.args.self.now in
     let opened = opening Kinds.Union u.identifier in
-    let switched = switch_steps u.switch in
+    let switched = switch_steps u.switch.value in
     let first = case_steps u.first.value in
     let others = flat_map case_steps u.rest.items in
     let begun : steps_in c.add_case.new.self ≡ ((old ++ opened) ++ switched) ++ first =
     c.in-Ok-add_case.ensures ∙ ap (λ k. steps_in c.add_switch.new.self ++ case_steps k) c.deref.ensures
-    ∙ ap (λ xs. xs ++ first) (c.in-Ok-add_switch.ensures ∙ ap (λ xs. xs ++ switched) c.in-Ok.ensures) in
+    ∙ ap (λ xs. xs ++ first) (c.in-Ok-add_switch.ensures ∙ ap (λ k. steps_in c.open.new.self ++ switch_steps k) c.deref-chosen.ensures ∙ ap (λ xs. xs ++ switched) c.in-Ok.ensures) in
     let so_far : steps_in c.add_cases.new.self ≡ (((old ++ opened) ++ switched) ++ first) ++ others =
     c.in-Ok-add_cases.ensures ∙ ap (λ ks. steps_in c.add_case.new.self ++ flat_map case_steps ks) c.as_slice.ensures.value
     ∙ ap (λ xs. xs ++ others) begun in
