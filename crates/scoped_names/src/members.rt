@@ -1,28 +1,39 @@
 //! Members and parameters, which no search finds.
 
 ghost use Rattle.std.specs.Prelude.{◌≡◌, ◌<◌, ◌++◌, ◌∷◌, [], ℕ, length, None, OnErr, OnOk};
+ghost use Rattle.std.specs.BTreeMap.{is_at};
+ghost use Rattle.std.specs.Map.{lookup};
+ghost use Rattle.name_table.specs.Search.{word};
+ghost use Rattle.name_table.specs.inner.Keys.{word_cmp};
 ghost use Rattle.scoped_names.specs.Faults.{member_named};
-ghost use Rattle.scoped_names.specs.inner.StateKept.{member_of, places_at};
+ghost use Rattle.scoped_names.specs.inner.StateKept.{leaves_at, leaves_with, member_of, places_at, places_with, sought, ServesAll, ServesMore};
 
-use idl_tree::names::At;
+use idl_tree::names::{At, Leaf};
 use name_table::{Key, Scope, Word};
 use std::alloc::{AllocError, Global};
 use std::collections::BTreeMap;
 use std::marker::Model;
 
-/// A member or a parameter, and where it is declared.
+/// How many members of a scope are sought one by one.
+const FEW: usize = 16;
+
+/// A member or a parameter: its scope and its identifier.
 #[derive(Clone, Copy)]
 pub(crate) struct Placed<'a> {
-    key: Key<'a>,
-    at: At,
+    scope: Scope,
+    identifier: Leaf<'a>,
 }
 
 /// The members and parameters that scopes have. A contract sees them in order of declaration.
+///
+/// Nearly all scopes have few, for which a map would take several times the memory of a list.
 pub(crate) struct Members<'a> {
     alloc: Global,
     all: Vec<Placed<'a>>,
-    /// Where those of each scope are declared.
-    scopes: Vec<BTreeMap<Word<'a>, At>>,
+    /// The first members of each scope.
+    few: Vec<Vec<Leaf<'a>>>,
+    /// Where those behind the first of a scope are declared.
+    many: Vec<BTreeMap<Word<'a>, At>>,
 }
 
 impl<'a> Model for Members<'a> {
@@ -34,7 +45,7 @@ impl<'a> Model for Members<'a> {
 
     ghost view = { λ m. map member_placed m.all.items };
 
-    ghost invariant = { λ m. AreFound (map member_placed m.all.items) m.scopes.items };
+    ghost invariant = { λ m. AreFound (map member_placed m.all.items) m.few.items m.many.items };
 }
 
 impl<'a> Drop for Members<'a> {
@@ -42,24 +53,131 @@ impl<'a> Drop for Members<'a> {
         let Members {
             alloc: _,
             all: _,
-            scopes: _,
+            few: _,
+            many: _,
         } = self;
     }
 }
 
-/// Makes room for the members of a scope.
-fn make_room(
-    alloc: Global,
-    scopes: &mut Vec<BTreeMap<Word<'_>, At>>,
-    scope: Scope,
-) -> Result<(), AllocError>
-    ensures same { (s : ℕ) → places_at scopes.new.items s ≡ places_at scopes.old.items s }
-    ensures there { OnOk result (scope.0 < length scopes.new.items) }
+/// Where the first of the identifiers stands that has the name, whatever its case.
+fn seek(identifiers: &[Leaf<'_>], name: &str) -> Option<At>
+    ensures { result ≡ sought identifiers.now name.now }
 {
-    while scopes.len() <= scope.0 {
-        scopes.push(BTreeMap::new(alloc))?;
+    for identifier in identifiers {
+        if name.eq_ignore_ascii_case(identifier.name()) {
+            return Some(identifier.at());
+        }
+    }
+    None
+}
+
+/// Where the scope's member of the name is declared, among the first.
+fn seek_first(few: &[Vec<Leaf<'_>>], scope: Scope, name: &str) -> Option<At>
+    ensures { result ≡ sought (leaves_at few.now scope.0) name.now }
+{
+    if scope.0 < few.len() {
+        seek(few[scope.0].as_slice(), name)
+    } else {
+        None
+    }
+}
+
+/// Where the scope's member of the word is declared, among those behind the first.
+fn seek_behind<'a>(many: &[BTreeMap<Word<'a>, At>], key: &Key<'a>) -> Option<At>
+    ensures { result ≡ lookup (is_at (word_cmp key.now.word)) (places_at many.now key.now.scope.0) }
+{
+    if key.scope.0 < many.len() {
+        many[key.scope.0].get(&key.word).copied()
+    } else {
+        None
+    }
+}
+
+/// Makes room for the first members of a scope.
+fn make_room(alloc: Global, few: &mut Vec<Vec<Leaf<'_>>>, scope: Scope) -> Result<(), AllocError>
+    ensures same { (s : ℕ) → leaves_at few.new.items s ≡ leaves_at few.old.items s }
+    ensures there { OnOk result (scope.0 < length few.new.items) }
+{
+    while few.len() <= scope.0 {
+        few.push(Vec::new(alloc))?;
     }
     Ok(())
+}
+
+/// Makes room for the members of a scope behind the first.
+fn make_more_room(
+    alloc: Global,
+    many: &mut Vec<BTreeMap<Word<'_>, At>>,
+    scope: Scope,
+) -> Result<(), AllocError>
+    ensures same { (s : ℕ) → places_at many.new.items s ≡ places_at many.old.items s }
+    ensures there { OnOk result (scope.0 < length many.new.items) }
+{
+    while many.len() <= scope.0 {
+        many.push(BTreeMap::new(alloc))?;
+    }
+    Ok(())
+}
+
+/// Whether the scope has few members yet.
+fn has_few(few: &[Vec<Leaf<'_>>], scope: Scope) -> bool {
+    if scope.0 < few.len() {
+        few[scope.0].len() < FEW
+    } else {
+        true
+    }
+}
+
+/// One member more, among the first of its scope.
+fn keep_first<'a>(
+    alloc: Global,
+    few: &mut Vec<Vec<Leaf<'a>>>,
+    scope: Scope,
+    identifier: Leaf<'a>,
+) -> Result<(), AllocError>
+    ensures kept { OnOk result ((s : ℕ) →
+        leaves_at few.new.items s ≡ leaves_with scope.0 identifier.entry (leaves_at few.old.items s) s) }
+    ensures err { OnErr result ((s : ℕ) → leaves_at few.new.items s ≡ leaves_at few.old.items s) }
+{
+    make_room(alloc, few, scope)?;
+    few[scope.0].push(identifier)?;
+    Ok(())
+}
+
+/// One member more, behind the first of its scope.
+fn keep_behind<'a>(
+    alloc: Global,
+    many: &mut Vec<BTreeMap<Word<'a>, At>>,
+    key: Key<'a>,
+    at: At,
+) -> Result<(), AllocError>
+    ensures kept { OnOk result ((s : ℕ) (q : Word) → lookup (is_at (word_cmp q)) (places_at many.new.items s)
+        ≡ places_with key.entry at q (lookup (is_at (word_cmp q)) (places_at many.old.items s)) s) }
+    ensures err { OnErr result ((s : ℕ) → places_at many.new.items s ≡ places_at many.old.items s) }
+{
+    make_more_room(alloc, many, key.scope)?;
+    many[key.scope.0].insert(key.word, at)?;
+    Ok(())
+}
+
+/// One member more, of a name that its scope hasn't yet.
+fn keep<'a>(
+    alloc: Global,
+    few: &mut Vec<Vec<Leaf<'a>>>,
+    many: &mut Vec<BTreeMap<Word<'a>, At>>,
+    scope: Scope,
+    identifier: Leaf<'a>,
+) -> Result<(), AllocError>
+    ensures kept { OnOk result
+        (ServesMore scope.0 identifier.entry few.old.items many.old.items few.new.items many.new.items) }
+    ensures err { OnErr result
+        (ServesAll few.old.items many.old.items few.new.items many.new.items) }
+{
+    if has_few(few.as_slice(), scope) {
+        return keep_first(alloc, few, scope, identifier);
+    }
+    let word = Word::new(identifier.name());
+    keep_behind(alloc, many, Key { scope, word }, identifier.at())
 }
 
 impl<'a> Members<'a> {
@@ -70,7 +188,8 @@ impl<'a> Members<'a> {
         Members {
             alloc,
             all: Vec::new(alloc),
-            scopes: Vec::new(alloc),
+            few: Vec::new(alloc),
+            many: Vec::new(alloc),
         }
     }
 
@@ -78,10 +197,9 @@ impl<'a> Members<'a> {
     pub fn at(&self, key: &Key<'a>) -> Option<At>
         ensures { result ≡ member_named self.now key.now.scope.0 key.now.word.text.now }
     {
-        if key.scope.0 < self.scopes.len() {
-            self.scopes[key.scope.0].get(&key.word).copied()
-        } else {
-            None
+        match seek_first(self.few.as_slice(), key.scope, key.word.text) {
+            Some(at) => Some(at),
+            None => seek_behind(self.many.as_slice(), key),
         }
     }
 
@@ -90,15 +208,14 @@ impl<'a> Members<'a> {
     /// # Errors
     ///
     /// `AllocError`, and then nothing has changed.
-    pub fn push(&mut self, key: Key<'a>, at: At) -> Result<(), AllocError>
-        requires { member_named self.old key.scope.0 key.word.text.now ≡ None }
-        ensures pushed { OnOk result (self.new ≡ self.old ++ member_of key.entry at ∷ []) }
+    pub fn push(&mut self, scope: Scope, identifier: Leaf<'a>) -> Result<(), AllocError>
+        requires { member_named self.old scope.0 (word identifier) ≡ None }
+        ensures pushed { OnOk result (self.new ≡ self.old ++ member_of scope.0 identifier.entry ∷ []) }
         ensures err { OnErr result (self.new ≡ self.old) }
     {
         self.all.reserve(1)?;
-        make_room(self.alloc, &mut self.scopes, key.scope)?;
-        self.scopes[key.scope.0].insert(key.word, at)?;
-        self.all.push_reserved(Placed { key, at });
+        keep(self.alloc, &mut self.few, &mut self.many, scope, identifier)?;
+        self.all.push_reserved(Placed { scope, identifier });
         Ok(())
     }
 }

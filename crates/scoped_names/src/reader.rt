@@ -347,11 +347,7 @@ impl<'a> Reader<'a> {
         ensures kept { Keeps result self.old self.new }
     {
         self.is_new(identifier)?;
-        let key = Key {
-            scope: self.scope,
-            word: Word::new(identifier.name()),
-        };
-        room!(self.members.push(key, identifier.at()));
+        room!(self.members.push(self.scope, identifier));
         Ok(())
     }
 
