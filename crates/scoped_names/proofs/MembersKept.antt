@@ -24,10 +24,9 @@ use Rattle.name_table.specs.Search.{word}
 use Rattle.name_table.specs.inner.Keys.{folded, word_cmp, word_cmp_total, word_ties}
 use Rattle.name_table.proofs.Orders.{word_found}
 use Rattle.name_table.proofs.Stability.{get_push}
-use Rattle.scoped_names.specs.declared.members.Placed.{Placed}
 use Rattle.scoped_names.specs.Faults.{member_named}
 use Rattle.scoped_names.specs.Reading.{Member}
-use Rattle.scoped_names.specs.inner.StateKept.{AreFound, found_at, leaves_at, leaves_in, leaves_with, member_of, member_placed, places_at, places_in, places_with, sought}
+use Rattle.scoped_names.specs.inner.StateKept.{AreFound, found_at, leaves_at, leaves_in, leaves_with, member_of, places_at, places_in, places_with, sought}
 
 -- ---- what is read of a list of which one part was changed
 
@@ -147,10 +146,6 @@ sought_on ls k name l lt read other =
     ∙ ap (λ b. let o : Option At = if b then Some (leaf_at l) else sought (drop (suc k) ls) name in o) other
 
 -- ---- members
-
-pub members_push : (ps : List Placed) (p : Placed) → map member_placed (ps ++ p ∷ []) ≡ map member_placed ps ++ member_placed p ∷ []
-members_push [] p = refl
-members_push (x ∷ ps) p = ap (λ ms. member_placed x ∷ ms) (members_push ps p)
 
 named_push : (ms : List Member) (m : Member) (scope : ℕ) (name : List ℕ)
     → member_named (ms ++ m ∷ []) scope name ≡ option_or (member_named ms scope name) (member_named (m ∷ []) scope name)

@@ -13,6 +13,7 @@ use name_table::{Key, Scope, Word};
 use std::alloc::{AllocError, Global};
 use std::collections::BTreeMap;
 use std::marker::Model;
+use std::snapshot::Snapshot;
 
 /// How many members of a scope are sought one by one.
 const FEW: usize = 16;
@@ -24,12 +25,23 @@ pub(crate) struct Placed<'a> {
     identifier: Leaf<'a>,
 }
 
+/// The members and parameters so far. Those before the last are for contracts alone, and take no
+/// memory.
+#[cycle(past)]
+pub(crate) enum Past<'a> {
+    Nothing,
+    More {
+        before: Snapshot<Past<'a>>,
+        last: Placed<'a>,
+    },
+}
+
 /// The members and parameters that scopes have. A contract sees them in order of declaration.
 ///
 /// Nearly all scopes have few, for which a map would take several times the memory of a list.
 pub(crate) struct Members<'a> {
     alloc: Global,
-    all: Vec<Placed<'a>>,
+    past: Past<'a>,
     /// The first members of each scope.
     few: Vec<Vec<Leaf<'a>>>,
     /// Where those behind the first of a scope are declared.
@@ -37,22 +49,32 @@ pub(crate) struct Members<'a> {
 }
 
 impl<'a> Model for Members<'a> {
-    ghost use Rattle.std.specs.Prelude.{List, map};
+    ghost use Rattle.std.specs.Prelude.{List};
     ghost use Rattle.scoped_names.specs.Reading.{Member};
-    ghost use Rattle.scoped_names.specs.inner.StateKept.{member_placed, AreFound};
+    ghost use Rattle.scoped_names.specs.inner.StateKept.{members_in, AreFound};
 
     ghost Value = { List Member };
 
-    ghost view = { λ m. map member_placed m.all.items };
+    ghost view = { λ m. members_in m.past };
 
-    ghost invariant = { λ m. AreFound (map member_placed m.all.items) m.few.items m.many.items };
+    ghost invariant = { λ m. AreFound (members_in m.past) m.few.items m.many.items };
+}
+
+impl<'a> Drop for Past<'a> {
+    #[cycle(drop_past)]
+    fn drop(self) {
+        match self {
+            Past::Nothing => {}
+            Past::More { before: _, last: _ } => {}
+        }
+    }
 }
 
 impl<'a> Drop for Members<'a> {
     fn drop(self) {
         let Members {
             alloc: _,
-            all: _,
+            past: _,
             few: _,
             many: _,
         } = self;
@@ -187,7 +209,7 @@ impl<'a> Members<'a> {
     {
         Members {
             alloc,
-            all: Vec::new(alloc),
+            past: Past::Nothing,
             few: Vec::new(alloc),
             many: Vec::new(alloc),
         }
@@ -213,9 +235,10 @@ impl<'a> Members<'a> {
         ensures pushed { OnOk result (self.new ≡ self.old ++ member_of scope.0 identifier.entry ∷ []) }
         ensures err { OnErr result (self.new ≡ self.old) }
     {
-        self.all.reserve(1)?;
         keep(self.alloc, &mut self.few, &mut self.many, scope, identifier)?;
-        self.all.push_reserved(Placed { scope, identifier });
+        let before = Snapshot::of(&self.past);
+        let last = Placed { scope, identifier };
+        self.past = Past::More { before, last };
         Ok(())
     }
 }

@@ -12,6 +12,7 @@ use Rattle.name_table.specs.declared.key.Key.{Key}
 use Rattle.name_table.specs.declared.key.Word.{Word}
 use Rattle.name_table.specs.inner.Keys.{word_cmp}
 use Rattle.name_table.specs.Search.{word}
+use Rattle.scoped_names.specs.declared.members.Past.{Past, Nothing, More'}
 use Rattle.scoped_names.specs.declared.members.Placed.{Placed}
 use Rattle.scoped_names.specs.Faults.{member_named}
 use Rattle.scoped_names.specs.Reading.{Member}
@@ -21,6 +22,11 @@ member_of scope l = record { scope = scope; name = word l; at = leaf_at l }
 
 abbrev pub member_placed : Placed → Member
 member_placed p = member_of p.scope.0 p.identifier
+
+-- those so far, in order of declaration
+abbrev pub members_in : Past → List Member
+members_in Nothing = []
+members_in (More' shape before last) = members_in before ++ member_placed last ∷ []
 
 -- ---- the first members of each scope
 
