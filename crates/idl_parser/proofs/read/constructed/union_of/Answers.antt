@@ -6,7 +6,7 @@ use Rattle.idl_tree.specs.Yields.{identifier}
 use Rattle.idl_tree.specs.TypeYields.{case_yield, switch_yield}
 use Rattle.idl_tree.specs.Levels.{highest}
 use Rattle.idl_tree.specs.TypeLevels.{case_levels, switch_levels}
-use Rattle.idl_tree.proofs.Members.{union_yields, union_nests, union_pieces}
+use Rattle.idl_tree.proofs.Members.{union_yields, union_nests}
 use Rattle.idl_parser.proofs.Pairs.{group_three}
 use Rattle.idl_parser.proofs.read.constructed.union_of.Goals as goal
 
@@ -17,7 +17,8 @@ returns-clause-spells c =
     let pre = keyword (codes "union") ++ identifier c.args.name ++ keyword (codes "switch") ++ mark (codes "(") ++ switch_yield c.args.switch
     ++ mark (codes ")") ++ mark (codes "{") in
     union_yields c.args.name c.in-Ok-boxed.part first rest
-    ∙ ap (λ s. union_pieces c.args.name s first.value (flat_map case_yield rest.items)) c.in-Ok-boxed.ensures.spells
+    ∙ ap (λ s. keyword (codes "union") ++ identifier c.args.name ++ keyword (codes "switch") ++ mark (codes "(") ++ switch_yield s
+    ++ mark (codes ")") ++ mark (codes "{") ++ case_yield first.value ++ flat_map case_yield rest.items ++ mark (codes "}")) c.in-Ok-boxed.ensures.spells
     ∙ sym (group_three pre (case_yield first.value) (flat_map case_yield rest.items) (mark (codes "}")))
     ∙ ap (λ cs. pre ++ (flat_map case_yield cs ++ mark (codes "}"))) (sym c.in-Ok.ensures.spells)
 
