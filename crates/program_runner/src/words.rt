@@ -12,7 +12,7 @@ pub fn gap_at(place: u64, to: Width) -> usize
     ensures short { result < 8 }
 {
     let k = to.octets() as u64;
-    ((k - place % k) % k) as usize
+    (place.wrapping_neg() % k) as usize
 }
 
 /// The octets of an unsigned long.

@@ -71,11 +71,13 @@ abbrev pub AreFound : List Member → List (Vec Leaf Global) → List (BTreeMap 
 AreFound members few many = (scope : ℕ) (w : Word) → found_at few many scope w ≡ member_named members scope w.text.now
 
 -- what is kept serves the same members, and one more of a name that its scope hasn't yet
-abbrev pub ServesMore : ℕ → Leaf → List (Vec Leaf Global) → List (BTreeMap Word At) → List (Vec Leaf Global) → List (BTreeMap Word At) → Type 0
+abbrev pub ServesMore : ℕ → Leaf
+    → List (Vec Leaf Global) → List (BTreeMap Word At) → List (Vec Leaf Global) → List (BTreeMap Word At) → Type 0
 ServesMore scope l few many few' many' =
     (members : List Member) → AreFound members few many → member_named members scope (word l) ≡ None
     → AreFound (members ++ member_of scope l ∷ []) few' many'
 
 -- it serves the same members
-abbrev pub ServesAll : List (Vec Leaf Global) → List (BTreeMap Word At) → List (Vec Leaf Global) → List (BTreeMap Word At) → Type 0
+abbrev pub ServesAll :
+    List (Vec Leaf Global) → List (BTreeMap Word At) → List (Vec Leaf Global) → List (BTreeMap Word At) → Type 0
 ServesAll few many few' many' = (members : List Member) → AreFound members few many → AreFound members few' many'
