@@ -1,5 +1,6 @@
 use Rattle.std.proofs.Common.{◌∙◌, ◌+◌, ap, inr, sym, subst}
 use Rattle.std.proofs.lemmas.Result.{err_from_is_err_and}
+use Rattle.lowered_names.specs.Types.{switch_parts}
 use Rattle.lowered_types.specs.Faults.{Tells}
 use Rattle.lowered_types.specs.SimpleTypes.{entry_of}
 use Rattle.lowered_types.proofs.Walks.{stops}
