@@ -2,13 +2,26 @@
 
 ghost use Rattle.std.specs.Prelude.{◌≡◌, ◌<◌, ◌≤◌, ◌++◌, IfOk, OnOk, length, take};
 ghost use Rattle.type_graph.specs.declared.width.Width.TheVariants.{Four};
-ghost use Rattle.program_runner.specs.inner.Steps.{Gives, Passes, number_at, is_over, read_length, tape_length, no_zero, terminated, unterminated};
+ghost use Rattle.program_runner.specs.inner.Steps.{number_of, Gives, Passes, number_at, is_over, read_length, tape_length, no_zero, terminated, unterminated};
 
 use crate::blocks::push_unless;
 use crate::fault::RunFault;
 use crate::lanes::Zero;
 use crate::output::Output;
 use type_graph::Order;
+
+/// The unsigned long that the first four octets are (ISO/IEC 19500-2, CDR, integer data types).
+#[inline(always)]
+pub fn number_of_front(order: Order, octets: &[u8]) -> u32
+    requires { 4 ≤ length octets.now }
+    ensures { result ≡ number_of order Four octets.now }
+{
+    let word = [octets[0], octets[1], octets[2], octets[3]];
+    match order {
+        Order::Big => u32::from_be_bytes(word),
+        Order::Little => u32::from_le_bytes(word),
+    }
+}
 
 /// The unsigned long at the front (ISO/IEC 19500-2, CDR, integer data types).
 pub fn number_at_front(order: Order, octets: &[u8]) -> Result<u32, RunFault>
@@ -17,11 +30,7 @@ pub fn number_at_front(order: Order, octets: &[u8]) -> Result<u32, RunFault>
     if octets.len() < 4 {
         return Err(RunFault::Short);
     }
-    let word = [octets[0], octets[1], octets[2], octets[3]];
-    match order {
-        Order::Big => Ok(u32::from_be_bytes(word)),
-        Order::Little => Ok(u32::from_le_bytes(word)),
-    }
+    Ok(number_of_front(order, octets))
 }
 
 /// More than a bound, where there is one.
