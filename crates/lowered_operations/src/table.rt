@@ -35,7 +35,7 @@ impl Model for OperationTable {
 fn no_interfaces(alloc: Global, entries: usize) -> Result<Vec<Option<Offered>>, BuildFault>
     ensures { Tells result (λ interfaces. interfaces.items) (Ok (replicate entries None)) }
 {
-    let mut interfaces = Vec::new(alloc);
+    let mut interfaces = Vec::with_capacity(alloc, entries)?;
     for _ in 0..entries {
         interfaces.push(None)?;
     }

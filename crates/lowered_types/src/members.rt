@@ -1,6 +1,7 @@
 //! The members of structures and frames, while they are read.
 
-ghost use Rattle.std.specs.Prelude.{◌≡◌, length};
+ghost use Rattle.std.specs.Prelude.{◌≡◌, length, IfErr, IfOk};
+ghost use Rattle.lowered_types.specs.declared.fault.BuildFault.TheVariants.{NoMemory};
 ghost use Rattle.lowered_types.specs.Faults.{Tells};
 ghost use Rattle.lowered_types.specs.Types.{member_added, no_members};
 
@@ -45,6 +46,21 @@ impl MemberList {
             numbers: Vec::new(alloc),
             sites: Vec::new(alloc),
         }
+    }
+
+    /// No members, and room for so many, so that the lists are no longer than what is in them.
+    ///
+    /// # Errors
+    /// Want of memory.
+    pub(crate) fn with_room(alloc: Global, count: usize) -> Result<Self, BuildFault>
+        ensures empty { IfOk result (λ members. members ≡ no_members) }
+        ensures memory { IfErr result (λ fault. fault ≡ NoMemory) }
+    {
+        let room = count.min(MAX_MEMBERS as usize);
+        Ok(MemberList {
+            numbers: Vec::with_capacity(alloc, room)?,
+            sites: Vec::with_capacity(alloc, room)?,
+        })
     }
 
     /// One member more, of a type that has a number.

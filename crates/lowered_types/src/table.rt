@@ -1,6 +1,6 @@
 //! The types that are lowered so far.
 
-ghost use Rattle.std.specs.Prelude.{◌≡◌, ◌≤◌, length, slice_get, Ok};
+ghost use Rattle.std.specs.Prelude.{◌≡◌, ◌≤◌, [], length, slice_get, Ok};
 ghost use Rattle.lowered_types.specs.Faults.{Tells};
 ghost use Rattle.lowered_types.specs.SimpleTypes.{type_found};
 ghost use Rattle.lowered_types.specs.Lowered.{added, added_at, already, counted, held_at, is_undefined as has_no_definition, named_type, node_set, one_site, opened as opened_of, place_of, placed, raised_at, type_of, undefined as undefined_node, unlowered};
@@ -277,6 +277,26 @@ impl TypeTable {
         ensures { result.now ≡ self.now.sites }
     {
         self.sites.as_slice()
+    }
+
+    /// The same without the places where nodes stand. Takes no memory.
+    pub fn without_sites(self, alloc: Global) -> TypeTable
+        ensures { result ≡ record self { sites = [] } }
+    {
+        let TypeTable {
+            nodes,
+            places,
+            exceptions,
+            sites: _,
+            members,
+        } = self;
+        TypeTable {
+            nodes,
+            places,
+            exceptions,
+            sites: Vec::new(alloc),
+            members,
+        }
     }
 
     /// Gives the nodes back. Takes no memory.

@@ -155,7 +155,7 @@ pub(crate) fn lower_struct<'a>(
     let entry = declared_entry(names, scope, s.identifier)?;
     let number = table.declare(alloc, entry, at)?;
     let inside = Scope(entry + 1);
-    let mut members = MemberList::new(alloc);
+    let mut members = MemberList::with_room(alloc, s.rest.len().saturating_add(1))?;
     lower_member(names, table, alloc, inside, &s.first, &mut members)?;
     for member in &s.rest {
         lower_member(names, table, alloc, inside, member, &mut members)?;

@@ -32,6 +32,8 @@ pub(crate) fn model_of<'a>(
     ensures refused { IfErr result (IsRefusedBehind types) }
 {
     check_paths(alloc, &types)?;
+    // where nodes stand takes more memory than their names, and nobody asks for it from here on
+    let types = types.without_sites(alloc);
     let list = names_of(alloc, names, &types)?;
     let operations = operations_of(alloc, names, signatures)?;
     let exceptions = exceptions_of(alloc, names, types.exceptions())?;

@@ -11,4 +11,5 @@ pub mod MergedBases
 pub mod Ways
 pub mod WaysKept
 pub mod Features
+pub mod Bare
 pub mod Worked

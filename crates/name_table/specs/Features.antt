@@ -1,6 +1,6 @@
 -- Operations and attributes, and whether bases give different ones of a name.
-use Rattle.std.specs.Prelude.{ℕ, suc, Bool, true, false, not, if◌then◌else◌, nat_eq, map, List, None}
-use Rattle.std.specs.List.{list_any}
+use Rattle.std.specs.Prelude.{◌≡◌, ℕ, suc, Bool, true, false, not, if◌then◌else◌, nat_eq, map, List, [], None}
+use Rattle.std.specs.List.{AllByRecursion, list_any}
 use Rattle.idl_tree.specs.declared.kinds.EntryKind.{EntryKind}
 use Rattle.idl_tree.specs.declared.kinds.EntryKind.TheVariants.{Module, Interface, Struct, Union, Enum, Enumerator, Typedef, Const, Exception, Operation, Attribute}
 use Rattle.name_table.specs.declared.entry.Base.{Base}
@@ -47,6 +47,14 @@ as_feature e = record e { token = feature_token e; worth = None; stands_for = No
 -- the entries, of which no type hides an operation or attribute
 abbrev pub features_of : List Entry → List Entry
 features_of es = map as_feature es
+
+-- no interface has a base
+abbrev pub HaveNoBases : List Entry → Type 0
+HaveNoBases es = AllByRecursion (λ e. e.bases ≡ []) es
+
+-- of an entry without bases
+abbrev pub bare_feature : Entry → Entry
+bare_feature e = record (as_feature e) { bases = [] }
 
 abbrev pub is_one_other : Found → Found → Bool
 is_one_other (One a) (One b) = not (nat_eq a b)

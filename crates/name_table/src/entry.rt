@@ -1,9 +1,9 @@
 //! What a specification declares.
 
-ghost use Rattle.std.specs.Prelude.{◌≡◌};
+ghost use Rattle.std.specs.Prelude.{◌≡◌, if◌then◌else◌};
 ghost use Rattle.name_table.specs.Entries.{plain as plain_meaning};
 ghost use Rattle.name_table.specs.OwnNames.{keeps_its_name as keeps_name};
-ghost use Rattle.name_table.specs.Features.{feature_meant};
+ghost use Rattle.name_table.specs.Features.{feature_meant, is_feature, no_token};
 
 use const_values::{ConstKind, Constant};
 use idl_tree::kinds::EntryKind;
@@ -16,6 +16,17 @@ pub(crate) fn keeps_its_name(kind: EntryKind) -> bool
     match kind {
         EntryKind::Operation => false,
         _ => true,
+    }
+}
+
+/// Of what was declared at the token, the token from which it is found among operations and
+/// attributes alone.
+pub(crate) fn feature_token(kind: EntryKind, token: usize) -> usize
+    ensures { result ≡ (if is_feature kind then token else no_token) }
+{
+    match kind {
+        EntryKind::Operation | EntryKind::Attribute => token,
+        _ => usize::MAX,
     }
 }
 
@@ -49,11 +60,7 @@ impl Meaning {
     pub fn as_feature(&self) -> Self
         ensures { result ≡ feature_meant self.now }
     {
-        let token = match self.kind {
-            EntryKind::Operation | EntryKind::Attribute => self.token,
-            _ => usize::MAX,
-        };
-        Meaning::plain(token, self.kind)
+        Meaning::plain(feature_token(self.kind, self.token), self.kind)
     }
 }
 

@@ -6,30 +6,48 @@ ghost use Rattle.std.specs.List.{IsDistinct, list_any};
 use std::alloc::{AllocError, Global};
 use std::collections::BTreeMap;
 use std::marker::Model;
+use std::snapshot::Snapshot;
+
+/// The keys so far. Those before the last are for contracts alone, and take no memory.
+#[cycle(past)]
+pub(crate) enum Past<K: Copy> {
+    Nothing,
+    More { before: Snapshot<Past<K>>, last: K },
+}
 
 /// Keys, each with its number in the order in which they came. They are sought by their own order,
 /// so that no choice of keys makes that slow. A contract sees them in the order in which they came.
 pub struct Numbered<K: Ord + Copy> {
     numbers: BTreeMap<K, usize>,
-    keys: Vec<K>,
+    past: Past<K>,
 }
 
 impl<K: Ord + Copy> Model for Numbered<K> {
     ghost use Rattle.std.specs.Prelude.{List};
-    ghost use Rattle.name_table.specs.inner.Keys.{AreNumbered};
+    ghost use Rattle.name_table.specs.inner.Keys.{AreNumbered, keys_in};
 
     ghost Value = { List K };
 
-    ghost view = { λ n. n.keys.items };
+    ghost view = { λ n. keys_in n.past };
 
-    ghost invariant = { λ n. AreNumbered K.cmp n.numbers.entries n.keys.items };
+    ghost invariant = { λ n. AreNumbered K.cmp n.numbers.entries (keys_in n.past) };
+}
+
+impl<K: Copy> Drop for Past<K> {
+    #[cycle(drop_past)]
+    fn drop(self) {
+        match self {
+            Past::Nothing => {}
+            Past::More { before: _, last: _ } => {}
+        }
+    }
 }
 
 impl<K: Ord + Copy> Drop for Numbered<K> {
     fn drop(self) {
         let Numbered {
             numbers: _,
-            keys: _,
+            past: _,
         } = self;
     }
 }
@@ -41,7 +59,7 @@ impl<K: Ord + Copy> Numbered<K> {
     {
         Numbered {
             numbers: BTreeMap::new(alloc),
-            keys: Vec::new(alloc),
+            past: Past::Nothing,
         }
     }
 
@@ -82,9 +100,9 @@ impl<K: Ord + Copy> Numbered<K> {
         ensures err { OnErr result (self.new ≡ self.old) }
     {
         let number = self.numbers.len();
-        self.keys.reserve(1)?;
         self.numbers.insert(key, number)?;
-        self.keys.push_reserved(key);
+        let before = Snapshot::of(&self.past);
+        self.past = Past::More { before, last: key };
         Ok(())
     }
 

@@ -1,15 +1,17 @@
 //! What is kept of each entry.
 
-ghost use Rattle.std.specs.Prelude.{◌≡◌, Some};
+ghost use Rattle.std.specs.Prelude.{◌≡◌, IfOk, None, Some};
 ghost use Rattle.std.specs.Map.{lookup};
+ghost use Rattle.name_table.specs.Features.{bare_feature};
 ghost use Rattle.name_table.specs.OwnNames.{is_named_so};
-ghost use Rattle.name_table.specs.inner.Records.{entry_of, given_before, is_word};
+ghost use Rattle.name_table.specs.inner.Records.{entry_of, given_before, is_word, kind_known, worth_known};
 
-use crate::entry::{Base, keeps_its_name};
+use crate::entry::{Base, feature_token, keeps_its_name};
 use crate::key::{Key, Word};
 use crate::search::Found;
 use const_values::{ConstKind, Constant};
 use idl_tree::kinds::EntryKind;
+use std::alloc::{AllocError, Global};
 use std::collections::BTreeMap;
 
 /// What several bases give for a name.
@@ -39,6 +41,15 @@ pub(crate) struct Heir<'a> {
     pub others: BTreeMap<Word<'a>, Given>,
 }
 
+/// What few entries have.
+#[derive(Drop)]
+pub(crate) struct Known {
+    /// What a constant or an enumerator is worth.
+    pub worth: Option<Constant>,
+    /// The type of constants for which the name of a type stands in the end.
+    pub stands_for: Option<ConstKind>,
+}
+
 /// An entry.
 #[derive(Drop)]
 pub(crate) struct Record<'a> {
@@ -50,14 +61,27 @@ pub(crate) struct Record<'a> {
     /// The number of its identifier.
     pub identifier: usize,
     pub kind: EntryKind,
-    /// What a constant or an enumerator is worth.
-    pub worth: Option<Constant>,
-    /// The type of constants for which the name of a type stands in the end.
-    pub stands_for: Option<ConstKind>,
+    /// In a box, so that an entry that has none of it is small.
+    pub known: Option<Box<Known>>,
     /// The prefix of repository ids at the declaration.
     pub prefix: &'a str,
     /// Of an interface that has bases.
     pub heir: Option<Box<Heir<'a>>>,
+}
+
+/// Keeps what is known of an entry.
+pub(crate) fn known_of(
+    alloc: Global,
+    worth: Option<Constant>,
+    stands_for: Option<ConstKind>,
+) -> Result<Option<Box<Known>>, AllocError>
+    ensures worth { IfOk result (λ known. worth_known known ≡ worth) }
+    ensures kind { IfOk result (λ known. kind_known known ≡ stands_for) }
+{
+    if worth.is_none() && stands_for.is_none() {
+        return Ok(None);
+    }
+    Ok(Some(Box::new(alloc, Known { worth, stands_for })?))
 }
 
 impl<'a> Drop for Heir<'a> {
@@ -95,6 +119,23 @@ impl<'a> Heir<'a> {
 }
 
 impl<'a> Record<'a> {
+    /// The same of what is found among operations and attributes alone, and has no bases.
+    pub fn as_feature(&self) -> Record<'a>
+        ensures is { entry_of result ≡ bare_feature (entry_of self.now) }
+        ensures bare { result.heir ≡ None }
+    {
+        Record {
+            key: self.key,
+            token: feature_token(self.kind, self.token),
+            line: self.line,
+            identifier: self.identifier,
+            kind: self.kind,
+            known: None,
+            prefix: self.prefix,
+            heir: None,
+        }
+    }
+
     /// Whether it has the name, which can't be declared in its scope.
     pub fn is_named_so(&self, word: &Word<'a>) -> bool
         ensures { result ≡ is_named_so word.now.text.now (Some (entry_of self.now)) }

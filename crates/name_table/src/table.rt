@@ -4,6 +4,7 @@ ghost use Rattle.std.specs.Prelude.{◌≡◌, ◌<◌, ◌≤◌, ◌^◌, ◌�
 ghost use Rattle.idl_tree.specs.Starts.{name_start, name_first, is_rooted};
 ghost use Rattle.name_table.specs.Search.{own as own_of, inherited as inherited_by, within as within_of, within_first, outwards as outwards_from, sought_in, sight as sight_of, sees, word, begins_at_root, identifiers_see};
 ghost use Rattle.name_table.specs.Entry.{AreDistinct, AreNested, bases_in, worth_in, meant_in, named, name_in, prefix_in};
+ghost use Rattle.name_table.specs.Features.{features_of, HaveNoBases};
 ghost use Rattle.name_table.specs.OwnNames.{is_own_name as own_name_of};
 ghost use Rattle.idl_lexer.specs.Identifiers.{words};
 ghost use Rattle.name_table.specs.Entries.{entry_declared, latest, scope_of, with_base};
@@ -12,7 +13,7 @@ ghost use Rattle.name_table.specs.inner.Records.{entry_of, heir_of as heir_in_re
 use crate::entry::{Base, Meaning};
 use crate::key::{Key, Word};
 use crate::numbered::Numbered;
-use crate::record::{Heir, Record};
+use crate::record::{Heir, Record, known_of};
 use crate::scope::Scope;
 use crate::search::{Found, Sight};
 use crate::shortcuts::{Place, SearchStep, Shortcut, drop_way};
@@ -250,7 +251,10 @@ impl<'a> Table<'a> {
         requires { entry < length self.now }
         ensures { option_copied result ≡ worth_in (slice_get self.now entry) }
     {
-        self.record(entry).worth.as_ref()
+        match &self.record(entry).known {
+            Some(known) => known.worth.as_ref(),
+            None => None,
+        }
     }
 
     /// The type of constants for which the name of a type stands in the end, if it does.
@@ -258,7 +262,10 @@ impl<'a> Table<'a> {
         requires { entry < length self.now }
         ensures { result ≡ meant_in (slice_get self.now entry) }
     {
-        self.record(entry).stands_for
+        match &self.record(entry).known {
+            Some(known) => known.stands_for,
+            None => None,
+        }
     }
 
     /// The prefix of repository ids at an entry's first declaration.
@@ -368,22 +375,53 @@ impl<'a> Table<'a> {
         ensures err { OnErr result (self.new ≡ self.old) }
     {
         let word = Word::new(identifier.name());
-        let key = Key { scope, word };
-        list_word(alloc, &mut self.words, scope, word)?;
-        self.records.reserve(1)?;
-        self.keys.push(key)?;
-        self.records.push_reserved(Record {
-            key,
+        let known = known_of(alloc, meaning.worth, meaning.stands_for)?;
+        let record = Record {
+            key: Key { scope, word },
             token: meaning.token,
             line: identifier.token.line,
             identifier: identifier.number,
             kind: meaning.kind,
-            worth: meaning.worth,
-            stands_for: meaning.stands_for,
+            known,
             prefix,
             heir: None,
-        });
+        };
+        self.push(alloc, record)
+    }
+
+    /// Puts an entry behind the others. Its name is new in its scope, it has no bases, and it isn't
+    /// found before the last base.
+    fn push(&mut self, alloc: Global, added: Record<'a>) -> Result<(), AllocError>
+        requires scope { added.key.scope.0 ≤ length self.old }
+        requires new { named self.old added.key.scope.0 added.key.word.text.now ≡ None }
+        requires late { latest self.old ≤ added.token }
+        requires bare { added.heir ≡ None }
+        ensures added { OnOk result (self.new ≡ self.old ++ entry_of added.entry ∷ []) }
+        ensures err { OnErr result (self.new ≡ self.old) }
+    {
+        let key = added.key;
+        list_word(alloc, &mut self.words, key.scope, key.word)?;
+        self.records.reserve(1)?;
+        self.keys.push(key)?;
+        self.records.push_reserved(added);
         Ok(())
+    }
+
+    /// The same entries, of which nothing but operations and attributes is found.
+    ///
+    /// # Errors
+    ///
+    /// `AllocError`.
+    pub fn features(&self, alloc: Global) -> Result<Table<'a>, AllocError>
+        requires { HaveNoBases self.now }
+        ensures { IfOk result (λ features. features ≡ features_of self.now) }
+    {
+        let mut features = Table::new(alloc);
+        for number in 0..self.len() {
+            let feature = self.record(number).as_feature();
+            features.push(alloc, feature)?;
+        }
+        Ok(features)
     }
 
     /// How many entries there are. Scopes stand inside earlier ones, and no two entries of one have

@@ -7,7 +7,8 @@ use Rattle.std.proofs.lemmas.Option.{slice_get-map}
 use Rattle.name_table.specs.declared.entry.Base.{Base}
 use Rattle.name_table.specs.Entry.{Entry, is_named, named}
 use Rattle.name_table.specs.Entries.{entry_with_base, with_base}
-use Rattle.name_table.specs.Features.{as_feature, features_of}
+use Rattle.name_table.specs.Features.{HaveNoBases, as_feature, features_of}
+use Rattle.scoped_names.specs.inner.StateKept.{AreFeatures}
 use Rattle.name_table.proofs.Lookups.{position_map}
 use Rattle.name_table.proofs.MoreBases.{map_changed}
 
@@ -42,3 +43,13 @@ features_based es (suc e) base = by (slice_get es e) refl
 
 pub as_many : (es : List Entry) → length (features_of es) ≡ length es
 as_many es = length-map es as_feature
+
+-- ---- kept apart from the first base on
+
+pub are_apart : (all : List Entry) (b : Bool) (features : List Entry) → b ≡ true → AreFeatures all b features → features ≡ features_of all
+are_apart all true features is kept = kept
+are_apart all false features is kept = cc
+
+pub are_bare : (all : List Entry) (b : Bool) (features : List Entry) → b ≡ false → AreFeatures all b features → HaveNoBases all
+are_bare all true features is kept = cc
+are_bare all false features is kept = kept

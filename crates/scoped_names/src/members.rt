@@ -150,6 +150,18 @@ fn has_few(few: &[Vec<Leaf<'_>>], scope: Scope) -> bool {
     }
 }
 
+/// Adds an identifier to a list, which grows by two, since there are many short ones.
+fn add_leaf<'a>(list: &mut Vec<Leaf<'a>>, identifier: Leaf<'a>) -> Result<(), AllocError>
+    ensures added { OnOk result (list.new.items ≡ list.old.items ++ identifier.entry ∷ []) }
+    ensures err { OnErr result (list.new.items ≡ list.old.items) }
+{
+    if list.len() % 2 == 0 {
+        list.reserve_exact(2)?;
+    }
+    list.push(identifier)?;
+    Ok(())
+}
+
 /// One member more, among the first of its scope.
 fn keep_first<'a>(
     alloc: Global,
@@ -162,7 +174,7 @@ fn keep_first<'a>(
     ensures err { OnErr result ((s : ℕ) → leaves_at few.new.items s ≡ leaves_at few.old.items s) }
 {
     make_room(alloc, few, scope)?;
-    few[scope.0].push(identifier)?;
+    add_leaf(&mut few[scope.0], identifier)?;
     Ok(())
 }
 

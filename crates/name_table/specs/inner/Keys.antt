@@ -1,5 +1,5 @@
 -- Words as they are compared, and keys with numbers.
-use Rattle.std.specs.Prelude.{◌≡◌, ℕ, Bool, true, false, map, length, position, nat_eq, List, refl}
+use Rattle.std.specs.Prelude.{◌≡◌, ℕ, Bool, true, false, map, length, position, nat_eq, List, [], ◌∷◌, ◌++◌, refl}
 use Rattle.std.proofs.Common.{◌∙◌, sym, ap}
 use Rattle.std.specs.BTreeMap.{is_at}
 use Rattle.std.specs.Char.{to_ascii_lowercase}
@@ -11,6 +11,7 @@ use Rattle.std.specs.declared.cmp.Ordering.{Ordering}
 use Rattle.std.specs.declared.cmp.Ordering.TheVariants.{Less, Equal, Greater}
 use Rattle.std.specs.Ordering.{eq_by_cmp, is_eq, nat_cmp, on, ordering_then}
 use Rattle.name_table.specs.declared.key.Word.{Word}
+use Rattle.name_table.specs.declared.numbered.Past.{Past, Nothing, More'}
 use Rattle.name_table.specs.inner.Codes.{code_of}
 
 -- a word in lower case
@@ -48,6 +49,11 @@ word_ties a b = by (pointwise nat_eq (folded a) (folded b)) refl
     by false is =
         rest (nat_cmp a.code b.code) (slice_cmp nat_cmp (folded a) (folded b))
         (sym (texts_ties (folded a) (folded b)) ∙ is)
+
+-- the keys so far, in the order in which they came
+abbrev pub keys_in : {K : Type 0} → Past K → List K
+keys_in Nothing = []
+keys_in (More' shape before last) = keys_in before ++ last ∷ []
 
 -- each key has its place among those that came as its number
 pub record AreNumbered {K : Type 0} (cmp : K → K → Ordering) (numbers : List (K × ℕ)) (keys : List K)

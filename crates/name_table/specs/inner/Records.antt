@@ -2,6 +2,8 @@
 use Rattle.std.specs.Prelude.{◌≡◌, ℕ, zero, suc, ◌<◌, ◌≤◌, Bool, true, cond, nat_lt, map, List, [], ◌∷◌, slice_get, length, Option, Some, None, Vec, Box}
 use Rattle.std.specs.declared.alloc.Global.{Global}
 use Rattle.std.specs.Map.{lookup}
+use Rattle.const_values.specs.declared.constant.Constant.{Constant}
+use Rattle.const_values.specs.declared.kind.ConstKind.{ConstKind}
 use Rattle.idl_lexer.specs.Words.{same_but_for_case}
 use Rattle.name_table.specs.declared.entry.Base.{Base}
 use Rattle.name_table.specs.declared.key.Key.{Key}
@@ -9,6 +11,7 @@ use Rattle.name_table.specs.declared.key.Word.{Word}
 use Rattle.name_table.specs.declared.record.Clash.{Clash}
 use Rattle.name_table.specs.declared.record.Given.{Given}
 use Rattle.name_table.specs.declared.record.Heir.{Heir}
+use Rattle.name_table.specs.declared.record.Known.{Known}
 use Rattle.name_table.specs.declared.record.Record.{Record}
 use Rattle.name_table.specs.declared.search.Found.{Found}
 use Rattle.name_table.specs.declared.search.Found.TheVariants.{Nothing, One, Several}
@@ -19,6 +22,14 @@ abbrev pub heir_bases : Option (Box Heir Global) → List Base
 heir_bases None = []
 heir_bases (Some h) = h.value.first ∷ h.value.later.items
 
+abbrev pub worth_known : Option (Box Known Global) → Option Constant
+worth_known None = None
+worth_known (Some k) = k.value.worth
+
+abbrev pub kind_known : Option (Box Known Global) → Option ConstKind
+kind_known None = None
+kind_known (Some k) = k.value.stands_for
+
 abbrev pub entry_of : Record → Entry
 entry_of r = record {
   scope = r.key.scope.0;
@@ -26,8 +37,8 @@ entry_of r = record {
   token = r.token;
   kind = r.kind;
   bases = heir_bases r.heir;
-  worth = r.worth;
-  stands_for = r.stands_for;
+  worth = worth_known r.known;
+  stands_for = kind_known r.known;
   line = r.line;
   identifier = r.identifier;
   prefix = r.prefix.now;

@@ -1,5 +1,5 @@
 -- What is kept of the members of scopes, as contracts see it.
-use Rattle.std.specs.Prelude.{◌≡◌, ◌++◌, ℕ, ◌&&◌, nat_eq, cond, List, [], ◌∷◌, Option, Some, None, Vec, slice_get, if◌then◌else◌}
+use Rattle.std.specs.Prelude.{◌≡◌, ◌++◌, ℕ, Bool, true, false, ◌&&◌, nat_eq, cond, List, [], ◌∷◌, Option, Some, None, Vec, slice_get, if◌then◌else◌}
 use Rattle.std.specs.declared.alloc.Global.{Global}
 use Rattle.std.specs.BTreeMap.{BTreeMap, is_at}
 use Rattle.std.specs.Map.{lookup}
@@ -11,6 +11,8 @@ use Rattle.idl_tree.specs.declared.names.Leaf.{Leaf}
 use Rattle.name_table.specs.declared.key.Key.{Key}
 use Rattle.name_table.specs.declared.key.Word.{Word}
 use Rattle.name_table.specs.inner.Keys.{word_cmp}
+use Rattle.name_table.specs.Entry.{Entry}
+use Rattle.name_table.specs.Features.{HaveNoBases, features_of}
 use Rattle.name_table.specs.Search.{word}
 use Rattle.scoped_names.specs.declared.members.Past.{Past, Nothing, More'}
 use Rattle.scoped_names.specs.declared.members.Placed.{Placed}
@@ -81,3 +83,10 @@ ServesMore scope l few many few' many' =
 abbrev pub ServesAll :
     List (Vec Leaf Global) → List (BTreeMap Word At) → List (Vec Leaf Global) → List (BTreeMap Word At) → Type 0
 ServesAll few many few' many' = (members : List Member) → AreFound members few many → AreFound members few' many'
+
+-- ---- operations and attributes
+
+-- they are kept apart where an interface has a base
+abbrev pub AreFeatures : List Entry → Bool → List Entry → Type 0
+AreFeatures all false features = HaveNoBases all
+AreFeatures all true features = features ≡ features_of all

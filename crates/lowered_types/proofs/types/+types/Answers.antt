@@ -43,7 +43,7 @@ lower_struct-returns-in_err-lower_member t c =
     let told = c.in_ok-entry.ensures.told in
     let o = already c.declare.new.self c.in_ok-number.number in
     let opens = ap (opened w e) (sym c.at-at.ensures) ∙ c.in_ok-number.ensures in
-    let same = first_member es (e + 1) c.declare.new.self c.new-members.result c.deref.result.now (first_of s) c.new-members.ensures c.deref.ensures in
+    let same = first_member es (e + 1) c.declare.new.self c.in_ok-members.members c.deref.result.now (first_of s) c.in_ok-members.ensures.empty c.deref.ensures in
     rw (p.1, p.2) (or_told c.in_err-lower_member.ensures (λ is. struct_opened es w scope s e o told opens
     ∙ stops (with_member es (e + 1) (with_members_of o.lowered no_members) (first_of s)) _ (struct_more es (id_of s) (rest_of s) e o) (same ∙ is)))
 
@@ -59,7 +59,7 @@ lower_struct-returns-in_err-lower_member-2 t c =
     let o = already c.declare.new.self c.in_ok-number.number in
     let opens = ap (opened w e) (sym c.at-at.ensures) ∙ c.in_ok-number.ensures in
     let m = with_members_of c.lower_member.new.table c.lower_member.new.members in
-    let same = first_member es (e + 1) c.declare.new.self c.new-members.result c.deref.result.now (first_of s) c.new-members.ensures c.deref.ensures in
+    let same = first_member es (e + 1) c.declare.new.self c.in_ok-members.members c.deref.result.now (first_of s) c.in_ok-members.ensures.empty c.deref.ensures in
     let first : with_member es (e + 1) (with_members_of o.lowered no_members) (first_of s) ≡ Ok m = same ∙ c.in_ok-lower_member.ensures in
     let items = c.deref-member-items.result.now in
     let part = with_member es (e + 1) in
@@ -82,7 +82,7 @@ lower_struct-returns-in_err-define_struct t c =
     let o = already c.declare.new.self c.in_ok-number.number in
     let opens = ap (opened w e) (sym c.at-at.ensures) ∙ c.in_ok-number.ensures in
     let m = with_members_of c.lower_member.new.table c.lower_member.new.members in
-    let same = first_member es (e + 1) c.declare.new.self c.new-members.result c.deref.result.now (first_of s) c.new-members.ensures c.deref.ensures in
+    let same = first_member es (e + 1) c.declare.new.self c.in_ok-members.members c.deref.result.now (first_of s) c.in_ok-members.ensures.empty c.deref.ensures in
     let first : with_member es (e + 1) (with_members_of o.lowered no_members) (first_of s) ≡ Ok m = same ∙ c.in_ok-lower_member.ensures in
     let items = c.deref-member-items.result.now in
     let part = with_member es (e + 1) in
@@ -104,7 +104,7 @@ lower_struct-returns t c =
     let o = already c.declare.new.self c.in_ok-number.number in
     let opens = ap (opened w e) (sym c.at-at.ensures) ∙ c.in_ok-number.ensures in
     let m = with_members_of c.lower_member.new.table c.lower_member.new.members in
-    let same = first_member es (e + 1) c.declare.new.self c.new-members.result c.deref.result.now (first_of s) c.new-members.ensures c.deref.ensures in
+    let same = first_member es (e + 1) c.declare.new.self c.in_ok-members.members c.deref.result.now (first_of s) c.in_ok-members.ensures.empty c.deref.ensures in
     let first : with_member es (e + 1) (with_members_of o.lowered no_members) (first_of s) ≡ Ok m = same ∙ c.in_ok-lower_member.ensures in
     let items = c.deref-member-items.result.now in
     let part = with_member es (e + 1) in

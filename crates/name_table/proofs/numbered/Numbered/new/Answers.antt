@@ -5,5 +5,4 @@ use Rattle.name_table.proofs.numbered.Numbered.new.Goals as goal
 
 pub invariant_of-result : goal.invariant_of-result
 invariant_of-result g c =
-    subst (λ es. AreNumbered g.K.Ord.cmp es c.new-2.result.items) (sym c.new.ensures.empty)
-    (subst (AreNumbered g.K.Ord.cmp []) (sym c.new-2.ensures.items) (none_numbered g.K.Ord.cmp))
+    subst (λ es. AreNumbered g.K.Ord.cmp es []) (sym c.new.ensures.empty) (none_numbered g.K.Ord.cmp)

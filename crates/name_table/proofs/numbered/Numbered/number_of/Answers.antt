@@ -1,5 +1,6 @@
 use Rattle.std.proofs.Common.{◌≡◌, ◌∙◌, ◌≤◌, length, position, ap, sym, arith}
 use Rattle.std.specs.BTreeMap.{is_at}
+use Rattle.name_table.specs.inner.Keys.{keys_in}
 use Rattle.name_table.proofs.Lookups.{position_same}
 use Rattle.name_table.proofs.Numbers.{number_below}
 use Rattle.name_table.proofs.numbered.Numbered.number_of.Goals as goal
@@ -9,7 +10,7 @@ found : (g : _) (c : After-copied g) → c.copied.result ≡ position (g.K.Parti
 found g c =
     let key = c.args.key.now in
     c.copied.ensures ∙ c.get.ensures.value ∙ c.self.invariant.numbered key
-    ∙ position_same (is_at (g.K.Ord.cmp key)) (g.K.PartialEq.eq key) (λ x. sym (g.met.K.Ord.matches_eq key x)) c.self.inside.keys.items
+    ∙ position_same (is_at (g.K.Ord.cmp key)) (g.K.PartialEq.eq key) (λ x. sym (g.met.K.Ord.matches_eq key x)) (keys_in c.self.inside.past)
     ∙ ap (position (g.K.PartialEq.eq key)) c.self.view_is
 
 pub returns-clause-is : goal.returns-clause-is

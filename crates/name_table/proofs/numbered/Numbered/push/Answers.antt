@@ -2,7 +2,7 @@ use Rattle.std.proofs.Common.{◌≡◌, ◌∙◌, ◌+◌, ◌++◌, ◌∷◌
 use Rattle.std.specs.Prelude.{if◌then◌else◌, is_some}
 use Rattle.std.specs.BTreeMap.{is_at}
 use Rattle.std.specs.Map.{lookup}
-use Rattle.name_table.specs.inner.Keys.{AreNumbered}
+use Rattle.name_table.specs.inner.Keys.{AreNumbered, keys_in}
 use Rattle.name_table.proofs.Lookups.{position_same}
 use Rattle.name_table.proofs.Numbers.{numbered_push}
 use Rattle.name_table.proofs.numbered.Numbered.push.Goals as goal
@@ -11,7 +11,7 @@ pub invariant_of-self-2 : goal.invariant_of-self-2
 invariant_of-self-2 g c =
     let cmp = g.K.Ord.cmp in
     let key = c.args.key in
-    let keys = c.self.inside.keys.items in
+    let keys = keys_in c.self.inside.past in
     let numbers = c.self.inside.numbers.entries in
     let fresh : position (is_at (cmp key)) keys ≡ None =
     position_same (is_at (cmp key)) (g.K.PartialEq.eq key) (λ x. sym (g.met.K.Ord.matches_eq key x)) keys ∙ ap (position (g.K.PartialEq.eq key)) c.self.view_is ∙ c.requires in
@@ -19,12 +19,13 @@ invariant_of-self-2 g c =
     numbered_push cmp g.met.K.Ord.total numbers c.insert.new.self.entries keys c.self.invariant key fresh
     (c.in_ok-insert.ensures.len ∙ ap (λ o. length numbers + (if is_some o then 0 else 1)) none)
     (λ q. c.in_ok-insert.ensures.updates.0 q ∙ ap (λ n. cond (is_at (cmp key) q) (Some n) (lookup (is_at (cmp q)) numbers)) c.len-number.ensures.len)
-    c.push_reserved.new.self.items (c.push_reserved.ensures.items ∙ ap (λ ks. ks ++ key ∷ []) c.in_ok-reserve.ensures.items)
+    (keys_in c.of-before.result.value ++ key ∷ []) (ap (λ p. keys_in p ++ key ∷ []) c.of-before.ensures)
 
-pub invariant_of-self-in_err-insert : goal.invariant_of-self-in_err-insert
-invariant_of-self-in_err-insert g c =
-    subst (λ es. AreNumbered g.K.Ord.cmp es c.reserve.new.self.items) (sym c.in_err-insert.ensures.err)
-    (subst (AreNumbered g.K.Ord.cmp c.self.inside.numbers.entries) (sym c.in_ok-reserve.ensures.items) c.self.invariant)
+pub returns-clause-pushed : goal.returns-clause-pushed
+returns-clause-pushed g c =
+    ap (λ p. keys_in p ++ c.args.key ∷ []) c.of-before.ensures
+    ∙ ap (λ ks. ks ++ c.args.key ∷ []) c.self.view_is
 
 pub invariant_of-self : goal.invariant_of-self
-invariant_of-self g c = subst (AreNumbered g.K.Ord.cmp c.self.inside.numbers.entries) (sym c.in_err-reserve.ensures.items) c.self.invariant
+invariant_of-self g c =
+    subst (λ es. AreNumbered g.K.Ord.cmp es (keys_in c.self.inside.past)) (sym c.in_err-insert.ensures.err) c.self.invariant
