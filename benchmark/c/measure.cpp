@@ -43,15 +43,27 @@ template <typename Call> double batch(long calls, const Call &call) {
     return now() - start;
 }
 
-// Nanoseconds of a call.
-template <typename Call> double time_of(const Call &call) {
+// Nanoseconds of a call by each side.
+struct Pair {
+    double ours, theirs;
+};
+
+template <typename Call> long calls_of_batch(const Call &call) {
     long calls = 1;
     while (batch(calls, call) < BATCH)
         calls *= 2;
-    double best = batch(calls, call);
-    for (int n = 1; n < BATCHES; n++)
-        best = std::min(best, batch(calls, call));
-    return best / double(calls);
+    return calls;
+}
+
+// The sides take turns, so that a machine that is slower for a while is so for both.
+template <typename Ours, typename Theirs> Pair times_of(const Ours &ours, const Theirs &theirs) {
+    long calls = calls_of_batch(ours), calls_there = calls_of_batch(theirs);
+    Pair best{batch(calls, ours), batch(calls_there, theirs)};
+    for (int n = 1; n < BATCHES; n++) {
+        best.ours = std::min(best.ours, batch(calls, ours));
+        best.theirs = std::min(best.theirs, batch(calls_there, theirs));
+    }
+    return {best.ours / double(calls), best.theirs / double(calls_there)};
 }
 
 uint32_t node_of(const std::string &name) {
@@ -93,24 +105,26 @@ template <typename T> void row(const char *name, const char *type, size_t count,
     uint32_t node = node_of(std::string("Values::") + type);
     Octets tape = tape_of(node, little, octets), out(octets.size() + tape.size());
     size_t taken, len;
-    double written = time_of([&] {
+    auto write = [&] {
         idlc_encode(&table, node, little, 0, tape.data(), tape.size(), out.data(), out.size(), &len);
-    });
-    double read = time_of([&] {
-        idlc_decode(&table, node, little, 0, octets.data(), octets.size(), &taken, out.data(), out.size(), &len);
-    });
-    double written_there = time_of([&] {
+    };
+    auto write_there = [&] {
         stream.rewindPtrs();
         value >>= stream;
-    });
-    double read_there = time_of([&] {
+    };
+    auto read = [&] {
+        idlc_decode(&table, node, little, 0, octets.data(), octets.size(), &taken, out.data(), out.size(), &len);
+    };
+    auto read_there = [&] {
         stream.rewindInputPtr();
         T other;
         other <<= stream;
-    });
+    };
+    Pair written = times_of(write, write_there), told = times_of(read, read_there);
     double n = double(count);
     std::printf("| %s | %zu | %s | %.3g, %.3g | %.2f | %.3g, %.3g | %.2f |\n", name, count, little ? "little" : "big",
-                written / n, written_there / n, written / written_there, read / n, read_there / n, read / read_there);
+                written.ours / n, written.theirs / n, written.ours / written.theirs, told.ours / n, told.theirs / n,
+                told.ours / told.theirs);
     std::fflush(stdout);
 }
 
