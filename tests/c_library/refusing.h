@@ -1,4 +1,5 @@
-/* malloc, realloc and free, of which one call can be refused, and a buffer that is watched. Linked with --wrap for each. */
+/* malloc, realloc and free, refused from one call on, since some of the memory that is asked for isn't wanted at all; and a
+ * buffer that is watched. Linked with --wrap for each. */
 #ifndef REFUSING_H
 #define REFUSING_H
 
@@ -17,9 +18,14 @@ void __wrap_free(void *at);
 
 static long asked, refused_at, held;
 
+static int is_refused(void)
+{
+    return ++asked >= refused_at && refused_at;
+}
+
 void *__wrap_malloc(size_t size)
 {
-    if (++asked == refused_at)
+    if (is_refused())
         return NULL;
     void *at = __real_malloc(size);
     held += at != NULL;
@@ -28,7 +34,7 @@ void *__wrap_malloc(size_t size)
 
 void *__wrap_realloc(void *at, size_t size)
 {
-    if (++asked == refused_at)
+    if (is_refused())
         return NULL;
     void *moved = __real_realloc(at, size);
     held += !at && moved;
