@@ -9,7 +9,6 @@ ghost use Rattle.idlc_c.specs.Answers.{HasNoOctets, HasNoTape, HasOctets, HasTap
 
 use crate::held::Held;
 use crate::refusal::Refusal;
-use position_checker::Put;
 use std::alloc::Global;
 use type_graph::Order;
 
@@ -53,13 +52,12 @@ pub(crate) fn encode(
     if !held.loaded().table.is_named(node) {
         return Err(Refusal::NotNamed);
     }
-    let room = held.take_room(alloc);
+    let mut room = held.take_room(alloc);
     let table = &held.loaded().table;
-    match table.write_into(room, node, order, pos, tape, out) {
-        Ok(Put { len, room }) => {
-            held.keep_room(room);
-            fitted(len, out.len())
-        }
+    let answer = table.write_into(&mut room, node, order, pos, tape, out);
+    held.keep_room(room);
+    match answer {
+        Ok(len) => fitted(len, out.len()),
         Err(fault) => Err(Refusal::NoValue(fault)),
     }
 }
@@ -91,11 +89,12 @@ pub(crate) fn decode(
     if !held.loaded().table.is_named(node) {
         return Err(Refusal::NotNamed);
     }
-    let room = held.take_room(alloc);
+    let mut room = held.take_room(alloc);
     let table = &held.loaded().table;
-    match table.read_into(room, node, order, pos, octets, out) {
-        Ok((Put { len, room }, front)) => {
-            held.keep_room(room);
+    let answer = table.read_into(&mut room, node, order, pos, octets, out);
+    held.keep_room(room);
+    match answer {
+        Ok((len, front)) => {
             let len = fitted(len, out.len())?;
             *taken = front;
             Ok(len)

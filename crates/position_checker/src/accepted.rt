@@ -12,7 +12,7 @@ ghost use Rattle.position_checker.specs.Acceptance.{IsRight, Serves, Uses};
 ghost use Rattle.position_checker.specs.inner.Routes.{IsRoute};
 
 use crate::routes::Route;
-use program_runner::{Put, RunFault};
+use program_runner::RunFault;
 use std::alloc::Global;
 use std::marker::Model;
 use table_file::{Table, Which};
@@ -160,24 +160,23 @@ impl Accepted {
     }
 
     /// Writes the CDR octets of the value that the whole tape is to the front of a buffer, if there
-    /// is room for all of them: how many they are. The memory is what one such call leaves for
+    /// is room for all of them: how many they are. The room is memory that one such call leaves for
     /// another.
     ///
     /// # Errors
     /// As those of `write`. They leave the buffer as it was.
     pub fn write_into(
         &self,
-        room: Vec<u8>,
+        room: &mut Vec<u8>,
         node: u32,
         order: Order,
         pos: u64,
         tape: &[u8],
         buffer: &mut [u8],
-    ) -> Result<Put, RunFault>
+    ) -> Result<usize, RunFault>
         requires { IsNamed self.now.model.names node }
-        ensures found { IfOk result (λ put. IsPut
-            (λ octets. Means self.now.model.graph (writing order) 64 node pos tape.now octets)
-            put.len buffer.old buffer.new) }
+        ensures found { IfOk result (λ len. IsPut
+            (λ octets. Means self.now.model.graph (writing order) 64 node pos tape.now octets) len buffer.old buffer.new) }
         ensures refused { IfErr result (λ fault. OnFalse (run_wants_memory fault)
             ((octets : List ℕ) → Means self.now.model.graph (writing order) 64 node pos tape.now octets → ⊥)) }
         ensures kept { OnErr result (buffer.new ≡ buffer.old) }
@@ -189,23 +188,23 @@ impl Accepted {
 
     /// Reads the tape of the value that a front of the octets encodes, whatever stands in the gaps,
     /// into the front of a buffer, if there is room for all of it: how long it is, and how many
-    /// octets that front has. The memory is what one such call leaves for another.
+    /// octets that front has. The room is memory that one such call leaves for another.
     ///
     /// # Errors
     /// As those of `read`. They leave the buffer as it was.
     pub fn read_into(
         &self,
-        room: Vec<u8>,
+        room: &mut Vec<u8>,
         node: u32,
         order: Order,
         pos: u64,
         octets: &[u8],
         buffer: &mut [u8],
-    ) -> Result<(Put, usize), RunFault>
+    ) -> Result<(usize, usize), RunFault>
         requires { IsNamed self.now.model.names node }
         ensures found { IfOk result (λ r. IsPut
             (λ tape. Means self.now.model.graph (reading order) 64 node pos tape (take r.1 octets.now))
-            r.0.len buffer.old buffer.new) }
+            r.0 buffer.old buffer.new) }
         ensures within { IfOk result (λ r. r.1 ≤ length octets.now) }
         ensures refused { IfErr result (λ fault. OnFalse (run_wants_memory fault)
             ((tape front rest : List ℕ) → octets.now ≡ front ++ rest

@@ -8,6 +8,5 @@ mod served;
 mod verdict;
 
 pub use accepted::Accepted;
-pub use program_runner::Put;
 pub use routine_checker::{CheckFault, RoutinePlace};
 pub use verdict::{Refused, check};

@@ -3,3 +3,4 @@ pub mod Levels
 pub mod State
 pub mod Reached
 pub mod Steps
+pub mod Makes
