@@ -10,8 +10,8 @@ use Rattle.idl_tree.specs.Forms.{IsLeafOf}
 use Rattle.const_values.specs.Worth.{are_texts, is_text}
 
 -- a token has the form of its kind
-pub form_of_kind : (k : Kind) (l : Leaf) → l.token.now.kind ≡ k → IsLeafOf k l
-form_of_kind k l is = subst (λ x. HasForm x l.token.now.text.now) is l.token.now.form
+pub form_of_kind : (k : Kind) (l : Leaf) → l.token.kind ≡ k → IsLeafOf k l
+form_of_kind k l is = subst (λ x. HasForm x l.token.text.now) is l.token.form
 
 is_text_literal : (k : Kind) → is_text k ≡ true → k ≡ TextLit
 is_text_literal TextLit h = refl
@@ -25,5 +25,5 @@ is_text_literal Pragma h = cc
 pub text_forms : (ls : List Leaf) → are_texts ls ≡ true → AllByRecursion (IsLeafOf TextLit) ls
 text_forms [] h = tt
 text_forms (l ∷ ls) h =
-    let two = and_parts (is_text l.token.now.kind) (are_texts ls) h in
-    (form_of_kind TextLit l (is_text_literal l.token.now.kind two.0), text_forms ls two.1)
+    let two = and_parts (is_text l.token.kind) (are_texts ls) h in
+    (form_of_kind TextLit l (is_text_literal l.token.kind two.0), text_forms ls two.1)

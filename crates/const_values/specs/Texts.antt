@@ -6,4 +6,4 @@ use Rattle.idl_lexer.specs.Readings.{text_octets}
 use Rattle.idl_tree.specs.declared.names.Leaf.{Leaf}
 
 abbrev pub joined_octets : List Leaf → List ℕ
-joined_octets literals = flat_map (λ l. text_octets l.token.now.text.now) literals
+joined_octets literals = flat_map (λ l. text_octets l.token.text.now) literals

@@ -54,7 +54,7 @@ token_worth Punct text = None
 token_worth Pragma text = None
 
 abbrev pub literal_worth : Leaf → Option Constant
-literal_worth l = token_worth l.token.now.kind l.token.now.text.now
+literal_worth l = token_worth l.token.kind l.token.text.now
 
 abbrev pub is_text : Kind → Bool
 is_text TextLit = true
@@ -67,7 +67,7 @@ is_text Pragma = false
 
 abbrev pub are_texts : List Leaf → Bool
 are_texts [] = true
-are_texts (l ∷ ls) = is_text l.token.now.kind && are_texts ls
+are_texts (l ∷ ls) = is_text l.token.kind && are_texts ls
 
 -- text literals that stand one behind another are one text
 abbrev pub text_worth : List Leaf → Option Constant

@@ -20,7 +20,7 @@ pub(crate) fn octet_at(tokens: &[Token<'_>], number: usize) -> usize {
 /// The first token of the line with the text.
 fn on_line(tokens: &[Token<'_>], line: usize, text: &str) -> Spot {
     for token in tokens {
-        if token.line == line && token.text == text {
+        if token.line as usize == line && token.text == text {
             return Spot::Octet(token.start);
         }
     }

@@ -112,7 +112,7 @@ fn built_of<T: HasParts + Drop>(alloc: Global, whole: T) -> Result<Built, Compil
     whole.built(alloc)
 }
 
-// Tokens and tree, which take more memory than the table, are let go before that is made.
+// Tokens are let go before the model is made, and the tree before the table is.
 
 /// The model of a text, or the fault of the first step that refuses it.
 fn model_of_text(alloc: Global, source: &str) -> Result<Model, CompileFault>
@@ -121,6 +121,7 @@ fn model_of_text(alloc: Global, source: &str) -> Result<Model, CompileFault>
 {
     let tokens = lex(alloc, source)?;
     let spec = parse(alloc, &tokens)?;
+    drop(tokens);
     model_of(alloc, spec)
 }
 
@@ -131,6 +132,7 @@ fn built_of_text(alloc: Global, source: &str) -> Result<Built, CompileFault>
 {
     let tokens = lex(alloc, source)?;
     let tree = parse(alloc, &tokens)?;
+    drop(tokens);
     built_of(alloc, tree)
 }
 

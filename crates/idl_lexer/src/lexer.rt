@@ -70,7 +70,7 @@ fn lexeme(before: &[u8], octets: &[u8], line: usize) -> Result<Lexeme, LexFault>
 }
 
 /// The token that the source has from one place to another.
-fn token(source: &str, kind: Kind, start: usize, end: usize, line: usize) -> Token<'_>
+fn token(source: &str, kind: Kind, start: usize, end: usize, line: u32) -> Token<'_>
     requires rises { start < end }
     requires within { end ≤ length source.now }
     requires form { Begins kind (take start source.now) (drop start source.now) (end - start) }
@@ -82,9 +82,20 @@ fn token(source: &str, kind: Kind, start: usize, end: usize, line: usize) -> Tok
 {
     Token {
         kind,
+        line,
         text: &source[start..end],
         start,
-        line,
+    }
+}
+
+/// The line of a token. Want of memory is told where it has no place there.
+fn line_of(line: usize) -> Result<u32, LexFault>
+    ensures found { IfOk result (λ found. found ≡ line) }
+    ensures memory { IfErr result (λ fault. fault ≡ NoMemory) }
+{
+    match u32::try_from(line) {
+        Ok(line) => Ok(line),
+        Err(_) => Err(LexFault::NoMemory),
     }
 }
 
@@ -104,7 +115,8 @@ fn add<'a>(tokens: &mut Vec<Token<'a>>, token: Token<'a>) -> Result<(), LexFault
 ///
 /// # Errors
 ///
-/// The first fault in the order of reading, with its line, and `NoMemory` where memory was refused.
+/// The first fault in the order of reading, with its line, and `NoMemory` where memory was refused or
+/// a token stands past line 4,294,967,295.
 pub fn lex(alloc: Global, source: &str) -> Result<Vec<Token<'_>>, LexFault>
     ensures lexed { IfOk result (λ tokens. Lexed source.now tokens.items) }
     ensures lines { IfOk result (λ tokens. HaveLines source.now tokens.items) }
@@ -121,7 +133,10 @@ pub fn lex(alloc: Global, source: &str) -> Result<Vec<Token<'_>>, LexFault>
         let found = lexeme(before, rest, line)?;
         let end = at + found.len;
         match found.kind {
-            Some(kind) => add(&mut tokens, token(source, kind, at, end, line))?,
+            Some(kind) => {
+                let line = line_of(line)?;
+                add(&mut tokens, token(source, kind, at, end, line))?;
+            }
             None => line += line_feeds(rest.split_at(found.len).0),
         }
         at = end;

@@ -25,9 +25,10 @@ pub enum Kind {
 #[derive(Clone, Copy, Debug, PartialEq, Eq)]
 pub struct Token<'a> {
     pub kind: Kind,
+    // beside the kind, so that a token takes 32 octets
+    pub line: u32,
     pub text: &'a str,
     pub start: usize,
-    pub line: usize,
     pub ghost form: { HasForm kind text.now },
 }
 

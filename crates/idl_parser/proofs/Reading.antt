@@ -45,7 +45,7 @@ plain_piece kind text touches = record { kind = kind; text = text; token = None;
 
 abbrev kept_piece : Kind → List ℕ → Leaf → Piece
 kept_piece kind text l =
-    record { kind = kind; text = text; token = Some (l.number, parts_of l.token.now); touches = false }
+    record { kind = kind; text = text; token = Some (l.number, parts_of l.token); touches = false }
 
 abbrev see : ℕ → Token → List Token → Seen
 see n t ts = record { kind = t.kind; text = t.text.now; token = (n, parts_of t); touches = touches_next t ts }
@@ -90,7 +90,7 @@ same_itself t =
 
 -- a token that is kept
 first_kept : (n : ℕ) (t : Token) (ts : List Token) (kind : Kind) (text : List ℕ) (l : Leaf)
-    → t.kind ≡ kind → t.text.now ≡ text → l.number ≡ n → l.token.now ≡ t
+    → t.kind ≡ kind → t.text.now ≡ text → l.number ≡ n → l.token ≡ t
     → Parsed (seen_from n (t ∷ ts)) (kept kind text l) (seen_from (n + 1) ts)
 unfolding kept past
 first_kept n t ts kind text l k e num tok = record {
@@ -100,7 +100,7 @@ first_kept n t ts kind text l k e num tok = record {
 }
 
 pub kept_read : (n : ℕ) (xs : List Token) (kind : Kind) (text : List ℕ) (l : Leaf)
-    → 0 < length xs → l.token.now ≡ get_or xs 0 l.token.now → l.token.now.kind ≡ kind → l.token.now.text.now ≡ text → l.number ≡ n
+    → 0 < length xs → l.token ≡ get_or xs 0 l.token → l.token.kind ≡ kind → l.token.text.now ≡ text → l.number ≡ n
     → Parsed (seen_from n xs) (kept kind text l) (seen_from (n + 1) (take (length xs - 1) (drop 1 xs)))
 kept_read n [] kind text l lt is k e num = absurd (omega arith)
 kept_read n (x ∷ ys) kind text l lt is k e num =

@@ -25,16 +25,16 @@ use std::marker::Model;
 
 /// The tokens that are left, and where they stand among all.
 #[derive(Drop)]
-pub(crate) struct Cursor<'a> {
+pub(crate) struct Cursor<'t, 'a> {
     alloc: Global,
-    rest: &'a [Token<'a>],
+    rest: &'t [Token<'a>],
     /// The number of the first token that is left.
     number: usize,
     /// The line of the last of all tokens.
     last_line: usize,
 }
 
-impl<'a> Model for Cursor<'a> {
+impl<'t, 'a> Model for Cursor<'t, 'a> {
     ghost use Rattle.std.specs.Prelude.{List, ◌+◌, ◌^◌, ◌<◌, length};
     ghost use Rattle.idl_tree.specs.Pieces.{Seen, seen_from};
 
@@ -66,15 +66,15 @@ fn is_this(token: &Token<'_>, kind: Kind, text: &str) -> bool
     is_of(token, kind) && has_text(token, text)
 }
 
-impl<'a> Cursor<'a> {
-    pub(crate) fn new(alloc: Global, tokens: &'a [Token<'a>]) -> Self
+impl<'t, 'a> Cursor<'t, 'a> {
+    pub(crate) fn new(alloc: Global, tokens: &'t [Token<'a>]) -> Self
         ensures { result ≡ seen_from 0 tokens.now }
     {
         Cursor {
             alloc,
             rest: tokens,
             number: 0,
-            last_line: tokens.last().map_or(1, |token| token.line),
+            last_line: tokens.last().map_or(1, |token| token.line as usize),
         }
     }
 
@@ -91,7 +91,9 @@ impl<'a> Cursor<'a> {
 
     /// The line of the next token, or of the last one.
     pub(crate) fn line(&self) -> usize {
-        self.rest.first().map_or(self.last_line, |token| token.line)
+        self.rest
+            .first()
+            .map_or(self.last_line, |token| token.line as usize)
     }
 
     /// Whether the next token is this one.
@@ -147,11 +149,11 @@ impl<'a> Cursor<'a> {
             Some(token) => match left_out(token) {
                 Some(what) => ParseFault::LeftOut {
                     what,
-                    line: token.line,
+                    line: token.line as usize,
                 },
                 None => ParseFault::Unexpected {
                     at: self.number,
-                    line: token.line,
+                    line: token.line as usize,
                 },
             },
         }
@@ -176,7 +178,10 @@ impl<'a> Cursor<'a> {
         let number = self.number;
         self.rest = &tokens[1..];
         self.number += 1;
-        Some(Leaf { token, number })
+        Some(Leaf {
+            token: *token,
+            number,
+        })
     }
 
     /// Takes the next token, if it is of this kind.
@@ -197,7 +202,10 @@ impl<'a> Cursor<'a> {
         let number = self.number;
         self.rest = &tokens[1..];
         self.number += 1;
-        Some(Leaf { token, number })
+        Some(Leaf {
+            token: *token,
+            number,
+        })
     }
 
     /// Whether a `>` is next that the token behind it touches.

@@ -24,7 +24,7 @@ use std::alloc::Global;
 const MAX_LEVELS: usize = 64;
 
 /// What a reader's stop means at the place where it stopped.
-fn told(cursor: &Cursor<'_>, stop: Stop) -> ParseFault
+fn told(cursor: &Cursor<'_, '_>, stop: Stop) -> ParseFault
     ensures { stop ≡ StopNoMemory → result ≡ NoMemory }
 {
     match stop {
@@ -35,7 +35,7 @@ fn told(cursor: &Cursor<'_>, stop: Stop) -> ParseFault
 }
 
 /// Reads definitions to the end.
-fn read_all<'a>(cursor: &mut Cursor<'a>) -> Result<Vec<Definition<'a>>, Stop>
+fn read_all<'a>(cursor: &mut Cursor<'_, 'a>) -> Result<Vec<Definition<'a>>, Stop>
     ensures whole { IfOk result (λ d. Whole cursor.old d.items) }
     ensures refused { IfErr result (λ stop. (stop ≡ StopNoMemory) ⊎ IsNoSpec 64 cursor.old) }
 {
@@ -54,8 +54,7 @@ fn read_all<'a>(cursor: &mut Cursor<'a>) -> Result<Vec<Definition<'a>>, Stop>
 /// # Errors
 ///
 /// The first fault in the order of reading, with its line, and `NoMemory` where memory was refused.
-pub fn parse<'a>(alloc: Global, tokens: &'a [Token<'a>]) -> Result<Spec<'a>, ParseFault>
-    ensures tokens { IfOk result (λ spec. spec.tokens.now ≡ tokens.now) }
+pub fn parse<'a>(alloc: Global, tokens: &[Token<'a>]) -> Result<Spec<'a>, ParseFault>
     ensures spells { IfOk result (λ spec. Spell (definitions_spelled spec.definitions.items) tokens.now) }
     ensures levels { IfOk result (λ spec. levels_of spec.definitions.items ≤ 64) }
     ensures refused { IfErr result (λ fault. (fault ≡ NoMemory) ⊎ ((definitions : List Definition)
@@ -66,8 +65,5 @@ pub fn parse<'a>(alloc: Global, tokens: &'a [Token<'a>]) -> Result<Spec<'a>, Par
         Ok(definitions) => definitions,
         Err(stop) => return Err(told(&cursor, stop)),
     };
-    Ok(Spec {
-        tokens,
-        definitions,
-    })
+    Ok(Spec { definitions })
 }

@@ -1,5 +1,10 @@
 -- What is spelled by tokens has the forms of their kinds, their numbers, and is as many.
 use Rattle.std.proofs.Common.{◌≡◌, ◌∙◌, ℕ, suc, ◌+◌, codes, Bool, true, false, not, ◌||◌, ◌&&◌, ◌==◌, cond, nat_eq, List, [], ◌∷◌, ◌++◌, Option, Some, None, length, length-append, add-zero, ap, subst, sym, refl, arith}
+use Rattle.std.specs.Prelude.{◌^◌, ◌<◌}
+use Rattle.std.specs.List.{AllByRecursion-prop}
+use Rattle.std.specs.Coded.{×_prop, Unit-prop, le_prop}
+use Rattle.std.proofs.Math.Logic.{∥∥₁_elim, ∥∥₁_prop}
+use Rattle.std.proofs.Props.{props}
 use Rattle.std.specs.Str.{bytes_eq}
 use Rattle.std.proofs.lemmas.Bool.{and_parts, eqb-true}
 use Rattle.std.proofs.lemmas.Slice.Eq.{bytes_eq-Decides}
@@ -117,8 +122,8 @@ pub Spell-length : (ps : List Piece) (tokens : List Token) → Spell ps tokens �
 Spell-length ps tokens h = lengths ps 0 tokens h
 
 -- a token has the form of its kind, so a test of its kind tells its form
-pub IsLeafOf-kind : (l : Leaf) (kind : Kind) → l.token.now.kind ≡ kind → IsLeafOf kind l
-IsLeafOf-kind l kind h = subst (λ k. HasForm k l.token.now.text.now) h l.token.now.form
+pub IsLeafOf-kind : (l : Leaf) (kind : Kind) → l.token.kind ≡ kind → IsLeafOf kind l
+IsLeafOf-kind l kind h = subst (λ k. HasForm k l.token.text.now) h l.token.form
 
 -- ---- parts of what is spelled
 
@@ -135,14 +140,28 @@ AreNumbered-append (p ∷ ps) qs n h =
 
 -- ---- a whole specification
 
+IsNumbered-prop : (n : ℕ) (token : Option (ℕ × TokenParts)) → IsProp (IsNumbered n token)
+IsNumbered-prop n None = Unit-prop
+IsNumbered-prop n (Some token) = hlevel props
+
+AreNumbered-prop : (n : ℕ) (ps : List Piece) → IsProp (AreNumbered n ps)
+AreNumbered-prop n [] = Unit-prop
+AreNumbered-prop n (p ∷ ps) = ×_prop (IsNumbered-prop n p.token) (AreNumbered-prop (n + 1) ps)
+
 pub Spec-forms : (s : Spec) → HaveForms (definitions_spelled s.definitions.items)
-Spec-forms s = Spell-forms (definitions_spelled s.definitions.items) s.tokens.now s.spells
+Spec-forms s =
+    let ps = definitions_spelled s.definitions.items in
+    ∥∥₁_elim s.spells (AllByRecursion-prop _ (λ p. ∥∥₁_prop) ps) (λ of. Spell-forms ps of.tokens of.spelled)
 
 pub Spec-numbers : (s : Spec) → AreNumbered 0 (definitions_spelled s.definitions.items)
-Spec-numbers s = Spell-numbers (definitions_spelled s.definitions.items) s.tokens.now s.spells
+Spec-numbers s =
+    let ps = definitions_spelled s.definitions.items in
+    ∥∥₁_elim s.spells (AreNumbered-prop 0 ps) (λ of. Spell-numbers ps of.tokens of.spelled)
 
-pub Spec-length : (s : Spec) → length (definitions_spelled s.definitions.items) ≡ length s.tokens.now
-Spec-length s = Spell-length (definitions_spelled s.definitions.items) s.tokens.now s.spells
+pub Spec-length : (s : Spec) → length (definitions_spelled s.definitions.items) < 2 ^ 64
+Spec-length s =
+    let ps = definitions_spelled s.definitions.items in
+    ∥∥₁_elim s.spells le_prop (λ of. let same = Spell-length ps of.tokens of.spelled in let few = of.few in omega arith)
 
 -- ---- leaves
 
@@ -164,5 +183,5 @@ const_end c n h =
     let without_value = AreNumbered-append equal (const_expr_yield c.value) n h in
     let without_mark = AreNumbered-append named (mark (codes "=")) n without_value.0 in
     let placed = AreNumbered-append front (identifier c.identifier) n without_mark.0 in
-    let number = kept_number Ident c.identifier.token.now.text.now c.identifier (n + length front) placed.1 in
+    let number = kept_number Ident c.identifier.token.text.now c.identifier (n + length front) placed.1 in
     omega (arith, number, length-append equal (const_expr_yield c.value), length-append named (mark (codes "=")), length-append front (identifier c.identifier))

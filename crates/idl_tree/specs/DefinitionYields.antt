@@ -1,7 +1,8 @@
 -- The pieces that a tree spells, from left to right: of definitions.
-use Rattle.std.specs.Prelude.{ℕ, Bool, true, false, List, [], ◌++◌, Option, Some, None, codes}
+use Rattle.std.specs.Prelude.{ℕ, ◌^◌, ◌<◌, Bool, true, false, List, [], ◌++◌, Option, Some, None, codes, length}
 use Rattle.std.specs.List.{flat_map}
 use Rattle.idl_lexer.specs.declared.token.Kind.TheVariants.{Pragma as PragmaToken}
+use Rattle.idl_lexer.specs.declared.token.Token.{Token}
 use Rattle.idl_tree.specs.declared.names.Listed.{Listed}
 use Rattle.idl_tree.specs.declared.names.ScopedName.{ScopedName}
 use Rattle.idl_tree.specs.declared.types.ParamType.{ParamType}
@@ -23,7 +24,7 @@ use Rattle.idl_tree.specs.declared.definitions.Export.TheVariants as Exports
 use Rattle.idl_tree.specs.declared.definitions.Interface.{Interface}
 use Rattle.idl_tree.specs.declared.definitions.Interface.TheVariants.{Ahead, Defined}
 use Rattle.idl_tree.specs.declared.definitions.Definition.{Definition, Pragma, Declaration as Declared, Interface as InterfaceDcl, Module', Row_of-Definition, end_of-Definition, more_of-Definition}
-use Rattle.idl_tree.specs.Pieces.{Piece, keyword, mark, leaf}
+use Rattle.idl_tree.specs.Pieces.{Piece, Spell, keyword, mark, leaf}
 use Rattle.idl_tree.specs.Yields.{identifier, listed, optional, names_yield, const_expr_yield}
 use Rattle.idl_tree.specs.TypeYields.{const_type_yield, param_type_yield, type_yield, struct_yield, union_yield, enum_yield, declarator_yield, member_yield}
 
@@ -131,3 +132,9 @@ abbrev mutual
 -- what a whole specification spells
 abbrev pub definitions_spelled : List Definition → List Piece
 definitions_spelled definitions = flat_map definition_yield definitions
+
+-- definitions, and tokens that they spell from the first to the last, fewer than 2^64
+pub record AreSpelled (definitions : List Definition) : Type 0 where
+  pub tokens : List Token
+  pub spelled : Spell (definitions_spelled definitions) tokens
+  pub few : length tokens < 2 ^ 64

@@ -9,7 +9,7 @@ use Rattle.idl_tree.specs.Pieces.{Piece}
 
 -- the text of the leaf is one token of the kind
 abbrev pub IsLeafOf : Kind → Leaf → Type 0
-IsLeafOf kind l = HasForm kind l.token.now.text.now
+IsLeafOf kind l = HasForm kind l.token.text.now
 
 -- each piece has a text of its kind's form
 abbrev pub HaveForms : List Piece → Type 0

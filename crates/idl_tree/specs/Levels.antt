@@ -36,4 +36,4 @@ abbrev pub const_expr_levels : ConstExpr → ℕ
 const_expr_levels c = expr_levels c.expr
 
 abbrev pub bound_levels : Bound → ℕ
-bound_levels b = expr_levels b.expr
+bound_levels b = expr_levels b.expr.value

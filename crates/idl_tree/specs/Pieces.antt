@@ -87,7 +87,7 @@ piece kind text = record { kind = kind; text = text; token = None; touches = fal
 -- the piece of a token that the tree keeps
 unfoldable pub kept : Kind → List ℕ → Leaf → List Piece
 kept kind text l =
-    record { kind = kind; text = text; token = Some (l.number, parts_of l.token.now); touches = false } ∷ []
+    record { kind = kind; text = text; token = Some (l.number, parts_of l.token); touches = false } ∷ []
 
 abbrev pub keyword : List ℕ → List Piece
 keyword word = piece Keyword word
@@ -107,4 +107,4 @@ kept_mark text l = kept Punct text l
 
 -- a token whose text the tree keeps too
 abbrev pub leaf : Kind → Leaf → List Piece
-leaf kind l = kept kind l.token.now.text.now l
+leaf kind l = kept kind l.token.text.now l

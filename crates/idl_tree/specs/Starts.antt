@@ -7,7 +7,7 @@ use Rattle.idl_tree.specs.declared.names.ScopedName.TheVariants.{Plain, Scoped}
 use Rattle.idl_tree.specs.declared.expression.Expr.{Expr, Name, Number, Character, Text, Boolean, Parenthesized', Signed', Chain'}
 
 abbrev pub leaf_at : Leaf → At
-leaf_at l = record { token = l.number; line = l.token.now.line }
+leaf_at l = record { token = l.number; line = l.token.line }
 
 -- :: where a name begins with it, else its first identifier
 abbrev pub root_or : Option Leaf → Leaf → Leaf

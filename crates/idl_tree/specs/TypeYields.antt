@@ -68,7 +68,7 @@ declarator_yield d = identifier d.identifier ++ flat_map size_yield d.sizes.item
 abbrev pub enum_yield : EnumType → List Piece
 enum_yield e =
     keyword (codes "enum") ++ identifier e.identifier ++ mark (codes "{")
-    ++ listed identifier e.enumerators ++ mark (codes "}")
+    ++ listed identifier e.enumerators.value ++ mark (codes "}")
 
 abbrev pub switch_yield : SwitchType → List Piece
 switch_yield (SwitchTypes.Integer i) = integer_yield i

@@ -100,4 +100,4 @@ abbrev pub const_expr_yield : ConstExpr → List Piece
 const_expr_yield c = expr_yield c.expr
 
 abbrev pub bound_yield : Bound → List Piece
-bound_yield b = expr_yield b.expr
+bound_yield b = expr_yield b.expr.value

@@ -15,8 +15,9 @@ pub struct ConstExpr<'a> {
 /// The same between the `<` and the `>` of a sequence or a string, where a right shift stands in
 /// parentheses only.
 pub struct Bound<'a> {
-    pub expr: Expr<'a>,
-    ghost groups: { IsOfLevel false 0 expr },
+    /// In a box, so that no type is as large as an expression.
+    pub expr: Box<Expr<'a>>,
+    ghost groups: { IsOfLevel false 0 expr.value },
 }
 
 // A derived drop would be proved again in each crate that lets go of a tree.

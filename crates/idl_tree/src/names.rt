@@ -9,7 +9,7 @@ use std::fmt::{Display, Error as FmtError, Formatter, Write};
 /// A token that the tree keeps. Its place in the tree tells its kind.
 #[derive(Clone, Copy)]
 pub struct Leaf<'a> {
-    pub token: &'a Token<'a>,
+    pub token: Token<'a>,
     /// The number of the token, counted from 0.
     pub number: usize,
 }
@@ -64,7 +64,7 @@ pub fn unescaped<'a>(text: &'a str) -> &'a str
 impl<'a> Leaf<'a> {
     /// The name of an identifier: its text `unescaped`. Takes no memory.
     pub fn name(&self) -> &'a str
-        ensures { result.now ≡ unescaped_text self.now.token.now.text.now }
+        ensures { result.now ≡ unescaped_text self.now.token.text.now }
     {
         unescaped(self.token.text)
     }

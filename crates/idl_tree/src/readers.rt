@@ -13,7 +13,7 @@ impl<'a> Leaf<'a> {
     {
         At {
             token: self.number,
-            line: self.token.line,
+            line: self.token.line as usize,
         }
     }
 }

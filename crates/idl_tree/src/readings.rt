@@ -19,7 +19,7 @@ impl<'a> Leaf<'a> {
     /// The value of an integer literal. Takes no memory.
     pub fn number(&self) -> u64
         requires { IsLeafOf Kind.Number self.now }
-        ensures { result ≡ value_of self.now.token.now.text.now }
+        ensures { result ≡ value_of self.now.token.text.now }
     {
         number_value(self.token.text)
     }
@@ -27,7 +27,7 @@ impl<'a> Leaf<'a> {
     /// The octet for which a character literal stands. Takes no memory.
     pub fn character(&self) -> u8
         requires { IsLeafOf Kind.CharLit self.now }
-        ensures { result ≡ character_octet self.now.token.now.text.now }
+        ensures { result ≡ character_octet self.now.token.text.now }
     {
         character_value(self.token.text)
     }
@@ -35,7 +35,7 @@ impl<'a> Leaf<'a> {
     /// What a pragma for repository ids says. Takes no memory.
     pub fn pragma(&self) -> Pragma<'a>
         requires { IsLeafOf Kind.Pragma self.now }
-        ensures { Says self.now.token.now.text.now result }
+        ensures { Says self.now.token.text.now result }
     {
         Pragma::read(self.token.text)
     }
@@ -47,7 +47,7 @@ impl<'a> Leaf<'a> {
     /// `AllocError` where memory was refused; then nothing was added.
     pub fn push_octets(&self, octets: &mut Vec<u8>) -> Result<(), AllocError>
         requires { IsLeafOf Kind.TextLit self.now }
-        ensures ok { OnOk result (octets.new.items ≡ octets.old.items ++ text_octets self.now.token.now.text.now) }
+        ensures ok { OnOk result (octets.new.items ≡ octets.old.items ++ text_octets self.now.token.text.now) }
         ensures err { OnErr result (octets.new.items ≡ octets.old.items) }
     {
         push_octets(self.token.text, octets)
@@ -63,7 +63,7 @@ impl<'a> Listed<Leaf<'a>> {
     pub fn push_octets(&self, octets: &mut Vec<u8>) -> Result<(), AllocError>
         requires { AllByRecursion (IsLeafOf Kind.TextLit) (parts self.now) }
         ensures ok { OnOk result (octets.new.items
-            ≡ octets.old.items ++ flat_map (λ l. text_octets l.token.now.text.now) (parts self.now)) }
+            ≡ octets.old.items ++ flat_map (λ l. text_octets l.token.text.now) (parts self.now)) }
         ensures err { OnErr result (octets.new.items ≡ octets.old.items) }
     {
         let len = octets.len();

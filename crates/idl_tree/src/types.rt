@@ -59,7 +59,8 @@ pub struct Declarator<'a> {
 
 pub struct EnumType<'a> {
     pub identifier: Leaf<'a>,
-    pub enumerators: Listed<Leaf<'a>>,
+    /// In a box, so that no other type is as large as an enumeration.
+    pub enumerators: Box<Listed<Leaf<'a>>>,
 }
 
 /// The type of a union's discriminator.

@@ -91,7 +91,7 @@ kind_ascii CharLit line form = tt
 kind_ascii TextLit line form = tt
 
 said_ascii : (l : Leaf) → MaySay (said_by l)
-said_ascii l = kind_ascii l.token.now.kind l.token.now.text.now l.token.now.form
+said_ascii l = kind_ascii l.token.kind l.token.text.now l.token.form
 
 -- ---- what is known
 

@@ -147,7 +147,7 @@ proper_by es n e (Stands scope l kind) at stands (m, f, is, here, kind_is, name_
     let (y, there, in_scope) = named_entry es scope (word l) n stands in
     let again : y ≡ e = let both : Some y ≡ Some e = sym there ∙ at in cc in
     let scoped : e.scope ≡ scope = ap (λ x. x.scope) (sym again) ∙ sym in_scope in (
-      subst IsNameWord (sym called) (name_word l.token.now.text.now form),
+      subst IsNameWord (sym called) (name_word l.token.text.now form),
       ap (λ s. named es s e.name) scoped ∙ ap (named es scope) called ∙ stands,
     )
 proper_by es n e (Has scope l) at stands is form = absurd stands

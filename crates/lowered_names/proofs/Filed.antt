@@ -77,7 +77,7 @@ unfolding IsDistinct
 marked_apart own marks ns words apart = (letters_other own marks ns words, apart)
 
 picked_words : (s : ℕ) (ns : List (List ℕ)) (xs : List Introduction) → AllByRecursion IsNamedByWord xs → Picked s ns xs → AllByRecursion IsNameWord ns
-picked_words s ns xs words picked = picked_all IsNamedByWord IsNameWord s (λ l form. name_word l.token.now.text.now form) ns xs words picked
+picked_words s ns xs words picked = picked_all IsNamedByWord IsNameWord s (λ l form. name_word l.token.text.now form) ns xs words picked
 
 one_apart : (n : List ℕ) → AreApart (n ∷ [])
 unfolding IsDistinct

@@ -122,7 +122,7 @@ pub enum_makes : (es : List Entry) (w : Lowered) (scope : ℕ) (e : EnumType) (n
     → enum_type es w scope e ≡ Ok n
     → Makes (λ v ops ps. enum_parts es v scope ps e) w n.lowered
 enum_makes es w scope e n h =
-    let ids = parts e.enumerators in
+    let ids = parts e.enumerators.value in
     let at = leaf_at e.identifier in
     let (entry, is, h1) = then_done (entry_of es scope e.identifier) _ n h in
     let (count, fits, told) = then_done (at_most max_enumerators Enumerators at (length ids)) _ n h1 in

@@ -186,18 +186,18 @@ pub enum_named : (es : List Entry) (w : Lowered) (scope : ℕ) (e : EnumType) �
 enum_named es w scope e placed g ps all =
     let holds = g.holds.0 in
     let there = there_of es scope e.identifier Kinds.Enum holds.entries.0 in
-    named_by (entry_of es scope e.identifier) there.number (λ n. typed w n (map word (parts e.enumerators)) ps) (entry_told es scope e.identifier there.number there.is)
-    (typed_named w there.number (map word (parts e.enumerators)) (placed_as es w scope e.identifier Kinds.Enum placed there)
-    (stands_apart scope (parts e.enumerators) (enumerators_distinct es scope e g)) ps all)
+    named_by (entry_of es scope e.identifier) there.number (λ n. typed w n (map word (parts e.enumerators.value)) ps) (entry_told es scope e.identifier there.number there.is)
+    (typed_named w there.number (map word (parts e.enumerators.value)) (placed_as es w scope e.identifier Kinds.Enum placed there)
+    (stands_apart scope (parts e.enumerators.value) (enumerators_distinct es scope e g)) ps all)
   where
     standing : (es : List Entry) (scope : ℕ) (ls : List Leaf) → introduced es scope (map DeclaresEnumerator ls) ≡ map (stands_enumerator scope) ls
     standing es scope [] = refl
     standing es scope (l ∷ ls) = ap (λ z. stands_enumerator scope l ∷ z) (standing es scope ls)
 
-    enumerators_distinct : (es : List Entry) (scope : ℕ) (e : EnumType) → Good es scope (enum_steps e) → IsDistinct clashes (map (stands_enumerator scope) (parts e.enumerators))
+    enumerators_distinct : (es : List Entry) (scope : ℕ) (e : EnumType) → Good es scope (enum_steps e) → IsDistinct clashes (map (stands_enumerator scope) (parts e.enumerators.value))
     enumerators_distinct es scope e g =
-        let behind = (good_tail es scope (DeclaresEnum e.identifier) (map DeclaresEnumerator (parts e.enumerators)) tt g).1 in
-        subst (IsDistinct clashes) (standing es scope (parts e.enumerators)) behind.apart
+        let behind = (good_tail es scope (DeclaresEnum e.identifier) (map DeclaresEnumerator (parts e.enumerators.value)) tt g).1 in
+        subst (IsDistinct clashes) (standing es scope (parts e.enumerators.value)) behind.apart
 
 switch_named : (es : List Entry) (w : Lowered) (scope : ℕ) (s : SwitchType) → HavePlaces es w → Good es scope (switch_steps s) → (ps : List Part) → AllApart ps
     → IsNamed (switch_parts es w scope ps s)

@@ -33,7 +33,7 @@ const_stays es w scope ConstTypes.Boolean n h = already_stays w 2 n h
 const_stays es w scope (ConstTypes.String None) n h = already_stays w 9 n h
 const_stays es w scope (ConstTypes.String (Some bound)) n h =
     let (most, is, told) = then_done (bound_of es scope bound) _ n h in
-    adds_stays w (Text most) (one_site (leaf_at (expr_start bound.expr))) n told
+    adds_stays w (Text most) (one_site (leaf_at (expr_start bound.expr.value))) n told
 const_stays es w scope (ConstTypes.Name name) n h =
     let (k, is, told) = then_done (type_found es w scope name) _ n h in
     already_stays w k n told

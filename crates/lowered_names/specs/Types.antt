@@ -101,7 +101,7 @@ with_id names = codes "_id" ∷ names
 -- ---- types
 
 abbrev pub enum_parts : List Entry → Lowered → ℕ → List Part → EnumType → Parted
-enum_parts es w scope ps t = entry_of es scope t.identifier >> λ e. typed w e (map word (parts t.enumerators)) ps
+enum_parts es w scope ps t = entry_of es scope t.identifier >> λ e. typed w e (map word (parts t.enumerators.value)) ps
 
 abbrev pub switch_parts : List Entry → Lowered → ℕ → List Part → SwitchType → Parted
 switch_parts es w scope ps (SwitchTypes.Enum e) = enum_parts es w scope ps e

@@ -77,9 +77,9 @@ at_most_of most which at n =
 
 bound_fine : (es : List Entry) (g : List Introduction) (scope : ℕ) (b : Bound) → AllSettled es g scope (bound_steps (Some b)) → Fine (λ n. n ≤ max_bound) (bound_of es scope b)
 bound_fine es g scope b h =
-    let (n, is, above) = size_known es g scope b.expr h.0 in
-    given (λ n. n ≤ max_bound) (of_names (size_read es scope b.expr)) n (λ n. at_most max_bound BoundLimit (leaf_at (expr_start b.expr)) n) is
-    (at_most_of max_bound BoundLimit (leaf_at (expr_start b.expr)) n)
+    let (n, is, above) = size_known es g scope b.expr.value h.0 in
+    given (λ n. n ≤ max_bound) (of_names (size_read es scope b.expr.value)) n (λ n. at_most max_bound BoundLimit (leaf_at (expr_start b.expr.value)) n) is
+    (at_most_of max_bound BoundLimit (leaf_at (expr_start b.expr.value)) n)
 
 bound_or_none_fine : (es : List Entry) (g : List Introduction) (scope : ℕ) (b : Option Bound) → AllSettled es g scope (bound_steps b)
     → Fine (λ n. n ≤ max_bound) (bound_or_none es scope b)
@@ -113,7 +113,7 @@ const_keeps es g begun w scope ConstTypes.Char i h = still_fine es g begun w 1 i
 const_keeps es g begun w scope ConstTypes.Boolean i h = still_fine es g begun w 2 i (basic_part es g begun w 2 _ i refl tt)
 const_keeps es g begun w scope (ConstTypes.String None) i h = still_fine es g begun w 9 i (basic_part es g begun w 9 _ i refl tt)
 const_keeps es g begun w scope (ConstTypes.String (Some bound)) i h =
-    let at = leaf_at (expr_start bound.expr) in
+    let at = leaf_at (expr_start bound.expr.value) in
     and_then (λ most. most ≤ max_bound) (Adds es g begun w) (bound_of es scope bound) (λ most. added_at w (Text most) at) (bound_fine es g scope bound h)
     (λ most le. added_fine es g begun w (Text most) (one_site at) i le (λ is. cc) tt refl)
 const_keeps es g begun w scope (ConstTypes.Name name) i h =
@@ -196,7 +196,7 @@ pub enum_keeps : (es : List Entry) (g : List Introduction) (begun : ℕ → Type
 enum_keeps es g begun w scope e i (h, hs) =
     let wrote = Wrote es (behind es g scope (enum_steps e)) begun w in
     let d = entered es g scope e.identifier Kinds.Enum h.holds.entries.0 h.new in
-    let count = length (parts e.enumerators) in
+    let count = length (parts e.enumerators.value) in
     let named = Stands scope e.identifier Kinds.Enum ∷ g in
     given wrote (entry_of es scope e.identifier) d.entry _ (entry_is es scope e.identifier d.entry d.is)
     (and_then (λ k. (k ≡ count) × (count ≤ max_enumerators)) wrote (at_most max_enumerators Enumerators (leaf_at e.identifier) count)
@@ -205,7 +205,7 @@ enum_keeps es g begun w scope e i (h, hs) =
     let fits = le.1 in
     weaker (Wrote es named begun w) wrote (named_type w d.entry (Enum n) (leaf_at e.identifier)) (λ m a.
     record {
-      keeps = silent_keeps es named begun m.lowered scope (map DeclaresEnumerator (parts e.enumerators)) (each_silent DeclaresEnumerator (λ l. tt) (parts e.enumerators)) hs a.keeps;
+      keeps = silent_keeps es named begun m.lowered scope (map DeclaresEnumerator (parts e.enumerators.value)) (each_silent DeclaresEnumerator (λ l. tt) (parts e.enumerators.value)) hs a.keeps;
       later = a.later;
       part = a.part;
     })

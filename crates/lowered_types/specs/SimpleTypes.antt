@@ -49,7 +49,7 @@ size_of es scope size =
 
 abbrev pub bound_of : List Entry → ℕ → Bound → Result ℕ BuildFault
 bound_of es scope bound =
-    of_names (size_read es scope bound.expr) >> λ n. at_most max_bound BoundLimit (leaf_at (expr_start bound.expr)) n
+    of_names (size_read es scope bound.expr.value) >> λ n. at_most max_bound BoundLimit (leaf_at (expr_start bound.expr.value)) n
 
 -- no bound is 0
 abbrev pub bound_or_none : List Entry → ℕ → Option Bound → Result ℕ BuildFault
@@ -75,7 +75,7 @@ const_type es w scope ConstTypes.Char = Ok (already w 1)
 const_type es w scope ConstTypes.Boolean = Ok (already w 2)
 const_type es w scope (ConstTypes.String None) = Ok (already w 9)
 const_type es w scope (ConstTypes.String (Some bound)) =
-    bound_of es scope bound >> λ most. added_at w (Text most) (leaf_at (expr_start bound.expr))
+    bound_of es scope bound >> λ most. added_at w (Text most) (leaf_at (expr_start bound.expr.value))
 const_type es w scope (ConstTypes.Name name) = type_found es w scope name >> λ n. Ok (already w n)
 
 abbrev pub param_type : List Entry → Lowered → ℕ → ParamType → Result Numbered BuildFault
@@ -109,5 +109,5 @@ array_type es scope element d = sizes_read es scope d.sizes.items >> λ ns. arra
 abbrev pub enum_type : List Entry → Lowered → ℕ → EnumType → Result Numbered BuildFault
 enum_type es w scope e =
     entry_of es scope e.identifier >> λ entry.
-    at_most max_enumerators Enumerators (leaf_at e.identifier) (length (parts e.enumerators)) >> λ n.
+    at_most max_enumerators Enumerators (leaf_at e.identifier) (length (parts e.enumerators.value)) >> λ n.
     named_type w entry (Enum n) (leaf_at e.identifier)

@@ -138,11 +138,11 @@ listed_steps yield step part l =
 
 string_bound_asks : {ls : List Leaf} (b : Option Bound) → Asks ls (optional string_bound_yield b) (bound_steps b)
 string_bound_asks None = none
-string_bound_asks (Some b) = ended (begun (quiet (codes "<")) (plain (IsSize b.expr) tt)) (quiet (codes ">"))
+string_bound_asks (Some b) = ended (begun (quiet (codes "<")) (plain (IsSize b.expr.value) tt)) (quiet (codes ">"))
 
 sequence_bound_asks : {ls : List Leaf} (b : Option Bound) → Asks ls (optional sequence_bound_yield b) (bound_steps b)
 sequence_bound_asks None = none
-sequence_bound_asks (Some b) = begun (quiet (codes ",")) (plain (IsSize b.expr) tt)
+sequence_bound_asks (Some b) = begun (quiet (codes ",")) (plain (IsSize b.expr.value) tt)
 
 integer_size_asks : {ls : List Leaf} (size : IntegerSize) → Asks ls (integer_size_yield size) []
 integer_size_asks Short = word (codes "short")
@@ -187,7 +187,7 @@ declarators_ask l = listed_parts declarator_yield declarator_steps declarator_as
 pub enum_asks : {ls : List Leaf} (e : EnumType) → Asks ls (enum_yield e) (enum_steps e)
 enum_asks e =
     let named = begun (word (codes "enum")) (plain (DeclaresEnum e.identifier) tt) in
-    let list = listed_steps identifier DeclaresEnumerator (λ l. plain (DeclaresEnumerator l) tt) e.enumerators in
+    let list = listed_steps identifier DeclaresEnumerator (λ l. plain (DeclaresEnumerator l) tt) e.enumerators.value in
     ended (joined (ended named (quiet (codes "{"))) list) (quiet (codes "}"))
 
 pub switch_asks : {ls : List Leaf} (s : SwitchType) → Asks ls (switch_yield s) (switch_steps s)

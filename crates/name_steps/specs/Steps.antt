@@ -83,7 +83,7 @@ pub data Step : Type 0 where
 
 abbrev pub bound_steps : Option Bound → List Step
 bound_steps None = []
-bound_steps (Some bound) = IsSize bound.expr ∷ []
+bound_steps (Some bound) = IsSize bound.expr.value ∷ []
 
 abbrev pub const_type_steps : ConstType → List Step
 const_type_steps (ConstTypes.Integer i) = []
@@ -119,7 +119,7 @@ declarator_steps d = HasMember d.identifier ∷ map size_step d.sizes.items
 
 -- enumerators stand in the scope around their enumeration
 abbrev pub enum_steps : EnumType → List Step
-enum_steps e = DeclaresEnum e.identifier ∷ map DeclaresEnumerator (parts e.enumerators)
+enum_steps e = DeclaresEnum e.identifier ∷ map DeclaresEnumerator (parts e.enumerators.value)
 
 abbrev pub switch_steps : SwitchType → List Step
 switch_steps (SwitchTypes.Enum e) = enum_steps e

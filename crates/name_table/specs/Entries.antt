@@ -21,7 +21,7 @@ entry_declared m prefix scope l = record {
   bases = [];
   worth = m.worth;
   stands_for = m.stands_for;
-  line = l.token.now.line;
+  line = l.token.line;
   identifier = l.number;
   prefix = prefix;
 }

@@ -119,7 +119,7 @@ finds_words entries n scope rooted first rest = found_by (sees_words entries n s
 
 -- the name of an identifier
 abbrev pub word : Leaf → List ℕ
-word l = unescaped l.token.now.text.now
+word l = unescaped l.token.text.now
 
 -- what is seen where a name is sought that stands in the scope
 abbrev pub sees : List Entry → ℕ → ScopedName → Sight

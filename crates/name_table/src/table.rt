@@ -379,7 +379,7 @@ impl<'a> Table<'a> {
         let record = Record {
             key: Key { scope, word },
             token: meaning.token,
-            line: identifier.token.line,
+            line: identifier.token.line as usize,
             identifier: identifier.number,
             kind: meaning.kind,
             known,

@@ -17,7 +17,7 @@ use Rattle.idl_tree.proofs.SpelledForms.{AreNumbered-append, kept_number}
 use Rattle.scoped_names.proofs.Staying.{BoundUpTo, NamesUpTo, OperandsUpTo, TypeUpTo}
 
 pub leaf_number : (l : Leaf) (k : ℕ) → AreNumbered k (identifier l) → l.number ≡ k
-leaf_number l k h = kept_number Ident l.token.now.text.now l k h
+leaf_number l k h = kept_number Ident l.token.text.now l k h
 
 path_number : (root : Option Leaf) (first : Leaf) (k : ℕ) → AreNumbered k (optional root_yield root ++ identifier first) → (root_or root first).number ≡ k
 path_number None first k h = leaf_number first k h
@@ -73,7 +73,7 @@ mutual
 bound_up_to : {k n : ℕ} (b : Option Bound) → Stand k n (optional string_bound_yield b) → BoundUpTo n b
 bound_up_to None s = tt
 bound_up_to (Some b) s =
-    expr_up_to b.expr (right (mark (codes "<")) (bound_yield b) (left (mark (codes "<") ++ bound_yield b) (mark (codes ">")) s))
+    expr_up_to b.expr.value (right (mark (codes "<")) (bound_yield b) (left (mark (codes "<") ++ bound_yield b) (mark (codes ">")) s))
 
 type_up_to : {k n : ℕ} (t : ConstType) → Stand k n (const_type_yield t) → TypeUpTo n t
 type_up_to (ConstTypes.Integer i) s = tt

@@ -99,18 +99,18 @@ Begins-more {l} {ps} b qs =
     record { at = λ n h. b.at n (AreNumbered-append ps qs n h).0; some = omega arith }
 
 Begins-path : (root : Option Leaf) (first : Leaf) → Begins (root_or root first) (optional root_yield root ++ identifier first)
-Begins-path None first = Begins-kept Ident first.token.now.text.now first
+Begins-path None first = Begins-kept Ident first.token.text.now first
 Begins-path (Some root) first = Begins-more (Begins-kept Punct (codes "::") root) (identifier first)
 
 Begins-name : (name : ScopedName) → Begins (name_start name) (name_yield name)
-Begins-name (Names.Plain l) = Begins-kept Ident l.token.now.text.now l
+Begins-name (Names.Plain l) = Begins-kept Ident l.token.text.now l
 Begins-name (Names.Scoped p) = Begins-more (Begins-path p.value.root p.value.first) _
 
 Begins-expr : (e : Expr) → Begins (expr_start e) (expr_yield e)
 Begins-expr (Name name) = Begins-name name
-Begins-expr (Number l) = Begins-kept Integer l.token.now.text.now l
-Begins-expr (Character l) = Begins-kept CharLit l.token.now.text.now l
-Begins-expr (Text ls) = Begins-more (Begins-kept TextLit ls.value.first.token.now.text.now ls.value.first) _
+Begins-expr (Number l) = Begins-kept Integer l.token.text.now l
+Begins-expr (Character l) = Begins-kept CharLit l.token.text.now l
+Begins-expr (Text ls) = Begins-more (Begins-kept TextLit ls.value.first.token.text.now ls.value.first) _
 Begins-expr (Boolean b word) = Begins-kept Keyword (boolean_text b) word
 Begins-expr (Parenthesized' l p inner) = Begins-more (Begins-more (Begins-kept Punct (codes "(") l) (expr_yield inner)) _
 Begins-expr (Signed' m s p inner) = Begins-more (Begins-kept Punct (sign_text s) m) (expr_yield inner)
@@ -128,7 +128,7 @@ stands {l} {ps} step b here = record {
 }
 
 is_named : (l : Leaf) → Begins l (identifier l)
-is_named l = Begins-kept Ident l.token.now.text.now l
+is_named l = Begins-kept Ident l.token.text.now l
 
 plain_along : (s : Step) → IsPlain s → Along (pieces_of s) (s ∷ [])
 plain_along (Declares kind l) is = stands (Declares kind l) (is_named l) (λ n at lt. omega arith)
@@ -141,7 +141,7 @@ plain_along (NamesType name) is = stands (NamesType name) (Begins-name name) (λ
 plain_along (NamesException name) is = stands (NamesException name) (Begins-name name) (λ n at lt. omega arith)
 plain_along (HasWorth e) is = stands (HasWorth e) (Begins-expr e) (λ n at lt. omega arith)
 plain_along (IsSize e) is = stands (IsSize e) (Begins-expr e) (λ n at lt. omega arith)
-plain_along (Says l) is = stands (Says l) (Begins-kept Pragma l.token.now.text.now l) (λ n at lt. omega arith)
+plain_along (Says l) is = stands (Says l) (Begins-kept Pragma l.token.text.now l) (λ n at lt. omega arith)
 plain_along s is = absurd is
 
 -- a base stands behind its mark
@@ -192,8 +192,8 @@ along (defines id a) = defining id (along a)
 
 -- ---- a whole specification
 
-pub rising : (spec : Spec) → length spec.tokens.now < 2 ^ 64 → Rises 0 (steps_of spec.definitions.items)
-rising spec small =
+pub rising : (spec : Spec) → Rises 0 (steps_of spec.definitions.items)
+rising spec =
     let all = along (all_ask spec.definitions.items) in
-    let count = Spec-length spec in
+    let few = Spec-length spec in
     rw (← append-nil (steps_of spec.definitions.items)) (all.go 0 (record { numbered = Spec-numbers spec; small = omega arith }) [] tt)

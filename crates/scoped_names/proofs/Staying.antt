@@ -48,7 +48,7 @@ abbrev mutual
 
 abbrev pub BoundUpTo : ℕ → Option Bound → Type 0
 BoundUpTo n None = Unit {0}
-BoundUpTo n (Some b) = NamesUpTo n b.expr
+BoundUpTo n (Some b) = NamesUpTo n b.expr.value
 
 abbrev pub TypeUpTo : ℕ → ConstType → Type 0
 TypeUpTo n (ConstTypes.String bound) = BoundUpTo n bound
@@ -181,7 +181,7 @@ module _ (n : ℕ) (es fs : List Entry) (l : Later n es fs) (scope : ℕ) (is : 
   kind_stays ConstTypes.Boolean h = refl
   kind_stays ConstTypes.Octet h = refl
   kind_stays (ConstTypes.String None) h = refl
-  kind_stays (ConstTypes.String (Some b)) h = ap (λ r. Some (Kinds.String (known r))) (size_stays b.expr h)
+  kind_stays (ConstTypes.String (Some b)) h = ap (λ r. Some (Kinds.String (known r))) (size_stays b.expr.value h)
   kind_stays (ConstTypes.Name name) h = meant_stays name h
 
   pub typed_stays : (t : ConstType) (e : Expr) → TypeUpTo n t → NamesUpTo n e

@@ -25,9 +25,7 @@ use Rattle.name_steps.proofs.ListedSteps.{module_listed}
 -- any leaf, with this token in its place
 abbrev leaf : Leaf → (k : Kind) → (text : List ℕ) → HasForm k text → ℕ → ℕ → Leaf
 leaf l k text form number at = record {
-  token = record l.token {
-    now = record { kind = k; text = record l.token.now.text { now = text }; start = l.token.now.start; line = at; form = form };
-  };
+  token = record { kind = k; text = record l.token.text { now = text }; start = l.token.start; line = at; form = form };
   number = number;
 }
 

@@ -1,5 +1,5 @@
 -- What specifications introduce, worked out by hand, whatever the identifiers and the entries are.
-use Rattle.std.proofs.Common.{◌≡◌, List, [], ◌∷◌, ◌++◌, Some, None, Vec, Global, false, ap}
+use Rattle.std.proofs.Common.{◌≡◌, List, [], ◌∷◌, ◌++◌, Some, None, Box, Vec, Global, false, ap, ap₂}
 use Rattle.std.specs.Prelude.{map}
 use Rattle.idl_tree.specs.declared.names.Leaf.{Leaf}
 use Rattle.idl_tree.specs.declared.types.ConstType.TheVariants.{Char}
@@ -11,6 +11,7 @@ use Rattle.idl_tree.specs.declared.definitions.Param.{Param}
 use Rattle.idl_tree.specs.declared.definitions.Export.{Export}
 use Rattle.idl_tree.specs.declared.definitions.Export.TheVariants as Exports
 use Rattle.idl_tree.specs.declared.definitions.Interface.TheVariants.{Defined}
+use Rattle.idl_tree.specs.declared.names.Listed.{Listed}
 use Rattle.idl_tree.specs.declared.definitions.Definition.{Declaration, Interface}
 use Rattle.idl_tree.specs.declared.kinds.EntryKind.TheVariants as Kinds
 use Rattle.name_table.specs.Entry.{Entry}
@@ -19,11 +20,11 @@ use Rattle.scoped_names.specs.Introductions.{Stands, Has, Body, introduced}
 use Rattle.name_steps.specs.Steps.{DeclaresEnumerator, steps_of}
 
 -- enum e {a, b};
-enumeration : (es : List Entry) (e a b : Leaf) (more : Vec Leaf Global) → more.items ≡ b ∷ []
-    → introduced es 0 (steps_of (Declaration (TypeDcl (Enum (record { identifier = e; enumerators = record { first = a; rest = more } }))) ∷ []))
+enumeration : (es : List Entry) (e a b : Leaf) (all : Box (Listed Leaf) Global) → all.value.first ≡ a → all.value.rest.items ≡ b ∷ []
+    → introduced es 0 (steps_of (Declaration (TypeDcl (Enum (record { identifier = e; enumerators = all }))) ∷ []))
     ≡ Stands 0 e Kinds.Enum ∷ Stands 0 a Kinds.Enumerator ∷ Stands 0 b Kinds.Enumerator ∷ []
-enumeration es e a b more is =
-    ap (λ xs. Stands 0 e Kinds.Enum ∷ Stands 0 a Kinds.Enumerator ∷ introduced es 0 (map DeclaresEnumerator xs ++ [])) is
+enumeration es e a b all first rest =
+    ap₂ (λ x xs. Stands 0 e Kinds.Enum ∷ Stands 0 x Kinds.Enumerator ∷ introduced es 0 (map DeclaresEnumerator xs ++ [])) first rest
 
 abbrev operation : Leaf → Leaf → Vec Param Global → Export
 operation f x more = Exports.Operation (record {

@@ -35,7 +35,7 @@ said_by_kind CharLit line = None
 said_by_kind TextLit line = None
 
 abbrev pub said_by : Leaf → Option Said
-said_by l = said_by_kind l.token.now.kind l.token.now.text.now
+said_by l = said_by_kind l.token.kind l.token.text.now
 
 -- whether two pragmas give the same
 abbrev pub is_same_given : GivenId → GivenId → Bool

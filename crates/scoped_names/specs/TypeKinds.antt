@@ -20,7 +20,7 @@ known (Err fault) = None
 
 abbrev pub string_kind : List Entry → ℕ → Option Bound → ConstKind
 string_kind es scope None = Kinds.String None
-string_kind es scope (Some bound) = Kinds.String (known (size_read es scope bound.expr))
+string_kind es scope (Some bound) = Kinds.String (known (size_read es scope bound.expr.value))
 
 -- the type of constants that a type is in the end
 abbrev pub const_type_kind : List Entry → ℕ → ConstType → Option ConstKind

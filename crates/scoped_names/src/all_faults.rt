@@ -198,8 +198,6 @@ pub fn name_faults(alloc: Global, spec: &Spec<'_>, most: usize) -> Result<NameFa
     ensures count { IfOk result (λ faults. faults.count
         ≡ min (length (all_faults spec.now.definitions.items)) 18446744073709551615) }
 {
-    // which is a number, so no token's number passes the largest
-    let _count = spec.tokens.len();
     let mut reader = Reader::new(alloc);
     let mut faults = NameFaults::new(alloc, most);
     reader.pass_definitions(alloc, &mut faults, spec.definitions.as_slice())?;

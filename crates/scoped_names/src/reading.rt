@@ -359,8 +359,6 @@ impl<'a> Reader<'a> {
         requires { self.old ≡ nothing_yet }
         ensures { Tells result self.new (specification_read spec.now.definitions.items) }
     {
-        // which is a number, so no token's number passes the largest
-        let _count = spec.tokens.len();
         self.read_definitions(alloc, spec.definitions.as_slice())?;
         self.all_defined()
     }

@@ -33,7 +33,7 @@ use Rattle.shape_laws.proofs.NameStepShapes.{Alike, step_shape, none, led, singl
 
 bounds_alike : (a b : Option Bound) → optional_shape bound_shape a ≡ optional_shape bound_shape b → Alike (bound_steps a) (bound_steps b)
 bounds_alike None None h = none
-bounds_alike (Some a) (Some b) h = single (IsSize a.expr) (IsSize b.expr) cc
+bounds_alike (Some a) (Some b) h = single (IsSize a.expr.value) (IsSize b.expr.value) cc
 bounds_alike a b h = absurd cc
 
 pub const_type_alike : (a b : ConstType) → const_type_shape a ≡ const_type_shape b → Alike (const_type_steps a) (const_type_steps b)
@@ -88,7 +88,7 @@ labels_alike = flat_parts label_shape label_steps label_steps label_alike
 pub enum_alike : (a b : EnumType) → enum_shape a ≡ enum_shape b → Alike (enum_steps a) (enum_steps b)
 enum_alike a b h =
     led (DeclaresEnum a.identifier) (DeclaresEnum b.identifier) (cc)
-    (map_parts leaf_shape DeclaresEnumerator DeclaresEnumerator (λ l m k. cc) a.enumerators b.enumerators cc)
+    (map_parts leaf_shape DeclaresEnumerator DeclaresEnumerator (λ l m k. cc) a.enumerators.value b.enumerators.value cc)
 
 switch_alike : (a b : SwitchType) → switch_shape a ≡ switch_shape b → Alike (switch_steps a) (switch_steps b)
 switch_alike (SwitchTypes.Enum e) (SwitchTypes.Enum f) h = enum_alike e f cc

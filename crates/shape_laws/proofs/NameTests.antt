@@ -125,7 +125,7 @@ integer_same a b h = apart h refl
 string_same : (es : List Entry) (scope : ℕ) (a b : Option Bound) → optional_shape bound_shape a ≡ optional_shape bound_shape b
     → string_kind es scope a ≡ string_kind es scope b
 string_same es scope None None h = refl
-string_same es scope (Some a) (Some b) h = ap (λ r. Kinds.String (known r)) (size_same es scope a.expr b.expr cc)
+string_same es scope (Some a) (Some b) h = ap (λ r. Kinds.String (known r)) (size_same es scope a.expr.value b.expr.value cc)
 string_same es scope a b h = absurd cc
 
 pub const_kind_same : (es : List Entry) (scope : ℕ) (a b : ConstType) → const_type_shape a ≡ const_type_shape b

@@ -52,18 +52,18 @@ length_same part xs ys h = absurd cc
 pub leaf_number : (a b : Leaf) → leaf_shape a ≡ leaf_shape b → a.number ≡ b.number
 leaf_number a b h = cc
 
-pub leaf_parts : (a b : Leaf) → leaf_shape a ≡ leaf_shape b → parts_of a.token.now ≡ parts_of b.token.now
+pub leaf_parts : (a b : Leaf) → leaf_shape a ≡ leaf_shape b → parts_of a.token ≡ parts_of b.token
 leaf_parts a b h = cc
 
-pub leaf_kind : (a b : Leaf) → leaf_shape a ≡ leaf_shape b → a.token.now.kind ≡ b.token.now.kind
+pub leaf_kind : (a b : Leaf) → leaf_shape a ≡ leaf_shape b → a.token.kind ≡ b.token.kind
 leaf_kind a b h = ap (λ t. t.kind) (leaf_parts a b h)
 
-pub leaf_line : (a b : Leaf) → leaf_shape a ≡ leaf_shape b → a.token.now.line ≡ b.token.now.line
+pub leaf_line : (a b : Leaf) → leaf_shape a ≡ leaf_shape b → a.token.line ≡ b.token.line
 leaf_line a b h = ap (λ t. t.line) (leaf_parts a b h)
 
 -- what says something of a token's kind and text alone
 pub kind_text : {T : Type 0} (f : TokenKind → List ℕ → T) (a b : Leaf) → leaf_shape a ≡ leaf_shape b
-    → f a.token.now.kind a.token.now.text.now ≡ f b.token.now.kind b.token.now.text.now
+    → f a.token.kind a.token.text.now ≡ f b.token.kind b.token.text.now
 kind_text f a b h = ap₂ f (leaf_kind a b h) (leaf_text a b h)
 
 pub word_same : (a b : Leaf) → leaf_shape a ≡ leaf_shape b → word a ≡ word b

@@ -33,7 +33,7 @@ are_texts_same (x ∷ xs) (y ∷ ys) h = ap₂ (λ a b. a && b) (ap is_text (lea
 are_texts_same xs ys h = absurd cc
 
 octets_same : (xs ys : List Leaf) → list_shape leaf_shape xs ≡ list_shape leaf_shape ys → joined_octets xs ≡ joined_octets ys
-octets_same = flat_same leaf_shape (λ l. text_octets l.token.now.text.now) (λ a b h. ap text_octets (leaf_text a b h))
+octets_same = flat_same leaf_shape (λ l. text_octets l.token.text.now) (λ a b h. ap text_octets (leaf_text a b h))
 
 text_same : (a b : Listed Leaf) → listed_shape leaf_shape a ≡ listed_shape leaf_shape b → text_worth (parts a) ≡ text_worth (parts b)
 text_same a b h =
@@ -77,7 +77,7 @@ unfolding kept
 token_pieces kind x y a b h =
     let text : x ≡ y = cc in
     let number : a.number ≡ b.number = cc in
-    let token : parts_of a.token.now ≡ parts_of b.token.now = cc in
+    let token : parts_of a.token ≡ parts_of b.token = cc in
     ap₃ (λ t n p. record { kind = kind; text = t; token = Some (n, p); touches = false } ∷ []) text number token
 
 leaf_pieces : (kind : TokenKind) (a b : Leaf) → leaf_shape a ≡ leaf_shape b → leaf kind a ≡ leaf kind b

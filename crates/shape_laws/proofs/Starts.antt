@@ -18,14 +18,14 @@ place token line = record { token = token; line = line }
 pub token_at : (x y : List ℕ) (a b : Leaf) → token_shape x a ≡ token_shape y b → leaf_at a ≡ leaf_at b
 token_at x y a b h =
     let number : a.number ≡ b.number = cc in
-    let token : parts_of a.token.now ≡ parts_of b.token.now = cc in
-    let line : a.token.now.line ≡ b.token.now.line = ap (λ t. t.line) token in
-    ap (λ n. place n a.token.now.line) number ∙ ap (place b.number) line
+    let token : parts_of a.token ≡ parts_of b.token = cc in
+    let line : a.token.line ≡ b.token.line = ap (λ t. t.line) token in
+    ap (λ n. place n a.token.line) number ∙ ap (place b.number) line
 
 pub leaf_same : (a b : Leaf) → leaf_shape a ≡ leaf_shape b → leaf_at a ≡ leaf_at b
 leaf_same a b h = token_at _ _ a b h
 
-pub leaf_text : (a b : Leaf) → leaf_shape a ≡ leaf_shape b → a.token.now.text.now ≡ b.token.now.text.now
+pub leaf_text : (a b : Leaf) → leaf_shape a ≡ leaf_shape b → a.token.text.now ≡ b.token.text.now
 leaf_text a b h = cc
 
 root_at : (a b : Option Leaf) (l m : Leaf) → optional_shape root_shape a ≡ optional_shape root_shape b → leaf_shape l ≡ leaf_shape m

@@ -45,7 +45,7 @@ size_of_same es scope a b h =
 
 bound_same : (es : List Entry) (scope : ℕ) (a b : Bound) → bound_shape a ≡ bound_shape b → bound_of es scope a ≡ bound_of es scope b
 bound_same es scope a b h =
-    λ i. of_names (size_same es scope a.expr b.expr h i) >> λ n. at_most max_bound BoundLimit (expr_at a.expr b.expr h i) n
+    λ i. of_names (size_same es scope a.expr.value b.expr.value h i) >> λ n. at_most max_bound BoundLimit (expr_at a.expr.value b.expr.value h i) n
 
 bound_or_none_same : (es : List Entry) (scope : ℕ) (a b : Option Bound) → optional_shape bound_shape a ≡ optional_shape bound_shape b
     → bound_or_none es scope a ≡ bound_or_none es scope b
@@ -60,7 +60,7 @@ bounded_same : (es : List Entry) (w : Lowered) (scope : ℕ) (a b : Option Bound
 bounded_same es w scope None None h = refl
 bounded_same es w scope (Some a) (Some b) h =
     let bounds : bound_shape a ≡ bound_shape b = cc in
-    λ i. bound_same es scope a b bounds i >> λ most. added_at w (Text most) (expr_at a.expr b.expr bounds i)
+    λ i. bound_same es scope a b bounds i >> λ most. added_at w (Text most) (expr_at a.expr.value b.expr.value bounds i)
 bounded_same es w scope a b h = absurd cc
 
 pub const_type_same : (es : List Entry) (w : Lowered) (scope : ℕ) (a b : ConstType) → const_type_shape a ≡ const_type_shape b
@@ -122,13 +122,13 @@ pub enum_name : (a b : EnumType) → enum_shape a ≡ enum_shape b → leaf_shap
 enum_name a b h = cc
 
 enumerators_shape : (a b : EnumType) → enum_shape a ≡ enum_shape b
-    → list_shape leaf_shape (parts a.enumerators) ≡ list_shape leaf_shape (parts b.enumerators)
+    → list_shape leaf_shape (parts a.enumerators.value) ≡ list_shape leaf_shape (parts b.enumerators.value)
 enumerators_shape a b h = cc
 
 pub enum_same : (es : List Entry) (w : Lowered) (scope : ℕ) (a b : EnumType) → enum_shape a ≡ enum_shape b → enum_type es w scope a ≡ enum_type es w scope b
 enum_same es w scope a b h =
     let name = enum_name a b h in
     let at = leaf_same a.identifier b.identifier name in
-    let count = length_same leaf_shape (parts a.enumerators) (parts b.enumerators) (enumerators_shape a b h) in
+    let count = length_same leaf_shape (parts a.enumerators.value) (parts b.enumerators.value) (enumerators_shape a b h) in
     λ i. entry_same es scope a.identifier b.identifier name i >> λ entry.
     at_most max_enumerators Enumerators (at i) (count i) >> λ n. named_type w entry (Enum n) (at i)

@@ -414,4 +414,4 @@ pub takes_const_expr : (room : ℕ) (c : ConstExpr) → const_expr_levels c ≤ 
 takes_const_expr room c few = (expr_taken c.expr true 0 c.groups).level room true 0 6 refl few c.groups
 
 pub takes_bound : (room : ℕ) (b : Bound) → bound_levels b ≤ room → Takes (bound_yield b) (λ t. expr_way false room t) (ExprEnds false 0)
-takes_bound room b few = (expr_taken b.expr false 0 b.groups).level room false 0 6 refl few b.groups
+takes_bound room b few = (expr_taken b.expr.value false 0 b.groups).level room false 0 6 refl few b.groups

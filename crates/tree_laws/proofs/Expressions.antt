@@ -343,4 +343,4 @@ pub same_const_expr : (a b : ConstExpr) → Same (const_expr_yield a) (const_exp
 same_const_expr a b = same_expr true 0 a.expr a.groups b.expr b.groups
 
 pub same_bound : (a b : Bound) → Same (bound_yield a) (bound_yield b) (bound_shape a ≡ bound_shape b) (ExprEnds false 0)
-same_bound a b = same_expr false 0 a.expr a.groups b.expr b.groups
+same_bound a b = same_expr false 0 a.expr.value a.groups b.expr.value b.groups

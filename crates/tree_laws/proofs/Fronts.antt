@@ -170,7 +170,7 @@ pub piece_first : (k : Kind) (text : List ℕ) (t r : List Seen) → Reads (piec
 unfolding piece
 piece_first k text t r h = first_of _ t r h.is
 
-pub kept_first : (k : Kind) (text : List ℕ) (l : Leaf) (t r : List Seen) → Reads (kept k text l) t r → First (record { kind = k; text = text; token = Some (l.number, parts_of l.token.now); touches = false }) t r
+pub kept_first : (k : Kind) (text : List ℕ) (l : Leaf) (t r : List Seen) → Reads (kept k text l) t r → First (record { kind = k; text = text; token = Some (l.number, parts_of l.token); touches = false }) t r
 unfolding kept
 kept_first k text l t r h = first_of _ t r h.is
 
@@ -216,20 +216,20 @@ touching_begins text t r h = first_begins _ t r (first_of _ t r h.is)
 -- ---- kept tokens in front of the same tokens are the same
 
 abbrev kept_piece : Kind → List ℕ → Leaf → Piece
-kept_piece k text l = record { kind = k; text = text; token = Some (l.number, parts_of l.token.now); touches = false }
+kept_piece k text l = record { kind = k; text = text; token = Some (l.number, parts_of l.token); touches = false }
 
 pub record SameKept (a b : Leaf) (x y : List ℕ) (r q : List Seen) : Type 0 where
   pub text : x ≡ y
   pub number : a.number ≡ b.number
-  pub token : parts_of a.token.now ≡ parts_of b.token.now
+  pub token : parts_of a.token ≡ parts_of b.token
   pub left : r ≡ q
 
 same_firsts : (k : Kind) (x y : List ℕ) (a b : Leaf) (t r q : List Seen) → First (kept_piece k x a) t r → First (kept_piece k y b) t q → SameKept a b x y r q
 same_firsts k x y a b t r q f g =
     let lists : f.token ∷ r ≡ g.token ∷ q = sym f.is ∙ g.is in
     let token : f.token ≡ g.token = cc in
-    let pf = and_parts (nat_eq a.number f.token.token.0) (are_same (parts_of a.token.now) f.token.token.1) f.kept in
-    let pg = and_parts (nat_eq b.number g.token.token.0) (are_same (parts_of b.token.now) g.token.token.1) g.kept in
+    let pf = and_parts (nat_eq a.number f.token.token.0) (are_same (parts_of a.token) f.token.token.1) f.kept in
+    let pg = and_parts (nat_eq b.number g.token.token.0) (are_same (parts_of b.token) g.token.token.1) g.kept in
     record {
       text = f.text ∙ ap (λ s. s.text) token ∙ sym g.text;
       number = eqb-true _ _ pf.0 ∙ ap (λ s. s.token.0) token ∙ sym (eqb-true _ _ pg.0);

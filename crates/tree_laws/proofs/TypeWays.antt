@@ -196,7 +196,7 @@ takes_opened word room l h = last_next (front (takes_named word l)) (opened_take
 
 pub takes_enum : (room : ℕ) (e : EnumType) → 0 < room → {S : List Seen → Type 0} → Takes (enum_yield e) (λ t. enum_way room t) S
 takes_enum room e h =
-    last (front_next (front (takes_opened (codes "enum") room e.identifier h)) (front (takes_identifiers e.enumerators))) (piece_avoids Punct (codes "}") _ refl) (piece_takes Punct (codes "}"))
+    last (front_next (front (takes_opened (codes "enum") room e.identifier h)) (front (takes_identifiers e.enumerators.value))) (piece_avoids Punct (codes "}") _ refl) (piece_takes Punct (codes "}"))
 
 -- ---- the types of discriminators
 

@@ -205,7 +205,7 @@ identifiers = record {
 pub same_enum : (a b : EnumType) {S : List Seen → Type 0} → Same (enum_yield a) (enum_yield b) (enum_shape a ≡ enum_shape b) S
 same_enum a b =
     so (λ h. let x = h.0 in let y = h.1 in cc)
-    (ended (mark (codes "}")) (next (closed (mark (codes "{")) (begun (keyword (codes "enum")) (leaves Ident a.identifier b.identifier))) (same_listed identifiers a.enumerators b.enumerators))
+    (ended (mark (codes "}")) (next (closed (mark (codes "{")) (begun (keyword (codes "enum")) (leaves Ident a.identifier b.identifier))) (same_listed identifiers a.enumerators.value b.enumerators.value))
     (piece_avoids Punct (codes "}") _ refl))
 
 pub enum_begins : (a : EnumType) → Leads (enum_yield a) Any (Among (23 ∷ []))

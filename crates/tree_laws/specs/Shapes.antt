@@ -27,10 +27,10 @@ word text = Kind text Nothing
 
 -- a token of this text
 abbrev pub token_shape : List ℕ → Leaf → Shape
-token_shape text l = Token text l.number (parts_of l.token.now)
+token_shape text l = Token text l.number (parts_of l.token)
 
 abbrev pub leaf_shape : Leaf → Shape
-leaf_shape l = token_shape l.token.now.text.now l
+leaf_shape l = token_shape l.token.text.now l
 
 abbrev pub root_shape : Leaf → Shape
 root_shape l = token_shape (codes "::") l
@@ -84,4 +84,4 @@ abbrev pub const_expr_shape : ConstExpr → Shape
 const_expr_shape c = expr_shape c.expr
 
 abbrev pub bound_shape : Bound → Shape
-bound_shape b = expr_shape b.expr
+bound_shape b = expr_shape b.expr.value

@@ -51,7 +51,7 @@ abbrev pub declarator_shape : Declarator → Shape
 declarator_shape d = Both (leaf_shape d.identifier) (list_shape const_expr_shape d.sizes.items)
 
 abbrev pub enum_shape : EnumType → Shape
-enum_shape e = Both (leaf_shape e.identifier) (listed_shape leaf_shape e.enumerators)
+enum_shape e = Both (leaf_shape e.identifier) (listed_shape leaf_shape e.enumerators.value)
 
 abbrev pub switch_shape : SwitchType → Shape
 switch_shape (SwitchTypes.Integer i) = Kind (codes "integer") (integer_shape i)

@@ -4,7 +4,6 @@ use Rattle.std.proofs.lemmas.List.{append-nil}
 use Rattle.idl_lexer.specs.declared.token.Token.{Token}
 use Rattle.idl_lexer.specs.Tokens.{parts_of}
 use Rattle.idl_tree.specs.declared.definitions.Definition.{Definition}
-use Rattle.idl_tree.specs.declared.spec.Spec.{Spec}
 use Rattle.idl_tree.specs.DefinitionYields.{definitions_spelled}
 use Rattle.idl_tree.specs.Pieces.{Spell}
 use Rattle.name_table.specs.Entry.{Entry}
@@ -50,13 +49,11 @@ same_names definitions others names given same one other =
     let e : Ok given ≡ Ok names = sym other ∙ (sym same ∙ one) in cc
 
 -- the fault of the tokens of a specification is its own
-pub own_fault : OneShape → OneNaming → OneLowering → (spec : Spec) (names : FileNames) (fault : BuildFault)
-    → AreNames spec.definitions.items names
-    → HasFault spec.tokens.now (left (length spec.tokens.now) [] spec.tokens.now) fault
-    → defined_by names.entries spec.definitions.items ≡ Err fault
-own_fault one naming same spec names fault named has =
-    let tokens = spec.tokens.now in
-    let definitions = spec.definitions.items in
+pub own_fault : OneShape → OneNaming → OneLowering → (tokens : List Token) (definitions : List Definition) (names : FileNames) (fault : BuildFault)
+    → Spell (definitions_spelled definitions) tokens → AreNames definitions names
+    → HasFault tokens (left (length tokens) [] tokens) fault
+    → defined_by names.entries definitions ≡ Err fault
+own_fault one naming same tokens definitions names fault spells named has =
     let said : map parts_of tokens ≡ map parts_of has.tree.tokens =
     sym (has.tree.said_by ∙ all_left tokens) in
     let spelled : Spell (definitions_spelled has.definitions) tokens =
@@ -64,7 +61,7 @@ own_fault one naming same spec names fault named has =
     let given : has.names ≡ names =
     same_names definitions has.named.definitions names has.names
     (naming definitions has.named.definitions
-    (one tokens definitions has.named.definitions spec.spells has.named.spelled)) named has.named.named in
+    (one tokens definitions has.named.definitions spells has.named.spelled)) named has.named.named in
     let told : defined_by names.entries has.definitions ≡ Err fault =
     subst (λ n. defined_by n.entries has.definitions ≡ Err fault) given has.told in
-    same names.entries definitions has.definitions (one tokens definitions has.definitions spec.spells spelled) ∙ told
+    same names.entries definitions has.definitions (one tokens definitions has.definitions spells spelled) ∙ told

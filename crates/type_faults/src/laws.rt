@@ -1,7 +1,10 @@
 //! Laws over the definitions. The functions do nothing: each contract is the law.
 
 ghost use Rattle.std.specs.Prelude.{◌≡◌, ℕ, List, [], ◌∷◌, Err, Ok};
-ghost use Rattle.idl_tree.specs.declared.spec.Spec.{Spec};
+ghost use Rattle.idl_lexer.specs.declared.token.Token.{Token};
+ghost use Rattle.idl_tree.specs.declared.definitions.Definition.{Definition};
+ghost use Rattle.idl_tree.specs.DefinitionYields.{definitions_spelled};
+ghost use Rattle.idl_tree.specs.Pieces.{Spell};
 ghost use Rattle.lowered_operations.specs.Definitions.{defined_by};
 ghost use Rattle.lowered_operations.specs.Operations.{Defined};
 ghost use Rattle.lowered_types.specs.declared.fault.BuildFault.{BuildFault};
@@ -13,9 +16,10 @@ use tree_laws::laws::spec_is_one;
 
 /// The first part that is refused tells the first fault of the specification.
 pub fn first_is_told()
-    ensures { (spec : Spec) (names : FileNames) (part : ℕ × BuildFault) (parts : List (ℕ × BuildFault))
-        → AreNames spec.definitions.items names → AreRefused spec.tokens.now [] (part ∷ parts)
-        → defined_by names.entries spec.definitions.items ≡ Err part.1 }
+    ensures { (tokens : List Token) (definitions : List Definition) (names : FileNames)
+        (part : ℕ × BuildFault) (parts : List (ℕ × BuildFault))
+        → Spell (definitions_spelled definitions) tokens → AreNames definitions names
+        → AreRefused tokens [] (part ∷ parts) → defined_by names.entries definitions ≡ Err part.1 }
 {
     spec_is_one();
     names_are_of_the_shape();
@@ -24,9 +28,10 @@ pub fn first_is_told()
 
 /// No part is refused of a specification that is lowered.
 pub fn nothing_is_told()
-    ensures { (spec : Spec) (names : FileNames) (parts : List (ℕ × BuildFault)) (lowered : Defined)
-        → AreNames spec.definitions.items names → defined_by names.entries spec.definitions.items ≡ Ok lowered
-        → AreRefused spec.tokens.now [] parts → parts ≡ [] }
+    ensures { (tokens : List Token) (definitions : List Definition) (names : FileNames)
+        (parts : List (ℕ × BuildFault)) (lowered : Defined)
+        → Spell (definitions_spelled definitions) tokens → AreNames definitions names
+        → defined_by names.entries definitions ≡ Ok lowered → AreRefused tokens [] parts → parts ≡ [] }
 {
     first_is_told()
 }

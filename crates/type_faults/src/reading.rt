@@ -80,8 +80,8 @@ fn unread(fault: ParseFault) -> Result<Reading, AllocError>
 /// What there is to read of tokens under the names that others declare.
 fn read_all<'a>(
     alloc: Global,
-    tokens: &'a [Token<'a>],
-    left: &'a [Token<'a>],
+    tokens: &[Token<'a>],
+    left: &[Token<'a>],
 ) -> Result<Reading, AllocError>
     ensures { IfOk result (Reads tokens.now (map parts_of left.now)) }
 {

@@ -23,7 +23,7 @@ use idl_tree::names::{Leaf, Listed};
 use idl_tree::types::{Case, Label, Member, StructType, SwitchType, TypeSpec, UnionType};
 use std::alloc::Global;
 
-fn read_label<'a>(cursor: &mut Cursor<'a>, room: usize) -> Result<Label<'a>, Stop>
+fn read_label<'a>(cursor: &mut Cursor<'_, 'a>, room: usize) -> Result<Label<'a>, Stop>
     ensures spells { IfOk result (λ l. Parsed cursor.old (label_yield l) cursor.new) }
     ensures levels { IfOk result (λ l. label_levels l ≤ room) }
     ensures way { IfOk result (λ _. label_way room cursor.old ≡ Some cursor.new) }
@@ -42,14 +42,14 @@ fn read_label<'a>(cursor: &mut Cursor<'a>, room: usize) -> Result<Label<'a>, Sto
 }
 
 /// Whether a label is next.
-fn is_label(cursor: &Cursor<'_>) -> bool
+fn is_label(cursor: &Cursor<'_, '_>) -> bool
     ensures { result ≡ sees_label cursor.now }
 {
     cursor.is_keyword("case") || cursor.is_keyword("default")
 }
 
 /// Reads further labels.
-fn read_more_labels<'a>(cursor: &mut Cursor<'a>, room: usize) -> Result<Vec<Label<'a>>, Stop>
+fn read_more_labels<'a>(cursor: &mut Cursor<'_, 'a>, room: usize) -> Result<Vec<Label<'a>>, Stop>
     ensures spells { IfOk result (λ l. Continued cursor.old (flat_map label_yield l.items) cursor.new) }
     ensures levels { IfOk result (λ l. highest label_levels l.items ≤ room) }
     ensures way { IfOk result (λ _. repeated sees_label (label_way room) cursor.old cursor.old ≡ Some cursor.new) }
@@ -65,7 +65,7 @@ fn read_more_labels<'a>(cursor: &mut Cursor<'a>, room: usize) -> Result<Vec<Labe
 }
 
 /// Reads labels, one or more.
-fn read_labels<'a>(cursor: &mut Cursor<'a>, room: usize) -> Result<Listed<Label<'a>>, Stop>
+fn read_labels<'a>(cursor: &mut Cursor<'_, 'a>, room: usize) -> Result<Listed<Label<'a>>, Stop>
     ensures spells { IfOk result (λ l. Parsed cursor.old (in_order label_yield l) cursor.new) }
     ensures levels { IfOk result (λ l. highest_listed label_levels l ≤ room) }
     ensures way { IfOk result (λ _. labels_way room cursor.old ≡ Some cursor.new) }
@@ -77,7 +77,7 @@ fn read_labels<'a>(cursor: &mut Cursor<'a>, room: usize) -> Result<Listed<Label<
 }
 
 #[cycle(constructed)]
-pub(crate) fn read_type<'a>(cursor: &mut Cursor<'a>, room: usize) -> Result<TypeSpec<'a>, Stop>
+pub(crate) fn read_type<'a>(cursor: &mut Cursor<'_, 'a>, room: usize) -> Result<TypeSpec<'a>, Stop>
     ensures spells { IfOk result (λ t. Parsed cursor.old (type_yield t) cursor.new) }
     ensures levels { IfOk result (λ t. type_levels t ≤ room) }
     ensures way { IfOk result (λ _. type_way room cursor.old ≡ Some cursor.new) }
@@ -98,7 +98,7 @@ pub(crate) fn read_type<'a>(cursor: &mut Cursor<'a>, room: usize) -> Result<Type
 /// Reads a member and adds it.
 #[cycle(constructed)]
 fn read_member<'a>(
-    cursor: &mut Cursor<'a>,
+    cursor: &mut Cursor<'_, 'a>,
     room: usize,
     members: &mut Vec<Member<'a>>,
 ) -> Result<(), Stop>
@@ -118,7 +118,7 @@ fn read_member<'a>(
 /// Reads members, one or more, and the closing brace behind them.
 #[cycle(constructed)]
 pub(crate) fn read_members<'a>(
-    cursor: &mut Cursor<'a>,
+    cursor: &mut Cursor<'_, 'a>,
     room: usize,
 ) -> Result<Vec<Member<'a>>, Stop>
     ensures spells { IfOk result (λ m. Parsed cursor.old
@@ -140,7 +140,7 @@ pub(crate) fn read_members<'a>(
 
 /// The structure of a name and members.
 fn structure<'a>(
-    cursor: &Cursor<'a>,
+    cursor: &Cursor<'_, 'a>,
     name: Leaf<'a>,
     members: Vec<Member<'a>>,
 ) -> Result<StructType<'a>, Stop>
@@ -160,7 +160,10 @@ fn structure<'a>(
 }
 
 #[cycle(constructed)]
-pub(crate) fn read_struct<'a>(cursor: &mut Cursor<'a>, room: usize) -> Result<StructType<'a>, Stop>
+pub(crate) fn read_struct<'a>(
+    cursor: &mut Cursor<'_, 'a>,
+    room: usize,
+) -> Result<StructType<'a>, Stop>
     ensures spells { IfOk result (λ s. Parsed cursor.old (struct_yield s) cursor.new) }
     ensures levels { IfOk result (λ s. struct_levels s ≤ room) }
     ensures way { IfOk result (λ _.
@@ -175,7 +178,7 @@ pub(crate) fn read_struct<'a>(cursor: &mut Cursor<'a>, room: usize) -> Result<St
 /// Reads a case and adds it.
 #[cycle(constructed)]
 fn read_case<'a>(
-    cursor: &mut Cursor<'a>,
+    cursor: &mut Cursor<'_, 'a>,
     room: usize,
     cases: &mut Vec<Case<'a>>,
 ) -> Result<(), Stop>
@@ -195,7 +198,7 @@ fn read_case<'a>(
 
 /// Reads cases, one or more, and the closing brace behind them.
 #[cycle(constructed)]
-fn read_cases<'a>(cursor: &mut Cursor<'a>, room: usize) -> Result<Vec<Case<'a>>, Stop>
+fn read_cases<'a>(cursor: &mut Cursor<'_, 'a>, room: usize) -> Result<Vec<Case<'a>>, Stop>
     ensures spells { IfOk result (λ c. Parsed cursor.old
         (flat_map case_yield c.items ++ mark (codes "}")) cursor.new) }
     ensures levels { IfOk result (λ c. highest case_levels c.items ≤ room) }
@@ -215,7 +218,7 @@ fn read_cases<'a>(cursor: &mut Cursor<'a>, room: usize) -> Result<Vec<Case<'a>>,
 
 /// Reads what stands behind the type of a union's discriminator.
 #[cycle(constructed)]
-fn read_union_body<'a>(cursor: &mut Cursor<'a>, room: usize) -> Result<Vec<Case<'a>>, Stop>
+fn read_union_body<'a>(cursor: &mut Cursor<'_, 'a>, room: usize) -> Result<Vec<Case<'a>>, Stop>
     ensures spells { IfOk result (λ c. Parsed cursor.old (mark (codes ")") ++ mark (codes "{")
         ++ (flat_map case_yield c.items ++ mark (codes "}"))) cursor.new) }
     ensures levels { IfOk result (λ c. highest case_levels c.items < room) }
@@ -229,7 +232,7 @@ fn read_union_body<'a>(cursor: &mut Cursor<'a>, room: usize) -> Result<Vec<Case<
 }
 
 /// Reads what stands before the type of a union's discriminator.
-fn read_union_name<'a>(cursor: &mut Cursor<'a>) -> Result<Leaf<'a>, Stop>
+fn read_union_name<'a>(cursor: &mut Cursor<'_, 'a>) -> Result<Leaf<'a>, Stop>
     ensures spells { IfOk result (λ u. Parsed cursor.old
         (keyword (codes "union") ++ identifier u ++ keyword (codes "switch") ++ mark (codes "(")) cursor.new) }
     ensures way { IfOk result (λ _. union_name_way cursor.old ≡ Some cursor.new) }
@@ -243,7 +246,7 @@ fn read_union_name<'a>(cursor: &mut Cursor<'a>) -> Result<Leaf<'a>, Stop>
 
 /// The union of a name, the type of its discriminator and cases.
 fn union_of<'a>(
-    cursor: &Cursor<'a>,
+    cursor: &Cursor<'_, 'a>,
     name: Leaf<'a>,
     switch: SwitchType<'a>,
     cases: Vec<Case<'a>>,
@@ -268,7 +271,10 @@ fn union_of<'a>(
 }
 
 #[cycle(constructed)]
-pub(crate) fn read_union<'a>(cursor: &mut Cursor<'a>, room: usize) -> Result<UnionType<'a>, Stop>
+pub(crate) fn read_union<'a>(
+    cursor: &mut Cursor<'_, 'a>,
+    room: usize,
+) -> Result<UnionType<'a>, Stop>
     ensures spells { IfOk result (λ u. Parsed cursor.old (union_yield u) cursor.new) }
     ensures levels { IfOk result (λ u. union_levels u ≤ room) }
     ensures way { IfOk result (λ _. opened room (λ left. union_way (type_way left) left cursor.old) ≡ Some cursor.new) }

@@ -25,7 +25,7 @@ use idl_tree::names::Leaf;
 use idl_tree::types::Member;
 
 /// Whether a type, a constant or an exception is next.
-pub(crate) fn is_declaration(cursor: &Cursor<'_>) -> bool
+pub(crate) fn is_declaration(cursor: &Cursor<'_, '_>) -> bool
     ensures { result ≡ sees_declaration cursor.now }
 {
     cursor.is_keyword("typedef")
@@ -36,7 +36,7 @@ pub(crate) fn is_declaration(cursor: &Cursor<'_>) -> bool
         || cursor.is_keyword("exception")
 }
 
-fn read_typedef<'a>(cursor: &mut Cursor<'a>, room: usize) -> Result<TypeDcl<'a>, Stop>
+fn read_typedef<'a>(cursor: &mut Cursor<'_, 'a>, room: usize) -> Result<TypeDcl<'a>, Stop>
     ensures spells { IfOk result (λ t. Parsed cursor.old (type_dcl_yield t) cursor.new) }
     ensures levels { IfOk result (λ t. type_dcl_levels t ≤ room) }
     ensures way { IfOk result (λ _. typedef_way room cursor.old ≡ Some cursor.new) }
@@ -50,7 +50,7 @@ fn read_typedef<'a>(cursor: &mut Cursor<'a>, room: usize) -> Result<TypeDcl<'a>,
 }
 
 /// Reads a structure, or one that is declared ahead, which a semicolon tells.
-fn read_struct_dcl<'a>(cursor: &mut Cursor<'a>, room: usize) -> Result<TypeDcl<'a>, Stop>
+fn read_struct_dcl<'a>(cursor: &mut Cursor<'_, 'a>, room: usize) -> Result<TypeDcl<'a>, Stop>
     ensures spells { IfOk result (λ t. Parsed cursor.old (type_dcl_yield t) cursor.new) }
     ensures levels { IfOk result (λ t. type_dcl_levels t ≤ room) }
     ensures way { IfOk result (λ _. struct_dcl_way room cursor.old ≡ Some cursor.new) }
@@ -63,7 +63,7 @@ fn read_struct_dcl<'a>(cursor: &mut Cursor<'a>, room: usize) -> Result<TypeDcl<'
 }
 
 /// Reads a union, or one that is declared ahead, which a semicolon tells.
-fn read_union_dcl<'a>(cursor: &mut Cursor<'a>, room: usize) -> Result<TypeDcl<'a>, Stop>
+fn read_union_dcl<'a>(cursor: &mut Cursor<'_, 'a>, room: usize) -> Result<TypeDcl<'a>, Stop>
     ensures spells { IfOk result (λ t. Parsed cursor.old (type_dcl_yield t) cursor.new) }
     ensures levels { IfOk result (λ t. type_dcl_levels t ≤ room) }
     ensures way { IfOk result (λ _. union_dcl_way room cursor.old ≡ Some cursor.new) }
@@ -75,7 +75,7 @@ fn read_union_dcl<'a>(cursor: &mut Cursor<'a>, room: usize) -> Result<TypeDcl<'a
     Ok(TypeDcl::Union(got!(read_union(cursor, room))))
 }
 
-fn read_type_dcl<'a>(cursor: &mut Cursor<'a>, room: usize) -> Result<TypeDcl<'a>, Stop>
+fn read_type_dcl<'a>(cursor: &mut Cursor<'_, 'a>, room: usize) -> Result<TypeDcl<'a>, Stop>
     ensures spells { IfOk result (λ t. Parsed cursor.old (type_dcl_yield t) cursor.new) }
     ensures levels { IfOk result (λ t. type_dcl_levels t ≤ room) }
     ensures way { IfOk result (λ _. type_dcl_way room cursor.old ≡ Some cursor.new) }
@@ -93,7 +93,7 @@ fn read_type_dcl<'a>(cursor: &mut Cursor<'a>, room: usize) -> Result<TypeDcl<'a>
     read_typedef(cursor, room)
 }
 
-fn read_const<'a>(cursor: &mut Cursor<'a>, room: usize) -> Result<Declaration<'a>, Stop>
+fn read_const<'a>(cursor: &mut Cursor<'_, 'a>, room: usize) -> Result<Declaration<'a>, Stop>
     ensures spells { IfOk result (λ d. Parsed cursor.old (declaration_yield d) cursor.new) }
     ensures levels { IfOk result (λ d. declaration_levels d ≤ room) }
     ensures way { IfOk result (λ _. const_way room cursor.old ≡ Some cursor.new) }
@@ -111,7 +111,7 @@ fn read_const<'a>(cursor: &mut Cursor<'a>, room: usize) -> Result<Declaration<'a
 }
 
 /// Reads what stands before the members of an exception.
-fn read_except_name<'a>(cursor: &mut Cursor<'a>) -> Result<Leaf<'a>, Stop>
+fn read_except_name<'a>(cursor: &mut Cursor<'_, 'a>) -> Result<Leaf<'a>, Stop>
     ensures spells { IfOk result (λ e. Parsed cursor.old
         (keyword (codes "exception") ++ identifier_yield e ++ mark (codes "{")) cursor.new) }
     ensures way { IfOk result (λ _. except_name_way cursor.old ≡ Some cursor.new) }
@@ -123,7 +123,10 @@ fn read_except_name<'a>(cursor: &mut Cursor<'a>) -> Result<Leaf<'a>, Stop>
 }
 
 /// Reads the members of an exception, if it has any, and the closing brace.
-fn read_except_members<'a>(cursor: &mut Cursor<'a>, room: usize) -> Result<Vec<Member<'a>>, Stop>
+fn read_except_members<'a>(
+    cursor: &mut Cursor<'_, 'a>,
+    room: usize,
+) -> Result<Vec<Member<'a>>, Stop>
     ensures spells { IfOk result (λ m. Parsed cursor.old
         (flat_map member_yield m.items ++ mark (codes "}")) cursor.new) }
     ensures levels { IfOk result (λ m. highest member_levels m.items ≤ room) }
@@ -136,7 +139,7 @@ fn read_except_members<'a>(cursor: &mut Cursor<'a>, room: usize) -> Result<Vec<M
     read_members(cursor, room)
 }
 
-fn read_except<'a>(cursor: &mut Cursor<'a>, room: usize) -> Result<Declaration<'a>, Stop>
+fn read_except<'a>(cursor: &mut Cursor<'_, 'a>, room: usize) -> Result<Declaration<'a>, Stop>
     ensures spells { IfOk result (λ d. Parsed cursor.old (declaration_yield d) cursor.new) }
     ensures levels { IfOk result (λ d. declaration_levels d ≤ room) }
     ensures way { IfOk result (λ _. except_way room cursor.old ≡ Some cursor.new) }
@@ -151,7 +154,7 @@ fn read_except<'a>(cursor: &mut Cursor<'a>, room: usize) -> Result<Declaration<'
 
 /// Reads a type, a constant or an exception that is declared.
 pub(crate) fn read_declaration<'a>(
-    cursor: &mut Cursor<'a>,
+    cursor: &mut Cursor<'_, 'a>,
     room: usize,
 ) -> Result<Declaration<'a>, Stop>
     ensures spells { IfOk result (λ d. Parsed cursor.old (declaration_yield d) cursor.new) }

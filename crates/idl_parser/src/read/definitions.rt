@@ -51,7 +51,7 @@ fn add_interface<'a>(
 
 /// Reads a pragma and adds it.
 fn read_pragma<'a>(
-    cursor: &mut Cursor<'a>,
+    cursor: &mut Cursor<'_, 'a>,
     room: usize,
     definitions: &mut Vec<Definition<'a>>,
 ) -> Result<(), Stop>
@@ -66,7 +66,7 @@ fn read_pragma<'a>(
 
 /// Reads an interface, or one that is declared ahead, which a semicolon tells, and adds it.
 fn read_interface<'a>(
-    cursor: &mut Cursor<'a>,
+    cursor: &mut Cursor<'_, 'a>,
     room: usize,
     definitions: &mut Vec<Definition<'a>>,
 ) -> Result<(), Stop>
@@ -91,7 +91,7 @@ fn read_interface<'a>(
 
 /// Reads a type, a constant or an exception and adds it.
 fn read_declared<'a>(
-    cursor: &mut Cursor<'a>,
+    cursor: &mut Cursor<'_, 'a>,
     room: usize,
     definitions: &mut Vec<Definition<'a>>,
 ) -> Result<(), Stop>
@@ -109,7 +109,7 @@ fn read_declared<'a>(
 
 /// Reads a pragma, or a definition that holds no others, and adds it.
 fn read_single<'a>(
-    cursor: &mut Cursor<'a>,
+    cursor: &mut Cursor<'_, 'a>,
     room: usize,
     definitions: &mut Vec<Definition<'a>>,
 ) -> Result<(), Stop>
@@ -152,7 +152,7 @@ fn add_module<'a>(
 /// Reads a definition and adds it.
 #[cycle(definitions)]
 fn read_definition<'a>(
-    cursor: &mut Cursor<'a>,
+    cursor: &mut Cursor<'_, 'a>,
     room: usize,
     definitions: &mut Vec<Definition<'a>>,
 ) -> Result<(), Stop>
@@ -172,7 +172,7 @@ fn read_definition<'a>(
 }
 
 /// Whether something stands before a closing brace and the end.
-fn goes_on(cursor: &Cursor<'_>) -> bool
+fn goes_on(cursor: &Cursor<'_, '_>) -> bool
     ensures { result ≡ goes_on cursor.now }
 {
     !cursor.is_at_end() && !cursor.is_mark("}")
@@ -181,7 +181,7 @@ fn goes_on(cursor: &Cursor<'_>) -> bool
 /// Reads definitions up to a closing brace or the end.
 #[cycle(definitions)]
 pub(crate) fn read_definitions<'a>(
-    cursor: &mut Cursor<'a>,
+    cursor: &mut Cursor<'_, 'a>,
     room: usize,
 ) -> Result<Vec<Definition<'a>>, Stop>
     ensures spells { IfOk result (λ d. Continued cursor.old (flat_map definition_yield d.items) cursor.new) }

@@ -25,7 +25,7 @@ use idl_tree::names::{Leaf, Listed};
 const LEVELS: usize = 6;
 
 /// Whether an operator is next.
-fn is_operator(cursor: &Cursor<'_>, operator: Operator) -> bool
+fn is_operator(cursor: &Cursor<'_, '_>, operator: Operator) -> bool
     ensures { result ≡ operator_seen operator cursor.now }
 {
     match operator {
@@ -35,7 +35,7 @@ fn is_operator(cursor: &Cursor<'_>, operator: Operator) -> bool
 }
 
 /// The operator, if it is next.
-fn next_of(cursor: &Cursor<'_>, operator: Operator) -> Option<Operator>
+fn next_of(cursor: &Cursor<'_, '_>, operator: Operator) -> Option<Operator>
     ensures { result ≡ if_seen (operator_seen operator cursor.now) operator None }
 {
     if is_operator(cursor, operator) {
@@ -46,7 +46,7 @@ fn next_of(cursor: &Cursor<'_>, operator: Operator) -> Option<Operator>
 }
 
 /// The shift that is next. Where no right shift may stand, it is none.
-fn next_shift(cursor: &Cursor<'_>, shifts: bool) -> Option<Operator>
+fn next_shift(cursor: &Cursor<'_, '_>, shifts: bool) -> Option<Operator>
     ensures { result ≡ operator_at shifts 3 cursor.now }
 {
     if is_operator(cursor, Operator::ShiftLeft) {
@@ -59,7 +59,7 @@ fn next_shift(cursor: &Cursor<'_>, shifts: bool) -> Option<Operator>
 }
 
 /// The sign of a sum that is next.
-fn next_sum(cursor: &Cursor<'_>, shifts: bool) -> Option<Operator>
+fn next_sum(cursor: &Cursor<'_, '_>, shifts: bool) -> Option<Operator>
     ensures { result ≡ operator_at shifts 4 cursor.now }
 {
     if is_operator(cursor, Operator::Add) {
@@ -69,7 +69,7 @@ fn next_sum(cursor: &Cursor<'_>, shifts: bool) -> Option<Operator>
 }
 
 /// The sign of a product that is next.
-fn next_product(cursor: &Cursor<'_>, shifts: bool) -> Option<Operator>
+fn next_product(cursor: &Cursor<'_, '_>, shifts: bool) -> Option<Operator>
     ensures { result ≡ operator_at shifts 5 cursor.now }
 {
     if is_operator(cursor, Operator::Multiply) {
@@ -82,7 +82,7 @@ fn next_product(cursor: &Cursor<'_>, shifts: bool) -> Option<Operator>
 }
 
 /// The operator of the level that is next, if one is.
-fn operator_of(cursor: &Cursor<'_>, level: usize, shifts: bool) -> Option<Operator>
+fn operator_of(cursor: &Cursor<'_, '_>, level: usize, shifts: bool) -> Option<Operator>
     requires { level < 6 }
     ensures { result ≡ operator_at shifts level cursor.now }
 {
@@ -96,7 +96,7 @@ fn operator_of(cursor: &Cursor<'_>, level: usize, shifts: bool) -> Option<Operat
     }
 }
 
-fn read_operator(cursor: &mut Cursor<'_>, operator: Operator) -> Result<(), Stop>
+fn read_operator(cursor: &mut Cursor<'_, '_>, operator: Operator) -> Result<(), Stop>
     ensures spells { IfOk result (λ _. Parsed cursor.old (operator_yield operator) cursor.new) }
     ensures way { IfOk result (λ _. operator_way operator cursor.old ≡ Some cursor.new) }
     ensures stops { IfErr result (Ends (operator_way operator cursor.old)) }
@@ -108,7 +108,7 @@ fn read_operator(cursor: &mut Cursor<'_>, operator: Operator) -> Result<(), Stop
 }
 
 /// Reads further text literals.
-fn read_texts<'a>(cursor: &mut Cursor<'a>) -> Result<Vec<Leaf<'a>>, Stop>
+fn read_texts<'a>(cursor: &mut Cursor<'_, 'a>) -> Result<Vec<Leaf<'a>>, Stop>
     ensures spells { IfOk result (λ rest. Continued cursor.old (flat_map text_yield rest.items) cursor.new) }
     ensures way { IfOk result (λ _. texts_way cursor.old ≡ Some cursor.new) }
     ensures stops { IfErr result (Ends (texts_way cursor.old)) }
@@ -121,7 +121,7 @@ fn read_texts<'a>(cursor: &mut Cursor<'a>) -> Result<Vec<Leaf<'a>>, Stop>
     Ok(rest)
 }
 
-fn read_text<'a>(cursor: &mut Cursor<'a>) -> Result<Listed<Leaf<'a>>, Stop>
+fn read_text<'a>(cursor: &mut Cursor<'_, 'a>) -> Result<Listed<Leaf<'a>>, Stop>
     ensures spells { IfOk result (λ texts. Parsed cursor.old (in_order text_yield texts) cursor.new) }
     ensures way { IfOk result (λ _. text_way cursor.old ≡ Some cursor.new) }
     ensures stops { IfErr result (Ends (text_way cursor.old)) }
@@ -131,7 +131,7 @@ fn read_text<'a>(cursor: &mut Cursor<'a>) -> Result<Listed<Leaf<'a>>, Stop>
     Ok(Listed { first, rest })
 }
 
-fn read_boolean<'a>(cursor: &mut Cursor<'a>) -> Result<Expr<'a>, Stop>
+fn read_boolean<'a>(cursor: &mut Cursor<'_, 'a>) -> Result<Expr<'a>, Stop>
     ensures spells { IfOk result (λ e. Parsed cursor.old (expr_yield e) cursor.new) }
     ensures groups { IfOk result (λ e. (shifts : Bool) → IsOfLevel shifts 7 e) }
     ensures levels { IfOk result (λ e. expr_levels e ≡ 0) }
@@ -148,7 +148,7 @@ fn read_boolean<'a>(cursor: &mut Cursor<'a>) -> Result<Expr<'a>, Stop>
 }
 
 /// A name or a literal.
-fn read_atom<'a>(cursor: &mut Cursor<'a>) -> Result<Expr<'a>, Stop>
+fn read_atom<'a>(cursor: &mut Cursor<'_, 'a>) -> Result<Expr<'a>, Stop>
     ensures spells { IfOk result (λ e. Parsed cursor.old (expr_yield e) cursor.new) }
     ensures groups { IfOk result (λ e. (shifts : Bool) → IsOfLevel shifts 7 e) }
     ensures levels { IfOk result (λ e. expr_levels e ≡ 0) }
@@ -172,7 +172,7 @@ fn read_atom<'a>(cursor: &mut Cursor<'a>) -> Result<Expr<'a>, Stop>
 }
 
 /// Takes a sign, if one is next.
-fn take_sign<'a>(cursor: &mut Cursor<'a>) -> Option<(Sign, Leaf<'a>)>
+fn take_sign<'a>(cursor: &mut Cursor<'_, 'a>) -> Option<(Sign, Leaf<'a>)>
     ensures missing { IfNone result (cursor.new ≡ cursor.old) }
     ensures unseen { IfNone result (sees_sign cursor.old ≡ false) }
     ensures seen { IfSome result (λ _. sees_sign cursor.old ≡ true) }
@@ -189,7 +189,7 @@ fn take_sign<'a>(cursor: &mut Cursor<'a>) -> Option<(Sign, Leaf<'a>)>
 }
 
 #[cycle(expressions)]
-fn read_primary<'a>(cursor: &mut Cursor<'a>, room: usize) -> Result<Expr<'a>, Stop>
+fn read_primary<'a>(cursor: &mut Cursor<'_, 'a>, room: usize) -> Result<Expr<'a>, Stop>
     ensures spells { IfOk result (λ e. Parsed cursor.old (expr_yield e) cursor.new) }
     ensures groups { IfOk result (λ e. (shifts : Bool) → IsOfLevel shifts 7 e) }
     ensures levels { IfOk result (λ e. expr_levels e ≤ room) }
@@ -207,7 +207,7 @@ fn read_primary<'a>(cursor: &mut Cursor<'a>, room: usize) -> Result<Expr<'a>, St
 }
 
 #[cycle(expressions)]
-fn read_unary<'a>(cursor: &mut Cursor<'a>, room: usize) -> Result<Expr<'a>, Stop>
+fn read_unary<'a>(cursor: &mut Cursor<'_, 'a>, room: usize) -> Result<Expr<'a>, Stop>
     ensures spells { IfOk result (λ e. Parsed cursor.old (expr_yield e) cursor.new) }
     ensures groups { IfOk result (λ e. (shifts : Bool) → IsOfLevel shifts 6 e) }
     ensures levels { IfOk result (λ e. expr_levels e ≤ room) }
@@ -224,7 +224,7 @@ fn read_unary<'a>(cursor: &mut Cursor<'a>, room: usize) -> Result<Expr<'a>, Stop
 /// Reads operators of the level, each with an operand of the tighter levels behind it.
 #[cycle(expressions)]
 fn read_operands<'a>(
-    cursor: &mut Cursor<'a>,
+    cursor: &mut Cursor<'_, 'a>,
     level: usize,
     shifts: bool,
     room: usize,
@@ -251,7 +251,7 @@ fn read_operands<'a>(
 /// Reads operands of the tighter levels, with operators of the level between them.
 #[cycle(expressions)]
 fn read_level<'a>(
-    cursor: &mut Cursor<'a>,
+    cursor: &mut Cursor<'_, 'a>,
     level: usize,
     shifts: bool,
     room: usize,
@@ -271,7 +271,7 @@ fn read_level<'a>(
 }
 
 /// Reads a constant expression.
-pub(crate) fn read_expr<'a>(cursor: &mut Cursor<'a>, room: usize) -> Result<ConstExpr<'a>, Stop>
+pub(crate) fn read_expr<'a>(cursor: &mut Cursor<'_, 'a>, room: usize) -> Result<ConstExpr<'a>, Stop>
     ensures spells { IfOk result (λ e. Parsed cursor.old (const_expr_yield e) cursor.new) }
     ensures levels { IfOk result (λ e. const_expr_levels e ≤ room) }
     ensures way { IfOk result (λ _. expr_way true room cursor.old ≡ Some cursor.new) }
@@ -282,12 +282,14 @@ pub(crate) fn read_expr<'a>(cursor: &mut Cursor<'a>, room: usize) -> Result<Cons
 }
 
 /// Reads a constant expression between `<` and `>`.
-pub(crate) fn read_bound<'a>(cursor: &mut Cursor<'a>, room: usize) -> Result<Bound<'a>, Stop>
+pub(crate) fn read_bound<'a>(cursor: &mut Cursor<'_, 'a>, room: usize) -> Result<Bound<'a>, Stop>
     ensures spells { IfOk result (λ b. Parsed cursor.old (bound_yield b) cursor.new) }
     ensures levels { IfOk result (λ b. bound_levels b ≤ room) }
     ensures way { IfOk result (λ _. expr_way false room cursor.old ≡ Some cursor.new) }
     ensures stops { IfErr result (Ends (expr_way false room cursor.old)) }
 {
     let expr = got!(read_level(cursor, 0, false, room));
-    Ok(Bound { expr })
+    Ok(Bound {
+        expr: got!(boxed(cursor.alloc(), expr)),
+    })
 }

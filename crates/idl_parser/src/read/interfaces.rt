@@ -28,7 +28,7 @@ use idl_tree::types::ParamType;
 
 /// Reads a word and the exceptions behind it, if the word is there.
 fn read_raises<'a>(
-    cursor: &mut Cursor<'a>,
+    cursor: &mut Cursor<'_, 'a>,
     word: &str,
 ) -> Result<Option<Listed<ScopedName<'a>>>, Stop>
     ensures spells { IfOk result (λ r. Continued cursor.old (optional (raises_yield word.now) r) cursor.new) }
@@ -45,7 +45,7 @@ fn read_raises<'a>(
 }
 
 /// Takes `readonly`, if it is next.
-fn take_readonly(cursor: &mut Cursor<'_>) -> bool
+fn take_readonly(cursor: &mut Cursor<'_, '_>) -> bool
     ensures spells { Continued cursor.old (readonly_yield result) cursor.new }
     ensures seen { result ≡ sees_word (codes "readonly") cursor.old }
     ensures way { readonly_way cursor.old ≡ Some cursor.new }
@@ -64,7 +64,10 @@ fn silent<'a>(is_readonly: bool, first: Leaf<'a>, rest: Vec<Leaf<'a>>) -> Attrib
 }
 
 /// Reads what a readonly attribute raises whose identifier stands before.
-fn read_readonly<'a>(cursor: &mut Cursor<'a>, identifier: Leaf<'a>) -> Result<Attributes<'a>, Stop>
+fn read_readonly<'a>(
+    cursor: &mut Cursor<'_, 'a>,
+    identifier: Leaf<'a>,
+) -> Result<Attributes<'a>, Stop>
     ensures spells { IfOk result (λ a. (front : List Seen)
         → Parsed front (identifier_yield identifier.entry) cursor.old → Parsed front (attributes_yield a) cursor.new) }
     ensures kind { IfOk result (λ a. attributes_are_readonly a ≡ true) }
@@ -78,7 +81,10 @@ fn read_readonly<'a>(cursor: &mut Cursor<'a>, identifier: Leaf<'a>) -> Result<At
 }
 
 /// Reads what an attribute raises that can be set, whose identifier stands before.
-fn read_settable<'a>(cursor: &mut Cursor<'a>, identifier: Leaf<'a>) -> Result<Attributes<'a>, Stop>
+fn read_settable<'a>(
+    cursor: &mut Cursor<'_, 'a>,
+    identifier: Leaf<'a>,
+) -> Result<Attributes<'a>, Stop>
     ensures spells { IfOk result (λ a. (front : List Seen)
         → Parsed front (identifier_yield identifier.entry) cursor.old → Parsed front (attributes_yield a) cursor.new) }
     ensures kind { IfOk result (λ a. attributes_are_readonly a ≡ false) }
@@ -99,7 +105,10 @@ fn read_settable<'a>(cursor: &mut Cursor<'a>, identifier: Leaf<'a>) -> Result<At
 }
 
 /// Reads the identifiers of attributes, and what one that stands alone raises.
-fn read_attributes<'a>(cursor: &mut Cursor<'a>, is_readonly: bool) -> Result<Attributes<'a>, Stop>
+fn read_attributes<'a>(
+    cursor: &mut Cursor<'_, 'a>,
+    is_readonly: bool,
+) -> Result<Attributes<'a>, Stop>
     ensures spells { IfOk result (λ a. Parsed cursor.old (attributes_yield a) cursor.new) }
     ensures kind { IfOk result (λ a. attributes_are_readonly a ≡ is_readonly) }
     ensures way { IfOk result (λ _. attributes_way is_readonly cursor.old ≡ Some cursor.new) }
@@ -116,7 +125,7 @@ fn read_attributes<'a>(cursor: &mut Cursor<'a>, is_readonly: bool) -> Result<Att
     read_settable(cursor, identifier)
 }
 
-fn read_attribute<'a>(cursor: &mut Cursor<'a>, room: usize) -> Result<Attribute<'a>, Stop>
+fn read_attribute<'a>(cursor: &mut Cursor<'_, 'a>, room: usize) -> Result<Attribute<'a>, Stop>
     ensures spells { IfOk result (λ a. Parsed cursor.old (attribute_yield a) cursor.new) }
     ensures levels { IfOk result (λ a. attribute_levels a ≤ room) }
     ensures way { IfOk result (λ _. attribute_way room cursor.old ≡ Some cursor.new) }
@@ -130,7 +139,7 @@ fn read_attribute<'a>(cursor: &mut Cursor<'a>, room: usize) -> Result<Attribute<
     })
 }
 
-fn read_direction(cursor: &mut Cursor<'_>) -> Result<Direction, Stop>
+fn read_direction(cursor: &mut Cursor<'_, '_>) -> Result<Direction, Stop>
     ensures spells { IfOk result (λ d. Parsed cursor.old (direction_yield d) cursor.new) }
     ensures way { IfOk result (λ _. direction_way cursor.old ≡ Some cursor.new) }
     ensures stops { IfErr result (Ends (direction_way cursor.old)) }
@@ -156,7 +165,7 @@ impl<'a> Part<'a> for Param<'a> {
 
     ghost way_of = { param_way };
 
-    fn read(cursor: &mut Cursor<'a>, room: usize) -> Result<Self, Stop> {
+    fn read(cursor: &mut Cursor<'_, 'a>, room: usize) -> Result<Self, Stop> {
         Ok(Param {
             direction: got!(read_direction(cursor)),
             param_type: got!(read_param_type(cursor, room)),
@@ -166,7 +175,10 @@ impl<'a> Part<'a> for Param<'a> {
 }
 
 /// Reads the parameters up to a closing parenthesis, if there are any.
-fn read_params<'a>(cursor: &mut Cursor<'a>, room: usize) -> Result<Option<Listed<Param<'a>>>, Stop>
+fn read_params<'a>(
+    cursor: &mut Cursor<'_, 'a>,
+    room: usize,
+) -> Result<Option<Listed<Param<'a>>>, Stop>
     ensures spells { IfOk result (λ p. Continued cursor.old (optional (listed param_yield) p) cursor.new) }
     ensures levels { IfOk result (λ p. optional_levels (highest_listed param_levels) p ≤ room) }
     ensures way { IfOk result (λ _. params_way room cursor.old ≡ Some cursor.new) }
@@ -179,7 +191,7 @@ fn read_params<'a>(cursor: &mut Cursor<'a>, room: usize) -> Result<Option<Listed
 }
 
 /// Takes `oneway`, if it is next.
-fn take_oneway(cursor: &mut Cursor<'_>) -> bool
+fn take_oneway(cursor: &mut Cursor<'_, '_>) -> bool
     ensures spells { Continued cursor.old (oneway_yield result) cursor.new }
     ensures way { oneway_way cursor.old ≡ Some cursor.new }
 {
@@ -187,7 +199,7 @@ fn take_oneway(cursor: &mut Cursor<'_>) -> bool
 }
 
 /// Reads the type of a result, or `void`.
-fn read_result<'a>(cursor: &mut Cursor<'a>, room: usize) -> Result<Option<ParamType<'a>>, Stop>
+fn read_result<'a>(cursor: &mut Cursor<'_, 'a>, room: usize) -> Result<Option<ParamType<'a>>, Stop>
     ensures spells { IfOk result (λ t. Parsed cursor.old (result_yield t) cursor.new) }
     ensures levels { IfOk result (λ t. optional_levels param_type_levels t ≤ room) }
     ensures way { IfOk result (λ _. result_way room cursor.old ≡ Some cursor.new) }
@@ -199,7 +211,7 @@ fn read_result<'a>(cursor: &mut Cursor<'a>, room: usize) -> Result<Option<ParamT
     Ok(Some(got!(read_param_type(cursor, room))))
 }
 
-fn read_operation<'a>(cursor: &mut Cursor<'a>, room: usize) -> Result<Operation<'a>, Stop>
+fn read_operation<'a>(cursor: &mut Cursor<'_, 'a>, room: usize) -> Result<Operation<'a>, Stop>
     ensures spells { IfOk result (λ o. Parsed cursor.old (operation_yield o) cursor.new) }
     ensures levels { IfOk result (λ o. operation_levels o ≤ room) }
     ensures way { IfOk result (λ _. operation_way room cursor.old ≡ Some cursor.new) }
@@ -230,7 +242,7 @@ fn add_export<'a>(exports: &mut Vec<Export<'a>>, export: Export<'a>) -> Result<(
 
 /// Reads a type, a constant or an exception and adds it.
 fn read_declared<'a>(
-    cursor: &mut Cursor<'a>,
+    cursor: &mut Cursor<'_, 'a>,
     room: usize,
     exports: &mut Vec<Export<'a>>,
 ) -> Result<(), Stop>
@@ -248,7 +260,7 @@ fn read_declared<'a>(
 
 /// Reads an attribute or several and adds it.
 fn read_attribute_dcl<'a>(
-    cursor: &mut Cursor<'a>,
+    cursor: &mut Cursor<'_, 'a>,
     room: usize,
     exports: &mut Vec<Export<'a>>,
 ) -> Result<(), Stop>
@@ -266,7 +278,7 @@ fn read_attribute_dcl<'a>(
 
 /// Reads an operation and adds it.
 fn read_operation_dcl<'a>(
-    cursor: &mut Cursor<'a>,
+    cursor: &mut Cursor<'_, 'a>,
     room: usize,
     exports: &mut Vec<Export<'a>>,
 ) -> Result<(), Stop>
@@ -283,7 +295,7 @@ fn read_operation_dcl<'a>(
 }
 
 /// Whether an attribute is next.
-fn is_attribute(cursor: &Cursor<'_>) -> bool
+fn is_attribute(cursor: &Cursor<'_, '_>) -> bool
     ensures { result ≡ (sees_word (codes "readonly") cursor.now || sees_word (codes "attribute") cursor.now) }
 {
     cursor.is_keyword("readonly") || cursor.is_keyword("attribute")
@@ -291,7 +303,7 @@ fn is_attribute(cursor: &Cursor<'_>) -> bool
 
 /// Reads what stands in an interface, and adds it.
 fn read_export<'a>(
-    cursor: &mut Cursor<'a>,
+    cursor: &mut Cursor<'_, 'a>,
     room: usize,
     exports: &mut Vec<Export<'a>>,
 ) -> Result<(), Stop>
@@ -315,7 +327,7 @@ fn read_export<'a>(
 
 /// Reads exports between braces.
 pub(crate) fn read_exports<'a>(
-    cursor: &mut Cursor<'a>,
+    cursor: &mut Cursor<'_, 'a>,
     room: usize,
 ) -> Result<Vec<Export<'a>>, Stop>
     ensures spells { IfOk result (λ e. Parsed cursor.old
@@ -336,7 +348,7 @@ pub(crate) fn read_exports<'a>(
 
 /// Reads the bases of an interface, if it has any.
 pub(crate) fn read_bases<'a>(
-    cursor: &mut Cursor<'a>,
+    cursor: &mut Cursor<'_, 'a>,
 ) -> Result<Option<Listed<ScopedName<'a>>>, Stop>
     ensures spells { IfOk result (λ b. Continued cursor.old (optional bases_yield b) cursor.new) }
     ensures way { IfOk result (λ _. bases_way cursor.old ≡ Some cursor.new) }

@@ -24,7 +24,7 @@ pub(crate) trait Part<'a>: Sized + Drop {
 
     ghost way_of: { ℕ → List Seen → Way };
 
-    fn read(cursor: &mut Cursor<'a>, room: usize) -> Result<Self, Stop>
+    fn read(cursor: &mut Cursor<'_, 'a>, room: usize) -> Result<Self, Stop>
         ensures spells { IfOk result (λ x. Parsed cursor.old (yield_of x) cursor.new) }
         ensures levels { IfOk result (λ x. levels_of x ≤ room) }
         ensures way { IfOk result (λ _. way_of room cursor.old ≡ Some cursor.new) }
@@ -65,7 +65,7 @@ pub(crate) fn made<T: Drop>(node: Result<T, AllocError>) -> Result<T, Stop>
 }
 
 /// Reads a word and an identifier.
-pub(crate) fn read_named<'a>(cursor: &mut Cursor<'a>, word: &str) -> Result<Leaf<'a>, Stop>
+pub(crate) fn read_named<'a>(cursor: &mut Cursor<'_, 'a>, word: &str) -> Result<Leaf<'a>, Stop>
     ensures spells { IfOk result (λ l. Parsed cursor.old (keyword word.now ++ identifier l) cursor.new) }
     ensures way { IfOk result (λ _. named_way word.now cursor.old ≡ Some cursor.new) }
     ensures stops { IfErr result (Ends (named_way word.now cursor.old)) }
@@ -76,7 +76,7 @@ pub(crate) fn read_named<'a>(cursor: &mut Cursor<'a>, word: &str) -> Result<Leaf
 
 /// Reads a word, an identifier and a brace that opens a level, and how many levels are left inside.
 pub(crate) fn read_opened<'a>(
-    cursor: &mut Cursor<'a>,
+    cursor: &mut Cursor<'_, 'a>,
     word: &str,
     room: usize,
 ) -> Result<(Leaf<'a>, usize), Stop>
@@ -105,7 +105,7 @@ pub(crate) fn first_boxed<T: Drop>(alloc: Global, list: &mut Vec<T>) -> Result<B
 
 /// Reads further parts, each behind a comma.
 pub(crate) fn read_rest<'a, T: Part<'a>>(
-    cursor: &mut Cursor<'a>,
+    cursor: &mut Cursor<'_, 'a>,
     room: usize,
 ) -> Result<Vec<T>, Stop>
     ensures spells { IfOk result (λ parts. Continued cursor.old
@@ -125,7 +125,7 @@ pub(crate) fn read_rest<'a, T: Part<'a>>(
 
 /// Reads one part or more.
 pub(crate) fn read_listed<'a, T: Part<'a>>(
-    cursor: &mut Cursor<'a>,
+    cursor: &mut Cursor<'_, 'a>,
     room: usize,
 ) -> Result<Listed<T>, Stop>
     ensures spells { IfOk result (λ l. Parsed cursor.old (listed T.yield_of l) cursor.new) }
@@ -149,7 +149,7 @@ impl<'a, T: Part<'a>> Part<'a> for Listed<T> {
 
     ghost way_of = { λ room. listed_way (T.way_of room) };
 
-    fn read(cursor: &mut Cursor<'a>, room: usize) -> Result<Self, Stop> {
+    fn read(cursor: &mut Cursor<'_, 'a>, room: usize) -> Result<Self, Stop> {
         read_listed(cursor, room)
     }
 }

@@ -25,7 +25,7 @@ impl<'a> Part<'a> for Leaf<'a> {
 
     ghost way_of = { λ _. identifier_way };
 
-    fn read(cursor: &mut Cursor<'a>, _room: usize) -> Result<Self, Stop> {
+    fn read(cursor: &mut Cursor<'_, 'a>, _room: usize) -> Result<Self, Stop> {
         cursor.identifier()
     }
 }
@@ -40,13 +40,13 @@ impl<'a> Part<'a> for ScopedName<'a> {
 
     ghost way_of = { λ _. name_way };
 
-    fn read(cursor: &mut Cursor<'a>, _room: usize) -> Result<Self, Stop> {
+    fn read(cursor: &mut Cursor<'_, 'a>, _room: usize) -> Result<Self, Stop> {
         read_scoped_name(cursor)
     }
 }
 
 /// Takes the `::` that a name begins with, if it does.
-fn take_root<'a>(cursor: &mut Cursor<'a>) -> Option<Leaf<'a>>
+fn take_root<'a>(cursor: &mut Cursor<'_, 'a>) -> Option<Leaf<'a>>
     ensures spells { Continued cursor.old (optional root_yield result) cursor.new }
     ensures way { root_way cursor.old ≡ Some cursor.new }
 {
@@ -54,7 +54,7 @@ fn take_root<'a>(cursor: &mut Cursor<'a>) -> Option<Leaf<'a>>
 }
 
 /// Reads identifiers, each behind a `::`.
-fn read_parts<'a>(cursor: &mut Cursor<'a>) -> Result<Vec<Leaf<'a>>, Stop>
+fn read_parts<'a>(cursor: &mut Cursor<'_, 'a>) -> Result<Vec<Leaf<'a>>, Stop>
     ensures spells { IfOk result (λ parts. Continued cursor.old
         (flat_map (λ x. mark (codes "::") ++ identifier x) parts.items) cursor.new) }
     ensures way { IfOk result (λ _. parts_way cursor.old ≡ Some cursor.new) }
@@ -69,7 +69,7 @@ fn read_parts<'a>(cursor: &mut Cursor<'a>) -> Result<Vec<Leaf<'a>>, Stop>
     Ok(rest)
 }
 
-pub(crate) fn read_scoped_name<'a>(cursor: &mut Cursor<'a>) -> Result<ScopedName<'a>, Stop>
+pub(crate) fn read_scoped_name<'a>(cursor: &mut Cursor<'_, 'a>) -> Result<ScopedName<'a>, Stop>
     ensures spells { IfOk result (λ n. Parsed cursor.old (name_yield n) cursor.new) }
     ensures way { IfOk result (λ _. name_way cursor.old ≡ Some cursor.new) }
     ensures stops { IfErr result (Ends (name_way cursor.old)) }

@@ -14,7 +14,7 @@ ghost use Rattle.idl_tree.specs.TypeLevels.{const_type_levels, param_type_levels
 
 use crate::cursor::Cursor;
 use crate::read::expressions::{read_bound, read_expr};
-use crate::read::lists::{Part, add, made, read_listed, read_opened};
+use crate::read::lists::{Part, add, boxed, made, read_listed, read_opened};
 use crate::read::names::read_scoped_name;
 use crate::stop::Stop;
 use idl_tree::const_expr::{Bound, ConstExpr};
@@ -22,7 +22,7 @@ use idl_tree::types::{
     ConstType, Declarator, EnumType, Integer, IntegerSize, ParamType, SimpleType, SwitchType,
 };
 
-fn read_integer_size(cursor: &mut Cursor<'_>) -> Result<IntegerSize, Stop>
+fn read_integer_size(cursor: &mut Cursor<'_, '_>) -> Result<IntegerSize, Stop>
     ensures spells { IfOk result (λ i. Parsed cursor.old (integer_size_yield i) cursor.new) }
     ensures way { IfOk result (λ _. integer_size_way cursor.old ≡ Some cursor.new) }
     ensures stops { IfErr result (Ends (integer_size_way cursor.old)) }
@@ -38,7 +38,7 @@ fn read_integer_size(cursor: &mut Cursor<'_>) -> Result<IntegerSize, Stop>
     }
 }
 
-fn read_integer(cursor: &mut Cursor<'_>) -> Result<Integer, Stop>
+fn read_integer(cursor: &mut Cursor<'_, '_>) -> Result<Integer, Stop>
     ensures spells { IfOk result (λ i. Parsed cursor.old (integer_yield i) cursor.new) }
     ensures way { IfOk result (λ _. integer_way cursor.old ≡ Some cursor.new) }
     ensures stops { IfErr result (Ends (integer_way cursor.old)) }
@@ -50,7 +50,10 @@ fn read_integer(cursor: &mut Cursor<'_>) -> Result<Integer, Stop>
 }
 
 /// Reads the bound of a string, if it has one.
-fn read_string_bound<'a>(cursor: &mut Cursor<'a>, room: usize) -> Result<Option<Bound<'a>>, Stop>
+fn read_string_bound<'a>(
+    cursor: &mut Cursor<'_, 'a>,
+    room: usize,
+) -> Result<Option<Bound<'a>>, Stop>
     ensures spells { IfOk result (λ b. Continued cursor.old (optional string_bound_yield b) cursor.new) }
     ensures levels { IfOk result (λ b. optional_levels bound_levels b ≤ room) }
     ensures way { IfOk result (λ _. string_bound_way room cursor.old ≡ Some cursor.new) }
@@ -65,7 +68,7 @@ fn read_string_bound<'a>(cursor: &mut Cursor<'a>, room: usize) -> Result<Option<
 }
 
 /// Whether an integer is next.
-fn is_integer(cursor: &Cursor<'_>) -> bool
+fn is_integer(cursor: &Cursor<'_, '_>) -> bool
     ensures { result ≡ sees_integer cursor.now }
 {
     cursor.is_keyword("short") || cursor.is_keyword("long") || cursor.is_keyword("unsigned")
@@ -73,7 +76,7 @@ fn is_integer(cursor: &Cursor<'_>) -> bool
 
 /// Reads a string, a name, or a type that is a word alone.
 pub(crate) fn read_const_type<'a>(
-    cursor: &mut Cursor<'a>,
+    cursor: &mut Cursor<'_, 'a>,
     room: usize,
 ) -> Result<ConstType<'a>, Stop>
     ensures spells { IfOk result (λ t. Parsed cursor.old (const_type_yield t) cursor.new) }
@@ -100,7 +103,7 @@ pub(crate) fn read_const_type<'a>(
 }
 
 pub(crate) fn read_param_type<'a>(
-    cursor: &mut Cursor<'a>,
+    cursor: &mut Cursor<'_, 'a>,
     room: usize,
 ) -> Result<ParamType<'a>, Stop>
     ensures spells { IfOk result (λ t. Parsed cursor.old (param_type_yield t) cursor.new) }
@@ -115,7 +118,7 @@ pub(crate) fn read_param_type<'a>(
 }
 
 /// Reads the word `sequence` and the mark behind it, and how many levels are left inside.
-fn open_sequence(cursor: &mut Cursor<'_>, room: usize) -> Result<usize, Stop>
+fn open_sequence(cursor: &mut Cursor<'_, '_>, room: usize) -> Result<usize, Stop>
     ensures spells { IfOk result (λ _. Parsed cursor.old (keyword (codes "sequence") ++ mark (codes "<")) cursor.new) }
     ensures levels { IfOk result (λ left. suc left ≡ room) }
     ensures way { IfOk result (λ left. open_sequence_way cursor.old ≡ Some cursor.new) }
@@ -126,7 +129,7 @@ fn open_sequence(cursor: &mut Cursor<'_>, room: usize) -> Result<usize, Stop>
 }
 
 /// Reads the bound of a sequence, if it has one, and the mark that ends the sequence.
-fn end_sequence<'a>(cursor: &mut Cursor<'a>, room: usize) -> Result<Option<Bound<'a>>, Stop>
+fn end_sequence<'a>(cursor: &mut Cursor<'_, 'a>, room: usize) -> Result<Option<Bound<'a>>, Stop>
     ensures spells { IfOk result (λ b. Parsed cursor.old
         (optional sequence_bound_yield b ++ mark (codes ">")) cursor.new) }
     ensures levels { IfOk result (λ b. optional_levels bound_levels b ≤ room) }
@@ -144,7 +147,7 @@ fn end_sequence<'a>(cursor: &mut Cursor<'a>, room: usize) -> Result<Option<Bound
 
 #[cycle(simple)]
 pub(crate) fn read_simple_type<'a>(
-    cursor: &mut Cursor<'a>,
+    cursor: &mut Cursor<'_, 'a>,
     room: usize,
 ) -> Result<SimpleType<'a>, Stop>
     ensures spells { IfOk result (λ t. Parsed cursor.old (simple_type_yield t) cursor.new) }
@@ -159,7 +162,7 @@ pub(crate) fn read_simple_type<'a>(
 }
 
 #[cycle(simple)]
-fn read_sequence<'a>(cursor: &mut Cursor<'a>, room: usize) -> Result<SimpleType<'a>, Stop>
+fn read_sequence<'a>(cursor: &mut Cursor<'_, 'a>, room: usize) -> Result<SimpleType<'a>, Stop>
     ensures spells { IfOk result (λ t. Parsed cursor.old (simple_type_yield t) cursor.new) }
     ensures levels { IfOk result (λ t. simple_type_levels t ≤ room) }
     ensures way { IfOk result (λ _. sequence_way room cursor.old ≡ Some cursor.new) }
@@ -173,7 +176,7 @@ fn read_sequence<'a>(cursor: &mut Cursor<'a>, room: usize) -> Result<SimpleType<
     ))
 }
 
-fn read_size<'a>(cursor: &mut Cursor<'a>, room: usize) -> Result<ConstExpr<'a>, Stop>
+fn read_size<'a>(cursor: &mut Cursor<'_, 'a>, room: usize) -> Result<ConstExpr<'a>, Stop>
     ensures spells { IfOk result (λ size. Parsed cursor.old (size_yield size) cursor.new) }
     ensures levels { IfOk result (λ size. const_expr_levels size ≤ room) }
     ensures way { IfOk result (λ _. size_way room cursor.old ≡ Some cursor.new) }
@@ -186,7 +189,7 @@ fn read_size<'a>(cursor: &mut Cursor<'a>, room: usize) -> Result<ConstExpr<'a>, 
 }
 
 /// Reads the sizes of an array, if there are any.
-fn read_sizes<'a>(cursor: &mut Cursor<'a>, room: usize) -> Result<Vec<ConstExpr<'a>>, Stop>
+fn read_sizes<'a>(cursor: &mut Cursor<'_, 'a>, room: usize) -> Result<Vec<ConstExpr<'a>>, Stop>
     ensures spells { IfOk result (λ sizes. Continued cursor.old (flat_map size_yield sizes.items) cursor.new) }
     ensures levels { IfOk result (λ sizes. highest const_expr_levels sizes.items ≤ room) }
     ensures way { IfOk result (λ _. sizes_way room cursor.old ≡ Some cursor.new) }
@@ -212,13 +215,13 @@ impl<'a> Part<'a> for Declarator<'a> {
 
     ghost way_of = { declarator_way };
 
-    fn read(cursor: &mut Cursor<'a>, room: usize) -> Result<Self, Stop> {
+    fn read(cursor: &mut Cursor<'_, 'a>, room: usize) -> Result<Self, Stop> {
         read_declarator(cursor, room)
     }
 }
 
 pub(crate) fn read_declarator<'a>(
-    cursor: &mut Cursor<'a>,
+    cursor: &mut Cursor<'_, 'a>,
     room: usize,
 ) -> Result<Declarator<'a>, Stop>
     ensures spells { IfOk result (λ d. Parsed cursor.old (declarator_yield d) cursor.new) }
@@ -233,7 +236,7 @@ pub(crate) fn read_declarator<'a>(
 }
 
 /// Reads an enumeration, which is a level.
-pub(crate) fn read_enum<'a>(cursor: &mut Cursor<'a>, room: usize) -> Result<EnumType<'a>, Stop>
+pub(crate) fn read_enum<'a>(cursor: &mut Cursor<'_, 'a>, room: usize) -> Result<EnumType<'a>, Stop>
     ensures spells { IfOk result (λ e. Parsed cursor.old (enum_yield e) cursor.new) }
     ensures levels { IfOk result (λ e. 1 ≤ room) }
     ensures way { IfOk result (λ _. enum_way room cursor.old ≡ Some cursor.new) }
@@ -244,12 +247,15 @@ pub(crate) fn read_enum<'a>(cursor: &mut Cursor<'a>, room: usize) -> Result<Enum
     got!(cursor.mark("}"));
     Ok(EnumType {
         identifier,
-        enumerators,
+        enumerators: got!(boxed(cursor.alloc(), enumerators)),
     })
 }
 
 /// Reads the type of a union's discriminator.
-pub(crate) fn read_switch<'a>(cursor: &mut Cursor<'a>, room: usize) -> Result<SwitchType<'a>, Stop>
+pub(crate) fn read_switch<'a>(
+    cursor: &mut Cursor<'_, 'a>,
+    room: usize,
+) -> Result<SwitchType<'a>, Stop>
     ensures spells { IfOk result (λ s. Parsed cursor.old (switch_yield s) cursor.new) }
     ensures levels { IfOk result (λ s. switch_levels s ≤ room) }
     ensures way { IfOk result (λ _. switch_way room cursor.old ≡ Some cursor.new) }

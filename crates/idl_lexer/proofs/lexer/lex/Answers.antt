@@ -22,7 +22,7 @@ loop-at-preserved-in_ok-add-in-Some c =
     let form = lexeme_begins c.args.source.now _ _ c.in_ok-found.found c.in-Some.kind c.loop-at.at front back c.in_ok-found.ensures.form c.in-Some.is in
     rw c.in_ok-add-in-Some.ensures.added
     (Reads-token c.args.source.now c.loop-at.tokens.items c.token.result c.loop-at.at (c.loop-at.at + c.in_ok-found.found.len) c.loop-at.line c.loop-at.invariant
-    c.token.ensures.start c.token.ensures.stop c.token.ensures.line (omega (arith, c.in_ok-found.ensures.form.long)) within c.token.ensures.text (rw c.token.ensures.kind form))
+    c.token.ensures.start c.token.ensures.stop (c.token.ensures.line ∙ c.in_ok-line-in-Some.ensures.found) (omega (arith, c.in_ok-found.ensures.form.long)) within c.token.ensures.text (rw c.token.ensures.kind form))
 
 pub loop-at-preserved : goal.loop-at-preserved
 loop-at-preserved c =

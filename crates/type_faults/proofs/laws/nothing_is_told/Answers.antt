@@ -1,5 +1,8 @@
 use Rattle.std.proofs.Common.{◌≡◌, ◌∙◌, ℕ, List, [], ◌∷◌, Ok, Err, refl, sym}
-use Rattle.idl_tree.specs.declared.spec.Spec.{Spec}
+use Rattle.idl_lexer.specs.declared.token.Token.{Token}
+use Rattle.idl_tree.specs.declared.definitions.Definition.{Definition}
+use Rattle.idl_tree.specs.DefinitionYields.{definitions_spelled}
+use Rattle.idl_tree.specs.Pieces.{Spell}
 use Rattle.scoped_names.specs.FileNames.{AreNames, FileNames}
 use Rattle.lowered_types.specs.declared.fault.BuildFault.{BuildFault}
 use Rattle.lowered_operations.specs.Definitions.{defined_by}
@@ -8,17 +11,17 @@ use Rattle.type_faults.specs.AllFaults.{AreRefused}
 use Rattle.type_faults.proofs.laws.nothing_is_told.Goals as goal
 
 abbrev FirstTold : Type 0
-FirstTold = (spec : Spec) (names : FileNames) (part : ℕ × BuildFault) (parts : List (ℕ × BuildFault))
-    → AreNames spec.definitions.items names → AreRefused spec.tokens.now [] (part ∷ parts)
-    → defined_by names.entries spec.definitions.items ≡ Err part.1
+FirstTold = (tokens : List Token) (definitions : List Definition) (names : FileNames) (part : ℕ × BuildFault) (parts : List (ℕ × BuildFault))
+    → Spell (definitions_spelled definitions) tokens → AreNames definitions names → AreRefused tokens [] (part ∷ parts)
+    → defined_by names.entries definitions ≡ Err part.1
 
-none_told : FirstTold → (spec : Spec) (names : FileNames) (parts : List (ℕ × BuildFault)) (lowered : Defined)
-    → AreNames spec.definitions.items names → defined_by names.entries spec.definitions.items ≡ Ok lowered
-    → AreRefused spec.tokens.now [] parts → parts ≡ []
-none_told first spec names [] lowered named told are = refl
-none_told first spec names (part ∷ parts) lowered named told are =
-    let no : Err part.1 ≡ Ok lowered = sym (first spec names part parts named are) ∙ told in cc
+none_told : FirstTold → (tokens : List Token) (definitions : List Definition) (names : FileNames) (parts : List (ℕ × BuildFault)) (lowered : Defined)
+    → Spell (definitions_spelled definitions) tokens → AreNames definitions names → defined_by names.entries definitions ≡ Ok lowered
+    → AreRefused tokens [] parts → parts ≡ []
+none_told first tokens definitions names [] lowered spelled named told are = refl
+none_told first tokens definitions names (part ∷ parts) lowered spelled named told are =
+    let no : Err part.1 ≡ Ok lowered = sym (first tokens definitions names part parts spelled named are) ∙ told in cc
 
 pub returns : goal.returns
-returns c = λ spec names parts lowered named told are.
-    none_told c.first_is_told.ensures spec names parts lowered named told are
+returns c = λ tokens definitions names parts lowered spelled named told are.
+    none_told c.first_is_told.ensures tokens definitions names parts lowered spelled named told are

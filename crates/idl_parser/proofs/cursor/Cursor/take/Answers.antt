@@ -33,4 +33,4 @@ returns-clause-kept c =
     let token = c.in-Some.token.now in
     let found = c.in-Some.ensures.item in
     let same = token_is c.args.kind c.args.text.now token (sym c.is_this.ensures ∙ c.if-not-is_this.false) in
-    rw (← c.self.view_is) (kept_read c.self.inside.number c.self.inside.rest.now c.args.kind c.args.text.now (record { token = c.in-Some.token; number = c.self.inside.number }) found.3.0 found.1 same.0 same.1 refl)
+    rw (← c.self.view_is) (kept_read c.self.inside.number c.self.inside.rest.now c.args.kind c.args.text.now (record { token = c.in-Some.token.now; number = c.self.inside.number }) found.3.0 found.1 same.0 same.1 refl)

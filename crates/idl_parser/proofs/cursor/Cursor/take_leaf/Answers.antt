@@ -26,4 +26,4 @@ returns-clause-read c =
     let token = c.in-Some.token.now in
     let found = c.in-Some.ensures.item in
     let same = kind_is c.args.kind token (sym c.is_of.ensures ∙ c.if-not-is_of.false) in
-    rw (← c.self.view_is) (kept_read c.self.inside.number c.self.inside.rest.now c.args.kind token.text.now (record { token = c.in-Some.token; number = c.self.inside.number }) found.3.0 found.1 same refl refl)
+    rw (← c.self.view_is) (kept_read c.self.inside.number c.self.inside.rest.now c.args.kind token.text.now (record { token = c.in-Some.token.now; number = c.self.inside.number }) found.3.0 found.1 same refl refl)

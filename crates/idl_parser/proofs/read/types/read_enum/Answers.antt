@@ -3,7 +3,8 @@ use Rattle.idl_parser.proofs.Ways.{on, halts, past, opened_on}
 use Rattle.idl_parser.proofs.read.types.read_enum.Goals as goal
 
 pub returns-clause-spells : goal.returns-clause-spells
-returns-clause-spells c = part_then (part_then c.in-Ok.ensures.spells c.in-Ok-read_listed.ensures.spells) c.in-Ok-mark.ensures.read
+returns-clause-spells c =
+    rw c.in-Ok-boxed.ensures.spells (part_then (part_then c.in-Ok.ensures.spells c.in-Ok-read_listed.ensures.spells) c.in-Ok-mark.ensures.read)
 
 pub returns-in-Err-clause-stops : goal.returns-in-Err-clause-stops
 returns-in-Err-clause-stops c = halts _ c.in-Err.ensures.stops

@@ -13,4 +13,4 @@ by_literal (Err e) text out old form h = tt
 
 pub returns-clause-ok : goal.returns-clause-ok
 returns-clause-ok c =
-    by_literal c.push_octets.result c.args.self.now.token.now.text.now c.push_octets.new.octets.items c.args.octets.now.items c.requires c.push_octets.ensures.ok
+    by_literal c.push_octets.result c.args.self.now.token.text.now c.push_octets.new.octets.items c.args.octets.now.items c.requires c.push_octets.ensures.ok

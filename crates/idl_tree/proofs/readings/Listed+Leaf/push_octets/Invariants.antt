@@ -13,7 +13,7 @@ invariant-loop-text l = record {
   may : (goal.iterator-loop-text).can_next l.text-iterator;
   ends : (goal.iterator-loop-text).is_finite l.text-iterator;
   forms : AllByRecursion (IsLeafOf TextLit) (parts_left l.text-iterator);
-  added : l.octets.items ++ flat_map (λ x. text_octets x.token.now.text.now) (parts_left l.text-iterator)
-      ≡ l.fn.octets.items ++ flat_map (λ x. text_octets x.token.now.text.now) (parts l.fn.self);
+  added : l.octets.items ++ flat_map (λ x. text_octets x.token.text.now) (parts_left l.text-iterator)
+      ≡ l.fn.octets.items ++ flat_map (λ x. text_octets x.token.text.now) (parts l.fn.self);
   kept : take (length l.fn.octets.items) l.octets.items ≡ l.fn.octets.items;
 }

@@ -18,7 +18,7 @@ read_definitions-requires c =
     let spec = c.args.spec.now in
     let begun = ap (λ st. latest st.entries) c.requires in
     subst (λ m. Rises m (steps_of c.as_slice.result.now)) (sym begun)
-    (subst (λ ds. Rises 0 (steps_of ds)) (sym c.as_slice.ensures.value) (rising spec (omega arith)))
+    (subst (λ ds. Rises 0 (steps_of ds)) (sym c.as_slice.ensures.value) (rising spec))
 
 pub returns-in_err-read_definitions : goal.returns-in_err-read_definitions
 returns-in_err-read_definitions c =
