@@ -8,7 +8,6 @@ use part_names::PartNames;
 use position_checker::Accepted;
 use std::alloc::{AllocError, Global};
 use std::marker::Model;
-use std::mem;
 use std::sync::Arc;
 
 /// A table that was accepted, and the names of the parts of its types, where these are known.
@@ -33,8 +32,8 @@ impl Loaded {
 
 /// What is loaded, and the types of GIOP beside it.
 #[derive(Drop)]
-struct Shared {
-    loaded: Loaded,
+pub struct Shared {
+    pub loaded: Loaded,
     giop: Giop,
 }
 
@@ -45,8 +44,8 @@ const MOST_KEPT: usize = 1_048_576;
 /// GIOP are always the same.
 #[derive(Drop)]
 pub struct Held {
-    shared: Arc<Shared>,
-    room: Vec<u8>,
+    pub(crate) shared: Arc<Shared>,
+    pub(crate) room: Vec<u8>,
 }
 
 impl Model for Held {
@@ -93,19 +92,12 @@ impl Held {
         }
     }
 
-    /// The memory that is kept for a call.
-    pub fn take_room(&mut self, alloc: Global) -> Vec<u8>
+    /// Keeps the memory for the next call, if it isn't much.
+    pub fn trim_room(&mut self, alloc: Global)
         ensures { self.new ≡ self.old }
     {
-        mem::replace(&mut self.room, Vec::new(alloc))
-    }
-
-    /// Keeps memory for the next call, if it isn't much.
-    pub fn keep_room(&mut self, room: Vec<u8>)
-        ensures { self.new ≡ self.old }
-    {
-        if room.capacity() <= MOST_KEPT {
-            self.room = room;
+        if self.room.capacity() > MOST_KEPT {
+            self.room = Vec::new(alloc);
         }
     }
 

@@ -52,10 +52,9 @@ pub(crate) fn encode(
     if !held.loaded().table.is_named(node) {
         return Err(Refusal::NotNamed);
     }
-    let mut room = held.take_room(alloc);
-    let table = &held.loaded().table;
-    let answer = table.write_into(&mut room, node, order, pos, tape, out);
-    held.keep_room(room);
+    let table = &held.shared.loaded.table;
+    let answer = table.write_into(&mut held.room, node, order, pos, tape, out);
+    held.trim_room(alloc);
     match answer {
         Ok(len) => fitted(len, out.len()),
         Err(fault) => Err(Refusal::NoValue(fault)),
@@ -89,10 +88,9 @@ pub(crate) fn decode(
     if !held.loaded().table.is_named(node) {
         return Err(Refusal::NotNamed);
     }
-    let mut room = held.take_room(alloc);
-    let table = &held.loaded().table;
-    let answer = table.read_into(&mut room, node, order, pos, octets, out);
-    held.keep_room(room);
+    let table = &held.shared.loaded.table;
+    let answer = table.read_into(&mut held.room, node, order, pos, octets, out);
+    held.trim_room(alloc);
     match answer {
         Ok((len, front)) => {
             let len = fitted(len, out.len())?;
