@@ -1,19 +1,14 @@
-use Rattle.std.proofs.Common.{◌≡◌, ◌∙◌, ◌+◌, ◌-◌, ◌*◌, ◌++◌, ℕ, List, take, drop, ap, ap₂, arith}
+use Rattle.std.proofs.Common.{◌∙◌, ◌-◌, ◌*◌, ◌++◌, ℕ, List, take, drop, ap, ap₂, arith}
 use Rattle.program_runner.specs.inner.Steps.{turned}
-use Rattle.program_runner.proofs.TurnedWords.{turned_at}
+use Rattle.program_runner.proofs.TurnedWords.{turned_at, words_split}
 use Rattle.program_runner.proofs.turning.turn_words_at.Goals as goal
 
 pub turn_words-requires-clause-words : goal.turn_words-requires-clause-words
 turn_words-requires-clause-words g c =
     let first = c.first_words-first.result in
-    let left : ℕ = c.args.n - first in
     let wide = ap (λ (k : ℕ). first * k) c.width.ensures.value in
-    let parts : c.args.n ≡ first + left = omega (arith, c.first_words-first.ensures.within) in
-    let split : c.args.n * g.W.Words.width ≡ first * g.W.Words.width + left * g.W.Words.width = ap (λ (k : ℕ). k * g.W.Words.width) parts ∙ right_sum first left g.W.Words.width in
+    let split = words_split g.W.Words.width first c.args.n c.first_words-first.ensures.within in
     omega (arith, c.split_at.ensures.back_len, c.requires.words, wide, split)
-  where
-    right_sum : (a b c : ℕ) → (a + b) * c ≡ a * c + b * c
-    right_sum a b c = omega arith
 
 pub returns : goal.returns
 returns g c =
