@@ -1,11 +1,7 @@
 -- Why none are made, from why a part of them isn't.
 use Rattle.std.proofs.Common.{◌≡◌, ℕ, ◌+◌, ◌<◌, List, ◌++◌, length, length-append, replicate, Option, refl, ap, ◌∙◌, arith}
-use Rattle.std.specs.Bool.{OnFalse}
 use Rattle.std.proofs.lemmas.List.{length-replicate}
 use Rattle.type_graph.specs.declared.width.Order.{Order}
-use Rattle.program_runner.specs.declared.fault.RunFault.{RunFault}
-use Rattle.program_runner.specs.declared.fault.RunFault.TheVariants as runs
-use Rattle.program_runner.specs.Refusal.{wants_memory}
 use Rattle.giop_messages.specs.Heads.{max_size}
 use Rattle.giop_messages.specs.declared.fault.GiopFault.{GiopFault}
 use Rattle.giop_messages.specs.declared.fault.GiopFault.TheVariants as faults

@@ -1,25 +1,21 @@
 -- The targets that are put behind the tape of a header.
-use Rattle.std.proofs.Common.{◌≡◌, ℕ, suc, ◌+◌, ◌-◌, ◌^◌, ◌<◌, ◌≤◌, pos, List, [], ◌∷◌, ◌++◌, length, replicate, take, subst, sym, ap, ap₂, ◌∙◌, append-nil, append_assoc, arith, get_or, Result, Ok, Err, OnOk, IfErr}
+use Rattle.std.proofs.Common.{◌≡◌, ℕ, ◌-◌, ◌^◌, ◌<◌, ◌≤◌, pos, List, [], ◌∷◌, ◌++◌, replicate, sym, ap, ap₂, ◌∙◌, append-nil, append_assoc, arith, get_or, Result, Ok, Err, OnOk, IfErr}
 use Rattle.std.specs.List.{AllByRecursion}
-use Rattle.std.specs.declared.vec.Vec.{Vec}
-use Rattle.std.specs.declared.alloc.Global.{Global}
-use Rattle.std.proofs.lemmas.List.{map-append, take_more}
 use Rattle.type_graph.specs.declared.width.Width.TheVariants.{Two, Four}
 use Rattle.type_graph.specs.declared.width.Order.TheVariants.{Big}
 use Rattle.type_graph.specs.Words.{AllBelow, word}
 use Rattle.type_graph.specs.Value.{count, node_at, Fits, FitAll, IsText, tape_of}
-use Rattle.type_graph.proofs.WordLaws.{all_append}
 use Rattle.giop_types.specs.TapeParts.{counted, IsCounted, tagged, IsTagged, tagged_list, AreTagged}
 use Rattle.giop_types.specs.TapeRefusal.{RefusesWriting}
 use Rattle.giop_types.specs.declared.tapes.fault.TapeFault.{TapeFault}
 use Rattle.giop_types.specs.GiopNodes.{giop_nodes}
 use Rattle.giop_types.specs.Fields.{number_tree, octet_trees, octets_tree, struct_tree, tagged_tree, tagged_trees, tagged_list_tree}
 use Rattle.giop_types.proofs.PartTrees.{count_octets, octets_counted, octets_tape, tagged_fits, tagged_tape, count_tagged, tagged_list_tape}
-use Rattle.object_references.specs.References.{Reference, IsReference, owned_pairs, reference_tape, reference_tree}
-use Rattle.object_references.proofs.ListLaws.{writing_weaker}
+use Rattle.object_references.specs.References.{AreBelow, Reference, IsReference, reference_tape, reference_tree}
+use Rattle.object_references.proofs.ListLaws.{octets_below, writing_weaker}
 use Rattle.object_references.proofs.ReferenceTapes.{fitting}
 use Rattle.giop_messages.specs.Headers.{key_target, profile_target, reference_target}
-use Rattle.giop.specs.inner.Pushed.{AreBelow, FitsAsTarget, PushesTarget}
+use Rattle.giop.specs.inner.Pushed.{FitsAsTarget, PushesTarget}
 
 -- ---- results
 
@@ -32,29 +28,12 @@ pub refused_weaker : {T : Type 0} (r : Result T TapeFault) (P Q : Type 0) → (P
 refused_weaker (Ok x) P Q f h = tt
 refused_weaker (Err fault) P Q f h = writing_weaker fault P Q f h
 
--- ---- profiles that are gone through one by one
-
-pub below_more : (xs : List (ℕ × Vec ℕ Global)) (i : ℕ) (one : ℕ × Vec ℕ Global) → i < length xs → one ≡ get_or xs i one
-    → AreBelow (owned_pairs (take i xs)) → AllBelow 256 one.1.items → AreBelow (owned_pairs (take (i + 1) xs))
-below_more xs i one within is before below =
-    let taken : take (i + 1) xs ≡ take i xs ++ one ∷ [] =
-    take_more xs i one within ∙ ap (λ (y : ℕ × Vec ℕ Global). take i xs ++ y ∷ []) (sym is) in
-    subst AreBelow
-    (sym
-    (ap owned_pairs taken ∙ map-append (λ (o : ℕ × Vec ℕ Global). (o.0, o.1.items)) (take i xs) (one ∷ [])))
-    (all_append (λ (o : ℕ × List ℕ). AllBelow 256 o.1) (owned_pairs (take i xs)) ((one.0, one.1.items) ∷ []) before
-    (below, tt))
-
 -- ---- values that fit
 
 octets_fit : (octets : List ℕ) (d : ℕ) → AllBelow 256 octets
     → FitAll giop_nodes (replicate (count (octet_trees octets)) 0) (octet_trees octets) d
 octets_fit [] d below = tt
 octets_fit (octet ∷ more) d below = (below.0, octets_fit more d below.1)
-
-pub octets_below : (octets : List ℕ) → ((i : ℕ) → get_or octets i 0 < 256) → AllBelow 256 octets
-octets_below [] h = tt
-octets_below (octet ∷ more) h = (h 0, octets_below more (λ i. h (suc i)))
 
 octets_value : (octets : List ℕ) (d : ℕ) → 1 ≤ d → AllBelow 256 octets → IsCounted octets
     → Fits giop_nodes (node_at giop_nodes 10) (octets_tree octets) d

@@ -4,6 +4,7 @@ use Rattle.std.specs.List.{AllByRecursion}
 use Rattle.std.specs.declared.vec.Vec.{Vec}
 use Rattle.std.specs.declared.alloc.Global.{Global}
 use Rattle.std.proofs.lemmas.List.{map-append, take_more}
+use Rattle.type_graph.specs.Words.{AllBelow}
 use Rattle.type_graph.proofs.WordLaws.{all_append}
 use Rattle.giop_types.specs.declared.tapes.fault.TapeFault.{TapeFault}
 use Rattle.giop_types.specs.declared.tapes.fault.TapeFault.TheVariants.{NotATape, TooLong, NoMemory}
@@ -33,12 +34,12 @@ tape_more old now new xs i one within is before added =
     ∙ ap (λ l. old ++ l) (sym (tagged_each-append (owned_pairs (take i xs)) (pair ∷ [])))
     ∙ ap (λ l. old ++ tagged_each l) (sym (owned_next xs i one within is))
 
-pub each_more : (xs : List (ℕ × Vec ℕ Global)) (i : ℕ) (one : ℕ × Vec ℕ Global) → i < length xs → one ≡ get_or xs i one
-    → AllByRecursion IsTagged (owned_pairs (take i xs)) → IsTagged (one.0, one.1.items)
-    → AllByRecursion IsTagged (owned_pairs (take (i + 1) xs))
-each_more xs i one within is before fits =
-    subst (AllByRecursion IsTagged) (sym (owned_next xs i one within is))
-    (all_append IsTagged (owned_pairs (take i xs)) ((one.0, one.1.items) ∷ []) before (fits, tt))
+pub each_more : (holds : ℕ × List ℕ → Type 0) (xs : List (ℕ × Vec ℕ Global)) (i : ℕ) (one : ℕ × Vec ℕ Global) → i < length xs → one ≡ get_or xs i one
+    → AllByRecursion holds (owned_pairs (take i xs)) → holds (one.0, one.1.items)
+    → AllByRecursion holds (owned_pairs (take (i + 1) xs))
+each_more holds xs i one within is before fits =
+    subst (AllByRecursion holds) (sym (owned_next xs i one within is))
+    (all_append holds (owned_pairs (take i xs)) ((one.0, one.1.items) ∷ []) before (fits, tt))
 
 -- what all are, each is
 pub each_at : (xs : List (ℕ × Vec ℕ Global)) (i : ℕ) (one : ℕ × Vec ℕ Global) → i < length xs → one ≡ get_or xs i one
@@ -46,6 +47,10 @@ pub each_at : (xs : List (ℕ × Vec ℕ Global)) (i : ℕ) (one : ℕ × Vec �
 each_at [] i one within is all = absurd (omega (arith, within))
 each_at (x ∷ xs) zero one within is all = subst (λ (o : ℕ × Vec ℕ Global). IsTagged (o.0, o.1.items)) (sym is) all.0
 each_at (x ∷ xs) (suc i) one within is all = each_at xs i one (omega (arith, within)) is all.1
+
+pub octets_below : (octets : List ℕ) → ((i : ℕ) → get_or octets i 0 < 256) → AllBelow 256 octets
+octets_below [] h = tt
+octets_below (octet ∷ more) h = (h 0, octets_below more (λ i. h (suc i)))
 
 pub writing_weaker : (fault : TapeFault) (P Q : Type 0) → (P → Q) → RefusesWriting fault P → RefusesWriting fault Q
 writing_weaker NoMemory P Q f h = tt

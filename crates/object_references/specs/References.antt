@@ -2,7 +2,9 @@
 use Rattle.std.specs.Prelude.{◌≡◌, ℕ, List, [], ◌∷◌, ◌++◌, map}
 use Rattle.std.specs.declared.vec.Vec.{Vec}
 use Rattle.std.specs.declared.alloc.Global.{Global}
+use Rattle.std.specs.List.{AllByRecursion}
 use Rattle.type_graph.specs.Value.{Tree, Bytes}
+use Rattle.type_graph.specs.Words.{AllBelow}
 use Rattle.giop_types.specs.TapeParts.{counted, IsCounted, tagged_list, AreTagged}
 use Rattle.giop_types.specs.Fields.{struct_tree, tagged_list_tree}
 use Rattle.object_references.specs.declared.reference.Ior.{Ior}
@@ -30,6 +32,10 @@ pub record IsFront (tape : List ℕ) (reference : Reference) (rest : List ℕ) :
 
 abbrev pub owned_pairs : List (ℕ × Vec ℕ Global) → List (ℕ × List ℕ)
 owned_pairs = map (λ one. (one.0, one.1.items))
+
+-- what profiles hold are octets
+abbrev pub AreBelow : List (ℕ × List ℕ) → Type 0
+AreBelow = AllByRecursion (λ (one : ℕ × List ℕ). AllBelow 256 one.1)
 
 abbrev pub reference_of : Ior → Reference
 reference_of ior = record { type_id = ior.type_id.items; profiles = owned_pairs ior.profiles.items }

@@ -11,5 +11,5 @@ mod text;
 pub use encapsulation::split_flag;
 pub use fault::ReferenceFault;
 pub use iiop::profile;
-pub use reference::Ior;
+pub use reference::{Ior, push_reference};
 pub use text::{ior_from_text, ior_to_text};

@@ -2,9 +2,10 @@
 
 ghost use Rattle.std.specs.Prelude.{◌≡◌, ◌++◌, List, ℕ, IfOk, IfErr, OnOk};
 ghost use Rattle.std.specs.List.{AllByRecursion};
-ghost use Rattle.giop_types.specs.TapeParts.{IsTagged, tagged_each, pairs_of};
+ghost use Rattle.type_graph.specs.Words.{AllBelow};
+ghost use Rattle.giop_types.specs.TapeParts.{IsTagged, tagged, tagged_each, pairs_of};
 ghost use Rattle.giop_types.specs.TapeRefusal.{RefusesReading, RefusesWriting};
-ghost use Rattle.object_references.specs.References.{Reference, reference_of, reference_tape, IsReference, IsFront, owned_pairs};
+ghost use Rattle.object_references.specs.References.{AreBelow, Reference, reference_of, reference_tape, IsReference, IsFront, owned_pairs};
 
 use giop_types::{
     Tagged, TapeFault, push_octets, push_tagged, push_u32, split_octets, split_tagged_list,
@@ -21,14 +22,25 @@ pub struct Ior {
     pub profiles: Vec<(u32, Vec<u8>)>,
 }
 
+/// As `push_tagged`: what it puts there are octets.
+fn push_one(tape: &mut Vec<u8>, tag: u32, octets: &[u8]) -> Result<(), TapeFault>
+    ensures added { OnOk result (tape.new.items ≡ tape.old.items ++ tagged (tag, octets.now)) }
+    ensures fits { OnOk result (IsTagged (tag, octets.now)) }
+    ensures octets { AllBelow 256 octets.now }
+    ensures refused { IfErr result (λ fault. RefusesWriting fault (IsTagged (tag, octets.now) → ⊥)) }
+{
+    push_tagged(tape, tag, octets)
+}
+
 fn push_profiles(tape: &mut Vec<u8>, profiles: &[(u32, Vec<u8>)]) -> Result<(), TapeFault>
     ensures added { OnOk result (tape.new.items ≡ tape.old.items ++ tagged_each (owned_pairs profiles.now)) }
     ensures each { OnOk result (AllByRecursion IsTagged (owned_pairs profiles.now)) }
+    ensures octets { OnOk result (AreBelow (owned_pairs profiles.now)) }
     ensures refused { IfErr result
         (λ fault. RefusesWriting fault (AllByRecursion IsTagged (owned_pairs profiles.now) → ⊥)) }
 {
     for (tag, octets) in profiles {
-        match push_tagged(tape, *tag, octets.as_slice()) {
+        match push_one(tape, *tag, octets.as_slice()) {
             Ok(()) => (),
             Err(fault) => return Err(fault),
         }
@@ -37,20 +49,24 @@ fn push_profiles(tape: &mut Vec<u8>, profiles: &[(u32, Vec<u8>)]) -> Result<(), 
 }
 
 /// Puts a reference behind a tape.
-pub(crate) fn push_reference(tape: &mut Vec<u8>, ior: &Ior) -> Result<(), TapeFault>
-    ensures added { OnOk result (tape.new.items ≡ tape.old.items ++ reference_tape (reference_of ior.now)) }
-    ensures fits { OnOk result (IsReference (reference_of ior.now)) }
-    ensures refused { IfErr result (λ fault. RefusesWriting fault (IsReference (reference_of ior.now) → ⊥)) }
+///
+/// # Errors
+/// `TooLong` where a part is too long for its count. Want of memory. The tape may then hold more.
+pub fn push_reference(tape: &mut Vec<u8>, reference: &Ior) -> Result<(), TapeFault>
+    ensures added { OnOk result (tape.new.items ≡ tape.old.items ++ reference_tape (reference_of reference.now)) }
+    ensures fits { OnOk result (IsReference (reference_of reference.now)) }
+    ensures octets { OnOk result (AreBelow (reference_of reference.now).profiles) }
+    ensures refused { IfErr result (λ fault. RefusesWriting fault (IsReference (reference_of reference.now) → ⊥)) }
 {
-    let Ok(count) = u32::try_from(ior.profiles.len()) else {
+    let Ok(count) = u32::try_from(reference.profiles.len()) else {
         return Err(TapeFault::TooLong);
     };
-    match push_octets(tape, ior.type_id.as_slice()) {
+    match push_octets(tape, reference.type_id.as_slice()) {
         Ok(()) => (),
         Err(fault) => return Err(fault),
     }
     push_u32(tape, count)?;
-    push_profiles(tape, ior.profiles.as_slice())
+    push_profiles(tape, reference.profiles.as_slice())
 }
 
 fn owned(alloc: Global, profiles: &[Tagged<'_>]) -> Result<Vec<(u32, Vec<u8>)>, AllocError>

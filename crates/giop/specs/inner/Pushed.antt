@@ -1,7 +1,5 @@
 -- What is put behind the tape of a header.
 use Rattle.std.specs.Prelude.{◌≡◌, ℕ, List, ◌++◌}
-use Rattle.std.specs.List.{AllByRecursion}
-use Rattle.type_graph.specs.Words.{AllBelow}
 use Rattle.type_graph.specs.Value.{Tree, Fits, node_at, tape_of}
 use Rattle.giop_types.specs.GiopNodes.{giop_nodes, target_address_node}
 
@@ -13,7 +11,3 @@ FitsAsTarget value = Fits giop_nodes (node_at giop_nodes target_address_node) va
 pub record PushesTarget (value : Tree) (before after : List ℕ) : Type 0 where
   pub fits : FitsAsTarget value
   pub tape_is : after ≡ before ++ tape_of giop_nodes (node_at giop_nodes target_address_node) value
-
--- what profiles hold are octets
-abbrev pub AreBelow : List (ℕ × List ℕ) → Type 0
-AreBelow = AllByRecursion (λ (one : ℕ × List ℕ). AllBelow 256 one.1)

@@ -1,21 +1,18 @@
 //! The targets of requests written.
 
-ghost use Rattle.std.specs.Prelude.{◌≡◌, ◌++◌, IfErr, OnOk, IsTrue, ◌↔◌};
-ghost use Rattle.std.specs.List.{AllByRecursion};
+ghost use Rattle.std.specs.Prelude.{IfErr, OnOk, IsTrue, ◌↔◌};
 ghost use Rattle.type_graph.specs.Value.{IsText};
-ghost use Rattle.type_graph.specs.Words.{AllBelow};
-ghost use Rattle.giop_types.specs.TapeParts.{IsTagged, tagged, tagged_each};
 ghost use Rattle.giop_types.specs.TapeRefusal.{RefusesWriting};
-ghost use Rattle.object_references.specs.References.{IsReference, owned_pairs, reference_of, reference_tape};
+ghost use Rattle.object_references.specs.References.{owned_pairs};
 ghost use Rattle.giop_messages.specs.declared.fault.GiopFault.TheVariants.{BadHead};
 ghost use Rattle.giop_messages.specs.Faults.{IsMemoryOr};
 ghost use Rattle.giop_messages.specs.Headers.{key_target, profile_target, reference_target};
 ghost use Rattle.giop.specs.Addresses.{target_tree};
-ghost use Rattle.giop.specs.inner.Pushed.{AreBelow, FitsAsTarget, PushesTarget};
+ghost use Rattle.giop.specs.inner.Pushed.{FitsAsTarget, PushesTarget};
 
 use giop_messages::GiopFault;
 use giop_types::{Tagged, TapeFault, push_octets, push_tagged, push_u16, push_u32};
-use object_references::Ior;
+use object_references::{Ior, push_reference};
 
 /// How the object of a request is named to its server (ISO/IEC 19500-2, GIOP message formats:
 /// TargetAddress).
@@ -51,50 +48,6 @@ fn push_profile(tape: &mut Vec<u8>, tag: u32, octets: &[u8]) -> Result<(), TapeF
 {
     push_u16(tape, 1)?;
     push_tagged(tape, tag, octets)
-}
-
-/// As `push_tagged`: what it puts there are octets.
-fn push_one(tape: &mut Vec<u8>, tag: u32, octets: &[u8]) -> Result<(), TapeFault>
-    ensures added { OnOk result (tape.new.items ≡ tape.old.items ++ tagged (tag, octets.now)) }
-    ensures fits { OnOk result (IsTagged (tag, octets.now)) }
-    ensures octets { AllBelow 256 octets.now }
-    ensures refused { IfErr result (λ fault. RefusesWriting fault (IsTagged (tag, octets.now) → ⊥)) }
-{
-    push_tagged(tape, tag, octets)
-}
-
-fn push_profiles(tape: &mut Vec<u8>, profiles: &[(u32, Vec<u8>)]) -> Result<(), TapeFault>
-    ensures added { OnOk result (tape.new.items ≡ tape.old.items ++ tagged_each (owned_pairs profiles.now)) }
-    ensures each { OnOk result (AllByRecursion IsTagged (owned_pairs profiles.now)) }
-    ensures octets { OnOk result (AreBelow (owned_pairs profiles.now)) }
-    ensures refused { IfErr result
-        (λ fault. RefusesWriting fault (AllByRecursion IsTagged (owned_pairs profiles.now) → ⊥)) }
-{
-    for (tag, octets) in profiles {
-        match push_one(tape, *tag, octets.as_slice()) {
-            Ok(()) => (),
-            Err(fault) => return Err(fault),
-        }
-    }
-    Ok(())
-}
-
-/// Puts a reference behind a tape.
-fn push_reference(tape: &mut Vec<u8>, reference: &Ior) -> Result<(), TapeFault>
-    ensures added { OnOk result (tape.new.items ≡ tape.old.items ++ reference_tape (reference_of reference.now)) }
-    ensures fits { OnOk result (IsReference (reference_of reference.now)) }
-    ensures octets { OnOk result (AreBelow (reference_of reference.now).profiles) }
-    ensures refused { IfErr result (λ fault. RefusesWriting fault (IsReference (reference_of reference.now) → ⊥)) }
-{
-    let Ok(count) = u32::try_from(reference.profiles.len()) else {
-        return Err(TapeFault::TooLong);
-    };
-    match push_octets(tape, reference.type_id.as_slice()) {
-        Ok(()) => (),
-        Err(fault) => return Err(fault),
-    }
-    push_u32(tape, count)?;
-    push_profiles(tape, reference.profiles.as_slice())
 }
 
 /// `TooLong` also for an id that is no string.
