@@ -3,6 +3,7 @@ prints on both streams, its status, what the servers were asked, and that it end
 
 `./idlc` proves and builds what is missing of the program.
 """
+import contextlib
 import importlib.util
 import os
 import pathlib
@@ -253,6 +254,16 @@ def repeated(calls):
         calls.check("the third fails", (wanted, 3), (got[:2], len(server.asked)))
 
 
+def all_of(terminal):
+    """What was written to a terminal whose other end is closed; one read may give a part of it."""
+    told = b""
+    with contextlib.suppress(OSError):
+        while octets := os.read(terminal, 65536):
+            told += octets
+    os.close(terminal)
+    return told.decode()
+
+
 def progress(calls):
     """A line a second on a terminal, where each call takes six tenths of one."""
 
@@ -266,8 +277,7 @@ def progress(calls):
     words = [str(word) for word in (PROGRAM, "call", calls.table, calls.ior(peer.Peer(slow).port), *ADD, "--repeat", "4")]
     done = subprocess.run(words, stdout=subprocess.PIPE, stderr=theirs, text=True, timeout=60)
     os.close(theirs)
-    told = re.findall(r"idlc: (\d+) calls, \d+ a second", os.read(ours, 65536).decode())
-    os.close(ours)
+    told = re.findall(r"idlc: (\d+) calls, \d+ a second", all_of(ours))
     calls.check("on a terminal", (0, SAID, ["2", "4", "4"]), (done.returncode, done.stdout, told))
 
 
