@@ -19,7 +19,7 @@ fn wanted<'a>(alloc: Global, id: &'a str, help: &'a str) -> Arg<'a>
 const TABLE: &str = "A table file, or builtin, the sample table";
 
 /// The version, and the kit with which the program is proved.
-const VERSION: &str = "0.1.0, rattle-kit-13f";
+const VERSION: &str = "0.1.0, rattle-kit-13";
 
 /// What `compile` serves of IDL, and what it doesn't.
 const SERVED: &str = "Served: modules, interfaces and their bases, operations, oneway ones too, \
