@@ -49,7 +49,8 @@ size_of es scope size =
 
 abbrev pub bound_of : List Entry → ℕ → Bound → Result ℕ BuildFault
 bound_of es scope bound =
-    of_names (size_read es scope bound.expr.value) >> λ n. at_most max_bound BoundLimit (leaf_at (expr_start bound.expr.value)) n
+    of_names (size_read es scope bound.expr.value)
+    >> λ n. at_most max_bound BoundLimit (leaf_at (expr_start bound.expr.value)) n
 
 -- no bound is 0
 abbrev pub bound_or_none : List Entry → ℕ → Option Bound → Result ℕ BuildFault
