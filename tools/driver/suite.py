@@ -50,9 +50,9 @@ def read_about(folder):
 
 
 def missing_tools(about):
-    """The tools that an `about` wants and this machine hasn't."""
+    """The tools and files that an `about` wants and this machine hasn't."""
     wanted = [tool.strip() for tool in about.get("wants", "").split(",") if tool]
-    return [tool for tool in wanted if not shutil.which(tool)]
+    return [tool for tool in wanted if not (shutil.which(tool) or pathlib.Path(tool).is_file())]
 
 
 class Test:
