@@ -1,5 +1,3 @@
-pub mod Chunks
-pub mod TurnedWords
 pub mod Gaps
 pub mod Places
 pub mod Calls

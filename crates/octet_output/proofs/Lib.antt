@@ -1,0 +1,3 @@
+pub mod Chunks
+pub mod Ends
+pub mod TurnedWords
