@@ -4,8 +4,8 @@ ghost use Rattle.std.specs.Prelude.{◌≡◌, ◌<◌, ◌≤◌, ◌++◌, IfO
 ghost use Rattle.type_graph.specs.declared.width.Width.TheVariants.{Four};
 ghost use Rattle.program_runner.specs.inner.Steps.{number_of, Gives, Passes, number_at, is_over, read_length, tape_length, no_zero, terminated, unterminated};
 
-use octet_output::blocks::push_unless;
 use crate::fault::RunFault;
+use octet_output::blocks::push_unless;
 use octet_output::lanes::Zero;
 use octet_output::output::Output;
 use type_graph::Order;
