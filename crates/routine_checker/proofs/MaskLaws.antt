@@ -1,7 +1,7 @@
 -- Sets as the code treats them, all places at once.
-use Rattle.std.proofs.Common.{◌≡◌, ℕ, zero, suc, ◌+◌, ◌%◌, ◌^◌, ◌<◌, min, Bool, true, false, not, ◌&&◌, ◌||◌, eqb, bit_and, refl, sym, ap, ◌∙◌, inl, inr, ◌⊎◌, arith}
+use Rattle.std.proofs.Common.{◌≡◌, ℕ, zero, suc, ◌%◌, ◌<◌, min, Bool, true, false, not, ◌||◌, eqb, bit_and, refl, sym, ap, ◌∙◌, inl, inr, arith}
 use Rattle.std.specs.Int.{bit_at, w8, rotate_left}
-use Rattle.std.proofs.lemmas.Bool.{eqb-true, eq-eqb, true≢false, cases_eq, cases_Bool, agree_below, agree_below_at, and_from, or_left, or_right, ne_eqb, not_from_false, both_ways}
+use Rattle.std.proofs.lemmas.Bool.{eqb-true, eq-eqb, cases_eq, agree_below, agree_below_at, and_from, or_left, or_right, not_from_false}
 use Rattle.std.proofs.lemmas.Nat.Bits.{bit_at_and, bit_at-lt, same_from_bits_below}
 use Rattle.std.proofs.lemmas.Nat.{and_le_l}
 use Rattle.type_graph.specs.declared.width.Width.{Width}
@@ -45,7 +45,7 @@ bit_within set other i within lt =
     let place : i % 8 ≡ i = omega (arith, lt) in
     bit_at_and set other i ∙ kept (bit_at set i) (bit_at other i) (bit_at-lt set i)
     (λ one. ap (bit_at other) (sym place) ∙ eqb-true (bit_at other (i % 8)) 1
-        (within_among set other within i (eq-eqb (bit_at set (i % 8)) 1 (ap (bit_at set) place ∙ one))))
+    (within_among set other within i (eq-eqb (bit_at set (i % 8)) 1 (ap (bit_at set) place ∙ one))))
 
 mask_of_within : (set other : ℕ) → set < 256 → bit_and set other < 256 → is_within set other ≡ true → bit_and set other ≡ set
 mask_of_within set other small less within =
@@ -63,7 +63,7 @@ place_within set other n mask =
       | inl there ↦ or_left (has other n) (not (has set n)) (eq-eqb (bit_at other (n % 8)) 1 there)
       | inr none ↦
           let same : min (bit_at set (n % 8)) (bit_at other (n % 8)) ≡ bit_at set (n % 8) =
-              sym (bit_at_and set other (n % 8)) ∙ ap (λ s. bit_at s (n % 8)) mask in
+          sym (bit_at_and set other (n % 8)) ∙ ap (λ s. bit_at s (n % 8)) mask in
           let zeroed : bit_at set (n % 8) ≡ 0 = lacked (bit_at set (n % 8)) (bit_at other (n % 8)) (bit_at-lt other (n % 8)) none same in
           or_right (has other n) (not (has set n)) (not_from_false (has set n) (ap (λ b. eqb b 1) zeroed))
     ]

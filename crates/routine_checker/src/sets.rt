@@ -51,7 +51,10 @@ fn lined_up(set: u8, width: Width) -> u8
     match width {
         Width::One => set,
         Width::Two => {
-            led(set, 0x81, 0x01) | led(set, 0x06, 0x04) | led(set, 0x18, 0x10) | led(set, 0x60, 0x40)
+            led(set, 0x81, 0x01)
+                | led(set, 0x06, 0x04)
+                | led(set, 0x18, 0x10)
+                | led(set, 0x60, 0x40)
         }
         Width::Four => led(set, 0xE1, 0x01) | led(set, 0x1E, 0x10),
         Width::Eight => led(set, 0xFF, 0x01),

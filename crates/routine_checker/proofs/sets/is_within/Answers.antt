@@ -1,4 +1,3 @@
-use Rattle.std.proofs.Common.{◌≡◌, eqb}
 use Rattle.routine_checker.proofs.MaskLaws.{within_by_mask}
 use Rattle.routine_checker.proofs.sets.is_within.Goals as goal
 
