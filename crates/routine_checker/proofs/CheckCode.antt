@@ -1,6 +1,5 @@
 -- The faults of a routine and of a program, as the code meets them.
 use Rattle.std.proofs.Common.{◌≡◌, ◌≢◌, ℕ, zero, suc, ◌+◌, ◌-◌, ◌<◌, ◌≤◌, true, false, List, length, drop, drop-cons, get_or, Option, Some, None, if◌then◌else◌, refl, sym, ap, ◌∙◌, arith}
-use Rattle.std.specs.Bool.{OnFalse}
 use Rattle.std.proofs.lemmas.Bool.{lt-ltb, le-ltb}
 use Rattle.std.proofs.lemmas.List.{drop_all}
 use Rattle.std.proofs.lemmas.Option.{none-some}
@@ -8,10 +7,9 @@ use Rattle.type_graph.specs.declared.node.Node.{Node}
 use Rattle.marshal_program.specs.declared.instr.Routine.{Routine}
 use Rattle.routine_checker.specs.declared.fault.RoutinePlace.{RoutinePlace}
 use Rattle.routine_checker.specs.declared.fault.CheckFault.{CheckFault}
-use Rattle.routine_checker.specs.declared.fault.CheckFault.TheVariants.{WrongWork, WrongPadding, EntryOutside, ExitsTooSmall, NoRoutine, NamedEntryNotFull, NoMemory}
+use Rattle.routine_checker.specs.declared.fault.CheckFault.TheVariants.{WrongWork}
 use Rattle.routine_checker.specs.Sets.{has}
 use Rattle.routine_checker.specs.Steps.{entry_fault, or_else, entries_fault, routine_fault, routines_fault, program_fault, place_of}
-use Rattle.routine_checker.specs.Refusal.{wants_memory}
 
 module _ (graph : List Node) (program : List Routine) (at : RoutinePlace) (routine : Routine) where
   -- the node isn't there

@@ -1,5 +1,5 @@
 -- Entries and ends of the routines of a switch, as the code goes over them.
-use Rattle.std.proofs.Common.{◌≡◌, ℕ, suc, ◌+◌, ◌<◌, ◌≤◌, max, Bool, ◌&&◌, ℤ, List, [], ◌∷◌, ◌++◌, length, map, Option, option_to_list, bit_or, sym, ap, ◌∙◌, arith}
+use Rattle.std.proofs.Common.{◌≡◌, ℕ, suc, ◌+◌, ◌<◌, ◌≤◌, max, Bool, true, ◌&&◌, ℤ, List, [], ◌∷◌, ◌++◌, length, map, Option, option_to_list, bit_or, refl, sym, ap, ◌∙◌, arith}
 use Rattle.std.specs.List.{list_all}
 use Rattle.std.specs.Int.{bit_at}
 use Rattle.std.specs.Int.Bits.{or_zero_l, or_zero_r}
@@ -7,19 +7,25 @@ use Rattle.std.proofs.Common.{get_or, drop, drop-cons}
 use Rattle.std.proofs.lemmas.List.{get_or_past}
 use Rattle.std.proofs.lemmas.List.Folds.{list_all-append, list_all-map}
 use Rattle.std.proofs.lemmas.Nat.Bits.{bit_at_or, same_from_bits}
+use Rattle.type_graph.specs.declared.width.Width.{Width}
 use Rattle.type_graph.specs.declared.width.Width.TheVariants.{One}
 use Rattle.type_graph.specs.declared.node.Node.{Node}
 use Rattle.type_graph.specs.declared.node.Node.TheVariants.{Octet}
 use Rattle.type_graph.specs.Walks.{lead_by, lead_within, lead_of}
 use Rattle.marshal_program.specs.declared.instr.Routine.{Routine}
 use Rattle.marshal_program.specs.ProgramRules.{arms_of}
-use Rattle.routine_checker.specs.Sets.{left}
+use Rattle.routine_checker.specs.Sets.{each_place, left, gaps_serve}
 use Rattle.routine_checker.specs.Steps.{exits_at, left_by}
 
 -- past the end of a graph stands an octet
 pub lead_past : (graph : List Node) (number : ℕ) → length graph ≤ number → lead_of graph number ≡ One
 unfolding lead_within
 lead_past graph number le = ap (lead_by (lead_within 63 graph) graph) (get_or_past graph number Octet le)
+
+-- no gap serves everywhere
+pub none_serves : (set : ℕ) (lead : Width) → true ≡ gaps_serve set One lead
+unfolding each_place
+none_serves set lead = refl
 
 -- all of the arms, and what is chosen otherwise
 pub all_arms : (test : ℕ → Bool) (arms : List (ℤ × ℕ)) (otherwise : Option ℕ) → list_all test (arms_of arms otherwise) ≡ (list_all (λ arm. test arm.1) arms && list_all test (option_to_list otherwise))

@@ -1,5 +1,6 @@
 pub mod SetLaws
 pub mod PlaceLaws
+pub mod MaskLaws
 pub mod GapLaws
 pub mod WordRuns
 pub mod Claim

@@ -57,6 +57,12 @@ unfolding closure
 closure_next zero exits set h = absurd (omega (arith, h))
 closure_next (suc n) exits set h = let e : suc n - 1 ≡ n = omega arith in rw e refl
 
+-- where nothing more is reached, nothing is later
+pub closure_still : (n : ℕ) (exits : List ℕ) (set : ℕ) → bit_or set (left set exits) ≡ set → closure n exits set ≡ set
+unfolding closure
+closure_still zero exits set still = refl
+closure_still (suc n) exits set still = ap (closure n exits) still ∙ closure_still n exits set still
+
 -- the places from which so many octets more are counted
 step_place : (w : Width) (p n : ℕ) → (p + pad p (octets_in w) + n % 8) % 8 ≡ (p + pad p (octets_in w) + n) % 8
 step_place One p n = omega arith

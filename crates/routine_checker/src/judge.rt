@@ -8,7 +8,7 @@ ghost use Rattle.type_graph.specs.Walks.{lead_of};
 ghost use Rattle.type_graph.specs.Value.{number_width};
 ghost use Rattle.marshal_program.specs.Does.{node_of};
 ghost use Rattle.marshal_program.specs.ProgramRules.{arms_of};
-ghost use Rattle.routine_checker.specs.Sets.{is_within};
+ghost use Rattle.routine_checker.specs.Sets.{is_within, gaps_serve};
 ghost use Rattle.routine_checker.specs.Steps.{entry_at, exits_at, lead_at, counted, behind_gap, starts, chosen_from, enters_elements, enters, pads, values_of, memberless, left_by, ends};
 
 use crate::sets::{EVERYWHERE, closure, gaps_agree, gaps_serve, is_within, left, moved, multiples};
@@ -162,6 +162,17 @@ pub fn enters(program: &[Routine], instr: &Instr, places: u8, gap: Width) -> boo
     }
 }
 
+/// Whether the gap may stand in front of the routine. No gap may, whatever its node begins with.
+#[tactic(auto, using(crate::proofs::JudgeLaws::none_serves))]
+fn serves(graph: &Graph, program: &[Routine], routine: u32, places: u8, gap: Width) -> bool
+    ensures { result ≡ gaps_serve places gap (lead_at graph.now program.now routine) }
+{
+    match gap {
+        Width::One => true,
+        _ => gaps_serve(places, gap, lead_at(graph, program, routine)),
+    }
+}
+
 /// Whether the gaps are those that belong there.
 pub fn pads(graph: &Graph, program: &[Routine], instr: &Instr, places: u8, gap: Width) -> bool
     ensures { result ≡ pads graph.now program.now instr.now places gap }
@@ -180,7 +191,7 @@ pub fn pads(graph: &Graph, program: &[Routine], instr: &Instr, places: u8, gap: 
         Instr::SeqOf { first, routine, .. } => gaps_agree(places, gap, Width::Four)
             && gaps_serve(counted(places), *first, lead_at(graph, program, *routine)),
         Instr::Times { routine, .. } | Instr::Call { routine } => {
-            gaps_serve(places, gap, lead_at(graph, program, *routine))
+            serves(graph, program, *routine, places, gap)
         }
         Instr::Switch { disc, .. } => gaps_agree(places, gap, disc_width(*disc)),
     }

@@ -3,7 +3,7 @@
 
 ghost use Rattle.std.specs.Prelude.{◌≡◌, ◌<◌, ◌≤◌, ◌+◌, ◌%◌, ◌^◌, length, slice_index_or, if◌then◌else◌};
 ghost use Rattle.routine_checker.specs.Sets.{has, is_within, moved, left, closure, gaps_agree, gaps_serve, multiples};
-ghost use Rattle.routine_checker.specs.inner.Places.{agreeing};
+ghost use Rattle.routine_checker.specs.inner.Places.{agreeing, led, lined_up};
 ghost use Rattle.type_graph.specs.Words.{octets_in, pad};
 
 use type_graph::Width;
@@ -31,57 +31,42 @@ pub fn only(place: u32) -> u8
 }
 
 /// Whether each place of the set is in the other.
-#[tactic(auto, using(crate::proofs::PlaceLaws::at_first_next), unfolding(crate::specs::Sets::each_place))]
 pub fn is_within(set: u8, other: u8) -> bool
     ensures { result ≡ is_within set other }
 {
-    if other == EVERYWHERE {
-        return true;
-    }
-    let mut within = true;
-    for place in 0..PLACES {
-        within = within && (has(other, place) || !has(set, place));
-    }
-    within
+    set & other == set
 }
 
-/// How many octets lie between the place and the next multiple of the width.
-fn gap(place: u32, width: Width) -> u32
-    requires { place < 8 }
-    ensures value { result ≡ pad place (octets_in width) }
-    ensures small { result < 8 }
+/// The set of one place, if one of the places that lead to it is in the set.
+fn led(set: u8, from: u8, to: u8) -> u8
+    ensures { result ≡ led set from to }
 {
-    // a division by a number that is known takes a fraction of the time
+    if set & from == 0 { 0 } else { to }
+}
+
+/// The places behind the gaps to the width.
+fn lined_up(set: u8, width: Width) -> u8
+    ensures { result ≡ lined_up width set }
+{
     match width {
-        Width::One => 0,
-        Width::Two => (2 - place % 2) % 2,
-        Width::Four => (4 - place % 4) % 4,
-        Width::Eight => (8 - place % 8) % 8,
+        Width::One => set,
+        Width::Two => {
+            led(set, 0x81, 0x01)
+                | led(set, 0x06, 0x04)
+                | led(set, 0x18, 0x10)
+                | led(set, 0x60, 0x40)
+        }
+        Width::Four => led(set, 0xE1, 0x01) | led(set, 0x1E, 0x10),
+        Width::Eight => led(set, 0xFF, 0x01),
     }
 }
 
-/// Where octets end that start behind the gap to the width at the place, if it is in the set.
-fn moved_from(set: u8, place: u32, width: Width, n: u32) -> u8
-    requires place { place < 8 }
-    requires step { n < 8 }
-    ensures { result ≡ (if has set place then 2 ^ ((place + pad place (octets_in width) + n) % 8) else 0) }
-{
-    if has(set, place) {
-        only((place + gap(place, width) + n) % PLACES)
-    } else {
-        0
-    }
-}
-
+#[tactic(auto, using(crate::proofs::MaskLaws::moved_by_mask))]
 fn moved_by(set: u8, width: Width, n: u32) -> u8
     requires { n < 8 }
     ensures { result ≡ moved set width n }
 {
-    let mut ends = 0;
-    for place in 0..PLACES {
-        ends |= moved_from(set, place, width, n);
-    }
-    ends
+    lined_up(set, width).rotate_left(n)
 }
 
 /// Where octets end that start behind the gap to the width at a place of the set, `n` of them.
@@ -122,7 +107,11 @@ pub fn closure(exits: &[u8], set: u8) -> u8
 {
     let mut starts = set;
     for round in 0..PLACES {
-        starts |= left(starts, exits);
+        let more = starts | left(starts, exits);
+        if more == starts {
+            return starts;
+        }
+        starts = more;
     }
     starts
 }
