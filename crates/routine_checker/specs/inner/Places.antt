@@ -29,6 +29,7 @@ led set from to = if eqb (bit_and set from) 0 then 0 else to
 -- the places behind the gaps to the width
 abbrev pub lined_up : Width → ℕ → ℕ
 lined_up One set = set
-lined_up Two set = bit_or (bit_or (bit_or (led set 0x81 0x01) (led set 0x06 0x04)) (led set 0x18 0x10)) (led set 0x60 0x40)
+lined_up Two set =
+    bit_or (bit_or (bit_or (led set 0x81 0x01) (led set 0x06 0x04)) (led set 0x18 0x10)) (led set 0x60 0x40)
 lined_up Four set = bit_or (led set 0xE1 0x01) (led set 0x1E 0x10)
 lined_up Eight set = led set 0xFF 0x01
