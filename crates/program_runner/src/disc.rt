@@ -7,9 +7,9 @@ ghost use Rattle.type_graph.specs.Value.{number_width};
 ghost use Rattle.marshal_program.specs.Does.{node_of};
 ghost use Rattle.run_steps.specs.Steps.{Gives, number_at, disc_number};
 
+use marshal_program::Disc;
 use run_steps::RunFault;
 use run_steps::text::number_at_front;
-use marshal_program::Disc;
 use type_graph::{Order, Width};
 
 /// The size of a discriminator.
