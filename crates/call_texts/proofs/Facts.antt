@@ -11,8 +11,8 @@ use Rattle.type_graph.specs.Encoding.{Means}
 use Rattle.type_model.specs.ModelRules.{IsModel, Parts}
 use Rattle.type_model.specs.Names.{IsNamed}
 use Rattle.program_runner.specs.Refusal.{wants_memory}
-use Rattle.program_runner.specs.declared.fault.RunFault.{RunFault}
-use Rattle.program_runner.specs.declared.fault.RunFault.TheVariants as runs
+use Rattle.run_steps.specs.declared.fault.RunFault.{RunFault}
+use Rattle.run_steps.specs.declared.fault.RunFault.TheVariants as runs
 use Rattle.call_texts.specs.Bodies.{IsTextOfBody, Labels}
 use Rattle.call_texts.specs.inner.Tapes.{IsTape, IsTextOfTape}
 

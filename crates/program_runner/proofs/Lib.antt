@@ -1,4 +1,3 @@
-pub mod Gaps
 pub mod Places
 pub mod Calls
 pub mod Left

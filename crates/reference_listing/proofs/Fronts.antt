@@ -16,8 +16,8 @@ use Rattle.giop_types.proofs.GraphFacts.{giop_is_graph}
 use Rattle.giop_types.specs.declared.tapes.fault.TapeFault.{TapeFault}
 use Rattle.giop_types.specs.declared.tapes.fault.TapeFault.TheVariants as tapes
 use Rattle.giop_types.specs.TapeRefusal.{RefusesReading}
-use Rattle.program_runner.specs.declared.fault.RunFault.{RunFault}
-use Rattle.program_runner.specs.declared.fault.RunFault.TheVariants as runs
+use Rattle.run_steps.specs.declared.fault.RunFault.{RunFault}
+use Rattle.run_steps.specs.declared.fault.RunFault.TheVariants as runs
 use Rattle.program_runner.specs.Refusal.{wants_memory}
 use Rattle.object_references.specs.Profiles.{Body, body_node, body_tree}
 use Rattle.object_references.specs.Encapsulations.{flag_of}

@@ -10,8 +10,8 @@ use Rattle.giop_types.specs.GiopNodes.{giop_nodes}
 use Rattle.giop_types.specs.declared.tapes.fault.TapeFault.{TapeFault}
 use Rattle.giop_types.specs.declared.tapes.fault.TapeFault.TheVariants as tapes
 use Rattle.giop_types.specs.TapeRefusal.{RefusesReading}
-use Rattle.program_runner.specs.declared.fault.RunFault.{RunFault}
-use Rattle.program_runner.specs.declared.fault.RunFault.TheVariants as runs
+use Rattle.run_steps.specs.declared.fault.RunFault.{RunFault}
+use Rattle.run_steps.specs.declared.fault.RunFault.TheVariants as runs
 use Rattle.program_runner.specs.Refusal.{wants_memory}
 use Rattle.reply_bodies.specs.Bodies.{BeginsWith}
 use Rattle.reply_bodies.specs.inner.Tapes.{HasTape}

@@ -1,7 +1,7 @@
 -- What the faults of other calls are to a command.
 use Rattle.std.specs.Prelude.{Bool, true, false}
-use Rattle.program_runner.specs.declared.fault.RunFault.{RunFault}
-use Rattle.program_runner.specs.declared.fault.RunFault.TheVariants as runs
+use Rattle.run_steps.specs.declared.fault.RunFault.{RunFault}
+use Rattle.run_steps.specs.declared.fault.RunFault.TheVariants as runs
 use Rattle.marshal_program.specs.declared.fault.TableFault.{TableFault}
 use Rattle.marshal_program.specs.declared.fault.TableFault.TheVariants as files
 use Rattle.routine_checker.specs.declared.fault.CheckFault.{CheckFault}

@@ -14,8 +14,8 @@ use Rattle.type_graph.specs.Encoding.{Means}
 use Rattle.type_model.specs.ModelRules.{IsModel, Parts}
 use Rattle.type_model.specs.Names.{IsNamed}
 use Rattle.program_runner.specs.Refusal.{wants_memory as run_wants_memory}
-use Rattle.program_runner.specs.declared.fault.RunFault.{RunFault}
-use Rattle.program_runner.specs.declared.fault.RunFault.TheVariants as runs
+use Rattle.run_steps.specs.declared.fault.RunFault.{RunFault}
+use Rattle.run_steps.specs.declared.fault.RunFault.TheVariants as runs
 use Rattle.table_file.specs.Table.{TableParts}
 use Rattle.table_commands.specs.Answer.{Ask}
 use Rattle.table_commands.specs.Refusal.{wants_memory, refusal_of_run}

@@ -1,0 +1,4 @@
+pub mod Gaps
+pub mod Places
+pub mod Times
+pub mod Ends

@@ -1,0 +1,5 @@
+pub mod State
+pub mod Steps
+pub mod Reached
+pub mod Split
+pub mod inner
