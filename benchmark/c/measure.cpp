@@ -21,7 +21,7 @@ using Octets = std::vector<uint8_t>;
 
 // A batch takes at least so many nanoseconds; the quickest of so many counts.
 constexpr double BATCH = 20e6;
-constexpr int BATCHES = 15;
+constexpr int BATCHES = 45;
 
 idlc_table table;
 

@@ -1,5 +1,5 @@
 """Measures the whole command `idlc compile` over the file of 4,000 structures of benchmark/model and over files of a
-quarter of it and of none: wall time and processor time, the least of seven runs, and the memory that a run holds at
+quarter of it and of none: wall time and processor time, the least of 61 runs, and the memory that a run holds at
 most. `./idlc` proves and builds what is missing of the program.
 """
 import os
@@ -44,7 +44,7 @@ def run(_benchmark):
         source, table = pathlib.Path(room) / "types.idl", pathlib.Path(room) / "types.table"
         for count in (0, 1000, 4000):
             source.write_text(source_of(count))
-            runs = [run_once(source, table) for _ in range(7)]
+            runs = [run_once(source, table) for _ in range(61)]
             wall, busy = (min(run[at] for run in runs) * 1000 for at in (0, 1))
             most = max(run[2] for run in runs) / 1024
             octets = f"{source.stat().st_size:,} | {table.stat().st_size:,}"
