@@ -1,6 +1,7 @@
 """Measures the whole command `idlc compile` over the file of 4,000 structures of benchmark/model and over files of a
-quarter of it and of none: wall time and processor time, the least of 61 runs, and the memory that a run holds at
-most. `./idlc` proves and builds what is missing of the program.
+quarter of it and of none: wall time and processor time, the least of 400 runs, since a host that others use is quick
+for seconds at a time, and the memory that a run holds at most. `./idlc` proves and builds what is missing of the
+program.
 """
 import os
 import pathlib
@@ -15,20 +16,24 @@ MEMBERS = ["long first", "unsigned short second", "string third", "octet fourth"
 
 
 def run_once(source, table):
-    """Seconds that a run takes, seconds of a processor, and KiB that it holds at most."""
-    # a process counts what it held before its program began, so a small one starts it
-    words = ["time", "-f", "%M", PROGRAM, "compile", source, "-o", table]
+    """Seconds that a run takes, and seconds of a processor."""
     start = time.perf_counter()
-    with tempfile.TemporaryFile("w+") as said:
-        process = subprocess.Popen(words, stdout=subprocess.DEVNULL, stderr=said)
-        _, status, used = os.wait4(process.pid, 0)
-        wall = time.perf_counter() - start
-        process.returncode = os.waitstatus_to_exitcode(status)
-        said.seek(0)
-        text = said.read()
+    process = subprocess.Popen([PROGRAM, "compile", source, "-o", table], stdout=subprocess.DEVNULL)
+    _, status, used = os.wait4(process.pid, 0)
+    wall = time.perf_counter() - start
+    process.returncode = os.waitstatus_to_exitcode(status)
     if process.returncode:
-        raise SystemExit(text)
-    return wall, used.ru_utime + used.ru_stime, int(text)
+        raise SystemExit(process.returncode)
+    return wall, used.ru_utime + used.ru_stime
+
+
+def memory_of(source, table):
+    """KiB that a run holds at most. A process counts what it held before its program began, so a small one starts it."""
+    words = ["time", "-f", "%M", PROGRAM, "compile", source, "-o", table]
+    done = subprocess.run(words, stdout=subprocess.DEVNULL, stderr=subprocess.PIPE, text=True)
+    if done.returncode:
+        raise SystemExit(done.stderr)
+    return int(done.stderr)
 
 
 def source_of(count):
@@ -44,8 +49,8 @@ def run(_benchmark):
         source, table = pathlib.Path(room) / "types.idl", pathlib.Path(room) / "types.table"
         for count in (0, 1000, 4000):
             source.write_text(source_of(count))
-            runs = [run_once(source, table) for _ in range(61)]
+            runs = [run_once(source, table) for _ in range(400)]
             wall, busy = (min(run[at] for run in runs) * 1000 for at in (0, 1))
-            most = max(run[2] for run in runs) / 1024
+            most = max(memory_of(source, table) for _ in range(7)) / 1024
             octets = f"{source.stat().st_size:,} | {table.stat().st_size:,}"
             print(f"| {count:,} | {octets} | {wall:.1f} | {busy:.1f} | {most:.1f} |")
