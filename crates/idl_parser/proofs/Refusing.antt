@@ -1,26 +1,16 @@
 -- What a refusal of the parser says: no specification spells the tokens.
-use Rattle.std.proofs.Common.{◌≡◌, ◌≤◌, ◌⊎◌, inl, inr, ℕ, Bool, false, List, [], Some, subst}
+use Rattle.std.proofs.Common.{◌≡◌, ◌≤◌, ◌⊎◌, inl, inr, List, subst}
+use Rattle.definition_reader.specs.declared.stop.Stop.{Stop}
+use Rattle.definition_reader.specs.declared.stop.Stop.TheVariants.{NoMemory as StopNoMemory}
+use Rattle.definition_reader.specs.Specification.{IsNoSpec}
 use Rattle.idl_lexer.specs.declared.token.Token.{Token}
+use Rattle.idl_parser.specs.declared.fault.ParseFault.{ParseFault}
+use Rattle.idl_parser.specs.declared.fault.ParseFault.TheVariants.{NoMemory as FaultNoMemory}
 use Rattle.idl_tree.specs.declared.definitions.Definition.{Definition}
 use Rattle.idl_tree.specs.Pieces.{Seen, Spell, seen_from}
 use Rattle.idl_tree.specs.DefinitionYields.{definitions_spelled}
 use Rattle.idl_tree.specs.DefinitionLevels.{levels_of}
-use Rattle.tree_laws.specs.DefinitionDescent.{definitions_way, is_over}
 use Rattle.tree_laws.proofs.DefinitionWays.{spec_found}
-use Rattle.idl_parser.specs.declared.fault.ParseFault.{ParseFault}
-use Rattle.idl_parser.specs.declared.fault.ParseFault.TheVariants.{NoMemory as FaultNoMemory}
-use Rattle.idl_parser.specs.declared.stop.Stop.{Stop}
-use Rattle.idl_parser.specs.declared.stop.Stop.TheVariants.{NoMemory as StopNoMemory}
-use Rattle.idl_parser.specs.inner.Following.{Ends, IsNoSpec}
-use Rattle.idl_parser.proofs.Ways.{no_spec, no_spec_so}
-
-pub stopped : (room : ℕ) (t : List Seen) (e : Stop) → Ends (definitions_way room t) e → (e ≡ StopNoMemory) ⊎ IsNoSpec room t
-stopped room t e (inl h) = inl h
-stopped room t e (inr h) = inr (no_spec_so room t h)
-
-pub left_over : (room : ℕ) (t u : List Seen) (e : Stop) → definitions_way room t ≡ Some u → is_over u ≡ false
-    → (e ≡ StopNoMemory) ⊎ IsNoSpec room t
-left_over room t u e way more = inr (no_spec room t u way more)
 
 pub refuses : (tokens : List Token) (left : List Seen) (stop : Stop) (fault : ParseFault) → left ≡ seen_from 0 tokens
     → (stop ≡ StopNoMemory → fault ≡ FaultNoMemory) → (stop ≡ StopNoMemory) ⊎ IsNoSpec 64 left

@@ -1,0 +1,24 @@
+use Rattle.std.proofs.Common.{refl}
+use Rattle.std.specs.Prelude.{codes}
+use Rattle.idl_tree.specs.declared.definitions.Definition.{Declaration as Declared}
+use Rattle.idl_tree.specs.Pieces.{mark}
+use Rattle.idl_tree.specs.DefinitionYields.{declaration_yield, definition_yield}
+use Rattle.idl_tree.specs.DefinitionLevels.{definition_levels}
+use Rattle.definition_reader.proofs.Adding.{added_ended}
+use Rattle.definition_reader.proofs.Ways.{halts, tail_way, tail_stops}
+use Rattle.definition_reader.proofs.read.definitions.read_declared.Goals as goal
+
+pub returns-clause-spells : goal.returns-clause-spells
+returns-clause-spells c =
+    let d = c.in-Ok.part in
+    added_ended definition_yield definition_levels c.args.room _ _ _ (declaration_yield d) (mark (codes ";")) _ _ (Declared d) c.mark.result
+    c.in-Ok.ensures.spells refl c.in-Ok.ensures.levels c.in-Ok-add_definition.ensures.spells c.mark.ensures.read
+
+pub returns-in-Err-clause-stops : goal.returns-in-Err-clause-stops
+returns-in-Err-clause-stops c = halts _ c.in-Err.ensures.stops
+
+pub returns-clause-way : goal.returns-clause-way
+returns-clause-way c = tail_way _ _ _ _ c.mark.result c.in-Ok.ensures.way (c.mark.ensures.way)
+
+pub returns-clause-stops : goal.returns-clause-stops
+returns-clause-stops c = tail_stops _ _ _ c.mark.result c.in-Ok.ensures.way (c.mark.ensures.stops)

@@ -1,5 +1,0 @@
-use Rattle.idl_parser.proofs.Ways.{maybe_word}
-use Rattle.idl_parser.proofs.read.interfaces.take_oneway.Goals as goal
-
-pub returns-clause-way : goal.returns-clause-way
-returns-clause-way c = maybe_word _ _ _ _ c.take_keyword.result c.take_keyword.ensures.unseen c.take_keyword.ensures.missing c.take_keyword.ensures.seen c.take_keyword.ensures.way
