@@ -1,5 +1,7 @@
 -- When tokens are a whole specification (ISO/IEC 19500-1, IDL grammar: `<specification>`).
-use Rattle.std.specs.Prelude.{◌≡◌, ◌≤◌, ℕ, List, [], Some, true}
+use Rattle.std.specs.Prelude.{◌≡◌, ◌≤◌, ℕ, List, [], ◌∷◌, Some, true}
+use Rattle.idl_lexer.specs.Tokens.{parts_of}
+use Rattle.idl_tree.specs.declared.names.Leaf.{Leaf}
 use Rattle.idl_tree.specs.declared.definitions.Definition.{Definition}
 use Rattle.idl_tree.specs.DefinitionYields.{definitions_spelled}
 use Rattle.idl_tree.specs.DefinitionLevels.{levels_of}
@@ -14,3 +16,8 @@ pub record Whole (levels : ℕ) (tokens : List Seen) (definitions : List Definit
 -- the tokens are those of no specification within so many levels
 abbrev pub IsNoSpec : ℕ → List Seen → Type 0
 IsNoSpec levels tokens = definitions_way levels tokens ≡ Some [] → ⊥
+
+-- of some tokens the first is this one, with its number
+abbrev pub IsNext : Leaf → List Seen → Type 0
+IsNext l [] = ⊥
+IsNext l (t ∷ ts) = t.token ≡ (l.number, parts_of l.token)

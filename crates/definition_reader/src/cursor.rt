@@ -12,6 +12,7 @@ ghost use Rattle.tree_laws.specs.Descent.{sees, sees_kind, sees_touching, sees_s
 ghost use Rattle.tree_laws.specs.DefinitionDescent.{is_ahead, is_over};
 ghost use Rattle.definition_reader.specs.inner.Following.{Ends};
 ghost use Rattle.definition_reader.specs.inner.Reading.{Parsed};
+ghost use Rattle.definition_reader.specs.Specification.{IsNext};
 ghost use Rattle.idl_tree.specs.Pieces.{piece, keyword, kept, kind_code, mark, touching, leaf as leaf_yield, seen_from};
 ghost use Rattle.idl_tree.specs.Yields.{identifier as identifier_yield};
 
@@ -28,8 +29,6 @@ pub struct Cursor<'a, 't> {
     rest: &'t [Token<'a>],
     /// The number of the first token that is left.
     number: usize,
-    /// The line of the last of all tokens.
-    last_line: usize,
 }
 
 impl<'a, 't> Model for Cursor<'a, 't> {
@@ -73,7 +72,6 @@ impl<'a, 't> Cursor<'a, 't> {
             alloc,
             rest: tokens,
             number: 0,
-            last_line: tokens.last().map_or(1, |token| token.line as usize),
         }
     }
 
@@ -86,13 +84,6 @@ impl<'a, 't> Cursor<'a, 't> {
         ensures end { OnTrue result (self.now ≡ []) }
     {
         self.rest.is_empty()
-    }
-
-    /// The line of the next token, or of the last one.
-    pub fn line(&self) -> usize {
-        self.rest
-            .first()
-            .map_or(self.last_line, |token| token.line as usize)
     }
 
     /// Whether the next token is this one.
@@ -140,12 +131,17 @@ impl<'a, 't> Cursor<'a, 't> {
     }
 
     /// The next token with its number, which counts from 0; none at the end.
-    pub fn next_token(&self) -> Option<Leaf<'a>> {
-        let number = self.number;
-        self.rest.first().map(|token| Leaf {
-            token: *token,
-            number,
-        })
+    pub fn next_token(&self) -> Option<Leaf<'a>>
+        ensures end { IfNone result (self.now ≡ []) }
+        ensures next { IfSome result (λ l. IsNext l self.now) }
+    {
+        match self.rest.first() {
+            Some(token) => Some(Leaf {
+                token: *token,
+                number: self.number,
+            }),
+            None => None,
+        }
     }
 
     /// Takes the next token, if it is this one.
@@ -325,19 +321,22 @@ impl<'a, 't> Cursor<'a, 't> {
         ensures way { IfOk result (λ left. taken Punct text.now self.old ≡ Some self.new) }
         ensures stops { IfErr result (Ends (opened room (λ left. taken Punct text.now self.old))) }
     {
-        let line = self.line();
-        got!(self.mark(text));
-        inside(room, line)
+        let Some(opening) = self.take(Kind::Punct, text) else {
+            return Err(Stop::Unexpected);
+        };
+        inside(room, &opening)
     }
 }
 
-/// How many levels are left inside a level that is opened on a line.
-pub(crate) fn inside(room: usize, line: usize) -> Result<usize, Stop>
+/// How many levels are left inside a level that a mark opens.
+pub(crate) fn inside(room: usize, opening: &Leaf<'_>) -> Result<usize, Stop>
     ensures levels { IfOk result (λ left. suc left ≡ room) }
     ensures none { IfErr result (λ _. room ≡ 0) }
 {
     match room.checked_sub(1) {
         Some(left) => Ok(left),
-        None => Err(Stop::TooDeep { line }),
+        None => Err(Stop::TooDeep {
+            line: opening.token.line as usize,
+        }),
     }
 }

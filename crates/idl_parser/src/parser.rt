@@ -19,12 +19,19 @@ use std::alloc::Global;
 /// How many modules, types and parentheses may stand one inside another.
 const MAX_LEVELS: usize = 64;
 
+/// The line of the last of all tokens.
+fn last_line(tokens: &[Token<'_>]) -> usize {
+    tokens.last().map_or(1, |token| token.line as usize)
+}
+
 /// Why the next token can't stand where it does.
-fn unexpected(cursor: &Cursor<'_, '_>) -> ParseFault {
-    let line = cursor.line();
+fn unexpected(cursor: &Cursor<'_, '_>, tokens: &[Token<'_>]) -> ParseFault {
     let Some(next) = cursor.next_token() else {
-        return ParseFault::EndOfFile { line };
+        return ParseFault::EndOfFile {
+            line: last_line(tokens),
+        };
     };
+    let line = next.token.line as usize;
     match left_out(&next.token) {
         Some(what) => ParseFault::LeftOut { what, line },
         None => ParseFault::Unexpected {
@@ -34,12 +41,12 @@ fn unexpected(cursor: &Cursor<'_, '_>) -> ParseFault {
     }
 }
 
-/// What a reader's stop means at the place where it stopped.
-fn told(cursor: &Cursor<'_, '_>, stop: Stop) -> ParseFault
+/// What a reader's stop means at the place among all tokens where it stopped.
+fn told(cursor: &Cursor<'_, '_>, tokens: &[Token<'_>], stop: Stop) -> ParseFault
     ensures { stop ≡ StopNoMemory → result ≡ NoMemory }
 {
     match stop {
-        Stop::Unexpected => unexpected(cursor),
+        Stop::Unexpected => unexpected(cursor, tokens),
         Stop::TooDeep { line } => ParseFault::TooDeep { line },
         Stop::NoMemory => ParseFault::NoMemory,
     }
@@ -62,7 +69,7 @@ pub fn parse<'a>(alloc: Global, tokens: &[Token<'a>]) -> Result<Spec<'a>, ParseF
     let mut cursor = Cursor::new(alloc, tokens);
     let definitions = match read_all(&mut cursor, MAX_LEVELS) {
         Ok(definitions) => definitions,
-        Err(stop) => return Err(told(&cursor, stop)),
+        Err(stop) => return Err(told(&cursor, tokens, stop)),
     };
     Ok(Spec { definitions })
 }

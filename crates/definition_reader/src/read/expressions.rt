@@ -196,11 +196,10 @@ fn read_primary<'a>(cursor: &mut Cursor<'a, '_>, room: usize) -> Result<Expr<'a>
     ensures way { IfOk result (λ _. primary_way (inside_way room) cursor.old ≡ Some cursor.new) }
     ensures stops { IfErr result (Ends (primary_way (inside_way room) cursor.old)) }
 {
-    let line = cursor.line();
     let Some(paren) = cursor.take(Kind::Punct, "(") else {
         return read_atom(cursor);
     };
-    let left = got!(inside(room, line));
+    let left = got!(inside(room, &paren));
     let inner = got!(read_level(cursor, 0, true, left));
     got!(cursor.mark(")"));
     made(Expr::new_parenthesized(cursor.alloc(), paren, inner))
