@@ -73,38 +73,44 @@ fn text_of<'a, R: WholeFiles + AllocGlobal>(
     }
 }
 
-/// What is used by each of the calls.
+/// What is asked for.
 #[derive(Clone, Copy)]
-struct Calling<'t, 'a> {
-    types: Types<'t>,
+struct Asked<'a, 't> {
+    task: &'t CallTask<'a>,
     /// The text of the reference.
     reference: &'t str,
     value: &'t str,
-    task: &'t CallTask<'a>,
     /// Who hears how far it is.
     listener: Listener,
+}
+
+/// What is used by each of the calls.
+#[derive(Clone, Copy)]
+struct Calling<'a, 't> {
+    asked: Asked<'a, 't>,
+    types: Types<'t>,
 }
 
 /// One call. The reference is read for it, since the call takes it.
 fn once<'a, R: Net + Clock + AllocGlobal>(
     rt: &R,
+    calling: Calling<'a, '_>,
     dialler: &mut Dialler<'_, R>,
-    calling: &Calling<'_, 'a>,
     id: u32,
 ) -> Result<Ending, Fault<'a>> {
-    let task = calling.task;
-    let ior = read_reference(calling.types.types, rt.alloc(), calling.reference)?;
+    let Calling { asked, types } = calling;
+    let ior = read_reference(types.types, rt.alloc(), asked.reference)?;
     let ask = TextCall {
-        operation: task.operation,
-        value: calling.value,
-        order: task.order,
+        operation: asked.task.operation,
+        value: asked.value,
+        order: asked.task.order,
         id,
         reads: READS,
     };
-    match call_text(&calling.types, rt.alloc(), dialler, ior, &ask) {
+    match call_text(&types, rt.alloc(), dialler, ior, &ask) {
         Ok(ending) => Ok(ending),
         Err(CallRefusal::NoOperation) => Err(Fault::NoOperation {
-            word: task.operation,
+            word: asked.task.operation,
         }),
         Err(refusal) => Err(Fault::from(refusal)),
     }
@@ -148,17 +154,17 @@ fn tell_progress<R: Clock + Eprint>(rt: &R, times: &mut Times, listener: Listene
 /// Makes one call after the other, up to the first that raises an exception.
 fn repeated<'a, R: Net + Clock + Eprint + AllocGlobal>(
     rt: &R,
-    calling: &Calling<'_, 'a>,
+    calling: Calling<'a, '_>,
 ) -> Result<Concluded, Fault<'a>> {
-    let task = calling.task;
+    let task = calling.asked.task;
     let mut dialler = Dialler::new(rt, rt.alloc(), task.wait);
     let mut times = Times::new(rt);
     let mut ending = Ending::Sent;
     for count in 0..task.repeat {
         times.begin(rt);
-        ending = once(rt, &mut dialler, calling, count + 1)?;
+        ending = once(rt, calling, &mut dialler, count + 1)?;
         times.end(rt);
-        tell_progress(rt, &mut times, calling.listener);
+        tell_progress(rt, &mut times, calling.asked.listener);
         if !is_done(&ending) {
             break;
         }
@@ -168,30 +174,55 @@ fn repeated<'a, R: Net + Clock + Eprint + AllocGlobal>(
     Ok(conclusion(rt.alloc(), ending, times)?)
 }
 
+/// Makes the calls with the routines of messages.
+fn called_in<'a, R: Net + Clock + Eprint + AllocGlobal>(
+    rt: &R,
+    asked: Asked<'a, '_>,
+    loaded: &Loaded,
+    giop: &Giop,
+) -> Result<Concluded, Fault<'a>> {
+    match GiopTypes::new(rt.alloc()) {
+        Ok(types) => {
+            let types = Types {
+                giop,
+                types: &types,
+                table: &loaded.table,
+                names: &loaded.names,
+            };
+            repeated(rt, Calling { asked, types })
+        }
+        Err(error) => Err(Fault::from(error)),
+    }
+}
+
+/// Makes the calls. What is large is let go of in few places, so each stands in a function of its own.
+fn called_with<'a, R: Net + Clock + Eprint + AllocGlobal>(
+    rt: &R,
+    asked: Asked<'a, '_>,
+    loaded: &Loaded,
+) -> Result<Concluded, Fault<'a>> {
+    match Giop::new(rt.alloc()) {
+        Ok(giop) => called_in(rt, asked, loaded, &giop),
+        Err(error) => Err(Fault::from(error)),
+    }
+}
+
 /// Calls an object with the table that was loaded.
 fn called_by<'a, R: WholeFiles + Net + Clock + Eprint + AllocGlobal>(
     rt: &R,
-    loaded: &Loaded,
     task: &CallTask<'a>,
+    loaded: &Loaded,
     listener: Listener,
 ) -> Result<Concluded, Fault<'a>> {
     let reference = text_of(rt, task.reference)?;
     let value = text_of(rt, task.value.unwrap_or(NO_ARGUMENTS))?;
-    let giop = Giop::new(rt.alloc())?;
-    let types = GiopTypes::new(rt.alloc())?;
-    let calling = Calling {
-        types: Types {
-            giop: &giop,
-            types: &types,
-            table: &loaded.table,
-            names: &loaded.names,
-        },
+    let asked = Asked {
+        task,
         reference: reference.as_str().trim_ascii(),
         value: value.as_str(),
-        task,
         listener,
     };
-    repeated(rt, &calling)
+    called_with(rt, asked, loaded)
 }
 
 /// Calls an object by the table of a name, as often as is asked for.
@@ -201,7 +232,7 @@ pub fn called<'a, R: WholeFiles + Net + Clock + Eprint + AllocGlobal>(
     listener: Listener,
 ) -> Result<Concluded, Fault<'a>> {
     match load(rt, task.table) {
-        Ok(loaded) => called_by(rt, &loaded, task, listener),
+        Ok(loaded) => called_by(rt, task, &loaded, listener),
         Err(fault) => Err(named_fault(rt, task.table, fault, listener)),
     }
 }

@@ -15,6 +15,24 @@ use named_tables::{NamedFault, source_in, text_in};
 use spelled_references::{SpellingFault, described_reference};
 use table_commands::WholeFiles;
 
+/// The lines of the reference that a text spells, which a word stands for, by the routines of messages.
+fn described_by<'a, R: WholeFiles + AllocGlobal>(
+    rt: &R,
+    types: &GiopTypes,
+    word: &str,
+    text: &str,
+) -> Result<Answer, Fault<'a>>
+    requires { IsTextFor (R.reads rt.now) word.now text.now }
+    ensures described { IfOk result (λ answer.
+        IsDescribed (R.reads rt.now) word.now (string_bytes answer.text)) }
+    ensures refused { IfErr result (IsDescriptionFault (R.reads rt.now) word.now) }
+{
+    match described_reference(types, rt.alloc(), text.trim_ascii()) {
+        Ok(lines) => Ok(Answer::plain(lines)),
+        Err(fault) => Err(Fault::NotSpelled(fault)),
+    }
+}
+
 /// The lines of the reference that a text spells, which a word stands for.
 fn described_text<'a, R: WholeFiles + AllocGlobal>(
     rt: &R,
@@ -26,10 +44,9 @@ fn described_text<'a, R: WholeFiles + AllocGlobal>(
         IsDescribed (R.reads rt.now) word.now (string_bytes answer.text)) }
     ensures refused { IfErr result (IsDescriptionFault (R.reads rt.now) word.now) }
 {
-    let types = GiopTypes::new(rt.alloc())?;
-    match described_reference(&types, rt.alloc(), text.trim_ascii()) {
-        Ok(lines) => Ok(Answer::plain(lines)),
-        Err(fault) => Err(Fault::NotSpelled(fault)),
+    match GiopTypes::new(rt.alloc()) {
+        Ok(types) => described_by(rt, &types, word, text),
+        Err(error) => Err(Fault::from(error)),
     }
 }
 
