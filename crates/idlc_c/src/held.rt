@@ -66,16 +66,21 @@ impl Held {
     }
 
     /// The first owner.
+    fn first(alloc: Global, shared: Shared) -> Result<Held, AllocError>
+        ensures { IfOk result (λ held. held ≡ shared.loaded) }
+    {
+        match Arc::new(alloc, shared) {
+            Ok(shared) => Ok(Held::of(alloc, shared)),
+            Err(_) => Err(AllocError),
+        }
+    }
+
     fn new(alloc: Global, loaded: Loaded) -> Result<Held, AllocError>
         ensures { IfOk result (λ held. held ≡ loaded) }
     {
-        let giop = match Giop::new(alloc) {
-            Ok(giop) => giop,
-            Err(error) => return Err(error),
-        };
-        match Arc::new(alloc, Shared { loaded, giop }) {
-            Ok(shared) => Ok(Held::of(alloc, shared)),
-            Err(_) => Err(AllocError),
+        match Giop::new(alloc) {
+            Ok(giop) => Held::first(alloc, Shared { loaded, giop }),
+            Err(error) => Err(error),
         }
     }
 
