@@ -91,6 +91,36 @@ fn read_whole(
     Ok(value)
 }
 
+/// The same of the tokens of a reader.
+fn read_tokens(
+    alloc: Global,
+    types: &Sought<'_>,
+    node: u32,
+    reader: Reader<'_>,
+) -> Result<Value, Stop>
+    ensures read { IfOk result (λ value. StandsFor types.now.names.now types.now.graph.now node
+        (tree_of value) reader.entry) }
+    ensures refused { IfErr result (λ stop. RefusesAs stop (AreSound types.now.names.now types.now.graph.now
+        → (value : Tree) → StandsFor types.now.names.now types.now.graph.now node value reader.entry → ⊥)) }
+{
+    let mut cursor = Cursor::new(reader);
+    read_whole(&mut cursor, alloc, types, node)
+}
+
+/// The same of a text. What is large stands in a function of its own here, and is let go of in one place.
+fn read_text(alloc: Global, types: &Sought<'_>, node: u32, text: &str) -> Result<Value, Stop>
+    ensures read { IfOk result (λ value. StandsFor types.now.names.now types.now.graph.now node
+        (tree_of value) (tokens text.now)) }
+    ensures refused { IfErr result (λ stop. RefusesAs stop (AreSound types.now.names.now types.now.graph.now
+        → (value : Tree) → StandsFor types.now.names.now types.now.graph.now node value (tokens text.now) → ⊥)) }
+{
+    let mut scratch = Scratch::new(alloc);
+    match Reader::new(text, &mut scratch) {
+        Ok(reader) => read_tokens(alloc, types, node, reader),
+        Err(_) => Err(Stop::NoMemory),
+    }
+}
+
 /// The value of a node that a text says.
 ///
 /// # Errors
@@ -109,14 +139,12 @@ pub fn read(
         → StandsFor names.now graph.now node value (tokens text.now) → ⊥)) }
 {
     let lookup = Lookup::new(alloc, names, graph.nodes().len() as u32)?;
-    let mut scratch = Scratch::new(alloc);
-    let mut cursor = Cursor::new(Reader::new(text, &mut scratch)?);
     let types = Sought {
         graph,
         names,
         lookup: &lookup,
     };
-    match read_whole(&mut cursor, alloc, &types, node) {
+    match read_text(alloc, &types, node, text) {
         Ok(value) => Ok(value),
         Err(Stop::NoMemory) => Err(ReadFault::NoMemory),
         Err(Stop::Refused { wanted, at }) => Err(ReadFault::Refused(refused_at(text, wanted, at))),
