@@ -21,6 +21,8 @@ NAMES = [
 SOURCE = "struct S { octet a; unsigned long b; string c; };\n"
 TAPE, OCTETS = "0700000001000000026869", "070000000000000100000003686900"
 TEXT = '{"a":7,"b":1,"c":"hi"}'
+# the same with a text of a hundred letters: more than goes without memory
+LONG_TAPE, LONG_OCTETS = "070000000100000064" + "68" * 100, "070000000000000100000065" + "68" * 100 + "00"
 # what messages.c prints: a request and a reply with the value of OCTETS, in big and in little order
 MESSAGES = "".join(f"^{line}\\n" for line in (
     "47494f5001020000" "00000033" "00000001" "03000000" "0000" "0000" "00000001" "4b" "000000" "00000005" "70696e6700"
@@ -121,9 +123,9 @@ def check_numbers(library):
 
 def check_calls(library, table):
     """All calls from C by each compiler, with each allocation refused in turn; sanitized; under valgrind."""
-    words = [table, "S", TAPE, OCTETS]
+    words, small = [table, "S", LONG_TAPE, LONG_OCTETS], [table, "S", TAPE, OCTETS]
     for cc in COMPILERS:
-        for name, given in (("calls", words), ("texts", []), ("messages", [])):
+        for name, given in (("calls", words), ("calls", small), ("texts", []), ("messages", [])):
             library.compile(cc, library.test.folder / f"{name}.c", f"{name}-{cc}", *WRAPS)
             said = library.call(f"{name} {cc}", library.room / f"{name}-{cc}", *given) or ""
             wanted = {"calls": r"^S \d+$", "texts": r"^[1-9]\d* [1-9]\d* [1-9]\d*$", "messages": MESSAGES}[name]
@@ -147,7 +149,7 @@ def check_other_backend(library, table):
     folder = library.room / "other"
     if library.call("build by rattle", TOP / "c" / "build", "--folder", folder, "--backend", "rattle") is None:
         return
-    for name, given in (("calls", [table, "S", TAPE, OCTETS]), ("texts", []), ("messages", [])):
+    for name, given in (("calls", [table, "S", LONG_TAPE, LONG_OCTETS]), ("texts", []), ("messages", [])):
         library.compile("gcc", library.test.folder / f"{name}.c", f"{name}-other", *WRAPS, folder=folder)
         library.call(f"{name} by rattle", library.room / f"{name}-other", *given)
 
