@@ -6,6 +6,7 @@ ghost use Rattle.std.specs.Arc.{arc_value};
 use giop::Giop;
 use part_names::PartNames;
 use position_checker::Accepted;
+use program_runner::Room;
 use std::alloc::{AllocError, Global};
 use std::marker::Model;
 use std::sync::Arc;
@@ -45,7 +46,7 @@ const MOST_KEPT: usize = 1_048_576;
 #[derive(Drop)]
 pub struct Held {
     pub(crate) shared: Arc<Shared>,
-    pub(crate) room: Vec<u8>,
+    pub(crate) room: Room,
 }
 
 impl Model for Held {
@@ -61,7 +62,7 @@ impl Held {
     fn of(alloc: Global, shared: Arc<Shared>) -> Held
         ensures { result ≡ (arc_value shared).loaded }
     {
-        let room = Vec::new(alloc);
+        let room = Room::new(alloc);
         Held { shared, room }
     }
 
@@ -98,12 +99,10 @@ impl Held {
     }
 
     /// Keeps the memory for the next call, if it isn't much.
-    pub fn trim_room(&mut self, alloc: Global)
+    pub fn trim_room(&mut self)
         ensures { self.new ≡ self.old }
     {
-        if self.room.capacity() > MOST_KEPT {
-            self.room = Vec::new(alloc);
-        }
+        self.room.trim(MOST_KEPT);
     }
 
     pub fn loaded(&self) -> &Loaded

@@ -234,7 +234,7 @@ pub extern "C" fn idlc_encode(
     let Some(mut held) = mem::replace(handle, Handle::none(alloc)).into_box() else {
         return Refusal::NotLoaded.number();
     };
-    let answer = marshal::encode(alloc, &mut held, node, order(little), pos, tape, out);
+    let answer = marshal::encode(&mut held, node, order(little), pos, tape, out);
     *handle = Handle::of(held);
     told(answer, len)
 }
@@ -274,16 +274,7 @@ pub extern "C" fn idlc_decode(
     let Some(mut held) = mem::replace(handle, Handle::none(alloc)).into_box() else {
         return Refusal::NotLoaded.number();
     };
-    let answer = marshal::decode(
-        alloc,
-        &mut held,
-        node,
-        order(little),
-        pos,
-        octets,
-        taken,
-        out,
-    );
+    let answer = marshal::decode(&mut held, node, order(little), pos, octets, taken, out);
     *handle = Handle::of(held);
     told(answer, len)
 }

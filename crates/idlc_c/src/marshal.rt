@@ -9,7 +9,6 @@ ghost use Rattle.idlc_c.specs.Answers.{HasNoOctets, HasNoTape, HasOctets, HasTap
 
 use crate::held::Held;
 use crate::refusal::Refusal;
-use std::alloc::Global;
 use type_graph::Order;
 
 pub(crate) fn order(little: bool) -> Order
@@ -31,7 +30,6 @@ fn fitted(len: usize, room: usize) -> Result<usize, Refusal>
 
 /// Writes the octets of a tape's value to the buffer, and tells how many they are.
 pub(crate) fn encode(
-    alloc: Global,
     held: &mut Held,
     node: u32,
     order: Order,
@@ -54,7 +52,7 @@ pub(crate) fn encode(
     }
     let table = &held.shared.loaded.table;
     let answer = table.write_into(&mut held.room, node, order, pos, tape, out);
-    held.trim_room(alloc);
+    held.trim_room();
     match answer {
         Ok(len) => fitted(len, out.len()),
         Err(fault) => Err(Refusal::NoValue(fault)),
@@ -64,7 +62,6 @@ pub(crate) fn encode(
 /// Writes the tape of the value that a front of the octets encodes to the buffer, and tells how
 /// long it is, and how many octets that front has.
 pub(crate) fn decode(
-    alloc: Global,
     held: &mut Held,
     node: u32,
     order: Order,
@@ -90,7 +87,7 @@ pub(crate) fn decode(
     }
     let table = &held.shared.loaded.table;
     let answer = table.read_into(&mut held.room, node, order, pos, octets, out);
-    held.trim_room(alloc);
+    held.trim_room();
     match answer {
         Ok((len, front)) => {
             let len = fitted(len, out.len())?;

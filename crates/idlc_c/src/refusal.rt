@@ -1,6 +1,6 @@
 //! Why a call is refused, and the numbers that C has of it.
 
-ghost use Rattle.std.specs.Prelude.{◌≡◌};
+ghost use Rattle.std.specs.Prelude.{◌≡◌, Err};
 ghost use Rattle.idlc_c.specs.Numbers.{length_of, number_of, number_of_answer, number_of_file, number_of_run, place_in_routine, place_of, place_of_check, place_of_node, place_told};
 
 use crate::source_place::{SourcePlace, text_number};
@@ -141,6 +141,19 @@ impl Refusal {
     }
 }
 
+/// The number of a refusal. Where there is no room, its length is what would have been handed over.
+#[cold]
+#[inline(never)]
+fn refused(refusal: Refusal, len: &mut usize) -> u32
+    ensures number { result ≡ number_of refusal }
+    ensures length { len.new ≡ length_of (Err refusal) len.old }
+{
+    if let Refusal::NoRoom { needed } = refusal {
+        *len = needed;
+    }
+    refusal.number()
+}
+
 /// The number of an answer. Its length is that of what was handed over, or would have been.
 pub(crate) fn told(answer: Result<usize, Refusal>, len: &mut usize) -> u32
     ensures number { result ≡ number_of_answer answer }
@@ -151,12 +164,7 @@ pub(crate) fn told(answer: Result<usize, Refusal>, len: &mut usize) -> u32
             *len = written;
             0
         }
-        Err(refusal) => {
-            if let Refusal::NoRoom { needed } = refusal {
-                *len = needed;
-            }
-            refusal.number()
-        }
+        Err(refusal) => refused(refusal, len),
     }
 }
 

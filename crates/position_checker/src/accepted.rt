@@ -12,7 +12,7 @@ ghost use Rattle.position_checker.specs.Acceptance.{IsRight, Serves, Uses};
 ghost use Rattle.position_checker.specs.inner.Routes.{IsRoute};
 
 use crate::routes::Route;
-use program_runner::RunFault;
+use program_runner::{Room, RunFault};
 use std::alloc::Global;
 use std::marker::Model;
 use table_file::{Table, Which};
@@ -60,7 +60,7 @@ impl Accepted {
     pub fn is_named(&self, node: u32) -> bool
         ensures { IsTrue result ↔ IsNamed self.now.model.names node }
     {
-        self.table.model().is_named(node)
+        self.routes.get(node as usize).copied().flatten().is_some()
     }
 
     /// Where the routine stands that serves a node with a name.
@@ -160,14 +160,13 @@ impl Accepted {
     }
 
     /// Writes the CDR octets of the value that the whole tape is to the front of a buffer, if there
-    /// is room for all of them: how many they are. The room is memory that one such call leaves for
-    /// another.
+    /// is room for all of them: how many they are. One room serves many calls.
     ///
     /// # Errors
     /// As those of `write`. They leave the buffer as it was.
     pub fn write_into(
         &self,
-        room: &mut Vec<u8>,
+        room: &mut Room,
         node: u32,
         order: Order,
         pos: u64,
@@ -188,13 +187,13 @@ impl Accepted {
 
     /// Reads the tape of the value that a front of the octets encodes, whatever stands in the gaps,
     /// into the front of a buffer, if there is room for all of it: how long it is, and how many
-    /// octets that front has. The room is memory that one such call leaves for another.
+    /// octets that front has. One room serves many calls.
     ///
     /// # Errors
     /// As those of `read`. They leave the buffer as it was.
     pub fn read_into(
         &self,
-        room: &mut Vec<u8>,
+        room: &mut Room,
         node: u32,
         order: Order,
         pos: u64,
