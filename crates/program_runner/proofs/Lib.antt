@@ -1,5 +1,6 @@
 pub mod Places
 pub mod Calls
+pub mod Copies
 pub mod Left
 pub mod Agreement
 pub mod PassAgreement
