@@ -83,15 +83,24 @@ abbrev pub place_of : Refusal → RefusalPlace
 place_of (NotRight fault) = place_of_check fault
 place_of refusal = place_of_node (number_of refusal) 0
 
-abbrev pub number_of_answer : Result ℕ Refusal → ℕ
-number_of_answer (Ok len) = 0
+abbrev pub number_of_answer : {A : Type 0} → Result A Refusal → ℕ
+number_of_answer (Ok given) = 0
 number_of_answer (Err refusal) = number_of refusal
+
+-- what would have been handed over is so long, where there is no room for it
+abbrev pub length_needed : Refusal → ℕ → ℕ
+length_needed (NoRoom needed) old = needed
+length_needed refusal old = old
 
 -- what was handed over is so long, or would have been
 abbrev pub length_of : Result ℕ Refusal → ℕ → ℕ
 length_of (Ok len) old = len
-length_of (Err (NoRoom needed)) old = needed
-length_of (Err refusal) old = old
+length_of (Err refusal) old = length_needed refusal old
+
+-- the same where the length of what was handed over is told already
+abbrev pub length_asked : Result (Unit {0}) Refusal → ℕ → ℕ
+length_asked (Ok given) old = old
+length_asked (Err refusal) old = length_needed refusal old
 
 -- where a text was refused, if it was
 abbrev pub place_told : Result ℕ Refusal → SourcePlace → SourcePlace

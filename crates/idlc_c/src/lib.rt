@@ -32,7 +32,7 @@ mod text;
 use crate::column::column_of;
 use crate::marshal::order;
 use crate::messages::{buffer_number, message_told};
-use crate::refusal::{Refusal, told, told_at};
+use crate::refusal::{Refusal, done, told, told_at};
 use crate::source_fault::SourceFault;
 pub use giop_buffers::MessageFront;
 use giop_buffers::RequestHead;
@@ -234,9 +234,9 @@ pub extern "C" fn idlc_encode(
     let Some(mut held) = mem::replace(handle, Handle::none(alloc)).into_box() else {
         return Refusal::NotLoaded.number();
     };
-    let answer = marshal::encode(&mut held, node, order(little), pos, tape, out);
+    let answer = marshal::encode(&mut held, node, order(little), pos, tape, out, len);
     *handle = Handle::of(held);
-    told(answer, len)
+    done(answer, len)
 }
 
 /// Writes the tape of the value that a front of the octets encodes, whatever stands in the gaps,
@@ -274,9 +274,9 @@ pub extern "C" fn idlc_decode(
     let Some(mut held) = mem::replace(handle, Handle::none(alloc)).into_box() else {
         return Refusal::NotLoaded.number();
     };
-    let answer = marshal::decode(&mut held, node, order(little), pos, octets, taken, out);
+    let answer = marshal::decode(&mut held, node, order(little), pos, octets, taken, out, len);
     *handle = Handle::of(held);
-    told(answer, len)
+    done(answer, len)
 }
 
 /// Writes the octets of the value that a text says to the front of the buffer, with zeros in the

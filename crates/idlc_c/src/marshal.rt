@@ -17,15 +17,17 @@ pub(crate) fn order(little: bool) -> Order
     if little { Order::Little } else { Order::Big }
 }
 
-/// The length of what was put into a buffer, if it has room for it.
-fn fitted(len: usize, room: usize) -> Result<usize, Refusal>
-    ensures done { IfOk result (λ fitted. (fitted ≡ len) × (len ≤ room)) }
-    ensures refused { IfErr result (λ refusal. (refusal ≡ NoRoom len) × (room < len)) }
+/// Tells how long what was put into a buffer is, if there was room for it.
+fn fitted(put: usize, room: usize, len: &mut usize) -> Result<(), Refusal>
+    ensures done { IfOk result (λ _. (len.new ≡ put) × (put ≤ room)) }
+    ensures refused { IfErr result (λ refusal. (refusal ≡ NoRoom put) × (room < put)) }
+    ensures kept { OnErr result (len.new ≡ len.old) }
 {
-    if len > room {
-        return Err(Refusal::NoRoom { needed: len });
+    if put > room {
+        return Err(Refusal::NoRoom { needed: put });
     }
-    Ok(len)
+    *len = put;
+    Ok(())
 }
 
 /// Writes the octets of a tape's value to the buffer, and tells how many they are.
@@ -36,16 +38,18 @@ pub(crate) fn encode(
     pos: u64,
     tape: &[u8],
     out: &mut [u8],
-) -> Result<usize, Refusal>
+    len: &mut usize,
+) -> Result<(), Refusal>
     ensures same { held.new ≡ held.old }
-    ensures done { IfOk result (λ len.
-        Means held.old.table.model.graph (writing order) 64 node pos tape.now (take len out.new)) }
-    ensures within { IfOk result (λ len. len ≤ length out.old) }
-    ensures behind { IfOk result (λ len. drop len out.new ≡ drop len out.old) }
+    ensures done { IfOk result (λ _.
+        Means held.old.table.model.graph (writing order) 64 node pos tape.now (take len.new out.new)) }
+    ensures within { IfOk result (λ _. len.new ≤ length out.old) }
+    ensures behind { IfOk result (λ _. drop len.new out.new ≡ drop len.new out.old) }
     ensures refused { IfErr result (RefusesValue (IsNamed held.old.table.model.names node → ⊥)
         (TellsLength (λ len. HasOctets node order pos tape.now len held.old.table) (length out.old))
         (HasNoOctets node order pos tape.now held.old.table)) }
     ensures kept { OnErr result (out.new ≡ out.old) }
+    ensures same_length { OnErr result (len.new ≡ len.old) }
 {
     if !held.loaded().table.is_named(node) {
         return Err(Refusal::NotNamed);
@@ -54,7 +58,7 @@ pub(crate) fn encode(
     let answer = table.write_into(&mut held.room, node, order, pos, tape, out);
     held.trim_room();
     match answer {
-        Ok(len) => fitted(len, out.len()),
+        Ok(put) => fitted(put, out.len(), len),
         Err(fault) => Err(Refusal::NoValue(fault)),
     }
 }
@@ -69,18 +73,20 @@ pub(crate) fn decode(
     octets: &[u8],
     taken: &mut usize,
     out: &mut [u8],
-) -> Result<usize, Refusal>
+    len: &mut usize,
+) -> Result<(), Refusal>
     ensures same { held.new ≡ held.old }
-    ensures done { IfOk result (λ len.
-        Means held.old.table.model.graph (reading order) 64 node pos (take len out.new) (take taken.new octets.now)) }
+    ensures done { IfOk result (λ _.
+        Means held.old.table.model.graph (reading order) 64 node pos (take len.new out.new) (take taken.new octets.now)) }
     ensures taken { IfOk result (λ _. taken.new ≤ length octets.now) }
-    ensures within { IfOk result (λ len. len ≤ length out.old) }
-    ensures behind { IfOk result (λ len. drop len out.new ≡ drop len out.old) }
+    ensures within { IfOk result (λ _. len.new ≤ length out.old) }
+    ensures behind { IfOk result (λ _. drop len.new out.new ≡ drop len.new out.old) }
     ensures refused { IfErr result (RefusesValue (IsNamed held.old.table.model.names node → ⊥)
         (TellsLength (λ len. HasTape node order pos octets.now len held.old.table) (length out.old))
         (HasNoTape node order pos octets.now held.old.table)) }
     ensures kept { OnErr result (out.new ≡ out.old) }
     ensures not_taken { OnErr result (taken.new ≡ taken.old) }
+    ensures same_length { OnErr result (len.new ≡ len.old) }
 {
     if !held.loaded().table.is_named(node) {
         return Err(Refusal::NotNamed);
@@ -89,10 +95,10 @@ pub(crate) fn decode(
     let answer = table.read_into(&mut held.room, node, order, pos, octets, out);
     held.trim_room();
     match answer {
-        Ok((len, front)) => {
-            let len = fitted(len, out.len())?;
+        Ok((put, front)) => {
+            fitted(put, out.len(), len)?;
             *taken = front;
-            Ok(len)
+            Ok(())
         }
         Err(fault) => Err(Refusal::NoValue(fault)),
     }

@@ -1,7 +1,7 @@
 //! Why a call is refused, and the numbers that C has of it.
 
-ghost use Rattle.std.specs.Prelude.{◌≡◌, Err};
-ghost use Rattle.idlc_c.specs.Numbers.{length_of, number_of, number_of_answer, number_of_file, number_of_run, place_in_routine, place_of, place_of_check, place_of_node, place_told};
+ghost use Rattle.std.specs.Prelude.{◌≡◌};
+ghost use Rattle.idlc_c.specs.Numbers.{length_asked, length_needed, length_of, number_of, number_of_answer, number_of_file, number_of_run, place_in_routine, place_of, place_of_check, place_of_node, place_told};
 
 use crate::source_place::{SourcePlace, text_number};
 use marshal_program::TableFault;
@@ -146,12 +146,23 @@ impl Refusal {
 #[inline(never)]
 fn refused(refusal: Refusal, len: &mut usize) -> u32
     ensures number { result ≡ number_of refusal }
-    ensures length { len.new ≡ length_of (Err refusal) len.old }
+    ensures length { len.new ≡ length_needed refusal len.old }
 {
     if let Refusal::NoRoom { needed } = refusal {
         *len = needed;
     }
     refusal.number()
+}
+
+/// The number of an answer. Where there is no room, its length is what would have been handed over.
+pub(crate) fn done(answer: Result<(), Refusal>, len: &mut usize) -> u32
+    ensures number { result ≡ number_of_answer answer }
+    ensures length { len.new ≡ length_asked answer len.old }
+{
+    match answer {
+        Ok(()) => 0,
+        Err(refusal) => refused(refusal, len),
+    }
 }
 
 /// The number of an answer. Its length is that of what was handed over, or would have been.
