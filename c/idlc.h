@@ -147,7 +147,7 @@ enum {
     IDLC_LOCATE_REQUEST = 3,
     IDLC_CLOSE_CONNECTION = 5,
     IDLC_MESSAGE_ERROR = 6,
-    IDLC_PIECE = 7,  /* a piece of a request that comes in fragments */
+    IDLC_PIECE = 7,  /* the first piece of a request that comes in fragments */
     IDLC_NOT_YET = 8 /* no whole message is there yet */
 };
 
@@ -179,7 +179,7 @@ struct idlc_place {
 struct idlc_message {
     uint32_t kind;        /* IDLC_REQUEST to IDLC_NOT_YET */
     uint32_t id;          /* the number of the request */
-    uint32_t detail;      /* the response flags of a request, the status of a reply; of a piece 1: the first, 2: the last */
+    uint32_t detail;      /* the response flags of a request, the status of a reply; of a piece 1 */
     bool little;          /* the order of the body's numbers */
     bool has_key;         /* the target tells the object's key */
     size_t taken;         /* how many octets it has: the next message stands behind them */
@@ -243,7 +243,8 @@ uint32_t idlc_write_reply(struct idlc_table *table, uint32_t node, bool little, 
 
 /* Tells what stands at the front of a stream, and hands over the key of the object that a request or a locate request asks
  * for, and behind it the operation. Any table serves. Answers 0, 42, 43, 45, or 90 to 93 and 97: the stream is none of GIOP 1.2.
- * Requests in fragments aren't joined. Where it isn't 0 `message` is as it was. */
+ * Requests in fragments aren't joined: the first piece is told, and each one behind it answers 97, IDLC_BAD_FRAGMENT.
+ * Where it isn't 0 `message` is as it was. */
 uint32_t idlc_read_message(struct idlc_table *table, const uint8_t *octets, size_t octets_len,
                            struct idlc_message *message, uint8_t *out, size_t out_len, size_t *len);
 
