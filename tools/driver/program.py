@@ -61,7 +61,7 @@ def processors():
 
 
 class Progress:
-    """A line on a terminal that tells how far the proofs are."""
+    """What is told of the proofs: how long they take, which were done, and on a terminal how far they are."""
 
     def __init__(self, folder, crates):
         self.folder = folder
@@ -73,10 +73,12 @@ class Progress:
         self.start = time.monotonic()
 
     def hear(self, line):
-        """Takes a line that the gate said."""
+        """Takes a line that the gate said, maybe again. Returns the crate that it is the first to tell of."""
         said = re.match(r"rt: (\w+) (proved|is kept)", line)
-        if said:
-            self.done.add(said[1])
+        if not said or said[1] in self.done:
+            return None
+        self.done.add(said[1])
+        return said[1]
 
     def under_way(self):
         """The crates that are being proved: they have a folder for what is made, and weren't told of."""
@@ -100,6 +102,12 @@ class Progress:
             chains[crate] = self.minutes_left(crate) + max(below, default=0.0)
         shared = sum(map(self.minutes_left, self.crates)) / min(4, processors())
         return max(shared, *chains.values())
+
+    def tell_ahead(self):
+        return f"idlc: proving {len(self.crates)} crates first, about {self.estimate():.0f} minutes from nothing"
+
+    def tell_proved(self, crate):
+        return f"idlc: {crate} proved, {len(self.done)} of {len(self.crates)} crates"
 
     def tell(self):
         names = ", ".join(self.under_way()) or "the program"
@@ -139,6 +147,7 @@ def prove(out):
         workspace = Workspace(room)
         workspace.copy_crates([CRATE])
         progress = Progress(workspace.folder, workspace.copied)
+        say(out, progress.tell_ahead())
         said = run_gate(workspace.folder, progress, out)
         if said is not None:
             return said
@@ -151,8 +160,14 @@ def prove(out):
     return None
 
 
+def say(out, line):
+    """Writes a line that stays. A stream that is gone is no fault, here and below."""
+    with contextlib.suppress(OSError):
+        print(line, file=out, flush=True)
+
+
 def show(out, line):
-    """Shows the line alone on a terminal, in place of the one before. A terminal that is gone is no fault."""
+    """Shows the line alone on a terminal, in place of the one before."""
     if out.isatty():
         with contextlib.suppress(OSError):
             width = shutil.get_terminal_size().columns - 1
@@ -169,6 +184,15 @@ def stop(*_signal):
     raise KeyboardInterrupt
 
 
+def tell_progress(log, progress, out):
+    """Tells on a terminal how far the gate is, elsewhere each crate that it proved since it was last asked."""
+    for line in log.read_text(errors="replace").splitlines():
+        crate = progress.hear(line)
+        if crate and not out.isatty():
+            say(out, progress.tell_proved(crate))
+    show(out, progress.tell())
+
+
 def run_gate(folder, progress, out):
     """Runs the gate in a folder. Returns None where it passes, else what it said. A signal to stop ends it too."""
     for number in STOPS:
@@ -177,11 +201,12 @@ def run_gate(folder, progress, out):
     with open(log, "w") as file:
         gate = subprocess.Popen(["rt", "ci"], cwd=folder, stdin=subprocess.DEVNULL, stdout=file, stderr=file)
     try:
-        while gate.poll() is None:
+        has_ended = False
+        while not has_ended:
             time.sleep(1)
-            for line in log.read_text(errors="replace").splitlines():
-                progress.hear(line)
-            show(out, progress.tell())
+            # asked first, so that what it said last is told
+            has_ended = gate.poll() is not None
+            tell_progress(log, progress, out)
     finally:
         if gate.poll() is None:
             gate.terminate()

@@ -1,8 +1,10 @@
 """What `./idlc` does where the program isn't there or a source is newer: it sees whether a source has changed, has the
 crates proved and the program built where one has, and runs it.
 
-On a terminal a line on standard error tells how far the proofs are, and is gone before the program starts. They can be
-stopped, and go on where they were. Where one fails, the text stands on standard error, and the status is 70.
+A line on standard error tells first how many crates are proved, and about how long that takes; then one on a terminal
+tells how far the proofs are, and is gone before the program starts, and elsewhere one tells of each crate. They can be
+stopped, and go on where they were. Where one fails, the text stands on standard error, and the status is 70; without the
+toolchain it is 3.
 """
 import os
 import pathlib
@@ -12,10 +14,12 @@ sys.dont_write_bytecode = True
 sys.path.insert(0, str(pathlib.Path(__file__).resolve().parents[1]))
 
 from driver.program import PROGRAM, is_current, prove  # noqa: E402
+from driver.toolchain import want_toolchain  # noqa: E402
 
 
 def main():
     if not is_current():
+        want_toolchain("idlc")
         try:
             said = prove(sys.stderr)
         except KeyboardInterrupt:

@@ -1,0 +1,117 @@
+"""Runs the commands of a copy of the repository that has no proved program: without `rt` on the path, and with one that
+only says what the gate would."""
+import os
+import pathlib
+import pty
+import re
+import shutil
+import subprocess
+import sys
+
+from driver.suite import Count
+from driver.workspace import TOP, crates_below, listed_crates
+
+# what the commands run beside `rt`
+TOOLS = ("bash", "env", "find", "python3", "readlink")
+COMMANDS = (("idlc", "--version"), ("idlc", "check", "builtin"), ("package",), ("c/build",), ("verify",))
+
+# a gate that proves every crate in no time, and makes a program
+GATE = f"""#!{sys.executable}
+import pathlib, sys
+assert sys.argv[1:] == ["ci"]
+for line in pathlib.Path("crates.txt").read_text().splitlines():
+    print("rt:", line.partition(":")[0], "proved in 1 s")
+made = pathlib.Path("crates/idlc_main/out")
+made.mkdir()
+(made / "idlc_main").write_text("#!/bin/sh\\necho asked $*\\n")
+(made / "idlc_main").chmod(0o755)
+"""
+FAILING_GATE = f"""#!{sys.executable}
+import sys
+print("no proof of one crate")
+sys.exit(1)
+"""
+
+
+class Copy:
+    """A copy of the repository, and a path that has only what is put there."""
+
+    def __init__(self, test):
+        self.test = test
+        self.top = test.room / "top"
+        shutil.copytree(TOP, self.top, ignore=shutil.ignore_patterns("out", "dist", ".git"))
+        self.tools = test.room / "tools"
+        self.tools.mkdir()
+        for name in TOOLS:
+            (self.tools / name).symlink_to(shutil.which(name))
+        self.env = {"PATH": str(self.tools), "HOME": os.environ.get("HOME", "/")}
+
+    def put_gate(self, text):
+        (self.tools / "rt").write_text(text)
+        (self.tools / "rt").chmod(0o755)
+
+    def forget(self):
+        shutil.rmtree(self.top / "crates/idlc_main/out", ignore_errors=True)
+
+    def run(self, command, *words):
+        return self.test.call([self.top / command, *words], cwd=self.test.room, env=self.env)
+
+    def run_on_terminal(self, command, *words):
+        """What stands on a terminal that is standard error."""
+        leader, terminal = pty.openpty()
+        subprocess.run([self.top / command, *words], env=self.env, stdout=subprocess.DEVNULL, stderr=terminal)
+        os.close(terminal)
+        with os.fdopen(leader, "rb") as file:
+            said = b""
+            try:
+                while piece := os.read(file.fileno(), 4096):
+                    said += piece
+            except OSError:  # the end of a terminal
+                pass
+        return said.decode()
+
+
+def without_toolchain(copy, count):
+    readme = pathlib.Path(copy.top / "README.md").read_text()
+    for command, *words in COMMANDS:
+        done = copy.run(command, *words)
+        line = f'{command}: no rt (the toolchain) on the path: see "Set-up" in README.md\n'
+        count.add((done.status, done.out, done.err) == (3, "", line), f"{command} without rt: {done}")
+    count.add("\n## Set-up\n" in readme, "README.md has no Set-up")
+
+
+def first_run(copy, count):
+    """The program's answer alone stands on standard output; standard error tells of each crate, in any order."""
+    crates = crates_below(listed_crates(), ["idlc_main"])
+    copy.put_gate(GATE)
+    done = copy.run("idlc", "check", "builtin")
+    ahead, *lines = done.err.splitlines() or [""]
+    count.add((done.status, done.out) == (0, "asked check builtin\n"), f"a first run: {done}")
+    count.add(re.fullmatch(rf"idlc: proving {len(crates)} crates first, about \d+ minutes from nothing", ahead), ahead)
+    rows = [re.fullmatch(rf"idlc: (\w+) proved, (\d+) of {len(crates)} crates", line) for line in lines]
+    count.add(all(rows) and sorted(row[1] for row in rows) == sorted(crates), f"the crates: {lines}")
+    count.add(all(rows) and [int(row[2]) for row in rows] == [*range(1, len(crates) + 1)], f"their numbers: {lines}")
+    again = copy.run("idlc", "show", "x")
+    count.add((again.status, again.out, again.err) == (0, "asked show x\n", ""), f"a second run: {again}")
+    copy.forget()
+    said = copy.run_on_terminal("idlc", "check", "builtin")
+    count.add("crates first, about" in said and "_main proved," not in said, f"on a terminal: {said}")
+
+
+def failing_proofs(copy, count):
+    """Where a proof fails its text is told, and nothing of this project's own scripts."""
+    copy.forget()
+    copy.put_gate(FAILING_GATE)
+    for command in ("idlc", "package"):
+        done = copy.run(command)
+        is_right = (done.status, done.out) == (70, "") and done.err.endswith("minutes from nothing\nno proof of one crate\n\n")
+        count.add(is_right, f"{command} with a proof that fails: {done}")
+
+
+def run(test):
+    count = Count(0, [])
+    copy = Copy(test)
+    without_toolchain(copy, count)
+    first_run(copy, count)
+    failing_proofs(copy, count)
+    return count
