@@ -20,6 +20,17 @@ def check_sums(top, count):
         count.add(hashlib.sha256((top / name).read_bytes()).hexdigest() == wanted, f"{name}: another sum")
 
 
+def check_links(top, count):
+    """Each relative link of a packed document leads to a packed file."""
+    found = 0
+    for document in sorted(top.rglob("*.md")):
+        for target in re.findall(r"\]\(([^)#\s]+)", document.read_text()):
+            if "://" not in target:
+                found += 1
+                count.add((document.parent / target).is_file(), f"{document.relative_to(top)}: no {target} in the package")
+    count.add(found >= 15, f"{found} links")
+
+
 def run_program(test, top, count):
     """Runs the program with no environment: nothing of the toolchain is on the path."""
     files = test.room / "files"
@@ -43,6 +54,7 @@ def run(test):
         archive.extractall(test.room)
     top = test.room / os.path.basename(made.out.strip()).removesuffix(".tar.gz")
     check_sums(top, count)
+    check_links(top, count)
     run_program(test, top, count)
     proved = (top / "PROVED").read_text()
     count.add(re.search(r"commit [0-9a-f]{40}.* proved with rattle-kit-\w+ ", proved), proved)
