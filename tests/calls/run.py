@@ -226,13 +226,23 @@ def asked(calls):
     calls.ask("oneway", (0, "", ""), server, "note", '["hello"]', seconds=3)
     time.sleep(0.2)
     calls.check("its flags", [0], [octets[16] for octets in server.asked])
-    server = peer.Peer(saying(reply(SUM)))
-    got, _ = calls.run("call", calls.table, calls.ior(server.port), "add", json_of(2_000_000))
-    calls.check("too many octets", (1, ""), got[:2])
 
 
-def json_of(count):
-    return "[" + " " * min(count, 100_000) + "1]"
+def largest(calls):
+    """A request has at most 1,048,576 octets behind its head."""
+    header = struct.pack(">IB3xH2xI4s", 1, 0, 0, 1, b"K") + text(b"note") + struct.pack(">I", 0)
+    # then the body without a gap, since it stands at a multiple of 8: the length of a text, its characters, a zero
+    calls.check("no gap", 0, (12 + len(header)) % 8)
+    most = 1_048_576 - len(header) - 5
+    for what, count, wanted, sizes in (
+        ("as many octets as may be", most, (0, "", ""), [12 + 1_048_576]),
+        ("one octet too many", most + 1, (1, "", "idlc: 92 TooLong\n"), []),
+    ):
+        (calls.folder / "long.json").write_text(f'["{"a" * count}"]')
+        server = peer.Peer(silent)
+        calls.ask(what, wanted, server, "note", "@long.json")
+        time.sleep(0.5)
+        calls.check(f"{what}: what the server was asked", sizes, [len(octets) for octets in server.asked])
 
 
 def repeated(calls):
@@ -369,6 +379,6 @@ def run(test):
     if built.status:
         return Count(0, [built.out + built.err])
     calls = Calls(test)
-    for part in (both_ends, results, exceptions, forwards, addresses, closing, hostile, waiting, asked, repeated, progress, small, named):
+    for part in (both_ends, results, exceptions, forwards, addresses, closing, hostile, waiting, asked, largest, repeated, progress, small, named):
         part(calls)
     return calls.count

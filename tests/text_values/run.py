@@ -157,11 +157,23 @@ def sources(runs):
     runs.count.add(listed.startswith(same) and runs.call("show", "s.idl")[1] == same, "show differs")
 
 
+# what a text is, its type, the text, how what is told of it begins
+HOSTILE = [
+    ("lists in place of an octet", "Tree", b"[" * 1_000_000, "111 NotWhole line 1 column 2"),
+    # the 65th sequence begins with the last octet of four
+    ("sequences one inside another", "Tree", b"[0,[" * 250_000, f"123 TooDeep line 1 column {65 * 4}"),
+    ("a text without an end", "Letters", b'"' + b"a" * 16_000_000, "110 NotJson line 1 column "),
+    ("names repeated", "Point", b'{"x":1' + b',"x":1' * 65_535 + b"}", "120 MemberTwice line 1 column 8"),
+    ("objects repeated", "Point", b'{"x":1,' * 65_536, "110 NotJson line 1 column 8"),
+]
+
+
 def hostile(runs):
-    for name, words in (("Tree", b"[" * 1_000_000), ("Letters", b'"' + b"a" * 16_000_000), ("Point", b'{"x":1,' * 65_536)):
+    for what, name, words, line in HOSTILE:
         (runs.folder / "hostile.json").write_bytes(words)
-        status, _, err = runs.call("encode", "s.idl", name, "big", "0", "--text", "@hostile.json")
-        runs.count.add(status == 1 and err.startswith("idlc: 1"), f"hostile {name}: {status} {err}")
+        told = runs.call("encode", "s.idl", name, "big", "0", "--text", "@hostile.json")
+        is_right = told[:2] == (1, "") and told[2].startswith(f"idlc: {line}")
+        runs.count.add(is_right, f"{what}: {told[0]} {told[1][:200]}{told[2]}")
     (runs.folder / "large.json").write_bytes(b'"' + b"a" * 16_000_000 + b'"')
     status, out, _ = runs.call("encode", "s.idl", "Letters", "big", "0", "--text", "@large.json")
     runs.count.add(status == 0 and len(out) == 2 * 16_000_004 + 1, f"large: {status}")
