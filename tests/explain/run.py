@@ -85,6 +85,21 @@ def views(test, count):
         count.add("\nb.idl:3:3: 'Point' isn't declared before it\n" in done.err, f"behind cpp: {done.err}")
 
 
+def preprocessed(test, count):
+    """The preprocessor as `explain 6` advises it leaves words as they stand: `unix` is 1 to one that isn't told."""
+    folder = test.room / "preprocessed"
+    folder.mkdir()
+    (folder / "point.idl").write_text('#include "unix.idl"\nstruct Point { Unix unix; };\n')
+    (folder / "unix.idl").write_text("typedef long Unix;\n")
+    told = test.call([PROGRAM, "explain", 6]).out
+    words = re.search(r"^To mend it: .* (cpp .* point\.idl) > point\.i$", told, re.MULTILINE)
+    count.add(words, f"explain 6: {told}")
+    if words and shutil.which("cpp"):
+        (folder / "point.i").write_text(test.call(words[1].split(), cwd=folder).out)
+        done = test.call([PROGRAM, "compile", "point.i", "-o", "point.table"], cwd=folder)
+        count.add(done.status == 0 and not done.err, f"{words[1]}: {done}")
+
+
 def other_commands(test, count):
     """`--explain` behind commands that have no IDL file, and behind those that compile one in memory."""
     folder = test.room / "others"
@@ -186,6 +201,7 @@ def run(test):
         return Count(0, [built.out + built.err])
     count = Count(0, [])
     views(test, count)
+    preprocessed(test, count)
     other_commands(test, count)
     names(test, count)
     texts(test, count)

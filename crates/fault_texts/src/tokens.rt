@@ -5,7 +5,7 @@ ghost use Rattle.fault_texts.specs.Headings.{first_line, is_within, token_headin
 
 const BAD_CHAR: &str = "1 BadChar
 A character begins no token, or isn't ASCII and stands outside a comment. A file that isn't
-UTF-8 gets this with line 0.
+UTF-8 gets this with line 0. The operator ~ isn't served, so it begins none.
 Input:
     struct Point { long x; } @;
 To mend it: take the character out, or put it into a comment.
@@ -33,7 +33,7 @@ Mended:
 
 const BAD_NUMBER: &str = "4 BadNumber
 An integer has a digit that its base hasn't, is over 18,446,744,073,709,551,615, or has more of
-a word behind it. A number that begins with 0 is octal; numbers with a point aren't served.
+a word behind it. A number that begins with 0 is octal. Floating and fixed point aren't served.
 Input:
     const long COUNT = 09;
 To mend it: write it in decimal without a 0 in front, or in hexadecimal behind 0x.
@@ -56,7 +56,7 @@ A line that begins with # is none that is left behind a preprocessor: no line ma
 or a pragma prefix, ID or version of a wrong form.
 Input:
     #include \"point.idl\"
-To mend it: run the preprocessor first, as in cpp point.idl > point.i
+To mend it: run the preprocessor first, as in cpp -undef point.idl > point.i
 Mended:
     # 1 \"point.idl\"
     struct Point { long x; };

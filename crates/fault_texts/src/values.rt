@@ -6,17 +6,17 @@ ghost use Rattle.fault_texts.specs.Headings.{first_line, is_within, value_headin
 const NOT_OF_TYPE: &str = "40 NotOfType
 A value that is to become a tape isn't one of the type: a number out of range, a text over its
 bound or with a zero in it, too many or too few members, another kind of value.
-Input: the value 2 of a boolean, given to pack.
-To mend it: make a value of the type; conforms tells whether it is one.
-Mended: the value TRUE of a boolean, given to pack.
+Input: the value 2 of a boolean.
+To mend it: give a value of the type; idlc show T --types tells what each type has.
+Mended: the value TRUE of a boolean.
 ";
 
 const NOT_A_TAPE: &str = "41 NotATape
 Octets that are to become a value aren't the whole tape of one of the type.
-Input: the octets 02 for a boolean, or 0101, given to unpack.
+Input: the octets 02 for a boolean, or 0101.
 To mend it: give the tape of one value and no more: numbers in big order without gaps, counts
 and lengths in 4 octets, a text without its terminating zero.
-Mended: the octet 01 for a boolean, given to unpack.
+Mended: the octet 01 for a boolean.
 ";
 
 const NO_MEMORY: &str = "42 NoMemory
