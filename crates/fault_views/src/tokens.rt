@@ -44,6 +44,29 @@ fn words_of(fault: LexFault) -> Option<(u8, usize, &'static str)> {
     })
 }
 
+/// Whether a number with a point or an exponent stands at the front.
+fn is_floating(octets: &[u8]) -> bool {
+    let end = octets.iter().position(|octet| !octet.is_ascii_digit());
+    let (digits, rest) = octets.split_at(end.unwrap_or(octets.len()));
+    match rest {
+        [b'.', next, ..] => !digits.is_empty() || next.is_ascii_digit(),
+        [b'.'] => !digits.is_empty(),
+        [b'e' | b'E', next, ..] => !digits.is_empty() && matches!(next, b'0'..=b'9' | b'+' | b'-'),
+        _ => false,
+    }
+}
+
+/// The sentence for what IDL has at the front, where it isn't served.
+fn unserved(octets: &[u8]) -> Option<&'static str> {
+    if octets.first() == Some(&b'~') {
+        return Some("the operator '~' isn't served");
+    }
+    if is_floating(octets) {
+        return Some("floating and fixed point aren't served");
+    }
+    None
+}
+
 /// The same fault in the first line.
 fn in_first_line(fault: LexFault) -> LexFault {
     match fault {
@@ -122,6 +145,14 @@ fn spot_of(alloc: Global, source: &[u8], line: usize, fault: LexFault) -> Spot {
     }
 }
 
+/// The sentence for a fault at a spot, of these words where no more is known.
+fn sentence_at(source: &[u8], spot: Spot, words: &'static str) -> &'static str {
+    let Spot::Octet(start) = spot else {
+        return words;
+    };
+    unserved(&source[start.min(source.len())..]).unwrap_or(words)
+}
+
 /// What is known of the fault.
 pub(crate) fn of_tokens(
     alloc: Global,
@@ -132,5 +163,6 @@ pub(crate) fn of_tokens(
         return Ok(None);
     };
     let spot = spot_of(alloc, text.as_bytes(), line, fault);
+    let words = sentence_at(text.as_bytes(), spot, words);
     Ok(Some(Known::alone(number, spot, String::from_str(alloc, words)?)))
 }
