@@ -181,6 +181,15 @@ def dashed_texts(runs):
         runs.count.add(is_usage, f"{' '.join(words)}: status {done.status}, {done.out}{done.err}")
 
 
+def helps(runs):
+    """What is told of T, and of IDL that isn't served."""
+    for command in ("check", "show", "encode", "decode", "ior", "serve", "call", "dump"):
+        done = runs.run(command, "--help")
+        runs.count.add(done.status == 0 and "an IDL file" in done.out, f"{command} --help: {done}")
+    done = runs.run("compile", "--help")
+    runs.count.add(done.status == 0 and "operator ~" in done.out, f"compile --help: {done}")
+
+
 def run(test):
     built = test.call([TOP / "idlc", "check", "builtin"])
     if built.status:
@@ -192,4 +201,5 @@ def run(test):
     refusals(runs)
     explanations(runs)
     dashed_texts(runs)
+    helps(runs)
     return runs.count

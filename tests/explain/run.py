@@ -207,6 +207,6 @@ def run(test):
     texts(test, count)
     version = (TOP / "VERSION").read_text().strip()
     done = test.call([PROGRAM, "--version"])
-    is_right = done.out.startswith(f"idlc {version}, rattle-kit-") and done.status == 0
+    is_right = (done.status, done.out, done.err) == (0, f"idlc {version}\n", "")
     count.add(is_right, f"--version: {done.status} {done.out}{done.err}")
     return count

@@ -16,18 +16,17 @@ fn wanted<'a>(alloc: Global, id: &'a str, help: &'a str) -> Arg<'a>
     Arg::new(alloc, id).help(help).required(true)
 }
 
-const TABLE: &str = "A table file, or builtin, the sample table";
+const TABLE: &str = "A table file, an IDL file (not for upgrade), or builtin, the sample table";
 
-/// The version, and the kit with which the program is proved.
-const VERSION: &str = "0.1.0, rattle-kit-13";
+const VERSION: &str = "0.1.0";
 
 /// What `compile` serves of IDL, and what it doesn't.
 const SERVED: &str = "Served: modules, interfaces and their bases, operations, oneway ones too, \
     attributes, exceptions, constants, enumerations, structures, unions, typedefs, arrays, \
     sequences and strings with bounds and without, Object, declarations ahead, the pragmas prefix, \
     ID and version.\nNot served: any, floating and fixed point, wide characters and strings, \
-    valuetypes, abstract and local interfaces, native, contexts, components, import. #include and \
-    #define are refused: run a preprocessor first.";
+    valuetypes, abstract and local interfaces, native, contexts, components, import, the \
+    operator ~. #include and #define are refused: run a preprocessor first.";
 
 /// The word for the byte order.
 fn order_word<'a>(alloc: Global, orders: &'a [&'a str]) -> Arg<'a>
