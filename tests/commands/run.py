@@ -79,6 +79,7 @@ def references(runs):
 
 
 LISTED = """type IDL:P:1.0
+order big
 profile 0 IIOP 1.2 order big
   host 127.0.0.1
   port 2809
@@ -89,6 +90,7 @@ profile 0 IIOP 1.2 order big
 URL_DIGITS = "0000000000000001" "0000000000000001" "0000000000000020" "000102000000000a6c6f63616c686f7374000fa0000000014b00000000000000"
 LISTED_URL = f"""IOR:{URL_DIGITS}
 type 
+order big
 profile 0 IIOP 1.2 order big
   host localhost
   port 4000

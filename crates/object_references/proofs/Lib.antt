@@ -9,3 +9,5 @@ pub mod ProfileTapes
 pub mod ProfileKeys
 pub mod ProfileLaws
 pub mod TextLaws
+pub mod Cleaning
+pub mod Gaps

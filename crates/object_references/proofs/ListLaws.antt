@@ -19,7 +19,7 @@ taken_next {A} xs i one within is = take_more xs i one within ∙ ap (λ (y : A)
 
 -- ---- a tape of owned ones
 
-owned_next : (xs : List (ℕ × Vec ℕ Global)) (i : ℕ) (one : ℕ × Vec ℕ Global) → i < length xs → one ≡ get_or xs i one
+pub owned_next : (xs : List (ℕ × Vec ℕ Global)) (i : ℕ) (one : ℕ × Vec ℕ Global) → i < length xs → one ≡ get_or xs i one
     → owned_pairs (take (i + 1) xs) ≡ owned_pairs (take i xs) ++ (one.0, one.1.items) ∷ []
 owned_next xs i one within is =
     ap owned_pairs (taken_next xs i one within is) ∙ map-append (λ (o : ℕ × Vec ℕ Global). (o.0, o.1.items)) (take i xs) (one ∷ [])

@@ -9,7 +9,7 @@ use Rattle.hex.specs.Hex.{decode_of, encode_lower}
 use Rattle.hex.proofs.HexLemmas.{decode_of-same, decode_of-encode_lower}
 use Rattle.object_references.specs.References.{Reference, reference_tree}
 use Rattle.object_references.specs.Encapsulations.{Encapsulates}
-use Rattle.object_references.specs.Texts.{HasDigits, IsTextOf, Spells, spelled}
+use Rattle.object_references.specs.Texts.{HasDigits, IsTextOf, Spells, SpellsOctets, spelled}
 use Rattle.object_references.proofs.Encapsulated.{encapsulated_once, written_octets, written_once, written_read}
 use Rattle.object_references.proofs.TreeLaws.{all_tagged_same}
 
@@ -35,18 +35,22 @@ no_digits text word behind other e f long is differ digits h =
     let whole : text ≡ word ++ behind = sym (take-append-drop 4 text) ∙ ap₂ (λ (a b : List ℕ). a ++ b) (sym e) (sym f) in
     differ (word_same text word behind digits whole long h ∙ ap (map to_ascii_lowercase) (sym is))
 
-pub spelled_digits : (text lent digits : List ℕ) (reference : Reference) → lent ≡ text → HasDigits lent digits
-    → (s : Spells text reference) → decode_of digits ≡ Ok s.octets
-spelled_digits text lent digits reference e h s =
+pub spelled_digits : (text lent digits octets : List ℕ) → lent ≡ text → HasDigits lent digits
+    → SpellsOctets text octets → decode_of digits ≡ Ok octets
+spelled_digits text lent digits octets e h s =
     let behind = subst (λ (t : List ℕ). HasDigits t digits) e h in
     ap decode_of (digits_same text digits s.digits behind s.behind) ∙ s.digits_are
 
--- what a text spells stands in the octets of its digits
-pub spelled_there : (text lent digits octets : List ℕ) (reference : Reference) → lent ≡ text → HasDigits lent digits
-    → decode_of digits ≡ Ok octets → Spells text reference → Encapsulates 13 (reference_tree reference) octets
-spelled_there text lent digits octets reference e h d s =
-    let one = decode_of-same digits s.octets octets (spelled_digits text lent digits reference e h s) d in
-    subst (λ (o : List ℕ). Encapsulates 13 (reference_tree reference) o) one s.encapsulated
+pub octets_once : (text a b : List ℕ) → SpellsOctets text a → SpellsOctets text b → a ≡ b
+octets_once text a b h k =
+    decode_of-same h.digits a b h.digits_are (spelled_digits text text h.digits b refl h.behind k)
+
+-- what a text spells stands in its octets
+pub spelled_there : (text octets : List ℕ) (reference : Reference) → SpellsOctets text octets → Spells text reference
+    → Encapsulates 13 (reference_tree reference) octets
+spelled_there text octets reference h s =
+    subst (λ (o : List ℕ). Encapsulates 13 (reference_tree reference) o)
+    (octets_once text s.octets octets s.spelled_so h) s.encapsulated
 
 references_same : (a b : Reference) → reference_tree a ≡ reference_tree b → a ≡ b
 references_same a b e =
@@ -57,17 +61,19 @@ references_same a b e =
 
 pub spelled_once : (text : List ℕ) (a b : Reference) → Spells text a → Spells text b → a ≡ b
 spelled_once text a b h k =
-    let there = spelled_there text text h.digits h.octets b refl h.behind h.digits_are k in
+    let there = spelled_there text h.octets b h.spelled_so k in
     references_same a b (encapsulated_once 13 (reference_tree a) (reference_tree b) h.octets h.encapsulated there)
 
 pub text_read : (reference : Reference) (text : List ℕ) → IsTextOf reference text → Spells text reference
 text_read reference text is =
     let below = written_octets 13 (reference_tree reference) is.octets is.written in
     record {
-      digits = encode_lower is.octets;
-      behind = record { prefix = codes "IOR:"; text_is = is.text_is; prefix_is = refl };
       octets = is.octets;
-      digits_are = decode_of-encode_lower is.octets (λ i. get_or_below 256 is.octets i (omega arith) below);
+      spelled_so = record {
+        digits = encode_lower is.octets;
+        behind = record { prefix = codes "IOR:"; text_is = is.text_is; prefix_is = refl };
+        digits_are = decode_of-encode_lower is.octets (λ i. get_or_below 256 is.octets i (omega arith) below);
+      };
       encapsulated = written_read 13 (reference_tree reference) is.octets is.written;
     }
 

@@ -11,12 +11,16 @@ pub record HasDigits (text digits : List ℕ) : Type 0 where
   pub text_is : text ≡ prefix ++ digits
   pub prefix_is : map to_ascii_lowercase prefix ≡ codes "ior:"
 
--- what is read
-pub record Spells (text : List ℕ) (reference : Reference) : Type 0 where
+-- the octets in digits
+pub record SpellsOctets (text octets : List ℕ) : Type 0 where
   pub digits : List ℕ
   pub behind : HasDigits text digits
-  pub octets : List ℕ
   pub digits_are : decode_of digits ≡ Ok octets
+
+-- what is read
+pub record Spells (text : List ℕ) (reference : Reference) : Type 0 where
+  pub octets : List ℕ
+  pub spelled_so : SpellsOctets text octets
   pub encapsulated : Encapsulates 13 (reference_tree reference) octets
 
 -- octets in digits

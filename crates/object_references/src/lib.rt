@@ -5,11 +5,13 @@ mod encapsulation;
 mod fault;
 mod iiop;
 pub mod laws;
+mod manner;
 mod reference;
 mod text;
 
 pub use encapsulation::split_flag;
 pub use fault::ReferenceFault;
 pub use iiop::profile;
+pub use manner::{Manner, manner_of};
 pub use reference::{Ior, push_reference};
-pub use text::{ior_from_text, ior_to_text};
+pub use text::{encapsulation_in, ior_from_text, ior_to_text};

@@ -7,7 +7,7 @@ ghost use Rattle.hex.specs.Hex.{decode_of};
 ghost use Rattle.object_references.specs.Encapsulations.{Encapsulates, IsWritten};
 ghost use Rattle.object_references.specs.References.{Reference, reference_of, reference_tree};
 ghost use Rattle.object_references.specs.Refusal.{wants_memory};
-ghost use Rattle.object_references.specs.Texts.{HasDigits, IsTextOf, Spells, spelled};
+ghost use Rattle.object_references.specs.Texts.{HasDigits, IsTextOf, Spells, SpellsOctets, spelled};
 
 use crate::encapsulation::{read_encapsulation, write_encapsulation};
 use crate::fault::ReferenceFault;
@@ -103,6 +103,22 @@ fn read_reference(types: &GiopTypes, alloc: Global, octets: &[u8]) -> Result<Ior
     }
 }
 
+/// The octets of the encapsulation that a text spells, of whatever value: `IOR:`, in letters of either case, and
+/// their digits, of either case.
+///
+/// # Errors
+/// `BadIor` where the text is none. Want of memory.
+pub fn encapsulation_in(alloc: Global, text: &str) -> Result<Vec<u8>, ReferenceFault>
+    ensures found { IfOk result (λ octets. SpellsOctets text.now octets.items) }
+    ensures refused { IfErr result (λ fault. OnFalse (wants_memory fault)
+        ((octets : List ℕ) → SpellsOctets text.now octets → ⊥)) }
+{
+    let Some(digits) = digits_in(text.as_bytes()) else {
+        return Err(ReferenceFault::BadIor);
+    };
+    octets_of(alloc, digits)
+}
+
 /// The reference that a text spells: `IOR:`, in letters of either case, and the digits, of either
 /// case, of an encapsulation of the reference. Octets behind the reference are ignored.
 ///
@@ -113,10 +129,7 @@ pub fn ior_from_text(types: &GiopTypes, alloc: Global, text: &str) -> Result<Ior
     ensures refused { IfErr result (λ fault. OnFalse (wants_memory fault)
         ((reference : Reference) → Spells text.now reference → ⊥)) }
 {
-    let Some(digits) = digits_in(text.as_bytes()) else {
-        return Err(ReferenceFault::BadIor);
-    };
-    match octets_of(alloc, digits) {
+    match encapsulation_in(alloc, text) {
         Ok(octets) => read_reference(types, alloc, octets.as_slice()),
         Err(fault) => Err(fault),
     }

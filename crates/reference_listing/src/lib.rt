@@ -3,14 +3,9 @@
 #![tactic(auto)]
 
 mod body;
-mod lines;
 mod list;
 mod listing;
-mod names;
 mod tape;
-mod text;
 
 pub use list::{list_profile, list_reference};
 pub use listing::{IiopBody, IiopProfile, ListedProfile, Listing};
-pub use names::{component_name, profile_name};
-pub use text::reference_lines;

@@ -1,2 +1,5 @@
 pub mod Faults
 pub mod Once
+pub mod LineLists
+pub mod Texts
+pub mod Manners

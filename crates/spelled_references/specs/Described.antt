@@ -1,24 +1,30 @@
 -- What is printed of the reference that a text spells.
-use Rattle.std.specs.Prelude.{◌≡◌, ℕ, true, List, ◌++◌, codes}
+use Rattle.std.specs.Prelude.{◌≡◌, ℕ, Bool, true, false, List, [], ◌++◌, codes}
 use Rattle.object_references.specs.References.{Reference}
-use Rattle.object_references.specs.Texts.{IsTextOf}
+use Rattle.object_references.specs.Texts.{IsTextOf, SpellsOctets}
+use Rattle.spelled_references.specs.Lines.{IsTold}
 use Rattle.spelled_references.specs.Spelled.{SpellsReference, is_url}
 
--- the reference in digits, as a line
-pub record IsDigitsLine (reference : Reference) (line : List ℕ) : Type 0 where
+-- the octets of the reference in digits, and its lines
+pub record IsToldOf (digits : List ℕ) (reference : Reference) (lines : List ℕ) : Type 0 where
+  pub octets : List ℕ
+  pub spelled : SpellsOctets digits octets
+  pub told : IsTold octets reference lines
+
+-- of a URL a line with the reference in digits, and what this says
+pub record IsToldOfUrl (reference : Reference) (lines : List ℕ) : Type 0 where
   pub digits : List ℕ
   pub text : IsTextOf reference digits
-  pub line_is : line ≡ digits ++ codes "\n"
-
--- lines that begin with it
-pub record BeginsWithDigits (reference : Reference) (lines : List ℕ) : Type 0 where
-  pub line : List ℕ
-  pub is : IsDigitsLine reference line
   pub rest : List ℕ
-  pub lines_are : lines ≡ line ++ rest
+  pub lines_are : lines ≡ digits ++ codes "\n" ++ rest
+  pub told : IsToldOf digits reference rest
 
--- Lines of the reference that the text spells. Those of a URL begin with the reference in digits.
+abbrev pub IsToldBy : Bool → List ℕ → Reference → List ℕ → Type 0
+IsToldBy true text reference lines = IsToldOfUrl reference lines
+IsToldBy false text reference lines = IsToldOf text reference lines
+
+-- Lines of the reference that the text spells.
 pub record IsDescription (text lines : List ℕ) : Type 0 where
   pub reference : Reference
   pub spells : SpellsReference text reference
-  pub of_url : is_url text ≡ true → BeginsWithDigits reference lines
+  pub told : IsToldBy (is_url text) text reference lines

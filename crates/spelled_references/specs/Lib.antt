@@ -1,3 +1,7 @@
 pub mod Spelled
 pub mod Refusal
+pub mod Shown
+pub mod Pieces
+pub mod Lines
 pub mod Described
+pub mod inner

@@ -1,52 +1,61 @@
-//! What references say, as lines.
+//! What references say, by their texts.
 
-ghost use Rattle.std.specs.Prelude.{◌≡◌, IfOk, IfErr, true};
+ghost use Rattle.std.specs.Prelude.{IfOk, IfErr};
 ghost use Rattle.std.specs.String.{string_bytes};
 ghost use Rattle.object_references.specs.References.{reference_of};
-ghost use Rattle.spelled_references.specs.Described.{IsDescription, IsDigitsLine};
+ghost use Rattle.object_references.specs.Texts.{Spells, SpellsOctets};
+ghost use Rattle.spelled_references.specs.Described.{IsDescription, IsToldOf, IsToldOfUrl};
 ghost use Rattle.spelled_references.specs.Refusal.{RefusesSpelling};
-ghost use Rattle.spelled_references.specs.Spelled.{is_url as is_url_text};
 
 use crate::fault::SpellingFault;
+use crate::lines::reference_text;
 use crate::spelled::{is_url, read_reference};
-use giop_types::GiopTypes;
-use object_references::{Ior, ior_to_text};
-use reference_listing::list_reference;
+use giop_types::{GiopTypes, OBJECT};
+use object_references::{Ior, ReferenceFault, encapsulation_in, ior_to_text, manner_of};
 use std::alloc::{AllocError, Global};
 
-/// The line of a reference in digits. A reference that can't be written has a host and a key of 2 ^ 32
-/// octets together, for which memory is wanted first.
-fn digits_line(types: &GiopTypes, alloc: Global, ior: &Ior) -> Result<String, AllocError>
-    ensures { IfOk result (λ l. IsDigitsLine (reference_of ior.now) (string_bytes l)) }
+/// The octets that a text in digits spells.
+fn octets_in(alloc: Global, text: &str, ior: &Ior) -> Result<Vec<u8>, AllocError>
+    requires { Spells text.now (reference_of ior.now) }
+    ensures { IfOk result (λ octets. SpellsOctets text.now octets.items) }
+{
+    match encapsulation_in(alloc, text) {
+        Ok(octets) => Ok(octets),
+        Err(ReferenceFault::NoMemory) => Err(AllocError),
+        Err(ReferenceFault::BadIor) => unreachable!(),
+    }
+}
+
+/// The lines of a reference in digits.
+fn told(types: &GiopTypes, alloc: Global, text: &str, ior: &Ior) -> Result<String, AllocError>
+    requires { Spells text.now (reference_of ior.now) }
+    ensures { IfOk result (λ lines. IsToldOf text.now (reference_of ior.now) (string_bytes lines)) }
+{
+    let octets = octets_in(alloc, text, ior)?;
+    match manner_of(types, alloc, OBJECT, octets.as_slice()) {
+        Ok(manner) => reference_text(types, alloc, ior, &manner),
+        Err(ReferenceFault::NoMemory) => Err(AllocError),
+        Err(ReferenceFault::BadIor) => unreachable!(),
+    }
+}
+
+/// The lines of a reference for which a URL stands: first it in digits. A reference that can't be written has
+/// a host and a key of 2 ^ 32 octets together, for which memory is wanted first.
+fn told_of_url(types: &GiopTypes, alloc: Global, ior: &Ior) -> Result<String, AllocError>
+    ensures { IfOk result (λ lines. IsToldOfUrl (reference_of ior.now) (string_bytes lines)) }
 {
     match ior_to_text(types, alloc, ior) {
-        Ok(mut text) => {
-            text.push_str("\n")?;
-            Ok(text)
+        Ok(text) => {
+            let rest = told(types, alloc, text.as_str(), ior)?;
+            format!(in alloc; "{text}\n{rest}")
         }
         Err(_) => Err(AllocError),
     }
 }
 
-/// What stands before the listing of a reference that a text spells: of a URL the reference in digits.
-fn first_line(types: &GiopTypes, alloc: Global, text: &str, ior: &Ior) -> Result<String, AllocError>
-    ensures { is_url_text text.now ≡ true → IfOk result (λ l. IsDigitsLine (reference_of ior.now) (string_bytes l)) }
-{
-    if is_url(text) {
-        digits_line(types, alloc, ior)
-    } else {
-        Ok(String::new(alloc))
-    }
-}
-
-/// The lines of a reference.
-fn listed(types: &GiopTypes, alloc: Global, ior: &Ior) -> Result<String, AllocError> {
-    let listing = list_reference(types, alloc, ior)?;
-    format!(in alloc; "{listing}")
-}
-
-/// What the reference says that a text spells, as lines: its id, then each profile. Before them stands
-/// the reference in digits, where the text is a URL.
+/// What the reference says that a text spells, as lines: its id and the byte order of its octets, then each
+/// profile, the octets of gaps that aren't zero, with their places, and those behind the reference. Before
+/// them stands the reference in digits, where the text is a URL.
 ///
 /// # Errors
 /// `BadCorbaloc` of a text that begins as a URL, `BadIor` of any other, where it spells no reference.
@@ -63,8 +72,9 @@ pub fn described_reference(
         Ok(ior) => ior,
         Err(fault) => return Err(fault),
     };
-    let mut lines = first_line(types, alloc, text, &ior)?;
-    let listed = listed(types, alloc, &ior)?;
-    lines.push_str(listed.as_str())?;
-    Ok(lines)
+    if is_url(text) {
+        Ok(told_of_url(types, alloc, &ior)?)
+    } else {
+        Ok(told(types, alloc, text, &ior)?)
+    }
 }

@@ -3,7 +3,11 @@
 
 mod described;
 mod fault;
+mod lines;
+mod names;
+mod pieces;
 mod place;
+mod shown;
 mod spelled;
 
 pub use described::described_reference;

@@ -1,7 +1,13 @@
 //! Names of tags.
 
+ghost use Rattle.std.specs.Prelude.{◌≡◌, IfSome, true};
+ghost use Rattle.std.specs.List.{list_all};
+ghost use Rattle.spelled_references.specs.Pieces.{is_tag_letter};
+
 /// The name of the tag of a profile (ISO/IEC 19500-2, IOP: standard IOR profiles).
-pub fn profile_name(tag: u32) -> Option<&'static str> {
+pub(crate) fn profile_name(tag: u32) -> Option<&'static str>
+    ensures { IfSome result (λ name. list_all is_tag_letter name.now ≡ true) }
+{
     match tag {
         0 => Some("TAG_INTERNET_IOP"),
         1 => Some("TAG_MULTIPLE_COMPONENTS"),
@@ -12,7 +18,9 @@ pub fn profile_name(tag: u32) -> Option<&'static str> {
 }
 
 /// The name of the tag of a component (ISO/IEC 19500-2, IOP: standard IOR components).
-pub fn component_name(tag: u32) -> Option<&'static str> {
+pub(crate) fn component_name(tag: u32) -> Option<&'static str>
+    ensures { IfSome result (λ name. list_all is_tag_letter name.now ≡ true) }
+{
     match tag {
         0 => Some("TAG_ORB_TYPE"),
         1 => Some("TAG_CODE_SETS"),

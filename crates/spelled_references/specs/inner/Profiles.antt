@@ -1,0 +1,11 @@
+-- The gaps of profiles.
+use Rattle.std.specs.Prelude.{ℕ, List}
+use Rattle.object_references.specs.Encapsulations.{EncapsulatesSo}
+use Rattle.object_references.specs.Profiles.{body_node, body_tree}
+use Rattle.reference_listing.specs.Listings.{Iiop}
+
+-- the octets are those of the profile with these octets in its gaps
+abbrev pub AreGapsOf : List ℕ → Iiop → List (ℕ × ℕ) → Type 0
+AreGapsOf octets iiop gaps =
+    EncapsulatesSo (body_node iiop.body.minor) (body_tree iiop.body iiop.body.minor)
+    (record { order = iiop.order; gaps = gaps; behind = iiop.behind }) octets
