@@ -94,6 +94,8 @@ OUTLINES = [
     "Flags = [boolean, ..] of at most 2",
     "Pair = [long, ..] of 2",
     'I = "IOR:.."',
+    'Object = "IOR:.."',
+    'Holder = {"it": Object}',
 ]
 
 

@@ -18,7 +18,8 @@ struct Types<'t> {
     names: Vec<Option<&'t str>>,
 }
 
-/// A type where another one names it: by its name, by its number where it has none.
+/// A type where another one names it: by its name, by its number where it has none. All object references have
+/// one type in CDR, which may have many names: where it is named, it is `Object`.
 #[derive(Clone, Copy)]
 struct Referred<'t> {
     types: &'t Types<'t>,
@@ -57,6 +58,9 @@ struct Arm<'t> {
     node: u32,
 }
 
+/// The keyword of the type of object references (ISO/IEC 19500-1, Object Reference Types).
+const REFERENCE: &str = "Object";
+
 /// The keyword of an integer type (ISO/IEC 19500-1, integer types).
 fn keyword(width: Width, signed: bool) -> &'static str {
     match (width, signed) {
@@ -93,6 +97,9 @@ impl fmt::Display for Referred<'_> {
         }
         if let Node::Text { bound } = node {
             return write!(f, "string<{bound}>");
+        }
+        if self.types.is_reference(self.node, node) {
+            return f.write_str(REFERENCE);
         }
         match self.types.names.get(self.node as usize) {
             Some(Some(name)) => write!(f, "{}", Escaped(name)),
@@ -152,6 +159,16 @@ impl fmt::Display for Arm<'_> {
 }
 
 impl<'t> Types<'t> {
+    /// Whether the node of a number is that of object references.
+    fn is_reference(&self, number: u32, node: &Node) -> bool {
+        match node {
+            Node::Struct { members } => {
+                refers(self.graph, self.parts.of(number), members.as_slice())
+            }
+            _ => false,
+        }
+    }
+
     /// The enumerators, by name or by number.
     fn write_enumerators<W: fmt::Write>(
         &self,
@@ -323,7 +340,7 @@ impl fmt::Display for AllLines<'_> {
     }
 }
 
-/// The types without a name, by their numbers.
+/// The types without a name, by their numbers, and that of object references.
 #[derive(Clone, Copy)]
 struct Nameless<'t>(&'t Types<'t>);
 
@@ -332,8 +349,10 @@ impl fmt::Display for Nameless<'_> {
         let types = self.0;
         let nodes = types.graph.nodes();
         for number in 0..nodes.len() {
-            if has_outline(&nodes[number]) && types.names.get(number) == Some(&None) {
-                let node = number as u32;
+            let node = number as u32;
+            if types.is_reference(node, &nodes[number]) {
+                writeln!(f, "{REFERENCE} = {}", Outline { types, node })?;
+            } else if has_outline(&nodes[number]) && types.names.get(number) == Some(&None) {
                 writeln!(f, "#{node} = {}", Outline { types, node })?;
             }
         }
