@@ -264,6 +264,32 @@ def repeated(calls):
         calls.check("the third fails", (wanted, 3), (got[:2], len(server.asked)))
 
 
+def behind_replies(calls):
+    """What stands behind a reply belongs to the connection: it is heard by the next call on it."""
+    close = message(peer.CLOSE, b"")
+
+    def closing_each(server, stream):
+        number = server.take(stream)
+        stream.sendall(reply(SUM, 0, number) + close)
+
+    def late(server, stream):
+        other = reply(SUM, number=99)
+        stream.sendall(reply(SUM, 0, server.take(stream)) + other[:6])
+        number = server.take(stream)
+        stream.sendall(other[6:] + reply(SUM, 0, number) + other)
+        stream.sendall(reply(SUM, 0, server.take(stream)))
+
+    rows = [
+        ("a close behind each reply", (closing_each,), 3),
+        ("a close behind a reply, and another before the next", (closing_each, saying(close), closing_each), 4),
+        ("a part of another reply behind a reply", (late,), 1),
+    ]
+    for what, scripts, count in rows:
+        server = peer.Peer(*scripts)
+        got, _ = calls.run("call", calls.table, calls.ior(server.port), *ADD, "--repeat", "3")
+        calls.check(what, (0, SAID, count), (*got[:2], server.count))
+
+
 def all_of(terminal):
     """What was written to a terminal whose other end is closed; one read may give a part of it."""
     told = b""
@@ -379,6 +405,8 @@ def run(test):
     if built.status:
         return Count(0, [built.out + built.err])
     calls = Calls(test)
-    for part in (both_ends, results, exceptions, forwards, addresses, closing, hostile, waiting, asked, largest, repeated, progress, small, named):
+    parts = (both_ends, results, exceptions, forwards, addresses, closing, hostile, waiting, asked, largest, repeated,
+             behind_replies, progress, small, named)
+    for part in parts:
         part(calls)
     return calls.count

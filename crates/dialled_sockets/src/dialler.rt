@@ -1,11 +1,11 @@
 //! Connections made.
 
-ghost use Rattle.std.specs.Prelude.{◌≡◌, ⊤, [], map, false};
+ghost use Rattle.std.specs.Prelude.{◌≡◌, ⊤, [], map, false, IfSome, IsSomeAnd};
 ghost use Rattle.dialled_sockets.specs.Dialled.{line_of};
 
 use crate::deadline::Deadline;
 use crate::ends::{DialledReader, DialledWriter};
-use crate::place::{Handles, Place, connected};
+use crate::place::{Handles, Kept, Place, connected, standing};
 use object_calls::{Dial, DialFault};
 use std::alloc::{AllocError, Global};
 use std::net::Net;
@@ -17,13 +17,6 @@ pub(crate) struct Dialled {
     host: Vec<u8>,
     port: u16,
     is_made: bool,
-}
-
-/// A connection that was handed back, and where it goes.
-#[derive(Drop)]
-struct Kept<S> {
-    place: Place,
-    handles: Handles<S>,
 }
 
 /// A connection that was handed back, if it is sound.
@@ -77,18 +70,21 @@ impl<'r, R: Net + Clock> Dialler<'r, R> {
     }
 
     /// Another call begins, which has its own seconds, and goes on by the connection that was handed
-    /// back last, where it is to the same port of the same host.
+    /// back last, where it is to the same port of the same host and its server hasn't closed it. What came
+    /// on it behind the reply is read by that call.
     pub fn go_on(&mut self)
         ensures { self.new.dialled.items ≡ [] }
     {
-        self.kept = self.last.take();
+        let last = self.last.take();
+        self.kept = standing(self.alloc, last);
         self.dialled.clear();
         self.deadline = Deadline::new(self.rt, self.seconds);
     }
 
     /// The connection that is kept, if it goes there.
     fn kept_to(&mut self, host: &[u8], port: u16) -> Option<Handles<R::Stream>>
-        ensures { self.new.dialled ≡ self.old.dialled }
+        ensures dialled { self.new.dialled ≡ self.old.dialled }
+        ensures kept { IfSome result (λ handles. IsSomeAnd self.old.kept (λ kept. handles ≡ kept.handles)) }
     {
         match self.kept.take() {
             Some(kept) if kept.place.is(host, port) => Some(kept.handles),

@@ -1,7 +1,11 @@
 //! Where servers are, and what is connected to them.
 
+ghost use Rattle.std.specs.Prelude.{◌≡◌, ◌⊎◌, None};
+
 use crate::deadline::Deadline;
+use reply_streams::closes;
 use std::alloc::{AllocError, Global};
+use std::io::ErrorKind;
 use std::net::{Net, OpenStream, TcpStream, ToSocketAddrs};
 use std::time::Clock;
 
@@ -41,6 +45,56 @@ fn handles_of<S: OpenStream + Drop>(stream: S) -> Option<Handles<S>> {
             writer,
         }),
         Err(_) => None,
+    }
+}
+
+/// So many octets are looked at that came on a connection while no reply was awaited.
+const SEEN: usize = 1_024;
+
+/// Whether a connection on which no reply is awaited still stands, as far as one sees without waiting: its
+/// server hasn't closed it, by CloseConnection (ISO/IEC 19500-2, Connection Management) or by TCP.
+fn is_open<S: OpenStream>(alloc: Global, stream: &S) -> bool {
+    let mut octets = [0u8; SEEN];
+    if stream.set_nonblocking(true).is_err() {
+        return false;
+    }
+    let seen = stream.peek(&mut octets);
+    if stream.set_nonblocking(false).is_err() {
+        return false;
+    }
+    match seen {
+        Ok(0) => false,
+        Ok(n) => match closes(alloc, octets.as_slice().split_at(n).0) {
+            Ok(is_closing) => !is_closing,
+            Err(_) => false,
+        },
+        Err(error) => error.kind() == ErrorKind::WouldBlock,
+    }
+}
+
+/// A connection that was handed back, and where it goes.
+#[derive(Drop)]
+pub(crate) struct Kept<S> {
+    pub(crate) place: Place,
+    pub(crate) handles: Handles<S>,
+}
+
+/// The connection, if it still stands.
+pub(crate) fn standing<S: OpenStream + Drop>(
+    alloc: Global,
+    kept: Option<Kept<S>>,
+) -> Option<Kept<S>>
+    ensures { (result ≡ kept) ⊎ (result ≡ None) }
+{
+    match kept {
+        Some(kept) => {
+            if is_open(alloc, &kept.handles.reader) {
+                Some(kept)
+            } else {
+                None
+            }
+        }
+        None => None,
     }
 }
 

@@ -1,16 +1,21 @@
 -- A stream that is read until it says its reply.
-use Rattle.std.proofs.Common.{◌≡◌, ℕ, ◌+◌, ◌<◌, ◌≤◌, Bool, true, List, [], ◌++◌, length, length-append, append-nil, Option, None, Result, Ok, Err, sym, ap, subst, ◌∙◌, arith}
+use Rattle.std.proofs.Common.{◌≡◌, inl, inr, ℕ, ◌+◌, ◌<◌, ◌≤◌, max, Bool, true, List, [], ◌++◌, length, take, drop, length-append, length-drop, append-nil, Option, None, Result, Ok, Err, sym, ap, subst, ◌∙◌, arith}
+use Rattle.std.proofs.lemmas.Bool.{cases_lt}
+use Rattle.std.proofs.lemmas.List.{take-append-drop, take-append-le}
+use Rattle.std.proofs.Math.Seq.{take-append_seam}
 use Rattle.giop_messages.specs.declared.fault.FramingFault.{FramingFault}
 use Rattle.giop_messages.specs.Messages.{Answered, Answers, Says}
 use Rattle.iiop_broker.specs.Ends.{Gives, IsEmpty}
 use Rattle.iiop_broker.proofs.Going.{gives_start, gives_then}
 use Rattle.reply_streams.specs.Heard.{Breaks, Ends, Heard, Refuses, Replies, Waits, heard, heard_more}
+use Rattle.reply_streams.specs.Room.{wanted}
 use Rattle.reply_streams.proofs.Hearing.{in_pieces}
+use Rattle.reply_streams.proofs.Waiting.{SaysNothing, still_waits, waited_before}
 use Rattle.giop_client.specs.declared.answer.Answer.{Answer}
 use Rattle.giop_client.specs.declared.fault.AwaitFault.{AwaitFault}
 use Rattle.giop_client.specs.declared.fault.AwaitFault.TheVariants as faults
 use Rattle.giop_client.specs.Answers.{IsAnswered, IsUnreadable, answer_of}
-use Rattle.giop_client.specs.Outcomes.{AreRead, IsGivenUp, IsOutcome, IsUnanswered}
+use Rattle.giop_client.specs.Outcomes.{AreRead, IsBrought, IsGivenUp, IsOutcome, IsUnanswered}
 use Rattle.giop_client.specs.inner.Replies.{IsAnswerIn}
 
 -- ---- what is read
@@ -38,21 +43,74 @@ going_start id before run rest e f = record {
   many = omega arith;
 }
 
+-- ---- nothing more than is wanted
+
+-- no front of the octets had an answer
+abbrev pub IsFirst : ℕ → List ℕ → Type 0
+IsFirst id octets = (front more : List ℕ) → octets ≡ front ++ more → 0 < length more → IsUnanswered id front
+
+unanswered : (id : ℕ) (octets : List ℕ) → SaysNothing id octets → IsUnanswered id octets
+unanswered id octets s = record { run = s.run; rest = s.rest; waits = s.waits }
+
+-- a front of what was read before
+in_octets : (id : ℕ) (run : Option (List ℕ)) (rest octets piece front more : List ℕ) → heard id octets ≡ Waits run rest
+    → octets ++ piece ≡ front ++ more → length front ≤ length octets → IsUnanswered id front
+in_octets id run rest octets piece front more e same le =
+    let fronts : take (length front) octets ≡ front =
+    sym (take-append-le (length front) octets piece le) ∙ ap (take (length front)) same ∙ take-append_seam front more in
+    let cut : octets ≡ front ++ drop (length front) octets =
+    sym (take-append-drop (length front) octets) ∙ ap (λ (l : List ℕ). l ++ drop (length front) octets) fronts in
+    unanswered id front
+    (waited_before id front (drop (length front) octets) run rest (ap (heard id) (sym cut) ∙ e))
+
+-- a front that has a part of the piece
+in_piece : (id : ℕ) (run : Option (List ℕ)) (rest octets piece front more : List ℕ) → heard id octets ≡ Waits run rest
+    → length piece ≤ max (wanted rest) 1 → octets ++ piece ≡ front ++ more → 0 < length more
+    → length octets < length front → IsUnanswered id front
+in_piece id run rest octets piece front more e few same some longer =
+    let part = drop (length octets) front in
+    let begins : take (length octets) front ≡ octets =
+    sym (take-append-le (length octets) front more (omega (arith, longer))) ∙ ap (take (length octets)) (sym same)
+    ∙ take-append_seam octets piece in
+    let cut : front ≡ octets ++ part =
+    sym (take-append-drop (length octets) front) ∙ ap (λ (l : List ℕ). l ++ part) begins in
+    let lengths : length octets + length piece ≡ length front + length more =
+    sym (length-append octets piece) ∙ ap length same ∙ length-append front more in
+    let less : length part < wanted rest =
+    omega (arith, few, some, longer, lengths, length-drop (length octets) front) in
+    record {
+      run = run;
+      rest = rest ++ part;
+      waits = ap (heard id) cut ∙ in_pieces id octets part ∙ ap (λ (s : Heard). heard_more id s part) e
+          ∙ still_waits id run rest part less;
+    }
+
+-- a piece that is no longer than is wanted brings nothing before its end
+pub brings_last : (id : ℕ) (run : Option (List ℕ)) (rest octets piece : List ℕ) → heard id octets ≡ Waits run rest
+    → length piece ≤ max (wanted rest) 1 → IsFirst id (octets ++ piece)
+brings_last id run rest octets piece e few = λ front more same some.
+    elim (cases_lt (length octets) (length front)) [
+      | inl lt ↦ in_piece id run rest octets piece front more e few same some lt
+      | inr le ↦ in_octets id run rest octets piece front more e same le
+    ]
+
 -- what the stream says with what was read next
 pub record ReadOn (id : ℕ) (before : Option (List ℕ)) (piece : List ℕ) (count : ℕ) (says : Heard) (after : Option (List ℕ))
     : Type 0 where
   pub octets : List ℕ
   pub read : Gives before octets after
   pub heard_is : heard id octets ≡ says
+  pub last : IsFirst id octets
   pub many : count + length piece ≤ length octets
 
 pub read_on : (id : ℕ) (before now after : Option (List ℕ)) (run : Option (List ℕ)) (rest piece : List ℕ) (count : ℕ)
     (says : Heard) → Going id before run rest now count → Gives now piece after → says ≡ heard_more id (Waits run rest) piece
-    → ReadOn id before piece count says after
-read_on id before now after run rest piece count says g h e = record {
+    → length piece ≤ max (wanted rest) 1 → ReadOn id before piece count says after
+read_on id before now after run rest piece count says g h e few = record {
   octets = g.octets ++ piece;
   read = gives_then before now after g.octets piece g.read h;
   heard_is = in_pieces id g.octets piece ∙ ap (λ (s : Heard). heard_more id s piece) g.waits ∙ sym e;
+  last = brings_last id run rest g.octets piece g.waits few;
   many = omega (arith, g.many, length-append g.octets piece);
 }
 
@@ -93,31 +151,34 @@ limit id before now run rest count reads g past = record {
 }
 
 pub broken : (id : ℕ) (before after : Option (List ℕ)) (piece : List ℕ) (count : ℕ) (fault : FramingFault)
-    → ReadOn id before piece count (Breaks fault) after → AreRead before (λ octets. heard id octets ≡ Breaks fault) after
-broken id before after piece count fault r = record { octets = r.octets; read = r.read; so = r.heard_is }
+    → ReadOn id before piece count (Breaks fault) after → AreRead before (IsBrought id (λ octets. heard id octets ≡ Breaks fault)) after
+broken id before after piece count fault r =
+    record { octets = r.octets; read = r.read; so = record { so = r.heard_is; last = r.last } }
 
 pub closed : (id : ℕ) (before after : Option (List ℕ)) (piece : List ℕ) (count : ℕ)
-    → ReadOn id before piece count Ends after → AreRead before (λ octets. heard id octets ≡ Ends) after
-closed id before after piece count r = record { octets = r.octets; read = r.read; so = r.heard_is }
+    → ReadOn id before piece count Ends after → AreRead before (IsBrought id (λ octets. heard id octets ≡ Ends)) after
+closed id before after piece count r =
+    record { octets = r.octets; read = r.read; so = record { so = r.heard_is; last = r.last } }
 
 pub refused : (id : ℕ) (before after : Option (List ℕ)) (piece : List ℕ) (count : ℕ)
-    → ReadOn id before piece count Refuses after → AreRead before (λ octets. heard id octets ≡ Refuses) after
-refused id before after piece count r = record { octets = r.octets; read = r.read; so = r.heard_is }
+    → ReadOn id before piece count Refuses after → AreRead before (IsBrought id (λ octets. heard id octets ≡ Refuses)) after
+refused id before after piece count r =
+    record { octets = r.octets; read = r.read; so = record { so = r.heard_is; last = r.last } }
 
 pub answered : (id : ℕ) (before after : Option (List ℕ)) (piece message : List ℕ) (count : ℕ) (said : Answered)
     → ReadOn id before piece count (Replies message) after → Says message (Answers said) → said.id ≡ id
-    → AreRead before (λ octets. IsAnswered id octets said) after
+    → AreRead before (IsBrought id (λ octets. IsAnswered id octets said)) after
 answered id before after piece message count said r s e = record {
   octets = r.octets;
   read = r.read;
-  so = record { message = message; heard_is = r.heard_is; says = s; id_is = e };
+  so = record { so = record { message = message; heard_is = r.heard_is; says = s; id_is = e }; last = r.last };
 }
 
 pub unreadable : (id : ℕ) (before after : Option (List ℕ)) (piece message : List ℕ) (count : ℕ)
     → ReadOn id before piece count (Replies message) after → ((said : Answered) → Says message (Answers said) → said.id ≡ id → ⊥)
-    → AreRead before (IsUnreadable id) after
+    → AreRead before (IsBrought id (IsUnreadable id)) after
 unreadable id before after piece message count r none =
-    record { octets = r.octets; read = r.read; so = record { message = message; heard_is = r.heard_is; none = none } }
+    record { octets = r.octets; read = r.read; so = record { so = record { message = message; heard_is = r.heard_is; none = none }; last = r.last } }
 
 -- what the reply that came says
 pub outcome_in : (id reads : ℕ) (before after : Option (List ℕ)) (piece message : List ℕ) (count : ℕ)

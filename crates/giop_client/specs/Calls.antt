@@ -1,6 +1,7 @@
 -- A request that is sent, and its answer.
-use Rattle.std.specs.Prelude.{◌≡◌, ◌≢◌, ℕ, Option, Some, None, Result, Ok, Err}
+use Rattle.std.specs.Prelude.{◌≡◌, ◌≢◌, ℕ, List, ◌++◌, Option, Some, None, Result, Ok, Err}
 use Rattle.giop_messages.specs.Written.{Given}
+use Rattle.iiop_broker.specs.Ends.{Gives}
 use Rattle.iiop_broker.specs.Outcomes.{Ends as StreamEnds}
 use Rattle.giop_client.specs.declared.answer.Answer.{Answer}
 use Rattle.giop_client.specs.declared.request.Request.{Request}
@@ -8,7 +9,8 @@ use Rattle.giop_client.specs.declared.fault.AwaitFault.{AwaitFault}
 use Rattle.giop_client.specs.declared.fault.SendFault.{SendFault}
 use Rattle.giop_client.specs.declared.fault.CallFault.{CallFault}
 use Rattle.giop_client.specs.declared.fault.CallFault.TheVariants as faults
-use Rattle.giop_client.specs.Outcomes.{IsOutcome}
+use Rattle.giop_client.specs.Answers.{IsAnswered, answer_of}
+use Rattle.giop_client.specs.Outcomes.{IsBrought, IsOutcome}
 use Rattle.giop_client.specs.Requests.{IsSending, Sent}
 
 -- It wants an answer, was sent, and this became of awaiting its reply.
@@ -37,3 +39,12 @@ IsCalled request body reads before (Ok None) after = IsSentAlone request body be
 IsCalled request body reads before (Err (faults.Unsent fault)) after = IsUnsaid request body before fault after
 IsCalled request body reads before (Err (faults.Unanswered fault)) after =
     IsAwaited request body reads before (Err fault) after
+
+-- These octets answer the first request, no front of them does, and those behind answer the second in the same way.
+pub record AreNeighbours (first : ℕ) (a : Answer) (second : ℕ) (b : Answer) (before after : Option (List ℕ))
+    : Type 0 where
+  pub octets : List ℕ
+  pub more : List ℕ
+  pub read : Gives before (octets ++ more) after
+  pub answers : IsBrought first (λ all. IsAnswered first all (answer_of a)) octets
+  pub next : IsBrought second (λ all. IsAnswered second all (answer_of b)) more

@@ -1,5 +1,5 @@
 -- How it ends to await a reply.
-use Rattle.std.specs.Prelude.{◌≡◌, ◌≤◌, ℕ, Bool, true, List, length, Option, Result, Ok, Err}
+use Rattle.std.specs.Prelude.{◌≡◌, ◌<◌, ◌≤◌, ℕ, Bool, true, List, ◌++◌, length, Option, Result, Ok, Err}
 use Rattle.iiop_broker.specs.Ends.{Gives, IsEmpty}
 use Rattle.reply_streams.specs.Heard.{Breaks, Ends, Refuses, Waits, heard}
 use Rattle.giop_client.specs.declared.answer.Answer.{Answer}
@@ -19,6 +19,11 @@ pub record IsUnanswered (id : ℕ) (octets : List ℕ) : Type 0 where
   pub rest : List ℕ
   pub waits : heard id octets ≡ Waits run rest
 
+-- It is so of the octets, and no front of them had an answer: what came with the last of them made it so.
+pub record IsBrought (id : ℕ) (So : List ℕ → Type 0) (octets : List ℕ) : Type 0 where
+  pub so : So octets
+  pub last : (front more : List ℕ) → octets ≡ front ++ more → 0 < length more → IsUnanswered id front
+
 -- no answer came, and then this
 pub record IsGivenUp (id : ℕ) (cause : Type 0) (octets : List ℕ) : Type 0 where
   pub unanswered : IsUnanswered id octets
@@ -27,14 +32,14 @@ pub record IsGivenUp (id : ℕ) (cause : Type 0) (octets : List ℕ) : Type 0 wh
 -- By what the reader tells before and after: the octets that are left, and whether a read has failed.
 abbrev pub IsOutcome : ℕ → ℕ → Option (List ℕ) → Result Answer AwaitFault → Option (List ℕ) → Bool → Type 0
 IsOutcome id reads before (Ok answer) after failure =
-    AreRead before (λ octets. IsAnswered id octets (answer_of answer)) after
+    AreRead before (IsBrought id (λ octets. IsAnswered id octets (answer_of answer))) after
 IsOutcome id reads before (Err (faults.BadMessage fault)) after failure =
-    AreRead before (λ octets. heard id octets ≡ Breaks fault) after
-IsOutcome id reads before (Err faults.BadReply) after failure = AreRead before (IsUnreadable id) after
+    AreRead before (IsBrought id (λ octets. heard id octets ≡ Breaks fault)) after
+IsOutcome id reads before (Err faults.BadReply) after failure = AreRead before (IsBrought id (IsUnreadable id)) after
 IsOutcome id reads before (Err faults.MessageError) after failure =
-    AreRead before (λ octets. heard id octets ≡ Refuses) after
+    AreRead before (IsBrought id (λ octets. heard id octets ≡ Refuses)) after
 IsOutcome id reads before (Err faults.CloseConnection) after failure =
-    AreRead before (λ octets. heard id octets ≡ Ends) after
+    AreRead before (IsBrought id (λ octets. heard id octets ≡ Ends)) after
 IsOutcome id reads before (Err faults.ReadFailed) after failure =
     AreRead before (IsGivenUp id (failure ≡ true)) after
 IsOutcome id reads before (Err faults.EndOfStream) after failure =

@@ -6,9 +6,12 @@ ghost use Rattle.giop_client.specs.inner.Replies.{IsAnswerIn};
 use crate::answer::{Answer, read_answer};
 use crate::fault::AwaitFault;
 use giop::Giop;
-use iiop_broker::Input;
+use iiop_broker::{Input, read_within};
 use reply_streams::{Heard, ReplyStream, SentReply};
 use std::alloc::Global;
+
+/// So many octets are read at a time at most.
+const BUFFER_LEN: usize = 4096;
 
 /// The answer that a reply says.
 fn answer_in(giop: &Giop, alloc: Global, id: u32, reply: &SentReply) -> Result<Answer, AwaitFault>
@@ -22,8 +25,8 @@ fn answer_in(giop: &Giop, alloc: Global, id: u32, reply: &SentReply) -> Result<A
 }
 
 /// Reads until the reply to the request of the number has come, whatever comes before it: replies
-/// with other numbers are passed over, and the fragments of the reply joined. So many reads may
-/// give octets.
+/// with other numbers are passed over, and the fragments of the reply joined. Nothing is read that
+/// stands behind it. So many reads may give octets.
 ///
 /// # Errors
 /// `BadMessage`, `BadReply`, `MessageError` and `CloseConnection` by what came before the reply, or
@@ -38,11 +41,12 @@ pub fn await_reply<I: Input>(
 ) -> Result<Answer, AwaitFault>
     ensures { IsOutcome id reads (I.left reader.old) result (I.left reader.new) (I.failure reader.new) }
 {
-    let mut buffer = [0u8; 4096];
+    let mut buffer = [0u8; BUFFER_LEN];
     let mut stream = ReplyStream::new(alloc);
     let mut count: u64 = 0;
     while count < reads {
-        let n = match reader.read(&mut buffer) {
+        let room = stream.wanted().clamp(1, BUFFER_LEN);
+        let n = match read_within(reader, &mut buffer, room) {
             Ok(0) => return Err(AwaitFault::EndOfStream),
             Ok(n) => n,
             Err(_) => return Err(AwaitFault::ReadFailed),

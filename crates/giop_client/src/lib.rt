@@ -6,6 +6,7 @@ mod answer;
 mod awaiting;
 mod calling;
 mod fault;
+pub mod laws;
 mod request;
 
 pub use answer::Answer;

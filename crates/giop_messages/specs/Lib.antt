@@ -1,6 +1,7 @@
 pub mod Heads
 pub mod Framing
 pub mod Runs
+pub mod Room
 pub mod Streams
 pub mod Headers
 pub mod Messages

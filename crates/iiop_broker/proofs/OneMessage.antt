@@ -10,7 +10,8 @@ use Rattle.giop_messages.specs.Heads.{head_in}
 use Rattle.giop_messages.specs.Framing.{Front, More, Broken, Piece, Whole, front, front_behind, placed, joined, begun, added, breaks, is_other, is_fragment, run_behind}
 use Rattle.giop_messages.proofs.HeadFacts.{head_longer}
 use Rattle.broker_answers.specs.Streams.{Open, cut_front, cut_within, cut}
-use Rattle.iiop_broker.specs.Room.{room_of, wanted, wanted_by}
+use Rattle.giop_messages.specs.Room.{wanted_by}
+use Rattle.iiop_broker.specs.Room.{room_of, wanted}
 
 -- nothing is behind the front
 abbrev IsLast : Front → Type 0

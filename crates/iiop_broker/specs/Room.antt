@@ -1,14 +1,8 @@
 -- How much is read of a connection at a time (own).
-use Rattle.std.specs.Prelude.{ℕ, ◌+◌, ◌-◌, min, max, if◌then◌else◌, nat_lt, List, length, Option, Some, None, Result, Ok, Err}
+use Rattle.std.specs.Prelude.{ℕ, ◌-◌, min, max, if◌then◌else◌, nat_lt, List, length, Option, Some, None}
 use Rattle.broker_answers.specs.Streams.{Stream, Open, Closed}
 use Rattle.giop_messages.specs.Heads.{head_in}
-use Rattle.giop_messages.specs.declared.fault.FramingFault.{FramingFault}
-use Rattle.giop_messages.specs.declared.head.Head.{Head}
-
--- what the message of a head still wants behind so many octets of it
-abbrev pub wanted_by : Result Head FramingFault → ℕ → ℕ
-wanted_by (Ok head) n = head.size + 12 - n
-wanted_by (Err fault) n = 0
+use Rattle.giop_messages.specs.Room.{wanted_by}
 
 -- what the message at the front of these still wants, or its head; nothing that is known where that is none
 abbrev pub wanted : List ℕ → ℕ

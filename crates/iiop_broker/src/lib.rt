@@ -31,6 +31,7 @@ pub use event::Event;
 pub use fault::BrokerFault;
 pub use fitting::objects_fit;
 pub use memory::{Sink, Source};
+pub use reading::read_within;
 pub use room::MAX_ROOM;
 pub use serving::{MAX_READS, serve_stream, serve_stream_within};
 pub use stream_fault::StreamFault;

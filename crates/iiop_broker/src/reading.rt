@@ -9,7 +9,7 @@ use crate::ends::{Failed, Input};
 ///
 /// # Errors
 /// The call failed, and nothing was read.
-pub(crate) fn read_within<I: Input>(
+pub fn read_within<I: Input>(
     reader: &mut I,
     buffer: &mut [u8],
     room: usize,

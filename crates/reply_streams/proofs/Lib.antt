@@ -3,3 +3,4 @@ pub mod RunFacts
 pub mod TurnFacts
 pub mod Hearing
 pub mod Steps
+pub mod Waiting

@@ -37,6 +37,10 @@ heard_from id run octets = heard_within (length octets) id run octets
 abbrev pub heard : ℕ → List ℕ → Heard
 heard id octets = heard_from id None octets
 
+-- A number that no request has: by it a stream says what it says to a client that awaits no reply.
+abbrev pub no_number : ℕ
+no_number = 4294967296
+
 -- what it says when more octets come
 abbrev pub heard_more : ℕ → Heard → List ℕ → Heard
 heard_more id (Waits run rest) more = heard_from id run (rest ++ more)

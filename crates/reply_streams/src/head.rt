@@ -4,6 +4,7 @@ ghost use Rattle.std.specs.Prelude.{◌≡◌, ◌≤◌, length, Ok};
 ghost use Rattle.giop_messages.specs.Framing.{is_cut as is_cut_in, same_order as are_same};
 ghost use Rattle.giop_messages.specs.Heads.{max_size, number_in};
 ghost use Rattle.reply_streams.specs.Heads.{followed as followed_as, may_go_on, reply_head as reply_head_in};
+ghost use Rattle.reply_streams.specs.Room.{wanted as wanted_by_all};
 
 use byteorder::{BigEndian, ByteOrder, LittleEndian};
 use giop_messages::{FramingFault, HEAD_LEN, Head, MessageKind};
@@ -56,6 +57,20 @@ pub(crate) fn reply_head(octets: &[u8]) -> Result<Head, FramingFault>
     match Head::read(front.as_slice()) {
         Ok(head) => followed(head),
         Err(fault) => Err(fault),
+    }
+}
+
+/// What the message at the front still wants, or its head, as long as that hasn't come; 0 where no message
+/// stands there.
+pub(crate) fn wanted(rest: &[u8]) -> usize
+    ensures { result ≡ wanted_by_all rest.now }
+{
+    if rest.len() < HEAD_LEN {
+        return HEAD_LEN - rest.len();
+    }
+    match reply_head(rest) {
+        Ok(head) => (head.size as usize + HEAD_LEN).saturating_sub(rest.len()),
+        Err(_) => 0,
     }
 }
 

@@ -1,13 +1,18 @@
 //! What a stream says.
 
-ghost use Rattle.std.specs.Prelude.{◌≡◌, ◌≤◌, [], length, drop, None, IfOk};
-ghost use Rattle.reply_streams.specs.Heard.{Waits, heard_from, heard_more};
+ghost use Rattle.std.specs.Prelude.{◌≡◌, ◌≤◌, [], length, drop, None, IfOk, IsTrue, ◌↔◌};
+ghost use Rattle.reply_streams.specs.Heard.{Ends, Waits, heard, heard_from, heard_more, no_number};
+ghost use Rattle.reply_streams.specs.Room.{wanted as wanted_in};
 ghost use Rattle.reply_streams.specs.Told.{told};
 
+use crate::head::wanted;
 use crate::reply::SentReply;
 use crate::turn::{Turn, take_turn};
 use giop_messages::FramingFault;
 use std::alloc::{AllocError, Global};
+
+/// A number that no request has, since theirs have 32 bits.
+const NO_NUMBER: u64 = 1 << 32;
 
 /// A stream that hasn't said its reply yet.
 #[derive(Drop)]
@@ -55,7 +60,30 @@ impl ReplyStream {
     {
         let mut rest = self.rest;
         rest.extend_from_slice(octets)?;
-        hear_all(alloc, id, self.run, rest)
+        hear_all(alloc, u64::from(id), self.run, rest)
+    }
+
+    /// How many octets the message at the front still wants, or its head; 0 where no message stands there.
+    /// Who reads no more at a time reads nothing that stands behind the reply.
+    pub fn wanted(&self) -> usize
+        ensures { result ≡ wanted_in self.now.rest.items }
+    {
+        wanted(self.rest.as_slice())
+    }
+}
+
+/// Whether a stream closes the connection (CloseConnection), whatever replies stand before that.
+///
+/// # Errors
+/// Want of memory.
+pub fn closes(alloc: Global, octets: &[u8]) -> Result<bool, AllocError>
+    ensures { IfOk result (λ b. IsTrue b ↔ (heard no_number octets.now ≡ Ends)) }
+{
+    let mut all = Vec::new(alloc);
+    all.extend_from_slice(octets)?;
+    match hear_all(alloc, NO_NUMBER, None, all)? {
+        Heard::Ends => Ok(true),
+        Heard::Waits(_) | Heard::Replies(_) | Heard::Breaks(_) | Heard::Refuses => Ok(false),
     }
 }
 
@@ -84,7 +112,7 @@ fn behind(run: Option<SentReply>, mut octets: Vec<u8>, seen: usize) -> ReplyStre
 /// What all messages in the octets say while a run may be open.
 fn hear_all(
     alloc: Global,
-    id: u32,
+    id: u64,
     run: Option<SentReply>,
     octets: Vec<u8>,
 ) -> Result<Heard, AllocError>

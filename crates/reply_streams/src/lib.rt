@@ -9,5 +9,5 @@ pub mod laws;
 mod reply;
 mod turn;
 
-pub use heard::{Heard, ReplyStream};
+pub use heard::{Heard, ReplyStream, closes};
 pub use reply::SentReply;

@@ -33,18 +33,18 @@ pub(crate) enum Turn {
 }
 
 /// Whether a message has the number.
-fn has_id(id: u32, head: &Head, message: &[u8]) -> bool
+fn has_id(id: u64, head: &Head, message: &[u8]) -> bool
     requires sent { IsSent head.now message.now }
     requires numbered { 4 ≤ head.now.size }
     ensures { result ≡ nat_eq (id_in message.now) id }
 {
-    number(head.order, message.split_at(HEAD_LEN).1) == id
+    u64::from(number(head.order, message.split_at(HEAD_LEN).1)) == id
 }
 
 /// Takes a reply, or the first piece of one.
 fn take_reply(
     alloc: Global,
-    id: u32,
+    id: u64,
     run: Option<SentReply>,
     head: &Head,
     message: &[u8],
@@ -74,7 +74,7 @@ fn take_reply(
 
 /// Takes a later piece of a reply.
 fn take_fragment(
-    id: u32,
+    id: u64,
     run: Option<SentReply>,
     head: &Head,
     message: &[u8],
@@ -107,7 +107,7 @@ fn take_fragment(
 /// Takes a whole message.
 fn take_message(
     alloc: Global,
-    id: u32,
+    id: u64,
     run: Option<SentReply>,
     head: &Head,
     message: &[u8],
@@ -137,7 +137,7 @@ fn take_message(
 /// Want of memory.
 pub(crate) fn take_turn(
     alloc: Global,
-    id: u32,
+    id: u64,
     run: Option<SentReply>,
     octets: &[u8],
 ) -> Result<Turn, AllocError>
