@@ -35,10 +35,10 @@ shorter_placed : (octets : List ℕ) (run : Option (List ℕ)) (head : Head) (me
     → length rest < length octets → IsShorter octets (placed run head message rest)
 shorter_placed octets run head message rest less =
     shorter_if octets (is_fragment head.kind) (joined_run run head message rest)
-    (if head.goes_on then Piece (begun message) rest else Whole message (run_behind run head message) rest)
+    (if head.goes_on then Piece (begun message) rest else Whole message (run_behind run message) rest)
     (shorter_joined octets run head message rest less)
     (λ e. shorter_if octets head.goes_on (Piece (begun message) rest)
-    (Whole message (run_behind run head message) rest) less (λ f. less))
+    (Whole message (run_behind run message) rest) less (λ f. less))
 
 shorter_behind : (run : Option (List ℕ)) (octets : List ℕ) (said : Result Head FramingFault) → 12 ≤ length octets
     → IsShorter octets (front_behind run octets said)

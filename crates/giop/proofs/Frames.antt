@@ -26,19 +26,19 @@ pub fragment_placed : (run : Option (List ℕ)) (head : Head) (piece rest : List
 fragment_placed run head piece rest e =
     ap
     (λ (b : Bool). if b then joined run head piece rest
-    else if head.goes_on then Piece (begun piece) rest else Whole piece (run_behind run head piece) rest)
+    else if head.goes_on then Piece (begun piece) rest else Whole piece (run_behind run piece) rest)
     e
 
 pub message_placed : (run : Option (List ℕ)) (head : Head) (piece rest : List ℕ) (goes_on : Bool)
     → is_fragment head.kind ≡ false → head.goes_on ≡ goes_on
     → placed run head piece rest
-    ≡ (if goes_on then Piece (begun piece) rest else Whole piece (run_behind run head piece) rest)
+    ≡ (if goes_on then Piece (begun piece) rest else Whole piece (run_behind run piece) rest)
 message_placed run head piece rest goes_on e g =
     ap
     (λ (b : Bool). if b then joined run head piece rest
-    else if head.goes_on then Piece (begun piece) rest else Whole piece (run_behind run head piece) rest)
+    else if head.goes_on then Piece (begun piece) rest else Whole piece (run_behind run piece) rest)
     e
-    ∙ ap (λ (b : Bool). if b then Piece (begun piece) rest else Whole piece (run_behind run head piece) rest) g
+    ∙ ap (λ (b : Bool). if b then Piece (begun piece) rest else Whole piece (run_behind run piece) rest) g
 
 id_told : (frame : Frame) (octets lent : List ℕ) (run : Option (List ℕ)) (id : ℕ) → IsFrame run octets frame
     → lent ≡ take frame.len octets → id ≡ numbered frame.head.order lent → id ≡ id_in (take frame.len octets)
@@ -92,7 +92,7 @@ part_found run octets lent frame id fragment f e b l n =
 pub whole_is : (run : Option (List ℕ)) (octets : List ℕ) (frame : Frame) → IsFrame run octets frame
     → is_fragment frame.head.kind ≡ false → frame.head.goes_on ≡ false
     → front run octets
-    ≡ Whole (take frame.len octets) (run_behind run frame.head (take frame.len octets)) (drop frame.len octets)
+    ≡ Whole (take frame.len octets) (run_behind run (take frame.len octets)) (drop frame.len octets)
 whole_is run octets frame f e g =
     f.front_is ∙ message_placed run frame.head (take frame.len octets) (drop frame.len octets) false e g
 
@@ -102,7 +102,7 @@ pub whole_found : (run : Option (List ℕ)) (octets lent : List ℕ) (frame : Fr
 whole_found run octets lent frame message f e g l said = record {
   within = f.within;
   says = subst (λ (m : List ℕ). Says m (content_of message)) l said;
-  run_behind = run_behind run frame.head (take frame.len octets);
+  run_behind = run_behind run (take frame.len octets);
   front_is = whole_is run octets frame f e g;
 }
 
@@ -112,7 +112,7 @@ pub silent : (run : Option (List ℕ)) (octets lent : List ℕ) (frame : Frame) 
 silent run octets lent frame f e g l none = record {
   taken = frame.len;
   within = f.within;
-  run_behind = run_behind run frame.head (take frame.len octets);
+  run_behind = run_behind run (take frame.len octets);
   front_is = whole_is run octets frame f e g;
   says_nothing = subst (λ (m : List ℕ). (content : Content) → Says m content → ⊥) l none;
 }

@@ -1,8 +1,8 @@
 -- What follows from a head that was read.
 use Rattle.std.proofs.Common.{◌≡◌, ℕ, ◌+◌, ◌-◌, ◌<◌, ◌≤◌, Bool, true, false, not, ◌&&◌, List, ◌++◌, length, take, drop, refl, sym, ap, ◌∙◌, arith}
 use Rattle.std.proofs.Common.{Option, Some, None, Result, Ok, Err, nat_eq, nat_lt, slice_get, slice_index, if◌then◌else◌}
-use Rattle.std.proofs.lemmas.List.{get_or-set_other, get_or-set_same, get_or-take, get_or_append_left, drop-append-le, length-drop, length-take-le, take-append-drop, take_all}
-use Rattle.std.proofs.lemmas.Bool.{eqb-true, le-ltb, ltb-false, not-false}
+use Rattle.std.proofs.lemmas.List.{get_or_append_left, drop-append-le, length-drop, length-take-le, take-append-drop, take_all}
+use Rattle.std.proofs.lemmas.Bool.{le-ltb, ltb-false, not-false}
 use Rattle.byteorder.specs.Numbers.{big_from-append, little_from-append}
 use Rattle.type_graph.specs.declared.width.Order.{Order}
 use Rattle.type_graph.specs.declared.width.Order.TheVariants.{Big, Little}

@@ -1,5 +1,5 @@
 -- More octets behind a stream leave its front as it is.
-use Rattle.std.proofs.Common.{◌≡◌, ℕ, ◌+◌, ◌<◌, ◌≤◌, Bool, true, false, ◌⊎◌, inl, inr, List, ◌++◌, length, take, drop, refl, sym, subst, ap, ◌∙◌, arith}
+use Rattle.std.proofs.Common.{◌≡◌, ℕ, ◌+◌, ◌≤◌, Bool, true, false, List, ◌++◌, length, take, drop, refl, sym, subst, arith}
 use Rattle.std.proofs.Common.{Option, Some, None, Result, Ok, Err, nat_lt, if◌then◌else◌}
 use Rattle.std.proofs.lemmas.List.{length-append, take-append-le, drop-append-le}
 use Rattle.std.proofs.lemmas.Bool.{le-ltb, ltb-false}
@@ -10,7 +10,6 @@ use Rattle.giop_messages.specs.Heads.{head_in}
 use Rattle.giop_messages.specs.Framing.{Front, More, Broken, Piece, Whole, front, front_behind, placed, joined, begun, added, breaks, is_other, is_fragment, run_behind}
 use Rattle.giop_messages.specs.Streams.{IsLonger}
 use Rattle.giop_messages.proofs.HeadFacts.{head_longer}
-use Rattle.giop_messages.proofs.FrontFacts.{front_of}
 
 -- both branches of a test
 longer_if : (more : List ℕ) (b : Bool) (f g p q : Front) → IsLonger more f p → IsLonger more g q
@@ -28,15 +27,15 @@ joined_longer (Some run) head fragment rest more =
 placed_longer : (run : Option (List ℕ)) (head : Head) (message rest more : List ℕ)
     → IsLonger more (placed run head message rest) (placed run head message (rest ++ more))
 placed_longer run head message rest more =
-    let plain = if head.goes_on then Piece (begun message) rest else Whole message (run_behind run head message) rest in
+    let plain = if head.goes_on then Piece (begun message) rest else Whole message (run_behind run message) rest in
     let longer =
-    if head.goes_on then Piece (begun message) (rest ++ more) else Whole message (run_behind run head message)
+    if head.goes_on then Piece (begun message) (rest ++ more) else Whole message (run_behind run message)
     (rest ++ more) in
     longer_if more (is_fragment head.kind) (joined run head message rest) plain
     (joined run head message (rest ++ more)) longer
     (joined_longer run head message rest more)
-    (longer_if more head.goes_on (Piece (begun message) rest) (Whole message (run_behind run head message) rest)
-    (Piece (begun message) (rest ++ more)) (Whole message (run_behind run head message) (rest ++ more)) refl refl)
+    (longer_if more head.goes_on (Piece (begun message) rest) (Whole message (run_behind run message) rest)
+    (Piece (begun message) (rest ++ more)) (Whole message (run_behind run message) (rest ++ more)) refl refl)
 
 -- a stream that is too short for its message says nothing yet
 longer_whole : (more : List ℕ) (b c : Bool) (f g : Front) → (b ≡ false → c ≡ false)

@@ -1,6 +1,6 @@
 -- Where messages stand in a stream of octets, and how fragments join to one message (ISO/IEC 19500-2, GIOP message
 -- formats: Fragment). A rule marked (own) is this project's.
-use Rattle.std.specs.Prelude.{ℕ, ◌+◌, ◌-◌, ◌%◌, Bool, true, false, not, ◌&&◌, ◌||◌, List, ◌++◌, length, take, drop, set}
+use Rattle.std.specs.Prelude.{ℕ, ◌+◌, ◌-◌, ◌%◌, Bool, true, false, not, ◌&&◌, ◌||◌, List, ◌++◌, length, take, drop, set, slice_index}
 use Rattle.std.specs.Prelude.{nat_eq, nat_lt, if◌then◌else◌, Option, Some, None, Result, Ok, Err}
 use Rattle.type_graph.specs.declared.width.Order.{Order}
 use Rattle.type_graph.specs.declared.width.Order.TheVariants.{Big, Little}
@@ -9,14 +9,18 @@ use Rattle.type_graph.specs.Words.{plain_word}
 use Rattle.giop_messages.specs.declared.fault.FramingFault.{FramingFault}
 use Rattle.giop_messages.specs.declared.fault.FramingFault.TheVariants.{BadFragment}
 use Rattle.giop_messages.specs.declared.head.MessageKind.{MessageKind}
-use Rattle.giop_messages.specs.declared.head.MessageKind.TheVariants.{CancelRequest, Fragment}
+use Rattle.giop_messages.specs.declared.head.MessageKind.TheVariants.{Fragment}
 use Rattle.giop_messages.specs.declared.head.Head.{Head}
-use Rattle.giop_messages.specs.Heads.{flags_in, order_of, number_in, head_in, max_size}
+use Rattle.giop_messages.specs.Heads.{flags_in, order_of, number_in, head_in, max_size, request_type, cancel_request_type, locate_request_type}
 
 -- The octets of a run are the message that it would be if nothing more came: a request that no fragments follow.
 
 abbrev pub order_in : List ℕ → Order
 order_in message = order_of (flags_in message)
+
+-- the type of a message, by its number
+abbrev pub type_in : List ℕ → ℕ
+type_in message = slice_index message 7
 
 -- the request's number, the first of what stands behind the head of a request, a fragment, a cancel request
 abbrev pub id_in : List ℕ → ℕ
@@ -37,10 +41,6 @@ added run fragment = sized (run ++ drop 16 fragment)
 abbrev pub is_fragment : MessageKind → Bool
 is_fragment Fragment = true
 is_fragment kind = false
-
-abbrev pub is_cancel : MessageKind → Bool
-is_cancel CancelRequest = true
-is_cancel kind = false
 
 abbrev pub same_order : Order → Order → Bool
 same_order Big Big = true
@@ -73,14 +73,21 @@ pub data Front : Type 0 where
   -- a whole message, the run that is open then, and the octets behind the message
   Whole : List ℕ → Option (List ℕ) → List ℕ → Front
 
--- a cancel request with the number of the run drops it (own)
-abbrev pub cancels : List ℕ → Head → List ℕ → Bool
-cancels run head message = is_cancel head.kind && not (nat_lt head.size 4) && nat_eq (id_in message) (id_in run)
+-- requests and locate requests, the messages that a cancel request may name (CancelRequest)
+abbrev pub is_asking : List ℕ → Bool
+is_asking run = nat_eq (type_in run) request_type || nat_eq (type_in run) locate_request_type
+
+-- What a cancel request ends: the run, in its own direction, of the request or locate request with its number. The
+-- pieces that came are given up, and no fragment belongs to them any more (own).
+abbrev pub cancels : List ℕ → List ℕ → Bool
+cancels run message =
+    nat_eq (type_in message) cancel_request_type && not (nat_lt (length message) 16) && is_asking run
+    && nat_eq (id_in message) (id_in run)
 
 -- the run that is open behind a message that is no piece of one
-abbrev pub run_behind : Option (List ℕ) → Head → List ℕ → Option (List ℕ)
-run_behind None head message = None
-run_behind (Some run) head message = if cancels run head message then None else Some run
+abbrev pub run_behind : Option (List ℕ) → List ℕ → Option (List ℕ)
+run_behind None message = None
+run_behind (Some run) message = if cancels run message then None else Some run
 
 -- a fragment of another request than that of the run
 abbrev pub is_other : Option (List ℕ) → Head → List ℕ → Bool
@@ -98,7 +105,7 @@ abbrev pub placed : Option (List ℕ) → Head → List ℕ → List ℕ → Fro
 placed run head message rest =
     if is_fragment head.kind then joined run head message rest
     else if head.goes_on then Piece (begun message) rest
-    else Whole message (run_behind run head message) rest
+    else Whole message (run_behind run message) rest
 
 -- All that a head can tell is told at its 12 octets; that a fragment is of another request, when it is whole (own).
 abbrev pub front_behind : Option (List ℕ) → List ℕ → Result Head FramingFault → Front

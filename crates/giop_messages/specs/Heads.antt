@@ -36,11 +36,20 @@ request_type = 0
 abbrev pub reply_type : ℕ
 reply_type = 1
 
+abbrev pub cancel_request_type : ℕ
+cancel_request_type = 2
+
+abbrev pub locate_request_type : ℕ
+locate_request_type = 3
+
 abbrev pub locate_reply_type : ℕ
 locate_reply_type = 4
 
 abbrev pub message_error_type : ℕ
 message_error_type = 6
+
+abbrev pub fragment_type : ℕ
+fragment_type = 7
 
 -- Messages that may be followed by fragments. Fragmented replies and locate requests are left out (own).
 abbrev pub may_go_on : MessageKind → Bool

@@ -2,6 +2,7 @@
 //! requests that come in fragments, what their bodies say, and the laws of these.
 #![tactic(auto)]
 
+mod cancel;
 mod fault;
 mod frame;
 mod head;
@@ -9,6 +10,7 @@ pub mod laws;
 mod message;
 mod run;
 
+pub use cancel::{cancels, message_id};
 pub use fault::{FramingFault, GiopFault};
 pub use frame::{Frame, frame_in};
 pub use head::{HEAD_LEN, Head, MAX_SIZE, MessageKind};

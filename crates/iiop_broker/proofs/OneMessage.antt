@@ -34,9 +34,9 @@ last_placed : (run : Option (List ℕ)) (head : Head) (message rest : List ℕ) 
     → IsLast (placed run head message rest)
 last_placed run head message rest le =
     last_if (is_fragment head.kind) (joined run head message rest)
-    (if head.goes_on then Piece (begun message) rest else Whole message (run_behind run head message) rest)
+    (if head.goes_on then Piece (begun message) rest else Whole message (run_behind run message) rest)
     (last_joined run head message rest le)
-    (last_if head.goes_on (Piece (begun message) rest) (Whole message (run_behind run head message) rest) le le)
+    (last_if head.goes_on (Piece (begun message) rest) (Whole message (run_behind run message) rest) le le)
 
 last_behind : (run : Option (List ℕ)) (octets : List ℕ) (head : Head) → length octets ≤ 12 + head.size
     → IsLast (front_behind run octets (Ok head))
@@ -87,9 +87,9 @@ some_joined (Some run) head fragment rest =
 some_placed : (run : Option (List ℕ)) (head : Head) (message rest : List ℕ) → IsSome (placed run head message rest)
 some_placed run head message rest =
     some_if (is_fragment head.kind) (joined run head message rest)
-    (if head.goes_on then Piece (begun message) rest else Whole message (run_behind run head message) rest)
+    (if head.goes_on then Piece (begun message) rest else Whole message (run_behind run message) rest)
     (some_joined run head message rest)
-    (some_if head.goes_on (Piece (begun message) rest) (Whole message (run_behind run head message) rest) tt tt)
+    (some_if head.goes_on (Piece (begun message) rest) (Whole message (run_behind run message) rest) tt tt)
 
 -- no whole message is there
 short_if : (n m : ℕ) (b c : Bool) (there : Front) → nat_lt n m ≡ c → IsSome there

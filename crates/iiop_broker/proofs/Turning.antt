@@ -130,11 +130,11 @@ first_front run octets piece made frame f e g is m =
 -- a message, and the run that is open behind it
 pub whole_front : (run : Option (List ℕ)) (octets piece : List ℕ) (kept : Option (List ℕ)) (frame : Frame)
     → IsFrame run octets frame → is_fragment frame.head.kind ≡ false → frame.head.goes_on ≡ false
-    → piece ≡ take frame.len octets → kept ≡ run_behind run frame.head piece
+    → piece ≡ take frame.len octets → kept ≡ run_behind run piece
     → front run octets ≡ Whole piece kept (drop frame.len octets)
 whole_front run octets piece kept frame f e g is k =
     whole_is run octets frame f e g
-    ∙ ap (λ (l : List ℕ). Whole l (run_behind run frame.head l) (drop frame.len octets)) (sym is)
+    ∙ ap (λ (l : List ℕ). Whole l (run_behind run l) (drop frame.len octets)) (sym is)
     ∙ ap (λ (r : Option (List ℕ)). Whole piece r (drop frame.len octets)) (sym k)
 
 -- what the answer to a message leads to

@@ -113,7 +113,7 @@ impl<S: Servant> Server<S> {
                 answer,
             });
         }
-        let left = run_left(run, &frame.head, piece);
+        let left = run_left(run, piece);
         match self
             .service
             .serve(self.alloc, &mut self.servant, &frame.head, piece)
